@@ -1,0 +1,11 @@
+use Rattle.std.proofs.Common.{sym}
+use Rattle.wit_values.proofs.Entries.{lookup-take, take-next}
+use Rattle.wit_values.proofs.table.TableTryClone.try_clone.Goals as goal
+
+pub push-requires : goal.push-requires
+push-requires g c =
+    rw (c.in_ok-try_clone.ensures, c.loop-index.invariant) (lookup-take g.met.K.Eq.laws _ _ _ _ c.len-index-end.ensures.distinct c.entry_at.ensures)
+
+pub loop-index-preserved : goal.loop-index-preserved
+loop-index-preserved g c =
+    rw (c.in_ok-push.ensures.ok, c.loop-index.invariant, c.in_ok-try_clone.ensures, c.in_ok-try_clone-2.ensures) (sym (take-next _ _ _ _ c.entry_at.ensures))

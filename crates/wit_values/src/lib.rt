@@ -1,0 +1,21 @@
+//! Texts, lists, tables and versions over `String`, `Vec`, `IndexMap` and `semver::Version`.
+//!
+//! Each type keeps what std or a well-kept crate keeps, and shows it to contracts as plain data: a
+//! text as its bytes, a list as a list, a table as its pairs in order, a version as its parts. So
+//! two values are equal in a contract where they hold the same data, whatever memory they take.
+//! Each is made from its std type and gives it back without memory.
+#![tactic(auto)]
+
+pub mod items;
+pub mod names;
+pub mod table;
+pub mod text;
+pub mod try_clone;
+pub mod version;
+
+pub use crate::items::Items;
+pub use crate::names::{Names, NamesIter};
+pub use crate::table::Table;
+pub use crate::text::Text;
+pub use crate::try_clone::{TryClone, try_clone_four, try_clone_six, try_clone_three, try_clone_two};
+pub use crate::version::Version;

@@ -1,0 +1,173 @@
+//! A table under texts, which contracts see as the list of its pairs, and which is asked by a `&str`.
+ghost use Rattle.std.specs.Prelude.{◌≡◌, ◌++◌, ◌∷◌, [], ◌<◌, ◌^◌, ◌↔◌, ℕ, length, None, Some, slice_get, OnOk, OnErr, string_bytes, is_some, IsTrue, take};
+ghost use Rattle.std.specs.Map.{lookup, keys_of};
+ghost use Rattle.std.specs.Str.{bytes_eq};
+ghost use Rattle.std.specs.Option.{option_copied};
+ghost use Rattle.std.specs.List.{IsDistinct};
+ghost use Rattle.std.specs.Iterator.{YieldsFirstBy, item_count};
+ghost use Rattle.wit_values.specs.Names.{named, deref_named};
+
+use crate::try_clone::TryClone;
+use indexmap::IndexMap;
+use indexmap::map::Iter;
+use std::alloc::{AllocError, Global};
+use std::fmt;
+use std::marker::Model;
+
+/// A table of values under texts that differ, in insertion order.
+#[derive(Drop)]
+pub struct Names<V> {
+    inner: IndexMap<String, V>,
+}
+
+impl<V> Model for Names<V> {
+    ghost use Rattle.std.specs.Prelude.{List, ℕ};
+    ghost use Rattle.wit_values.specs.Names.{named};
+
+    ghost Value = { List (List ℕ × V) };
+
+    ghost view = { λ t. named t.inner.entries };
+}
+
+impl<V> Names<V> {
+    /// The empty table, which takes no memory.
+    pub fn new(alloc: Global) -> Names<V>
+        ensures { result ≡ [] }
+    {
+        Names {
+            inner: IndexMap::new(alloc),
+        }
+    }
+
+    /// The table of an `IndexMap`, which takes no memory.
+    pub fn from_map(map: IndexMap<String, V>) -> Names<V>
+        ensures { result ≡ named map.entries }
+    {
+        Names { inner: map }
+    }
+
+    /// The `IndexMap` that it keeps.
+    pub fn into_map(self) -> IndexMap<String, V>
+        ensures { named result.entries ≡ self }
+    {
+        self.inner
+    }
+
+    /// How many pairs it has. A caller learns here that the names differ.
+    pub fn len(&self) -> usize
+        ensures len { result ≡ length self.now }
+        ensures small { result < 2 ^ 63 }
+        ensures distinct { IsDistinct bytes_eq (keys_of self.now) }
+    {
+        self.inner.len()
+    }
+
+    pub fn is_empty(&self) -> bool
+        ensures { IsTrue result ↔ (length self.now ≡ 0) }
+    {
+        self.len() == 0
+    }
+
+    pub fn get(&self, key: &str) -> Option<&V>
+        ensures { option_copied result ≡ lookup (bytes_eq key.now) self.now }
+    {
+        self.inner.get(key)
+    }
+
+    pub fn contains_key(&self, key: &str) -> bool
+        ensures { result ≡ is_some (lookup (bytes_eq key.now) self.now) }
+    {
+        self.get(key).is_some()
+    }
+
+    /// The pair at an index.
+    pub fn entry_at(&self, index: usize) -> (&str, &V)
+        requires { index < length self.now }
+        ensures { slice_get self.now index ≡ Some (result.0.now, result.1.now) }
+    {
+        match self.inner.get_index(index) {
+            Some((key, value)) => (key.as_str(), value),
+            None => unreachable!(),
+        }
+    }
+
+    /// The pairs, in order.
+    pub fn iter(&self) -> NamesIter<'_, V>
+        ensures { result ≡ self.now }
+    {
+        NamesIter {
+            inner: self.inner.iter(),
+        }
+    }
+
+    pub fn allocator(&self) -> Global {
+        *self.inner.allocator()
+    }
+
+    /// Adds a pair under a new name at the end. Where there is no memory the table is as before.
+    pub fn push(&mut self, key: String, value: V) -> Result<(), AllocError>
+    where
+        V: Drop,
+        requires { lookup (bytes_eq (string_bytes key)) self.old ≡ None }
+        ensures ok { OnOk result (self.new ≡ self.old ++ (string_bytes key, value) ∷ []) }
+        ensures err { OnErr result (self.new ≡ self.old) }
+    {
+        self.inner.insert(key, value)?;
+        Ok(())
+    }
+
+    /// Leaves the first `len` pairs, or all where there are fewer.
+    pub fn truncate(&mut self, len: usize)
+    where
+        V: Drop,
+        ensures { self.new ≡ take len self.old }
+    {
+        self.inner.truncate(len);
+    }
+}
+
+/// The pairs of a `Names`, in order, each as `(&str, &V)`.
+#[derive(Drop)]
+pub struct NamesIter<'a, V> {
+    inner: Iter<'a, String, V>,
+}
+
+impl<'a, V> Model for NamesIter<'a, V> {
+    ghost use Rattle.std.specs.Prelude.{List, ℕ};
+    ghost use Rattle.wit_values.specs.Names.{named};
+
+    ghost Value = { List (List ℕ × V) };
+
+    ghost view = { λ t. named t.inner };
+}
+
+impl<'a, V> Iterator for NamesIter<'a, V> {
+    type Item = (&'a str, &'a V);
+
+    ghost next_gives = { YieldsFirstBy deref_named (λ s. s) };
+
+    ghost remaining = { item_count (λ s. s) };
+
+    fn next(&mut self) -> Option<(&'a str, &'a V)> {
+        let (key, value) = self.inner.next()?;
+        Some((key.as_str(), value))
+    }
+}
+
+impl<V: TryClone> TryClone for Names<V> {
+    fn try_clone(&self) -> Result<Names<V>, AllocError> {
+        let alloc = self.allocator();
+        let mut copy = Names::new(alloc);
+        for index in 0..self.len() {
+            let (key, value) = self.entry_at(index);
+            copy.push(String::from_str(alloc, key)?, value.try_clone()?)?;
+        }
+        Ok(copy)
+    }
+}
+
+impl<V: fmt::Debug> fmt::Debug for Names<V> {
+    fn fmt<W: fmt::Write>(&self, f: &mut fmt::Formatter<W>) -> fmt::Result {
+        fmt::Debug::fmt(&self.inner, f)
+    }
+}

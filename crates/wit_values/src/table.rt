@@ -1,0 +1,149 @@
+//! A table in insertion order, which contracts see as the list of its pairs.
+ghost use Rattle.std.specs.Prelude.{◌≡◌, ◌++◌, ◌∷◌, [], ◌<◌, ◌^◌, ◌↔◌, ℕ, length, None, slice_get, OnOk, OnErr, Some, IsTrue, is_some, take};
+ghost use Rattle.std.specs.List.{IsDistinct};
+ghost use Rattle.std.specs.Map.{lookup, keys_of};
+ghost use Rattle.std.specs.Map.Iter.{ShowsInOrder, deref_pair};
+ghost use Rattle.std.specs.Option.{option_copied, option_map};
+
+use crate::try_clone::TryClone;
+use indexmap::IndexMap;
+use indexmap::map::Iter;
+use std::alloc::{AllocError, Global};
+use std::fmt;
+use std::hash::Hash;
+use std::marker::Model;
+
+/// A table in insertion order, whose keys differ.
+#[derive(Drop)]
+pub struct Table<K: Eq + Hash, V> {
+    inner: IndexMap<K, V>,
+}
+
+impl<K: Eq + Hash, V> Model for Table<K, V> {
+    ghost use Rattle.std.specs.Prelude.{List};
+
+    ghost Value = { List (K × V) };
+
+    ghost view = { λ t. t.inner.entries };
+}
+
+impl<K: Eq + Hash, V> Table<K, V> {
+    /// The empty table, which takes no memory.
+    pub fn new(alloc: Global) -> Table<K, V>
+        ensures { result ≡ [] }
+    {
+        Table {
+            inner: IndexMap::new(alloc),
+        }
+    }
+
+    /// The table of an `IndexMap`, which takes no memory.
+    pub fn from_map(map: IndexMap<K, V>) -> Table<K, V>
+        ensures { result ≡ map.entries }
+    {
+        Table { inner: map }
+    }
+
+    /// The `IndexMap` that it keeps.
+    pub fn into_map(self) -> IndexMap<K, V>
+        ensures { result.entries ≡ self }
+    {
+        self.inner
+    }
+
+    /// How many pairs it has. A caller learns here that the keys differ.
+    pub fn len(&self) -> usize
+        ensures len { result ≡ length self.now }
+        ensures small { result < 2 ^ 63 }
+        ensures distinct { IsDistinct K.eq (keys_of self.now) }
+    {
+        self.inner.len()
+    }
+
+    pub fn is_empty(&self) -> bool
+        ensures { IsTrue result ↔ (length self.now ≡ 0) }
+    {
+        self.len() == 0
+    }
+
+    pub fn get(&self, key: &K) -> Option<&V>
+        ensures { option_copied result ≡ lookup (K.eq key.now) self.now }
+    {
+        self.inner.get(key)
+    }
+
+    pub fn contains_key(&self, key: &K) -> bool
+        ensures { result ≡ is_some (lookup (K.eq key.now) self.now) }
+    {
+        self.inner.contains_key(key)
+    }
+
+    pub fn get_index(&self, index: usize) -> Option<(&K, &V)>
+        ensures { option_map deref_pair result ≡ slice_get self.now index }
+    {
+        self.inner.get_index(index)
+    }
+
+    /// The pair at an index.
+    pub fn entry_at(&self, index: usize) -> (&K, &V)
+        requires { index < length self.now }
+        ensures { slice_get self.now index ≡ Some (result.0.now, result.1.now) }
+    {
+        match self.inner.get_index(index) {
+            Some(entry) => entry,
+            None => unreachable!(),
+        }
+    }
+
+    /// The pairs, in order.
+    pub fn iter(&self) -> Iter<'_, K, V>
+        ensures rest { result ≡ self.now }
+        ensures runs { ShowsInOrder (deref_pair {K = K} {X = V}) }
+    {
+        self.inner.iter()
+    }
+
+    pub fn allocator(&self) -> Global {
+        *self.inner.allocator()
+    }
+
+    /// Adds a pair under a new key at the end. Where there is no memory the table is as before.
+    pub fn push(&mut self, key: K, value: V) -> Result<(), AllocError>
+    where
+        K: Drop,
+        V: Drop,
+        requires { lookup (K.eq key) self.old ≡ None }
+        ensures ok { OnOk result (self.new ≡ self.old ++ (key, value) ∷ []) }
+        ensures err { OnErr result (self.new ≡ self.old) }
+    {
+        self.inner.insert(key, value)?;
+        Ok(())
+    }
+
+    /// Leaves the first `len` pairs, or all where there are fewer.
+    pub fn truncate(&mut self, len: usize)
+    where
+        K: Drop,
+        V: Drop,
+        ensures { self.new ≡ take len self.old }
+    {
+        self.inner.truncate(len);
+    }
+}
+
+impl<K: Eq + Hash + TryClone, V: TryClone> TryClone for Table<K, V> {
+    fn try_clone(&self) -> Result<Table<K, V>, AllocError> {
+        let mut copy = Table::new(self.allocator());
+        for index in 0..self.len() {
+            let (key, value) = self.entry_at(index);
+            copy.push(key.try_clone()?, value.try_clone()?)?;
+        }
+        Ok(copy)
+    }
+}
+
+impl<K: Eq + Hash + fmt::Debug, V: fmt::Debug> fmt::Debug for Table<K, V> {
+    fn fmt<W: fmt::Write>(&self, f: &mut fmt::Formatter<W>) -> fmt::Result {
+        fmt::Debug::fmt(&self.inner, f)
+    }
+}

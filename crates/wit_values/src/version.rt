@@ -1,0 +1,165 @@
+//! A version that contracts see as its numbers and texts.
+ghost use Rattle.std.specs.Prelude.{◌≡◌, ℕ, List, Some, IfOk, refl, ◌++◌};
+ghost use Rattle.semver.specs.Identifiers.{parts_of, parts_text};
+ghost use Rattle.semver.specs.Parse.{IsRefused, version_parts};
+ghost use Rattle.wit_values.specs.Version.{version_cmp, version_cmp_total, version_eq, version_eq_equiv, version_po, version_ties};
+ghost use Rattle.std.specs.Cmp.{partial_equiv_from_equiv};
+ghost use Rattle.std.specs.Cmp.Rules.{hashing};
+ghost use Rattle.std.proofs.Common.{rules};
+ghost use Rattle.std.specs.Hash as fed;
+
+use crate::TryClone;
+use std::alloc::{AllocError, Global};
+use std::cmp::Ordering;
+use std::fmt;
+use std::hash::{Hash, Hasher};
+use std::marker::Model;
+
+/// A version as SemVer 2.0.0 has it. Versions are ordered by the total order of the `semver` crate,
+/// which compares build metadata too, so versions of equal order are equal.
+#[derive(Drop)]
+pub struct Version {
+    inner: semver::Version,
+}
+
+impl Model for Version {
+    ghost use Rattle.std.specs.Prelude.{List, ℕ};
+    ghost use Rattle.semver.specs.Identifiers.{parts_of};
+
+    ghost Value = { ℕ × ℕ × ℕ × List ℕ × List ℕ };
+
+    ghost view = { λ v. parts_of v.inner };
+}
+
+impl Version {
+    /// The version of this text, or semver's error where the text is no version.
+    pub fn parse(alloc: Global, text: &str) -> Result<Version, semver::Error>
+        ensures ok { IfOk result (λ v. version_parts text.now ≡ Ok v) }
+        ensures refused { IsRefused (version_parts text.now) result }
+    {
+        let inner = semver::Version::parse(alloc, text)?;
+        Ok(Version { inner })
+    }
+
+    /// The same version, which takes no memory.
+    pub fn from_version(version: semver::Version) -> Version
+        ensures { result ≡ parts_of version }
+    {
+        Version { inner: version }
+    }
+
+    /// The version that it keeps.
+    pub fn into_version(self) -> semver::Version
+        ensures { parts_of result ≡ self }
+    {
+        self.inner
+    }
+
+    /// The version that it keeps, to look at.
+    pub fn as_version(&self) -> &semver::Version
+        ensures { parts_of result.now ≡ self.now }
+    {
+        &self.inner
+    }
+
+    pub fn major(&self) -> u64
+        ensures { result ≡ self.now.0 }
+    {
+        self.inner.major
+    }
+
+    pub fn minor(&self) -> u64
+        ensures { result ≡ self.now.1 }
+    {
+        self.inner.minor
+    }
+
+    pub fn patch(&self) -> u64
+        ensures { result ≡ self.now.2 }
+    {
+        self.inner.patch
+    }
+
+    /// The text of the pre-release, empty where there is none.
+    pub fn pre(&self) -> &str
+        ensures { result.now ≡ self.now.3 }
+    {
+        self.inner.pre.as_str()
+    }
+
+    /// The text of the build metadata, empty where there is none.
+    pub fn build(&self) -> &str
+        ensures { result.now ≡ self.now.4 }
+    {
+        self.inner.build.as_str()
+    }
+}
+
+impl TryClone for Version {
+    fn try_clone(&self) -> Result<Version, AllocError> {
+        let inner = self.inner.clone()?;
+        Ok(Version { inner })
+    }
+}
+
+impl fmt::Display for Version {
+    ghost output = { λ v. Some (parts_text v) };
+
+    fn fmt<W: fmt::Write>(&self, f: &mut fmt::Formatter<W>) -> fmt::Result {
+        fmt::Display::fmt(&self.inner, f)
+    }
+}
+
+impl PartialEq for Version {
+    ghost eq = { version_eq };
+
+    ghost laws = { partial_equiv_from_equiv version_eq_equiv };
+
+    fn eq(&self, other: &Version) -> bool {
+        self.inner == other.inner
+    }
+}
+
+impl Eq for Version {
+    ghost laws = { version_eq_equiv };
+}
+
+impl PartialOrd for Version {
+    ghost partial_cmp = { λ a b. Some (version_cmp a b) };
+
+    ghost laws = { version_po };
+
+    fn partial_cmp(&self, other: &Version) -> Option<Ordering> {
+        Some(self.cmp(other))
+    }
+}
+
+impl Ord for Version {
+    ghost cmp = { version_cmp };
+
+    ghost total = { version_cmp_total };
+
+    ghost matches_partial_cmp = { λ a b. refl };
+
+    ghost matches_eq = { version_ties };
+
+    fn cmp(&self, other: &Version) -> Ordering {
+        self.inner.cmp(&other.inner)
+    }
+}
+
+impl Hash for Version {
+    ghost hash_input = { λ v. fed.u64 v.0 ++ fed.u64 v.1 ++ fed.u64 v.2 ++ fed.str v.3 ++ fed.str v.4 };
+
+    ghost respects_eq = { Prim.search (hashing, rules) };
+
+    fn hash<H: Hasher>(&self, state: &mut H) {
+        self.inner.hash(state);
+    }
+}
+
+impl fmt::Debug for Version {
+    fn fmt<W: fmt::Write>(&self, f: &mut fmt::Formatter<W>) -> fmt::Result {
+        fmt::Debug::fmt(&self.inner, f)
+    }
+}
