@@ -1,13 +1,28 @@
-// A library with one function.
+//! The data of WIT: ids, spans, sources, names, types, functions, interfaces, worlds and unresolved
+//! packages, with the names of wit-parser 0.263.0. A name that a contract can't spell takes a `_`.
 #![tactic(auto)]
 
-ghost use Rattle.std.specs.Prelude.{◌≡◌};
-ghost use Rattle.wit_items.specs.Echo.{echo_of};
+pub mod abi;
+pub mod function;
+pub mod ids;
+pub mod interface;
+pub mod package_name;
+pub mod span;
+pub mod stability;
+pub mod types;
+pub mod unresolved;
+pub mod world;
 
-// The `ensures` clause is the contract: what `echo` returns is `echo_of` of its argument, a definition
-// in `specs/Echo.antt`, which a caller's clause can cite too.
-pub fn echo(x: usize) -> usize
-    ensures { result ≡ echo_of x }
-{
-    x
-}
+pub use crate::abi::{LiftLowerAbi, ManglingAndAbi};
+pub use crate::function::{AccessorKind, Function, FunctionKind, Param};
+pub use crate::ids::{InterfaceId, PackageId, TypeId, WorldId};
+pub use crate::interface::Interface;
+pub use crate::package_name::PackageName;
+pub use crate::span::Span;
+pub use crate::stability::{Docs, Stability};
+pub use crate::types::{
+    Case, EnumCase, Field, Flag, Handle, Type_, TypeDef, TypeDefKind, TypeOwner,
+};
+pub use crate::unresolved::{AstItem, UnresolvedPackage};
+pub use crate::world::{IncludeName, World, WorldInclude, WorldItem, WorldKey};
+pub use wit_values::{Items, Names, Table, Text, TryClone, Version};

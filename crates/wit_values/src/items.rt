@@ -1,5 +1,5 @@
 //! A growing list that contracts see as a list.
-ghost use Rattle.std.specs.Prelude.{◌≡◌, ◌++◌, ◌∷◌, [], length, slice_get, slice_set, Some, OnOk, OnErr, IsTrue, ◌↔◌, ◌<◌, take};
+ghost use Rattle.std.specs.Prelude.{◌≡◌, ◌++◌, ◌∷◌, [], ◌+◌, ◌^◌, length, slice_get, slice_set, Some, OnOk, OnErr, IsTrue, ◌↔◌, ◌<◌, take};
 ghost use Rattle.std.specs.Cmp.Lexicographic.{pointwise, lists_equiv, lists_per};
 ghost use Rattle.std.specs.Borrow.{sem};
 ghost use Rattle.std.specs.Option.{option_copied, option_to_list};
@@ -8,10 +8,8 @@ ghost use Rattle.wit_values.specs.Items.{LendsItem};
 
 use crate::try_clone::TryClone;
 use std::alloc::{AllocError, Global};
-use std::fmt;
 use std::marker::Model;
-use std::mem;
-use std::slice;
+use std::{fmt, mem, slice};
 
 /// A growing list that its owner keeps.
 #[derive(Drop)]
@@ -84,6 +82,14 @@ impl<T> Items<T> {
     {
         self.inner.push(item)?;
         Ok(())
+    }
+
+    /// Makes room for more items. Where it answers Ok, so many items can be added and counted.
+    pub fn reserve(&mut self, additional: usize) -> Result<(), AllocError>
+        ensures room { OnOk result (length self.old + additional < 2 ^ 64) }
+        ensures same { self.new ≡ self.old }
+    {
+        self.inner.reserve(additional)
     }
 
     /// The item at an index.

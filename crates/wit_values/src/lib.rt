@@ -17,5 +17,7 @@ pub use crate::items::Items;
 pub use crate::names::{Names, NamesIter};
 pub use crate::table::Table;
 pub use crate::text::Text;
-pub use crate::try_clone::{TryClone, try_clone_four, try_clone_six, try_clone_three, try_clone_two};
+pub use crate::try_clone::{
+    TryClone, try_clone_four, try_clone_six, try_clone_three, try_clone_two,
+};
 pub use crate::version::Version;

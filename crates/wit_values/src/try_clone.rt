@@ -20,6 +20,12 @@ impl<T: TryClone> TryClone for Option<T> {
     }
 }
 
+impl<A: TryClone, B: TryClone> TryClone for (A, B) {
+    fn try_clone(&self) -> Result<(A, B), AllocError> {
+        Ok((self.0.try_clone()?, self.1.try_clone()?))
+    }
+}
+
 impl TryClone for usize {
     fn try_clone(&self) -> Result<usize, AllocError> {
         Ok(*self)
@@ -63,14 +69,7 @@ pub fn try_clone_four<A: TryClone, B: TryClone, C: TryClone, D: TryClone>(
 }
 
 /// Copies of six values.
-pub fn try_clone_six<
-    A: TryClone,
-    B: TryClone,
-    C: TryClone,
-    D: TryClone,
-    E: TryClone,
-    F: TryClone,
->(
+pub fn try_clone_six<A: TryClone, B: TryClone, C: TryClone, D: TryClone, E: TryClone, F: TryClone>(
     a: &A,
     b: &B,
     c: &C,

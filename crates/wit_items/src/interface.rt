@@ -1,0 +1,37 @@
+//! Interfaces.
+use crate::function::Function;
+use crate::ids::{PackageId, TypeId};
+use crate::span::Span;
+use crate::stability::{Docs, Stability};
+use std::alloc::AllocError;
+use wit_values::{Names, Text, TryClone, try_clone_three, try_clone_two};
+
+/// An interface: types and functions under their names.
+#[derive(Debug, Drop)]
+pub struct Interface {
+    /// Its name in its package. An interface that a world writes in place has none.
+    pub name: Option<Text>,
+    pub types: Names<TypeId>,
+    pub functions: Names<Function>,
+    pub docs: Docs,
+    pub stability: Stability,
+    /// The package that it belongs to, None in an unresolved package.
+    pub package: Option<PackageId>,
+    pub span: Span,
+}
+
+impl TryClone for Interface {
+    fn try_clone(&self) -> Result<Interface, AllocError> {
+        let (name, types, functions) = try_clone_three(&self.name, &self.types, &self.functions)?;
+        let (docs, stability) = try_clone_two(&self.docs, &self.stability)?;
+        Ok(Interface {
+            name,
+            types,
+            functions,
+            docs,
+            stability,
+            package: self.package,
+            span: self.span,
+        })
+    }
+}

@@ -1,0 +1,90 @@
+//! Documentation and stability.
+ghost use Rattle.std.specs.Prelude.{◌≡◌, ◌↔◌, IsTrue, None};
+ghost use Rattle.wit_items.specs.Stability.{IsStable};
+ghost use Rattle.wit_items.specs.declared.stability.Stability.TheVariants.{Unknown};
+
+use std::alloc::AllocError;
+use wit_values::{Text, TryClone, Version};
+
+/// Documentation.
+#[derive(Debug, PartialEq, Eq, Drop)]
+pub struct Docs {
+    /// The text of the comment, where there is one.
+    pub contents: Option<Text>,
+}
+
+impl Docs {
+    /// No documentation.
+    pub fn none() -> Docs
+        ensures { result.contents ≡ None }
+    {
+        Docs { contents: None }
+    }
+}
+
+impl TryClone for Docs {
+    fn try_clone(&self) -> Result<Docs, AllocError> {
+        Ok(Docs {
+            contents: self.contents.try_clone()?,
+        })
+    }
+}
+
+/// The feature gate of an item, as WIT writes it: nothing, `@since(version = ..)`, or
+/// `@unstable(feature = ..)`, each of the two with an optional `@deprecated(version = ..)`.
+#[derive(Debug, PartialEq, Eq, Drop)]
+pub enum Stability {
+    Unknown,
+    Stable {
+        since: Version,
+        deprecated: Option<Version>,
+    },
+    Unstable {
+        feature: Text,
+        deprecated: Option<Version>,
+    },
+}
+
+impl Stability {
+    /// Whether the item has no gate.
+    pub fn is_unknown(&self) -> bool
+        ensures { IsTrue result ↔ (self.now ≡ Unknown) }
+    {
+        matches!(self, Stability::Unknown)
+    }
+
+    /// Whether the item's gate is `@since`.
+    pub fn is_stable(&self) -> bool
+        ensures { IsTrue result ↔ IsStable self.now }
+    {
+        matches!(self, Stability::Stable { .. })
+    }
+}
+
+/// No gate.
+impl Default for Stability {
+    ghost is_default = { λ s. s ≡ Unknown };
+
+    fn default() -> Stability {
+        Stability::Unknown
+    }
+}
+
+impl TryClone for Stability {
+    fn try_clone(&self) -> Result<Stability, AllocError> {
+        match self {
+            Stability::Unknown => Ok(Stability::Unknown),
+            Stability::Stable { since, deprecated } => Ok(Stability::Stable {
+                since: since.try_clone()?,
+                deprecated: deprecated.try_clone()?,
+            }),
+            Stability::Unstable {
+                feature,
+                deprecated,
+            } => Ok(Stability::Unstable {
+                feature: feature.try_clone()?,
+                deprecated: deprecated.try_clone()?,
+            }),
+        }
+    }
+}

@@ -1,0 +1,142 @@
+//! Worlds.
+use crate::function::Function;
+use crate::ids::{InterfaceId, PackageId, TypeId, WorldId};
+use crate::span::Span;
+use crate::stability::{Docs, Stability};
+use std::alloc::AllocError;
+use wit_values::{Items, Table, Text, TryClone, try_clone_six, try_clone_three, try_clone_two};
+
+/// The key of an entry of a world: a label, or an interface by its id.
+#[derive(Debug, PartialEq, Eq, Hash, Drop)]
+pub enum WorldKey {
+    Name(Text),
+    Interface(InterfaceId),
+}
+
+impl TryClone for WorldKey {
+    fn try_clone(&self) -> Result<WorldKey, AllocError> {
+        match self {
+            WorldKey::Name(name) => Ok(WorldKey::Name(name.try_clone()?)),
+            WorldKey::Interface(id) => Ok(WorldKey::Interface(*id)),
+        }
+    }
+}
+
+/// What a world imports or exports under a key.
+#[derive(Debug, Drop)]
+pub enum WorldItem {
+    Interface {
+        id: InterfaceId,
+        stability: Stability,
+        docs: Docs,
+        span: Span,
+        external_id: Option<Text>,
+    },
+    Function(Function),
+    /// A type of the world's own, among its imports.
+    Type_ {
+        id: TypeId,
+        span: Span,
+    },
+}
+
+impl TryClone for WorldItem {
+    fn try_clone(&self) -> Result<WorldItem, AllocError> {
+        match self {
+            WorldItem::Interface {
+                id,
+                stability,
+                docs,
+                span,
+                external_id,
+            } => {
+                let (stability, docs, external_id) = try_clone_three(stability, docs, external_id)?;
+                Ok(WorldItem::Interface {
+                    id: *id,
+                    stability,
+                    docs,
+                    span: *span,
+                    external_id,
+                })
+            }
+            WorldItem::Function(function) => Ok(WorldItem::Function(function.try_clone()?)),
+            WorldItem::Type_ { id, span } => Ok(WorldItem::Type_ {
+                id: *id,
+                span: *span,
+            }),
+        }
+    }
+}
+
+/// A label of an included world, and the label that stands in its place.
+#[derive(Debug, PartialEq, Eq, Drop)]
+pub struct IncludeName {
+    pub name: Text,
+    pub as_: Text,
+}
+
+impl TryClone for IncludeName {
+    fn try_clone(&self) -> Result<IncludeName, AllocError> {
+        let (name, as_) = try_clone_two(&self.name, &self.as_)?;
+        Ok(IncludeName { name, as_ })
+    }
+}
+
+/// An include of a world in another.
+#[derive(Debug, PartialEq, Eq, Drop)]
+pub struct WorldInclude {
+    pub stability: Stability,
+    pub id: WorldId,
+    pub names: Items<IncludeName>,
+    pub span: Span,
+}
+
+impl TryClone for WorldInclude {
+    fn try_clone(&self) -> Result<WorldInclude, AllocError> {
+        let (stability, names) = try_clone_two(&self.stability, &self.names)?;
+        Ok(WorldInclude {
+            stability,
+            id: self.id,
+            names,
+            span: self.span,
+        })
+    }
+}
+
+/// A world: what a component imports and exports.
+#[derive(Debug, Drop)]
+pub struct World {
+    pub name: Text,
+    pub imports: Table<WorldKey, WorldItem>,
+    pub exports: Table<WorldKey, WorldItem>,
+    pub docs: Docs,
+    pub stability: Stability,
+    /// The package that it belongs to, None in an unresolved package.
+    pub package: Option<PackageId>,
+    /// What it includes. Empty in a graph, where includes have become entries.
+    pub includes: Items<WorldInclude>,
+    pub span: Span,
+}
+
+impl TryClone for World {
+    fn try_clone(&self) -> Result<World, AllocError> {
+        let (name, imports, exports, docs, stability, includes) = try_clone_six(
+            &self.name,
+            &self.imports,
+            &self.exports,
+            &self.docs,
+            &self.stability,
+            &self.includes,
+        )?;
+        Ok(World {
+            name,
+            imports,
+            exports,
+            docs,
+            stability,
+            package: self.package,
+            includes,
+            span: self.span,
+        })
+    }
+}
