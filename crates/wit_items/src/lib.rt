@@ -11,6 +11,7 @@ pub mod span;
 pub mod stability;
 pub mod types;
 pub mod unresolved;
+pub mod uses;
 pub mod world;
 
 pub use crate::abi::{LiftLowerAbi, ManglingAndAbi};

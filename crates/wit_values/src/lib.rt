@@ -7,6 +7,7 @@
 #![tactic(auto)]
 
 pub mod items;
+pub mod name_set;
 pub mod names;
 pub mod table;
 pub mod text;
@@ -14,6 +15,7 @@ pub mod try_clone;
 pub mod version;
 
 pub use crate::items::Items;
+pub use crate::name_set::NameSet;
 pub use crate::names::{Names, NamesIter};
 pub use crate::table::Table;
 pub use crate::text::Text;

@@ -1,0 +1,117 @@
+-- Facts about lists and tables that std doesn't have, for the proofs of the crates above. They say
+-- nothing about this crate's code.
+use Rattle.std.proofs.Common.{◌≡◌, ℕ, ◌+◌, suc, zero, Bool, true, false, cond, List, [], ◌∷◌, ◌++◌, ◌⊎◌, inl, inr, length, Option, None, Some, slice_get, slice_set, take, filter_map, map, refl, ◌∙◌, sym, ap, subst, add-one}
+use Rattle.std.proofs.lemmas.List.{append-nil, map-append}
+use Rattle.std.proofs.lemmas.List.Elements.{filter_map-append}
+use Rattle.std.specs.List.{AllByRecursion}
+use Rattle.std.specs.Map.{lookup}
+
+module _ {X : Type 0} where
+  take-suc_at : (xs : List X) (i : ℕ) (x : X) → slice_get xs i ≡ Some x → take (suc i) xs ≡ take i xs ++ x ∷ []
+  take-suc_at [] i x at = cc
+  take-suc_at (z ∷ zs) zero x at = let same : z ≡ x = cc in ap (λ (y : X). y ∷ []) same
+  take-suc_at (z ∷ zs) (suc i) x at = ap (λ l. z ∷ l) (take-suc_at zs i x at)
+
+  -- the first elements and one more
+  pub take-next_at : (xs : List X) (i : ℕ) (x : X) → slice_get xs i ≡ Some x → take (i + 1) xs ≡ take i xs ++ x ∷ []
+  take-next_at xs i x at = rw add-one (take-suc_at xs i x at)
+
+  -- a place keeps what it has where the list grows
+  pub slice_get-append : (xs ys : List X) (i : ℕ) (x : X) → slice_get xs i ≡ Some x → slice_get (xs ++ ys) i ≡ Some x
+  slice_get-append [] ys i x at = cc
+  slice_get-append (z ∷ zs) ys zero x at = at
+  slice_get-append (z ∷ zs) ys (suc i) x at = slice_get-append zs ys i x at
+
+  -- the new place
+  pub slice_get-push : (xs : List X) (x : X) → slice_get (xs ++ x ∷ []) (length xs) ≡ Some x
+  slice_get-push [] x = refl
+  slice_get-push (z ∷ zs) x = slice_get-push zs x
+
+  -- what stands in a list with one more is old or the new one
+  pub push-cases : (xs : List X) (new : X) (i : ℕ) (x : X) → slice_get (xs ++ new ∷ []) i ≡ Some x
+      → (slice_get xs i ≡ Some x) ⊎ ((i ≡ length xs) × (x ≡ new))
+  push-cases [] new zero x at = inr (refl, cc)
+  push-cases [] new (suc i) x at = cc
+  push-cases (z ∷ zs) new zero x at = inl at
+  push-cases (z ∷ zs) new (suc i) x at =
+      elim (push-cases zs new i x at) [ inl h ↦ inl h | inr h ↦ inr (ap suc h.0, h.1) ]
+
+  -- what was written
+  pub slice_get-set : (xs : List X) (i : ℕ) (x y : X) → slice_get xs i ≡ Some x → slice_get (slice_set xs i y) i ≡ Some y
+  slice_get-set [] i x y at = cc
+  slice_get-set (z ∷ zs) zero x y at = refl
+  slice_get-set (z ∷ zs) (suc i) x y at = slice_get-set zs i x y at
+
+  -- what stands in a list after a write was written or is old
+  pub set-cases : (xs : List X) (i : ℕ) (y : X) (j : ℕ) (x : X) → slice_get (slice_set xs i y) j ≡ Some x
+      → ((j ≡ i) × (x ≡ y)) ⊎ (slice_get xs j ≡ Some x)
+  set-cases [] i y j x at = inr at
+  set-cases (z ∷ zs) zero y zero x at = inl (refl, cc)
+  set-cases (z ∷ zs) zero y (suc j) x at = inr at
+  set-cases (z ∷ zs) (suc i) y zero x at = inr at
+  set-cases (z ∷ zs) (suc i) y (suc j) x at =
+      elim (set-cases zs i y j x at) [ inl h ↦ inl (ap suc h.0, h.1) | inr h ↦ inr h ]
+
+  -- what stood at a place was overwritten or stays
+  pub kept-cases : (xs : List X) (i : ℕ) (y : X) (j : ℕ) (x : X) → slice_get xs j ≡ Some x
+      → (j ≡ i) ⊎ (slice_get (slice_set xs i y) j ≡ Some x)
+  kept-cases [] i y j x at = inr at
+  kept-cases (z ∷ zs) zero y zero x at = inl refl
+  kept-cases (z ∷ zs) zero y (suc j) x at = inr at
+  kept-cases (z ∷ zs) (suc i) y zero x at = inr at
+  kept-cases (z ∷ zs) (suc i) y (suc j) x at =
+      elim (kept-cases zs i y j x at) [ inl h ↦ inl (ap suc h) | inr h ↦ inr h ]
+
+  -- what holds of each element, and of one more
+  pub AllByRecursion-push : (P : X → Type 0) (xs : List X) (x : X) → AllByRecursion P xs → P x → AllByRecursion P (xs ++ x ∷ [])
+  AllByRecursion-push P [] x all here = (here, tt)
+  AllByRecursion-push P (z ∷ zs) x all here = (all.0, AllByRecursion-push P zs x all.1 here)
+
+  pub AllByRecursion-weaker : (P Q : X → Type 0) → ((x : X) → P x → Q x) → (xs : List X) → AllByRecursion P xs → AllByRecursion Q xs
+  AllByRecursion-weaker P Q f [] all = tt
+  AllByRecursion-weaker P Q f (z ∷ zs) all = (f z all.0, AllByRecursion-weaker P Q f zs all.1)
+
+  -- what holds of each element holds of the one at a place
+  pub AllByRecursion-at : (P : X → Type 0) (xs : List X) (i : ℕ) (x : X) → AllByRecursion P xs → slice_get xs i ≡ Some x → P x
+  AllByRecursion-at P [] i x all at = cc
+  AllByRecursion-at P (z ∷ zs) zero x all at = let same : z ≡ x = cc in subst P same all.0
+  AllByRecursion-at P (z ∷ zs) (suc i) x all at = AllByRecursion-at P zs i x all.1 at
+
+  -- what holds of each of the first elements, and of one more
+  pub AllByRecursion-next : (P : X → Type 0) (xs : List X) (i : ℕ) (x : X) → slice_get xs i ≡ Some x → AllByRecursion P (take i xs) → P x → AllByRecursion P (take (i + 1) xs)
+  AllByRecursion-next P xs i x at all here = rw (take-next_at xs i x at) (AllByRecursion-push P (take i xs) x all here)
+
+module _ {X Y : Type 0} where
+  -- of the first elements and one more, what each gives
+  pub map-next : (f : X → Y) (xs : List X) (i : ℕ) (x : X) → slice_get xs i ≡ Some x → map f (take (i + 1) xs) ≡ map f (take i xs) ++ f x ∷ []
+  map-next f xs i x at = rw (take-next_at xs i x at) (map-append f (take i xs) (x ∷ []))
+
+  -- the same of those that give something
+  pub filter_map-next_some : (f : X → Option Y) (xs : List X) (i : ℕ) (x : X) (y : Y) → slice_get xs i ≡ Some x → f x ≡ Some y
+      → filter_map f (take (i + 1) xs) ≡ filter_map f (take i xs) ++ y ∷ []
+  filter_map-next_some f xs i x y at gives = rw (take-next_at xs i x at, filter_map-append f (take i xs) (x ∷ []), gives) refl
+
+  pub filter_map-next_none : (f : X → Option Y) (xs : List X) (i : ℕ) (x : X) → slice_get xs i ≡ Some x → f x ≡ None
+      → filter_map f (take (i + 1) xs) ≡ filter_map f (take i xs)
+  filter_map-next_none f xs i x at gives = rw (take-next_at xs i x at, filter_map-append f (take i xs) (x ∷ []), gives, append-nil) refl
+
+module _ {K V : Type 0} (test : K → Bool) where
+  -- what is found is found in a longer table
+  pub lookup-append : (es fs : List (K × V)) (v : V) → lookup test es ≡ Some v → lookup test (es ++ fs) ≡ Some v
+  lookup-append [] fs v found = cc
+  lookup-append (e ∷ es) fs v found = by (test e.0) found (lookup-append es fs v)
+    where
+      by : (b : Bool) → cond b (Some e.1) (lookup test es) ≡ Some v → (lookup test es ≡ Some v → lookup test (es ++ fs) ≡ Some v)
+          → cond b (Some e.1) (lookup test (es ++ fs)) ≡ Some v
+      by true h rest = h
+      by false h rest = rest h
+
+  -- a new entry is found
+  pub lookup-push : (es : List (K × V)) (k : K) (v : V) → lookup test es ≡ None → test k ≡ true → lookup test (es ++ (k, v) ∷ []) ≡ Some v
+  lookup-push [] k v none passes = rw passes refl
+  lookup-push (e ∷ es) k v none passes = by (test e.0) none (λ h. lookup-push es k v h passes)
+    where
+      by : (b : Bool) → cond b (Some e.1) (lookup test es) ≡ None → (lookup test es ≡ None → lookup test (es ++ (k, v) ∷ []) ≡ Some v)
+          → cond b (Some e.1) (lookup test (es ++ (k, v) ∷ [])) ≡ Some v
+      by true h rest = cc
+      by false h rest = rest h

@@ -1,0 +1,93 @@
+//! A set of texts in insertion order, which contracts see as the list of its texts.
+ghost use Rattle.std.specs.Prelude.{◌≡◌, ◌++◌, ◌∷◌, [], ◌^◌, ◌<◌, length, OnOk, OnErr, slice_get, Some, if◌then◌else◌};
+ghost use Rattle.std.specs.List.{list_any, IsDistinct};
+ghost use Rattle.std.specs.Str.{bytes_eq};
+ghost use Rattle.wit_values.specs.NameSet.{texts_of};
+
+use crate::try_clone::TryClone;
+use indexmap::IndexSet;
+use std::alloc::{AllocError, Global};
+use std::fmt;
+use std::marker::Model;
+
+/// Texts that differ, in the order in which they came.
+#[derive(Drop)]
+pub struct NameSet {
+    inner: IndexSet<String>,
+}
+
+impl Model for NameSet {
+    ghost use Rattle.std.specs.Prelude.{List, ℕ};
+    ghost use Rattle.wit_values.specs.NameSet.{texts_of};
+
+    ghost Value = { List (List ℕ) };
+
+    ghost view = { λ s. texts_of s.inner.keys };
+}
+
+impl NameSet {
+    /// The empty set, which takes no memory.
+    pub fn new(alloc: Global) -> NameSet
+        ensures { result ≡ [] }
+    {
+        NameSet {
+            inner: IndexSet::new(alloc),
+        }
+    }
+
+    /// How many texts it has. A caller learns here that they differ.
+    pub fn len(&self) -> usize
+        ensures len { result ≡ length self.now }
+        ensures distinct { IsDistinct bytes_eq self.now }
+    {
+        self.inner.len()
+    }
+
+    pub fn contains(&self, text: &str) -> bool
+        ensures { result ≡ list_any (bytes_eq text.now) self.now }
+    {
+        self.inner.contains(text)
+    }
+
+    /// The text at an index.
+    pub fn text_at(&self, index: usize) -> &str
+        requires { index < length self.now }
+        ensures { slice_get self.now index ≡ Some result.now }
+    {
+        match self.inner.get_index(index) {
+            Some(text) => text.as_str(),
+            None => unreachable!(),
+        }
+    }
+
+    /// Adds a text at the end where it isn't there yet. Where there is no memory the set is as before.
+    pub fn insert(&mut self, alloc: Global, text: &str) -> Result<(), AllocError>
+        ensures ok { OnOk result (self.new ≡ (if list_any (bytes_eq text.now) self.old then self.old else self.old ++ text.now ∷ [])) }
+        ensures err { OnErr result (self.new ≡ self.old) }
+    {
+        let owned = String::from_str(alloc, text)?;
+        self.inner.insert(owned)?;
+        Ok(())
+    }
+
+    pub fn allocator(&self) -> Global {
+        *self.inner.allocator()
+    }
+}
+
+impl TryClone for NameSet {
+    fn try_clone(&self) -> Result<NameSet, AllocError> {
+        let alloc = self.allocator();
+        let mut copy = NameSet::new(alloc);
+        for index in 0..self.len() {
+            copy.insert(alloc, self.text_at(index))?;
+        }
+        Ok(copy)
+    }
+}
+
+impl fmt::Debug for NameSet {
+    fn fmt<W: fmt::Write>(&self, f: &mut fmt::Formatter<W>) -> fmt::Result {
+        fmt::Debug::fmt(&self.inner, f)
+    }
+}
