@@ -7,6 +7,7 @@ pub mod function;
 pub mod ids;
 pub mod interface;
 pub mod package_name;
+pub mod source_map;
 pub mod span;
 pub mod stability;
 pub mod types;
@@ -19,11 +20,13 @@ pub use crate::function::{AccessorKind, Function, FunctionKind, Param};
 pub use crate::ids::{InterfaceId, PackageId, TypeId, WorldId};
 pub use crate::interface::Interface;
 pub use crate::package_name::PackageName;
+pub use crate::source_map::{MapFault, SourceMap, SourceNames};
 pub use crate::span::Span;
 pub use crate::stability::{Docs, Stability};
 pub use crate::types::{
     Case, EnumCase, Field, Flag, Handle, Type_, TypeDef, TypeDefKind, TypeOwner,
 };
-pub use crate::unresolved::{AstItem, UnresolvedPackage};
+pub use crate::unresolved::{AstItem, UnresolvedPackage, UnresolvedPackageGroup};
+pub use crate::uses::{alias_target, interface_uses, type_interface_dep, uses_of};
 pub use crate::world::{IncludeName, World, WorldInclude, WorldItem, WorldKey};
 pub use wit_values::{Items, Names, Table, Text, TryClone, Version};

@@ -2,6 +2,7 @@
 use crate::ids::{InterfaceId, TypeId, WorldId};
 use crate::interface::Interface;
 use crate::package_name::PackageName;
+use crate::source_map::SourceMap;
 use crate::span::Span;
 use crate::stability::{Docs, Stability};
 use crate::types::TypeDef;
@@ -71,6 +72,30 @@ impl TryClone for UnresolvedPackage {
             foreign_dep_spans,
             unknown_type_spans,
             required_resource_types,
+        })
+    }
+}
+
+/// The packages of one reading: the main one, those that are nested in its files, and the files.
+#[derive(Debug, Drop)]
+pub struct UnresolvedPackageGroup {
+    pub main: UnresolvedPackage,
+    pub nested: Items<UnresolvedPackage>,
+    /// The files. The spans of the packages are positions in it.
+    pub source_map: SourceMap,
+}
+
+impl TryClone for UnresolvedPackageGroup {
+    fn try_clone(&self) -> Result<UnresolvedPackageGroup, AllocError> {
+        let (main, nested, source_map) = try_clone_three(
+            &self.main,
+            &self.nested,
+            &self.source_map,
+        )?;
+        Ok(UnresolvedPackageGroup {
+            main,
+            nested,
+            source_map,
         })
     }
 }

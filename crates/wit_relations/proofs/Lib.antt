@@ -1,0 +1,7 @@
+pub mod Members
+pub mod Walks
+pub mod Fresh
+pub mod Marks
+pub mod Stack
+pub mod WalkLaws
+pub mod Orders

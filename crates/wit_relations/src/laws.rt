@@ -1,0 +1,23 @@
+//! Laws of the definitions: each function has no body, and its contract is what is proved.
+ghost use Rattle.std.specs.Prelude.{ℕ, List};
+ghost use Rattle.wit_relations.specs.Laws.{FirstsAreOnce, WalksKeepOrder, WalksReach, WalksUnfold};
+
+/// A walk is the walks of the direct uses, in order, and then the node.
+pub fn walks_unfold()
+    ensures { WalksUnfold }
+{}
+
+/// The order of some roots lists exactly what they reach.
+pub fn walks_reach()
+    ensures { WalksReach }
+{}
+
+/// Each direct use stands before its user.
+pub fn walks_keep_order()
+    ensures { WalksKeepOrder }
+{}
+
+/// The first of each member has all members, each once.
+pub fn firsts_are_once()
+    ensures { (xs : List ℕ) → FirstsAreOnce xs }
+{}

@@ -1,0 +1,15 @@
+//! Relations between numbered things, as rows of uses: walks and orders along them.
+//!
+//! Interfaces, types, packages and the packages of a group all use one another; each such relation
+//! is a list of rows, row i being what thing i uses, in order and with repeats. What the layers above
+//! ask of any of them is here once: the order in which each stands after all that it uses, and
+//! whether some thing comes back to itself.
+#![tactic(auto)]
+
+mod frame;
+pub mod laws;
+pub mod relation;
+pub mod walk;
+
+pub use crate::relation::{direct_uses, is_in_range};
+pub use crate::walk::{Listing, walk_order};

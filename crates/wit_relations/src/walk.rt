@@ -1,0 +1,159 @@
+//! Walks along uses: the walk of a node is the walks of its direct uses, in order, then the node.
+//!
+//! A listing keeps the first of each node that walks come to. It holds a node after all that the
+//! node uses, so what is listed need not be walked again.
+ghost use Rattle.std.specs.Prelude.{◌≡◌, ◌<◌, ◌++◌, ◌∷◌, ◌↔◌, [], OnOk, OnErr, IfOk, IsTrue, All, Contains, length};
+ghost use Rattle.std.specs.List.{flat_map};
+ghost use Rattle.wit_relations.specs.Relation.{IsAcyclic};
+ghost use Rattle.wit_relations.specs.Walks.{UsesFirst, first_of_each, fresh, walk};
+
+use crate::frame::Frame;
+use crate::relation::direct_uses;
+use std::alloc::{AllocError, Global};
+use std::marker::Model;
+use wit_values::Items;
+
+/// Some of a number of nodes, in the order in which they were listed.
+#[derive(Drop)]
+pub struct Listing {
+    marks: Items<bool>,
+    order: Items<usize>,
+}
+
+impl Model for Listing {
+    ghost use Rattle.std.specs.Prelude.{length};
+    ghost use Rattle.wit_relations.specs.Walks.{Listed, MarksTell};
+
+    ghost Value = { Listed };
+
+    ghost view = { λ a. record { nodes = length a.marks; order = a.order } };
+
+    ghost invariant = { λ a. MarksTell a.marks a.order };
+}
+
+impl Listing {
+    /// None of `nodes` nodes. It takes a mark for each.
+    pub fn new(alloc: Global, nodes: usize) -> Result<Listing, AllocError>
+        ensures { IfOk result (λ l. l ≡ record { nodes = nodes; order = [] }) }
+    {
+        let marks = vec![in alloc; false; nodes]?;
+        Ok(Listing {
+            marks: Items::from_vec(marks),
+            order: Items::new(alloc),
+        })
+    }
+
+    /// The nodes that are listed, in order.
+    pub fn order(&self) -> &[usize]
+        ensures order { result.now ≡ self.now.order }
+        ensures in_range { All (λ i. i < self.now.nodes) self.now.order }
+    {
+        self.order.as_slice()
+    }
+
+    pub fn into_order(self) -> Items<usize>
+        ensures { result ≡ self.order }
+    {
+        self.order
+    }
+
+    /// Whether a node is listed.
+    pub fn has(&self, node: usize) -> bool
+        requires { node < self.now.nodes }
+        ensures { IsTrue result ↔ Contains self.now.order node }
+    {
+        *self.marks.at(node)
+    }
+
+    /// Lists one more node. Where there is no memory the listing is as before.
+    pub fn push(&mut self, node: usize) -> Result<(), AllocError>
+        requires in_range { node < self.old.nodes }
+        requires new { Contains self.old.order node → ⊥ }
+        ensures ok { OnOk result (self.new ≡ record self.old { order = self.old.order ++ node ∷ [] }) }
+        ensures err { OnErr result (self.new ≡ self.old) }
+    {
+        self.order.push(node)?;
+        self.marks.set(node, true);
+        Ok(())
+    }
+
+    /// Takes all nodes off the list, at a step for each that is listed.
+    pub fn clear(&mut self)
+        ensures { self.new ≡ record self.old { order = [] } }
+    {
+        for index in 0..self.order.len() {
+            let node = *self.order.at(index);
+            self.marks.set(node, false);
+        }
+        self.order.truncate(0);
+    }
+
+    /// Lists the members of the walk of `root` that are not listed yet, in the walk's order.
+    ///
+    /// It takes a step for each node that it lists and for each of their uses. For uses are acyclic,
+    /// so a node on the stack is not met again before it is listed, and a listed one is not entered.
+    /// Where memory runs out, some of them may be listed, each after all that it uses.
+    pub fn list_walk(
+        &mut self,
+        alloc: Global,
+        uses: &[Items<usize>],
+        root: usize,
+    ) -> Result<(), AllocError>
+        requires acyclic { IsAcyclic uses.now }
+        requires root { root < length uses.now }
+        requires nodes { self.old.nodes ≡ length uses.now }
+        requires uses_first { UsesFirst uses.now [] self.old.order }
+        ensures ok { OnOk result (self.new ≡ record self.old { order = self.old.order ++ fresh self.old.order (walk uses.now root) }) }
+        ensures nodes { self.new.nodes ≡ self.old.nodes }
+        ensures uses_first { UsesFirst uses.now [] self.new.order }
+    {
+        if self.has(root) {
+            return Ok(());
+        }
+        let mut stack = vec![in alloc;
+            Frame {
+                node: root,
+                next: 0
+            },
+        ]?;
+        while let Some(frame) = stack.pop() {
+            let row = direct_uses(uses, frame.node);
+            if frame.next < row.len() {
+                let used = row[frame.next];
+                stack.push(Frame {
+                    node: frame.node,
+                    next: frame.next + 1,
+                })?;
+                if !self.has(used) {
+                    stack.push(Frame {
+                        node: used,
+                        next: 0,
+                    })?;
+                }
+            } else if !self.has(frame.node) {
+                self.push(frame.node)?;
+            }
+        }
+        Ok(())
+    }
+}
+
+/// The nodes of the walks of the roots, each once, where it comes first.
+///
+/// It takes a mark for each node, and a step for each root, for each node that a root reaches and
+/// for each of their uses.
+pub fn walk_order(
+    alloc: Global,
+    uses: &[Items<usize>],
+    roots: &[usize],
+) -> Result<Items<usize>, AllocError>
+    requires acyclic { IsAcyclic uses.now }
+    requires roots { All (λ i. i < length uses.now) roots.now }
+    ensures { IfOk result (λ order. order ≡ first_of_each (flat_map (walk uses.now) roots.now)) }
+{
+    let mut listing = Listing::new(alloc, uses.len())?;
+    for root in roots {
+        listing.list_walk(alloc, uses, *root)?;
+    }
+    Ok(listing.into_order())
+}
