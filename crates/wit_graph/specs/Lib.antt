@@ -1,0 +1,4 @@
+pub mod Error
+pub mod ErrorLoan
+pub mod ErrorText
+pub mod IdText
