@@ -4,4 +4,5 @@ pub mod Fresh
 pub mod Marks
 pub mod Stack
 pub mod WalkLaws
-pub mod Orders
+pub mod Searching
+pub mod SearchSteps

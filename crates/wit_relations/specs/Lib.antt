@@ -1,3 +1,4 @@
 pub mod Relation
 pub mod Walks
+pub mod Cycles
 pub mod Laws

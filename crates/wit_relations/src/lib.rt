@@ -1,4 +1,4 @@
-//! Relations between numbered things, as rows of uses: walks and orders along them.
+//! Relations between numbered things, as rows of uses: walks, orders and cycles.
 //!
 //! Interfaces, types, packages and the packages of a group all use one another; each such relation
 //! is a list of rows, row i being what thing i uses, in order and with repeats. What the layers above
@@ -6,10 +6,12 @@
 //! whether some thing comes back to itself.
 #![tactic(auto)]
 
+pub mod cycle;
 mod frame;
 pub mod laws;
 pub mod relation;
 pub mod walk;
 
+pub use crate::cycle::{CycleUse, find_cycle, is_acyclic};
 pub use crate::relation::{direct_uses, is_in_range};
 pub use crate::walk::{Listing, walk_order};
