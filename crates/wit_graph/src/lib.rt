@@ -2,11 +2,15 @@
 #![tactic(auto)]
 
 pub mod cause;
+pub mod elaborate;
+mod entries;
 pub mod error;
 pub mod error_kind;
 pub mod features;
 pub mod graph;
+pub mod laws;
 pub mod questions;
+pub mod role;
 
 pub use crate::cause::Cause;
 pub use crate::error::{ResolveError, ResolveResult};

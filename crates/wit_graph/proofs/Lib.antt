@@ -1,0 +1,13 @@
+pub mod Absorbed
+pub mod Classes
+pub mod Exact
+pub mod ExportedUses
+pub mod ExportsAgain
+pub mod Filters
+pub mod FreshEntries
+pub mod ImportsAgain
+pub mod Keys
+pub mod WorldLaws
+pub mod Order
+pub mod Roles
+pub mod Steps

@@ -1,0 +1,1 @@
+//! The elaboration of a world.
