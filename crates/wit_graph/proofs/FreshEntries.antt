@@ -2,7 +2,7 @@
 use Rattle.std.proofs.Common.{◌≡◌, ℕ, zero, suc, ◌<◌, ◌≤◌, ◌+◌, Bool, true, false, cond, not, ◌&&◌, ◌⊎◌, ◌↔◌, inl, inr, List, [], ◌∷◌, ◌++◌, map, filter, append_assoc, get_or, take, drop, length, refl, sym, ap, subst, ◌∙◌, arith, eqb, nat_eq, rules, Contains, All}
 use Rattle.std.specs.List.{flat_map, list_any, AllByRecursion}
 use Rattle.std.specs.Map.{keys_of}
-use Rattle.std.proofs.lemmas.List.{append-nil, map-append}
+use Rattle.std.proofs.lemmas.List.{append-nil, map-append, take_more}
 use Rattle.std.proofs.lemmas.List.Concat.{flat_map-append}
 use Rattle.std.proofs.lemmas.List.Folds.{list_any_at}
 use Rattle.std.proofs.lemmas.Bool.{eqb-true, cases_Bool, false≢true, cond-true, cond-false, false_from_ne_true}
@@ -211,3 +211,20 @@ ids_of-append xs ys = flat_map-append (λ (e : Entry). id_of e.0) xs ys
 pub keys_of-append : (xs ys : List Entry) → keys_of (xs ++ ys) ≡ keys_of xs ++ keys_of ys
 keys_of-append xs ys = map-append (λ (e : Entry). e.0) xs ys
 
+
+-- what is added after what was added
+pub fresh_entries-next : (old now new xs ys : List Entry) → now ≡ old ++ fresh_entries (keys_of old) xs → new ≡ now ++ fresh_entries (keys_of now) ys → new ≡ old ++ fresh_entries (keys_of old) (xs ++ ys)
+fresh_entries-next old now new xs ys first then =
+    then ∙ rw (first, keys_of-append old (fresh_entries (keys_of old) xs), append_assoc old (fresh_entries (keys_of old) xs) (fresh_entries (keys_of old ++ keys_of (fresh_entries (keys_of old) xs)) ys), fresh_entries-append (keys_of old) xs ys) refl
+
+-- entries whose keys are all new stay
+pub fresh_entries-all_new : (seen : List WorldKey) (es : List Entry) → AllNew seen es → fresh_entries seen es ≡ es
+fresh_entries-all_new seen [] new = refl
+fresh_entries-all_new seen (e ∷ es) new = fresh_entries-new seen e es new.0 ∙ ap (λ xs. e ∷ xs) (fresh_entries-all_new (seen ++ e.0 ∷ []) es new.1)
+
+-- one more of a list of interfaces
+pub dependencies-next : (s : Carried) (old now new : List Entry) (js : List ℕ) (at : ℕ) → at < length js → now ≡ old ++ fresh_entries (keys_of old) (map (dependency_of s) (take at js)) →
+    new ≡ now ++ fresh_entries (keys_of now) (dependency_of s (get_or js at 0) ∷ []) → new ≡ old ++ fresh_entries (keys_of old) (map (dependency_of s) (take (at + 1) js))
+dependencies-next s old now new js at below first then =
+    rw (take_more js at 0 below, map-append (dependency_of s) (take at js) (get_or js at 0 ∷ []))
+    (fresh_entries-next old now new (map (dependency_of s) (take at js)) (dependency_of s (get_or js at 0) ∷ []) first then)
