@@ -12,7 +12,7 @@ use Rattle.std.proofs.lemmas.Slice.Eq.{bytes_eq-Decides}
 use Rattle.wit_items.specs.declared.world.WorldKey.{WorldKey}
 use Rattle.wit_items.specs.declared.world.WorldKey.TheVariants.{Name, Interface}
 use Rattle.wit_relations.proofs.Members.{Contains-nil, Contains-here, Contains-there, Contains-cons_cases, Contains-flat_map, Contains-flat_map_cases}
-use Rattle.wit_relations.proofs.Fresh.{fresh-seen, fresh-new, any_from_contains, no_any_from}
+use Rattle.wit_relations.proofs.Fresh.{fresh-seen, fresh-new, any_from_contains, contains_from_any, no_any_from}
 use Rattle.wit_relations.specs.Walks.{fresh}
 use Rattle.wit_graph.specs.Entries.{Entry, same_key, id_of, ids_of, fresh_entries}
 use Rattle.wit_graph.specs.Elaborated.{Carried, dependency_of}
@@ -96,7 +96,7 @@ AllNew-apart (e ∷ es) seen f new has old =
       | inr there ↦ AllNew-apart es (seen ++ e.0 ∷ []) f new.1 there (Contains-append_left seen (e.0 ∷ []) f.0 old)
     ]
 
-absent_from : (k : WorldKey) (seen : List WorldKey) → (Contains seen k → ⊥) → list_any (same_key k) seen ≡ false
+pub absent_from : (k : WorldKey) (seen : List WorldKey) → (Contains seen k → ⊥) → list_any (same_key k) seen ≡ false
 absent_from k seen not_there = false_from_ne_true (list_any (same_key k) seen) (λ known. not_there (contains_from_known k seen known))
 
 pub AllNew-filter : (p : Entry → Bool) (es : List Entry) (seen less : List WorldKey) → ((k : WorldKey) → Contains less k → Contains seen k) → AllNew seen es → AllNew less (filter p es)
@@ -228,3 +228,37 @@ pub dependencies-next : (s : Carried) (old now new : List Entry) (js : List ℕ)
 dependencies-next s old now new js at below first then =
     rw (take_more js at 0 below, map-append (dependency_of s) (take at js) (get_or js at 0 ∷ []))
     (fresh_entries-next old now new (map (dependency_of s) (take at js)) (dependency_of s (get_or js at 0) ∷ []) first then)
+
+-- where what was seen has the keys of what was listed, only what is fresh matters
+pub fresh_entries-fresh : (s : Carried) (js listed : List ℕ) (seen : List WorldKey) → ((i : ℕ) → Contains listed i → Contains seen (Interface i)) →
+    fresh_entries seen (map (dependency_of s) (fresh listed js)) ≡ fresh_entries seen (map (dependency_of s) js)
+fresh_entries-fresh s [] listed seen covers = refl
+fresh_entries-fresh s (j ∷ js) listed seen covers =
+    elim (cases_Bool (list_any (nat_eq j) listed)) [
+      | inl old ↦
+          rw (fresh-seen listed j js old, fresh_entries-known seen (dependency_of s j) (map (dependency_of s) js) (known_from_contains (Interface j) seen (covers j (contains_from_any j listed old))))
+          (fresh_entries-fresh s js listed seen covers)
+      | inr new ↦ rw (fresh-new listed j js new) (elim (cases_Bool (list_any (same_key (Interface j)) seen)) [
+        | inl known ↦
+            rw (fresh_entries-known seen (dependency_of s j) (map (dependency_of s) (fresh (listed ++ j ∷ []) js)) known, fresh_entries-known seen (dependency_of s j) (map (dependency_of s) js) known)
+            (fresh_entries-fresh s js (listed ++ j ∷ []) seen (λ i has. elim (Contains-append_cases listed (j ∷ []) i has) [
+              | inl before ↦ covers i before
+              | inr last ↦ elim (Contains-cons_cases j i [] last) [ inl same ↦ subst (λ m. Contains seen (Interface m)) same (contains_from_known (Interface j) seen known) | inr none ↦ absurd (Contains-nil none) ]
+            ]))
+        | inr lacking ↦
+            rw (fresh_entries-new seen (dependency_of s j) (map (dependency_of s) (fresh (listed ++ j ∷ []) js)) lacking, fresh_entries-new seen (dependency_of s j) (map (dependency_of s) js) lacking)
+            (ap (λ (es : List Entry). dependency_of s j ∷ es) (fresh_entries-fresh s js (listed ++ j ∷ []) (seen ++ Interface j ∷ []) (λ i has. elim (Contains-append_cases listed (j ∷ []) i has) [
+              | inl before ↦ Contains-append_left seen (Interface j ∷ []) (Interface i) (covers i before)
+              | inr last ↦ Contains-append_right seen (Interface j ∷ []) (Interface i) (elim (Contains-cons_cases j i [] last) [ inl same ↦ subst (λ m. Contains (Interface j ∷ []) (Interface m)) same (Contains-here (Interface j) []) | inr none ↦ absurd (Contains-nil none) ])
+            ])))
+      ])
+    ]
+
+-- a dependency's key is there, once it was added
+pub dependency_added : (s : Carried) (js : List ℕ) (old : List Entry) (j : ℕ) → Contains js j → Contains (keys_of (old ++ fresh_entries (keys_of old) (map (dependency_of s) js))) (Interface j)
+dependency_added s js old j has =
+    rw (keys_of-append old (fresh_entries (keys_of old) (map (dependency_of s) js))) (fresh_entries_all (keys_of old) (map (dependency_of s) js) (dependency_of s j) (deps-Contains s js j has))
+
+-- a key that is there stays
+pub key_stays : (old more : List Entry) (k : WorldKey) → Contains (keys_of old) k → Contains (keys_of (old ++ more)) k
+key_stays old more k has = rw (keys_of-append old more) (Contains-append_left (keys_of old) (keys_of more) k has)

@@ -4,7 +4,9 @@ pub mod Exact
 pub mod ExportedUses
 pub mod ExportsAgain
 pub mod Filters
+pub mod FirstClasses
 pub mod FreshEntries
+pub mod Importing
 pub mod ImportsAgain
 pub mod Keys
 pub mod WorldLaws

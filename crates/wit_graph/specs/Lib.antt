@@ -1,4 +1,5 @@
 pub mod Elaborated
+pub mod Elaborating
 pub mod ElaborationLaws
 pub mod Entries
 pub mod Error

@@ -8,6 +8,7 @@ pub mod error;
 pub mod error_kind;
 pub mod features;
 pub mod graph;
+mod imports;
 pub mod laws;
 pub mod questions;
 pub mod role;
