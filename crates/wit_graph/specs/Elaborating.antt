@@ -1,9 +1,12 @@
 -- States of an elaboration on its way.
-use Rattle.std.specs.Prelude.{ℕ, ◌≡◌, List, [], ◌∷◌, length, Contains}
+use Rattle.std.specs.Prelude.{ℕ, ◌≡◌, ◌++◌, ◌↔◌, Bool, true, false, List, [], ◌∷◌, Option, Some, None, length, nat_eq, slice_get, take, Contains}
+use Rattle.std.specs.List.{list_any}
 use Rattle.std.specs.Map.{keys_of}
 use Rattle.wit_items.specs.declared.world.WorldKey.TheVariants.{Interface}
+use Rattle.wit_relations.specs.Relation.{direct, Reaches}
 use Rattle.wit_relations.specs.Walks.{Listed, UsesFirst}
-use Rattle.wit_graph.specs.Entries.{Entry}
+use Rattle.wit_graph.specs.Entries.{Entry, instance_of}
+use Rattle.wit_graph.specs.Imported.{exported_keys, exported_interfaces, is_exported, IsInConflict}
 
 -- what was walked has all its uses walked before it
 pub record IsWalk (uses : List (List ℕ)) (walked : Listed) : Type 0 where
@@ -14,3 +17,31 @@ pub record IsWalk (uses : List (List ℕ)) (walked : Listed) : Type 0 where
 pub record IsImporting (uses : List (List ℕ)) (walked : Listed) (imports : List Entry) : Type 0 where
   pub walk : IsWalk uses walked
   pub imported : (i : ℕ) → Contains walked.order i → Contains (keys_of imports) (Interface i)
+
+-- some target is reached from i
+abbrev pub ReachesOneOf : List (List ℕ) → List ℕ → ℕ → Type 0
+ReachesOneOf uses targets i = (t : ℕ) × Reaches uses i t × Contains targets t
+
+-- of the members of an order, those that reach a target are marked, and no other is
+pub record AreMarked (uses : List (List ℕ)) (order targets marked : List ℕ) : Type 0 where
+  pub sound : (i : ℕ) → Contains marked i → ReachesOneOf uses targets i
+  pub complete : (i : ℕ) → Contains order i → ReachesOneOf uses targets i → Contains marked i
+
+-- listed are those of an order that reach an exported interface and are not exported themselves
+pub record AreOutside (order reaching exported outside : List ℕ) : Type 0 where
+  pub sound : (i : ℕ) → Contains outside i → Contains order i × Contains reaching i × (Contains exported i → ⊥)
+  pub complete : (i : ℕ) → Contains order i → Contains reaching i → (Contains exported i → ⊥) → Contains outside i
+
+-- some direct use of i is marked
+abbrev pub HasMarkedUse : List (List ℕ) → List ℕ → ℕ → Type 0
+HasMarkedUse uses marked i = (j : ℕ) × Contains (direct uses i) j × Contains marked j
+
+-- a listing has exactly the exported keys
+abbrev pub TellsExported : List ℕ → List Entry → Type 0
+TellsExported listed exports = (i : ℕ) → Contains listed i ↔ Contains (exported_keys exports) i
+
+-- the first entry that is in conflict, and none where there is none
+abbrev pub IsFirstConflict : List (List ℕ) → List Entry → Option ℕ → Type 0
+IsFirstConflict uses exports None = (e : Entry) → Contains exports e → IsInConflict uses exports e → ⊥
+IsFirstConflict uses exports (Some at) =
+    (e : Entry) × (slice_get exports at ≡ Some e) × IsInConflict uses exports e × ((f : Entry) → Contains (take at exports) f → IsInConflict uses exports f → ⊥)

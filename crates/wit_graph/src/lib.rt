@@ -2,6 +2,7 @@
 #![tactic(auto)]
 
 pub mod cause;
+mod conflict;
 pub mod elaborate;
 mod entries;
 pub mod error;

@@ -1,8 +1,29 @@
 //! What the items of a world are to its elaboration.
 ghost use Rattle.std.specs.Prelude.{◌≡◌};
-ghost use Rattle.wit_graph.specs.Entries.{class_of, role_of};
+ghost use Rattle.std.specs.Option.{option_to_list};
+ghost use Rattle.wit_graph.specs.Entries.{class_of, id_of, instance_of, role_of};
 
-use wit_items::{InterfaceId, TypeDef, WorldItem, type_interface_dep};
+use wit_items::{InterfaceId, TypeDef, WorldItem, WorldKey, type_interface_dep};
+
+/// The interface that a key names, None where it is a label.
+pub(crate) fn key_interface(key: &WorldKey) -> Option<InterfaceId>
+    ensures { option_to_list result ≡ id_of key.now }
+{
+    match key {
+        WorldKey::Interface(id) => Some(*id),
+        WorldKey::Name(_) => None,
+    }
+}
+
+/// The interface that an item is, None where it is a function or a type.
+pub(crate) fn item_interface(item: &WorldItem) -> Option<InterfaceId>
+    ensures { option_to_list result ≡ instance_of item.now }
+{
+    match item {
+        WorldItem::Interface { id, .. } => Some(*id),
+        WorldItem::Function(_) | WorldItem::Type_ { .. } => None,
+    }
+}
 
 /// What an item is to the elaboration of its world.
 #[derive(Clone, Copy, Debug, PartialEq, Eq)]
