@@ -1,5 +1,6 @@
 pub mod Absorbed
 pub mod Classes
+pub mod ConflictIs
 pub mod Exact
 pub mod ExportSteps
 pub mod ExportedUses

@@ -5,6 +5,7 @@ use Rattle.std.specs.Map.{keys_of}
 use Rattle.wit_items.specs.declared.world.WorldKey.TheVariants.{Interface}
 use Rattle.wit_relations.specs.Relation.{direct, Reaches}
 use Rattle.wit_relations.specs.Walks.{Listed, UsesFirst}
+use Rattle.wit_graph.specs.declared.marks.Marks.{Marks}
 use Rattle.wit_graph.specs.Entries.{Entry, instance_of}
 use Rattle.wit_graph.specs.Imported.{exported_keys, exported_interfaces, is_exported, IsInConflict}
 
@@ -45,3 +46,21 @@ abbrev pub IsFirstConflict : List (List ℕ) → List Entry → Option ℕ → T
 IsFirstConflict uses exports None = (e : Entry) → Contains exports e → IsInConflict uses exports e → ⊥
 IsFirstConflict uses exports (Some at) =
     (e : Entry) × (slice_get exports at ≡ Some e) × IsInConflict uses exports e × ((f : Entry) → Contains (take at exports) f → IsInConflict uses exports f → ⊥)
+
+-- each set of marks is one of so many interfaces
+pub record HaveNodes (marks : Marks) (interfaces : ℕ) : Type 0 where
+  pub walked : marks.walked.nodes ≡ interfaces
+  pub exported : marks.exported.nodes ≡ interfaces
+  pub reaching : marks.reaching.nodes ≡ interfaces
+  pub outside : marks.outside.nodes ≡ interfaces
+  pub leading : marks.leading.nodes ≡ interfaces
+
+-- is the interface listed?
+abbrev pub is_listed : Listed → ℕ → Bool
+is_listed listed i = list_any (nat_eq i) listed.order
+
+-- what was walked is exported, or imported where it is no exported key
+pub record IsExporting (uses : List (List ℕ)) (exported : ℕ → Bool) (walked : Listed) (imports exports : List Entry) : Type 0 where
+  pub walk : IsWalk uses walked
+  pub are_exported : (i : ℕ) → Contains walked.order i → exported i ≡ true → Contains (keys_of exports) (Interface i)
+  pub are_imported : (i : ℕ) → Contains walked.order i → exported i ≡ false → Contains (keys_of imports) (Interface i)

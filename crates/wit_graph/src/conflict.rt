@@ -6,13 +6,14 @@
 ghost use Rattle.std.specs.Prelude.{◌≡◌, ◌++◌, ◌∷◌, ◌<◌, ◌↔◌, ◌⊎◌, [], ℕ, OnOk, IfOk, IsTrue, All, Contains, length};
 ghost use Rattle.std.specs.List.{flat_map};
 ghost use Rattle.wit_graph.specs.Elaborated.{needs};
-ghost use Rattle.wit_graph.specs.Elaborating.{AreMarked, AreOutside, HasMarkedUse, IsFirstConflict, IsWalk, TellsExported};
+ghost use Rattle.wit_graph.specs.Elaborating.{AreMarked, AreOutside, HasMarkedUse, HaveNodes, IsFirstConflict, IsWalk, TellsExported};
 ghost use Rattle.wit_graph.specs.Entries.{Entry, instance_of};
 ghost use Rattle.wit_graph.specs.Imported.{LeadsToConflict, exported_interfaces, exported_keys};
 ghost use Rattle.wit_relations.specs.Relation.{IsAcyclic, direct};
 ghost use Rattle.wit_relations.specs.Walks.{UsesFirst, first_of_each, fresh};
 
 use crate::imports::walk_needs;
+use crate::marks::Marks;
 use crate::role::{Role, item_interface, key_interface};
 use std::alloc::{AllocError, Global};
 use wit_items::{WorldItem, WorldKey};
@@ -178,4 +179,35 @@ fn first_conflict(
         }
     }
     None
+}
+
+/// The place of the first export of an interface that is in conflict, None where there is none.
+pub(crate) fn find_conflict(
+    alloc: Global,
+    uses: &[Items<usize>],
+    exports: &Table<WorldKey, WorldItem>,
+    marks: &mut Marks,
+) -> Result<Option<usize>, AllocError>
+    requires acyclic { IsAcyclic uses.now }
+    requires in_range { All (λ i. i < length uses.now) (exported_interfaces exports.now) }
+    requires nodes { HaveNodes marks.old (length uses.now) }
+    requires exported { TellsExported marks.old.exported.order exports.now }
+    ensures found { IfOk result (IsFirstConflict uses.now exports.now) }
+    ensures nodes { HaveNodes marks.new (length uses.now) }
+    ensures exported { marks.new.exported ≡ marks.old.exported }
+{
+    marks.walked.clear();
+    marks.reaching.clear();
+    marks.outside.clear();
+    marks.leading.clear();
+    walk_exports(alloc, uses, exports, &mut marks.walked)?;
+    mark_reaching(uses, marks.walked.order(), &marks.exported, &mut marks.reaching)?;
+    list_outside(
+        marks.walked.order(),
+        &marks.reaching,
+        &marks.exported,
+        &mut marks.outside,
+    )?;
+    mark_reaching(uses, marks.walked.order(), &marks.outside, &mut marks.leading)?;
+    Ok(first_conflict(uses, exports, &marks.leading))
 }

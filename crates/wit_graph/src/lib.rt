@@ -9,8 +9,10 @@ pub mod error;
 pub mod error_kind;
 pub mod features;
 pub mod graph;
+mod exports;
 mod imports;
 pub mod laws;
+mod marks;
 pub mod questions;
 pub mod role;
 
