@@ -2,7 +2,8 @@
 use Rattle.std.proofs.Common.{◌≡◌, ℕ, zero, suc, ◌<◌, ◌≤◌, ◌+◌, Bool, true, false, cond, not, ◌&&◌, ◌⊎◌, ◌↔◌, inl, inr, List, [], ◌∷◌, ◌++◌, map, filter, append_assoc, get_or, take, drop, length, refl, sym, ap, subst, ◌∙◌, arith, eqb, nat_eq, rules, Contains, All}
 use Rattle.std.specs.List.{flat_map, list_any, AllByRecursion}
 use Rattle.std.proofs.lemmas.Bool.{cases_Bool, false≢true, cond-true, cond-false}
-use Rattle.std.proofs.lemmas.List.Elements.{filter-append}
+use Rattle.std.proofs.lemmas.List.{append-nil}
+use Rattle.std.proofs.lemmas.List.Elements.{filter-append, filter_more}
 use Rattle.wit_relations.proofs.Members.{Contains-nil, Contains-here, Contains-there, Contains-cons_cases}
 
 pub Contains-filter : {X : Type 0} (p : X → Bool) (xs : List X) (x : X) → Contains (filter p xs) x → Contains xs x × (p x ≡ true)
@@ -57,3 +58,12 @@ flat_map-filter p f (x ∷ xs) =
 pub not_true : (b : Bool) → not b ≡ true → b ≡ false
 not_true true is = absurd (false≢true is)
 not_true false is = refl
+
+-- one more number, picked or not
+pub pick_next : (p : ℕ → Bool) (xs : List ℕ) (at : ℕ) (now new : List ℕ) → at < length xs → p (get_or xs at 0) ≡ true → now ≡ filter p (take at xs) → new ≡ now ++ get_or xs at 0 ∷ [] → new ≡ filter p (take (at + 1) xs)
+pick_next p xs at now new below pass now_is new_is =
+    new_is ∙ ap (λ (ys : List ℕ). ys ++ get_or xs at 0 ∷ []) now_is ∙ sym (filter_more p xs at 0 below ∙ ap (λ (ys : List ℕ). filter p (take at xs) ++ ys) (cond-true (p (get_or xs at 0)) (get_or xs at 0 ∷ []) [] pass))
+
+pub pick_skip : (p : ℕ → Bool) (xs : List ℕ) (at : ℕ) (now new : List ℕ) → at < length xs → p (get_or xs at 0) ≡ false → now ≡ filter p (take at xs) → new ≡ now → new ≡ filter p (take (at + 1) xs)
+pick_skip p xs at now new below fails now_is new_is =
+    new_is ∙ now_is ∙ sym (filter_more p xs at 0 below ∙ ap (λ (ys : List ℕ). filter p (take at xs) ++ ys) (cond-false (p (get_or xs at 0)) (get_or xs at 0 ∷ []) [] fails) ∙ append-nil (filter p (take at xs)))

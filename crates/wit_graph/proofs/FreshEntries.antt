@@ -16,7 +16,7 @@ use Rattle.wit_relations.proofs.Fresh.{fresh-seen, fresh-new, any_from_contains,
 use Rattle.wit_relations.specs.Walks.{fresh}
 use Rattle.wit_graph.specs.Entries.{Entry, same_key, id_of, ids_of, fresh_entries}
 use Rattle.wit_graph.specs.Elaborated.{Carried, dependency_of}
-use Rattle.wit_graph.proofs.Filters.{filter-pass, filter-fail}
+use Rattle.wit_graph.proofs.Filters.{filter-all, filter-pass, filter-fail}
 
 pub same_key-true : (k l : WorldKey) → same_key k l ≡ true → k ≡ l
 same_key-true (Name m) (Name n) same = ap (λ x. Name x) ((bytes_eq-Decides m n).0 same)
@@ -229,30 +229,50 @@ dependencies-next s old now new js at below first then =
     rw (take_more js at 0 below, map-append (dependency_of s) (take at js) (get_or js at 0 ∷ []))
     (fresh_entries-next old now new (map (dependency_of s) (take at js)) (dependency_of s (get_or js at 0) ∷ []) first then)
 
--- where what was seen has the keys of what was listed, only what is fresh matters
-pub fresh_entries-fresh : (s : Carried) (js listed : List ℕ) (seen : List WorldKey) → ((i : ℕ) → Contains listed i → Contains seen (Interface i)) →
-    fresh_entries seen (map (dependency_of s) (fresh listed js)) ≡ fresh_entries seen (map (dependency_of s) js)
-fresh_entries-fresh s [] listed seen covers = refl
-fresh_entries-fresh s (j ∷ js) listed seen covers =
+-- where what was seen has the keys of what was listed and passes a test, only what is fresh matters
+pub fresh_entries-filter : (p : ℕ → Bool) (s : Carried) (js listed : List ℕ) (seen : List WorldKey) → ((i : ℕ) → Contains listed i → p i ≡ true → Contains seen (Interface i)) →
+    fresh_entries seen (map (dependency_of s) (filter p (fresh listed js))) ≡ fresh_entries seen (map (dependency_of s) (filter p js))
+fresh_entries-filter p s [] listed seen covers = refl
+fresh_entries-filter p s (j ∷ js) listed seen covers =
     elim (cases_Bool (list_any (nat_eq j) listed)) [
-      | inl old ↦
-          rw (fresh-seen listed j js old, fresh_entries-known seen (dependency_of s j) (map (dependency_of s) js) (known_from_contains (Interface j) seen (covers j (contains_from_any j listed old))))
-          (fresh_entries-fresh s js listed seen covers)
-      | inr new ↦ rw (fresh-new listed j js new) (elim (cases_Bool (list_any (same_key (Interface j)) seen)) [
-        | inl known ↦
-            rw (fresh_entries-known seen (dependency_of s j) (map (dependency_of s) (fresh (listed ++ j ∷ []) js)) known, fresh_entries-known seen (dependency_of s j) (map (dependency_of s) js) known)
-            (fresh_entries-fresh s js (listed ++ j ∷ []) seen (λ i has. elim (Contains-append_cases listed (j ∷ []) i has) [
-              | inl before ↦ covers i before
-              | inr last ↦ elim (Contains-cons_cases j i [] last) [ inl same ↦ subst (λ m. Contains seen (Interface m)) same (contains_from_known (Interface j) seen known) | inr none ↦ absurd (Contains-nil none) ]
+      | inl old ↦ rw (fresh-seen listed j js old) (elim (cases_Bool (p j)) [
+        | inl pass ↦
+            rw (filter-pass p j js pass, fresh_entries-known seen (dependency_of s j) (map (dependency_of s) (filter p js)) (known_from_contains (Interface j) seen (covers j (contains_from_any j listed old) pass)))
+            (fresh_entries-filter p s js listed seen covers)
+        | inr fails ↦ rw (filter-fail p j js fails) (fresh_entries-filter p s js listed seen covers)
+      ])
+      | inr new ↦ rw (fresh-new listed j js new) (elim (cases_Bool (p j)) [
+        | inl pass ↦ rw (filter-pass p j js pass, filter-pass p j (fresh (listed ++ j ∷ []) js) pass) (elim (cases_Bool (list_any (same_key (Interface j)) seen)) [
+          | inl known ↦
+              rw (fresh_entries-known seen (dependency_of s j) (map (dependency_of s) (filter p (fresh (listed ++ j ∷ []) js))) known, fresh_entries-known seen (dependency_of s j) (map (dependency_of s) (filter p js)) known)
+              (fresh_entries-filter p s js (listed ++ j ∷ []) seen (λ i has passes. elim (Contains-append_cases listed (j ∷ []) i has) [
+                | inl before ↦ covers i before passes
+                | inr last ↦ elim (Contains-cons_cases j i [] last) [ inl same ↦ subst (λ m. Contains seen (Interface m)) same (contains_from_known (Interface j) seen known) | inr none ↦ absurd (Contains-nil none) ]
+              ]))
+          | inr lacking ↦
+              rw (fresh_entries-new seen (dependency_of s j) (map (dependency_of s) (filter p (fresh (listed ++ j ∷ []) js))) lacking, fresh_entries-new seen (dependency_of s j) (map (dependency_of s) (filter p js)) lacking)
+              (ap (λ (es : List Entry). dependency_of s j ∷ es) (fresh_entries-filter p s js (listed ++ j ∷ []) (seen ++ Interface j ∷ []) (λ i has passes. elim (Contains-append_cases listed (j ∷ []) i has) [
+                | inl before ↦ Contains-append_left seen (Interface j ∷ []) (Interface i) (covers i before passes)
+                | inr last ↦ Contains-append_right seen (Interface j ∷ []) (Interface i) (elim (Contains-cons_cases j i [] last) [ inl same ↦ subst (λ m. Contains (Interface j ∷ []) (Interface m)) same (Contains-here (Interface j) []) | inr none ↦ absurd (Contains-nil none) ])
+              ])))
+        ])
+        | inr fails ↦ rw (filter-fail p j js fails, filter-fail p j (fresh (listed ++ j ∷ []) js) fails)
+            (fresh_entries-filter p s js (listed ++ j ∷ []) seen (λ i has passes. elim (Contains-append_cases listed (j ∷ []) i has) [
+              | inl before ↦ covers i before passes
+              | inr last ↦ elim (Contains-cons_cases j i [] last) [ inl same ↦ absurd (false≢true (sym fails ∙ subst (λ m. p m ≡ true) (sym same) passes)) | inr none ↦ absurd (Contains-nil none) ]
             ]))
-        | inr lacking ↦
-            rw (fresh_entries-new seen (dependency_of s j) (map (dependency_of s) (fresh (listed ++ j ∷ []) js)) lacking, fresh_entries-new seen (dependency_of s j) (map (dependency_of s) js) lacking)
-            (ap (λ (es : List Entry). dependency_of s j ∷ es) (fresh_entries-fresh s js (listed ++ j ∷ []) (seen ++ Interface j ∷ []) (λ i has. elim (Contains-append_cases listed (j ∷ []) i has) [
-              | inl before ↦ Contains-append_left seen (Interface j ∷ []) (Interface i) (covers i before)
-              | inr last ↦ Contains-append_right seen (Interface j ∷ []) (Interface i) (elim (Contains-cons_cases j i [] last) [ inl same ↦ subst (λ m. Contains (Interface j ∷ []) (Interface m)) same (Contains-here (Interface j) []) | inr none ↦ absurd (Contains-nil none) ])
-            ])))
       ])
     ]
+
+-- the same without a test
+pub fresh_entries-fresh : (s : Carried) (js listed : List ℕ) (seen : List WorldKey) → ((i : ℕ) → Contains listed i → Contains seen (Interface i)) →
+    fresh_entries seen (map (dependency_of s) (fresh listed js)) ≡ fresh_entries seen (map (dependency_of s) js)
+fresh_entries-fresh s js listed seen covers =
+    let all : ℕ → Bool = λ i. true in
+    let same : (xs : List ℕ) → filter all xs ≡ xs = λ xs. filter-all all xs (λ i has. refl) in
+    ap (λ (xs : List ℕ). fresh_entries seen (map (dependency_of s) xs)) (sym (same (fresh listed js)))
+    ∙ fresh_entries-filter all s js listed seen (λ i has passes. covers i has)
+    ∙ ap (λ (xs : List ℕ). fresh_entries seen (map (dependency_of s) xs)) (same js)
 
 -- a dependency's key is there, once it was added
 pub dependency_added : (s : Carried) (js : List ℕ) (old : List Entry) (j : ℕ) → Contains js j → Contains (keys_of (old ++ fresh_entries (keys_of old) (map (dependency_of s) js))) (Interface j)

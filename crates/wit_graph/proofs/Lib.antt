@@ -1,8 +1,10 @@
 pub mod Absorbed
 pub mod Classes
 pub mod ConflictIs
+pub mod ElaboratedIs
 pub mod Exact
 pub mod ExportSteps
+pub mod Exporting
 pub mod ExportedUses
 pub mod ExportsAgain
 pub mod Filters
@@ -14,6 +16,7 @@ pub mod ImportsAgain
 pub mod Keys
 pub mod WorldLaws
 pub mod Marking
+pub mod OneWalk
 pub mod Order
 pub mod Roles
 pub mod Steps

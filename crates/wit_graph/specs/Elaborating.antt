@@ -1,12 +1,13 @@
 -- States of an elaboration on its way.
-use Rattle.std.specs.Prelude.{ℕ, ◌≡◌, ◌++◌, ◌↔◌, Bool, true, false, List, [], ◌∷◌, Option, Some, None, length, nat_eq, slice_get, take, Contains}
-use Rattle.std.specs.List.{list_any}
+use Rattle.std.specs.Prelude.{ℕ, ◌≡◌, ◌++◌, ◌↔◌, Bool, true, false, List, [], ◌∷◌, Option, Some, None, length, map, filter, not, nat_eq, slice_get, take, Contains}
+use Rattle.std.specs.List.{flat_map, list_any}
 use Rattle.std.specs.Map.{keys_of}
 use Rattle.wit_items.specs.declared.world.WorldKey.TheVariants.{Interface}
 use Rattle.wit_relations.specs.Relation.{direct, Reaches}
 use Rattle.wit_relations.specs.Walks.{Listed, UsesFirst}
 use Rattle.wit_graph.specs.declared.marks.Marks.{Marks}
-use Rattle.wit_graph.specs.Entries.{Entry, instance_of}
+use Rattle.wit_graph.specs.Elaborated.{dependency_of, export_carries, needs}
+use Rattle.wit_graph.specs.Entries.{Entry, Instance, instance_of}
 use Rattle.wit_graph.specs.Imported.{exported_keys, exported_interfaces, is_exported, IsInConflict}
 
 -- what was walked has all its uses walked before it
@@ -64,3 +65,11 @@ pub record IsExporting (uses : List (List ℕ)) (exported : ℕ → Bool) (walke
   pub walk : IsWalk uses walked
   pub are_exported : (i : ℕ) → Contains walked.order i → exported i ≡ true → Contains (keys_of exports) (Interface i)
   pub are_imported : (i : ℕ) → Contains walked.order i → exported i ≡ false → Contains (keys_of imports) (Interface i)
+
+-- where the walk of an exported interface is parted by what is exported: the exports of its members, then its own
+abbrev pub walked_exports : List (List ℕ) → (ℕ → Bool) → Entry → List Entry
+walked_exports uses exported e = map (dependency_of (export_carries e.1)) (filter exported (flat_map (λ i. needs uses (Instance i)) (instance_of e.1))) ++ e ∷ []
+
+-- and the imports of the others
+abbrev pub walked_imports : List (List ℕ) → (ℕ → Bool) → Entry → List Entry
+walked_imports uses exported e = map (dependency_of (export_carries e.1)) (filter (λ i. not (exported i)) (flat_map (λ i. needs uses (Instance i)) (instance_of e.1)))

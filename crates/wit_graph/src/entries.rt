@@ -9,6 +9,13 @@ use std::alloc::AllocError;
 use wit_items::{Docs, InterfaceId, Span, Stability, TypeDef, WorldItem, WorldKey};
 use wit_values::{Table, Text, TryClone, try_clone_two};
 
+/// The imports and the exports of a world.
+#[derive(Drop)]
+pub struct Lists {
+    pub imports: Table<WorldKey, WorldItem>,
+    pub exports: Table<WorldKey, WorldItem>,
+}
+
 /// The data that the dependencies of an entry get from it.
 #[derive(Drop)]
 pub(crate) struct Carried {

@@ -1,5 +1,5 @@
 //! The imports of a world, each after what it needs, and their order by class.
-ghost use Rattle.std.specs.Prelude.{◌≡◌, ◌++◌, ◌∷◌, ◌<◌, ◌≤◌, [], drop, OnOk, IfOk, length, map};
+ghost use Rattle.std.specs.Prelude.{◌≡◌, ◌++◌, ◌∷◌, ◌<◌, ◌≤◌, [], drop, All, OnOk, IfOk, length, map};
 ghost use Rattle.std.specs.List.{flat_map};
 ghost use Rattle.std.specs.Map.{keys_of};
 ghost use Rattle.wit_graph.specs.Elaborated.{dependency_of, import_carries, import_walk, needs};
@@ -61,7 +61,8 @@ fn walk_uses(
 /// What was walked from a place of the order on.
 pub(crate) fn order_from(walked: &Listing, start: usize) -> &[usize]
     requires { start ≤ length walked.now.order }
-    ensures { result.now ≡ drop start walked.now.order }
+    ensures order { result.now ≡ drop start walked.now.order }
+    ensures in_range { All (λ i. i < walked.now.nodes) result.now }
 {
     &walked.order()[start..]
 }
@@ -81,6 +82,7 @@ fn import_entry(
     requires state { IsImporting uses.now walked.old imports.old }
     ensures imports { OnOk result (imports.new ≡ imports.old ++ fresh_entries (keys_of imports.old) (import_walk types.now uses.now (key.now, item.now))) }
     ensures state { OnOk result (IsImporting uses.now walked.new imports.new) }
+    ensures nodes { walked.new.nodes ≡ walked.old.nodes }
 {
     let start = walked.order().len();
     walk_needs(alloc, uses, walked, Role::of(types, item))?;
@@ -118,6 +120,7 @@ fn import_class(
     requires state { IsImporting uses.now walked.old imports.old }
     ensures imports { OnOk result (imports.new ≡ imports.old ++ fresh_entries (keys_of imports.old) (flat_map (import_walk types.now uses.now) (of_class types.now class listed.now))) }
     ensures state { OnOk result (IsImporting uses.now walked.new imports.new) }
+    ensures nodes { walked.new.nodes ≡ walked.old.nodes }
 {
     for index in 0..listed.len() {
         let (key, item) = listed.entry_at(index);
@@ -141,7 +144,7 @@ pub(crate) fn import_listed(
     requires walk { IsWalk uses.now walked.old }
     requires none { walked.old.order ≡ [] }
     ensures imports { IfOk result (λ imports. imports ≡ fresh_entries [] (flat_map (import_walk types.now uses.now) (by_class types.now listed.now))) }
-    ensures nodes { OnOk result (walked.new.nodes ≡ walked.old.nodes) }
+    ensures nodes { walked.new.nodes ≡ walked.old.nodes }
 {
     let mut imports = Table::new(alloc);
     for class in 0..CLASSES {

@@ -19,12 +19,14 @@ loop-index-preserved c =
       | then-class+in_ok-import_entry w ↦ record {
         imports_are = class_walked c.args.types.now walk c.args.class c.args.listed.now c.loop-index.index e c.args.imports.now c.loop-index.imports c.if-class.imports c.entry_at.ensures (sym class ∙ w.if-class.true)
             c.loop-index.invariant.imports_are (w.imports-is ∙ w.in_ok-import_entry.ensures.imports);
+        nodes = ap (λ (l : Listed). l.nodes) w.walked-is ∙ w.in_ok-import_entry.ensures.nodes ∙ c.loop-index.invariant.nodes;
         state = importing_same c.args.uses.now w.import_entry.new.walked c.if-class.walked w.import_entry.new.imports c.if-class.imports w.walked-is w.imports-is w.in_ok-import_entry.ensures.state;
       }
       | else-class w ↦ record {
         imports_are =
             w.imports-is ∙ c.loop-index.invariant.imports_are
             ∙ ap (λ (es : List Entry). c.args.imports.now ++ fresh_entries (keys_of c.args.imports.now) (flat_map walk es)) (sym (class_passed c.args.types.now c.args.class c.args.listed.now c.loop-index.index e c.entry_at.ensures (λ same. w.if-class.false (class ∙ same))));
+        nodes = ap (λ (l : Listed). l.nodes) w.walked-is ∙ c.loop-index.invariant.nodes;
         state = importing_same c.args.uses.now c.loop-index.walked c.if-class.walked c.loop-index.imports c.if-class.imports w.walked-is w.imports-is c.loop-index.invariant.state;
       }
     ]

@@ -9,5 +9,6 @@ use Rattle.wit_graph.proofs.imports.import_class.Given as goal
 abbrev pub invariant-loop-index : goal.invariant-loop-index
 invariant-loop-index l = record {
   imports_are : l.imports ≡ l.fn.imports ++ fresh_entries (keys_of l.fn.imports) (flat_map (import_walk l.types l.uses) (of_class l.types l.class (take l.index l.listed)));
+  nodes : l.walked.nodes ≡ l.fn.walked.nodes;
   state : IsImporting l.uses l.walked l.imports;
 }

@@ -18,7 +18,7 @@ returns-clause-imports c =
     let order : c.walk_needs.new.walked.order ≡ c.args.walked.now.order ++ fresh c.args.walked.now.order (needs c.args.uses.now (role_of c.args.types.now c.args.item.now)) =
     ap (λ (l : Listed). l.order) c.in_ok-walk_needs.ensures.ok ∙ ap (λ (r : Role). c.args.walked.now.order ++ fresh c.args.walked.now.order (needs c.args.uses.now r)) c.of.ensures in
     let slice : c.order_from.result.now ≡ drop (length c.args.walked.now.order) c.walk_needs.new.walked.order =
-    c.order_from.ensures ∙ ap (λ (xs : List ℕ). drop (length xs) c.walk_needs.new.walked.order) c.order-start.ensures.order in
+    c.order_from.ensures.order ∙ ap (λ (xs : List ℕ). drop (length xs) c.walk_needs.new.walked.order) c.order-start.ensures.order in
     on_ok_weaker c.add_import.result
     (λ done. entry_imported c.args.types.now c.args.uses.now e c.args.walked.now.order c.walk_needs.new.walked.order c.order_from.result.now c.args.imports.now c.add_needed.new.imports c.add_import.new.entries order slice c.requires.state.imported c.in_ok-add_needed.ensures done)
     c.add_import.ensures
@@ -29,7 +29,7 @@ returns-clause-state c =
     let order : c.walk_needs.new.walked.order ≡ c.args.walked.now.order ++ fresh c.args.walked.now.order (needs c.args.uses.now (role_of c.args.types.now c.args.item.now)) =
     ap (λ (l : Listed). l.order) c.in_ok-walk_needs.ensures.ok ∙ ap (λ (r : Role). c.args.walked.now.order ++ fresh c.args.walked.now.order (needs c.args.uses.now r)) c.of.ensures in
     let slice : c.order_from.result.now ≡ drop (length c.args.walked.now.order) c.walk_needs.new.walked.order =
-    c.order_from.ensures ∙ ap (λ (xs : List ℕ). drop (length xs) c.walk_needs.new.walked.order) c.order-start.ensures.order in
+    c.order_from.ensures.order ∙ ap (λ (xs : List ℕ). drop (length xs) c.walk_needs.new.walked.order) c.order-start.ensures.order in
     on_ok_weaker c.add_import.result
     (λ done. importing_entry c.args.types.now c.args.uses.now e c.args.walked.now c.walk_needs.new.walked c.args.imports.now c.add_import.new.entries c.requires.state c.in_ok-walk_needs.ensures.walk order
     (entry_imported c.args.types.now c.args.uses.now e c.args.walked.now.order c.walk_needs.new.walked.order c.order_from.result.now c.args.imports.now c.add_needed.new.imports c.add_import.new.entries order slice c.requires.state.imported c.in_ok-add_needed.ensures done))

@@ -9,5 +9,6 @@ use Rattle.wit_graph.proofs.imports.import_listed.Given as goal
 abbrev pub invariant-loop-class : goal.invariant-loop-class
 invariant-loop-class l = record {
   imports_are : l.imports ≡ fresh_entries [] (flat_map (import_walk l.types l.uses) (first_classes l.types l.class l.listed));
+  nodes : l.walked.nodes ≡ l.fn.walked.nodes;
   state : IsImporting l.uses l.walked l.imports;
 }
