@@ -1,5 +1,6 @@
 pub mod Elaborated
 pub mod Elaborating
+pub mod Elaboration
 pub mod ElaborationLaws
 pub mod Entries
 pub mod Error
