@@ -2,6 +2,7 @@
 #![tactic(auto)]
 
 pub mod cause;
+pub mod elaboration;
 pub mod error;
 pub mod error_kind;
 pub mod features;
@@ -9,6 +10,7 @@ pub mod graph;
 pub mod questions;
 
 pub use crate::cause::Cause;
+pub use crate::elaboration::elaborate;
 pub use crate::error::{ResolveError, ResolveResult};
 pub use crate::error_kind::ResolveErrorKind;
 pub use crate::features::Features;
