@@ -2,7 +2,7 @@
 ghost use Rattle.std.specs.Prelude.{◌≡◌, Some, string_bytes};
 ghost use Rattle.std.specs.Borrow.{sem};
 ghost use Rattle.wit_graph.specs.ErrorLoan.{LendsKind};
-ghost use Rattle.wit_graph.specs.Error.{error_number};
+ghost use Rattle.wit_graph.specs.Error.{error_number, map_fault_kind};
 ghost use Rattle.wit_graph.specs.ErrorText.{kind_text};
 ghost use Rattle.wit_graph.specs.declared.error_kind.ResolveErrorKind.TheVariants as kinds;
 ghost use Rattle.wit_graph.specs.declared.cause.Cause.TheVariants.{Other};
@@ -13,7 +13,7 @@ use std::alloc::AllocError;
 use std::error::Error;
 use std::fmt;
 use std::marker::Model;
-use wit_items::Span;
+use wit_items::{MapFault, Span};
 use wit_values::{Text, TryClone};
 
 /// An error of a resolve graph, which contracts see as its kind.
@@ -121,5 +121,21 @@ impl TryClone for ResolveError {
         Ok(ResolveError {
             kind: self.kind.try_clone()?,
         })
+    }
+}
+
+/// What a source map refused.
+impl From<MapFault> for ResolveError {
+    ghost from_gives = { λ fault e. e ≡ map_fault_kind fault };
+
+    fn from(fault: MapFault) -> ResolveError {
+        match fault {
+            MapFault::OffsetOverflow => ResolveError {
+                kind: ResolveErrorKind::OffsetOverflow,
+            },
+            MapFault::OutOfMemory => ResolveError {
+                kind: ResolveErrorKind::OutOfMemory,
+            },
+        }
     }
 }

@@ -4,9 +4,12 @@
 
 pub mod command;
 pub mod resolve;
+mod running;
+mod select;
 
 pub use crate::command::{Command, Reply};
 pub use crate::resolve::Resolve;
+pub use crate::running::run;
 pub use wit_graph::{
     Cause, Features, Graph, Package, ResolveError, ResolveErrorKind, ResolveResult,
 };
