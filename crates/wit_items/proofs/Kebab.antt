@@ -59,6 +59,7 @@ list_any-other q c (x ∷ bytes) fails all =
 
 -- a kebab name has no `:`, no `/` and no `@`
 pub kebab-lacks : (c : ℕ) (name : List ℕ) → is_kebab_byte c ≡ false → is_kebab_name name ≡ true → list_any (λ b. b == c) name ≡ false
+unfolding is_kebab_name
 kebab-lacks c name fails is =
     let words = (and_parts (is_ascii_alphabetic (slice_index name 0)) (list_all is_word (slice_split (λ b. b == 45) name)) is).1 in
     list_any-other is_kebab_byte c name fails (name_bytes name (list_all-weaker is_word (list_all is_word_byte) word_bytes (slice_split (λ b. b == 45) name) words))

@@ -1,12 +1,12 @@
 -- The reading of use paths is that of their grammar.
 use Rattle.std.proofs.Common.{◌≡◌, ℕ, List, [], ◌∷◌, ◌++◌, Bool, true, false, Option, Some, None, Result, Ok, Err, refl, sym, ap, ◌∙◌, subst, inl, inr, append-nil}
 use Rattle.std.proofs.lemmas.Bool.{cases_Bool, and_parts, or_left, or_right, eq-eqb, false_from_ne_true}
-use Rattle.std.specs.Prelude.{◌==◌, ◌&&◌, ◌⊎◌, ◌↔◌, IfSome, IsErr}
+use Rattle.std.specs.Prelude.{◌==◌, ◌&&◌, ◌↔◌, IfSome}
 use Rattle.std.specs.List.{list_any, before_first, after_first}
 use Rattle.std.specs.Option.{option_map}
 use Rattle.std.specs.Result.{result_ok}
 use Rattle.semver.specs.Grammar.{IsValid}
-use Rattle.semver.specs.Parse.{memory_error, version_parts, IsRefused}
+use Rattle.semver.specs.Parse.{version_parts}
 use Rattle.semver.specs.Identifiers.{parts_text}
 use Rattle.semver.specs.declared.error.Error.{Error}
 use Rattle.semver.proofs.Grammar.{version_parts-sound, version_parts-complete}
@@ -14,22 +14,10 @@ use Rattle.wit_values.specs.Version.{Parts}
 use Rattle.wit_items.specs.PackageName.{version_suffix}
 use Rattle.wit_items.specs.declared.use_path.ParsedUsePath.{ParsedUsePath}
 use Rattle.wit_items.specs.declared.use_path.ParsedUsePath.TheVariants.{Name, Package}
-use Rattle.wit_items.specs.declared.use_path.UsePathFault.{UsePathFault}
-use Rattle.wit_items.specs.declared.use_path.UsePathFault.TheVariants as fault
 use Rattle.wit_items.specs.UsePath.{is_kebab_name, version_after, package_path_of, use_path_of, IsKebabName, IsUsePath}
 use Rattle.wit_items.proofs.Cuts.{before_first-none, after_first-none, before_first-at, after_first-at, cut-whole}
 use Rattle.wit_items.specs.declared.package_name.PackageName.{PackageName}
 use Rattle.wit_items.proofs.Kebab.{is_kebab_byte, kebab-lacks}
-
--- the fault of a text that is no version is not want of memory, and that of one that is a version is
-pub fault_told : (T : Type 0) (parts : Result Parts Error) (error : Error) (told : UsePathFault) → (parts ≡ Err memory_error → ⊥) → (error ≡ memory_error) ⊎ (parts ≡ Err error) → IsRefused {T = T} parts (Err error)
-    → ((told ≡ fault.OutOfMemory) ↔ (error ≡ memory_error)) → (told ≡ fault.Invalid → IsErr parts) × (IsErr parts → told ≡ fault.Invalid)
-fault_told T (Ok p) error told never which refused means =
-    (λ invalid. elim which [ inl memory ↦ let same : told ≡ fault.OutOfMemory = means.1 memory in cc | inr same ↦ cc ], λ is. cc)
-fault_told T (Err e) error fault.Invalid never which refused means = (λ _. refl, λ _. refl)
-fault_told T (Err e) error fault.OutOfMemory never which refused means =
-    let same : error ≡ e = cc in
-    (λ _. refl, λ _. absurd (never (ap (λ (x : Error). Err x) (sym same ∙ means.0 refl))))
 
 -- ---- from a reading to the grammar
 
@@ -42,6 +30,7 @@ cut-there c text there = elim (cases_Bool (list_any (λ b. b == c) text)) [
 
 -- what a kebab name stands before is not empty
 kebab-there : (c : ℕ) (text : List ℕ) → is_kebab_name (before_first (λ b. b == c) text) ≡ true → text ≡ [] → ⊥
+unfolding is_kebab_name
 kebab-there c text is empty = cc (sym (ap (λ (t : List ℕ). is_kebab_name (before_first (λ b. b == c) t)) empty) ∙ is)
 
 -- the suffix of what follows a name
@@ -102,6 +91,7 @@ package_reading namespace parent tail path read = elim (cases_Bool (are_kebab na
         }
 
 sound : (text : List ℕ) (path : ParsedUsePath) → use_path_of text ≡ Some path → IsUsePath text path
+unfolding use_path_of
 sound text path read = elim (cases_Bool (is_kebab_name text)) [
   | inl is ↦
       let alone : Some (Name text) ≡ Some path = rw is at read in
@@ -153,6 +143,7 @@ pieces : {X : Type 0} (read : List ℕ → List ℕ → List ℕ → X) (text na
 pieces read text namespace rest parent tail e1 e2 e3 e4 = rw (e1, e2, e3, e4) refl
 
 complete : (text : List ℕ) (path : ParsedUsePath) → IsUsePath text path → use_path_of text ≡ Some path
+unfolding use_path_of
 complete text (Name name) is = rw (is.1, is.0) refl
 complete text (Package parent name) is =
     let tail = name ++ version_suffix parent.version in
@@ -172,5 +163,6 @@ use_path_of-grammar text path = (sound text path, complete text path)
 -- a text that is no name alone is read in its pieces
 pub use_path_of-pieces : (text namespace rest parent tail : List ℕ) → (is_kebab_name text ≡ true → ⊥) → namespace ≡ before_first (λ b. b == 58) text → rest ≡ after_first (λ b. b == 58) text
     → parent ≡ before_first (λ b. b == 47) rest → tail ≡ after_first (λ b. b == 47) rest → use_path_of text ≡ package_path_of namespace parent tail
+unfolding use_path_of
 use_path_of-pieces text namespace rest parent tail other e1 e2 e3 e4 =
     rw (false_from_ne_true (is_kebab_name text) other) (pieces package_path_of text namespace rest parent tail (sym e1) (sym e2) (sym e3) (sym e4))

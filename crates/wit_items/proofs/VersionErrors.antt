@@ -1,14 +1,17 @@
 -- A text that is no version is told so: the errors that `version_parts` gives are never want of memory.
-use Rattle.std.proofs.Common.{◌≡◌, ℕ, ◌+◌, ◌-◌, ◌*◌, ◌==◌, List, [], ◌∷◌, length, Bool, true, false, Result, Ok, Err, refl, ap, ◌∙◌, sym}
-use Rattle.std.specs.Prelude.{not, if◌then◌else◌}
+use Rattle.std.proofs.Common.{◌≡◌, ℕ, ◌+◌, ◌-◌, ◌*◌, ◌==◌, List, [], ◌∷◌, length, Bool, true, false, Result, Ok, Err, refl, ap, ◌∙◌, sym, inl, inr}
+use Rattle.std.specs.Prelude.{not, if◌then◌else◌, ◌⊎◌, ◌↔◌, IsErr}
 use Rattle.semver.specs.declared.error.Error.{Error}
 use Rattle.semver.specs.declared.error.ErrorKind.TheVariants as kind
 use Rattle.semver.specs.declared.error.Position.{Position}
 use Rattle.semver.specs.declared.error.Position.TheVariants as place
-use Rattle.semver.specs.Parse.{◌>>=◌, memory_error, is_memory, end_error, digits_from, numeric, dot_of, part_end, starts_zero, scan, identifier_len, identifier_of, tail_end, tail_build, tail_pre, version_parts}
+use Rattle.semver.specs.Parse.{◌>>=◌, memory_error, is_memory, digits_from, numeric, dot_of, part_end, starts_zero, scan, identifier_len, identifier_of, tail_end, tail_build, tail_pre, version_parts, IsRefused}
+use Rattle.wit_values.specs.Version.{Parts}
+use Rattle.wit_items.specs.declared.use_path.UsePathFault.{UsePathFault}
+use Rattle.wit_items.specs.declared.use_path.UsePathFault.TheVariants as fault
 
 -- whether an answer is no want of memory
-abbrev pub is_told : {A : Type 0} → Result A Error → Bool
+abbrev is_told : {A : Type 0} → Result A Error → Bool
 is_told (Ok x) = true
 is_told (Err e) = not (is_memory e.kind)
 
@@ -20,15 +23,11 @@ is_told-bind : {A B : Type 0} (first : Result A Error) (second : A → Result B 
 is_told-bind (Ok x) second told others = others x
 is_told-bind (Err e) second told others = told
 
-is_told-end_error : (pos : Position) (text : List ℕ) → is_told (end_error pos text) ≡ true
-is_told-end_error pos [] = refl
-is_told-end_error pos (b ∷ rest) = refl
-
 is_told-digits_from : (pos : Position) (value len : ℕ) (text : List ℕ) → is_told (digits_from pos value len text) ≡ true
 unfolding digits_from
-is_told-digits_from pos value len [] = search (is_told-if, is_told-end_error)
+is_told-digits_from pos value len [] = search is_told-if
 is_told-digits_from pos value len (b ∷ rest) =
-    search (is_told-if, is_told-end_error, is_told-digits_from pos (value * 10 + (b - 48)) (len + 1) rest)
+    search (is_told-if, is_told-digits_from pos (value * 10 + (b - 48)) (len + 1) rest)
 
 is_told-dot_of : (pos : Position) (text : List ℕ) → is_told (dot_of pos text) ≡ true
 is_told-dot_of pos [] = refl
@@ -82,3 +81,13 @@ is_told-version_parts text = is_told-if (length text == 0) (Err (record { kind =
 -- a text is never refused for want of memory
 pub version_parts-not_memory : (text : List ℕ) → version_parts text ≡ Err memory_error → ⊥
 version_parts-not_memory text refused = cc (sym (is_told-version_parts text) ∙ ap is_told refused)
+
+-- the fault of a text that is no version is not want of memory, and that of one that is a version is
+pub fault_told : (T : Type 0) (parts : Result Parts Error) (error : Error) (told : UsePathFault) → (parts ≡ Err memory_error → ⊥) → (error ≡ memory_error) ⊎ (parts ≡ Err error) → IsRefused {T = T} parts (Err error)
+    → ((told ≡ fault.OutOfMemory) ↔ (error ≡ memory_error)) → (told ≡ fault.Invalid → IsErr parts) × (IsErr parts → told ≡ fault.Invalid)
+fault_told T (Ok p) error told never which refused means =
+    (λ invalid. elim which [ inl memory ↦ let same : told ≡ fault.OutOfMemory = means.1 memory in cc | inr same ↦ cc ], λ is. cc)
+fault_told T (Err e) error fault.Invalid never which refused means = (λ _. refl, λ _. refl)
+fault_told T (Err e) error fault.OutOfMemory never which refused means =
+    let same : error ≡ e = cc in
+    (λ _. refl, λ _. absurd (never (ap (λ (x : Error). Err x) (sym same ∙ means.0 refl))))

@@ -1,4 +1,4 @@
--- Kebab names and use paths, by which WIT names things (https://component-model.bytecodealliance.org, "WIT").
+-- Kebab names and use paths, by which WIT names things (design/mvp/WIT.md of the component model).
 use Rattle.std.specs.Prelude.{◌≡◌, ℕ, ◌==◌, ◌&&◌, ◌||◌, Bool, not, List, ◌∷◌, ◌++◌, length, slice_index, codes, IsTrue, IfSome, Option, Some, None, if◌then◌else◌}
 use Rattle.std.specs.Char.{is_ascii_alphabetic, is_ascii_digit, is_ascii_lowercase, is_ascii_uppercase}
 use Rattle.std.specs.List.{list_all, list_any, slice_split, before_first, after_first}
@@ -26,14 +26,15 @@ abbrev pub is_word : List ℕ → Bool
 is_word word = not (length word == 0) && (list_all is_lower word || list_all is_upper word)
 
 -- a kebab name: what stands between its dashes are words, and it begins with a letter
-abbrev pub is_kebab_name : List ℕ → Bool
+unfoldable pub is_kebab_name : List ℕ → Bool
 is_kebab_name name = is_ascii_alphabetic (slice_index name 0) && list_all is_word (slice_split (λ b. b == 45) name)
 
+-- the same, as a fact
 abbrev pub IsKebabName : List ℕ → Type 0
 IsKebabName name = IsTrue (is_kebab_name name)
 
--- a use path: a name alone, or `ns:pkg/name` or `ns:pkg/name@version`. Its names are kebab names, its version is one as
--- SemVer 2.0.0 has it, with numbers of 64 bits, and nothing follows
+-- what a use path says: a name alone, or `ns:pkg/name` or `ns:pkg/name@version`. Its names are kebab names, its version
+-- is one of SemVer 2.0.0 with numbers of 64 bits, and nothing follows
 abbrev pub IsUsePath : List ℕ → ParsedUsePath → Type 0
 IsUsePath text (Name name) = IsKebabName name × (text ≡ name)
 IsUsePath text (Package parent name) =
@@ -55,8 +56,8 @@ package_path_of namespace parent tail =
     then option_map (λ version. Package (record { namespace = namespace; name = parent; version = version }) name) (version_after tail)
     else None
 
--- the reading of a text as a use path
-abbrev pub use_path_of : List ℕ → Option ParsedUsePath
+-- the reading of a text as a use path: what its grammar says, as `parse_use_path` ensures
+unfoldable pub use_path_of : List ℕ → Option ParsedUsePath
 use_path_of text =
     let rest = after_first (λ b. b == 58) text in
     if is_kebab_name text

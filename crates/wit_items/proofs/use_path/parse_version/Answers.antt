@@ -1,8 +1,7 @@
 use Rattle.std.proofs.Common.{Err, ap}
 use Rattle.semver.specs.Parse.{version_parts}
 use Rattle.wit_items.specs.declared.use_path.UsePathFault.{UsePathFault}
-use Rattle.wit_items.proofs.UsePathGrammar.{fault_told}
-use Rattle.wit_items.proofs.VersionErrors.{version_parts-not_memory}
+use Rattle.wit_items.proofs.VersionErrors.{fault_told, version_parts-not_memory}
 use Rattle.wit_items.proofs.use_path.parse_version.Goals as goal
 
 pub returns-in-Err-clause-invalid : goal.returns-in-Err-clause-invalid
