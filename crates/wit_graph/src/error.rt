@@ -17,7 +17,7 @@ use wit_items::{MapFault, Span};
 use wit_values::{Text, TryClone};
 
 /// An error of a resolve graph, which contracts see as its kind.
-#[derive(Debug, PartialEq, Eq, Drop)]
+#[derive(Debug, PartialEq, Eq)]
 pub struct ResolveError {
     kind: ResolveErrorKind,
 }
@@ -30,6 +30,14 @@ impl Model for ResolveError {
     ghost view = { λ e. e.kind };
 
     ghost inverse = { λ k. record { kind = k } };
+}
+
+// Written by hand, so that to let an error go is one call and not the cases of its kinds.
+impl Drop for ResolveError {
+    fn drop(self) {
+        let ResolveError { kind } = self;
+        drop(kind);
+    }
 }
 
 /// A result whose error is a `ResolveError`, where no other is named.
@@ -139,3 +147,6 @@ impl From<MapFault> for ResolveError {
         }
     }
 }
+
+#[cfg(test)]
+mod tests;
