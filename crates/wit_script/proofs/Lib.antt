@@ -1,3 +1,1 @@
 pub mod Ink
-pub mod Known
-pub mod Pieces

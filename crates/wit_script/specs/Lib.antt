@@ -1,4 +1,3 @@
 pub mod Watched
 pub mod Line
 pub mod Token
-pub mod World
