@@ -1,5 +1,5 @@
 -- The lines of a script and the tokens of a line. Only the byte 32, a space, separates tokens.
-use Rattle.std.specs.Prelude.{◌≡◌, ℕ, ◌-◌, List, [], ◌∷◌, length, ◌==◌, not, filter}
+use Rattle.std.specs.Prelude.{◌≡◌, ℕ, ◌-◌, max, List, [], ◌∷◌, length, ◌==◌, not, filter}
 use Rattle.std.specs.List.{slice_split, prefix_len, suffix_len}
 
 -- the parts of a text between its newlines
@@ -15,10 +15,14 @@ abbrev pub IsComment : List ℕ → Type 0
 IsComment [] = ⊥
 IsComment (b ∷ bs) = b ≡ 35
 
--- how many spaces lead a line
+-- where what a line says begins: after the spaces that lead it
 abbrev pub ink_start_of : List ℕ → ℕ
 ink_start_of line = prefix_len (λ b. b == 32) line
 
 -- how many bytes a line has without the spaces at its end
+abbrev pub trimmed_len_of : List ℕ → ℕ
+trimmed_len_of line = length line - suffix_len (λ b. b == 32) line
+
+-- where what a line says ends: after its last byte that isn't a space, or at its end where it has spaces alone
 abbrev pub ink_end_of : List ℕ → ℕ
-ink_end_of line = length line - suffix_len (λ b. b == 32) line
+ink_end_of line = max (trimmed_len_of line) (ink_start_of line)

@@ -1,8 +1,15 @@
 //! Scripts that build packages, put them into a resolve graph and print its worlds.
 #![tactic(auto)]
 
+pub mod fault;
 pub mod line;
+pub mod package;
+pub mod reader;
+pub mod shape;
+pub mod statement;
 pub mod token;
 pub mod watched;
 
+pub use crate::fault::{LineFault, ReadFault, ScriptFault};
+pub use crate::reader::{ScriptCommand, read_script};
 pub use crate::watched::Watched;

@@ -1,7 +1,7 @@
 //! The lines of a script, and the tokens of a line.
-ghost use Rattle.std.specs.Prelude.{◌≡◌, ◌==◌, ◌↔◌, map, IfOk, IsTrue};
-ghost use Rattle.std.specs.List.{slice_split, position_or_len};
-ghost use Rattle.wit_script.specs.Line.{tokens_of, lines_of, ink_start_of, ink_end_of, IsComment};
+ghost use Rattle.std.specs.Prelude.{◌≡◌, ◌≤◌, ◌==◌, ◌↔◌, map, length, IfOk, IsTrue};
+ghost use Rattle.std.specs.List.{slice_split};
+ghost use Rattle.wit_script.specs.Line.{tokens_of, lines_of, ink_start_of, ink_end_of, trimmed_len_of, IsComment};
 
 use std::alloc::{AllocError, Global};
 
@@ -41,9 +41,23 @@ pub fn is_comment(token: &str) -> bool
     token.as_bytes().first() == Some(&b'#')
 }
 
+/// Where what a line says begins and ends: at its first byte that isn't a space, and after its last.
+/// In a line of spaces alone both are its length.
+pub fn ink(line: &str) -> (usize, usize)
+    ensures start { result.0 ≡ ink_start_of line.now }
+    ensures end { result.1 ≡ ink_end_of line.now }
+    ensures ordered { result.0 ≤ result.1 }
+    ensures within { result.1 ≤ length line.now }
+{
+    let start = leading_spaces(line);
+    let end = trimmed_len(line).max(start);
+    (start, end)
+}
+
 /// How many spaces lead a line.
-pub fn ink_start(line: &str) -> usize
-    ensures { result ≡ ink_start_of line.now }
+fn leading_spaces(line: &str) -> usize
+    ensures value { result ≡ ink_start_of line.now }
+    ensures within { result ≤ length line.now }
 {
     for (index, byte) in line.as_bytes().iter().enumerate() {
         if *byte != b' ' {
@@ -53,9 +67,10 @@ pub fn ink_start(line: &str) -> usize
     line.len()
 }
 
-/// How many bytes a line has up to its last byte that isn't a space, that byte included.
-pub fn ink_end(line: &str) -> usize
-    ensures { result ≡ ink_end_of line.now }
+/// How many bytes a line has without the spaces at its end.
+fn trimmed_len(line: &str) -> usize
+    ensures value { result ≡ trimmed_len_of line.now }
+    ensures within { result ≤ length line.now }
 {
     let bytes = line.as_bytes();
     let mut end = bytes.len();
