@@ -1,1 +1,3 @@
 pub mod Ink
+pub mod Known
+pub mod Pieces

@@ -1,3 +1,4 @@
 pub mod Watched
 pub mod Line
 pub mod Token
+pub mod World

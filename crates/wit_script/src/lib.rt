@@ -4,12 +4,15 @@
 pub mod fault;
 pub mod line;
 pub mod package;
+pub mod printer;
 pub mod reader;
 pub mod shape;
 pub mod statement;
+pub mod stream;
 pub mod token;
 pub mod watched;
 
 pub use crate::fault::{LineFault, ReadFault, ScriptFault};
+pub use crate::printer::print_world;
 pub use crate::reader::{ScriptCommand, read_script};
 pub use crate::watched::Watched;
