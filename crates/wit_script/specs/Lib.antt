@@ -4,3 +4,4 @@ pub mod Token
 pub mod World
 pub mod Reading
 pub mod Statement
+pub mod Ready

@@ -1,5 +1,5 @@
 //! A package whose lines are being read.
-ghost use Rattle.std.specs.Prelude.{◌≡◌, ◌≤◌, ◌+◌, IfOk};
+ghost use Rattle.std.specs.Prelude.{◌≡◌, ◌≤◌, ◌+◌, [], IfOk};
 
 use crate::fault::LineFault;
 use crate::line::ink;
@@ -270,7 +270,9 @@ impl OpenPackage {
     }
 
     /// The package as a group of its own, with its file.
-    pub fn into_group(self, alloc: Global) -> Result<UnresolvedPackageGroup, MapFault> {
+    pub fn into_group(self, alloc: Global) -> Result<UnresolvedPackageGroup, MapFault>
+        ensures { IfOk result (λ group. group.nested ≡ []) }
+    {
         let path = self.name.to_string(alloc)?;
         let mut source_map = SourceMap::new(alloc);
         source_map.push_str(alloc, &path, self.contents.into_string())?;

@@ -2,16 +2,17 @@
 use crate::fault::{LineFault, ReadFault};
 use crate::line::{is_comment, lines, tokens};
 use crate::package::OpenPackage;
+use crate::ready::ReadyGroup;
 use crate::shape::has_kebab_names;
 use crate::statement::{Statement, read_statement};
 use std::alloc::Global;
-use wit_items::{Items, MapFault, PackageName, Text, UnresolvedPackageGroup};
+use wit_items::{Items, MapFault, PackageName, Text};
 
 /// What a script asks.
 #[derive(Drop)]
 pub enum ScriptCommand {
     /// Add a package to the graph.
-    Push(UnresolvedPackageGroup),
+    Push(ReadyGroup),
     /// Show a world.
     Print {
         package: PackageName,
@@ -94,7 +95,8 @@ impl Reading {
         if !has_kebab_names(&group.main) {
             return Err(LineFault::NotUnderstood);
         }
-        self.commands.push(ScriptCommand::Push(group))?;
+        self.commands
+            .push(ScriptCommand::Push(ReadyGroup::new(group)))?;
         Ok(())
     }
 

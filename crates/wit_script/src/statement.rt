@@ -175,12 +175,17 @@ fn use_line(alloc: Global, arguments: &[&str]) -> Result<PackageLine, LineFault>
     Ok(PackageLine::Use { path, name, new })
 }
 
-/// `import PATH`. A token with `=` gives a label, which isn't read yet.
+/// `import PATH`. A token with `=` has a label, which isn't read yet.
 fn import_line(alloc: Global, arguments: &[&str]) -> Result<PackageLine, LineFault>
     ensures { IsRead (import_line_of (map (λ t. t.now) arguments.now)) result }
 {
     match arguments {
-        [path] if !path.as_bytes().contains(&b'=') => Ok(PackageLine::Import(local_path(alloc, path)?)),
+        [path] => {
+            if path.as_bytes().contains(&b'=') {
+                return Err(LineFault::NotUnderstood);
+            }
+            Ok(PackageLine::Import(local_path(alloc, path)?))
+        }
         _ => Err(LineFault::NotUnderstood),
     }
 }
