@@ -1,3 +1,4 @@
 pub mod Ink
 pub mod Known
 pub mod Pieces
+pub mod Arguments

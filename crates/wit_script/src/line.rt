@@ -1,7 +1,7 @@
 //! The lines of a script, and the tokens of a line.
-ghost use Rattle.std.specs.Prelude.{◌≡◌, ◌≤◌, ◌==◌, ◌↔◌, map, length, IfOk, IsTrue};
+ghost use Rattle.std.specs.Prelude.{◌≡◌, ◌≤◌, ◌==◌, map, length, IfOk};
 ghost use Rattle.std.specs.List.{slice_split};
-ghost use Rattle.wit_script.specs.Line.{tokens_of, lines_of, ink_start_of, ink_end_of, trimmed_len_of, IsComment};
+ghost use Rattle.wit_script.specs.Line.{tokens_of, lines_of, ink_start_of, ink_end_of, trimmed_len_of, is_comment};
 
 use std::alloc::{AllocError, Global};
 
@@ -36,7 +36,7 @@ pub fn tokens<'a>(alloc: Global, line: &'a str) -> Result<Vec<&'a str>, AllocErr
 
 /// Whether a line whose first token this is is a comment.
 pub fn is_comment(token: &str) -> bool
-    ensures { IsTrue result ↔ IsComment token.now }
+    ensures { result ≡ is_comment token.now }
 {
     token.as_bytes().first() == Some(&b'#')
 }

@@ -1,5 +1,5 @@
 //! A package whose lines are being read.
-ghost use Rattle.std.specs.Prelude.{◌≡◌, ◌≤◌, ◌+◌, IfOk};
+ghost use Rattle.std.specs.Prelude.{◌≡◌, ◌≤◌, ◌+◌, [], IfOk};
 
 use crate::fault::LineFault;
 use crate::line::ink;
@@ -9,8 +9,8 @@ use std::alloc::{AllocError, Global};
 use std::mem;
 use wit_items::{
     Docs, Interface, InterfaceId, Items, MapFault, Names, PackageName, SourceMap, Span, Stability,
-    Table, Text, Type_, TypeDef, TypeDefKind, TypeId, TypeOwner, UnresolvedPackage, World, WorldId,
-    WorldItem, WorldKey,
+    Table, Text, Type_, TypeDef, TypeDefKind, TypeId, TypeOwner, UnresolvedPackage,
+    UnresolvedPackageGroup, World, WorldId, WorldItem, WorldKey,
 };
 
 /// Into what the next lines of a package go.
@@ -269,12 +269,14 @@ impl OpenPackage {
         Some(*id)
     }
 
-    /// The package with its file.
-    pub fn into_parts(self, alloc: Global) -> Result<(UnresolvedPackage, SourceMap), MapFault> {
+    /// The package as a group of its own, with its file.
+    pub fn into_group(self, alloc: Global) -> Result<UnresolvedPackageGroup, MapFault>
+        ensures { IfOk result (λ group. group.nested ≡ []) }
+    {
         let path = self.name.to_string(alloc)?;
         let mut source_map = SourceMap::new(alloc);
         source_map.push_str(alloc, &path, self.contents.into_string())?;
-        let package = UnresolvedPackage {
+        let main = UnresolvedPackage {
             name: self.name,
             package_name_span: self.name_span,
             docs: Docs::none(),
@@ -286,6 +288,10 @@ impl OpenPackage {
             unknown_type_spans: Items::new(alloc),
             required_resource_types: Items::new(alloc),
         };
-        Ok((package, source_map))
+        Ok(UnresolvedPackageGroup {
+            main,
+            nested: Items::new(alloc),
+            source_map,
+        })
     }
 }

@@ -2,19 +2,17 @@
 use crate::fault::{LineFault, ReadFault};
 use crate::line::{is_comment, lines, tokens};
 use crate::package::OpenPackage;
+use crate::ready::ReadyGroup;
 use crate::shape::has_kebab_names;
 use crate::statement::{Statement, read_statement};
 use std::alloc::Global;
-use wit_items::{Items, MapFault, PackageName, SourceMap, Text, UnresolvedPackage};
+use wit_items::{Items, MapFault, PackageName, Text};
 
 /// What a script asks.
 #[derive(Drop)]
 pub enum ScriptCommand {
     /// Add a package to the graph.
-    Push {
-        package: UnresolvedPackage,
-        source_map: SourceMap,
-    },
+    Push(ReadyGroup),
     /// Show a world.
     Print {
         package: PackageName,
@@ -89,18 +87,16 @@ impl Reading {
         if !self.finished.is_empty() {
             return Err(LineFault::NotUnderstood);
         }
-        let (package, source_map) = match package.into_parts(alloc) {
-            Ok(parts) => parts,
+        let group = match package.into_group(alloc) {
+            Ok(group) => group,
             Err(MapFault::OffsetOverflow) => return Err(LineFault::NotUnderstood),
             Err(MapFault::OutOfMemory) => return Err(LineFault::OutOfMemory),
         };
-        if !has_kebab_names(&package) {
+        if !has_kebab_names(&group.main) {
             return Err(LineFault::NotUnderstood);
         }
-        self.commands.push(ScriptCommand::Push {
-            package,
-            source_map,
-        })?;
+        self.commands
+            .push(ScriptCommand::Push(ReadyGroup::new(group)))?;
         Ok(())
     }
 

@@ -1,9 +1,5 @@
 //! Whether a package that a script writes has the shape that the graph asks for.
-use wit_items::UnresolvedPackage;
-
-fn is_kebab_name(_name: &str) -> bool {
-    true
-}
+use wit_items::{UnresolvedPackage, is_kebab_name};
 
 /// Whether the namespace, the name of a package and the names of its interfaces and worlds are kebab
 /// names. All else that the shape asks holds of a package that is read from lines.

@@ -1,4 +1,9 @@
 //! What a line says by its tokens alone.
+ghost use Rattle.std.specs.Prelude.{◌≡◌, map};
+ghost use Rattle.wit_script.specs.Reading.{IsRead};
+ghost use Rattle.wit_script.specs.Statement.{statement_of, package_line_by, is_gate, has_gate, local_path_of, package_statement_of, interface_line_of, world_line_of, type_line_of, use_line_of, import_line_of, push_statement_of, print_statement_of, select_statement_of};
+ghost use Rattle.wit_script.specs.Token.{package_name_of};
+
 use crate::fault::LineFault;
 use crate::token::read_package_name;
 use std::alloc::Global;
@@ -41,54 +46,80 @@ pub enum Statement {
 }
 
 /// What the tokens of a line say.
-pub fn read_statement(alloc: Global, tokens: &[&str]) -> Result<Statement, LineFault> {
+pub fn read_statement(alloc: Global, tokens: &[&str]) -> Result<Statement, LineFault>
+    ensures { IsRead (statement_of (map (λ t. t.now) tokens.now)) result }
+{
     let Some((word, arguments)) = tokens.split_first() else {
         return Err(LineFault::NotUnderstood);
     };
     match *word {
         "package" => package_statement(alloc, arguments),
-        "interface" => Ok(Statement::Line(interface_line(alloc, arguments)?)),
-        "world" => Ok(Statement::Line(world_line(alloc, arguments)?)),
-        "type" => Ok(Statement::Line(type_line(alloc, arguments)?)),
-        "use" => Ok(Statement::Line(use_line(alloc, arguments)?)),
-        "import" => Ok(Statement::Line(import_line(alloc, arguments)?)),
         "push" => push_statement(arguments),
         "print" => print_statement(alloc, arguments),
         "select" => select_statement(alloc, arguments),
+        _ => Ok(Statement::Line(read_package_line(alloc, word, arguments)?)),
+    }
+}
+
+/// What a line of a package says. It has no gate yet.
+fn read_package_line(
+    alloc: Global,
+    word: &str,
+    arguments: &[&str],
+) -> Result<PackageLine, LineFault>
+    ensures { IsRead (package_line_by word.now (map (λ t. t.now) arguments.now)) result }
+{
+    if has_gate(arguments) {
+        return Err(LineFault::NotUnderstood);
+    }
+    match word {
+        "interface" => interface_line(alloc, arguments),
+        "world" => world_line(alloc, arguments),
+        "type" => type_line(alloc, arguments),
+        "use" => use_line(alloc, arguments),
+        "import" => import_line(alloc, arguments),
         _ => Err(LineFault::NotUnderstood),
     }
 }
 
-/// Whether an argument is a feature gate, which ends a package line.
-fn is_gate(argument: &str) -> bool {
+/// Whether the last argument is a feature gate.
+fn has_gate(arguments: &[&str]) -> bool
+    ensures { result ≡ has_gate (map (λ t. t.now) arguments.now) }
+{
+    match arguments.last() {
+        Some(last) => is_gate(last),
+        None => false,
+    }
+}
+
+/// Whether an argument is a feature gate, as a package line may end with.
+fn is_gate(argument: &str) -> bool
+    ensures { result ≡ is_gate argument.now }
+{
     argument.starts_with("@since=") || argument.starts_with("@unstable=")
 }
 
-/// The arguments of a package line, which has no gate yet.
-fn without_gate<'a, 'b>(arguments: &'a [&'b str]) -> Result<&'a [&'b str], LineFault> {
-    if let Some(last) = arguments.last() {
-        if is_gate(last) {
-            return Err(LineFault::NotUnderstood);
-        }
-    }
-    Ok(arguments)
-}
-
 /// The name of an interface of the same package. A path with a colon is one of another package.
-fn local_path(alloc: Global, path: &str) -> Result<Text, LineFault> {
-    if path.contains(':') {
+fn local_path(alloc: Global, path: &str) -> Result<Text, LineFault>
+    ensures { IsRead (local_path_of path.now) result }
+{
+    if path.as_bytes().contains(&b':') {
         return Err(LineFault::NotUnderstood);
     }
     Ok(Text::try_from_str(alloc, path)?)
 }
 
 /// The package name that a token is.
-fn package_name(alloc: Global, token: &str) -> Result<PackageName, LineFault> {
+fn package_name(alloc: Global, token: &str) -> Result<PackageName, LineFault>
+    ensures { IsRead (package_name_of token.now) result }
+{
     read_package_name(alloc, token)?.ok_or(LineFault::NotUnderstood)
 }
 
 /// `package PKG`
-fn package_statement(alloc: Global, arguments: &[&str]) -> Result<Statement, LineFault> {
+fn package_statement(alloc: Global, arguments: &[&str]) -> Result<Statement, LineFault>
+    ensures { IsRead (package_statement_of (map (λ t. t.now) arguments.now)) result }
+{
     match arguments {
         [name] => Ok(Statement::Package(package_name(alloc, name)?)),
         _ => Err(LineFault::NotUnderstood),
@@ -96,24 +127,30 @@ fn package_statement(alloc: Global, arguments: &[&str]) -> Result<Statement, Lin
 }
 
 /// `interface NAME`
-fn interface_line(alloc: Global, arguments: &[&str]) -> Result<PackageLine, LineFault> {
-    match without_gate(arguments)? {
+fn interface_line(alloc: Global, arguments: &[&str]) -> Result<PackageLine, LineFault>
+    ensures { IsRead (interface_line_of (map (λ t. t.now) arguments.now)) result }
+{
+    match arguments {
         [name] => Ok(PackageLine::Interface(Text::try_from_str(alloc, name)?)),
         _ => Err(LineFault::NotUnderstood),
     }
 }
 
 /// `world NAME`
-fn world_line(alloc: Global, arguments: &[&str]) -> Result<PackageLine, LineFault> {
-    match without_gate(arguments)? {
+fn world_line(alloc: Global, arguments: &[&str]) -> Result<PackageLine, LineFault>
+    ensures { IsRead (world_line_of (map (λ t. t.now) arguments.now)) result }
+{
+    match arguments {
         [name] => Ok(PackageLine::World(Text::try_from_str(alloc, name)?)),
         _ => Err(LineFault::NotUnderstood),
     }
 }
 
 /// `type NAME TYPE`
-fn type_line(alloc: Global, arguments: &[&str]) -> Result<PackageLine, LineFault> {
-    match without_gate(arguments)? {
+fn type_line(alloc: Global, arguments: &[&str]) -> Result<PackageLine, LineFault>
+    ensures { IsRead (type_line_of (map (λ t. t.now) arguments.now)) result }
+{
+    match arguments {
         [name, ty] => {
             let name = Text::try_from_str(alloc, name)?;
             let ty = Text::try_from_str(alloc, ty)?;
@@ -124,8 +161,10 @@ fn type_line(alloc: Global, arguments: &[&str]) -> Result<PackageLine, LineFault
 }
 
 /// `use PATH NAME` or `use PATH NAME NEW`
-fn use_line(alloc: Global, arguments: &[&str]) -> Result<PackageLine, LineFault> {
-    let (path, name, new) = match without_gate(arguments)? {
+fn use_line(alloc: Global, arguments: &[&str]) -> Result<PackageLine, LineFault>
+    ensures { IsRead (use_line_of (map (λ t. t.now) arguments.now)) result }
+{
+    let (path, name, new) = match arguments {
         [path, name] => (*path, *name, *name),
         [path, name, new] => (*path, *name, *new),
         _ => return Err(LineFault::NotUnderstood),
@@ -136,16 +175,25 @@ fn use_line(alloc: Global, arguments: &[&str]) -> Result<PackageLine, LineFault>
     Ok(PackageLine::Use { path, name, new })
 }
 
-/// `import PATH`. A token with `=` gives a label, which isn't read yet.
-fn import_line(alloc: Global, arguments: &[&str]) -> Result<PackageLine, LineFault> {
-    match without_gate(arguments)? {
-        [path] if !path.contains('=') => Ok(PackageLine::Import(local_path(alloc, path)?)),
+/// `import PATH`. A token with `=` has a label, which isn't read yet.
+fn import_line(alloc: Global, arguments: &[&str]) -> Result<PackageLine, LineFault>
+    ensures { IsRead (import_line_of (map (λ t. t.now) arguments.now)) result }
+{
+    match arguments {
+        [path] => {
+            if path.as_bytes().contains(&b'=') {
+                return Err(LineFault::NotUnderstood);
+            }
+            Ok(PackageLine::Import(local_path(alloc, path)?))
+        }
         _ => Err(LineFault::NotUnderstood),
     }
 }
 
 /// `push`
-fn push_statement(arguments: &[&str]) -> Result<Statement, LineFault> {
+fn push_statement(arguments: &[&str]) -> Result<Statement, LineFault>
+    ensures { IsRead (push_statement_of (map (λ t. t.now) arguments.now)) result }
+{
     match arguments {
         [] => Ok(Statement::Push),
         _ => Err(LineFault::NotUnderstood),
@@ -153,7 +201,9 @@ fn push_statement(arguments: &[&str]) -> Result<Statement, LineFault> {
 }
 
 /// `print PKG WORLD`
-fn print_statement(alloc: Global, arguments: &[&str]) -> Result<Statement, LineFault> {
+fn print_statement(alloc: Global, arguments: &[&str]) -> Result<Statement, LineFault>
+    ensures { IsRead (print_statement_of (map (λ t. t.now) arguments.now)) result }
+{
     match arguments {
         [package, world] => {
             let package = package_name(alloc, package)?;
@@ -165,7 +215,9 @@ fn print_statement(alloc: Global, arguments: &[&str]) -> Result<Statement, LineF
 }
 
 /// `select PKG` or `select PKG TEXT`
-fn select_statement(alloc: Global, arguments: &[&str]) -> Result<Statement, LineFault> {
+fn select_statement(alloc: Global, arguments: &[&str]) -> Result<Statement, LineFault>
+    ensures { IsRead (select_statement_of (map (λ t. t.now) arguments.now)) result }
+{
     match arguments {
         [package] => Ok(Statement::Select {
             package: package_name(alloc, package)?,

@@ -1,12 +1,11 @@
-//! Reads a script of WIT packages from standard input, runs it, and writes the answers to standard
-//! output.
+//! Runs a script from standard input, and writes its answers to standard output.
 #![tactic(auto)]
 
 use std::io;
 use std::process::ExitCode;
 use wit_script::{Watched, execute};
 
-/// Status 0 where the script was understood and run, refusals included, and 1 otherwise.
+/// Status 0 where the script was understood and run, else 1.
 fn main(rt: HostRuntime) -> ExitCode {
     let mut reader = Watched::new(rt.reader());
     let mut writer = Watched::new(io::writer(&rt));
