@@ -8,11 +8,26 @@ use wit_values::{Text, TryClone, Version, try_clone_three};
 
 /// The name of a package, as `wasi:http@0.2.0` or `foo:bar`. Names are ordered by the namespace, then
 /// the name, then the version, a name without a version first.
-#[derive(Debug, PartialEq, Eq, PartialOrd, Ord, Hash, Drop)]
+#[derive(Debug, PartialEq, Eq, PartialOrd, Ord, Hash)]
 pub struct PackageName {
     pub namespace: Text,
     pub name: Text,
     pub version: Option<Version>,
+}
+
+/// As the derived one: each field is let go. A call of it costs the check less than a derived one,
+/// which is checked again wherever a value is let go.
+impl Drop for PackageName {
+    fn drop(self) {
+        let PackageName {
+            namespace,
+            name,
+            version,
+        } = self;
+        drop(namespace);
+        drop(name);
+        drop(version);
+    }
 }
 
 impl PackageName {
