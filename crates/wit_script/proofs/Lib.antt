@@ -2,3 +2,4 @@ pub mod Ink
 pub mod Known
 pub mod Pieces
 pub mod Arguments
+pub mod Keys

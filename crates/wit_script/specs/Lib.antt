@@ -5,3 +5,4 @@ pub mod World
 pub mod Reading
 pub mod Statement
 pub mod Ready
+pub mod Package

@@ -3,133 +3,142 @@ use crate::printer::{print_world, world_id};
 use crate::reader::ScriptCommand;
 use crate::ready::ReadyGroup;
 use std::alloc::{AllocError, Global};
-use std::fmt::Write;
 use wit_items::{Items, PackageId, PackageName, Text, WorldId};
 use wit_resolve_graph::{Command, Reply, Resolve, ResolveError, ResolveResult, run};
 
-/// The answers to the commands, one after another, on a graph that is empty at first.
-pub fn answers(alloc: Global, commands: Items<ScriptCommand>) -> Result<String, AllocError> {
+/// The answers to commands on an empty graph, in order.
+pub fn answers_to(alloc: Global, commands: Items<ScriptCommand>) -> Result<String, AllocError> {
     let mut resolve = Resolve::new(alloc);
-    let mut out = String::new(alloc);
+    let mut answers = String::new(alloc);
     for command in commands.into_vec() {
-        answer(alloc, &mut resolve, command, &mut out)?;
+        let answer = answer_to(alloc, &mut resolve, command)?;
+        answers.push_str(&answer)?;
     }
-    Ok(out)
+    Ok(answers)
 }
 
-/// Adds the answer to a command.
-fn answer(
+/// The answer to a command.
+fn answer_to(
     alloc: Global,
     resolve: &mut Resolve,
     command: ScriptCommand,
-    out: &mut String,
-) -> Result<(), AllocError> {
+) -> Result<String, AllocError> {
     match command {
-        ScriptCommand::Push(group) => answer_push(alloc, resolve, group, out),
-        ScriptCommand::Print { package, world } => answer_print(
-            alloc, resolve, &package, &world, out,
-        ),
-        ScriptCommand::Select { package, text } => answer_select(
-            alloc, resolve, &package, &text, out,
-        ),
+        ScriptCommand::Push(group) => push(alloc, resolve, group),
+        ScriptCommand::Print { package, world } => print(alloc, resolve, &package, &world),
+        ScriptCommand::Select { package, text } => select(alloc, resolve, &package, &text),
+    }
+}
+
+/// Adds a package: `pushed PKG`, or a refusal.
+fn push(alloc: Global, resolve: &mut Resolve, group: ReadyGroup) -> Result<String, AllocError> {
+    let command = Command::PushGroups {
+        main: group.into_group(),
+        deps: Items::new(alloc),
+    };
+    let commands = vec![in alloc; command]?;
+    match run(alloc, resolve, commands) {
+        Ok(replies) => replies_text(alloc, resolve, replies),
+        Err(refusal) => refused(alloc, &refusal),
+    }
+}
+
+/// A line for each reply.
+fn replies_text(
+    alloc: Global,
+    resolve: &Resolve,
+    replies: Vec<Reply>,
+) -> Result<String, AllocError> {
+    let mut text = String::new(alloc);
+    for reply in replies {
+        let line = reply_text(alloc, resolve, &reply)?;
+        text.push_str(&line)?;
+    }
+    Ok(text)
+}
+
+/// The line of a reply.
+fn reply_text(alloc: Global, resolve: &Resolve, reply: &Reply) -> Result<String, AllocError> {
+    match reply {
+        Reply::Done => String::from_str(alloc, "done\n"),
+        Reply::Pushed(id) => pushed(alloc, resolve, *id),
+        Reply::Merged(_) => String::from_str(alloc, "merged\n"),
+        Reply::NoWorld => String::from_str(alloc, "no world\n"),
+        Reply::Refused(refusal) => refused(alloc, refusal),
+    }
+}
+
+/// `pushed PKG`
+fn pushed(alloc: Global, resolve: &Resolve, id: PackageId) -> Result<String, AllocError> {
+    match resolve.packages().get(id.index()) {
+        Some(package) => {
+            let name = &package.name;
+            format!(in alloc; "pushed {name}\n")
+        }
+        None => Ok(String::new(alloc)),
     }
 }
 
 /// `refused N TEXT`, N being the number of the refusal.
-fn refuse(error: &ResolveError, out: &mut String) -> Result<(), AllocError> {
-    let number = error.number();
-    write!(out, "refused {number} {error}\n")
+fn refused(alloc: Global, refusal: &ResolveError) -> Result<String, AllocError> {
+    let number = refusal.number();
+    format!(in alloc; "refused {number} {refusal}\n")
 }
 
-/// `pushed PKG`, or the refusal.
-fn answer_push(
-    alloc: Global,
-    resolve: &mut Resolve,
-    group: ReadyGroup,
-    out: &mut String,
-) -> Result<(), AllocError> {
-    let name = group.group().main.name.to_string(alloc)?;
-    let mut commands = Vec::with_capacity(alloc, 1)?;
-    commands.push(Command::PushGroups {
-        main: group.into_group(),
-        deps: Items::new(alloc),
-    })?;
-    match run(alloc, resolve, commands) {
-        Ok(replies) => {
-            for reply in &replies {
-                tell(&name, reply, out)?;
-            }
-            Ok(())
-        }
-        Err(error) => refuse(&error, out),
+/// The text of an answer that may be refused.
+fn told(alloc: Global, answer: ResolveResult<String>) -> Result<String, AllocError> {
+    match answer {
+        Ok(text) => Ok(text),
+        Err(refusal) => refused(alloc, &refusal),
     }
 }
 
-/// The answer by which a reply is told, where a package of this name was to be added.
-fn tell(name: &str, reply: &Reply, out: &mut String) -> Result<(), AllocError> {
-    match reply {
-        Reply::Done => Ok(()),
-        Reply::Pushed(_) => write!(out, "pushed {name}\n"),
-        Reply::Merged(_) => out.push_str("merged\n"),
-        Reply::NoWorld => out.push_str("no world\n"),
-        Reply::Refused(error) => refuse(error, out),
-    }
-}
-
-/// The lines of a world, or `no world`.
-fn answer_print(
+/// A world as the graph has it, or `no world`.
+fn print(
     alloc: Global,
     resolve: &Resolve,
     package: &PackageName,
     world: &Text,
-    out: &mut String,
-) -> Result<(), AllocError> {
-    match world_named(resolve, package, world.as_str()) {
-        None => out.push_str("no world\n"),
-        Some(id) => match print_world(alloc, resolve, id) {
-            Ok(text) => out.push_str(&text),
-            Err(error) => refuse(&error, out),
-        },
+) -> Result<String, AllocError> {
+    match world_named(resolve, package, world) {
+        Some(id) => told(alloc, print_world(alloc, resolve, id)),
+        None => String::from_str(alloc, "no world\n"),
     }
 }
 
 /// The world of this name in the package of that name.
-fn world_named(resolve: &Resolve, package: &PackageName, world: &str) -> Option<WorldId> {
-    let graph = resolve.graph();
-    let id = graph.package_names.get(package)?;
-    let package = graph.packages.get(id.index())?;
-    let world = package.worlds.get(world)?;
+fn world_named(resolve: &Resolve, package: &PackageName, world: &Text) -> Option<WorldId> {
+    let id = resolve.package_names().get(package)?;
+    let package = resolve.packages().get(id.index())?;
+    let world = package.worlds.get(world.as_str())?;
     Some(*world)
 }
 
-/// `selected ID`, `no package`, or the refusal.
-fn answer_select(
+/// The world that is chosen for a main package: `selected ID`, `no package`, or a refusal.
+fn select(
     alloc: Global,
     resolve: &Resolve,
     package: &PackageName,
     text: &Option<Text>,
-    out: &mut String,
-) -> Result<(), AllocError> {
-    let Some(id) = resolve.graph().package_names.get(package) else {
-        return out.push_str("no package\n");
-    };
-    let text = match text {
-        Some(text) => Some(text.as_str()),
-        None => None,
-    };
-    match selected(alloc, resolve, *id, text) {
-        Ok(id_text) => write!(out, "selected {id_text}\n"),
-        Err(error) => refuse(&error, out),
+) -> Result<String, AllocError> {
+    match resolve.package_names().get(package) {
+        Some(id) => told(alloc, selected(alloc, resolve, *id, text)),
+        None => String::from_str(alloc, "no package\n"),
     }
 }
 
-/// The id text of the world that is chosen of a package.
+/// `selected ID`, or a refusal.
 fn selected(
     alloc: Global,
     resolve: &Resolve,
     package: PackageId,
-    text: Option<&str>,
+    text: &Option<Text>,
 ) -> ResolveResult<String> {
-    let id = resolve.select_world(alloc, &[package], text)?;
-    world_id(alloc, resolve.graph(), id)
+    let text = match text {
+        Some(text) => Some(text.as_str()),
+        None => None,
+    };
+    let world = resolve.select_world(alloc, &[package], text)?;
+    let id = world_id(alloc, resolve.graph(), world)?;
+    Ok(format!(in alloc; "selected {id}\n")?)
 }

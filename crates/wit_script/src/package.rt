@@ -1,5 +1,8 @@
 //! A package whose lines are being read.
-ghost use Rattle.std.specs.Prelude.{◌≡◌, ◌≤◌, ◌+◌, [], IfOk};
+ghost use Rattle.std.specs.Prelude.{◌≡◌, ◌++◌, ◌∷◌, [], length, ◌≤◌, ◌<◌, ◌^◌, IfOk, IfSome, IsErrOf};
+ghost use Rattle.wit_items.specs.SourceMap.{end_after};
+ghost use Rattle.wit_script.specs.Package.{span_after, with_newline, with_text, begun, empty_interface, empty_world, alias_of, import_of, with_interface, with_world, open_interface, open_world, type_named, type_in, with_alias, with_type, with_use, with_import, with_line, group_of};
+ghost use Rattle.wit_script.specs.Reading.{IsRead, Leads};
 
 use crate::fault::LineFault;
 use crate::line::ink;
@@ -46,7 +49,9 @@ const LONGEST_FILE: usize = 4294967294;
 
 /// The span of a line that goes to the end of a file of this length. The line isn't understood where
 /// the file would grow past the positions of a source map.
-fn span_of(file_len: usize, line: &str) -> Result<Span, LineFault> {
+fn span_of(file_len: usize, line: &str) -> Result<Span, LineFault>
+    ensures { IsRead (span_after file_len line.now) result }
+{
     if file_len > LONGEST_FILE || line.len() >= LONGEST_FILE - file_len {
         return Err(LineFault::NotUnderstood);
     }
@@ -55,7 +60,9 @@ fn span_of(file_len: usize, line: &str) -> Result<Span, LineFault> {
 }
 
 /// A file with one more line.
-fn with_line(contents: Text, line: &str) -> Result<Text, AllocError> {
+fn with_line(contents: Text, line: &str) -> Result<Text, AllocError>
+    ensures { IfOk result (λ file. file ≡ contents ++ with_newline line.now) }
+{
     let mut contents = contents.into_string();
     contents.push_str(line)?;
     contents.push('\n')?;
@@ -63,7 +70,9 @@ fn with_line(contents: Text, line: &str) -> Result<Text, AllocError> {
 }
 
 /// The interface of a line, without types and functions.
-fn new_interface(alloc: Global, name: Text, span: Span) -> Interface {
+fn new_interface(alloc: Global, name: Text, span: Span) -> Interface
+    ensures { result ≡ empty_interface name span }
+{
     Interface {
         name: Some(name),
         types: Names::new(alloc),
@@ -76,7 +85,9 @@ fn new_interface(alloc: Global, name: Text, span: Span) -> Interface {
 }
 
 /// The world of a line, without imports and exports.
-fn new_world(alloc: Global, name: Text, span: Span) -> World {
+fn new_world(alloc: Global, name: Text, span: Span) -> World
+    ensures { result ≡ empty_world name span }
+{
     World {
         name,
         imports: Table::new(alloc),
@@ -90,7 +101,9 @@ fn new_world(alloc: Global, name: Text, span: Span) -> World {
 }
 
 /// Another name of a type.
-fn alias(name: Text, target: Type_, owner: TypeOwner, span: Span) -> TypeDef {
+fn alias(name: Text, target: Type_, owner: TypeOwner, span: Span) -> TypeDef
+    ensures { result ≡ alias_of name target owner span }
+{
     TypeDef {
         name: Some(name),
         kind: TypeDefKind::Type_(target),
@@ -103,7 +116,9 @@ fn alias(name: Text, target: Type_, owner: TypeOwner, span: Span) -> TypeDef {
 }
 
 /// The import of an interface by a line.
-fn imported(id: InterfaceId, span: Span) -> WorldItem {
+fn imported(id: InterfaceId, span: Span) -> WorldItem
+    ensures { result ≡ import_of id span }
+{
     WorldItem::Interface {
         id,
         stability: Stability::Unknown,
@@ -115,7 +130,9 @@ fn imported(id: InterfaceId, span: Span) -> WorldItem {
 
 impl OpenPackage {
     /// The package that a first line begins.
-    pub fn new(alloc: Global, name: PackageName, line: &str) -> Result<OpenPackage, LineFault> {
+    pub fn new(alloc: Global, name: PackageName, line: &str) -> Result<OpenPackage, LineFault>
+        ensures { IsRead (begun name line.now) result }
+    {
         let name_span = span_of(0, line)?;
         let contents = with_line(Text::new(alloc), line)?;
         Ok(OpenPackage {
@@ -132,7 +149,9 @@ impl OpenPackage {
     }
 
     /// Adds a line.
-    pub fn add(&mut self, alloc: Global, said: PackageLine, line: &str) -> Result<(), LineFault> {
+    pub fn add(&mut self, alloc: Global, said: PackageLine, line: &str) -> Result<(), LineFault>
+        ensures { Leads (with_line self.old said line.now) result self.new }
+    {
         let span = self.add_text(alloc, line)?;
         match said {
             PackageLine::Interface(name) => self.add_interface(alloc, name, span),
@@ -144,7 +163,10 @@ impl OpenPackage {
     }
 
     /// Adds a line's text to the file, and answers its span.
-    fn add_text(&mut self, alloc: Global, line: &str) -> Result<Span, LineFault> {
+    fn add_text(&mut self, alloc: Global, line: &str) -> Result<Span, LineFault>
+        ensures span { IsRead (span_after (length self.old.contents) line.now) result }
+        ensures text { IfOk result (λ span. self.new ≡ with_text self.old line.now) }
+    {
         let span = span_of(self.contents.len(), line)?;
         let contents = mem::replace(&mut self.contents, Text::new(alloc));
         self.contents = with_line(contents, line)?;
@@ -152,7 +174,9 @@ impl OpenPackage {
     }
 
     /// Begins an interface under a name that no interface has.
-    fn add_interface(&mut self, alloc: Global, name: Text, span: Span) -> Result<(), LineFault> {
+    fn add_interface(&mut self, alloc: Global, name: Text, span: Span) -> Result<(), LineFault>
+        ensures { Leads (with_interface self.old name span) result self.new }
+    {
         if self.interface_ids.contains_key(name.as_str()) {
             return Err(LineFault::NotUnderstood);
         }
@@ -165,7 +189,9 @@ impl OpenPackage {
     }
 
     /// Begins a world under a name that no world has.
-    fn add_world(&mut self, alloc: Global, name: Text, span: Span) -> Result<(), LineFault> {
+    fn add_world(&mut self, alloc: Global, name: Text, span: Span) -> Result<(), LineFault>
+        ensures { Leads (with_world self.old name span) result self.new }
+    {
         if self.world_ids.contains_key(name.as_str()) {
             return Err(LineFault::NotUnderstood);
         }
@@ -184,8 +210,12 @@ impl OpenPackage {
         name: Text,
         ty: &Text,
         span: Span,
-    ) -> Result<(), LineFault> {
-        let target = self.type_of(ty.as_str()).ok_or(LineFault::NotUnderstood)?;
+    ) -> Result<(), LineFault>
+        ensures { Leads (with_type self.old name ty.now span) result self.new }
+    {
+        let target = self
+            .type_named(ty.as_str())
+            .ok_or(LineFault::NotUnderstood)?;
         self.add_alias(alloc, name, target, span)
     }
 
@@ -197,7 +227,9 @@ impl OpenPackage {
         name: &Text,
         new: Text,
         span: Span,
-    ) -> Result<(), LineFault> {
+    ) -> Result<(), LineFault>
+        ensures { Leads (with_use self.old path.now name.now new span) result self.new }
+    {
         let target = self
             .type_in(path.as_str(), name.as_str())
             .ok_or(LineFault::NotUnderstood)?;
@@ -205,12 +237,14 @@ impl OpenPackage {
     }
 
     /// Adds an interface on an earlier line to the imports of the world, where it isn't one already.
-    fn add_import(&mut self, path: &Text, span: Span) -> Result<(), LineFault> {
+    fn add_import(&mut self, path: &Text, span: Span) -> Result<(), LineFault>
+        ensures { Leads (with_import self.old path.now span) result self.new }
+    {
         let id = *self
             .interface_ids
             .get(path.as_str())
             .ok_or(LineFault::NotUnderstood)?;
-        let at = self.last_of(Scope::World, self.worlds.len())?;
+        let at = self.open_world().ok_or(LineFault::NotUnderstood)?;
         let imports = &mut self.worlds.at_mut(at).imports;
         let key = WorldKey::Interface(id);
         if imports.contains_key(&key) {
@@ -227,8 +261,10 @@ impl OpenPackage {
         name: Text,
         target: Type_,
         span: Span,
-    ) -> Result<(), LineFault> {
-        let at = self.last_of(Scope::Interface, self.interfaces.len())?;
+    ) -> Result<(), LineFault>
+        ensures { Leads (with_alias self.old name target span) result self.new }
+    {
+        let at = self.open_interface().ok_or(LineFault::NotUnderstood)?;
         let id = TypeId::from_index(self.types.len());
         let key = String::from_str(alloc, name.as_str())?;
         let types = &mut self.interfaces.at_mut(at).types;
@@ -241,28 +277,44 @@ impl OpenPackage {
         Ok(())
     }
 
-    /// The place of the last of so many interfaces or worlds, where lines go into it.
-    fn last_of(&self, scope: Scope, count: usize) -> Result<usize, LineFault>
-        ensures ok { IfOk result (λ at. (self.now.scope ≡ scope) × (at + 1 ≡ count)) }
+    /// The place of the interface into which lines go.
+    fn open_interface(&self) -> Option<usize>
+        ensures place { result ≡ open_interface self.now }
+        ensures within { IfSome result (λ at. at < length self.now.interfaces) }
     {
-        if self.scope != scope {
-            return Err(LineFault::NotUnderstood);
+        match self.scope {
+            Scope::Interface => self.interfaces.len().checked_sub(1),
+            Scope::Package | Scope::World => None,
         }
-        count.checked_sub(1).ok_or(LineFault::NotUnderstood)
     }
 
-    /// The type that a token names in the interface: a primitive type, or else an earlier type.
-    fn type_of(&self, token: &str) -> Option<Type_> {
+    /// The place of the world into which lines go.
+    fn open_world(&self) -> Option<usize>
+        ensures place { result ≡ open_world self.now }
+        ensures within { IfSome result (λ at. at < length self.now.worlds) }
+    {
+        match self.scope {
+            Scope::World => self.worlds.len().checked_sub(1),
+            Scope::Package | Scope::Interface => None,
+        }
+    }
+
+    /// What a token names in the interface: a primitive type, or else an earlier type.
+    fn type_named(&self, token: &str) -> Option<Type_>
+        ensures { result ≡ type_named self.now token.now }
+    {
         if let Some(ty) = primitive(token) {
             return Some(ty);
         }
-        let at = self.interfaces.len().checked_sub(1)?;
+        let at = self.open_interface()?;
         let id = self.interfaces.at(at).types.get(token)?;
         Some(Type_::Id(*id))
     }
 
     /// The type of this name in the interface of that name.
-    fn type_in(&self, path: &str, name: &str) -> Option<TypeId> {
+    fn type_in(&self, path: &str, name: &str) -> Option<TypeId>
+        ensures { result ≡ type_in self.now path.now name.now }
+    {
         let id = self.interface_ids.get(path)?;
         let interface = self.interfaces.get(id.index())?;
         let id = interface.types.get(name)?;
@@ -271,7 +323,8 @@ impl OpenPackage {
 
     /// The package as a group of its own, with its file.
     pub fn into_group(self, alloc: Global) -> Result<UnresolvedPackageGroup, MapFault>
-        ensures { IfOk result (λ group. group.nested ≡ []) }
+        ensures ok { IfOk result (λ group. group ≡ group_of self) }
+        ensures overflow { IsErrOf result MapFault.OffsetOverflow → 2 ^ 32 ≤ end_after 0 self.contents }
     {
         let path = self.name.to_string(alloc)?;
         let mut source_map = SourceMap::new(alloc);

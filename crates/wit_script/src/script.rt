@@ -1,5 +1,5 @@
 //! From the bytes of a script to its answers.
-use crate::answer::answers;
+use crate::answer::answers_to;
 use crate::fault::{ReadFault, ScriptFault};
 use crate::reader::read_script;
 use crate::stream::{read_all, write_all};
@@ -20,13 +20,13 @@ pub fn execute<R: Read, W: Write>(
     };
     match read_script(alloc, text) {
         Ok(commands) => {
-            let out = answers(alloc, commands)?;
-            write_all(writer, &out)?;
+            let answers = answers_to(alloc, commands)?;
+            write_all(writer, &answers)?;
             Ok(true)
         }
         Err(ReadFault::NotUnderstood { line }) => {
-            let out = format!(in alloc; "line {line}: not understood\n")?;
-            write_all(writer, &out)?;
+            let answer = format!(in alloc; "line {line}: not understood\n")?;
+            write_all(writer, &answer)?;
             Ok(false)
         }
         Err(ReadFault::OutOfMemory) => Err(ScriptFault::OutOfMemory),
