@@ -8,6 +8,8 @@ use Rattle.wit_graph.specs.declared.error_kind.ResolveErrorKind.{ResolveErrorKin
 use Rattle.wit_graph.specs.declared.error_kind.ResolveErrorKind.TheVariants.{InvalidTransitiveDependency, OutOfMemory}
 use Rattle.wit_graph.specs.declared.graph.Graph.{Graph}
 use Rattle.wit_graph.specs.Elaborated.{Elaborated}
+use Rattle.wit_graph.specs.Entries.{Entry}
+use Rattle.wit_graph.specs.IdText.{key_text}
 use Rattle.wit_graph.specs.Imported.{HasConflict, IsRefusedName}
 use Rattle.wit_graph.specs.Listed.{IsListed}
 
@@ -39,3 +41,8 @@ IsConflictError g world _ = ⊥
 -- of the world at a place
 abbrev pub IsElaborationError : Graph → ℕ → ResolveErrorKind → Type 0
 IsElaborationError g id kind = ForSome (slice_get g.worlds id) (λ (world : World). IsConflictError g world kind)
+
+-- the error that names the export at a place
+abbrev pub IsErrorAt : Graph → World → ℕ → ResolveErrorKind → Type 0
+IsErrorAt g world at e =
+    (entry : Entry) × (slice_get world.exports at ≡ Some entry) × (e ≡ InvalidTransitiveDependency world.span (key_text g.packages g.interfaces entry.0))

@@ -1,5 +1,7 @@
 -- The numbers and places of errors.
 use Rattle.std.specs.Prelude.{ℕ, Option, None}
+use Rattle.wit_items.specs.declared.source_map.MapFault.{MapFault}
+use Rattle.wit_items.specs.declared.source_map.MapFault.TheVariants as fault
 use Rattle.wit_graph.specs.declared.cause.Cause.{Cause}
 use Rattle.wit_graph.specs.declared.cause.Cause.TheVariants.{GateWithoutVersion, GateUnreleased, Excluded, ExcludedOwner, TypeNotDefined, NotAResource, BorrowInResult, RenameUnmatched, NotStronglyUnique, NoGetter, LabelClash, NameTaken, TypeExported, InterfaceCycle, TypeCycle, MergeMismatch, UpgradeMismatch, WorldSelection, Other}
 use Rattle.wit_graph.specs.declared.error_kind.ResolveErrorKind.{ResolveErrorKind}
@@ -54,3 +56,8 @@ error_span (StabilityMismatch span from into) = span
 error_span (Semantic span message cause) = span
 error_span OffsetOverflow = None
 error_span OutOfMemory = None
+
+-- the kind that stands for a fault of a source map
+abbrev pub map_fault_kind : MapFault → ResolveErrorKind
+map_fault_kind fault.OffsetOverflow = OffsetOverflow
+map_fault_kind fault.OutOfMemory = OutOfMemory

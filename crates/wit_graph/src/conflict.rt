@@ -33,7 +33,7 @@ fn add_node(listing: &mut Listing, node: usize) -> Result<(), AllocError>
 }
 
 /// Lists the interfaces that are exported under their own keys.
-pub(crate) fn list_exported(
+fn list_exported(
     exports: &Table<WorldKey, WorldItem>,
     exported: &mut Listing,
 ) -> Result<(), AllocError>
@@ -182,7 +182,7 @@ fn first_conflict(
 }
 
 /// The place of the first export of an interface that is in conflict, None where there is none.
-pub(crate) fn find_conflict(
+fn find_conflict(
     alloc: Global,
     uses: &[Items<usize>],
     exports: &Table<WorldKey, WorldItem>,
@@ -210,4 +210,25 @@ pub(crate) fn find_conflict(
     )?;
     mark_reaching(uses, marks.walked.order(), &marks.outside, &mut marks.leading)?;
     Ok(first_conflict(uses, exports, &marks.leading))
+}
+
+/// The place of the first export of an interface that is in conflict, None where there is none. It
+/// lists the exported keys too.
+pub(crate) fn find_refused(
+    alloc: Global,
+    uses: &[Items<usize>],
+    exports: &Table<WorldKey, WorldItem>,
+    marks: &mut Marks,
+) -> Result<Option<usize>, AllocError>
+    requires acyclic { IsAcyclic uses.now }
+    requires interfaces { All (λ i. i < length uses.now) (exported_interfaces exports.now) }
+    requires keys { All (λ i. i < length uses.now) (exported_keys exports.now) }
+    requires nodes { HaveNodes marks.old (length uses.now) }
+    ensures found { IfOk result (IsFirstConflict uses.now exports.now) }
+    ensures nodes { HaveNodes marks.new (length uses.now) }
+    ensures exported { OnOk result (TellsExported marks.new.exported.order exports.now) }
+{
+    marks.exported.clear();
+    list_exported(exports, &mut marks.exported)?;
+    find_conflict(alloc, uses, exports, marks)
 }

@@ -2,7 +2,7 @@
 ghost use Rattle.std.specs.Prelude.{◌≡◌, Some, string_bytes};
 ghost use Rattle.std.specs.Borrow.{sem};
 ghost use Rattle.wit_graph.specs.ErrorLoan.{LendsKind};
-ghost use Rattle.wit_graph.specs.Error.{error_number};
+ghost use Rattle.wit_graph.specs.Error.{error_number, map_fault_kind};
 ghost use Rattle.wit_graph.specs.ErrorText.{kind_text};
 ghost use Rattle.wit_graph.specs.declared.error_kind.ResolveErrorKind.TheVariants as kinds;
 ghost use Rattle.wit_graph.specs.declared.cause.Cause.TheVariants.{Other};
@@ -13,11 +13,11 @@ use std::alloc::AllocError;
 use std::error::Error;
 use std::fmt;
 use std::marker::Model;
-use wit_items::Span;
+use wit_items::{MapFault, Span};
 use wit_values::{Text, TryClone};
 
 /// An error of a resolve graph, which contracts see as its kind.
-#[derive(Debug, PartialEq, Eq, Drop)]
+#[derive(Debug, PartialEq, Eq)]
 pub struct ResolveError {
     kind: ResolveErrorKind,
 }
@@ -30,6 +30,14 @@ impl Model for ResolveError {
     ghost view = { λ e. e.kind };
 
     ghost inverse = { λ k. record { kind = k } };
+}
+
+// Written by hand, so that to let an error go is one call and not the cases of its kinds.
+impl Drop for ResolveError {
+    fn drop(self) {
+        let ResolveError { kind } = self;
+        drop(kind);
+    }
 }
 
 /// A result whose error is a `ResolveError`, where no other is named.
@@ -123,3 +131,22 @@ impl TryClone for ResolveError {
         })
     }
 }
+
+/// What a source map refused.
+impl From<MapFault> for ResolveError {
+    ghost from_gives = { λ fault e. e ≡ map_fault_kind fault };
+
+    fn from(fault: MapFault) -> ResolveError {
+        match fault {
+            MapFault::OffsetOverflow => ResolveError {
+                kind: ResolveErrorKind::OffsetOverflow,
+            },
+            MapFault::OutOfMemory => ResolveError {
+                kind: ResolveErrorKind::OutOfMemory,
+            },
+        }
+    }
+}
+
+#[cfg(test)]
+mod tests;

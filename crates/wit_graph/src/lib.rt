@@ -3,13 +3,13 @@
 
 pub mod cause;
 mod conflict;
-pub mod elaborate;
-mod entries;
+pub mod elaboration;
+pub mod entries;
 pub mod error;
 pub mod error_kind;
+mod exports;
 pub mod features;
 pub mod graph;
-mod exports;
 mod imports;
 pub mod laws;
 mod marks;
@@ -17,6 +17,7 @@ pub mod questions;
 pub mod role;
 
 pub use crate::cause::Cause;
+pub use crate::elaboration::{Elaborator, elaborate};
 pub use crate::error::{ResolveError, ResolveResult};
 pub use crate::error_kind::ResolveErrorKind;
 pub use crate::features::Features;

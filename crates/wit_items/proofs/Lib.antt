@@ -1,1 +1,5 @@
+pub mod Cuts
+pub mod Kebab
 pub mod SourceMapLemmas
+pub mod UsePathGrammar
+pub mod VersionErrors

@@ -12,6 +12,7 @@ pub mod span;
 pub mod stability;
 pub mod types;
 pub mod unresolved;
+pub mod use_path;
 pub mod uses;
 pub mod world;
 
@@ -27,6 +28,7 @@ pub use crate::types::{
     Case, EnumCase, Field, Flag, Handle, Type_, TypeDef, TypeDefKind, TypeOwner,
 };
 pub use crate::unresolved::{AstItem, UnresolvedPackage, UnresolvedPackageGroup};
+pub use crate::use_path::{ParsedUsePath, UsePathFault, is_kebab_name, parse_use_path};
 pub use crate::uses::{alias_target, interface_uses, type_interface_dep, uses_of};
 pub use crate::world::{IncludeName, World, WorldInclude, WorldItem, WorldKey};
 pub use wit_values::{Items, Names, Table, Text, TryClone, Version};

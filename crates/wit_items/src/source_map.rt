@@ -218,3 +218,44 @@ impl<'a> Iterator for SourceNames<'a> {
         Some(file.path.as_str())
     }
 }
+
+#[cfg(test)]
+mod tests {
+    use super::*;
+    use std::test::Fail;
+
+    #[test]
+    fn files_stand_one_after_another(rt: HostRuntime) -> Result<(), Fail> {
+        let alloc = rt.alloc();
+        let mut map = SourceMap::new(alloc);
+        let text = String::from_str(alloc, "package a:b;\nworld w {}\n")?;
+        map.push_str(alloc, "m.wit", text)?;
+        assert_eq!(rt; map.end(), 25);
+        let mut other = SourceMap::with_base(alloc, 3);
+        other.push_str(alloc, "empty.wit", String::new(alloc))?;
+        assert_eq!(rt; other.end(), 4);
+        assert_eq!(rt; map.append(alloc, other)?, 25);
+        assert_eq!(rt; map.end(), 29);
+        let copy = map.try_clone()?;
+        let mut names = copy.source_names();
+        assert_eq!(rt; names.next(), Some("m.wit"));
+        assert_eq!(rt; names.next(), Some("empty.wit"));
+        assert_eq!(rt; names.next(), None);
+        Ok(())
+    }
+
+    #[test]
+    fn no_position_passes_the_last(rt: HostRuntime) -> Result<(), Fail> {
+        let alloc = rt.alloc();
+        let mut map = SourceMap::with_base(alloc, 4294967294);
+        map.push_str(alloc, "last.wit", String::new(alloc))?;
+        assert_eq!(rt; map.end(), 4294967295);
+        let passed = map.push_str(alloc, "next.wit", String::new(alloc));
+        assert_eq!(rt; passed, Err(MapFault::OffsetOverflow));
+        assert_eq!(rt; map.append(alloc, SourceMap::new(alloc)), Ok(4294967295));
+        let passed = map.append(alloc, SourceMap::with_base(alloc, 1));
+        assert_eq!(rt; passed, Err(MapFault::OffsetOverflow));
+        assert_eq!(rt; map.source_names().count(), 1);
+        Ok(())
+    }
+}

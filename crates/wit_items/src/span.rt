@@ -104,3 +104,27 @@ impl TryClone for Span {
         Ok(*self)
     }
 }
+
+#[cfg(test)]
+mod tests {
+    use super::*;
+    use std::test::Fail;
+
+    #[test]
+    fn spans_move_up_to_the_last_position(rt: HostRuntime) -> Result<(), Fail> {
+        let span = Span::new(8, 10);
+        assert!(rt; span.is_known());
+        assert_eq!(rt; (span.start(), span.end()), (8, 10));
+        assert_eq!(rt;
+            span.moved(4294967285),
+            Some(Span::new(4294967293, 4294967295))
+        );
+        assert_eq!(rt; span.moved(4294967286), None);
+        let unknown = Span::default();
+        assert!(rt; !unknown.is_known());
+        assert_eq!(rt; (unknown.start(), unknown.end()), (0, 0));
+        assert_eq!(rt; unknown.moved(4294967295), Some(unknown));
+        assert_eq!(rt; span.try_clone()?, span);
+        Ok(())
+    }
+}

@@ -32,7 +32,7 @@ impl TryClone for Docs {
 
 /// The feature gate of an item, as WIT writes it: nothing, `@since(version = ..)`, or
 /// `@unstable(feature = ..)`, each of the two with an optional `@deprecated(version = ..)`.
-#[derive(Debug, PartialEq, Eq, Drop)]
+#[derive(Debug, PartialEq, Eq)]
 pub enum Stability {
     Unknown,
     Stable {
@@ -43,6 +43,27 @@ pub enum Stability {
         feature: Text,
         deprecated: Option<Version>,
     },
+}
+
+/// As the derived one: what it holds is let go. A call of it costs the check less than a derived one,
+/// which is checked again wherever a value is let go.
+impl Drop for Stability {
+    fn drop(self) {
+        match self {
+            Stability::Unknown => {}
+            Stability::Stable { since, deprecated } => {
+                drop(since);
+                drop(deprecated);
+            }
+            Stability::Unstable {
+                feature,
+                deprecated,
+            } => {
+                drop(feature);
+                drop(deprecated);
+            }
+        }
+    }
 }
 
 impl Stability {

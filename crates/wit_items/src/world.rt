@@ -104,7 +104,7 @@ impl TryClone for WorldInclude {
 }
 
 /// A world: what a component imports and exports.
-#[derive(Debug, Drop)]
+#[derive(Debug)]
 pub struct World {
     pub name: Text,
     pub imports: Table<WorldKey, WorldItem>,
@@ -116,6 +116,29 @@ pub struct World {
     /// What it includes. Empty in a graph, where includes have become entries.
     pub includes: Items<WorldInclude>,
     pub span: Span,
+}
+
+/// As the derived one: each field is let go. A call of it costs the check less than a derived one,
+/// which is checked again wherever a value is let go.
+impl Drop for World {
+    fn drop(self) {
+        let World {
+            name,
+            imports,
+            exports,
+            docs,
+            stability,
+            includes,
+            package: _,
+            span: _,
+        } = self;
+        drop(name);
+        drop(imports);
+        drop(exports);
+        drop(docs);
+        drop(stability);
+        drop(includes);
+    }
 }
 
 impl TryClone for World {

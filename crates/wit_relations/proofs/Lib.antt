@@ -6,3 +6,4 @@ pub mod Stack
 pub mod WalkLaws
 pub mod Searching
 pub mod SearchSteps
+pub mod Examples

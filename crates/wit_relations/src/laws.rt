@@ -1,5 +1,6 @@
 //! Laws of the definitions: each function has no body, and its contract is what is proved.
 ghost use Rattle.std.specs.Prelude.{ℕ, List};
+ghost use Rattle.wit_relations.specs.Examples.{ExamplesOfCycles, ExamplesOfPaths, ExamplesOfWalks};
 ghost use Rattle.wit_relations.specs.Laws.{FirstsAreOnce, WalksKeepOrder, WalksReach, WalksUnfold};
 
 /// A walk is the walks of the direct uses, in order, and then the node.
@@ -20,4 +21,12 @@ pub fn walks_keep_order()
 /// The first of each member has all members, each once.
 pub fn firsts_are_once()
     ensures { (xs : List ℕ) → FirstsAreOnce xs }
+{}
+
+/// Small relations worked by hand: what is reached and what isn't, what is a cycle and what isn't,
+/// what a walk lists and which order has a use after its user.
+pub fn examples_hold()
+    ensures paths { ExamplesOfPaths }
+    ensures cycles { ExamplesOfCycles }
+    ensures walks { ExamplesOfWalks }
 {}

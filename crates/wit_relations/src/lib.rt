@@ -10,6 +10,8 @@ pub mod cycle;
 mod frame;
 pub mod laws;
 pub mod relation;
+#[cfg(test)]
+mod tests;
 pub mod walk;
 
 pub use crate::cycle::{CycleUse, find_cycle, is_acyclic};

@@ -92,6 +92,17 @@ impl<T> Items<T> {
         self.inner.reserve(additional)
     }
 
+    /// Moves the items of another list to the end. Where there is no memory the list is as before.
+    pub fn append(&mut self, other: Items<T>) -> Result<(), AllocError>
+    where
+        T: Drop,
+        ensures ok { OnOk result (self.new ≡ self.old ++ other) }
+        ensures err { OnErr result (self.new ≡ self.old) }
+    {
+        let mut items = other.inner;
+        self.inner.append(&mut items)
+    }
+
     /// The item at an index.
     pub fn at(&self, index: usize) -> &T
         requires { index < length self.now }

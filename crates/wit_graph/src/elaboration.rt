@@ -5,13 +5,14 @@
 ghost use Rattle.std.specs.Prelude.{◌≡◌, ◌<◌, IfOk, IfErr, OnOk, OnErr, length, slice_get, Some};
 ghost use Rattle.wit_graph.specs.Elaborated.{elaborated_exports, elaborated_imports};
 ghost use Rattle.wit_graph.specs.Elaborating.{HaveNodes, IsFirstConflict, TellsExported};
-ghost use Rattle.wit_graph.specs.Elaboration.{ElaboratesWorld, HasConflictAt, IsConflictError, IsElaborationError, IsListedAt, graph_uses};
+ghost use Rattle.wit_graph.specs.Elaboration.{ElaboratesWorld, HasConflictAt, IsElaborationError, IsErrorAt, IsListedAt, graph_uses};
 ghost use Rattle.wit_graph.specs.Imported.{HasConflict};
 ghost use Rattle.wit_graph.specs.Listed.{IsListed};
+ghost use Rattle.wit_graph.specs.declared.error_kind.ResolveErrorKind.TheVariants.{OutOfMemory};
 ghost use Rattle.wit_items.specs.Uses.{uses_of};
 ghost use Rattle.wit_relations.specs.Relation.{IsAcyclic};
 
-use crate::conflict::{find_conflict, list_exported};
+use crate::conflict::find_refused;
 use crate::entries::Lists;
 use crate::error::{ResolveError, ResolveResult};
 use crate::error_kind::ResolveErrorKind;
@@ -71,30 +72,41 @@ impl Elaborator {
         ensures ok { OnOk result (ElaboratesWorld graph.old world graph.new) }
         ensures err { OnErr result (graph.new ≡ graph.old) }
         ensures cause { IfErr result (IsElaborationError graph.old world) }
+        ensures refuses { HasConflictAt graph.old world → OnOk result ⊥ }
         ensures same { self.new ≡ self.old }
     {
         let current = graph.worlds.at(world.index());
-        let found = self.find_refused(alloc, current)?;
+        let uses = self.uses.as_slice();
+        let found = find_refused(alloc, uses, &current.exports, &mut self.marks)?;
         if let Some(index) = found {
             return Err(conflict_error(alloc, graph, current, index)?);
         }
-        let lists = elaborated_lists(
-            alloc,
-            graph.types.as_slice(),
-            self.uses.as_slice(),
-            &mut self.marks,
-            current,
-        )?;
-        put_lists(graph, world, lists);
+        let lists = elaborated_lists(alloc, graph.types.as_slice(), uses, &mut self.marks, current)?;
+        let current = graph.worlds.at_mut(world.index());
+        current.imports = lists.imports;
+        current.exports = lists.exports;
         Ok(())
     }
+}
 
-    /// The place of the first export of an interface that is in conflict, None where there is none.
-    fn find_refused(&mut self, alloc: Global, world: &World) -> Result<Option<usize>, AllocError> {
-        self.marks.exported.clear();
-        list_exported(&world.exports, &mut self.marks.exported)?;
-        find_conflict(alloc, self.uses.as_slice(), &world.exports, &mut self.marks)
+/// The error of a world that is refused for one of its exports.
+fn conflict_error(
+    alloc: Global,
+    graph: &Graph,
+    world: &World,
+    index: usize,
+) -> ResolveResult<ResolveError>
+    requires { index < length world.now.exports }
+    ensures error { IfOk result (λ e. IsErrorAt graph.now world.now index e) }
+    ensures err { IfErr result (λ e. e ≡ OutOfMemory) }
+{
+    let (key, _) = world.exports.entry_at(index);
+    let name = graph.name_world_key(alloc, key)?;
+    Ok(ResolveErrorKind::InvalidTransitiveDependency {
+        span: world.span,
+        name: Text::from_string(name),
     }
+    .into())
 }
 
 /// The elaborated lists of a world without a conflict.
@@ -132,4 +144,31 @@ fn elaborated_lists(
     )?;
     lists.imports = sorted_by_class(alloc, types, &lists.imports)?;
     Ok(lists)
+}
+
+/// Elaborates a world of a graph: its imports become the listed ones with all that they, the type
+/// uses and the exports need, sorted by class, each after what it uses; its exports the functions and
+/// then the interfaces, each after the exported ones that it uses.
+///
+/// It is refused, with the kind `InvalidTransitiveDependency`, where an exported interface uses one
+/// that is not exported under its own key and that reaches one which is. The name is the key of the
+/// first listed interface that leads to such a use, the span the world's. After a refusal the graph
+/// is as before.
+///
+/// Source: `elaborate_world` of wit-parser 0.263.0.
+pub fn elaborate(alloc: Global, graph: &mut Graph, world: WorldId) -> ResolveResult<()>
+    requires world { world < length graph.old.worlds }
+    requires acyclic { IsAcyclic (graph_uses graph.old) }
+    requires listed { IsListedAt graph.old world }
+    ensures ok { OnOk result (ElaboratesWorld graph.old world graph.new) }
+    ensures err { OnErr result (graph.new ≡ graph.old) }
+    ensures cause { IfErr result (IsElaborationError graph.old world) }
+    ensures refuses { HasConflictAt graph.old world → OnOk result ⊥ }
+{
+    let mut elaborator = Elaborator::new(
+        alloc,
+        graph.types.as_slice(),
+        graph.interfaces.as_slice(),
+    )?;
+    elaborator.elaborate(alloc, graph, world)
 }

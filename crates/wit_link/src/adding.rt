@@ -1,0 +1,195 @@
+//! Adding a package to a graph.
+ghost use Rattle.std.specs.Prelude.{◌≡◌, OnErr};
+
+use crate::image::Image;
+use crate::remap::Remap;
+use std::alloc::{AllocError, Global};
+use wit_graph::{
+    Features, Graph, Package, ResolveError, ResolveErrorKind, ResolveResult, elaborate,
+};
+use wit_items::{
+    Interface, InterfaceId, Items, Names, PackageId, Span, TryClone, TypeId, UnresolvedPackage,
+    World, WorldId,
+};
+use wit_values::try_clone_two;
+
+/// Adds a package to a graph, its spans moved by an offset, and answers its id.
+///
+/// So far it takes packages that name nothing of other packages and have no gates, includes or labels.
+/// Refused where a package of that name is there (5), where a span would pass 4294967295 (27), and for
+/// memory (28). After a refusal the graph is as before.
+pub fn append(
+    alloc: Global,
+    graph: &mut Graph,
+    _features: &Features,
+    package: UnresolvedPackage,
+    span_offset: u32,
+) -> ResolveResult<PackageId>
+    ensures err { OnErr result (graph.new ≡ graph.old) }
+{
+    if graph.package_names.contains_key(&package.name) {
+        return Err(duplicate(package, span_offset));
+    }
+    let mut next = graph.try_clone()?;
+    let id = add_package(alloc, &mut next, &package, span_offset)?;
+    *graph = next;
+    Ok(id)
+}
+
+/// The refusal of a package whose name is there.
+fn duplicate(package: UnresolvedPackage, span_offset: u32) -> ResolveError {
+    match package.package_name_span.moved(span_offset) {
+        Some(span1) => ResolveError::from(ResolveErrorKind::DuplicatePackage {
+            name: package.name,
+            span1,
+            span2: Span::unknown(),
+        }),
+        None => ResolveError::from(ResolveErrorKind::OffsetOverflow),
+    }
+}
+
+/// Adds the types, interfaces and worlds of a package, then the package, and elaborates its worlds.
+fn add_package(
+    alloc: Global,
+    graph: &mut Graph,
+    package: &UnresolvedPackage,
+    span_offset: u32,
+) -> ResolveResult<PackageId> {
+    let id = PackageId::from_index(graph.packages.len());
+    let first_world = graph.worlds.len();
+    let remap = fresh_ids(alloc, graph, package)?;
+    let image = Image {
+        remap: &remap,
+        offset: span_offset,
+        package: id,
+    };
+    image.span(package.package_name_span)?;
+    add_types(alloc, graph, &image, package)?;
+    add_interfaces(alloc, graph, &image, package)?;
+    add_worlds(alloc, graph, &image, package)?;
+    add_tables(alloc, graph, &image, package)?;
+    for world in first_world..graph.worlds.len() {
+        elaborate(alloc, graph, WorldId::from_index(world))?;
+    }
+    Ok(id)
+}
+
+/// The next ids of the graph, in the order of the package's lists.
+fn fresh_ids(
+    alloc: Global,
+    graph: &mut Graph,
+    package: &UnresolvedPackage,
+) -> Result<Remap, AllocError> {
+    graph.types.reserve(package.types.len())?;
+    graph.interfaces.reserve(package.interfaces.len())?;
+    graph.worlds.reserve(package.worlds.len())?;
+    let mut types = Items::new(alloc);
+    let first_type = graph.types.len();
+    for index in 0..package.types.len() {
+        types.push(Some(TypeId::from_index(first_type + index)))?;
+    }
+    let mut interfaces = Items::new(alloc);
+    let first_interface = graph.interfaces.len();
+    for index in 0..package.interfaces.len() {
+        interfaces.push(Some(InterfaceId::from_index(first_interface + index)))?;
+    }
+    let mut worlds = Items::new(alloc);
+    let first_world = graph.worlds.len();
+    for index in 0..package.worlds.len() {
+        worlds.push(Some(WorldId::from_index(first_world + index)))?;
+    }
+    Ok(Remap::from_lists(types, interfaces, worlds, Items::new(alloc)))
+}
+
+fn add_types(
+    alloc: Global,
+    graph: &mut Graph,
+    image: &Image<'_>,
+    package: &UnresolvedPackage,
+) -> ResolveResult<()> {
+    for ty in package.types.as_slice() {
+        graph.types.push(image.type_def(alloc, ty)?)?;
+    }
+    Ok(())
+}
+
+fn add_interfaces(
+    alloc: Global,
+    graph: &mut Graph,
+    image: &Image<'_>,
+    package: &UnresolvedPackage,
+) -> ResolveResult<()> {
+    for interface in package.interfaces.as_slice() {
+        graph.interfaces.push(image.interface(alloc, interface)?)?;
+    }
+    Ok(())
+}
+
+fn add_worlds(
+    alloc: Global,
+    graph: &mut Graph,
+    image: &Image<'_>,
+    package: &UnresolvedPackage,
+) -> ResolveResult<()> {
+    for world in package.worlds.as_slice() {
+        graph.worlds.push(image.world(alloc, world)?)?;
+    }
+    Ok(())
+}
+
+/// Adds the package with the tables of its interfaces and worlds.
+fn add_tables(
+    alloc: Global,
+    graph: &mut Graph,
+    image: &Image<'_>,
+    package: &UnresolvedPackage,
+) -> ResolveResult<()> {
+    let interfaces = interface_table(alloc, image, package.interfaces.as_slice())?;
+    let worlds = world_table(alloc, image, package.worlds.as_slice())?;
+    let (name, docs) = try_clone_two(&package.name, &package.docs)?;
+    graph.packages.push(Package {
+        name,
+        docs,
+        interfaces,
+        worlds,
+    })?;
+    let name = package.name.try_clone()?;
+    if !graph.package_names.contains_key(&name) {
+        graph.package_names.push(name, image.package)?;
+    }
+    Ok(())
+}
+
+/// The named interfaces under their names.
+fn interface_table(
+    alloc: Global,
+    image: &Image<'_>,
+    interfaces: &[Interface],
+) -> Result<Names<InterfaceId>, AllocError> {
+    let mut table = Names::new(alloc);
+    for (index, interface) in interfaces.iter().enumerate() {
+        if let Some(name) = &interface.name {
+            if !table.contains_key(name.as_str()) {
+                let id = image.interface_id(InterfaceId::from_index(index));
+                table.push(String::from_str(alloc, name.as_str())?, id)?;
+            }
+        }
+    }
+    Ok(table)
+}
+
+/// The worlds under their names.
+fn world_table(
+    alloc: Global,
+    image: &Image<'_>,
+    worlds: &[World],
+) -> Result<Names<WorldId>, AllocError> {
+    let mut table = Names::new(alloc);
+    for (index, world) in worlds.iter().enumerate() {
+        if !table.contains_key(world.name.as_str()) {
+            let id = image.world_id(WorldId::from_index(index));
+            table.push(String::from_str(alloc, world.name.as_str())?, id)?;
+        }
+    }
+    Ok(table)
+}

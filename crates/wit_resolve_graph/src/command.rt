@@ -1,0 +1,53 @@
+//! Commands and their replies, as data.
+use crate::resolve::Resolve;
+use wit_graph::ResolveError;
+use wit_items::{Items, PackageId, PackageName, Text, UnresolvedPackageGroup};
+use wit_link::Remap;
+
+/// A change of a `Resolve`.
+#[derive(Debug, Drop)]
+pub enum Command {
+    /// Turns a feature on.
+    AddFeature(Text),
+    /// Turns all features on, or leaves those that are named.
+    SetAllFeatures(bool),
+    /// Adds the packages of groups, dependencies first.
+    PushGroups {
+        main: UnresolvedPackageGroup,
+        deps: Items<UnresolvedPackageGroup>,
+    },
+    /// Makes one of this and another.
+    Merge(Resolve),
+    /// Turns the exports of a world into its imports.
+    Importize {
+        package: PackageName,
+        world: Text,
+        out: Option<Text>,
+    },
+    /// Turns imports of a world into its exports: those whose keys are listed, or all.
+    Exportize {
+        package: PackageName,
+        world: Text,
+        out: Option<Text>,
+        keys: Option<Items<Text>>,
+    },
+    /// Leaves of the imports of a world the greatest version on each track.
+    Semver {
+        package: PackageName,
+        world: Text,
+    },
+}
+
+/// The answer to a command.
+#[derive(Debug, Drop)]
+pub enum Reply {
+    Done,
+    /// The id of the main group's main package.
+    Pushed(PackageId),
+    /// Where the things of the other stand now.
+    Merged(Remap),
+    /// There is no such world.
+    NoWorld,
+    /// Nothing was changed but the source map.
+    Refused(ResolveError),
+}

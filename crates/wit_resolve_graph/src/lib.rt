@@ -1,0 +1,16 @@
+//! The `Resolve` of wit-parser 0.263.0: a graph of WIT packages that stays valid, its features and its
+//! sources, and commands on it.
+#![tactic(auto)]
+
+pub mod command;
+pub mod resolve;
+mod running;
+mod select;
+
+pub use crate::command::{Command, Reply};
+pub use crate::resolve::Resolve;
+pub use crate::running::run;
+pub use wit_graph::{
+    Cause, Features, Graph, Package, ResolveError, ResolveErrorKind, ResolveResult,
+};
+pub use wit_link::Remap;

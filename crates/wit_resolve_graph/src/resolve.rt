@@ -1,0 +1,221 @@
+//! A graph of packages with its features and its sources.
+ghost use Rattle.std.specs.Prelude.{◌≡◌, [], IfOk, OnErr, string_bytes};
+ghost use Rattle.std.specs.Option.{option_map};
+ghost use Rattle.wit_graph.specs.IdText.{id_text, interface_id_at, key_text};
+ghost use Rattle.wit_items.specs.SourceMap.{with_sources};
+ghost use Rattle.wit_resolve_graph.specs.State.{new_state};
+
+use crate::select::select_world;
+use std::alloc::{AllocError, Global};
+use std::marker::Model;
+use wit_graph::{Features, Graph, Package, ResolveResult};
+use wit_items::{
+    Interface, InterfaceId, Items, PackageId, PackageName, SourceMap, Table, TryClone, TypeDef,
+    UnresolvedPackage, UnresolvedPackageGroup, World, WorldId, WorldKey,
+};
+use wit_link::append;
+use wit_values::try_clone_three;
+
+/// Packages whose names are resolved: a graph, the features that are on, and the sources.
+#[derive(Debug, Drop)]
+pub struct Resolve {
+    graph: Graph,
+    features: Features,
+    source_map: SourceMap,
+}
+
+impl Model for Resolve {
+    ghost use Rattle.wit_resolve_graph.specs.State.{State};
+
+    ghost Value = { State };
+
+    ghost view = { λ a. record { graph = a.graph; features = a.features; source_map = a.source_map } };
+}
+
+impl Resolve {
+    /// Nothing: no package, no feature and no file. It takes no memory.
+    pub fn new(alloc: Global) -> Resolve
+        ensures { result ≡ new_state }
+    {
+        Resolve {
+            graph: Graph::new(alloc),
+            features: Features::new(alloc),
+            source_map: SourceMap::new(alloc),
+        }
+    }
+
+    pub fn graph(&self) -> &Graph
+        ensures { result.now ≡ self.now.graph }
+    {
+        &self.graph
+    }
+
+    pub fn types(&self) -> &[TypeDef]
+        ensures { result.now ≡ self.now.graph.types }
+    {
+        self.graph.types.as_slice()
+    }
+
+    pub fn interfaces(&self) -> &[Interface]
+        ensures { result.now ≡ self.now.graph.interfaces }
+    {
+        self.graph.interfaces.as_slice()
+    }
+
+    pub fn worlds(&self) -> &[World]
+        ensures { result.now ≡ self.now.graph.worlds }
+    {
+        self.graph.worlds.as_slice()
+    }
+
+    pub fn packages(&self) -> &[Package]
+        ensures { result.now ≡ self.now.graph.packages }
+    {
+        self.graph.packages.as_slice()
+    }
+
+    pub fn package_names(&self) -> &Table<PackageName, PackageId>
+        ensures { result.now ≡ self.now.graph.package_names }
+    {
+        &self.graph.package_names
+    }
+
+    pub fn features(&self) -> &Features
+        ensures { result.now ≡ self.now.features }
+    {
+        &self.features
+    }
+
+    /// Whether all features are on, named or not.
+    pub fn all_features(&self) -> bool
+        ensures { result ≡ self.now.features.all }
+    {
+        self.features.all
+    }
+
+    pub fn source_map(&self) -> &SourceMap
+        ensures { result.now ≡ self.now.source_map }
+    {
+        &self.source_map
+    }
+}
+
+impl Resolve {
+    /// Puts the files of a source map at the end of this one's, and answers where they begin: a span
+    /// in them has to be moved so far. Refused where the end would pass 4294967295 (27), and for
+    /// memory (28); nothing has changed then.
+    pub fn push_source_map(&mut self, alloc: Global, source_map: SourceMap) -> ResolveResult<u32>
+        ensures ok { IfOk result (λ offset. (offset ≡ self.old.source_map.end) × (self.new ≡ record self.old { source_map = with_sources self.old.source_map source_map })) }
+        ensures err { OnErr result (self.new ≡ self.old) }
+    {
+        Ok(self.source_map.append(alloc, source_map)?)
+    }
+
+    /// Adds a package, its spans moved by an offset, and answers its id.
+    ///
+    /// So far the package names nothing of other packages and has no gates, includes or labels.
+    /// Refused where a package of that name is there (5), where a span would pass 4294967295 (27), and
+    /// for memory (28); nothing has changed then.
+    pub fn push(
+        &mut self,
+        alloc: Global,
+        package: UnresolvedPackage,
+        span_offset: u32,
+    ) -> ResolveResult<PackageId>
+        ensures features { self.new.features ≡ self.old.features }
+        ensures source_map { self.new.source_map ≡ self.old.source_map }
+        ensures err { OnErr result (self.new ≡ self.old) }
+    {
+        append(alloc, &mut self.graph, &self.features, package, span_offset)
+    }
+
+    /// Adds the main package of a group and puts the group's files at the end of the source map, and
+    /// answers the package's id.
+    ///
+    /// So far nothing is nested in the group. Refused as `push`; the packages are as before then, and
+    /// the files are at the end of the source map, but after 27 and 28 they may not be there.
+    pub fn push_group(
+        &mut self,
+        alloc: Global,
+        group: UnresolvedPackageGroup,
+    ) -> ResolveResult<PackageId>
+        requires { group.nested ≡ [] }
+        ensures features { self.new.features ≡ self.old.features }
+        ensures err { OnErr result (self.new.graph ≡ self.old.graph) }
+    {
+        let UnresolvedPackageGroup {
+            main,
+            nested,
+            source_map,
+        } = group;
+        drop(nested);
+        let offset = self.push_source_map(alloc, source_map)?;
+        self.push(alloc, main, offset)
+    }
+
+    /// Adds the packages of groups, and answers the id of the main group's main package.
+    ///
+    /// So far there is the main group alone.
+    pub fn push_groups(
+        &mut self,
+        alloc: Global,
+        main: UnresolvedPackageGroup,
+        deps: Items<UnresolvedPackageGroup>,
+    ) -> ResolveResult<PackageId>
+        requires nested { main.nested ≡ [] }
+        requires deps { deps ≡ [] }
+        ensures features { self.new.features ≡ self.old.features }
+        ensures err { OnErr result (self.new.graph ≡ self.old.graph) }
+    {
+        drop(deps);
+        self.push_group(alloc, main)
+    }
+
+    /// The world that a text names: a name in the one main package, or `namespace:package/name` with an
+    /// optional `@version`. Without a text it is the only world of the one main package. The ids are
+    /// of this graph. Refused where there is no such world, or more than one (26), and for memory (28).
+    pub fn select_world(
+        &self,
+        alloc: Global,
+        main_packages: &[PackageId],
+        world: Option<&str>,
+    ) -> ResolveResult<WorldId> {
+        select_world(alloc, &self.graph, main_packages, world)
+    }
+
+    /// The id text of an interface, None where it has no name: see `Graph::id_of`.
+    pub fn id_of(&self, alloc: Global, id: InterfaceId) -> ResolveResult<Option<String>>
+        ensures { IfOk result (λ text. option_map string_bytes text ≡ interface_id_at self.now.graph.packages self.now.graph.interfaces id) }
+    {
+        self.graph.id_of(alloc, id)
+    }
+
+    /// The id text of an interface or a world of this name in a package: see `Graph::id_of_name`.
+    pub fn id_of_name(&self, alloc: Global, package: PackageId, name: &str) -> ResolveResult<String>
+        ensures { IfOk result (λ text. string_bytes text ≡ id_text self.now.graph.packages «package» name.now) }
+    {
+        self.graph.id_of_name(alloc, package, name)
+    }
+
+    /// What names a key of a world: see `Graph::name_world_key`.
+    pub fn name_world_key(&self, alloc: Global, key: &WorldKey) -> ResolveResult<String>
+        ensures { IfOk result (λ text. string_bytes text ≡ key_text self.now.graph.packages self.now.graph.interfaces key.now) }
+    {
+        self.graph.name_world_key(alloc, key)
+    }
+}
+
+impl TryClone for Resolve {
+    fn try_clone(&self) -> Result<Resolve, AllocError> {
+        let (graph, features, source_map) = try_clone_three(
+            &self.graph,
+            &self.features,
+            &self.source_map,
+        )?;
+        Ok(Resolve {
+            graph,
+            features,
+            source_map,
+        })
+    }
+}

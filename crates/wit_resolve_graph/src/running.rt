@@ -1,0 +1,42 @@
+//! Runs of commands.
+ghost use Rattle.std.specs.Prelude.{◌≡◌, OnErr};
+ghost use Rattle.std.specs.List.{AllByRecursion};
+ghost use Rattle.wit_resolve_graph.specs.Supported.{IsSupported};
+
+use crate::command::{Command, Reply};
+use crate::resolve::Resolve;
+use std::alloc::Global;
+use wit_graph::ResolveResult;
+
+/// Runs commands in order, and answers a reply to each. Room for all replies is made first; where there
+/// is none, nothing has changed.
+///
+/// So far a command is `PushGroups` with the main group alone, and nothing nested in it.
+pub fn run(
+    alloc: Global,
+    resolve: &mut Resolve,
+    commands: Vec<Command>,
+) -> ResolveResult<Vec<Reply>>
+    requires { AllByRecursion IsSupported commands.items }
+    ensures err { OnErr result (resolve.new ≡ resolve.old) }
+{
+    let mut replies = Vec::with_capacity(alloc, commands.len())?;
+    for command in commands {
+        let reply = step(alloc, resolve, command);
+        replies.push(reply).unwrap();
+    }
+    Ok(replies)
+}
+
+/// The reply to one command.
+fn step(alloc: Global, resolve: &mut Resolve, command: Command) -> Reply
+    requires { IsSupported command }
+{
+    match command {
+        Command::PushGroups { main, deps } => match resolve.push_groups(alloc, main, deps) {
+            Ok(id) => Reply::Pushed(id),
+            Err(refusal) => Reply::Refused(refusal),
+        },
+        _ => unreachable!(),
+    }
+}

@@ -1,0 +1,5 @@
+pub mod Ink
+pub mod Known
+pub mod Pieces
+pub mod Arguments
+pub mod Keys

@@ -1,0 +1,49 @@
+-- What a world prints as.
+use Rattle.std.specs.Prelude.{ℕ, List, [], ◌++◌, Option, Some, None, slice_get, codes}
+use Rattle.std.specs.List.{flat_map}
+use Rattle.std.specs.Option.{option_map_or}
+use Rattle.wit_graph.specs.declared.graph.Graph.{Graph}
+use Rattle.wit_graph.specs.IdText.{id_text, interface_id_at, key_text}
+use Rattle.wit_items.specs.declared.world.World.{World}
+use Rattle.wit_items.specs.declared.world.WorldItem.{WorldItem}
+use Rattle.wit_items.specs.declared.world.WorldItem.TheVariants as item
+use Rattle.wit_items.specs.declared.world.WorldKey.{WorldKey}
+use Rattle.wit_items.specs.declared.world.WorldKey.TheVariants as key
+
+-- a labelled interface: with its id text where it is named
+abbrev pub labelled_interface_text : List ℕ → Option (List ℕ) → List ℕ
+labelled_interface_text label None = label
+labelled_interface_text label (Some id) = label ++ (codes " = " ++ id)
+
+-- an entry under a label
+abbrev pub labelled_text : Graph → List ℕ → WorldItem → List ℕ
+labelled_text g label (item.Interface id stability docs span external_id) = labelled_interface_text label (interface_id_at g.packages g.interfaces id)
+labelled_text g label (item.Function function) = codes "func " ++ label
+labelled_text g label (item.Type_ id span) = codes "type " ++ label
+
+-- an entry: an interface key by its id text
+abbrev pub entry_text : Graph → WorldKey → WorldItem → List ℕ
+entry_text g (key.Name label) entry = labelled_text g label entry
+entry_text g (key.Interface id) entry = key_text g.packages g.interfaces (key.Interface id)
+
+-- the line of an entry: two spaces, `import` or `export`, a space, the entry
+abbrev pub entry_line : Graph → List ℕ → WorldKey × WorldItem → List ℕ
+entry_line g word entry = codes "  " ++ (word ++ (codes " " ++ (entry_text g entry.0 entry.1 ++ codes "\n")))
+
+-- the id text of a world that has a package
+abbrev pub world_id : Graph → World → List ℕ
+world_id g world = option_map_or (λ owner. id_text g.packages owner world.name) world.package []
+
+-- the same of a world by its place
+abbrev pub world_id_at : Graph → ℕ → List ℕ
+world_id_at g w = option_map_or (world_id g) (slice_get g.worlds w) []
+
+-- the lines of a world: its id text, its imports, its exports
+abbrev pub world_text : Graph → World → List ℕ
+world_text g world =
+    codes "world " ++ (world_id g world ++ (codes "\n" ++
+    (flat_map (entry_line g (codes "import")) world.imports ++ flat_map (entry_line g (codes "export")) world.exports)))
+
+-- the same of a world by its place
+abbrev pub world_text_at : Graph → ℕ → List ℕ
+world_text_at g w = option_map_or (world_text g) (slice_get g.worlds w) []

@@ -1,0 +1,47 @@
+//! All bytes of a reader, and bytes to a writer.
+ghost use Rattle.std.specs.Prelude.{◌≡◌, true, IfSome, OnOk, IfErr, IfOk, IsErrOf};
+ghost use Rattle.std.specs.Io.KnownBytes.{Appends};
+
+use crate::fault::ScriptFault;
+use crate::watched::Watched;
+use std::alloc::Global;
+use std::io::{Read, Write};
+
+/// All bytes of a reader up to its end.
+pub fn read_all<R: Read>(alloc: Global, reader: &mut Watched<R>) -> Result<Vec<u8>, ScriptFault>
+    ensures ok { IfOk result (λ v. IfSome (R.remaining reader.old.inner) (λ input. v.items ≡ input)) }
+    ensures read { IsErrOf result ScriptFault.Read → reader.new.failed ≡ true }
+    ensures write { IsErrOf result ScriptFault.Write → ⊥ }
+    ensures utf8 { IsErrOf result ScriptFault.NotUtf8 → ⊥ }
+{
+    let mut bytes = Vec::new(alloc);
+    let mut chunk = [0u8; 4096];
+    for _turn in 0..u64::MAX {
+        match reader.read(&mut chunk) {
+            Ok(0) => return Ok(bytes),
+            Ok(count) => bytes.extend_from_slice(&chunk[..count])?,
+            Err(_) => return Err(ScriptFault::Read),
+        }
+    }
+    Err(ScriptFault::OutOfMemory)
+}
+
+/// Writes all bytes of a text, and has the writer pass them on.
+pub fn write_all<W: Write>(writer: &mut Watched<W>, text: &str) -> Result<(), ScriptFault>
+    ensures ok { OnOk result (Appends (W.contents writer.old.inner) (W.contents writer.new.inner) text.now) }
+    ensures err { IfErr result (λ e. (e ≡ ScriptFault.Write) × (writer.new.failed ≡ true)) }
+{
+    let bytes = text.as_bytes();
+    let mut at = 0;
+    while at < bytes.len() {
+        match writer.write(&bytes[at..]) {
+            Ok(0) => return Err(ScriptFault::Write),
+            Ok(count) => at += count,
+            Err(_) => return Err(ScriptFault::Write),
+        }
+    }
+    match writer.flush() {
+        Ok(()) => Ok(()),
+        Err(_) => Err(ScriptFault::Write),
+    }
+}
