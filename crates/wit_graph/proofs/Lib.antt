@@ -18,5 +18,6 @@ pub mod WorldLaws
 pub mod Marking
 pub mod OneWalk
 pub mod Order
+pub mod Refusing
 pub mod Roles
 pub mod Steps

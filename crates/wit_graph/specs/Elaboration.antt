@@ -4,10 +4,11 @@ use Rattle.std.specs.Option.{ForSome}
 use Rattle.wit_items.specs.Uses.{uses_of}
 use Rattle.wit_items.specs.declared.world.World.{World}
 use Rattle.wit_relations.specs.Relation.{IsAcyclic}
+use Rattle.wit_graph.specs.declared.entries.Lists.{Lists}
 use Rattle.wit_graph.specs.declared.error_kind.ResolveErrorKind.{ResolveErrorKind}
 use Rattle.wit_graph.specs.declared.error_kind.ResolveErrorKind.TheVariants.{InvalidTransitiveDependency, OutOfMemory}
 use Rattle.wit_graph.specs.declared.graph.Graph.{Graph}
-use Rattle.wit_graph.specs.Elaborated.{Elaborated}
+use Rattle.wit_graph.specs.Elaborated.{Elaborated, elaborated_imports, elaborated_exports}
 use Rattle.wit_graph.specs.Entries.{Entry}
 use Rattle.wit_graph.specs.IdText.{key_text}
 use Rattle.wit_graph.specs.Imported.{HasConflict, IsRefusedName}
@@ -30,6 +31,13 @@ abbrev pub ElaboratesWorld : Graph → ℕ → Graph → Type 0
 ElaboratesWorld old id new =
     (before : World) × (after : World) × (slice_get old.worlds id ≡ Some before) × Elaborated old.types (graph_uses old) before after
     × (new ≡ record old { worlds = slice_set old.worlds id after })
+
+-- the elaborated lists of the world at a place, which has no conflict
+abbrev pub AreElaborated : Graph → ℕ → Lists → Type 0
+AreElaborated g id lists =
+    (world : World) × (slice_get g.worlds id ≡ Some world) × (HasConflict (graph_uses g) world.exports → ⊥)
+    × (lists.imports ≡ elaborated_imports g.types (graph_uses g) world.imports world.exports)
+    × (lists.exports ≡ elaborated_exports g.types (graph_uses g) world.exports)
 
 -- the error of a world that is refused: it has a conflict, at the world's span, under the name of the first export that leads to it
 abbrev pub IsConflictError : Graph → World → ResolveErrorKind → Type 0

@@ -2,10 +2,10 @@
 //!
 //! A listed world says what it imports and exports; its elaboration adds what these need. Imports
 //! get what they use before them, exports too, and what exports need from outside is imported.
-ghost use Rattle.std.specs.Prelude.{◌≡◌, ◌<◌, IfOk, IfErr, OnOk, OnErr, length, slice_get, Some};
+ghost use Rattle.std.specs.Prelude.{◌≡◌, ◌<◌, IfOk, IfErr, OnOk, OnErr, length};
 ghost use Rattle.wit_graph.specs.Elaborated.{elaborated_exports, elaborated_imports};
-ghost use Rattle.wit_graph.specs.Elaborating.{HaveNodes, IsFirstConflict, TellsExported};
-ghost use Rattle.wit_graph.specs.Elaboration.{ElaboratesWorld, HasConflictAt, IsElaborationError, IsErrorAt, IsListedAt, graph_uses};
+ghost use Rattle.wit_graph.specs.Elaborating.{HaveNodes, TellsExported};
+ghost use Rattle.wit_graph.specs.Elaboration.{AreElaborated, ElaboratesWorld, HasConflictAt, IsElaborationError, IsErrorAt, IsListedAt, graph_uses};
 ghost use Rattle.wit_graph.specs.Imported.{HasConflict};
 ghost use Rattle.wit_graph.specs.Listed.{IsListed};
 ghost use Rattle.wit_graph.specs.declared.error_kind.ResolveErrorKind.TheVariants.{OutOfMemory};
@@ -22,6 +22,7 @@ use crate::imports::{import_listed, sorted_by_class};
 use crate::marks::Marks;
 use std::alloc::{AllocError, Global};
 use std::marker::Model;
+use std::mem;
 use wit_items::{Interface, TypeDef, World, WorldId, uses_of};
 use wit_values::{Items, Table, Text};
 
@@ -58,7 +59,8 @@ impl Elaborator {
         Ok(Elaborator { uses, marks })
     }
 
-    /// Elaborates a world of a graph that has these types and interfaces, as `Graph::elaborate` does.
+    /// Elaborates a world of a graph that has these types and interfaces, as the function of that name
+    /// does.
     pub fn elaborate(
         &mut self,
         alloc: Global,
@@ -75,17 +77,39 @@ impl Elaborator {
         ensures refuses { HasConflictAt graph.old world → OnOk result ⊥ }
         ensures same { self.new ≡ self.old }
     {
+        let lists = self.elaborated_lists(alloc, graph, world)?;
+        let current = graph.worlds.at_mut(world.index());
+        drop(mem::replace(&mut current.imports, lists.imports));
+        drop(mem::replace(&mut current.exports, lists.exports));
+        Ok(())
+    }
+
+    /// The elaborated lists of a world of a graph that has these types and interfaces, which stays as
+    /// it is.
+    pub fn elaborated_lists(
+        &mut self,
+        alloc: Global,
+        graph: &Graph,
+        world: WorldId,
+    ) -> ResolveResult<Lists>
+        requires uses { self.old ≡ graph_uses graph.now }
+        requires world { world < length graph.now.worlds }
+        requires acyclic { IsAcyclic (graph_uses graph.now) }
+        requires listed { IsListedAt graph.now world }
+        ensures ok { IfOk result (AreElaborated graph.now world) }
+        ensures cause { IfErr result (IsElaborationError graph.now world) }
+        ensures same { self.new ≡ self.old }
+    {
         let current = graph.worlds.at(world.index());
         let uses = self.uses.as_slice();
         let found = find_refused(alloc, uses, &current.exports, &mut self.marks)?;
-        if let Some(index) = found {
-            return Err(conflict_error(alloc, graph, current, index)?);
+        match found {
+            Some(index) => Err(conflict_error(alloc, graph, current, index)?),
+            None => {
+                let types = graph.types.as_slice();
+                Ok(lists_of(alloc, types, uses, &mut self.marks, current)?)
+            }
         }
-        let lists = elaborated_lists(alloc, graph.types.as_slice(), uses, &mut self.marks, current)?;
-        let current = graph.worlds.at_mut(world.index());
-        current.imports = lists.imports;
-        current.exports = lists.exports;
-        Ok(())
     }
 }
 
@@ -110,7 +134,7 @@ fn conflict_error(
 }
 
 /// The elaborated lists of a world without a conflict.
-fn elaborated_lists(
+fn lists_of(
     alloc: Global,
     types: &[TypeDef],
     uses: &[Items<usize>],
@@ -126,6 +150,8 @@ fn elaborated_lists(
     ensures exports { IfOk result (λ lists. lists.exports ≡ elaborated_exports types.now uses.now world.now.exports) }
     ensures nodes { HaveNodes marks.new (length uses.now) }
 {
+    // `len` tells that the keys of the exports differ.
+    let _count = world.exports.len();
     marks.walked.clear();
     let imports = import_listed(alloc, types, uses, &mut marks.walked, &world.imports)?;
     marks.walked.clear();
@@ -142,7 +168,8 @@ fn elaborated_lists(
         &mut lists,
         &world.exports,
     )?;
-    lists.imports = sorted_by_class(alloc, types, &lists.imports)?;
+    let imports = sorted_by_class(alloc, types, &lists.imports)?;
+    drop(mem::replace(&mut lists.imports, imports));
     Ok(lists)
 }
 
