@@ -30,11 +30,7 @@ pub fn is_elaborable(alloc: Global, graph: &Graph, world: WorldId) -> Result<boo
 }
 
 /// Whether the keys and ids of entries are in order.
-fn are_listed(
-    types: &[TypeDef],
-    interfaces: usize,
-    entries: &Table<WorldKey, WorldItem>,
-) -> bool
+fn are_listed(types: &[TypeDef], interfaces: usize, entries: &Table<WorldKey, WorldItem>) -> bool
     ensures { IsTrue result ↔ AreListed types.now interfaces entries.now }
 {
     for index in 0..entries.len() {
