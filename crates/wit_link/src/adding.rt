@@ -6,6 +6,7 @@ use crate::remap::Remap;
 use std::alloc::{AllocError, Global};
 use wit_graph::{
     Features, Graph, Package, ResolveError, ResolveErrorKind, ResolveResult, elaborate,
+    is_elaborable,
 };
 use wit_items::{
     Interface, InterfaceId, Items, Names, PackageId, Span, TryClone, TypeId, UnresolvedPackage,
@@ -69,9 +70,18 @@ fn add_package(
     add_worlds(alloc, graph, &image, package)?;
     add_tables(alloc, graph, &image, package)?;
     for world in first_world..graph.worlds.len() {
-        elaborate(alloc, graph, WorldId::from_index(world))?;
+        elaborate_listed(alloc, graph, WorldId::from_index(world))?;
     }
     Ok(id)
+}
+
+/// Elaborates a world whose keys and ids are in order, where no interface comes back to itself; any
+/// other stays as it is listed.
+fn elaborate_listed(alloc: Global, graph: &mut Graph, world: WorldId) -> ResolveResult<()> {
+    if is_elaborable(alloc, graph, world)? {
+        elaborate(alloc, graph, world)?;
+    }
+    Ok(())
 }
 
 /// The next ids of the graph, in the order of the package's lists.
