@@ -43,6 +43,7 @@ impl NameSet {
         self.inner.len()
     }
 
+    /// Whether a text is in the set.
     pub fn contains(&self, text: &str) -> bool
         ensures { result ≡ list_any (bytes_eq text.now) self.now }
     {
@@ -70,6 +71,8 @@ impl NameSet {
         Ok(())
     }
 
+    /// The allocator that the set was made with. Contracts say nothing of it, since the texts that
+    /// they see take no memory.
     pub fn allocator(&self) -> Global {
         *self.inner.allocator()
     }
