@@ -88,8 +88,8 @@ impl<T> Items<T> {
         Ok(())
     }
 
-    /// Makes room for `additional` more items. Contracts learn only that the list can count so many
-    /// more, since the list that they see takes no memory.
+    /// Makes room for `additional` more items. Contracts, which see no room, learn where it answers
+    /// Ok that the list can count so many more.
     pub fn reserve(&mut self, additional: usize) -> Result<(), AllocError>
         ensures room { OnOk result (length self.old + additional < 2 ^ 64) }
         ensures same { self.new ≡ self.old }
@@ -151,8 +151,7 @@ impl<T> Items<T> {
         self.inner.iter()
     }
 
-    /// The allocator that the list was made with. Contracts say nothing of it, since the list that
-    /// they see takes no memory.
+    /// The allocator that the list was made with, of which contracts say nothing.
     pub fn allocator(&self) -> Global {
         *self.inner.allocator()
     }

@@ -79,8 +79,7 @@ impl NameSet {
         Ok(())
     }
 
-    /// The allocator that the set was made with. Contracts say nothing of it, since the texts that
-    /// they see take no memory.
+    /// The allocator that the set was made with, of which contracts say nothing.
     pub fn allocator(&self) -> Global {
         *self.inner.allocator()
     }

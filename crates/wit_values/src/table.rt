@@ -107,8 +107,7 @@ impl<K: Eq + Hash, V> Table<K, V> {
         self.inner.iter()
     }
 
-    /// The allocator that the table was made with. Contracts say nothing of it, since the pairs that
-    /// they see take no memory.
+    /// The allocator that the table was made with, of which contracts say nothing.
     pub fn allocator(&self) -> Global {
         *self.inner.allocator()
     }
