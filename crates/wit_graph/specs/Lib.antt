@@ -1,4 +1,11 @@
+pub mod Elaborated
+pub mod Elaborating
+pub mod Elaboration
+pub mod ElaborationLaws
+pub mod Entries
 pub mod Error
 pub mod ErrorLoan
 pub mod ErrorText
 pub mod IdText
+pub mod Imported
+pub mod Listed

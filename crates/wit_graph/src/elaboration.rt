@@ -1,142 +1,201 @@
-//! Elaboration of worlds.
-ghost use Rattle.std.specs.Prelude.{◌<◌, All, IfOk};
+//! The elaboration of worlds.
+//!
+//! A listed world says what it imports and exports; its elaboration adds what these need. Imports
+//! get what they use before them, exports too, and what exports need from outside is imported.
+ghost use Rattle.std.specs.Prelude.{◌≡◌, ◌<◌, IfOk, IfErr, OnOk, OnErr, length};
+ghost use Rattle.wit_graph.specs.Elaborated.{elaborated_exports, elaborated_imports};
+ghost use Rattle.wit_graph.specs.Elaborating.{HaveNodes, TellsExported};
+ghost use Rattle.wit_graph.specs.Elaboration.{AreElaborated, ElaboratesWorld, HasConflictAt, IsElaborationError, IsErrorAt, IsListedAt, graph_uses};
+ghost use Rattle.wit_graph.specs.Imported.{HasConflict};
+ghost use Rattle.wit_graph.specs.Listed.{IsListed};
+ghost use Rattle.wit_graph.specs.declared.error_kind.ResolveErrorKind.TheVariants.{OutOfMemory};
+ghost use Rattle.wit_items.specs.Uses.{uses_of};
 ghost use Rattle.wit_relations.specs.Relation.{IsAcyclic};
 
-use crate::error::ResolveResult;
+use crate::conflict::find_refused;
+use crate::entries::Lists;
+use crate::error::{ResolveError, ResolveResult};
+use crate::error_kind::ResolveErrorKind;
+use crate::exports::{add_functions, export_listed};
 use crate::graph::Graph;
+use crate::imports::{import_listed, sorted_by_class};
+use crate::marks::Marks;
 use std::alloc::{AllocError, Global};
-use wit_items::{
-    Docs, InterfaceId, Items, Span, Stability, Table, TryClone, World, WorldId, WorldItem,
-    WorldKey, uses_of,
-};
-use wit_relations::{is_acyclic, walk_order};
-use wit_values::{try_clone_four, try_clone_two};
+use std::marker::Model;
+use std::mem;
+use wit_items::{Interface, TypeDef, World, WorldId, uses_of};
+use wit_values::{Items, Table, Text};
 
-/// Adds to the imports of a world, before each interface, the interfaces that it uses.
-///
-/// So far it does so for worlds that import interfaces without gates under their own keys.
-pub fn elaborate(alloc: Global, graph: &mut Graph, world: WorldId) -> ResolveResult<()> {
-    if world.index() >= graph.worlds.len() {
-        return Ok(());
-    }
-    let uses = uses_of(alloc, graph.types.as_slice(), graph.interfaces.as_slice())?;
-    if is_acyclic(alloc, uses.as_slice())? {
-        let listed = graph.worlds.at(world.index());
-        let elaborated = elaborated_world(alloc, uses.as_slice(), listed)?;
-        graph.worlds.set(world.index(), elaborated);
-    }
-    Ok(())
+/// What the elaboration of several worlds of one graph shares: which interfaces use which, and marks
+/// for them. A world then costs what it reaches.
+#[derive(Drop)]
+pub struct Elaborator {
+    uses: Items<Items<usize>>,
+    marks: Marks,
 }
 
-/// The world with its interface imports, and all that they use, first.
-fn elaborated_world(
-    alloc: Global,
-    uses: &[Items<usize>],
-    world: &World,
-) -> Result<World, AllocError>
-    requires { IsAcyclic uses.now }
-{
-    let roots = imported_interfaces(alloc, &world.imports, uses.len())?;
-    let order = walk_order(alloc, uses, roots.as_slice())?;
-    let mut imports = interface_imports(alloc, &world.imports, order.as_slice())?;
-    add_others(&mut imports, &world.imports)?;
-    let (name, exports, docs, stability) = try_clone_four(
-        &world.name,
-        &world.exports,
-        &world.docs,
-        &world.stability,
-    )?;
-    let includes = world.includes.try_clone()?;
-    Ok(World {
-        name,
-        imports,
-        exports,
-        docs,
-        stability,
-        package: world.package,
-        includes,
-        span: world.span,
-    })
+impl Model for Elaborator {
+    ghost use Rattle.std.specs.Prelude.{ℕ, List, length};
+    ghost use Rattle.wit_graph.specs.Elaborating.{HaveNodes};
+
+    ghost Value = { List (List ℕ) };
+
+    ghost view = { λ a. a.uses };
+
+    ghost invariant = { λ a. HaveNodes a.marks (length a.uses) };
 }
 
-/// The interfaces that are imported under their own keys.
-fn imported_interfaces(
-    alloc: Global,
-    imports: &Table<WorldKey, WorldItem>,
-    bound: usize,
-) -> Result<Items<usize>, AllocError>
-    ensures { IfOk result (λ found. All (λ i. i < bound) found) }
-{
-    let mut found = Items::new(alloc);
-    for index in 0..imports.len() {
-        let (key, _) = imports.entry_at(index);
-        if let WorldKey::Interface(id) = key {
-            if id.index() < bound {
-                found.push(id.index())?;
+impl Elaborator {
+    /// For worlds over these types and interfaces. It goes over all their types once.
+    pub fn new(
+        alloc: Global,
+        types: &[TypeDef],
+        interfaces: &[Interface],
+    ) -> Result<Elaborator, AllocError>
+        ensures { IfOk result (λ elaborator. elaborator ≡ uses_of types.now interfaces.now) }
+    {
+        let uses = uses_of(alloc, types, interfaces)?;
+        let marks = Marks::new(alloc, uses.len())?;
+        Ok(Elaborator { uses, marks })
+    }
+
+    /// Elaborates a world of a graph that has these types and interfaces, as the function of that name
+    /// does.
+    pub fn elaborate(
+        &mut self,
+        alloc: Global,
+        graph: &mut Graph,
+        world: WorldId,
+    ) -> ResolveResult<()>
+        requires uses { self.old ≡ graph_uses graph.old }
+        requires world { world < length graph.old.worlds }
+        requires acyclic { IsAcyclic (graph_uses graph.old) }
+        requires listed { IsListedAt graph.old world }
+        ensures ok { OnOk result (ElaboratesWorld graph.old world graph.new) }
+        ensures err { OnErr result (graph.new ≡ graph.old) }
+        ensures cause { IfErr result (IsElaborationError graph.old world) }
+        ensures refuses { HasConflictAt graph.old world → OnOk result ⊥ }
+        ensures same { self.new ≡ self.old }
+    {
+        let lists = self.elaborated_lists(alloc, graph, world)?;
+        let current = graph.worlds.at_mut(world.index());
+        drop(mem::replace(&mut current.imports, lists.imports));
+        drop(mem::replace(&mut current.exports, lists.exports));
+        Ok(())
+    }
+
+    /// The elaborated lists of a world of a graph that has these types and interfaces, which stays as
+    /// it is.
+    pub fn elaborated_lists(
+        &mut self,
+        alloc: Global,
+        graph: &Graph,
+        world: WorldId,
+    ) -> ResolveResult<Lists>
+        requires uses { self.old ≡ graph_uses graph.now }
+        requires world { world < length graph.now.worlds }
+        requires acyclic { IsAcyclic (graph_uses graph.now) }
+        requires listed { IsListedAt graph.now world }
+        ensures ok { IfOk result (AreElaborated graph.now world) }
+        ensures cause { IfErr result (IsElaborationError graph.now world) }
+        ensures same { self.new ≡ self.old }
+    {
+        let current = graph.worlds.at(world.index());
+        let uses = self.uses.as_slice();
+        let found = find_refused(alloc, uses, &current.exports, &mut self.marks)?;
+        match found {
+            Some(index) => Err(conflict_error(alloc, graph, current, index)?),
+            None => {
+                let types = graph.types.as_slice();
+                Ok(lists_of(alloc, types, uses, &mut self.marks, current)?)
             }
         }
     }
-    Ok(found)
 }
 
-/// An entry for each interface: the listed one without its span, or one of no stability.
-fn interface_imports(
+/// The error of a world that is refused for one of its exports.
+fn conflict_error(
     alloc: Global,
-    imports: &Table<WorldKey, WorldItem>,
-    order: &[usize],
-) -> Result<Table<WorldKey, WorldItem>, AllocError> {
-    let mut entries = Table::new(alloc);
-    for interface in order {
-        let key = WorldKey::Interface(InterfaceId::from_index(*interface));
-        let item = interface_import(imports.get(&key), InterfaceId::from_index(*interface))?;
-        if !entries.contains_key(&key) {
-            entries.push(key, item)?;
-        }
+    graph: &Graph,
+    world: &World,
+    index: usize,
+) -> ResolveResult<ResolveError>
+    requires { index < length world.now.exports }
+    ensures error { IfOk result (λ e. IsErrorAt graph.now world.now index e) }
+    ensures err { IfErr result (λ e. e ≡ OutOfMemory) }
+{
+    let (key, _) = world.exports.entry_at(index);
+    let name = graph.name_world_key(alloc, key)?;
+    Ok(ResolveErrorKind::InvalidTransitiveDependency {
+        span: world.span,
+        name: Text::from_string(name),
     }
-    Ok(entries)
+    .into())
 }
 
-/// The entry of an interface import: that of the listed one, without its span.
-fn interface_import(listed: Option<&WorldItem>, id: InterfaceId) -> Result<WorldItem, AllocError> {
-    match listed {
-        Some(
-            WorldItem::Interface {
-                stability,
-                docs,
-                external_id,
-                ..
-            },
-        ) => {
-            let (stability, docs) = try_clone_two(stability, docs)?;
-            let external_id = external_id.try_clone()?;
-            Ok(WorldItem::Interface {
-                id,
-                stability,
-                docs,
-                span: Span::unknown(),
-                external_id,
-            })
-        }
-        _ => Ok(WorldItem::Interface {
-            id,
-            stability: Stability::Unknown,
-            docs: Docs::none(),
-            span: Span::unknown(),
-            external_id: None,
-        }),
-    }
+/// The elaborated lists of a world without a conflict.
+fn lists_of(
+    alloc: Global,
+    types: &[TypeDef],
+    uses: &[Items<usize>],
+    marks: &mut Marks,
+    world: &World,
+) -> Result<Lists, AllocError>
+    requires acyclic { IsAcyclic uses.now }
+    requires listed { IsListed types.now (length uses.now) world.now.imports world.now.exports }
+    requires no_conflict { HasConflict uses.now world.now.exports → ⊥ }
+    requires nodes { HaveNodes marks.old (length uses.now) }
+    requires exported { TellsExported marks.old.exported.order world.now.exports }
+    ensures imports { IfOk result (λ lists. lists.imports ≡ elaborated_imports types.now uses.now world.now.imports world.now.exports) }
+    ensures exports { IfOk result (λ lists. lists.exports ≡ elaborated_exports types.now uses.now world.now.exports) }
+    ensures nodes { HaveNodes marks.new (length uses.now) }
+{
+    // `len` tells that the keys of the exports differ.
+    let _count = world.exports.len();
+    marks.walked.clear();
+    let imports = import_listed(alloc, types, uses, &mut marks.walked, &world.imports)?;
+    marks.walked.clear();
+    let mut lists = Lists {
+        imports,
+        exports: Table::new(alloc),
+    };
+    add_functions(&mut lists.exports, &world.exports)?;
+    export_listed(
+        alloc,
+        uses,
+        &marks.exported,
+        &mut marks.walked,
+        &mut lists,
+        &world.exports,
+    )?;
+    let imports = sorted_by_class(alloc, types, &lists.imports)?;
+    drop(mem::replace(&mut lists.imports, imports));
+    Ok(lists)
 }
 
-/// Adds the listed entries that aren't there yet.
-fn add_others(
-    entries: &mut Table<WorldKey, WorldItem>,
-    imports: &Table<WorldKey, WorldItem>,
-) -> Result<(), AllocError> {
-    for index in 0..imports.len() {
-        let (key, item) = imports.entry_at(index);
-        if !entries.contains_key(key) {
-            entries.push(key.try_clone()?, item.try_clone()?)?;
-        }
-    }
-    Ok(())
+/// Elaborates a world of a graph: its imports become the listed ones with all that they, the type
+/// uses and the exports need, sorted by class, each after what it uses; its exports the functions and
+/// then the interfaces, each after the exported ones that it uses.
+///
+/// It is refused, with the kind `InvalidTransitiveDependency`, where an exported interface uses one
+/// that is not exported under its own key and that reaches one which is. The name is the key of the
+/// first listed interface that leads to such a use, the span the world's. After a refusal the graph
+/// is as before.
+///
+/// Source: `elaborate_world` of wit-parser 0.263.0.
+pub fn elaborate(alloc: Global, graph: &mut Graph, world: WorldId) -> ResolveResult<()>
+    requires world { world < length graph.old.worlds }
+    requires acyclic { IsAcyclic (graph_uses graph.old) }
+    requires listed { IsListedAt graph.old world }
+    ensures ok { OnOk result (ElaboratesWorld graph.old world graph.new) }
+    ensures err { OnErr result (graph.new ≡ graph.old) }
+    ensures cause { IfErr result (IsElaborationError graph.old world) }
+    ensures refuses { HasConflictAt graph.old world → OnOk result ⊥ }
+{
+    let mut elaborator = Elaborator::new(
+        alloc,
+        graph.types.as_slice(),
+        graph.interfaces.as_slice(),
+    )?;
+    elaborator.elaborate(alloc, graph, world)
 }

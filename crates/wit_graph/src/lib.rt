@@ -2,15 +2,22 @@
 #![tactic(auto)]
 
 pub mod cause;
+mod conflict;
 pub mod elaboration;
+pub mod entries;
 pub mod error;
 pub mod error_kind;
+mod exports;
 pub mod features;
 pub mod graph;
+mod imports;
+pub mod laws;
+mod marks;
 pub mod questions;
+pub mod role;
 
 pub use crate::cause::Cause;
-pub use crate::elaboration::elaborate;
+pub use crate::elaboration::{Elaborator, elaborate};
 pub use crate::error::{ResolveError, ResolveResult};
 pub use crate::error_kind::ResolveErrorKind;
 pub use crate::features::Features;

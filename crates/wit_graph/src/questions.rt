@@ -1,7 +1,8 @@
 //! What is asked of a graph.
-ghost use Rattle.std.specs.Prelude.{◌≡◌, IfOk, Some, string_bytes};
+ghost use Rattle.std.specs.Prelude.{◌≡◌, IfOk, IfErr, Some, string_bytes};
 ghost use Rattle.wit_items.specs.PackageName.{version_suffix};
 ghost use Rattle.std.specs.Option.{option_map};
+ghost use Rattle.wit_graph.specs.declared.error_kind.ResolveErrorKind.TheVariants.{OutOfMemory};
 ghost use Rattle.wit_graph.specs.IdText.{id_text, id_text_in, interface_id_at, key_text};
 
 use crate::error::ResolveResult;
@@ -14,7 +15,8 @@ impl Graph {
     /// The id text of an interface or a world of this name in a package: `namespace:package/name`,
     /// and `@version` where the package has one. Empty where the package isn't there.
     pub fn id_of_name(&self, alloc: Global, package: PackageId, name: &str) -> ResolveResult<String>
-        ensures { IfOk result (λ text. string_bytes text ≡ id_text self.now.packages «package» name.now) }
+        ensures text { IfOk result (λ text. string_bytes text ≡ id_text self.now.packages «package» name.now) }
+        ensures err { IfErr result (λ e. e ≡ OutOfMemory) }
     {
         match self.packages.get(package.index()) {
             Some(package) => Ok(id_in(alloc, &package.name, name)?),
@@ -24,7 +26,8 @@ impl Graph {
 
     /// The id text of an interface, None where it has no name or no package, or isn't there.
     pub fn id_of(&self, alloc: Global, id: InterfaceId) -> ResolveResult<Option<String>>
-        ensures { IfOk result (λ text. option_map string_bytes text ≡ interface_id_at self.now.packages self.now.interfaces id) }
+        ensures text { IfOk result (λ text. option_map string_bytes text ≡ interface_id_at self.now.packages self.now.interfaces id) }
+        ensures err { IfErr result (λ e. e ≡ OutOfMemory) }
     {
         let Some(interface) = self.interfaces.get(id.index()) else {
             return Ok(None);
@@ -41,7 +44,8 @@ impl Graph {
     /// What names a key of a world: a label as it stands, an interface by its id text, which is empty
     /// where the interface has none.
     pub fn name_world_key(&self, alloc: Global, key: &WorldKey) -> ResolveResult<String>
-        ensures { IfOk result (λ text. string_bytes text ≡ key_text self.now.packages self.now.interfaces key.now) }
+        ensures text { IfOk result (λ text. string_bytes text ≡ key_text self.now.packages self.now.interfaces key.now) }
+        ensures err { IfErr result (λ e. e ≡ OutOfMemory) }
     {
         match key {
             WorldKey::Name(label) => Ok(String::from_str(alloc, label.as_str())?),

@@ -1,0 +1,121 @@
+-- One step of the exports.
+use Rattle.std.proofs.Common.{◌≡◌, ℕ, ◌+◌, ◌<◌, Bool, true, false, cond, not, inl, inr, List, [], ◌∷◌, ◌++◌, map, filter, take, drop, length, Some, slice_get, refl, sym, ap, ◌∙◌, subst, Contains}
+use Rattle.std.specs.List.{flat_map}
+use Rattle.std.specs.Map.{keys_of}
+use Rattle.std.proofs.lemmas.Bool.{cases_Bool, false≢true}
+use Rattle.std.proofs.lemmas.List.{append-nil, drop_at}
+use Rattle.std.proofs.lemmas.List.Concat.{flat_map-append}
+use Rattle.std.proofs.lemmas.List.Elements.{Contains-append_cases, filter-append}
+use Rattle.wit_values.specs.Lists.{take-next_at}
+use Rattle.wit_items.specs.declared.world.WorldItem.{WorldItem}
+use Rattle.wit_items.specs.declared.world.WorldItem.TheVariants as item
+use Rattle.wit_items.specs.declared.world.WorldKey.TheVariants.{Interface}
+use Rattle.wit_relations.proofs.Fresh.{fresh_in}
+use Rattle.wit_relations.specs.Walks.{Listed, fresh}
+use Rattle.wit_graph.specs.declared.entries.Lists.{Lists}
+use Rattle.wit_graph.specs.Elaborated.{Carried, dependency_of, export_carries, needs}
+use Rattle.wit_graph.specs.Elaborating.{IsWalk, IsExporting, walked_exports, walked_imports}
+use Rattle.wit_graph.specs.Entries.{Entry, Instance, instance_of, is_instance, is_interface, fresh_entries}
+use Rattle.wit_graph.proofs.ExportSteps.{flat_map-next}
+use Rattle.wit_graph.proofs.Filters.{Contains-filtered, filter-pass, filter-fail}
+use Rattle.wit_graph.proofs.FreshEntries.{fresh_entries-next, fresh_entries-filter, dependency_added, key_stays}
+
+-- those of a walk that pass a test, as entries
+pub filtered_entries : (p : ℕ → Bool) (s : Carried) (walked before after slice : List ℕ) (old added : List Entry) → after ≡ before ++ fresh before walked → slice ≡ drop (length before) after →
+    ((i : ℕ) → Contains before i → p i ≡ true → Contains (keys_of old) (Interface i)) → added ≡ old ++ fresh_entries (keys_of old) (map (dependency_of s) (filter p slice)) →
+    added ≡ old ++ fresh_entries (keys_of old) (map (dependency_of s) (filter p walked))
+filtered_entries p s walked before after slice old added after_is slice_is covers added_is =
+    let new : slice ≡ fresh before walked = slice_is ∙ ap (λ (xs : List ℕ). drop (length before) xs) after_is ∙ drop_at before (fresh before walked) (length before) refl in
+    added_is ∙ rw (new, fresh_entries-filter p s walked before (keys_of old) covers) refl
+
+-- what was walked before, or now, is among the entries where it passes
+pub filtered_there : (p : ℕ → Bool) (s : Carried) (walked before after : List ℕ) (old added : List Entry) → after ≡ before ++ fresh before walked →
+    ((i : ℕ) → Contains before i → p i ≡ true → Contains (keys_of old) (Interface i)) → added ≡ old ++ fresh_entries (keys_of old) (map (dependency_of s) (filter p walked)) →
+    (i : ℕ) → Contains after i → p i ≡ true → Contains (keys_of added) (Interface i)
+filtered_there p s walked before after old added after_is covers added_is i has pass =
+    rw added_is (elim (Contains-append_cases before (fresh before walked) i (subst (λ xs. Contains xs i) after_is has)) [
+      | inl earlier ↦ key_stays old _ (Interface i) (covers i earlier pass)
+      | inr new ↦ dependency_added s (filter p walked) old i (Contains-filtered p walked i (fresh_in before walked i new) pass)
+    ])
+
+not_of : (b : Bool) → b ≡ false → not b ≡ true
+not_of b is = ap not is
+
+of_not : (b : Bool) → not b ≡ true → b ≡ false
+of_not true is = absurd (false≢true is)
+of_not false is = refl
+
+-- an exported interface with what it needs
+module _ (uses : List (List ℕ)) (exported : ℕ → Bool) (e : Entry) (s : Carried) (needed : List ℕ) (before after : Listed) (slice : List ℕ) (imports added_imports exports added_exports : List Entry)
+    (state : IsExporting uses exported before imports exports)
+    (after_is : after.order ≡ before.order ++ fresh before.order needed)
+    (slice_is : slice ≡ drop (length before.order) after.order)
+    (imports_are : added_imports ≡ imports ++ fresh_entries (keys_of imports) (map (dependency_of s) (filter (λ i. not (exported i)) slice)))
+    (exports_are : added_exports ≡ exports ++ fresh_entries (keys_of exports) (map (dependency_of s) (filter exported slice))) where
+  pub imports_added : added_imports ≡ imports ++ fresh_entries (keys_of imports) (map (dependency_of s) (filter (λ i. not (exported i)) needed))
+  imports_added = filtered_entries (λ i. not (exported i)) s needed before.order after.order slice imports added_imports after_is slice_is (λ i has pass. state.are_imported i has (of_not (exported i) pass)) imports_are
+
+  exports_added : added_exports ≡ exports ++ fresh_entries (keys_of exports) (map (dependency_of s) (filter exported needed))
+  exports_added = filtered_entries exported s needed before.order after.order slice exports added_exports after_is slice_is state.are_exported exports_are
+
+  pub entry_exported_after : (done : List Entry) → done ≡ added_exports ++ fresh_entries (keys_of added_exports) (e ∷ []) → done ≡ exports ++ fresh_entries (keys_of exports) (map (dependency_of s) (filter exported needed) ++ e ∷ [])
+  entry_exported_after done done_is = fresh_entries-next exports added_exports done (map (dependency_of s) (filter exported needed)) (e ∷ []) exports_added done_is
+
+  pub exporting_entry : (done : List Entry) → done ≡ added_exports ++ fresh_entries (keys_of added_exports) (e ∷ []) → IsWalk uses after → IsExporting uses exported after added_imports done
+  exporting_entry done done_is is_walk = record {
+    walk = is_walk;
+    are_exported = λ i has pass. rw done_is (key_stays added_exports _ (Interface i) (filtered_there exported s needed before.order after.order exports added_exports after_is state.are_exported exports_added i has pass));
+    are_imported = λ i has off.
+        filtered_there (λ j. not (exported j)) s needed before.order after.order imports added_imports after_is (λ j earlier pass. state.are_imported j earlier (of_not (exported j) pass)) imports_added i has (not_of (exported i) off);
+  }
+
+-- ---- one more entry of a list
+
+pub instance_is : (x : WorldItem) (i : ℕ) → i ∷ [] ≡ instance_of x → is_instance x ≡ true
+instance_is (item.Interface j stability docs span external_id) i gives = refl
+instance_is (item.Function function) i gives = cc
+instance_is (item.Type_ id span) i gives = cc
+
+pub no_instance_is : (x : WorldItem) → [] ≡ instance_of x → is_instance x ≡ false
+no_instance_is (item.Interface j stability docs span external_id) gives = cc
+no_instance_is (item.Function function) gives = refl
+no_instance_is (item.Type_ id span) gives = refl
+
+pub filter-next : (p : Entry → Bool) (es : List Entry) (at : ℕ) (e : Entry) → slice_get es at ≡ Some e → p e ≡ true → filter p (take (at + 1) es) ≡ filter p (take at es) ++ e ∷ []
+filter-next p es at e is pass = rw (take-next_at es at e is, filter-append p (take at es) (e ∷ []), filter-pass p e [] pass) refl
+
+pub filter-skip : (p : Entry → Bool) (es : List Entry) (at : ℕ) (e : Entry) → slice_get es at ≡ Some e → p e ≡ false → filter p (take (at + 1) es) ≡ filter p (take at es)
+filter-skip p es at e is fails = rw (take-next_at es at e is, filter-append p (take at es) (e ∷ []), filter-fail p e [] fails, append-nil) refl
+
+module _ (uses : List (List ℕ)) (exported : ℕ → Bool) (es : List Entry) (at : ℕ) (e : Entry) (is : slice_get es at ≡ Some e) where
+  needed_is : (i : ℕ) → i ∷ [] ≡ instance_of e.1 → flat_map (λ j. needs uses (Instance j)) (instance_of e.1) ≡ needs uses (Instance i)
+  needed_is i gives = rw (← gives, append-nil (needs uses (Instance i))) refl
+
+  pub exports_more : (i : ℕ) (old now new : List Entry) → i ∷ [] ≡ instance_of e.1 → now ≡ old ++ fresh_entries (keys_of old) (flat_map (walked_exports uses exported) (filter is_interface (take at es))) →
+      new ≡ now ++ fresh_entries (keys_of now) (map (dependency_of (export_carries e.1)) (filter exported (needs uses (Instance i))) ++ e ∷ []) →
+      new ≡ old ++ fresh_entries (keys_of old) (flat_map (walked_exports uses exported) (filter is_interface (take (at + 1) es)))
+  exports_more i old now new gives first then =
+      rw (filter-next is_interface es at e is (instance_is e.1 i gives), flat_map-append (walked_exports uses exported) (filter is_interface (take at es)) (e ∷ []), append-nil (walked_exports uses exported e))
+      (fresh_entries-next old now new (flat_map (walked_exports uses exported) (filter is_interface (take at es))) (walked_exports uses exported e) first
+      (then ∙ ap (λ (xs : List ℕ). now ++ fresh_entries (keys_of now) (map (dependency_of (export_carries e.1)) (filter exported xs) ++ e ∷ [])) (sym (needed_is i gives))))
+
+  pub imports_more : (i : ℕ) (old now new : List Entry) → i ∷ [] ≡ instance_of e.1 → now ≡ old ++ fresh_entries (keys_of old) (flat_map (walked_imports uses exported) (take at es)) →
+      new ≡ now ++ fresh_entries (keys_of now) (map (dependency_of (export_carries e.1)) (filter (λ j. not (exported j)) (needs uses (Instance i)))) →
+      new ≡ old ++ fresh_entries (keys_of old) (flat_map (walked_imports uses exported) (take (at + 1) es))
+  imports_more i old now new gives first then =
+      rw (flat_map-next (walked_imports uses exported) es at e is)
+      (fresh_entries-next old now new (flat_map (walked_imports uses exported) (take at es)) (walked_imports uses exported e) first
+      (then ∙ ap (λ (xs : List ℕ). now ++ fresh_entries (keys_of now) (map (dependency_of (export_carries e.1)) (filter (λ j. not (exported j)) xs))) (sym (needed_is i gives))))
+
+  pub exports_skip : [] ≡ instance_of e.1 → flat_map (walked_exports uses exported) (filter is_interface (take (at + 1) es)) ≡ flat_map (walked_exports uses exported) (filter is_interface (take at es))
+  exports_skip gives = ap (λ (xs : List Entry). flat_map (walked_exports uses exported) xs) (filter-skip is_interface es at e is (no_instance_is e.1 gives))
+
+  pub imports_skip : [] ≡ instance_of e.1 → flat_map (walked_imports uses exported) (take (at + 1) es) ≡ flat_map (walked_imports uses exported) (take at es)
+  imports_skip gives =
+      flat_map-next (walked_imports uses exported) es at e is
+      ∙ ap (λ (xs : List ℕ). flat_map (walked_imports uses exported) (take at es) ++ map (dependency_of (export_carries e.1)) (filter (λ j. not (exported j)) (flat_map (λ j. needs uses (Instance j)) xs))) (sym gives)
+      ∙ append-nil (flat_map (walked_imports uses exported) (take at es))
+
+pub exporting_same : (uses : List (List ℕ)) (exported : ℕ → Bool) (walked walked' : Listed) (lists lists' : Lists) → walked' ≡ walked → lists' ≡ lists → IsExporting uses exported walked lists.imports lists.exports → IsExporting uses exported walked' lists'.imports lists'.exports
+exporting_same uses exported walked walked' lists lists' walked_is lists_are is =
+    subst (λ w. IsExporting uses exported w lists'.imports lists'.exports) (sym walked_is) (subst (λ (l : Lists). IsExporting uses exported walked l.imports l.exports) (sym lists_are) is)

@@ -1,0 +1,92 @@
+-- The entries of a world: their keys, what they are to its elaboration, and their order by class.
+use Rattle.std.specs.Prelude.{ℕ, ◌≡◌, Bool, true, false, List, [], ◌∷◌, ◌++◌, Option, Some, None, filter, nat_eq, if◌then◌else◌}
+use Rattle.std.specs.Str.{bytes_eq}
+use Rattle.std.specs.List.{flat_map, list_any}
+use Rattle.wit_items.specs.Function.{resource_of}
+use Rattle.wit_items.specs.Uses.{type_interface_dep}
+use Rattle.wit_items.specs.declared.types.TypeDef.{TypeDef}
+use Rattle.wit_items.specs.declared.world.WorldItem.{WorldItem}
+use Rattle.wit_items.specs.declared.world.WorldItem.TheVariants as item
+use Rattle.wit_items.specs.declared.world.WorldKey.{WorldKey}
+use Rattle.wit_items.specs.declared.world.WorldKey.TheVariants.{Name, Interface}
+pub use Rattle.wit_graph.specs.declared.role.Role.{Role}
+pub use Rattle.wit_graph.specs.declared.role.Role.TheVariants.{Instance, TypeUse, TypeDefinition, FreeFunction, ResourceFunction}
+
+-- an import or an export: a key, and what stands under it
+abbrev pub Entry : Type 0
+Entry = WorldKey × WorldItem
+
+-- ---- keys
+
+-- two keys are the same label, or name the same interface
+abbrev pub same_key : WorldKey → WorldKey → Bool
+same_key (Name a) (Name b) = bytes_eq a b
+same_key (Interface i) (Interface j) = nat_eq i j
+same_key (Name a) (Interface j) = false
+same_key (Interface i) (Name b) = false
+
+-- the interface that a key names: none where it is a label
+abbrev pub id_of : WorldKey → List ℕ
+id_of (Name label) = []
+id_of (Interface i) = i ∷ []
+
+-- the interfaces that stand in a list under their own keys
+abbrev pub ids_of : List Entry → List ℕ
+ids_of entries = flat_map (λ (e : Entry). id_of e.0) entries
+
+-- the entries whose keys are not among those seen, of each key the first
+abbrev pub fresh_entries : List WorldKey → List Entry → List Entry
+fresh_entries seen [] = []
+fresh_entries seen (e ∷ es) = if list_any (same_key e.0) seen then fresh_entries seen es else e ∷ fresh_entries (seen ++ e.0 ∷ []) es
+
+-- ---- items
+
+-- the interface that an item is: none where it is a function or a type
+abbrev pub instance_of : WorldItem → List ℕ
+instance_of (item.Interface i stability docs span external_id) = i ∷ []
+instance_of (item.Function function) = []
+instance_of (item.Type_ id span) = []
+
+-- is the item an interface?
+abbrev pub is_instance : WorldItem → Bool
+is_instance (item.Interface i stability docs span external_id) = true
+is_instance (item.Function function) = false
+is_instance (item.Type_ id span) = false
+
+-- is the entry an interface, under a label or under its own key?
+abbrev pub is_interface : Entry → Bool
+is_interface e = is_instance e.1
+
+-- what a type is to elaboration: another name of a type that an interface owns, or a type that the world defines
+abbrev pub type_role : Option ℕ → Role
+type_role (Some i) = TypeUse i
+type_role None = TypeDefinition
+
+-- what a function is, of a resource or of none
+abbrev pub function_role : Option ℕ → Role
+function_role (Some resource) = ResourceFunction
+function_role None = FreeFunction
+
+-- what an item is to elaboration
+abbrev pub role_of : List TypeDef → WorldItem → Role
+role_of types (item.Interface i stability docs span external_id) = Instance i
+role_of types (item.Function function) = function_role (resource_of function.kind)
+role_of types (item.Type_ id span) = type_role (type_interface_dep types id)
+
+-- ---- classes: interfaces, type uses, type definitions, free functions, functions of resources
+-- Source: the order in which `elaborate_world` of wit-parser 0.263.0 sorts imports.
+
+abbrev pub class_of : Role → ℕ
+class_of (Instance i) = 0
+class_of (TypeUse i) = 1
+class_of TypeDefinition = 2
+class_of FreeFunction = 3
+class_of ResourceFunction = 4
+
+-- the entries of one class, in their order
+abbrev pub of_class : List TypeDef → ℕ → List Entry → List Entry
+of_class types class entries = filter (λ (e : Entry). nat_eq (class_of (role_of types e.1)) class) entries
+
+-- the entries sorted by class, those of one class in their order
+abbrev pub by_class : List TypeDef → List Entry → List Entry
+by_class types entries = flat_map (λ class. of_class types class entries) (0 ∷ 1 ∷ 2 ∷ 3 ∷ 4 ∷ [])

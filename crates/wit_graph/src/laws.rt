@@ -1,0 +1,24 @@
+//! Laws of elaboration: each function has no body, and its contract is what is proved.
+ghost use Rattle.wit_graph.specs.ElaborationLaws.{ElaboratesOnce, ImportsAreExact, ImportsKeepOrder, OrderIsFree};
+
+/// Elaborating an elaborated world changes nothing.
+pub fn elaborates_once()
+    ensures { ElaboratesOnce }
+{}
+
+/// The interfaces that an elaborated world imports under their own keys are exactly those that paths
+/// along uses define: what is reached from the listed imports and type uses, and what the exports
+/// need from outside.
+pub fn imports_are_exact()
+    ensures { ImportsAreExact }
+{}
+
+/// Each direct use of an imported interface, labelled or not, stands before it among the imports.
+pub fn imports_keep_order()
+    ensures { ImportsKeepOrder }
+{}
+
+/// Neither a conflict nor what is imported depends on the order of the listed entries.
+pub fn order_is_free()
+    ensures { OrderIsFree }
+{}

@@ -1,0 +1,37 @@
+//! Marks of interfaces, for the elaboration of one world after another.
+ghost use Rattle.std.specs.Prelude.{IfOk};
+ghost use Rattle.wit_graph.specs.Elaborating.{HaveNodes};
+
+use std::alloc::{AllocError, Global};
+use wit_relations::Listing;
+
+/// Which interfaces of a graph are marked for what. Each set is taken off at a step for each of its
+/// members, so that a world costs what it reaches, and not a step for each interface of the graph.
+#[derive(Drop)]
+pub(crate) struct Marks {
+    /// What was walked, each after its uses.
+    pub(crate) walked: Listing,
+    /// The exported keys.
+    pub(crate) exported: Listing,
+    /// What reaches an exported key.
+    pub(crate) reaching: Listing,
+    /// What reaches an exported key and is none.
+    pub(crate) outside: Listing,
+    /// What reaches one of these.
+    pub(crate) leading: Listing,
+}
+
+impl Marks {
+    /// No marks, for so many interfaces.
+    pub(crate) fn new(alloc: Global, interfaces: usize) -> Result<Marks, AllocError>
+        ensures { IfOk result (λ marks. HaveNodes marks interfaces) }
+    {
+        Ok(Marks {
+            walked: Listing::new(alloc, interfaces)?,
+            exported: Listing::new(alloc, interfaces)?,
+            reaching: Listing::new(alloc, interfaces)?,
+            outside: Listing::new(alloc, interfaces)?,
+            leading: Listing::new(alloc, interfaces)?,
+        })
+    }
+}
