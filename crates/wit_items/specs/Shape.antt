@@ -37,16 +37,21 @@ world_names foreign worlds = map (λ (world : World). world.name) (drop foreign 
 pub record HasForeign (p : UnresolvedPackage) : Type 0 where
   -- one span for each package
   pub spans : length p.foreign_dep_spans ≡ length p.foreign_deps
-  -- the interfaces and the worlds that are named are the first ones of their lists
-  pub first_interfaces : AreFirst (foreign_interfaces p.foreign_deps) (length p.interfaces)
-  pub first_worlds : AreFirst (foreign_worlds p.foreign_deps) (length p.worlds)
+  -- the interfaces and the worlds that are named are the first ones of their lists, each once
+  pub interfaces : AreFirst (foreign_interfaces p.foreign_deps) (length p.interfaces)
+  pub worlds : AreFirst (foreign_worlds p.foreign_deps) (length p.worlds)
   -- each has the name under which it is named, holds no functions and no entries, and is named under some gate
   pub bare : Each (λ (e : PackageName × List ForeignItem). Each (IsForeign p.interfaces p.worlds) e.1) p.foreign_deps
-  -- the types of kind `Unknown` are the first ones, with one span each, and are those of foreign interfaces
-  pub unknown_first : AreUnknownFirst (length p.unknown_type_spans) p.types
-  pub unknown_foreign : AreForeignTypes (length p.unknown_type_spans) (length (foreign_interfaces p.foreign_deps)) p.types
-  pub foreign_lists : ListUnknownAlone (length p.unknown_type_spans) (length (foreign_interfaces p.foreign_deps)) p.interfaces
-  -- what has to be a resource is a type of kind `Unknown`
+
+-- what the package knows of the types of other packages
+pub record HasUnknown (p : UnresolvedPackage) : Type 0 where
+  -- the types of kind `Unknown` are the first ones, with one span each
+  pub first : AreUnknownFirst (length p.unknown_type_spans) p.types
+  -- they have names, and foreign interfaces own them
+  pub foreign : AreForeignTypes (length p.unknown_type_spans) (length (foreign_interfaces p.foreign_deps)) p.types
+  -- a foreign interface lists no other types
+  pub alone : ListUnknownAlone (length p.unknown_type_spans) (length (foreign_interfaces p.foreign_deps)) p.interfaces
+  -- what has to be a resource is of kind `Unknown`
   pub required : Each (λ (r : ℕ × Option (ℕ × ℕ)). SomeAt p.types r.0 (λ (def : TypeDef). def.kind ≡ kind.Unknown)) p.required_resource_types
 
 -- what things are called
@@ -91,6 +96,7 @@ pub record HasWorlds (p : UnresolvedPackage) : Type 0 where
 -- the shape of an unresolved package
 pub record IsShaped (p : UnresolvedPackage) : Type 0 where
   pub foreign : HasForeign p
+  pub unknown : HasUnknown p
   pub names : HasNames p
   pub owners : HasOwners p
   pub references : HasReferences p

@@ -1,0 +1,6 @@
+//! Whether an unresolved package has its shape.
+
+mod foreign;
+mod names;
+mod numbers;
+mod unknown;
