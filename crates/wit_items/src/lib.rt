@@ -7,6 +7,8 @@ pub mod function;
 pub mod ids;
 pub mod interface;
 pub mod package_name;
+pub mod reference;
+pub mod shape;
 pub mod source_map;
 pub mod span;
 pub mod stability;
