@@ -5,3 +5,4 @@ pub mod Kebab
 pub mod SourceMapLemmas
 pub mod UsePathGrammar
 pub mod VersionErrors
+pub mod Owners

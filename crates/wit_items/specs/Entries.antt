@@ -39,12 +39,16 @@ ItemUsesOwn types w (item.Interface id stability docs span external_id) = Unit {
 ItemUsesOwn types w (item.Function function) = UsesOwn types (owner.World w) function
 ItemUsesOwn types w (item.Type_ id span) = Unit {0}
 
--- the entries of world w are imports and exports, and its functions refer to its own types alone
-pub record HasEntries (interfaces : List Interface) (types : List TypeDef) (w : ℕ) (world : World) : Type 0 where
-  pub imports : Each (λ (e : Entry). IsImport interfaces types w e.0 e.1) world.imports
-  pub exports : Each (λ (e : Entry). IsExport interfaces e.0 e.1) world.exports
-  pub imported_functions : Each (λ (e : Entry). ItemUsesOwn types w e.1) world.imports
-  pub exported_functions : Each (λ (e : Entry). ItemUsesOwn types w e.1) world.exports
+-- the entries of a world are imports and exports
+abbrev pub HasImports : List Interface → List TypeDef → ℕ → World → Type 0
+HasImports interfaces types w world = Each (λ (e : Entry). IsImport interfaces types w e.0 e.1) world.imports
+
+abbrev pub HasExports : List Interface → World → Type 0
+HasExports interfaces world = Each (λ (e : Entry). IsExport interfaces e.0 e.1) world.exports
+
+-- the functions among entries refer to types of world w alone
+abbrev pub EntriesUseOwn : List TypeDef → ℕ → List Entry → Type 0
+EntriesUseOwn types w entries = Each (λ (e : Entry). ItemUsesOwn types w e.1) entries
 
 -- each include names an earlier world
 abbrev pub IncludesEarlier : ℕ → World → Type 0
@@ -56,10 +60,13 @@ item_interface (item.Interface id stability docs span external_id) = id ∷ []
 item_interface (item.Function function) = []
 item_interface (item.Type_ id span) = []
 
+-- the interfaces that entries hold
+abbrev pub held_interfaces : List Entry → List ℕ
+held_interfaces entries = flat_map (λ (e : Entry). item_interface e.1) entries
+
 -- the interfaces in all places of all worlds
 abbrev pub placed_interfaces : List World → List ℕ
-placed_interfaces worlds =
-    flat_map (λ (world : World). flat_map (λ (e : Entry). item_interface e.1) world.imports ++ flat_map (λ (e : Entry). item_interface e.1) world.exports) worlds
+placed_interfaces worlds = flat_map (λ (world : World). held_interfaces world.imports ++ held_interfaces world.exports) worlds
 
 -- the interface has no name
 abbrev pub is_unnamed : List Interface → ℕ → Bool

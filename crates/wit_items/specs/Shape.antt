@@ -12,7 +12,7 @@ use Rattle.std.specs.Option.{option_to_list}
 use Rattle.std.specs.Str.{bytes_eq}
 use Rattle.wit_relations.specs.Relation.{IsAcyclic}
 use Rattle.wit_items.specs.Each.{Each, EachAt, SomeAt}
-use Rattle.wit_items.specs.Entries.{HasEntries, IncludesEarlier, StandOnce}
+use Rattle.wit_items.specs.Entries.{EntriesUseOwn, HasExports, HasImports, IncludesEarlier, StandOnce}
 use Rattle.wit_items.specs.Foreign.{ForeignItem, ForeignItems, AreFirst, AreForeignTypes, AreUnknownFirst, IsForeign, ListUnknownAlone, foreign_interfaces, foreign_worlds}
 use Rattle.wit_items.specs.Ownership.{AliasesNamed, FunctionsUseOwn, IsListed, IsPlain, ListsOwn, NamesFunctions, RefersToOwn}
 use Rattle.wit_items.specs.Reference.{referred}
@@ -73,7 +73,7 @@ pub record HasOwners (p : UnresolvedPackage) : Type 0 where
   pub own_types : EachAt (ListsOwn p.types) p.interfaces
   pub functions : Each NamesFunctions p.interfaces
 
--- what types and functions refer to
+-- what types refer to
 pub record HasReferences (p : UnresolvedPackage) : Type 0 where
   -- a type refers to earlier types
   pub earlier : EachAt (λ i (def : TypeDef). Each (λ id. id < i) (referred def.kind)) p.types
@@ -81,13 +81,20 @@ pub record HasReferences (p : UnresolvedPackage) : Type 0 where
   pub aliases : Each (AliasesNamed p.types p.interfaces) p.types
   -- a type without a name is neither an alias nor a resource
   pub unnamed : Each (λ (def : TypeDef). (def.name ≡ None) → IsPlain def.kind) p.types
-  -- all else that an owner's types and functions refer to are its own types
-  pub own_types : Each (RefersToOwn p.types) p.types
-  pub own_functions : EachAt (FunctionsUseOwn p.types) p.interfaces
+
+-- all else that an owner's types and functions refer to, seen through types without names, is the owner's
+pub record KeepsToOwn (p : UnresolvedPackage) : Type 0 where
+  pub types : Each (RefersToOwn p.types) p.types
+  pub functions : EachAt (FunctionsUseOwn p.types) p.interfaces
+  pub imports : EachAt (λ w (world : World). EntriesUseOwn p.types w world.imports) p.worlds
+  pub exports : EachAt (λ w (world : World). EntriesUseOwn p.types w world.exports) p.worlds
 
 -- what worlds hold
 pub record HasWorlds (p : UnresolvedPackage) : Type 0 where
-  pub entries : EachAt (HasEntries p.interfaces p.types) p.worlds
+  -- under the key of an interface that interface, which has a name; under a label an interface, the
+  -- function of that name, or, among imports, the world's own type of that name
+  pub imports : EachAt (HasImports p.interfaces p.types) p.worlds
+  pub exports : Each (HasExports p.interfaces) p.worlds
   -- an interface without a name stands in one place at most
   pub once : StandOnce p.interfaces p.worlds
   -- a world includes earlier worlds
@@ -100,6 +107,7 @@ pub record IsShaped (p : UnresolvedPackage) : Type 0 where
   pub names : HasNames p
   pub owners : HasOwners p
   pub references : HasReferences p
+  pub own : KeepsToOwn p
   pub worlds : HasWorlds p
   -- no interface uses itself, through whatever others
   pub uses : IsAcyclic (uses_of p.types p.interfaces)

@@ -3,4 +3,6 @@
 mod foreign;
 mod names;
 mod numbers;
+mod owners;
+mod shown;
 mod unknown;

@@ -8,12 +8,13 @@ ghost use Rattle.wit_items.specs.declared.package_name.PackageName.{PackageName}
 
 use crate::interface::Interface;
 use crate::package_name::PackageName;
+use crate::shape::names::{has_name, is_text};
 use crate::shape::numbers::are_first;
 use crate::stability::Stability;
 use crate::unresolved::{AstItem, UnresolvedPackage};
 use crate::world::World;
 use std::alloc::{AllocError, Global};
-use wit_values::{Items, Names, Table, Text};
+use wit_values::{Items, Names, Table};
 
 /// The interfaces that are named of other packages.
 pub(crate) fn foreign_interfaces(
@@ -87,21 +88,6 @@ fn push_world(ids: &mut Items<usize>, item: AstItem) -> Result<(), AllocError>
         AstItem::World(id) => ids.push(id.index()),
         AstItem::Interface(_) => Ok(()),
     }
-}
-
-fn has_name(name: &Option<Text>, wanted: &str) -> bool
-    ensures { IsTrue result ↔ (name.now ≡ Some wanted.now) }
-{
-    match name {
-        Some(name) => is_text(name, wanted),
-        None => false,
-    }
-}
-
-fn is_text(text: &Text, wanted: &str) -> bool
-    ensures { IsTrue result ↔ (text.now ≡ wanted.now) }
-{
-    text.as_str() == wanted
 }
 
 /// Whether a foreign interface has its name, and no functions.

@@ -1,5 +1,5 @@
 //! What the things of an unresolved package are called.
-ghost use Rattle.std.specs.Prelude.{◌≡◌, ◌≤◌, ◌↔◌, List, ℕ, map, length, IfOk, IfSome, IsTrue};
+ghost use Rattle.std.specs.Prelude.{◌≡◌, ◌≤◌, ◌↔◌, List, ℕ, map, length, Some, IfOk, IfSome, IsTrue};
 ghost use Rattle.std.specs.List.{IsDistinct, flat_map};
 ghost use Rattle.std.specs.Borrow.{Bor};
 ghost use Rattle.std.specs.Option.{option_to_list};
@@ -16,7 +16,7 @@ use crate::unresolved::UnresolvedPackage;
 use crate::use_path::is_kebab_name;
 use crate::world::World;
 use std::alloc::{AllocError, Global};
-use wit_values::NameSet;
+use wit_values::{NameSet, Text};
 
 /// Whether the names of the package and of its things are as they should be, where so many
 /// interfaces and worlds are foreign.
@@ -134,4 +134,21 @@ fn do_differ(alloc: Global, texts: &[&str]) -> Result<bool, AllocError>
         met.insert(alloc, text)?;
     }
     Ok(true)
+}
+
+/// Whether there is a name, and it is the wanted one.
+pub(crate) fn has_name(name: &Option<Text>, wanted: &str) -> bool
+    ensures { IsTrue result ↔ (name.now ≡ Some wanted.now) }
+{
+    match name {
+        Some(name) => is_text(name, wanted),
+        None => false,
+    }
+}
+
+/// Whether a text is the wanted one.
+pub(crate) fn is_text(text: &Text, wanted: &str) -> bool
+    ensures { IsTrue result ↔ (text.now ≡ wanted.now) }
+{
+    text.as_str() == wanted
 }
