@@ -6,3 +6,4 @@ pub mod SourceMapLemmas
 pub mod UsePathGrammar
 pub mod VersionErrors
 pub mod Owners
+pub mod Shown

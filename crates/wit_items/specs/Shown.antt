@@ -33,3 +33,9 @@ joined (One a) Nothing = One a
 joined (One a) (One b) = if same_owner a b then One a else Several
 joined (One a) Several = Several
 joined Several s = Several
+
+-- of this owner alone, if of any
+abbrev pub IsOnly : Shown → TypeOwner → Type 0
+IsOnly Nothing by = Unit {0}
+IsOnly (One only) by = only ≡ by
+IsOnly Several by = ⊥
