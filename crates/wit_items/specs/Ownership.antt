@@ -85,8 +85,9 @@ abbrev pub Shows : List TypeDef → ℕ → TypeOwner → Type 0
 Shows types id by = (named : ℕ) × Reaches (through_unnamed types) id named × SomeAt types named (λ (def : TypeDef). IsSome def.name × (def.owner ≡ by))
 
 -- it is there, and no named type that it is or refers to through unnamed types is of another owner
-abbrev pub IsOwn : List TypeDef → TypeOwner → ℕ → Type 0
-IsOwn types by id = (id < length types) × ((other : TypeOwner) → Shows types id other → other ≡ by)
+pub record IsOwn (types : List TypeDef) (by : TypeOwner) (id : ℕ) : Type 0 where
+  pub there : id < length types
+  pub only : (other : TypeOwner) → Shows types id other → other ≡ by
 
 -- what a kind refers to, other than as an alias
 abbrev pub parts : TypeDefKind → List ℕ

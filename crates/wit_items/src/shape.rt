@@ -3,6 +3,8 @@
 mod foreign;
 mod names;
 mod numbers;
+mod own;
 mod owners;
+mod references;
 mod shown;
 mod unknown;

@@ -9,4 +9,4 @@ returns c =
     let told = c.at.result.now in
     let at : slice_get c.args.shown.now c.args.id ≡ Some told = subst (λ (i : ℕ). slice_get c.args.shown.now i ≡ Some told) c.index-2.ensures c.at.ensures in
     let only = only_is (Shows c.args.types.now c.args.id) told c.args.owner (c.requires.each c.args.id told at) in
-    (λ is. (within, only.0 (c.is_only.ensures.0 is)), λ own. c.is_only.ensures.1 (only.1 own.1))
+    (λ is. record { there = within; only = only.0 (c.is_only.ensures.0 is) }, λ own. c.is_only.ensures.1 (only.1 own.only))
