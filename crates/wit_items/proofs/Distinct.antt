@@ -45,9 +45,9 @@ pub found_before : (texts : List (Bor (List ℕ))) (i : ℕ) (d : Bor (List ℕ)
 found_before texts i d within found apart =
     let text : List ℕ = (get_or texts i d).now in
     let at : slice_get (shown texts) i ≡ Some text =
-        slice_get-map (λ (b : Bor (List ℕ)). b.now) texts i ∙ ap (option_map (λ (b : Bor (List ℕ)). b.now)) (slice_get-get_or texts i d within) in
+    slice_get-map (λ (b : Bor (List ℕ)). b.now) texts i ∙ ap (option_map (λ (b : Bor (List ℕ)). b.now)) (slice_get-get_or texts i d within) in
     let met : Contains (take i (shown texts)) text =
-        subst (λ (l : List (List ℕ)). Contains l text) (sym (take-map (λ (b : Bor (List ℕ)). b.now) i texts)) (Contains-from_any bytes_eq-same text (shown (take i texts)) found) in
+    subst (λ (l : List (List ℕ)). Contains l text) (sym (take-map (λ (b : Bor (List ℕ)). b.now) i texts)) (Contains-from_any bytes_eq-same text (shown (take i texts)) found) in
     met_twice bytes_eq-Decides (shown texts) i text at met apart
 
 -- a text that the ones before it don't have

@@ -27,7 +27,7 @@ module _ {X : Type 0} where
     each = λ i y within there. elim (below_or_same i n within) [
       | inl earlier ↦ below.each i y earlier there
       | inr same ↦ at_same P xs n i x y same at there (test.0 passed)
-    ]
+    ];
   }
 
   -- all

@@ -7,3 +7,4 @@ pub mod UsePathGrammar
 pub mod VersionErrors
 pub mod Owners
 pub mod Shown
+pub mod Unnamed

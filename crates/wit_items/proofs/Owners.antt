@@ -29,7 +29,7 @@ key_laws : IsEquivalence same_key
 key_laws = record {
   refl = λ j. (key_is j j).1 refl;
   symm = λ j k. same_from_decides (same_key j k) (same_key k j) (key_is j k) (Decides-like _ (λ h. sym h) (λ h. sym h) (key_is k j));
-  congr = λ j k l equal. ap (λ (m : WorldKey). same_key m l) ((key_is j k).0 equal)
+  congr = λ j k l equal. ap (λ (m : WorldKey). same_key m l) ((key_is j k).0 equal);
 }
 
 -- an entry that lists a type
@@ -56,7 +56,7 @@ listed_from_lookup imports name id = by (lookup (same_key (key.Name name)) impor
     by (Some (item.Type_ j span)) found h =
         subst (λ (i : ℕ). Contains (types_in imports) (name, i)) h
         (Contains-flat_map (λ (e : WorldKey × WorldItem). listed_type e.0 e.1) imports (key.Name name, item.Type_ j span) (name, j)
-          (Contains-from_lookup (λ x y equal. (key_is x y).0 equal) (key.Name name) (item.Type_ j span) imports found) (Contains-here (name, j) []))
+        (Contains-from_lookup (λ x y equal. (key_is x y).0 equal) (key.Name name) (item.Type_ j span) imports found) (Contains-here (name, j) []))
     by (Some (item.Interface j stability docs span external_id)) found h = absurd h
     by (Some (item.Function f)) found h = absurd h
 
@@ -67,6 +67,6 @@ lookup_from_listed imports name id apart has =
     let entry = Contains-flat_map_cases (λ (e : WorldKey × WorldItem). listed_type e.0 e.1) imports (name, id) has in
     let parts = listed_by entry.0.0 entry.0.1 name id entry.1.1 in
     let there : Contains imports (key.Name name, item.Type_ id parts.0) =
-        subst (λ (k : WorldKey). Contains imports (k, item.Type_ id parts.0)) parts.1.0 (subst (λ (v : WorldItem). Contains imports (entry.0.0, v)) parts.1.1 entry.1.0) in
+    subst (λ (k : WorldKey). Contains imports (k, item.Type_ id parts.0)) parts.1.0 (subst (λ (v : WorldItem). Contains imports (entry.0.0, v)) parts.1.1 entry.1.0) in
     let found : lookup (same_key (key.Name name)) imports ≡ Some (item.Type_ id parts.0) = lookup-from_Contains key_laws (key.Name name) (item.Type_ id parts.0) imports apart there in
     subst (λ (o : Option WorldItem). IsTypeItem o id) (sym found) refl

@@ -84,9 +84,10 @@ row_at types i def at = get_or_from_slice_get (through_unnamed types) i (row_of 
 
 -- a type with a name shows its owner alone
 pub tells_named : (types : List TypeDef) (i : ℕ) (def : TypeDef) → slice_get types i ≡ Some def → IsSome def.name → Tells (Shows types i) (One def.owner)
-tells_named types i def at named =
-    ( (i, ([], refl), subst (λ (o : Option TypeDef). IsSomeAnd o (λ (d : TypeDef). IsSome d.name × (d.owner ≡ def.owner))) (sym at) (named, refl))
-    , λ by shows. only by shows.0 shows.1.0 shows.1.1 shows.2 )
+tells_named types i def at named = (
+  (i, ([], refl), subst (λ (o : Option TypeDef). IsSomeAnd o (λ (d : TypeDef). IsSome d.name × (d.owner ≡ def.owner))) (sym at) (named, refl)),
+  λ by shows. only by shows.0 shows.1.0 shows.1.1 shows.2,
+)
   where
     none : direct (through_unnamed types) i ≡ []
     none = row_at types i def at ∙ ap (λ (b : Bool). if b then [] else referred def.kind) named

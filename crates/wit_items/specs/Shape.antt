@@ -23,6 +23,7 @@ use Rattle.wit_items.specs.declared.package_name.PackageName.{PackageName}
 use Rattle.wit_items.specs.declared.types.TypeDef.{TypeDef}
 use Rattle.wit_items.specs.declared.types.TypeDefKind.TheVariants as kind
 use Rattle.wit_items.specs.declared.unresolved.UnresolvedPackage.{UnresolvedPackage}
+use Rattle.wit_items.specs.declared.unresolved.UnresolvedPackageGroup.{UnresolvedPackageGroup}
 use Rattle.wit_items.specs.declared.world.World.{World}
 
 -- the names of the interfaces after the foreign ones
@@ -100,8 +101,14 @@ pub record HasWorlds (p : UnresolvedPackage) : Type 0 where
   -- a world includes earlier worlds
   pub includes : EachAt IncludesEarlier p.worlds
 
+-- nothing is said of the package that interfaces and worlds belong to
+pub record IsUnplaced (p : UnresolvedPackage) : Type 0 where
+  pub interfaces : Each (λ (interface : Interface). interface.package ≡ None) p.interfaces
+  pub worlds : Each (λ (world : World). world.package ≡ None) p.worlds
+
 -- the shape of an unresolved package
 pub record IsShaped (p : UnresolvedPackage) : Type 0 where
+  pub unplaced : IsUnplaced p
   pub foreign : HasForeign p
   pub unknown : HasUnknown p
   pub names : HasNames p
@@ -111,6 +118,8 @@ pub record IsShaped (p : UnresolvedPackage) : Type 0 where
   pub worlds : HasWorlds p
   -- no interface uses itself, through whatever others
   pub uses : IsAcyclic (uses_of p.types p.interfaces)
-  -- nothing is said of the package that interfaces and worlds belong to
-  pub interfaces_unplaced : Each (λ (interface : Interface). interface.package ≡ None) p.interfaces
-  pub worlds_unplaced : Each (λ (world : World). world.package ≡ None) p.worlds
+
+-- the shape of a group: its main package and its nested ones have theirs
+pub record IsGroupShaped (g : UnresolvedPackageGroup) : Type 0 where
+  pub main : IsShaped g.main
+  pub nested : Each IsShaped g.nested

@@ -23,10 +23,7 @@ pub fn referred(alloc: Global, kind: &TypeDefKind) -> Result<Items<TypeId>, Allo
 
 /// The types that a function refers to: the resource that it belongs to, then those of its
 /// parameters and of its result, in order, with repeats.
-pub fn function_references(
-    alloc: Global,
-    function: &Function,
-) -> Result<Items<TypeId>, AllocError>
+pub fn function_references(alloc: Global, function: &Function) -> Result<Items<TypeId>, AllocError>
     ensures { IfOk result (λ ids. ids ≡ function_references function.now) }
 {
     let mut ids = Items::new(alloc);
@@ -39,10 +36,7 @@ pub fn function_references(
 }
 
 /// Which type refers to which, as rows: row i has what type i refers to.
-pub fn type_references(
-    alloc: Global,
-    types: &[TypeDef],
-) -> Result<Items<Items<TypeId>>, AllocError>
+pub fn type_references(alloc: Global, types: &[TypeDef]) -> Result<Items<Items<TypeId>>, AllocError>
     ensures { IfOk result (λ rows. rows ≡ type_references types.now) }
 {
     let mut rows = Items::new(alloc);

@@ -53,7 +53,9 @@ pub(crate) fn has_names(
 fn are_interfaces_kebab(interfaces: &[Interface]) -> bool
     ensures { IsTrue result ↔ Each (λ (interface : Interface). IfSome interface.name IsKebabName) interfaces.now }
 {
-    interfaces.iter().all(|interface| is_interface_kebab(interface))
+    interfaces
+        .iter()
+        .all(|interface| is_interface_kebab(interface))
 }
 
 fn is_interface_kebab(interface: &Interface) -> bool
@@ -69,7 +71,9 @@ fn is_interface_kebab(interface: &Interface) -> bool
 fn are_worlds_kebab(worlds: &[World]) -> bool
     ensures { IsTrue result ↔ Each (λ (world : World). IsKebabName world.name) worlds.now }
 {
-    worlds.iter().all(|world| is_kebab_name(world.name.as_str()))
+    worlds
+        .iter()
+        .all(|world| is_kebab_name(world.name.as_str()))
 }
 
 /// Whether the names of the interfaces after the foreign ones differ.
@@ -86,11 +90,7 @@ fn do_interfaces_differ(
 }
 
 /// Whether the names of the worlds after the foreign ones differ.
-fn do_worlds_differ(
-    alloc: Global,
-    worlds: &[World],
-    foreign: usize,
-) -> Result<bool, AllocError>
+fn do_worlds_differ(alloc: Global, worlds: &[World], foreign: usize) -> Result<bool, AllocError>
     requires { foreign ≤ length worlds.now }
     ensures { IfOk result (λ differ. IsTrue differ ↔ IsDistinct bytes_eq (world_names foreign worlds.now)) }
 {

@@ -27,11 +27,7 @@ pub(crate) fn are_distinct(
 }
 
 /// Whether ids name the first things of a list of so many things, each once.
-pub(crate) fn are_first(
-    alloc: Global,
-    ids: &[usize],
-    count: usize,
-) -> Result<bool, AllocError>
+pub(crate) fn are_first(alloc: Global, ids: &[usize], count: usize) -> Result<bool, AllocError>
     ensures { IfOk result (λ first. IsTrue first ↔ AreFirst ids.now count) }
 {
     if ids.len() > count || !are_below(ids, ids.len()) {

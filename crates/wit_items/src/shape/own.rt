@@ -85,12 +85,7 @@ fn parts(alloc: Global, kind: &TypeDefKind) -> Result<Items<TypeId>, AllocError>
     }
 }
 
-fn are_own(
-    types: &[TypeDef],
-    shown: &Items<Shown>,
-    owner: TypeOwner,
-    ids: &[TypeId],
-) -> bool
+fn are_own(types: &[TypeDef], shown: &Items<Shown>, owner: TypeOwner, ids: &[TypeId]) -> bool
     requires { TellsEach types.now shown.now }
     ensures { IsTrue result ↔ Each (IsOwn types.now owner) ids.now }
 {
@@ -243,8 +238,13 @@ fn item_uses_own(
     ensures { IfOk result (λ own. IsTrue own ↔ ItemUsesOwn types.now owner item.now) }
 {
     match item {
-        WorldItem::Function(function) =>
-            uses_own(alloc, types, shown, TypeOwner::World(owner), function),
+        WorldItem::Function(function) => uses_own(
+            alloc,
+            types,
+            shown,
+            TypeOwner::World(owner),
+            function,
+        ),
         WorldItem::Interface { .. } | WorldItem::Type_ { .. } => Ok(true),
     }
 }

@@ -18,10 +18,7 @@ use std::alloc::{AllocError, Global};
 use wit_values::{Names, Text, TryClone};
 
 /// Whether types, and what lists them, agree.
-pub(crate) fn has_owners(
-    alloc: Global,
-    package: &UnresolvedPackage,
-) -> Result<bool, AllocError>
+pub(crate) fn has_owners(alloc: Global, package: &UnresolvedPackage) -> Result<bool, AllocError>
     ensures { IfOk result (λ holds. IsTrue holds ↔ HasOwners «package».now) }
 {
     let interfaces = package.interfaces.as_slice();
@@ -71,12 +68,7 @@ fn is_listed(
 }
 
 /// Whether there is such an interface, and it lists a type under a name.
-fn is_in_interface(
-    interfaces: &[Interface],
-    owner: InterfaceId,
-    name: &str,
-    index: usize,
-) -> bool
+fn is_in_interface(interfaces: &[Interface], owner: InterfaceId, name: &str, index: usize) -> bool
     ensures { IsTrue result ↔ SomeAt interfaces.now owner (λ (interface : Interface). Contains interface.types (name.now, index)) }
 {
     match interfaces.get(owner.index()) {
@@ -178,7 +170,9 @@ pub(crate) fn is_type_of(types: &[TypeDef], owner: TypeOwner, name: &str, id: Ty
 fn all_name_functions(interfaces: &[Interface]) -> bool
     ensures { IsTrue result ↔ Each NamesFunctions interfaces.now }
 {
-    interfaces.iter().all(|interface| names_functions(interface))
+    interfaces
+        .iter()
+        .all(|interface| names_functions(interface))
 }
 
 fn names_functions(interface: &Interface) -> bool

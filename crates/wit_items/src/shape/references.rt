@@ -16,10 +16,7 @@ use std::alloc::{AllocError, Global};
 
 /// Whether types refer to earlier types, aliases to named types, and types without names are
 /// neither aliases nor resources.
-pub(crate) fn has_references(
-    alloc: Global,
-    package: &UnresolvedPackage,
-) -> Result<bool, AllocError>
+pub(crate) fn has_references(alloc: Global, package: &UnresolvedPackage) -> Result<bool, AllocError>
     ensures { IfOk result (λ holds. IsTrue holds ↔ HasReferences «package».now) }
 {
     let types = package.types.as_slice();
@@ -61,7 +58,9 @@ fn are_before(ids: &[TypeId], index: usize) -> bool
 fn all_alias_named(types: &[TypeDef], interfaces: &[Interface]) -> bool
     ensures { IsTrue result ↔ Each (AliasesNamed types.now interfaces.now) types.now }
 {
-    types.iter().all(|def| aliases_named(types, interfaces, def))
+    types
+        .iter()
+        .all(|def| aliases_named(types, interfaces, def))
 }
 
 fn aliases_named(types: &[TypeDef], interfaces: &[Interface], def: &TypeDef) -> bool
@@ -74,12 +73,7 @@ fn aliases_named(types: &[TypeDef], interfaces: &[Interface], def: &TypeDef) -> 
 }
 
 /// Whether there is such a type, it has a name, and an alias of this owner may name it.
-fn is_aliased(
-    types: &[TypeDef],
-    interfaces: &[Interface],
-    owner: TypeOwner,
-    target: TypeId,
-) -> bool
+fn is_aliased(types: &[TypeDef], interfaces: &[Interface], owner: TypeOwner, target: TypeId) -> bool
     ensures { IsTrue result ↔ SomeAt types.now target (λ (named : TypeDef). IsSome named.name × ((named.owner ≡ owner) ⊎ IsNamedInterface interfaces.now named.owner)) }
 {
     match types.get(target.index()) {

@@ -23,10 +23,7 @@ pub(crate) enum Shown {
 }
 
 /// What each type shows, where each refers to earlier ones.
-pub(crate) fn shown_by_each(
-    alloc: Global,
-    types: &[TypeDef],
-) -> Result<Items<Shown>, AllocError>
+pub(crate) fn shown_by_each(alloc: Global, types: &[TypeDef]) -> Result<Items<Shown>, AllocError>
     requires { EachAt (λ i (def : TypeDef). Each (λ id. id < i) (referred def.kind)) types.now }
     ensures { IfOk result (λ shown. TellsEach types.now shown) }
 {
@@ -70,18 +67,17 @@ fn join(a: Shown, b: Shown) -> Shown
     match (a, b) {
         (Shown::Nothing, told) => told,
         (told, Shown::Nothing) => told,
-        (Shown::One(a), Shown::One(b)) => if a == b { Shown::One(a) } else { Shown::Several },
+        (Shown::One(a), Shown::One(b)) => if a == b {
+            Shown::One(a)
+        } else {
+            Shown::Several
+        },
         _ => Shown::Several,
     }
 }
 
 /// Whether there is such a type, and no named type that it shows is of another owner.
-pub(crate) fn is_own(
-    types: &[TypeDef],
-    shown: &Items<Shown>,
-    owner: TypeOwner,
-    id: TypeId,
-) -> bool
+pub(crate) fn is_own(types: &[TypeDef], shown: &Items<Shown>, owner: TypeOwner, id: TypeId) -> bool
     requires { TellsEach types.now shown.now }
     ensures { IsTrue result ↔ IsOwn types.now owner id }
 {

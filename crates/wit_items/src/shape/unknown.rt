@@ -54,7 +54,11 @@ fn are_unknown_below(unknown: usize, types: &[TypeDef]) -> bool
 fn is_unknown_below(unknown: usize, index: usize, def: &TypeDef) -> bool
     ensures { IsTrue result ↔ ((def.now.kind ≡ kind.Unknown) ↔ (index < unknown)) }
 {
-    if index < unknown { is_unknown(def) } else { !is_unknown(def) }
+    if index < unknown {
+        is_unknown(def)
+    } else {
+        !is_unknown(def)
+    }
 }
 
 fn is_unknown(def: &TypeDef) -> bool
@@ -103,10 +107,8 @@ fn lists_unknown_alone(unknown: usize, interface: &Interface) -> bool
 fn all_list_unknown_alone(unknown: usize, foreign: usize, interfaces: &[Interface]) -> bool
     ensures { IsTrue result ↔ ListUnknownAlone unknown foreign interfaces.now }
 {
-    interfaces
-        .iter()
-        .enumerate()
-        .all(|(index, interface)| index >= foreign || lists_unknown_alone(unknown, interface))
+    interfaces.iter().enumerate().all(|(index, interface)| index >= foreign
+        || lists_unknown_alone(unknown, interface))
 }
 
 /// Whether what has to be a resource is of kind `Unknown`.

@@ -26,9 +26,9 @@ at-requires c =
     let id = c.id-item.result in
     let same : ids ≡ referred def.kind = c.as_slice-id-items.ensures ∙ c.in_ok-ids.ensures in
     let at : slice_get (referred def.kind) c.loop-id.id-index ≡ Some id =
-        subst (λ (l : List ℕ). slice_get l c.loop-id.id-index ≡ Some id) same (slice_get_read ids _ c.loop-id.id-index id refl c.loop-id-test.true c.id-item.is) in
+    subst (λ (l : List ℕ). slice_get l c.loop-id.id-index ≡ Some id) same (slice_get_read ids _ c.loop-id.id-index id refl c.loop-id-test.true c.id-item.is) in
     let below : id < c.args.index =
-        c.requires.earlier c.args.index def (slice_get_read c.args.types.now _ c.args.index def refl c.requires.index c.index-types-index.is) c.loop-id.id-index id at in
+    c.requires.earlier c.args.index def (slice_get_read c.args.types.now _ c.args.index def refl c.requires.index c.index-types-index.is) c.loop-id.id-index id at in
     omega arith
 
 pub loop-id-preserved : goal.loop-id-preserved
@@ -39,7 +39,7 @@ loop-id-preserved c =
     let told = c.at.result.now in
     let id_at : slice_get ids c.loop-id.id-index ≡ Some id = slice_get_read ids _ c.loop-id.id-index id refl c.loop-id-test.true c.id-item.is in
     let told_at : slice_get c.args.shown.now id ≡ Some told =
-        subst (λ (i : ℕ). slice_get c.args.shown.now i ≡ Some told) c.index.ensures c.at.ensures in
+    subst (λ (i : ℕ). slice_get c.args.shown.now i ≡ Some told) c.index.ensures c.at.ensures in
     let joins = tells_more types (take c.loop-id.id-index ids) id c.loop-id.told told c.loop-id.invariant (c.requires.known id told told_at) in
     subst (λ (s : Shown). Tells (ShowsAny types (take (c.loop-id.id-index + 1) ids)) s) (sym c.join-told.ensures)
     (subst (λ (l : List ℕ). Tells (ShowsAny types l) (joined c.loop-id.told told)) (sym (take-next_at ids c.loop-id.id-index id id_at)) joins)

@@ -15,7 +15,7 @@ known_push P xs x each here i y at = elim (push-cases xs x i y at) [
 pub loop-index-preserved : goal.loop-index-preserved
 loop-index-preserved c =
     let told : Tells (Shows c.args.types.now (length c.loop-index.shown)) c.in_ok-next.next =
-        subst (λ (k : ℕ). Tells (Shows c.args.types.now k) c.in_ok-next.next) (sym c.loop-index.invariant.long) c.in_ok-next.ensures in
+    subst (λ (k : ℕ). Tells (Shows c.args.types.now k) c.in_ok-next.next) (sym c.loop-index.invariant.long) c.in_ok-next.ensures in
     record {
       long = ap length c.in_ok-push.ensures.ok ∙ length-append c.loop-index.shown (c.in_ok-next.next ∷ []) ∙ ap (λ (n : ℕ). n + 1) c.loop-index.invariant.long;
       known = subst (λ (l : List Shown). EachAt (λ id. Tells (Shows c.args.types.now id)) l) (sym c.in_ok-push.ensures.ok)
