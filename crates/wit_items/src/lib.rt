@@ -23,6 +23,7 @@ pub use crate::function::{AccessorKind, Function, FunctionKind, Param};
 pub use crate::ids::{InterfaceId, PackageId, TypeId, WorldId};
 pub use crate::interface::Interface;
 pub use crate::package_name::PackageName;
+pub use crate::reference::{function_references, referred, type_references};
 pub use crate::source_map::{MapFault, SourceMap, SourceNames};
 pub use crate::span::Span;
 pub use crate::stability::{Docs, Stability};

@@ -35,15 +35,26 @@ pub fn function_references(alloc: Global, function: &Function) -> Result<Items<T
     Ok(ids)
 }
 
-/// Which type refers to which, as rows: row i has what type i refers to.
-pub fn type_references(alloc: Global, types: &[TypeDef]) -> Result<Items<Items<TypeId>>, AllocError>
+/// Which type refers to which, as rows: row i has the places of the types that type i refers to.
+pub fn type_references(alloc: Global, types: &[TypeDef]) -> Result<Items<Items<usize>>, AllocError>
     ensures { IfOk result (λ rows. rows ≡ type_references types.now) }
 {
     let mut rows = Items::new(alloc);
     for def in types {
-        rows.push(referred(alloc, &def.kind)?)?;
+        let ids = referred(alloc, &def.kind)?;
+        rows.push(places(alloc, ids.as_slice())?)?;
     }
     Ok(rows)
+}
+
+fn places(alloc: Global, ids: &[TypeId]) -> Result<Items<usize>, AllocError>
+    ensures { IfOk result (λ places. places ≡ ids.now) }
+{
+    let mut places = Items::new(alloc);
+    for id in ids {
+        places.push(id.index())?;
+    }
+    Ok(places)
 }
 
 fn push_type(ids: &mut Items<TypeId>, ty: Type_) -> Result<(), AllocError>
