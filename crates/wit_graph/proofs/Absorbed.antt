@@ -1,7 +1,6 @@
 -- The walks of entries whose dependencies stand before them add nothing.
-use Rattle.std.proofs.Common.{◌≡◌, ℕ, zero, suc, ◌<◌, ◌≤◌, ◌+◌, Bool, true, false, cond, not, ◌&&◌, ◌⊎◌, ◌↔◌, inl, inr, List, [], ◌∷◌, ◌++◌, map, filter, append_assoc, get_or, take, drop, length, refl, sym, ap, subst, ◌∙◌, arith, eqb, nat_eq, rules, Contains, All}
-use Rattle.std.specs.List.{flat_map, list_any, AllByRecursion}
-use Rattle.std.specs.Map.{keys_of}
+use Rattle.std.proofs.Common.{◌≡◌, ℕ, ◌<◌, true, List, [], ◌∷◌, ◌++◌, map, append_assoc, length, refl, subst, Contains, All}
+use Rattle.std.specs.List.{flat_map, list_any}
 use Rattle.std.proofs.lemmas.List.{append-nil}
 use Rattle.std.proofs.lemmas.List.Elements.{All-contains}
 use Rattle.wit_items.specs.declared.types.TypeDef.{TypeDef}
@@ -53,4 +52,3 @@ module _ (types : List TypeDef) where
         (rw ids-push (first_more (ids_of_keys seen) e.0 (role_of types e.1) first df.0 (λ i. own e i (Contains-here e es))))
         (λ f i has. own f i (Contains-there e f es has)) (λ f has. inside f (Contains-there e f es has)) (λ f has. settles f (Contains-there e f es has)) in
         rw (append_assoc deps ((e.0, settle e.1) ∷ []) rest, skip, settles e (Contains-here e es), fresh_entries-new seen e rest new.0, more) refl
-

@@ -1,19 +1,18 @@
 -- What the marks of a search tell of a conflict, and that there is one exactly where some export leads to it.
-use Rattle.std.proofs.Common.{◌≡◌, ℕ, zero, suc, ◌+◌, ◌<◌, ◌↔◌, ◌⊎◌, Bool, true, false, inl, inr, List, [], ◌∷◌, ◌++◌, take, length, Option, Some, None, slice_get, refl, sym, ap, ◌∙◌, subst, nat_eq, Contains, All}
-use Rattle.std.specs.List.{flat_map, list_any}
+use Rattle.std.proofs.Common.{◌≡◌, ℕ, ◌<◌, ◌↔◌, inl, inr, List, [], ◌∷◌, length, refl, sym, ◌∙◌, subst, nat_eq, Contains}
+use Rattle.std.specs.List.{list_any}
 use Rattle.std.proofs.lemmas.Bool.{cases_Bool, false≢true}
 use Rattle.std.proofs.lemmas.List.Elements.{All-contains}
 use Rattle.wit_relations.proofs.Fresh.{fresh_all, fresh_in, contains_from_any, any_from_contains}
-use Rattle.wit_relations.proofs.Members.{Contains-nil, Contains-here, Contains-flat_map, Contains-flat_map_cases}
+use Rattle.wit_relations.proofs.Members.{Contains-flat_map, Contains-flat_map_cases}
 use Rattle.wit_relations.proofs.Walks.{Contains-walk_end, UsesFirst-IsPath}
 use Rattle.wit_relations.specs.Relation.{direct, IsPath, Reaches, IsAcyclic}
 use Rattle.wit_relations.specs.Walks.{UsesFirst, walk, first_of_each}
 use Rattle.wit_graph.specs.Elaborated.{needs}
-use Rattle.wit_graph.specs.Elaborating.{ReachesOneOf, AreMarked, AreOutside, HasMarkedUse, TellsExported, IsFirstConflict}
-use Rattle.wit_graph.specs.Entries.{Entry, Role, Instance, instance_of, id_of, ids_of}
-use Rattle.wit_graph.specs.Imported.{Needed, HasConflict, LeadsToConflict, IsInConflict, exported_keys, exported_interfaces}
+use Rattle.wit_graph.specs.Elaborating.{AreMarked, AreOutside, HasMarkedUse, TellsExported}
+use Rattle.wit_graph.specs.Entries.{Entry, Instance, instance_of}
+use Rattle.wit_graph.specs.Imported.{HasConflict, LeadsToConflict, IsInConflict, exported_keys, exported_interfaces}
 use Rattle.wit_graph.proofs.ExportSteps.{all_needs}
-use Rattle.wit_graph.proofs.Marking.{contains_at}
 
 -- what was listed of some keys tells them
 pub tells_keys : (listed : List ℕ) (exports : List Entry) → listed ≡ first_of_each (exported_keys exports) → TellsExported listed exports
@@ -38,16 +37,16 @@ pub marks_tell : (uses : List (List ℕ)) → IsAcyclic uses → (exports : List
     (e : Entry) → (i : ℕ) → Contains exports e → Contains (instance_of e.1) i → HasMarkedUse uses leading i ↔ LeadsToConflict uses exports i
 marks_tell uses acyclic exports walked exported reaching outside leading walked_is first tells are_reaching are_outside are_leading e i has here = (
   λ found.
-  let to = are_leading.sound found.0 found.2 in
-  let off = are_outside.sound to.0 to.2 in
-  let on = are_reaching.sound to.0 off.1 in
-  (found.0, to.0, found.1, to.1, λ key. off.2 ((tells to.0).1 key), (on.0, on.1, (tells on.0).0 on.2)),
+      let to = are_leading.sound found.0 found.2 in
+      let off = are_outside.sound to.0 to.2 in
+      let on = are_reaching.sound to.0 off.1 in
+      (found.0, to.0, found.1, to.1, λ key. off.2 ((tells to.0).1 key), (on.0, on.1, (tells on.0).0 on.2)),
   λ leads.
-  let start = use_walked uses acyclic exports walked walked_is e i leads.0 has here leads.2 in
-  let off = UsesFirst-IsPath uses walked leads.0 leads.3.0 leads.1 first start leads.3.1 in
-  let reach = are_reaching.complete leads.1 off (leads.5.0, leads.5.1, (tells leads.5.0).1 leads.5.2) in
-  let out = are_outside.complete leads.1 off reach (λ key. leads.4 ((tells leads.1).0 key)) in
-  (leads.0, leads.2, are_leading.complete leads.0 start (leads.1, leads.3, out)),
+      let start = use_walked uses acyclic exports walked walked_is e i leads.0 has here leads.2 in
+      let off = UsesFirst-IsPath uses walked leads.0 leads.3.0 leads.1 first start leads.3.1 in
+      let reach = are_reaching.complete leads.1 off (leads.5.0, leads.5.1, (tells leads.5.0).1 leads.5.2) in
+      let out = are_outside.complete leads.1 off reach (λ key. leads.4 ((tells leads.1).0 key)) in
+      (leads.0, leads.2, are_leading.complete leads.0 start (leads.1, leads.3, out)),
 )
 
 -- ---- a conflict is where some export leads to one

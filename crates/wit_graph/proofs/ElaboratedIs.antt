@@ -1,29 +1,29 @@
 -- What the passes over imports and exports made is the elaboration.
-use Rattle.std.proofs.Common.{◌≡◌, ℕ, ◌<◌, ◌⊎◌, Bool, true, false, not, inl, inr, List, [], ◌∷◌, ◌++◌, map, filter, length, append_assoc, refl, sym, ap, subst, ◌∙◌, nat_eq, Contains, All}
+use Rattle.std.proofs.Common.{◌≡◌, ℕ, ◌<◌, Bool, true, false, not, inl, inr, List, [], ◌∷◌, ◌++◌, map, filter, length, append_assoc, refl, sym, ap, subst, ◌∙◌, Contains, All}
 use Rattle.std.specs.List.{flat_map, list_any, IsDistinct}
 use Rattle.std.specs.Map.{keys_of}
 use Rattle.std.proofs.lemmas.Bool.{cases_Bool, false≢true, false_from_ne_true}
 use Rattle.std.proofs.lemmas.List.{append-nil}
-use Rattle.std.proofs.lemmas.List.Elements.{Contains-append_cases, Contains-append_left, Contains-append_right, All-contains, Contains-get_or}
+use Rattle.std.proofs.lemmas.List.Elements.{Contains-append_cases, Contains-append_right, Contains-get_or}
 use Rattle.wit_items.specs.declared.types.TypeDef.{TypeDef}
 use Rattle.wit_items.specs.declared.world.WorldItem.{WorldItem}
 use Rattle.wit_items.specs.declared.world.WorldItem.TheVariants as item
 use Rattle.wit_items.specs.declared.world.WorldKey.{WorldKey}
-use Rattle.wit_items.specs.declared.world.WorldKey.TheVariants.{Name, Interface}
+use Rattle.wit_items.specs.declared.world.WorldKey.TheVariants.{Interface}
 use Rattle.wit_items.specs.contracts.world.WorldKeyPartialEq.TheImpl.{eq-value}
 use Rattle.wit_relations.proofs.Fresh.{any_from_contains, contains_from_any}
 use Rattle.wit_relations.proofs.Members.{Contains-nil, Contains-here, Contains-there, Contains-cons_cases, Contains-flat_map, Contains-flat_map_cases, flat_map-same}
-use Rattle.wit_relations.specs.Relation.{direct, IsAcyclic}
+use Rattle.wit_relations.specs.Relation.{IsAcyclic}
 use Rattle.wit_relations.specs.Walks.{Listed}
-use Rattle.wit_graph.specs.Elaborated.{Carried, dependency_of, needs, export_carries, import_walk, import_steps, export_imports, export_walk, elaborated_imports, elaborated_exports}
+use Rattle.wit_graph.specs.Elaborated.{dependency_of, needs, export_carries, import_walk, import_steps, export_imports, export_walk, elaborated_imports, elaborated_exports}
 use Rattle.wit_graph.specs.Elaborating.{TellsExported, is_listed, walked_exports, walked_imports}
-use Rattle.wit_graph.specs.Entries.{Entry, Role, Instance, role_of, instance_of, id_of, is_instance, is_interface, same_key, by_class, fresh_entries}
+use Rattle.wit_graph.specs.Entries.{Entry, Instance, role_of, instance_of, id_of, is_instance, is_interface, same_key, by_class, fresh_entries}
 use Rattle.wit_graph.specs.Imported.{HasConflict, exported_keys, exported_interfaces, is_exported}
 use Rattle.wit_graph.specs.Listed.{IsRoleInRange}
 use Rattle.wit_graph.proofs.ExportedUses.{key_here}
 use Rattle.wit_graph.proofs.Filters.{Contains-filter, not_true}
 use Rattle.wit_graph.proofs.FirstClasses.{AllNew-from_distinct}
-use Rattle.wit_graph.proofs.FreshEntries.{AllNew, AllNew-filter, AllNew-one, Contains-keys, Contains-deps, contains_from_known, known_from_contains, fresh_entries-known, fresh_entries-new, fresh_entries-all_new, fresh_entries-next}
+use Rattle.wit_graph.proofs.FreshEntries.{AllNew-filter, AllNew-one, Contains-keys, Contains-deps, contains_from_known, known_from_contains, fresh_entries-known, fresh_entries-new, fresh_entries-all_new, fresh_entries-next}
 use Rattle.wit_graph.proofs.OneWalk.{imports_of_walk, exports_of_walk}
 use Rattle.wit_graph.proofs.Roles.{InOrder, instance_from_role, is_instance_from_role}
 

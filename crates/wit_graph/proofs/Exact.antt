@@ -1,8 +1,6 @@
 -- The imports are exactly what paths define, whatever the order of the entries.
-use Rattle.std.proofs.Common.{◌≡◌, ℕ, zero, suc, ◌<◌, ◌≤◌, ◌+◌, Bool, true, false, cond, not, ◌&&◌, ◌⊎◌, ◌↔◌, inl, inr, List, [], ◌∷◌, ◌++◌, map, filter, append_assoc, get_or, take, drop, length, refl, sym, ap, subst, ◌∙◌, arith, eqb, nat_eq, rules, Contains, All}
-use Rattle.std.specs.List.{flat_map, list_any, AllByRecursion}
-use Rattle.std.specs.Map.{keys_of}
-use Rattle.std.proofs.lemmas.Bool.{cases_Bool, false≢true, cond-true, cond-false, cond_both}
+use Rattle.std.proofs.Common.{◌≡◌, ℕ, zero, suc, ◌<◌, Bool, false, cond, ◌⊎◌, inl, inr, List, [], ◌∷◌, ◌++◌, map, length, refl, sym, ap, subst, ◌∙◌, arith, Contains}
+use Rattle.std.proofs.lemmas.Bool.{false≢true, cond-false, cond_both}
 use Rattle.std.proofs.lemmas.List.Elements.{Contains-append_cases, Contains-append_left, Contains-append_right, All-contains}
 use Rattle.wit_items.specs.declared.types.TypeDef.{TypeDef}
 use Rattle.wit_items.specs.declared.world.WorldItem.{WorldItem}
@@ -16,8 +14,7 @@ use Rattle.wit_relations.specs.Relation.{direct, IsPath, Reaches, IsAcyclic}
 use Rattle.wit_relations.specs.Walks.{walk}
 use Rattle.wit_graph.specs.Entries.{Entry, Role, Instance, TypeUse, TypeDefinition, FreeFunction, ResourceFunction, role_of, instance_of, id_of, ids_of, by_class}
 use Rattle.wit_graph.specs.Elaborated.{dependency_of, needs, import_carries, export_carries, settled_item, import_walk, import_steps_within, import_steps, export_imports}
-use Rattle.wit_graph.specs.ElaborationLaws.{SameEntries, OrderIsFree}
-use Rattle.wit_graph.specs.Imported.{Needed, roots_of, IsImported, HasConflict, exported_keys, exported_interfaces, is_exported}
+use Rattle.wit_graph.specs.Imported.{Needed, roots_of, IsImported, exported_interfaces, is_exported}
 use Rattle.wit_graph.specs.Listed.{IsRoleInRange}
 use Rattle.wit_graph.proofs.Classes.{by_class_in, in_by_class}
 use Rattle.wit_graph.proofs.ExportedUses.{key_here, exported_entry, id_inj}
@@ -177,4 +174,3 @@ module _ (types : List TypeDef) where
               (Contains-flat_map (import_walk types uses) (by_class types imports) part.0 (part.0.0, settled_item part.0.1) root
               (Contains-append_right _ ((part.0.0, settled_item part.0.1) ∷ []) (part.0.0, settled_item part.0.1) (Contains-here (part.0.0, settled_item part.0.1) [])))) own
         ]
-

@@ -1,16 +1,15 @@
 -- One step over the entries of a list.
-use Rattle.std.proofs.Common.{◌≡◌, ℕ, ◌+◌, ◌<◌, inl, inr, List, [], ◌∷◌, ◌++◌, take, length, Option, Some, None, slice_get, refl, sym, ap, ◌∙◌, subst, Contains, All}
+use Rattle.std.proofs.Common.{◌≡◌, ℕ, ◌+◌, List, [], ◌∷◌, ◌++◌, take, Option, Some, None, slice_get, refl, ◌∙◌, subst, Contains}
 use Rattle.std.specs.List.{flat_map}
 use Rattle.std.specs.Option.{option_to_list}
 use Rattle.std.proofs.lemmas.List.{append-nil}
 use Rattle.std.proofs.lemmas.List.Concat.{flat_map-append}
-use Rattle.std.proofs.lemmas.List.Elements.{All-contains}
 use Rattle.wit_values.specs.Lists.{take-next_at}
 use Rattle.wit_relations.proofs.Fresh.{fresh-append}
 use Rattle.wit_relations.proofs.Members.{Contains-here, Contains-flat_map}
 use Rattle.wit_relations.specs.Walks.{fresh, first_of_each}
 use Rattle.wit_graph.specs.Elaborated.{needs}
-use Rattle.wit_graph.specs.Entries.{Entry, Role, Instance, instance_of, id_of}
+use Rattle.wit_graph.specs.Entries.{Entry, Instance, instance_of, id_of}
 use Rattle.wit_graph.specs.Imported.{exported_keys, exported_interfaces}
 use Rattle.wit_graph.proofs.Marking.{contains_at}
 

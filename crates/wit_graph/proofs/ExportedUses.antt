@@ -1,6 +1,5 @@
 -- The uses of exported interfaces alone, and which interfaces are exported.
-use Rattle.std.proofs.Common.{◌≡◌, ℕ, zero, suc, ◌<◌, ◌≤◌, ◌+◌, Bool, true, false, cond, not, ◌&&◌, ◌⊎◌, ◌↔◌, inl, inr, List, [], ◌∷◌, ◌++◌, map, filter, append_assoc, get_or, take, drop, length, refl, sym, ap, subst, ◌∙◌, arith, eqb, nat_eq, rules, Contains, All}
-use Rattle.std.specs.List.{flat_map, list_any, AllByRecursion}
+use Rattle.std.proofs.Common.{◌≡◌, ℕ, ◌<◌, Bool, true, inl, inr, List, [], ◌∷◌, map, filter, length, sym, ap, subst, ◌∙◌, arith, Contains}
 use Rattle.std.proofs.lemmas.List.{length-map, get_or-map, get_or_past}
 use Rattle.std.proofs.lemmas.Bool.{cases_lt}
 use Rattle.std.proofs.lemmas.List.Elements.{All-contains, All-filter}
@@ -70,4 +69,3 @@ entry_exported exports e j has is =
 
 pub id_inj : {i j : ℕ} → Interface i ≡ Interface j → i ≡ j
 id_inj same = cc
-

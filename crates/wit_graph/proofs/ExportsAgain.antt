@@ -1,15 +1,13 @@
 -- Elaborated exports are their own elaboration.
-use Rattle.std.proofs.Common.{◌≡◌, ℕ, zero, suc, ◌<◌, ◌≤◌, ◌+◌, Bool, true, false, cond, not, ◌&&◌, ◌⊎◌, ◌↔◌, inl, inr, List, [], ◌∷◌, ◌++◌, map, filter, append_assoc, get_or, take, drop, length, refl, sym, ap, subst, ◌∙◌, arith, eqb, nat_eq, rules, Contains, All}
-use Rattle.std.specs.List.{flat_map, list_any, AllByRecursion}
-use Rattle.std.specs.Map.{keys_of}
+use Rattle.std.proofs.Common.{◌≡◌, ℕ, ◌<◌, true, false, not, ◌⊎◌, inl, inr, List, [], ◌∷◌, ◌++◌, map, filter, length, refl, sym, ap, subst, ◌∙◌, Contains}
+use Rattle.std.specs.List.{flat_map}
 use Rattle.std.proofs.lemmas.List.{append-nil, length-map}
 use Rattle.std.proofs.lemmas.Bool.{cases_Bool, false≢true, false_from_ne_true}
-use Rattle.std.proofs.lemmas.List.Elements.{Contains-append_cases, Contains-append_left, Contains-append_right, filter-append}
+use Rattle.std.proofs.lemmas.List.Elements.{Contains-append_cases, Contains-append_right, filter-append}
 use Rattle.wit_items.specs.declared.types.TypeDef.{TypeDef}
-use Rattle.wit_items.specs.declared.world.WorldKey.TheVariants.{Name, Interface}
 use Rattle.wit_relations.proofs.Members.{Contains-nil, Contains-here, Contains-cons_cases, Contains-flat_map, Contains-flat_map_cases}
 use Rattle.wit_relations.specs.Relation.{IsAcyclic}
-use Rattle.wit_graph.specs.Entries.{Entry, Role, Instance, role_of, is_interface, class_of, fresh_entries}
+use Rattle.wit_graph.specs.Entries.{Entry, Role, Instance, role_of, is_interface, fresh_entries}
 use Rattle.wit_graph.specs.Elaborated.{Carried, dependency_of, needs, entry_walk, export_carries, exported_uses, elaborated_exports}
 use Rattle.wit_graph.specs.Imported.{is_exported}
 use Rattle.wit_graph.specs.Listed.{IsRoleInRange}
@@ -121,4 +119,3 @@ module _ (types : List TypeDef) where
 
     pub exports_again : elaborated_exports types uses (functions ++ kept) ≡ functions ++ kept
     exports_again = rw (functions_again, kept_again, test_same, kept_absorbed) refl
-

@@ -1,6 +1,6 @@
 -- Lists that a test picks from.
-use Rattle.std.proofs.Common.{◌≡◌, ℕ, zero, suc, ◌<◌, ◌≤◌, ◌+◌, Bool, true, false, cond, not, ◌&&◌, ◌⊎◌, ◌↔◌, inl, inr, List, [], ◌∷◌, ◌++◌, map, filter, append_assoc, get_or, take, drop, length, refl, sym, ap, subst, ◌∙◌, arith, eqb, nat_eq, rules, Contains, All}
-use Rattle.std.specs.List.{flat_map, list_any, AllByRecursion}
+use Rattle.std.proofs.Common.{◌≡◌, ℕ, ◌<◌, ◌+◌, Bool, true, false, cond, not, inl, inr, List, [], ◌∷◌, ◌++◌, filter, get_or, take, length, refl, sym, ap, subst, ◌∙◌, Contains}
+use Rattle.std.specs.List.{flat_map}
 use Rattle.std.proofs.lemmas.Bool.{cases_Bool, false≢true, cond-true, cond-false}
 use Rattle.std.proofs.lemmas.List.{append-nil}
 use Rattle.std.proofs.lemmas.List.Elements.{filter-append, filter_more}
@@ -53,7 +53,6 @@ flat_map-filter p f (x ∷ xs) =
       | inl pass ↦ rw (filter-pass p x xs pass, cond-true (p x) (f x) [] pass) (ap (λ ys. f x ++ ys) (flat_map-filter p f xs))
       | inr fails ↦ rw (filter-fail p x xs fails, cond-false (p x) (f x) [] fails) (flat_map-filter p f xs)
     ]
-
 
 pub not_true : (b : Bool) → not b ≡ true → b ≡ false
 not_true true is = absurd (false≢true is)

@@ -1,11 +1,11 @@
 -- The first export that is in conflict.
-use Rattle.std.proofs.Common.{◌≡◌, ℕ, ◌+◌, ◌<◌, ◌↔◌, inl, inr, List, [], ◌∷◌, take, length, Option, Some, None, slice_get, sym, ap, ◌∙◌, subst, Contains, All}
+use Rattle.std.proofs.Common.{◌≡◌, ℕ, ◌↔◌, inl, inr, List, [], ◌∷◌, take, Some, slice_get, sym, ap, ◌∙◌, subst, Contains}
 use Rattle.wit_relations.proofs.Members.{Contains-nil, Contains-here, Contains-cons_cases}
 use Rattle.wit_relations.specs.Relation.{direct}
 use Rattle.wit_graph.specs.Elaborating.{HasMarkedUse, IsFirstConflict}
 use Rattle.wit_graph.specs.Entries.{Entry, instance_of}
 use Rattle.wit_graph.specs.Imported.{IsInConflict, LeadsToConflict}
-use Rattle.wit_graph.proofs.Marking.{contains_at, none_next}
+use Rattle.wit_graph.proofs.Marking.{contains_at}
 
 -- a use that is marked, of the uses that were read
 pub marked_use : (uses : List (List ℕ)) (leading row : List ℕ) (i k : ℕ) → row ≡ direct uses k → k ≡ i → (j : ℕ) × Contains row j × Contains leading j → HasMarkedUse uses leading i

@@ -1,6 +1,6 @@
 -- Entries whose keys are new: what is kept of a list.
-use Rattle.std.proofs.Common.{◌≡◌, ℕ, zero, suc, ◌<◌, ◌≤◌, ◌+◌, Bool, true, false, cond, not, ◌&&◌, ◌⊎◌, ◌↔◌, inl, inr, List, [], ◌∷◌, ◌++◌, map, filter, append_assoc, get_or, take, drop, length, refl, sym, ap, subst, ◌∙◌, arith, eqb, nat_eq, rules, Contains, All}
-use Rattle.std.specs.List.{flat_map, list_any, AllByRecursion}
+use Rattle.std.proofs.Common.{◌≡◌, ℕ, ◌<◌, ◌+◌, Bool, true, false, ◌⊎◌, inl, inr, List, [], ◌∷◌, ◌++◌, map, filter, append_assoc, get_or, take, length, refl, sym, ap, subst, ◌∙◌, arith, nat_eq, rules, Contains}
+use Rattle.std.specs.List.{flat_map, list_any}
 use Rattle.std.specs.Map.{keys_of}
 use Rattle.std.proofs.lemmas.List.{append-nil, map-append, take_more}
 use Rattle.std.proofs.lemmas.List.Concat.{flat_map-append}
@@ -210,7 +210,6 @@ ids_of-append xs ys = flat_map-append (λ (e : Entry). id_of e.0) xs ys
 
 pub keys_of-append : (xs ys : List Entry) → keys_of (xs ++ ys) ≡ keys_of xs ++ keys_of ys
 keys_of-append xs ys = map-append (λ (e : Entry). e.0) xs ys
-
 
 -- what is added after what was added
 pub fresh_entries-next : (old now new xs ys : List Entry) → now ≡ old ++ fresh_entries (keys_of old) xs → new ≡ now ++ fresh_entries (keys_of now) ys → new ≡ old ++ fresh_entries (keys_of old) (xs ++ ys)

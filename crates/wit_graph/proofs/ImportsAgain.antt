@@ -1,17 +1,17 @@
 -- Elaborated imports are their own elaboration, and each stands after what it uses.
-use Rattle.std.proofs.Common.{◌≡◌, ℕ, zero, suc, ◌<◌, ◌≤◌, ◌+◌, Bool, true, false, cond, not, ◌&&◌, ◌⊎◌, ◌↔◌, inl, inr, List, [], ◌∷◌, ◌++◌, map, filter, append_assoc, get_or, take, drop, length, refl, sym, ap, subst, ◌∙◌, arith, eqb, nat_eq, rules, Contains, All}
-use Rattle.std.specs.List.{flat_map, list_any, AllByRecursion}
+use Rattle.std.proofs.Common.{◌≡◌, ℕ, ◌<◌, Bool, true, not, inl, inr, List, [], ◌∷◌, ◌++◌, map, length, refl, sym, ap, subst, ◌∙◌, Contains}
+use Rattle.std.specs.List.{flat_map, list_any}
 use Rattle.std.specs.Map.{keys_of}
 use Rattle.std.proofs.lemmas.List.{append-nil}
-use Rattle.std.proofs.lemmas.List.Elements.{Contains-append_cases, Contains-append_left, Contains-append_right}
+use Rattle.std.proofs.lemmas.List.Elements.{Contains-append_cases, Contains-append_right}
 use Rattle.wit_items.specs.declared.types.TypeDef.{TypeDef}
-use Rattle.wit_items.specs.declared.world.WorldKey.TheVariants.{Name, Interface}
+use Rattle.wit_items.specs.declared.world.WorldKey.TheVariants.{Interface}
 use Rattle.wit_relations.proofs.Fresh.{any_from_contains, contains_from_any}
 use Rattle.wit_relations.proofs.Members.{Contains-nil, Contains-here, Contains-there, Contains-cons_cases, Contains-flat_map, Contains-flat_map_cases}
 use Rattle.wit_relations.specs.Relation.{IsAcyclic}
 use Rattle.wit_relations.specs.Walks.{UsesFirst}
-use Rattle.wit_graph.specs.Entries.{Entry, Role, Instance, role_of, instance_of, is_interface, ids_of, same_key, by_class, fresh_entries}
-use Rattle.wit_graph.specs.Elaborated.{Carried, dependency_of, needs, entry_walk, import_carries, export_carries, settled_item, import_walk, import_steps, export_imports, elaborated_imports, elaborated_exports}
+use Rattle.wit_graph.specs.Entries.{Entry, Instance, role_of, instance_of, is_interface, ids_of, same_key, by_class, fresh_entries}
+use Rattle.wit_graph.specs.Elaborated.{Carried, dependency_of, needs, import_carries, export_carries, settled_item, import_walk, import_steps, export_imports, elaborated_imports, elaborated_exports}
 use Rattle.wit_graph.specs.ElaborationLaws.{DependenciesFirst}
 use Rattle.wit_graph.specs.Imported.{HasConflict, exported_keys, is_exported}
 use Rattle.wit_graph.specs.Listed.{IsRoleInRange}
@@ -21,7 +21,7 @@ use Rattle.wit_graph.proofs.ExportedUses.{id_inj}
 use Rattle.wit_graph.proofs.ExportsAgain.{functions, kept, made, exported_below, test_same}
 use Rattle.wit_graph.proofs.Filters.{Contains-filter}
 use Rattle.wit_graph.proofs.FreshEntries.{Contains-keys, Contains-deps, deps-Contains, known_from_contains, fresh_entries_in, fresh_entries_all, fresh_entries-append, fresh_entries-all_known, fresh_entries-AllNew}
-use Rattle.wit_graph.proofs.Order.{AreOwn, DependenciesFirst-append, DependenciesFirst-fresh, DependenciesFirst-map, entry_walks_first}
+use Rattle.wit_graph.proofs.Order.{DependenciesFirst-append, DependenciesFirst-fresh, DependenciesFirst-map, entry_walks_first}
 use Rattle.wit_graph.proofs.Roles.{InOrder, instance_from_role, role_of-settled, settled_item-settled}
 use Rattle.wit_graph.proofs.Steps.{import_steps_first, import_steps_below, needs_below}
 
@@ -167,4 +167,3 @@ module _ (types : List TypeDef) where
 
     pub imports_first : DependenciesFirst types uses [] (by_class types all_imports)
     imports_first = DependenciesFirst-by_class types uses all_imports (λ f i has. (import_fine f has).own i) all_imports_first
-

@@ -1,11 +1,11 @@
 -- Searches in the order of a walk: what they have found so far.
-use Rattle.std.proofs.Common.{◌≡◌, ℕ, zero, suc, ◌+◌, ◌<◌, ◌≤◌, ◌⊎◌, inl, inr, List, [], ◌∷◌, ◌++◌, take, get_or, length, Option, Some, None, slice_get, append_assoc, refl, sym, ap, ◌∙◌, subst, arith, Contains, All}
+use Rattle.std.proofs.Common.{◌≡◌, ℕ, zero, suc, ◌+◌, ◌<◌, ◌≤◌, ◌⊎◌, inl, inr, List, [], ◌∷◌, ◌++◌, take, get_or, length, Some, slice_get, append_assoc, refl, sym, subst, arith, Contains}
 use Rattle.std.proofs.lemmas.List.{append-nil, take_more, take_all}
-use Rattle.std.proofs.lemmas.List.Elements.{Contains-append_cases, Contains-append_left, Contains-append_right, All-contains, Contains-get_or}
+use Rattle.std.proofs.lemmas.List.Elements.{Contains-append_cases, Contains-append_left, Contains-append_right, All-contains}
 use Rattle.wit_values.specs.Lists.{take-next_at}
 use Rattle.wit_relations.proofs.Fresh.{fresh_in, fresh_all}
 use Rattle.wit_relations.proofs.Members.{Contains-nil, Contains-here, Contains-there, Contains-cons_cases}
-use Rattle.wit_relations.specs.Relation.{direct, IsPath, Reaches}
+use Rattle.wit_relations.specs.Relation.{direct, IsPath}
 use Rattle.wit_relations.specs.Walks.{UsesFirst, fresh}
 use Rattle.wit_graph.specs.Elaborating.{ReachesOneOf, AreMarked, AreOutside, HasMarkedUse}
 

@@ -1,16 +1,16 @@
 -- Where nothing is in conflict, one walk of an exported interface gives both its imports and its exports.
-use Rattle.std.proofs.Common.{◌≡◌, ℕ, zero, suc, ◌<◌, ◌≤◌, ◌+◌, Bool, true, false, cond, not, ◌⊎◌, inl, inr, List, [], ◌∷◌, ◌++◌, map, filter, length, refl, sym, ap, subst, ◌∙◌, arith, nat_eq, Contains, All}
-use Rattle.std.specs.List.{flat_map, list_any}
+use Rattle.std.proofs.Common.{◌≡◌, ℕ, ◌<◌, Bool, true, false, cond, not, inl, inr, List, [], ◌∷◌, ◌++◌, filter, length, sym, ap, ◌∙◌, arith, Contains}
+use Rattle.std.specs.List.{flat_map}
 use Rattle.std.proofs.lemmas.List.{append-nil, length-map}
 use Rattle.std.proofs.lemmas.Bool.{cases_Bool, false≢true, cond-true, cond-false, false_from_ne_true}
 use Rattle.std.proofs.lemmas.List.Elements.{All-contains, filter-append}
 use Rattle.wit_relations.proofs.Fresh.{any_from_contains, contains_from_any}
 use Rattle.wit_relations.proofs.Members.{flat_map-same}
 use Rattle.wit_relations.proofs.Walks.{uses_ind, walk_is, Reaches-from_walk}
-use Rattle.wit_relations.specs.Relation.{direct, IsPath, Reaches, IsAcyclic}
+use Rattle.wit_relations.specs.Relation.{direct, IsAcyclic}
 use Rattle.wit_relations.specs.Walks.{walk}
 use Rattle.wit_graph.specs.Elaborated.{needs, import_steps, exported_uses}
-use Rattle.wit_graph.specs.Entries.{Entry, Role, Instance, instance_of}
+use Rattle.wit_graph.specs.Entries.{Entry, Instance}
 use Rattle.wit_graph.specs.Imported.{HasConflict, is_exported, exported_keys, exported_interfaces}
 use Rattle.wit_graph.proofs.ExportedUses.{among-acyclic, direct-among}
 use Rattle.wit_graph.proofs.Filters.{filter-all, filter-none, filter-pass, filter-fail, filter-flat_map, flat_map-filter}
@@ -63,4 +63,3 @@ module _ (uses : List (List ℕ)) (acyclic : IsAcyclic uses) (exports : List Ent
             rw (cond-false (E j) (walk (exported_uses E uses) j) [] off) (sym (filter-none E (walk uses j) (λ m has. beyond i j m exported among off has)))
       ])
       ∙ sym (filter-flat_map E (walk uses) (direct uses i)))
-

@@ -1,22 +1,21 @@
 -- From what a search found to the clauses of an elaboration.
-use Rattle.std.proofs.Common.{◌≡◌, ℕ, zero, suc, ◌<◌, List, [], ◌∷◌, ◌++◌, take, drop, length, Ok, Err, Option, Some, None, slice_get, refl, sym, ap, ◌∙◌, subst, arith, Contains, All}
+use Rattle.std.proofs.Common.{◌≡◌, ℕ, zero, suc, ◌<◌, List, [], ◌∷◌, ◌++◌, take, drop, length, Ok, Err, Some, None, slice_get, refl, sym, ap, ◌∙◌, subst, arith, All}
 use Rattle.std.specs.declared.result.Result.{Result}
 use Rattle.std.specs.Result.{OnOk}
 use Rattle.std.proofs.lemmas.List.{length-map}
-use Rattle.wit_items.specs.Uses.{uses_of, interface_uses}
+use Rattle.wit_items.specs.Uses.{interface_uses}
 use Rattle.wit_items.specs.declared.types.TypeDef.{TypeDef}
 use Rattle.wit_items.specs.declared.world.World.{World}
 use Rattle.wit_relations.specs.Relation.{IsAcyclic}
 use Rattle.wit_graph.specs.declared.entries.Lists.{Lists}
 use Rattle.wit_graph.specs.declared.error_kind.ResolveErrorKind.{ResolveErrorKind}
-use Rattle.wit_graph.specs.declared.error_kind.ResolveErrorKind.TheVariants.{InvalidTransitiveDependency, OutOfMemory}
 use Rattle.wit_graph.specs.declared.graph.Graph.{Graph}
 use Rattle.wit_graph.specs.Elaborated.{elaborated_imports, elaborated_exports}
 use Rattle.wit_graph.specs.Elaborating.{IsFirstConflict}
 use Rattle.wit_graph.specs.Elaboration.{AreElaborated, graph_uses, HasConflictAt, IsConflictError, IsErrorAt}
 use Rattle.wit_graph.specs.Entries.{Entry}
 use Rattle.wit_graph.specs.IdText.{key_text}
-use Rattle.wit_graph.specs.Imported.{HasConflict, IsInConflict, IsRefusedKey, IsRefusedName, exported_keys, exported_interfaces}
+use Rattle.wit_graph.specs.Imported.{HasConflict, IsRefusedKey, IsRefusedName, exported_keys, exported_interfaces}
 use Rattle.wit_graph.specs.Listed.{IsListed}
 use Rattle.wit_graph.proofs.ConflictIs.{conflict_found, conflict_from}
 use Rattle.wit_graph.proofs.ElaboratedIs.{interfaces_below, keys_below, own_keys}

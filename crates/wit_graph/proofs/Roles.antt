@@ -1,17 +1,15 @@
 -- What an item is to elaboration, and what lists in order say of their entries.
-use Rattle.std.proofs.Common.{◌≡◌, ℕ, ◌<◌, Bool, true, false, inl, inr, List, [], ◌∷◌, Option, Some, None, length, refl, sym, ap, subst, ◌∙◌, Contains}
+use Rattle.std.proofs.Common.{◌≡◌, ℕ, true, inl, inr, List, [], ◌∷◌, Option, Some, None, refl, ap, subst, Contains}
 use Rattle.std.specs.List.{AllByRecursion}
 use Rattle.wit_items.specs.Function.{resource_of}
 use Rattle.wit_items.specs.Uses.{type_interface_dep}
 use Rattle.wit_items.specs.declared.types.TypeDef.{TypeDef}
 use Rattle.wit_items.specs.declared.world.WorldItem.{WorldItem}
 use Rattle.wit_items.specs.declared.world.WorldItem.TheVariants as item
-use Rattle.wit_items.specs.declared.world.WorldKey.{WorldKey}
-use Rattle.wit_items.specs.declared.world.WorldKey.TheVariants.{Name, Interface}
 use Rattle.wit_relations.proofs.Members.{Contains-nil, Contains-cons_cases}
-use Rattle.wit_graph.specs.Entries.{Entry, Role, Instance, TypeUse, TypeDefinition, FreeFunction, ResourceFunction, type_role, function_role, role_of, instance_of, is_instance, class_of}
+use Rattle.wit_graph.specs.Entries.{Entry, Instance, type_role, function_role, role_of, instance_of, is_instance, class_of}
 use Rattle.wit_graph.specs.Elaborated.{settled_item}
-use Rattle.wit_graph.specs.Listed.{IsUnderOwnKey, IsRoleInRange, AreListed, IsListed}
+use Rattle.wit_graph.specs.Listed.{IsUnderOwnKey, IsRoleInRange, IsListed}
 use Rattle.wit_graph.proofs.Order.{AreOwn}
 
 -- what is so of each element is so of a member

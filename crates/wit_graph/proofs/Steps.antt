@@ -1,11 +1,11 @@
 -- What an exported interface imports along its uses.
-use Rattle.std.proofs.Common.{◌≡◌, ℕ, zero, suc, ◌<◌, ◌≤◌, ◌+◌, Bool, true, false, cond, not, ◌&&◌, ◌⊎◌, ◌↔◌, inl, inr, List, [], ◌∷◌, ◌++◌, map, filter, append_assoc, get_or, take, drop, length, refl, sym, ap, subst, ◌∙◌, arith, eqb, nat_eq, rules, Contains, All}
-use Rattle.std.specs.List.{flat_map, list_any, AllByRecursion}
-use Rattle.std.proofs.lemmas.Bool.{cond_both, cond-true, cond-false}
+use Rattle.std.proofs.Common.{◌≡◌, ℕ, zero, suc, ◌<◌, Bool, cond, List, [], ◌∷◌, ◌++◌, length, refl, sym, ap, arith, Contains}
+use Rattle.std.specs.List.{flat_map}
+use Rattle.std.proofs.lemmas.Bool.{cond_both}
 use Rattle.std.proofs.lemmas.List.Elements.{All-contains}
-use Rattle.wit_relations.proofs.Members.{Contains-nil, Contains-here, Contains-there, Contains-flat_map, Contains-flat_map_cases, flat_map-same}
-use Rattle.wit_relations.proofs.Walks.{HasShortPaths, IsAcyclic-short, Reaches-from_walk, UsesFirst-append, UsesFirst-walk, walk-from_IsPath}
-use Rattle.wit_relations.specs.Relation.{direct, IsPath, Reaches, IsAcyclic}
+use Rattle.wit_relations.proofs.Members.{Contains-nil, Contains-here, Contains-there, Contains-flat_map_cases, flat_map-same}
+use Rattle.wit_relations.proofs.Walks.{HasShortPaths, IsAcyclic-short, Reaches-from_walk, UsesFirst-append, UsesFirst-walk}
+use Rattle.wit_relations.specs.Relation.{direct, IsPath, IsAcyclic}
 use Rattle.wit_relations.specs.Walks.{UsesFirst, walk}
 use Rattle.wit_graph.specs.Entries.{Role, Instance, TypeUse, TypeDefinition, FreeFunction, ResourceFunction}
 use Rattle.wit_graph.specs.Elaborated.{needs, import_steps_within, import_steps}
@@ -62,4 +62,3 @@ steps-more uses exported (suc members) i short =
 pub steps_are : (uses : List (List ℕ)) → IsAcyclic uses → (exported : ℕ → Bool) (i : ℕ) → i < length uses → import_steps uses exported i ≡ flat_map (λ j. cond (exported j) (import_steps uses exported j) (walk uses j)) (direct uses i)
 unfolding import_steps_within import_steps
 steps_are uses acyclic exported i here = sym (steps-more uses exported (length uses) i (IsAcyclic-short uses acyclic i here))
-

@@ -1,15 +1,13 @@
 -- The laws of elaboration.
-use Rattle.std.proofs.Common.{◌≡◌, ℕ, ◌↔◌, inl, inr, List, [], length, sym, ap, subst, ◌∙◌, Contains}
+use Rattle.std.proofs.Common.{◌≡◌, ℕ, inl, inr, List, [], length, sym, ap, subst, Contains}
 use Rattle.std.specs.List.{flat_map}
 use Rattle.wit_items.specs.declared.types.TypeDef.{TypeDef}
 use Rattle.wit_items.specs.declared.world.World.{World}
 use Rattle.wit_relations.proofs.Members.{Contains-flat_map, Contains-flat_map_cases}
-use Rattle.wit_relations.specs.Relation.{IsAcyclic}
 use Rattle.wit_graph.specs.Entries.{Entry, role_of, instance_of, id_of, ids_of}
 use Rattle.wit_graph.specs.Elaborated.{Elaborated, elaborated_imports, elaborated_exports}
 use Rattle.wit_graph.specs.ElaborationLaws.{ElaboratesOnce, ImportsAreExact, ImportsKeepOrder, OrderIsFree, SameEntries, DependenciesFirst}
 use Rattle.wit_graph.specs.Imported.{Needed, HasConflict, IsImported, roots_of}
-use Rattle.wit_graph.specs.Listed.{IsListed}
 use Rattle.wit_graph.proofs.Exact.{exact_to, exact_from}
 use Rattle.wit_graph.proofs.ExportsAgain.{exports_again}
 use Rattle.wit_graph.proofs.ImportsAgain.{imports_again, imports_first, no_conflict_again}

@@ -1,22 +1,19 @@
 -- The elaboration of a world: its imports with all that they and the exports need, and its exports
 -- in the order of their uses.
 -- Source: `elaborate_world` of wit-parser 0.263.0.
-use Rattle.std.specs.Prelude.{ℕ, ◌≡◌, zero, suc, Bool, true, false, not, List, [], ◌∷◌, ◌++◌, Option, Some, None, map, filter, length, nat_eq, slice_get, if◌then◌else◌}
-use Rattle.std.specs.List.{flat_map, list_any}
+use Rattle.std.specs.Prelude.{ℕ, ◌≡◌, zero, suc, Bool, not, List, [], ◌∷◌, ◌++◌, None, map, filter, length, slice_get, if◌then◌else◌}
+use Rattle.std.specs.List.{flat_map}
 use Rattle.std.specs.Option.{option_map_or}
-use Rattle.wit_items.specs.declared.stability.Docs.{Docs}
-use Rattle.wit_items.specs.declared.stability.Stability.{Stability}
 use Rattle.wit_items.specs.declared.stability.Stability.TheVariants as stability
 use Rattle.wit_items.specs.declared.types.TypeDef.{TypeDef}
 use Rattle.wit_items.specs.declared.world.WorldItem.{WorldItem}
 use Rattle.wit_items.specs.declared.world.WorldItem.TheVariants as item
 use Rattle.wit_items.specs.declared.world.World.{World}
-use Rattle.wit_items.specs.declared.world.WorldKey.{WorldKey}
-use Rattle.wit_items.specs.declared.world.WorldKey.TheVariants.{Name, Interface}
+use Rattle.wit_items.specs.declared.world.WorldKey.TheVariants.{Interface}
 pub use Rattle.wit_graph.specs.declared.entries.Carried.{Carried}
 use Rattle.wit_relations.specs.Relation.{direct}
 use Rattle.wit_relations.specs.Walks.{walk}
-use Rattle.wit_graph.specs.Entries.{Entry, Role, Instance, TypeUse, TypeDefinition, FreeFunction, ResourceFunction, role_of, instance_of, is_interface, ids_of, fresh_entries, by_class}
+use Rattle.wit_graph.specs.Entries.{Entry, Role, Instance, TypeUse, TypeDefinition, FreeFunction, ResourceFunction, role_of, instance_of, is_interface, fresh_entries, by_class}
 use Rattle.wit_graph.specs.Imported.{HasConflict, is_exported}
 
 -- ---- what a dependency carries

@@ -8,7 +8,7 @@ use Rattle.wit_relations.specs.Walks.{Listed, UsesFirst}
 use Rattle.wit_graph.specs.declared.marks.Marks.{Marks}
 use Rattle.wit_graph.specs.Elaborated.{dependency_of, export_carries, needs}
 use Rattle.wit_graph.specs.Entries.{Entry, Instance, instance_of}
-use Rattle.wit_graph.specs.Imported.{exported_keys, exported_interfaces, is_exported, IsInConflict}
+use Rattle.wit_graph.specs.Imported.{exported_keys, IsInConflict}
 
 -- what was walked has all its uses walked before it
 pub record IsWalk (uses : List (List ℕ)) (walked : Listed) : Type 0 where

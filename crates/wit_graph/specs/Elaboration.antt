@@ -1,5 +1,5 @@
 -- The elaboration of one world of a graph.
-use Rattle.std.specs.Prelude.{ℕ, ◌≡◌, List, Option, Some, None, length, slice_get, slice_set}
+use Rattle.std.specs.Prelude.{ℕ, ◌≡◌, ◌<◌, List, Some, length, slice_get, slice_set}
 use Rattle.std.specs.Option.{ForSome}
 use Rattle.wit_items.specs.Uses.{uses_of}
 use Rattle.wit_items.specs.declared.world.World.{World}
@@ -54,3 +54,9 @@ IsElaborationError g id kind = ForSome (slice_get g.worlds id) (λ (world : Worl
 abbrev pub IsErrorAt : Graph → World → ℕ → ResolveErrorKind → Type 0
 IsErrorAt g world at e =
     (entry : Entry) × (slice_get world.exports at ≡ Some entry) × (e ≡ InvalidTransitiveDependency world.span (key_text g.packages g.interfaces entry.0))
+
+-- a world can be elaborated: it is there, its keys and ids are in order, and uses are acyclic
+pub record CanElaborate (g : Graph) (id : ℕ) : Type 0 where
+  pub there : id < length g.worlds
+  pub acyclic : IsAcyclic (graph_uses g)
+  pub listed : IsListedAt g id

@@ -1,5 +1,5 @@
 -- Laws of elaboration, over all acyclic uses and all lists of entries in order.
-use Rattle.std.specs.Prelude.{ℕ, ◌≡◌, ◌↔◌, List, [], ◌∷◌, ◌++◌, length, Contains, All}
+use Rattle.std.specs.Prelude.{ℕ, ◌↔◌, List, [], ◌∷◌, ◌++◌, length, Contains, All}
 use Rattle.wit_items.specs.declared.types.TypeDef.{TypeDef}
 use Rattle.wit_items.specs.declared.world.World.{World}
 use Rattle.wit_relations.specs.Relation.{direct, IsAcyclic}
@@ -44,4 +44,3 @@ SameEntries xs ys = (e : Entry) → Contains xs e ↔ Contains ys e
 abbrev pub OrderIsFree : Type 0
 OrderIsFree = (types : List TypeDef) (uses : List (List ℕ)) (imports imports' exports exports' : List Entry) → SameEntries imports imports' → SameEntries exports exports' →
     (HasConflict uses exports ↔ HasConflict uses exports') × ((j : ℕ) → IsImported types uses imports exports j ↔ IsImported types uses imports' exports' j)
-

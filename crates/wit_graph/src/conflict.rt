@@ -88,12 +88,7 @@ fn has_any(listing: &Listing, nodes: &[usize]) -> bool
 }
 
 /// Whether a node is a target, or one of its uses is marked.
-fn is_reaching(
-    uses: &[Items<usize>],
-    targets: &Listing,
-    marked: &Listing,
-    node: usize,
-) -> bool
+fn is_reaching(uses: &[Items<usize>], targets: &Listing, marked: &Listing, node: usize) -> bool
     requires acyclic { IsAcyclic uses.now }
     requires node { node < length uses.now }
     requires targets { targets.now.nodes ≡ length uses.now }
@@ -201,14 +196,24 @@ fn find_conflict(
     marks.outside.clear();
     marks.leading.clear();
     walk_exports(alloc, uses, exports, &mut marks.walked)?;
-    mark_reaching(uses, marks.walked.order(), &marks.exported, &mut marks.reaching)?;
+    mark_reaching(
+        uses,
+        marks.walked.order(),
+        &marks.exported,
+        &mut marks.reaching,
+    )?;
     list_outside(
         marks.walked.order(),
         &marks.reaching,
         &marks.exported,
         &mut marks.outside,
     )?;
-    mark_reaching(uses, marks.walked.order(), &marks.outside, &mut marks.leading)?;
+    mark_reaching(
+        uses,
+        marks.walked.order(),
+        &marks.outside,
+        &mut marks.leading,
+    )?;
     Ok(first_conflict(uses, exports, &marks.leading))
 }
 

@@ -113,10 +113,7 @@ pub(crate) fn add_dependencies(
 
 /// What the dependencies of an import carry: the stability of the interface, or of the type that is
 /// used, and no external id.
-pub(crate) fn import_carried(
-    types: &[TypeDef],
-    item: &WorldItem,
-) -> Result<Carried, AllocError>
+pub(crate) fn import_carried(types: &[TypeDef], item: &WorldItem) -> Result<Carried, AllocError>
     ensures { IfOk result (λ carried. carried ≡ import_carries types.now item.now) }
 {
     let stability = match item {

@@ -25,7 +25,11 @@ struct Parted {
 }
 
 /// Parts interfaces by whether they are exported.
-fn part_by_export(alloc: Global, exported: &Listing, interfaces: &[usize]) -> Result<Parted, AllocError>
+fn part_by_export(
+    alloc: Global,
+    exported: &Listing,
+    interfaces: &[usize],
+) -> Result<Parted, AllocError>
     requires { All (λ i. i < exported.now.nodes) interfaces.now }
     ensures exported { IfOk result (λ p. p.exported ≡ filter (is_listed exported.now) interfaces.now) }
     ensures others { IfOk result (λ p. p.others ≡ filter (λ i. not (is_listed exported.now i)) interfaces.now) }

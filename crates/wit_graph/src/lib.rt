@@ -3,6 +3,7 @@
 
 pub mod cause;
 mod conflict;
+pub mod elaborable;
 pub mod elaboration;
 pub mod entries;
 pub mod error;
@@ -17,6 +18,7 @@ pub mod questions;
 pub mod role;
 
 pub use crate::cause::Cause;
+pub use crate::elaborable::is_elaborable;
 pub use crate::elaboration::{Elaborator, elaborate};
 pub use crate::error::{ResolveError, ResolveResult};
 pub use crate::error_kind::ResolveErrorKind;

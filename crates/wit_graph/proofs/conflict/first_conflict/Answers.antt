@@ -1,4 +1,4 @@
-use Rattle.std.proofs.Common.{◌≡◌, ◌<◌, ℕ, [], ◌∷◌, List, length, ap, ◌∙◌, arith, sym, subst}
+use Rattle.std.proofs.Common.{◌<◌, length, arith}
 use Rattle.std.proofs.lemmas.List.Elements.{All-contains}
 use Rattle.wit_graph.specs.Entries.{Entry, instance_of}
 use Rattle.wit_graph.specs.Imported.{IsInConflict, exported_interfaces}

@@ -1,4 +1,4 @@
-use Rattle.std.proofs.Common.{◌≡◌, ◌<◌, ℕ, [], ◌∷◌, List, ap, ◌∙◌, arith, sym}
+use Rattle.std.proofs.Common.{◌<◌, ℕ, [], ◌∷◌, List, ap, ◌∙◌, arith}
 use Rattle.std.proofs.lemmas.List.Elements.{All-contains}
 use Rattle.wit_relations.specs.Walks.{Listed}
 use Rattle.wit_graph.specs.Entries.{Entry, id_of}

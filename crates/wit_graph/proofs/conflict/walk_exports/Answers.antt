@@ -1,4 +1,4 @@
-use Rattle.std.proofs.Common.{◌≡◌, ◌<◌, ℕ, [], ◌∷◌, List, length, ap, ◌∙◌, arith, sym, subst}
+use Rattle.std.proofs.Common.{◌<◌, length, ap, ◌∙◌, sym, subst}
 use Rattle.std.proofs.lemmas.List.Elements.{All-contains}
 use Rattle.wit_relations.specs.Walks.{Listed}
 use Rattle.wit_graph.specs.Elaborating.{IsWalk}

@@ -1,4 +1,4 @@
-use Rattle.std.proofs.Common.{◌++◌, [], List, ℕ, Bool, not, length, filter, ap, ◌∙◌}
+use Rattle.std.proofs.Common.{◌++◌, List, ℕ, Bool, not, length, filter, ap, ◌∙◌}
 use Rattle.std.specs.List.{flat_map}
 use Rattle.std.specs.Map.{keys_of}
 use Rattle.wit_graph.specs.Elaborating.{walked_exports, walked_imports}

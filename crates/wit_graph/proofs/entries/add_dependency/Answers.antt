@@ -1,4 +1,3 @@
-use Rattle.std.proofs.Common.{ap}
 use Rattle.wit_items.specs.declared.world.WorldKey.TheVariants.{Interface}
 use Rattle.wit_graph.proofs.Keys.{lookup-absent}
 use Rattle.wit_graph.proofs.entries.add_dependency.Goals as goal

@@ -1,4 +1,4 @@
-use Rattle.std.proofs.Common.{◌≡◌, ◌++◌, ◌∷◌, [], ℕ, Bool, not, filter, take, List, ap, ◌∙◌, sym}
+use Rattle.std.proofs.Common.{◌++◌, ◌∷◌, [], ℕ, Bool, not, filter, take, List, ap, ◌∙◌, sym}
 use Rattle.std.specs.Map.{keys_of}
 use Rattle.wit_graph.specs.Entries.{Entry, fresh_entries, is_interface}
 use Rattle.wit_graph.proofs.Exporting.{filter-next, filter-skip, instance_is, no_instance_is}

@@ -1,9 +1,9 @@
-use Rattle.std.proofs.Common.{◌≡◌, ◌++◌, ◌∷◌, ◌<◌, [], ℕ, Bool, List, length, ap, ◌∙◌, sym, subst}
+use Rattle.std.proofs.Common.{◌++◌, ◌<◌, ℕ, Bool, List, length, ap, ◌∙◌, sym}
 use Rattle.std.specs.Map.{keys_of}
 use Rattle.std.proofs.lemmas.List.Elements.{All-contains}
 use Rattle.wit_relations.specs.Walks.{Listed}
 use Rattle.wit_graph.specs.declared.entries.Lists.{Lists}
-use Rattle.wit_graph.specs.Elaborating.{IsExporting, is_listed}
+use Rattle.wit_graph.specs.Elaborating.{is_listed}
 use Rattle.wit_graph.specs.Entries.{Entry, fresh_entries, instance_of}
 use Rattle.wit_graph.specs.Imported.{exported_interfaces}
 use Rattle.wit_graph.proofs.ExportSteps.{given_at, nothing_given}

@@ -1,5 +1,4 @@
-use Rattle.std.proofs.Common.{◌≡◌, ℕ, Bool, true, false, not, List, get_or, nat_eq, ap, ◌∙◌, arith}
-use Rattle.std.specs.List.{list_any}
+use Rattle.std.proofs.Common.{◌≡◌, ℕ, Bool, true, false, not, List, get_or, ap, ◌∙◌, arith}
 use Rattle.wit_relations.proofs.Fresh.{any_from_contains, no_any_from}
 use Rattle.wit_graph.specs.Elaborating.{is_listed}
 use Rattle.wit_graph.specs.declared.exports.Parted.{Parted}

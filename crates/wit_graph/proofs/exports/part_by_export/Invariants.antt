@@ -1,4 +1,4 @@
-use Rattle.std.proofs.Common.{ℕ, ◌≡◌, not, filter, take}
+use Rattle.std.proofs.Common.{◌≡◌, not, filter, take}
 use Rattle.wit_graph.specs.Elaborating.{is_listed}
 use Rattle.wit_graph.proofs.exports.part_by_export.Given as goal
 

@@ -1,6 +1,6 @@
-use Rattle.std.proofs.Common.{◌≡◌, ℕ, ◌++◌, List, sym, ap, ◌∙◌}
+use Rattle.std.proofs.Common.{◌≡◌, ◌++◌, List, sym, ap, ◌∙◌}
 use Rattle.std.specs.Map.{keys_of}
-use Rattle.wit_graph.specs.Entries.{Entry, Role, class_of, fresh_entries, of_class, role_of}
+use Rattle.wit_graph.specs.Entries.{Entry, Role, class_of, fresh_entries, role_of}
 use Rattle.wit_graph.proofs.FirstClasses.{class_copied, class_passed}
 use Rattle.wit_graph.proofs.imports.add_class.Goals.{then-class+in_ok-add_copy, else-class}
 use Rattle.wit_graph.proofs.imports.add_class.Goals as goal

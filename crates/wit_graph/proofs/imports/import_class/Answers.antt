@@ -1,9 +1,8 @@
-use Rattle.std.proofs.Common.{◌≡◌, ℕ, ◌++◌, List, sym, ap, ◌∙◌}
+use Rattle.std.proofs.Common.{◌≡◌, ◌++◌, List, sym, ap, ◌∙◌}
 use Rattle.std.specs.List.{flat_map}
 use Rattle.std.specs.Map.{keys_of}
 use Rattle.wit_relations.specs.Walks.{Listed}
 use Rattle.wit_graph.specs.Elaborated.{import_walk}
-use Rattle.wit_graph.specs.Elaborating.{IsImporting}
 use Rattle.wit_graph.specs.Entries.{Entry, Role, class_of, fresh_entries, role_of}
 use Rattle.wit_graph.proofs.FirstClasses.{class_walked, class_passed}
 use Rattle.wit_graph.proofs.Importing.{importing_same}

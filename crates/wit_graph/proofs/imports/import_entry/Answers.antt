@@ -1,6 +1,5 @@
-use Rattle.std.proofs.Common.{◌≡◌, ◌++◌, List, ℕ, length, drop, ap, ◌∙◌, sym, arith, subst}
+use Rattle.std.proofs.Common.{◌≡◌, ◌++◌, List, ℕ, length, drop, ap, ◌∙◌}
 use Rattle.std.proofs.lemmas.Result.{on_ok_weaker}
-use Rattle.wit_items.specs.declared.world.WorldItem.{WorldItem}
 use Rattle.wit_relations.specs.Walks.{Listed, fresh}
 use Rattle.wit_graph.specs.Elaborated.{needs}
 use Rattle.wit_graph.specs.Entries.{Entry, Role, role_of}

@@ -1,4 +1,4 @@
-use Rattle.std.proofs.Common.{◌≡◌, take, []}
+use Rattle.std.proofs.Common.{◌≡◌, []}
 use Rattle.std.specs.List.{flat_map}
 use Rattle.wit_graph.specs.Elaborated.{import_walk}
 use Rattle.wit_graph.specs.Elaborating.{IsImporting}

@@ -1,4 +1,4 @@
-use Rattle.std.proofs.Common.{◌∙◌, ◌≡◌, ◌++◌, ◌<◌, length, List, ℕ, get_or, ap, arith, subst}
+use Rattle.std.proofs.Common.{◌∙◌, ◌≡◌, ◌++◌, ◌<◌, length, List, ℕ, get_or, ap, arith}
 use Rattle.wit_relations.specs.Relation.{direct}
 use Rattle.wit_relations.specs.Walks.{Listed, fresh, walk}
 use Rattle.wit_graph.proofs.Importing.{walks-next}

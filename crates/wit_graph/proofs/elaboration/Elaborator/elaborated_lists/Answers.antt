@@ -1,11 +1,8 @@
-use Rattle.std.proofs.Common.{◌≡◌, ◌<◌, List, ℕ, All, Some, slice_get, length, ap, ◌∙◌, sym, subst}
+use Rattle.std.proofs.Common.{◌≡◌, Some, slice_get, ◌∙◌, sym, subst}
 use Rattle.wit_relations.specs.Relation.{IsAcyclic}
 use Rattle.wit_items.specs.declared.world.World.{World}
-use Rattle.wit_graph.specs.Elaborated.{elaborated_exports, elaborated_imports}
 use Rattle.wit_graph.specs.Elaborating.{IsFirstConflict}
 use Rattle.wit_graph.specs.Elaboration.{graph_uses, IsConflictError}
-use Rattle.wit_graph.specs.Imported.{HasConflict}
-use Rattle.wit_graph.specs.Listed.{IsListed}
 use Rattle.wit_graph.proofs.Refusing.{below_from_get, conflict_cause, interfaces_in_range, keys_in_range, listed_over, lists_elaborated, none_found}
 use Rattle.wit_graph.proofs.elaboration.Elaborator.elaborated_lists.Goals as goal
 
