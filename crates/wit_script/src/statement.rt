@@ -1,7 +1,7 @@
 //! What a line says by its tokens alone.
 ghost use Rattle.std.specs.Prelude.{◌≡◌, map};
 ghost use Rattle.wit_script.specs.Reading.{IsRead};
-ghost use Rattle.wit_script.specs.Statement.{statement_of, package_line_by, is_gate, has_gate, local_path_of, package_statement_of, interface_line_of, world_line_of, type_line_of, use_line_of, import_line_of, push_statement_of, print_statement_of, select_statement_of};
+ghost use Rattle.wit_script.specs.Statement.{statement_of, package_line_by, is_gate, has_gate, local_path_of, package_statement_of, interface_line_of, world_line_of, type_line_of, use_line_of, import_line_of, import_of, push_statement_of, print_statement_of, select_statement_of};
 ghost use Rattle.wit_script.specs.Token.{package_name_of};
 
 use crate::fault::LineFault;
@@ -180,14 +180,19 @@ fn import_line(alloc: Global, arguments: &[&str]) -> Result<PackageLine, LineFau
     ensures { IsRead (import_line_of (map (λ t. t.now) arguments.now)) result }
 {
     match arguments {
-        [path] => {
-            if path.as_bytes().contains(&b'=') {
-                return Err(LineFault::NotUnderstood);
-            }
-            Ok(PackageLine::Import(local_path(alloc, path)?))
-        }
+        [path] => import_of(alloc, path),
         _ => Err(LineFault::NotUnderstood),
     }
+}
+
+/// The import of a path without a label.
+fn import_of(alloc: Global, path: &str) -> Result<PackageLine, LineFault>
+    ensures { IsRead (import_of path.now) result }
+{
+    if path.as_bytes().contains(&b'=') {
+        return Err(LineFault::NotUnderstood);
+    }
+    Ok(PackageLine::Import(local_path(alloc, path)?))
 }
 
 /// `push`

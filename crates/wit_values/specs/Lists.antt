@@ -1,6 +1,6 @@
 -- Facts about lists and tables that std doesn't have, for the proofs of the crates above. They say
 -- nothing about this crate's code.
-use Rattle.std.proofs.Common.{◌≡◌, ℕ, ◌+◌, suc, zero, Bool, true, false, cond, List, [], ◌∷◌, ◌++◌, ◌⊎◌, inl, inr, length, Option, None, Some, slice_get, slice_set, take, filter_map, map, refl, ◌∙◌, sym, ap, subst, add-one}
+use Rattle.std.proofs.Common.{◌≡◌, ℕ, ◌+◌, suc, zero, Bool, true, false, cond, List, [], ◌∷◌, ◌++◌, ◌⊎◌, inl, inr, length, Option, None, Some, slice_get, slice_set, take, filter_map, map, refl, ap, subst, add-one}
 use Rattle.std.proofs.lemmas.List.{append-nil, map-append}
 use Rattle.std.proofs.lemmas.List.Elements.{filter_map-append}
 use Rattle.std.specs.List.{AllByRecursion}
@@ -67,6 +67,7 @@ module _ {X : Type 0} where
   AllByRecursion-push P [] x all here = (here, tt)
   AllByRecursion-push P (z ∷ zs) x all here = (all.0, AllByRecursion-push P zs x all.1 here)
 
+  -- what holds of each element, as a weaker fact
   pub AllByRecursion-weaker : (P Q : X → Type 0) → ((x : X) → P x → Q x) → (xs : List X) → AllByRecursion P xs → AllByRecursion Q xs
   AllByRecursion-weaker P Q f [] all = tt
   AllByRecursion-weaker P Q f (z ∷ zs) all = (f z all.0, AllByRecursion-weaker P Q f zs all.1)
@@ -91,6 +92,7 @@ module _ {X Y : Type 0} where
       → filter_map f (take (i + 1) xs) ≡ filter_map f (take i xs) ++ y ∷ []
   filter_map-next_some f xs i x y at gives = rw (take-next_at xs i x at, filter_map-append f (take i xs) (x ∷ []), gives) refl
 
+  -- and where one more gives nothing
   pub filter_map-next_none : (f : X → Option Y) (xs : List X) (i : ℕ) (x : X) → slice_get xs i ≡ Some x → f x ≡ None
       → filter_map f (take (i + 1) xs) ≡ filter_map f (take i xs)
   filter_map-next_none f xs i x at gives = rw (take-next_at xs i x at, filter_map-append f (take i xs) (x ∷ []), gives, append-nil) refl

@@ -1,5 +1,5 @@
 //! A growing list that contracts see as a list.
-ghost use Rattle.std.specs.Prelude.{◌≡◌, ◌++◌, ◌∷◌, [], ◌+◌, ◌^◌, length, slice_get, slice_set, Some, OnOk, OnErr, IsTrue, ◌↔◌, ◌<◌, take};
+ghost use Rattle.std.specs.Prelude.{◌≡◌, ◌++◌, ◌∷◌, [], ◌+◌, ◌^◌, length, slice_get, slice_set, Some, OnOk, OnErr, IfNone, IsTrue, ◌↔◌, ◌<◌, take};
 ghost use Rattle.std.specs.Cmp.Lexicographic.{pointwise, lists_equiv, lists_per};
 ghost use Rattle.std.specs.Borrow.{sem};
 ghost use Rattle.std.specs.Option.{option_copied, option_to_list};
@@ -49,24 +49,28 @@ impl<T> Items<T> {
         self.inner
     }
 
+    /// The items, in order, to look at.
     pub fn as_slice(&self) -> &[T]
         ensures { result.now ≡ self.now }
     {
         self.inner.as_slice()
     }
 
+    /// How many items it has.
     pub fn len(&self) -> usize
         ensures { result ≡ length self.now }
     {
         self.inner.len()
     }
 
+    /// Whether it has no item.
     pub fn is_empty(&self) -> bool
         ensures { IsTrue result ↔ (self.now ≡ []) }
     {
         self.inner.is_empty()
     }
 
+    /// The item at an index, or None where the list is no longer than that.
     pub fn get(&self, index: usize) -> Option<&T>
         ensures { option_copied result ≡ slice_get self.now index }
     {
@@ -84,7 +88,8 @@ impl<T> Items<T> {
         Ok(())
     }
 
-    /// Makes room for more items. Where it answers Ok, so many items can be added and counted.
+    /// Makes room for `additional` more items. Contracts, which see no room, learn where it answers
+    /// Ok that the list can count so many more.
     pub fn reserve(&mut self, additional: usize) -> Result<(), AllocError>
         ensures room { OnOk result (length self.old + additional < 2 ^ 64) }
         ensures same { self.new ≡ self.old }
@@ -120,7 +125,7 @@ impl<T> Items<T> {
         &mut self.inner[index]
     }
 
-    /// Puts an item in the place of another.
+    /// Puts an item in the place of another, which it gives back.
     pub fn replace(&mut self, index: usize, item: T) -> T
         requires { index < length self.old }
         ensures new { self.new ≡ slice_set self.old index item }
@@ -139,19 +144,22 @@ impl<T> Items<T> {
         drop(self.replace(index, item));
     }
 
+    /// Each item, in order.
     pub fn iter(&self) -> slice::Iter<'_, T>
         ensures { iter_rest result ≡ self.now }
     {
         self.inner.iter()
     }
 
+    /// The allocator that the list was made with, of which contracts say nothing.
     pub fn allocator(&self) -> Global {
         *self.inner.allocator()
     }
 
-    /// Takes the last item out.
+    /// Takes the last item out, or answers None where there is none.
     pub fn pop(&mut self) -> Option<T>
-        ensures { self.old ≡ self.new ++ option_to_list result }
+        ensures last { self.old ≡ self.new ++ option_to_list result }
+        ensures empty { IfNone result (self.old ≡ []) }
     {
         self.inner.pop()
     }

@@ -1,5 +1,5 @@
 //! A set of texts in insertion order, which contracts see as the list of its texts.
-ghost use Rattle.std.specs.Prelude.{◌≡◌, ◌++◌, ◌∷◌, [], ◌^◌, ◌<◌, length, OnOk, OnErr, slice_get, Some, if◌then◌else◌};
+ghost use Rattle.std.specs.Prelude.{◌≡◌, ◌++◌, ◌∷◌, [], ◌^◌, ◌↔◌, ◌<◌, length, IsTrue, OnOk, OnErr, slice_get, Some, if◌then◌else◌};
 ghost use Rattle.std.specs.List.{list_any, IsDistinct};
 ghost use Rattle.std.specs.Str.{bytes_eq};
 ghost use Rattle.wit_values.specs.NameSet.{texts_of};
@@ -38,11 +38,20 @@ impl NameSet {
     /// How many texts it has. A caller learns here that they differ.
     pub fn len(&self) -> usize
         ensures len { result ≡ length self.now }
+        ensures small { result < 2 ^ 63 }
         ensures distinct { IsDistinct bytes_eq self.now }
     {
         self.inner.len()
     }
 
+    /// Whether it has no text.
+    pub fn is_empty(&self) -> bool
+        ensures { IsTrue result ↔ (self.now ≡ []) }
+    {
+        self.inner.is_empty()
+    }
+
+    /// Whether a text is in the set.
     pub fn contains(&self, text: &str) -> bool
         ensures { result ≡ list_any (bytes_eq text.now) self.now }
     {
@@ -70,6 +79,7 @@ impl NameSet {
         Ok(())
     }
 
+    /// The allocator that the set was made with, of which contracts say nothing.
     pub fn allocator(&self) -> Global {
         *self.inner.allocator()
     }

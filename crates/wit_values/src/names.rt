@@ -62,18 +62,21 @@ impl<V> Names<V> {
         self.inner.len()
     }
 
+    /// Whether it has no pair.
     pub fn is_empty(&self) -> bool
         ensures { IsTrue result ↔ (length self.now ≡ 0) }
     {
         self.len() == 0
     }
 
+    /// The value under a name, or None where the name isn't there.
     pub fn get(&self, key: &str) -> Option<&V>
         ensures { option_copied result ≡ lookup (bytes_eq key.now) self.now }
     {
         self.inner.get(key)
     }
 
+    /// Whether a name is there.
     pub fn contains_key(&self, key: &str) -> bool
         ensures { result ≡ is_some (lookup (bytes_eq key.now) self.now) }
     {
@@ -100,6 +103,7 @@ impl<V> Names<V> {
         }
     }
 
+    /// The allocator that the table was made with, of which contracts say nothing.
     pub fn allocator(&self) -> Global {
         *self.inner.allocator()
     }

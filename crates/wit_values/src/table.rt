@@ -60,24 +60,28 @@ impl<K: Eq + Hash, V> Table<K, V> {
         self.inner.len()
     }
 
+    /// Whether it has no pair.
     pub fn is_empty(&self) -> bool
         ensures { IsTrue result ↔ (length self.now ≡ 0) }
     {
         self.len() == 0
     }
 
+    /// The value under a key, or None where the key isn't there.
     pub fn get(&self, key: &K) -> Option<&V>
         ensures { option_copied result ≡ lookup (K.eq key.now) self.now }
     {
         self.inner.get(key)
     }
 
+    /// Whether a key is there.
     pub fn contains_key(&self, key: &K) -> bool
         ensures { result ≡ is_some (lookup (K.eq key.now) self.now) }
     {
         self.inner.contains_key(key)
     }
 
+    /// The pair at an index, or None where the table is no longer than that.
     pub fn get_index(&self, index: usize) -> Option<(&K, &V)>
         ensures { option_map deref_pair result ≡ slice_get self.now index }
     {
@@ -103,6 +107,7 @@ impl<K: Eq + Hash, V> Table<K, V> {
         self.inner.iter()
     }
 
+    /// The allocator that the table was made with, of which contracts say nothing.
     pub fn allocator(&self) -> Global {
         *self.inner.allocator()
     }

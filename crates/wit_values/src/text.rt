@@ -61,6 +61,7 @@ impl Text {
         Ok(Text { inner })
     }
 
+    /// The text, to look at.
     pub fn as_str(&self) -> &str
         ensures { result.now ≡ self.now }
     {
@@ -74,6 +75,7 @@ impl Text {
         self.inner.len()
     }
 
+    /// Whether it has no byte.
     pub fn is_empty(&self) -> bool
         ensures { IsTrue result ↔ (self.now ≡ []) }
     {

@@ -7,6 +7,7 @@ use std::alloc::AllocError;
 ///
 /// The only error is want of memory.
 pub trait TryClone: Drop {
+    /// A copy that is equal to the value.
     fn try_clone(&self) -> Result<Self, AllocError>
         ensures { IfOk result (λ copy. copy ≡ self.now) };
 }
@@ -32,8 +33,7 @@ impl TryClone for usize {
     }
 }
 
-/// Copies of two values. A struct of several parts copies them by one call, so that what an error
-/// has to let go is one value.
+/// Copies of two values, by one call and with one error. A struct of several parts copies them so.
 pub fn try_clone_two<A: TryClone, B: TryClone>(a: &A, b: &B) -> Result<(A, B), AllocError>
     ensures { IfOk result (λ r. (r.0 ≡ a.now) × (r.1 ≡ b.now)) }
 {

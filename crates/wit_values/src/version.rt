@@ -1,7 +1,7 @@
 //! A version that contracts see as its numbers and texts.
-ghost use Rattle.std.specs.Prelude.{◌≡◌, ℕ, List, Some, IfOk, refl, ◌++◌};
+ghost use Rattle.std.specs.Prelude.{◌≡◌, ℕ, List, Some, IfOk, IfErr, ◌⊎◌, refl, ◌++◌};
 ghost use Rattle.semver.specs.Identifiers.{parts_of, parts_text};
-ghost use Rattle.semver.specs.Parse.{IsRefused, version_parts};
+ghost use Rattle.semver.specs.Parse.{IsPlain, IsRefused, memory_error, version_parts};
 ghost use Rattle.wit_values.specs.Version.{version_cmp, version_cmp_total, version_eq, version_eq_equiv, version_po, version_ties};
 ghost use Rattle.std.specs.Cmp.{partial_equiv_from_equiv};
 ghost use Rattle.std.specs.Cmp.Rules.{hashing};
@@ -32,10 +32,14 @@ impl Model for Version {
 }
 
 impl Version {
-    /// The version of this text, or semver's error where the text is no version.
+    /// The version of a text, as the `semver` crate reads it, or that crate's error: of memory, or of
+    /// what is wrong with a text that is no version. A version without pre-release and build metadata
+    /// needs no memory.
     pub fn parse(alloc: Global, text: &str) -> Result<Version, semver::Error>
         ensures ok { IfOk result (λ v. version_parts text.now ≡ Ok v) }
+        ensures err { IfErr result (λ e. (e ≡ memory_error) ⊎ (version_parts text.now ≡ Err e)) }
         ensures refused { IsRefused (version_parts text.now) result }
+        ensures plain { IsPlain (version_parts text.now) result }
     {
         let inner = semver::Version::parse(alloc, text)?;
         Ok(Version { inner })
@@ -62,32 +66,35 @@ impl Version {
         &self.inner
     }
 
+    /// The first number.
     pub fn major(&self) -> u64
         ensures { result ≡ self.now.0 }
     {
         self.inner.major
     }
 
+    /// The second number.
     pub fn minor(&self) -> u64
         ensures { result ≡ self.now.1 }
     {
         self.inner.minor
     }
 
+    /// The third number.
     pub fn patch(&self) -> u64
         ensures { result ≡ self.now.2 }
     {
         self.inner.patch
     }
 
-    /// The text of the pre-release, empty where there is none.
+    /// The text of the pre-release without its `-`, empty where there is none.
     pub fn pre(&self) -> &str
         ensures { result.now ≡ self.now.3 }
     {
         self.inner.pre.as_str()
     }
 
-    /// The text of the build metadata, empty where there is none.
+    /// The text of the build metadata without its `+`, empty where there is none.
     pub fn build(&self) -> &str
         ensures { result.now ≡ self.now.4 }
     {

@@ -1,0 +1,11 @@
+use Rattle.std.proofs.Common.{◌≡◌, ℕ, List, Bool, true, subst, sym, ◌∙◌, rules}
+use Rattle.std.specs.Prelude.{◌↔◌, IsTrue, IfOk, IsSome, is_some}
+use Rattle.wit_items.specs.Each.{Each}
+use Rattle.wit_items.specs.Ownership.{IsOwn}
+use Rattle.wit_items.specs.Entries.{ItemUsesOwn}
+use Rattle.wit_items.specs.declared.world.WorldItem.{WorldItem}
+use Rattle.wit_items.proofs.shape.own.item_uses_own.Goals as goal
+
+pub returns-in-Function : goal.returns-in-Function
+returns-in-Function c =
+    subst (λ (item : WorldItem). IfOk c.uses_own.result (λ own. IsTrue own ↔ ItemUsesOwn c.args.types.now c.args.owner item)) (sym c.in-Function.is) c.uses_own.ensures

@@ -1,0 +1,57 @@
+use Rattle.std.proofs.Common.{◌≡◌, ℕ, ◌+◌, ◌<◌, List, length, take, Some, Bool, true, false, slice_get, refl, subst, sym, ◌∙◌, arith, rules}
+use Rattle.std.specs.Prelude.{is_some}
+use Rattle.std.proofs.lemmas.Option.{slice_get_read}
+use Rattle.std.proofs.lemmas.Grind.{common_steps}
+use Rattle.wit_values.specs.Lists.{take-next_at}
+use Rattle.wit_items.specs.Ownership.{Shows}
+use Rattle.wit_items.specs.Reference.{referred}
+use Rattle.wit_items.specs.Shown.{Tells, joined}
+use Rattle.wit_items.specs.declared.shape.shown.Shown.{Shown}
+use Rattle.wit_items.proofs.Shown.{ShowsAny, tells_more, tells_named, tells_none, tells_unnamed}
+use Rattle.wit_items.proofs.shape.shown.shown_by.Goals as goal
+
+pub returns-then-is_some : goal.returns-then-is_some
+returns-then-is_some c =
+    let def = c.index-types-index.result in
+    let named : is_some def.name ≡ true = search rules in
+    tells_named c.args.types.now c.args.index def (slice_get_read c.args.types.now _ c.args.index def refl c.requires.index c.index-types-index.is) named
+
+pub loop-id-init : goal.loop-id-init
+loop-id-init c = tells_none c.args.types.now
+
+pub at-requires : goal.at-requires
+at-requires c =
+    let def = c.index-types-index.result in
+    let ids = c.as_slice-id-items.result.now in
+    let id = c.id-item.result in
+    let same : ids ≡ referred def.kind = c.as_slice-id-items.ensures ∙ c.in_ok-ids.ensures in
+    let at : slice_get (referred def.kind) c.loop-id.id-index ≡ Some id =
+    subst (λ (l : List ℕ). slice_get l c.loop-id.id-index ≡ Some id) same (slice_get_read ids _ c.loop-id.id-index id refl c.loop-id-test.true c.id-item.is) in
+    let below : id < c.args.index =
+    c.requires.earlier c.args.index def (slice_get_read c.args.types.now _ c.args.index def refl c.requires.index c.index-types-index.is) c.loop-id.id-index id at in
+    omega arith
+
+pub loop-id-preserved : goal.loop-id-preserved
+loop-id-preserved c =
+    let types = c.args.types.now in
+    let ids = c.as_slice-id-items.result.now in
+    let id = c.id-item.result in
+    let told = c.at.result.now in
+    let id_at : slice_get ids c.loop-id.id-index ≡ Some id = slice_get_read ids _ c.loop-id.id-index id refl c.loop-id-test.true c.id-item.is in
+    let told_at : slice_get c.args.shown.now id ≡ Some told =
+    subst (λ (i : ℕ). slice_get c.args.shown.now i ≡ Some told) c.index.ensures c.at.ensures in
+    let joins = tells_more types (take c.loop-id.id-index ids) id c.loop-id.told told c.loop-id.invariant (c.requires.known id told told_at) in
+    subst (λ (s : Shown). Tells (ShowsAny types (take (c.loop-id.id-index + 1) ids)) s) (sym c.join-told.ensures)
+    (subst (λ (l : List ℕ). Tells (ShowsAny types l) (joined c.loop-id.told told)) (sym (take-next_at ids c.loop-id.id-index id id_at)) joins)
+
+pub returns : goal.returns
+returns c =
+    let types = c.args.types.now in
+    let def = c.index-types-index.result in
+    let ids = c.as_slice-id-items.result.now in
+    let same : ids ≡ referred def.kind = c.as_slice-id-items.ensures ∙ c.in_ok-ids.ensures in
+    let unnamed : is_some def.name ≡ false = search rules in
+    let at = slice_get_read types _ c.args.index def refl c.requires.index c.index-types-index.is in
+    let all : take c.loop-id.id-index ids ≡ ids = grind (arith, common_steps) in
+    tells_unnamed types c.args.index def c.loop-id.told at unnamed
+    (subst (λ (l : List ℕ). Tells (ShowsAny types l) c.loop-id.told) (all ∙ same) c.loop-id.invariant)

@@ -1,0 +1,98 @@
+//! Of which owners the named types are that a type is or refers to through types without names.
+//!
+//! A type without a name refers to earlier types alone, so one pass over the types tells it of each.
+ghost use Rattle.std.specs.Prelude.{◌≡◌, ◌↔◌, ◌<◌, length, IfOk, IsTrue};
+ghost use Rattle.wit_items.specs.Each.{Each, EachAt};
+ghost use Rattle.wit_items.specs.Ownership.{IsOwn, Shows};
+ghost use Rattle.wit_items.specs.Reference.{referred};
+ghost use Rattle.wit_items.specs.Shown.{IsOnly, Tells, TellsEach, joined};
+ghost use Rattle.wit_items.specs.declared.types.TypeDef.{TypeDef};
+
+use crate::ids::TypeId;
+use crate::reference::referred;
+use crate::types::{TypeDef, TypeOwner};
+use std::alloc::{AllocError, Global};
+use wit_values::Items;
+
+/// Of no owner, of one alone, or of different ones.
+#[derive(Clone, Copy)]
+pub(crate) enum Shown {
+    Nothing,
+    One(TypeOwner),
+    Several,
+}
+
+/// What each type shows, where each refers to earlier ones.
+pub(crate) fn shown_by_each(alloc: Global, types: &[TypeDef]) -> Result<Items<Shown>, AllocError>
+    requires { EachAt (λ i (def : TypeDef). Each (λ id. id < i) (referred def.kind)) types.now }
+    ensures { IfOk result (λ shown. TellsEach types.now shown) }
+{
+    let mut shown = Items::new(alloc);
+    for index in 0..types.len() {
+        let next = shown_by(alloc, types, &shown, index)?;
+        shown.push(next)?;
+    }
+    Ok(shown)
+}
+
+/// What a type shows, where that of the types before it is known.
+fn shown_by(
+    alloc: Global,
+    types: &[TypeDef],
+    shown: &Items<Shown>,
+    index: usize,
+) -> Result<Shown, AllocError>
+    requires index { index < length types.now }
+    requires earlier { EachAt (λ i (def : TypeDef). Each (λ id. id < i) (referred def.kind)) types.now }
+    requires known { EachAt (λ id. Tells (Shows types.now id)) shown.now }
+    requires long { length shown.now ≡ index }
+    ensures { IfOk result (λ told. Tells (Shows types.now index) told) }
+{
+    let def = &types[index];
+    if def.name.is_some() {
+        return Ok(Shown::One(def.owner));
+    }
+    let ids = referred(alloc, &def.kind)?;
+    let mut told = Shown::Nothing;
+    for id in ids.as_slice() {
+        told = join(told, *shown.at(id.index()));
+    }
+    Ok(told)
+}
+
+/// Of which owners, where two things tell it.
+fn join(a: Shown, b: Shown) -> Shown
+    ensures { result ≡ joined a b }
+{
+    match (a, b) {
+        (Shown::Nothing, told) => told,
+        (told, Shown::Nothing) => told,
+        (Shown::One(a), Shown::One(b)) => if a == b {
+            Shown::One(a)
+        } else {
+            Shown::Several
+        },
+        _ => Shown::Several,
+    }
+}
+
+/// Whether there is such a type, and no named type that it shows is of another owner.
+pub(crate) fn is_own(types: &[TypeDef], shown: &Items<Shown>, owner: TypeOwner, id: TypeId) -> bool
+    requires { TellsEach types.now shown.now }
+    ensures { IsTrue result ↔ IsOwn types.now owner id }
+{
+    if id.index() >= types.len() {
+        return false;
+    }
+    is_only(*shown.at(id.index()), owner)
+}
+
+fn is_only(told: Shown, owner: TypeOwner) -> bool
+    ensures { IsTrue result ↔ IsOnly told owner }
+{
+    match told {
+        Shown::Nothing => true,
+        Shown::One(only) => only == owner,
+        Shown::Several => false,
+    }
+}
