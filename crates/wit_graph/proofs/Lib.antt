@@ -19,6 +19,7 @@ pub mod WorldLaws
 pub mod Marking
 pub mod OneWalk
 pub mod Order
+pub mod RefusedKeys
 pub mod Refusing
 pub mod Roles
 pub mod Steps

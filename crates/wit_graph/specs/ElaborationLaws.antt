@@ -2,10 +2,11 @@
 use Rattle.std.specs.Prelude.{ℕ, ◌↔◌, List, [], ◌∷◌, ◌++◌, length, Contains, All}
 use Rattle.wit_items.specs.declared.types.TypeDef.{TypeDef}
 use Rattle.wit_items.specs.declared.world.World.{World}
+use Rattle.wit_items.specs.declared.world.WorldKey.{WorldKey}
 use Rattle.wit_relations.specs.Relation.{direct, IsAcyclic}
 use Rattle.wit_graph.specs.Entries.{Entry, Role, Instance, TypeUse, TypeDefinition, FreeFunction, ResourceFunction, role_of, id_of, ids_of}
 use Rattle.wit_graph.specs.Elaborated.{Elaborated}
-use Rattle.wit_graph.specs.Imported.{HasConflict, IsImported}
+use Rattle.wit_graph.specs.Imported.{HasConflict, IsImported, IsRefusedKey}
 use Rattle.wit_graph.specs.Listed.{IsListed}
 
 -- an elaborated world is its own elaboration
@@ -44,3 +45,8 @@ SameEntries xs ys = (e : Entry) → Contains xs e ↔ Contains ys e
 abbrev pub OrderIsFree : Type 0
 OrderIsFree = (types : List TypeDef) (uses : List (List ℕ)) (imports imports' exports exports' : List Entry) → SameEntries imports imports' → SameEntries exports exports' →
     (HasConflict uses exports ↔ HasConflict uses exports') × ((j : ℕ) → IsImported types uses imports exports j ↔ IsImported types uses imports' exports' j)
+
+-- there is a refused key exactly where there is a conflict
+abbrev pub ConflictsAreRefused : Type 0
+ConflictsAreRefused = (types : List TypeDef) (uses : List (List ℕ)) (imports exports : List Entry) → IsAcyclic uses → IsListed types (length uses) imports exports →
+    HasConflict uses exports ↔ ((k : WorldKey) × IsRefusedKey uses exports k)

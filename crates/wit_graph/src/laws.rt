@@ -1,6 +1,6 @@
 //! Laws of elaboration: each function has no body, and its contract is what is proved.
 ghost use Rattle.wit_graph.specs.ElaborationExamples.{WorkedConflicts, WorkedElaborations};
-ghost use Rattle.wit_graph.specs.ElaborationLaws.{ElaboratesOnce, ImportsAreExact, ImportsKeepOrder, OrderIsFree};
+ghost use Rattle.wit_graph.specs.ElaborationLaws.{ConflictsAreRefused, ElaboratesOnce, ImportsAreExact, ImportsKeepOrder, OrderIsFree};
 
 /// Elaborating an elaborated world changes nothing.
 pub fn elaborates_once()
@@ -32,4 +32,9 @@ pub fn worked_elaborations()
 /// Worked worlds in conflict, with the refused keys, and near ones that aren't.
 pub fn worked_conflicts()
     ensures { WorkedConflicts }
+{}
+
+/// There is a refused key exactly where there is a conflict.
+pub fn conflicts_are_refused()
+    ensures { ConflictsAreRefused }
 {}
