@@ -25,6 +25,19 @@ use Rattle.wit_graph.proofs.Order.{DependenciesFirst-append, DependenciesFirst-f
 use Rattle.wit_graph.proofs.Roles.{InOrder, instance_from_role, role_of-settled, settled_item-settled}
 use Rattle.wit_graph.proofs.Steps.{import_steps_first, import_steps_below, needs_below}
 
+-- the key of an entry is among the keys
+keys-Contains : (es : List Entry) (e : Entry) → Contains es e → Contains (keys_of es) e.0
+keys-Contains [] e has = absurd (Contains-nil has)
+keys-Contains (d ∷ es) e has =
+    elim (Contains-cons_cases d e es has)
+    [ inl same ↦ subst (λ (z : Entry). Contains (keys_of (d ∷ es)) z.0) same (Contains-here d.0 (keys_of es)) | inr there ↦ Contains-there d.0 e.0 (keys_of es) (keys-Contains es e there) ]
+
+-- what is made of some entries has their keys
+made_known : (made sorted : List Entry) → ((e : Entry) → Contains (fresh_entries [] made) e → Contains sorted e) → (g : Entry) → Contains made g → Contains (keys_of sorted) g.0
+made_known made sorted in_sorted g has =
+    let key = Contains-keys (fresh_entries [] made) g.0 (fresh_entries_all [] made g has) in
+    subst (λ k. Contains (keys_of sorted) k) key.1.1 (keys-Contains sorted key.0 (in_sorted key.0 key.1.0))
+
 module _ (types : List TypeDef) where
   DependenciesFirst-each : {X : Type 0} (uses : List (List ℕ)) (f : X → List Entry) (xs : List X) (seen : List ℕ) → ((x : X) → Contains xs x → (more : List ℕ) → DependenciesFirst types uses more (f x)) → DependenciesFirst types uses seen (flat_map f xs)
   DependenciesFirst-each uses f [] seen each = tt
@@ -120,12 +133,6 @@ module _ (types : List TypeDef) where
           ]
         ]
 
-    keys-Contains : (es : List Entry) (e : Entry) → Contains es e → Contains (keys_of es) e.0
-    keys-Contains [] e has = absurd (Contains-nil has)
-    keys-Contains (d ∷ es) e has =
-        elim (Contains-cons_cases d e es has)
-        [ inl same ↦ subst (λ (z : Entry). Contains (keys_of (d ∷ es)) z.0) same (Contains-here d.0 (keys_of es)) | inr there ↦ Contains-there d.0 e.0 (keys_of es) (keys-Contains es e there) ]
-
     -- the elaborated exports need nothing new
     exports_known : (f : Entry) → Contains (flat_map (export_imports uses (is_exported exports)) (elaborated_exports types uses exports)) f → list_any (same_key f.0) (keys_of (by_class types all_imports)) ≡ true
     exports_known f has =
@@ -136,17 +143,20 @@ module _ (types : List TypeDef) where
         let inside : Contains from_exports g =
         Contains-flat_map (export_imports uses (is_exported exports)) exports old.0 g old.1.0
         (Contains-flat_map (λ i. map (dependency_of (export_carries old.0.1)) (import_steps uses (is_exported exports) i)) (instance_of old.0.1) dep.0 g old.1.1 (deps-Contains (export_carries old.0.1) (import_steps uses (is_exported exports) dep.0) dep.1 dep.3)) in
-        let key = Contains-keys all_imports g.0 (fresh_entries_all [] (from_imports ++ from_exports) g (Contains-append_right from_imports from_exports g inside)) in
-        let there = keys-Contains (by_class types all_imports) key.0 (in_by_class types all_imports key.0 key.1.0) in
-        known_from_contains f.0 (keys_of (by_class types all_imports)) (subst (λ k. Contains (keys_of (by_class types all_imports)) k) (key.1.1 ∙ ap (λ (z : Entry). z.0) dep.4) there)
+        let there : Contains (keys_of (by_class types all_imports)) g.0 = made_known (from_imports ++ from_exports) (by_class types all_imports) (in_by_class types all_imports) g (Contains-append_right from_imports from_exports g inside) in
+        known_from_contains f.0 (keys_of (by_class types all_imports)) (subst (λ k. Contains (keys_of (by_class types all_imports)) k) (ap (λ (z : Entry). z.0) dep.4) there)
 
     pub imports_again : elaborated_imports types uses (by_class types all_imports) (elaborated_exports types uses exports) ≡ by_class types all_imports
     imports_again =
         let rest : List Entry = flat_map (export_imports uses (is_exported exports)) (elaborated_exports types uses exports) in
         let nothing : fresh_entries (keys_of (by_class types all_imports)) rest ≡ [] = (ap (λ xs. fresh_entries (keys_of (by_class types all_imports)) xs) (sym (append-nil rest))) ∙ fresh_entries-all_known (keys_of (by_class types all_imports)) rest [] exports_known in
         let joined : fresh_entries [] (flat_map (import_walk types uses) (by_class types all_imports) ++ rest) ≡ by_class types all_imports =
-        fresh_entries-append [] (flat_map (import_walk types uses) (by_class types all_imports)) rest ∙ rw (imports_absorbed, nothing, append-nil) refl in
-        rw (test_same types uses acyclic imports exports listed, by_class-by_class types all_imports) (ap (by_class types) joined ∙ by_class-by_class types all_imports)
+        fresh_entries-append [] (flat_map (import_walk types uses) (by_class types all_imports)) rest ∙ rw (imports_absorbed, nothing) (append-nil (by_class types all_imports)) in
+        let kept : List Entry = elaborated_exports types uses exports in
+        ap (λ (t : ℕ → Bool). by_class types (fresh_entries [] (flat_map (import_walk types uses) (by_class types (by_class types all_imports)) ++ flat_map (export_imports uses t) kept))) (test_same types uses acyclic imports exports listed)
+        ∙ ap (λ (es : List Entry). by_class types (fresh_entries [] (flat_map (import_walk types uses) es ++ rest))) (by_class-by_class types all_imports)
+        ∙ ap (by_class types) joined
+        ∙ by_class-by_class types all_imports
 
     -- an exported key before is one after, and the other way round
     key_kept : (j : ℕ) → Contains (exported_keys exports) j → Contains (exported_keys (elaborated_exports types uses exports)) j
