@@ -3,3 +3,4 @@ pub mod Known
 pub mod Pieces
 pub mod Arguments
 pub mod Keys
+pub mod Scripts

@@ -6,3 +6,5 @@ pub mod Reading
 pub mod Statement
 pub mod Ready
 pub mod Package
+pub mod Script
+pub mod Said
