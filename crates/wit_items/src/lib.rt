@@ -35,3 +35,6 @@ pub use crate::use_path::{ParsedUsePath, UsePathFault, is_kebab_name, parse_use_
 pub use crate::uses::{alias_target, interface_uses, type_interface_dep, uses_of};
 pub use crate::world::{IncludeName, World, WorldInclude, WorldItem, WorldKey};
 pub use wit_values::{Items, Names, Table, Text, TryClone, Version};
+
+#[cfg(test)]
+mod tests;
