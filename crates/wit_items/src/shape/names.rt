@@ -22,31 +22,31 @@ use wit_values::{NameSet, Text};
 /// interfaces and worlds are foreign.
 pub(crate) fn has_names(
     alloc: Global,
-    package: &UnresolvedPackage,
+    unresolved: &UnresolvedPackage,
     interfaces: usize,
     worlds: usize,
 ) -> Result<bool, AllocError>
-    requires foreign { HasForeign «package».now }
-    requires interfaces { interfaces ≡ length (foreign_interfaces «package».now.foreign_deps) }
-    requires worlds { worlds ≡ length (foreign_worlds «package».now.foreign_deps) }
-    ensures { IfOk result (λ holds. IsTrue holds ↔ HasNames «package».now) }
+    requires foreign { HasForeign unresolved.now }
+    requires interfaces { interfaces ≡ length (foreign_interfaces unresolved.now.foreign_deps) }
+    requires worlds { worlds ≡ length (foreign_worlds unresolved.now.foreign_deps) }
+    ensures { IfOk result (λ holds. IsTrue holds ↔ HasNames unresolved.now) }
 {
-    if !is_kebab_name(package.name.namespace.as_str()) {
+    if !is_kebab_name(unresolved.name.namespace.as_str()) {
         return Ok(false);
     }
-    if !is_kebab_name(package.name.name.as_str()) {
+    if !is_kebab_name(unresolved.name.name.as_str()) {
         return Ok(false);
     }
-    if !are_interfaces_kebab(package.interfaces.as_slice()) {
+    if !are_interfaces_kebab(unresolved.interfaces.as_slice()) {
         return Ok(false);
     }
-    if !are_worlds_kebab(package.worlds.as_slice()) {
+    if !are_worlds_kebab(unresolved.worlds.as_slice()) {
         return Ok(false);
     }
-    if !do_interfaces_differ(alloc, package.interfaces.as_slice(), interfaces)? {
+    if !do_interfaces_differ(alloc, unresolved.interfaces.as_slice(), interfaces)? {
         return Ok(false);
     }
-    do_worlds_differ(alloc, package.worlds.as_slice(), worlds)
+    do_worlds_differ(alloc, unresolved.worlds.as_slice(), worlds)
 }
 
 /// Whether the names of interfaces are kebab names.
