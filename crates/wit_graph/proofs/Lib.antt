@@ -14,6 +14,7 @@ pub mod FreshEntries
 pub mod Importing
 pub mod ImportsAgain
 pub mod Keys
+pub mod WorldExamples
 pub mod WorldLaws
 pub mod Marking
 pub mod OneWalk

@@ -1,6 +1,7 @@
 pub mod Elaborated
 pub mod Elaborating
 pub mod Elaboration
+pub mod ElaborationExamples
 pub mod ElaborationLaws
 pub mod Entries
 pub mod Error

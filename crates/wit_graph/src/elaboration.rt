@@ -199,3 +199,6 @@ pub fn elaborate(alloc: Global, graph: &mut Graph, world: WorldId) -> ResolveRes
     )?;
     elaborator.elaborate(alloc, graph, world)
 }
+
+#[cfg(test)]
+mod tests;

@@ -1,4 +1,5 @@
 //! Laws of elaboration: each function has no body, and its contract is what is proved.
+ghost use Rattle.wit_graph.specs.ElaborationExamples.{WorkedConflicts, WorkedElaborations};
 ghost use Rattle.wit_graph.specs.ElaborationLaws.{ElaboratesOnce, ImportsAreExact, ImportsKeepOrder, OrderIsFree};
 
 /// Elaborating an elaborated world changes nothing.
@@ -21,4 +22,14 @@ pub fn imports_keep_order()
 /// Neither a conflict nor what is imported depends on the order of the listed entries.
 pub fn order_is_free()
     ensures { OrderIsFree }
+{}
+
+/// Worked worlds: what they are elaborated to, and what they aren't.
+pub fn worked_elaborations()
+    ensures { WorkedElaborations }
+{}
+
+/// Worked worlds in conflict, with the refused keys, and near ones that aren't.
+pub fn worked_conflicts()
+    ensures { WorkedConflicts }
 {}

@@ -20,6 +20,7 @@ pub mod role;
 pub use crate::cause::Cause;
 pub use crate::elaborable::{is_elaborable, is_listed};
 pub use crate::elaboration::{Elaborator, elaborate};
+pub use crate::entries::Lists;
 pub use crate::error::{ResolveError, ResolveResult};
 pub use crate::error_kind::ResolveErrorKind;
 pub use crate::features::Features;
