@@ -43,10 +43,10 @@ pub(crate) fn has_names(
     if !are_worlds_kebab(unresolved.worlds.as_slice()) {
         return Ok(false);
     }
-    if !do_interfaces_differ(alloc, unresolved.interfaces.as_slice(), interfaces)? {
+    if !interface_names_differ(alloc, unresolved.interfaces.as_slice(), interfaces)? {
         return Ok(false);
     }
-    do_worlds_differ(alloc, unresolved.worlds.as_slice(), worlds)
+    world_names_differ(alloc, unresolved.worlds.as_slice(), worlds)
 }
 
 /// Whether the names of interfaces are kebab names.
@@ -77,7 +77,7 @@ fn are_worlds_kebab(worlds: &[World]) -> bool
 }
 
 /// Whether the names of the interfaces after the foreign ones differ.
-fn do_interfaces_differ(
+fn interface_names_differ(
     alloc: Global,
     interfaces: &[Interface],
     foreign: usize,
@@ -86,16 +86,16 @@ fn do_interfaces_differ(
     ensures { IfOk result (λ differ. IsTrue differ ↔ IsDistinct bytes_eq (interface_names foreign interfaces.now)) }
 {
     let names = interface_names(alloc, &interfaces[foreign..])?;
-    do_differ(alloc, &names)
+    texts_differ(alloc, &names)
 }
 
 /// Whether the names of the worlds after the foreign ones differ.
-fn do_worlds_differ(alloc: Global, worlds: &[World], foreign: usize) -> Result<bool, AllocError>
+fn world_names_differ(alloc: Global, worlds: &[World], foreign: usize) -> Result<bool, AllocError>
     requires { foreign ≤ length worlds.now }
     ensures { IfOk result (λ differ. IsTrue differ ↔ IsDistinct bytes_eq (world_names foreign worlds.now)) }
 {
     let names = world_names(alloc, &worlds[foreign..])?;
-    do_differ(alloc, &names)
+    texts_differ(alloc, &names)
 }
 
 /// The names of interfaces that have one.
@@ -123,7 +123,7 @@ fn world_names(alloc: Global, worlds: &[World]) -> Result<Vec<&str>, AllocError>
 }
 
 /// Whether texts differ.
-fn do_differ(alloc: Global, texts: &[&str]) -> Result<bool, AllocError>
+fn texts_differ(alloc: Global, texts: &[&str]) -> Result<bool, AllocError>
     ensures { IfOk result (λ differ. IsTrue differ ↔ IsDistinct bytes_eq (map (λ (text : Bor (List ℕ)). text.now) texts.now)) }
 {
     let mut met = NameSet::new(alloc);
