@@ -37,10 +37,26 @@ fn gates_are_none_since_and_unstable(rt: HostRuntime) -> Result<(), Fail> {
     let alloc = rt.alloc();
     gate_answers(&rt, &Stability::default(), true, false)?;
     let since = Version::parse(alloc, "0.2.0")?;
-    gate_answers(&rt, &Stability::Stable { since, deprecated: None }, false, true)?;
+    gate_answers(
+        &rt,
+        &Stability::Stable {
+            since,
+            deprecated: None,
+        },
+        false,
+        true,
+    )?;
     let feature = Text::try_from_str(alloc, "fancy")?;
     let deprecated = Some(Version::parse(alloc, "0.3.1")?);
-    gate_answers(&rt, &Stability::Unstable { feature, deprecated }, false, false)
+    gate_answers(
+        &rt,
+        &Stability::Unstable {
+            feature,
+            deprecated,
+        },
+        false,
+        false,
+    )
 }
 
 #[test]
@@ -90,7 +106,10 @@ fn plain_kinds_of_types_are_copied(rt: HostRuntime) -> Result<(), Fail> {
         TypeDefKind::Resource,
         TypeDefKind::Handle(Handle::Borrow(TypeId::from_index(1))),
         TypeDefKind::Option(ty),
-        TypeDefKind::Result_ { ok: Some(ty), err: None },
+        TypeDefKind::Result_ {
+            ok: Some(ty),
+            err: None,
+        },
         TypeDefKind::List(Type_::U8),
         TypeDefKind::Map(Type_::String, ty),
         TypeDefKind::FixedLengthList(Type_::F32, 4),
@@ -114,19 +133,54 @@ fn kinds_of_types_with_parts_are_copied(rt: HostRuntime) -> Result<(), Fail> {
         docs: Docs::none(),
         span,
     };
-    is_copied(&rt, &TypeDefKind::Record { fields: one(alloc, field)? })?;
-    let flag = Flag { name: text_of(alloc, "read")?, docs: Docs::none(), span };
-    is_copied(&rt, &TypeDefKind::Flags { flags: one(alloc, flag)? })?;
-    is_copied(&rt, &TypeDefKind::Tuple { types: one(alloc, Type_::Bool)? })?;
+    is_copied(
+        &rt,
+        &TypeDefKind::Record {
+            fields: one(alloc, field)?,
+        },
+    )?;
+    let flag = Flag {
+        name: text_of(alloc, "read")?,
+        docs: Docs::none(),
+        span,
+    };
+    is_copied(
+        &rt,
+        &TypeDefKind::Flags {
+            flags: one(alloc, flag)?,
+        },
+    )?;
+    is_copied(
+        &rt,
+        &TypeDefKind::Tuple {
+            types: one(alloc, Type_::Bool)?,
+        },
+    )?;
     let case = Case {
         name: text_of(alloc, "some")?,
         ty: Some(Type_::U64),
-        docs: Docs { contents: Some(text_of(alloc, "One.")?) },
+        docs: Docs {
+            contents: Some(text_of(alloc, "One.")?),
+        },
         span,
     };
-    is_copied(&rt, &TypeDefKind::Variant { cases: one(alloc, case)? })?;
-    let case = EnumCase { name: text_of(alloc, "red")?, docs: Docs::none(), span };
-    is_copied(&rt, &TypeDefKind::Enum { cases: one(alloc, case)? })
+    is_copied(
+        &rt,
+        &TypeDefKind::Variant {
+            cases: one(alloc, case)?,
+        },
+    )?;
+    let case = EnumCase {
+        name: text_of(alloc, "red")?,
+        docs: Docs::none(),
+        span,
+    };
+    is_copied(
+        &rt,
+        &TypeDefKind::Enum {
+            cases: one(alloc, case)?,
+        },
+    )
 }
 
 // A type without a name.
@@ -143,7 +197,10 @@ fn type_of(kind: TypeDefKind, owner: TypeOwner) -> TypeDef {
 }
 
 fn alias_of(target: usize, owner: TypeOwner) -> TypeDef {
-    type_of(TypeDefKind::Type_(Type_::Id(TypeId::from_index(target))), owner)
+    type_of(
+        TypeDefKind::Type_(Type_::Id(TypeId::from_index(target))),
+        owner,
+    )
 }
 
 // An interface that lists types, each under a name.
@@ -197,9 +254,15 @@ fn aliases_tell_which_interface_they_use(rt: HostRuntime) -> Result<(), Fail> {
     ];
     for (place, (target, used)) in wanted.iter().enumerate() {
         let id = TypeId::from_index(place);
-        let Some(alias) = types.get(place) else { continue };
+        let Some(alias) = types.get(place) else {
+            continue
+        };
         is_copied(&rt, alias)?;
-        assert_eq!(rt; alias_target(&alias.kind), target.map(TypeId::from_index), "{place}");
+        assert_eq!(rt;
+            alias_target(&alias.kind),
+            target.map(TypeId::from_index),
+            "{place}"
+        );
         let dep = type_interface_dep(types.as_slice(), id);
         assert_eq!(rt; dep, used.map(InterfaceId::from_index), "{place}");
     }

@@ -5,8 +5,8 @@ use crate::graph::Package;
 use std::process::Abort;
 use std::test::Fail;
 use wit_items::{
-    Docs, InterfaceId, Names, PackageId, PackageName, Span, Stability, TypeDefKind, TypeId,
-    TypeOwner, Type_, WorldItem, WorldKey,
+    Docs, InterfaceId, Names, PackageId, PackageName, Span, Stability, Type_, TypeDefKind, TypeId,
+    TypeOwner, WorldItem, WorldKey,
 };
 
 /// An entry of a world: an import or an export of an interface, under a label or its own key.
@@ -42,8 +42,11 @@ const fn export_as(label: &'static str, interface: usize) -> Listed {
 }
 
 const A: usize = 0;
+
 const B: usize = 1;
+
 const C: usize = 2;
+
 const D: usize = 3;
 
 fn text(alloc: Global, text: &str) -> Result<Text, AllocError> {
@@ -118,7 +121,11 @@ fn world_of(alloc: Global, listed: &[Listed]) -> Result<World, AllocError> {
     let mut imports = Table::new(alloc);
     let mut exports = Table::new(alloc);
     for entry in listed {
-        let table = if entry.is_export { &mut exports } else { &mut imports };
+        let table = if entry.is_export {
+            &mut exports
+        } else {
+            &mut imports
+        };
         let key = key_of(alloc, entry)?;
         if !table.contains_key(&key) {
             table.push(key, plain_item(entry.interface))?;
@@ -221,9 +228,11 @@ fn imports_are_closed(rt: HostRuntime) -> Result<(), Fail> {
 #[test]
 fn conflicts_are_refused(rt: HostRuntime) -> Result<(), Fail> {
     let alloc = rt.alloc();
-    let c = "refused 4 interface `foo:bar/c` transitively depends on an interface in incompatible ways";
+    let c =
+        "refused 4 interface `foo:bar/c` transitively depends on an interface in incompatible ways";
     gives(&rt, alloc, &[export(A), export(C)], c)?;
-    let d = "refused 4 interface `foo:bar/d` transitively depends on an interface in incompatible ways";
+    let d =
+        "refused 4 interface `foo:bar/d` transitively depends on an interface in incompatible ways";
     gives(&rt, alloc, &[export(D), export(A)], d)?;
     gives(&rt, alloc, &[export(A), export(D)], d)
 }
@@ -232,11 +241,22 @@ fn conflicts_are_refused(rt: HostRuntime) -> Result<(), Fail> {
 fn labels_are_no_keys(rt: HostRuntime) -> Result<(), Fail> {
     let alloc = rt.alloc();
     let listed = [export(C), export_as("lab", A)];
-    gives(&rt, alloc, &listed, "import foo:bar/a\nimport foo:bar/b\nexport foo:bar/c\nexport lab\n")?;
+    gives(
+        &rt,
+        alloc,
+        &listed,
+        "import foo:bar/a\nimport foo:bar/b\nexport foo:bar/c\nexport lab\n",
+    )?;
     let listed = [export_as("lab", A), export(C)];
-    gives(&rt, alloc, &listed, "import foo:bar/a\nimport foo:bar/b\nexport lab\nexport foo:bar/c\n")?;
+    gives(
+        &rt,
+        alloc,
+        &listed,
+        "import foo:bar/a\nimport foo:bar/b\nexport lab\nexport foo:bar/c\n",
+    )?;
     let listed = [export_as("lab", B), export(A), export(C)];
-    let c = "refused 4 interface `foo:bar/c` transitively depends on an interface in incompatible ways";
+    let c =
+        "refused 4 interface `foo:bar/c` transitively depends on an interface in incompatible ways";
     gives(&rt, alloc, &listed, c)
 }
 
@@ -250,7 +270,11 @@ fn graph_with(
     let mut graph = graph_of(alloc, &[])?;
     let key = WorldKey::Interface(InterfaceId::from_index(interface));
     let mut world = world_of(alloc, &[])?;
-    let table = if is_export { &mut world.exports } else { &mut world.imports };
+    let table = if is_export {
+        &mut world.exports
+    } else {
+        &mut world.imports
+    };
     if !table.contains_key(&key) {
         table.push(key, item)?;
     }
@@ -331,10 +355,28 @@ fn carries(
 fn dependencies_carry_the_gate(rt: HostRuntime) -> Result<(), Fail> {
     let alloc = rt.alloc();
     let mut graph = graph_with(alloc, false, C, full_item(alloc, C)?)?;
-    carries(&rt, alloc, &mut graph, "0 gate\n1 gate\n2 gate docs id\n", "")?;
-    carries(&rt, alloc, &mut graph, "0 gate\n1 gate\n2 gate docs id\n", "")?;
+    carries(
+        &rt,
+        alloc,
+        &mut graph,
+        "0 gate\n1 gate\n2 gate docs id\n",
+        "",
+    )?;
+    carries(
+        &rt,
+        alloc,
+        &mut graph,
+        "0 gate\n1 gate\n2 gate docs id\n",
+        "",
+    )?;
     let mut graph = graph_with(alloc, true, C, full_item(alloc, C)?)?;
-    carries(&rt, alloc, &mut graph, "0 gate id\n1 gate id\n", "2 gate docs span id\n")
+    carries(
+        &rt,
+        alloc,
+        &mut graph,
+        "0 gate id\n1 gate id\n",
+        "2 gate docs span id\n",
+    )
 }
 
 /// How long the chain of uses is.
@@ -345,7 +387,11 @@ fn long_chains_are_walked(rt: HostRuntime) -> Result<(), Fail> {
     let alloc = rt.alloc();
     let mut graph = Graph::new(alloc);
     for interface in 0..LENGTH {
-        let target = if interface > 0 { Some(interface - 1) } else { None };
+        let target = if interface > 0 {
+            Some(interface - 1)
+        } else {
+            None
+        };
         add_interface(alloc, &mut graph, "i", &[target])?;
     }
     graph.worlds.push(world_of(alloc, &[export(LENGTH - 1)])?)?;
