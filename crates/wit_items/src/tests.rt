@@ -196,13 +196,6 @@ fn type_of(kind: TypeDefKind, owner: TypeOwner) -> TypeDef {
     }
 }
 
-fn alias_of(target: usize, owner: TypeOwner) -> TypeDef {
-    type_of(
-        TypeDefKind::Type_(Type_::Id(TypeId::from_index(target))),
-        owner,
-    )
-}
-
 // An interface that lists types, each under a name.
 fn interface_of(alloc: Global, types: &[(&str, usize)]) -> Result<Interface, AllocError> {
     let mut names = IndexMap::new(alloc);
@@ -220,22 +213,32 @@ fn interface_of(alloc: Global, types: &[(&str, usize)]) -> Result<Interface, All
     })
 }
 
+fn interface_owner(place: usize) -> TypeOwner {
+    TypeOwner::Interface(InterfaceId::from_index(place))
+}
+
+fn world_owner() -> TypeOwner {
+    TypeOwner::World(WorldId::from_index(0))
+}
+
 // Interface 0 owns `t`. Interface 1 has it as `u` and `w`, and its own `u` as `v`. A world has `t`,
 // and an option of it; a type that nobody owns names `u`, and another a place where no type is.
 fn types_of_two_interfaces(alloc: Global) -> Result<Items<TypeDef>, AllocError> {
-    let first = TypeOwner::Interface(InterfaceId::from_index(0));
-    let second = TypeOwner::Interface(InterfaceId::from_index(1));
-    let world = TypeOwner::World(WorldId::from_index(0));
-    let target = Type_::Id(TypeId::from_index(0));
-    let mut types = Items::new(alloc);
-    types.push(type_of(TypeDefKind::Type_(Type_::U32), first))?;
-    types.push(alias_of(0, second))?;
-    types.push(alias_of(1, second))?;
-    types.push(alias_of(0, second))?;
-    types.push(alias_of(0, world))?;
-    types.push(type_of(TypeDefKind::Option(target), world))?;
-    types.push(alias_of(1, TypeOwner::None))?;
-    types.push(alias_of(9, first))?;
+    let number = TypeDefKind::Type_(Type_::U32);
+    let mut types = one(alloc, type_of(number, interface_owner(0)))?;
+    for (target, owner) in [
+        (0, interface_owner(1)),
+        (1, interface_owner(1)),
+        (0, interface_owner(1)),
+        (0, world_owner()),
+        (1, TypeOwner::None),
+        (9, interface_owner(0)),
+    ] {
+        let kind = TypeDefKind::Type_(Type_::Id(TypeId::from_index(target)));
+        types.push(type_of(kind, owner))?;
+    }
+    let option = TypeDefKind::Option(Type_::Id(TypeId::from_index(0)));
+    types.push(type_of(option, world_owner()))?;
     Ok(types)
 }
 
@@ -248,9 +251,9 @@ fn aliases_tell_which_interface_they_use(rt: HostRuntime) -> Result<(), Fail> {
         (Some(1), None),
         (Some(0), Some(0)),
         (Some(0), Some(0)),
-        (None, None),
         (Some(1), Some(1)),
         (Some(9), None),
+        (None, None),
     ];
     for (place, (target, used)) in wanted.iter().enumerate() {
         let id = TypeId::from_index(place);
@@ -280,8 +283,146 @@ fn interfaces_tell_what_they_use(rt: HostRuntime) -> Result<(), Fail> {
     assert_eq!(rt; rows.len(), 2);
     let sizes = rows.iter().map(|row| row.len());
     assert!(rt; sizes.eq([0, 2]));
-    let other = interface_of(alloc, &[("a", 6), ("b", 4)])?;
+    let other = interface_of(alloc, &[("a", 5), ("b", 4)])?;
     let uses = interface_uses(alloc, types.as_slice(), &other)?;
     assert_eq!(rt; uses.as_slice(), [1, 0].as_slice());
+    Ok(())
+}
+
+fn function_of(alloc: Global) -> Result<Function, AllocError> {
+    let param = Param {
+        name: text_of(alloc, "a")?,
+        ty: Type_::U8,
+        span: Span::new(3, 4),
+    };
+    let params = one(alloc, param)?;
+    Ok(Function {
+        name: text_of(alloc, "[method]r.f")?,
+        kind: FunctionKind::Method(TypeId::from_index(0)),
+        params,
+        result_: Some(Type_::String),
+        docs: Docs::none(),
+        stability: Stability::Unknown,
+        span: Span::new(2, 6),
+        external_id: None,
+    })
+}
+
+#[test]
+fn functions_and_interfaces_are_copied(rt: HostRuntime) -> Result<(), Fail> {
+    let alloc = rt.alloc();
+    let function = function_of(alloc)?;
+    is_copied(&rt, &function)?;
+    let mut functions = IndexMap::new(alloc);
+    functions.insert(String::from_str(alloc, "[method]r.f")?, function)?;
+    let mut interface = interface_of(alloc, &[("r", 0)])?;
+    interface.functions = Names::from_map(functions);
+    let copy = interface.try_clone()?;
+    assert_eq!(rt; (copy.types.len(), copy.functions.len()), (1, 1));
+    assert_eq!(rt;
+        (copy.package, copy.span),
+        (interface.package, interface.span)
+    );
+    Ok(())
+}
+
+// A world with this import alone, which includes another world under another label.
+fn world_of(alloc: Global, key: WorldKey, item: WorldItem) -> Result<World, AllocError> {
+    let mut imports = IndexMap::new(alloc);
+    imports.insert(key, item)?;
+    let label = IncludeName {
+        name: text_of(alloc, "a")?,
+        as_: text_of(alloc, "b")?,
+    };
+    let include = WorldInclude {
+        stability: Stability::Unknown,
+        id: WorldId::from_index(2),
+        names: one(alloc, label)?,
+        span: Span::new(4, 9),
+    };
+    let includes = one(alloc, include)?;
+    Ok(World {
+        name: text_of(alloc, "w")?,
+        imports: Table::from_map(imports),
+        exports: Table::new(alloc),
+        docs: Docs::none(),
+        stability: Stability::Unknown,
+        package: None,
+        includes,
+        span: Span::new(1, 9),
+    })
+}
+
+#[test]
+fn worlds_are_copied(rt: HostRuntime) -> Result<(), Fail> {
+    let alloc = rt.alloc();
+    let key = WorldKey::Name(text_of(alloc, "f")?);
+    let world = world_of(alloc, key, WorldItem::Function(function_of(alloc)?))?;
+    is_copied(&rt, &world.includes)?;
+    let copy = world.try_clone()?;
+    let key = WorldKey::Name(text_of(alloc, "f")?);
+    assert!(rt; copy.imports.contains_key(&key));
+    assert_eq!(rt; (copy.imports.len(), copy.exports.len()), (1, 0));
+    Ok(())
+}
+
+// What is named of the package `a:b`: a world.
+fn foreign_world(
+    alloc: Global,
+) -> Result<Table<PackageName, Names<(AstItem, Items<Stability>)>>, AllocError> {
+    let item = AstItem::World(WorldId::from_index(0)).try_clone()?;
+    let mut names = IndexMap::new(alloc);
+    names.insert(String::from_str(alloc, "w")?, (item, Items::new(alloc)))?;
+    let namespace = text_of(alloc, "a")?;
+    let package = PackageName::new(namespace, text_of(alloc, "b")?, None);
+    let mut packages = IndexMap::new(alloc);
+    packages.insert(package, Names::from_map(names))?;
+    Ok(Table::from_map(packages))
+}
+
+// The package `c:d`, of one world.
+fn package_of(alloc: Global, world: World) -> Result<UnresolvedPackage, AllocError> {
+    let worlds = one(alloc, world)?;
+    let foreign_deps = foreign_world(alloc)?;
+    let foreign_dep_spans = one(alloc, Span::new(4, 6))?;
+    let namespace = text_of(alloc, "c")?;
+    Ok(UnresolvedPackage {
+        name: PackageName::new(namespace, text_of(alloc, "d")?, None),
+        package_name_span: Span::new(0, 3),
+        docs: Docs::none(),
+        worlds,
+        interfaces: Items::new(alloc),
+        types: Items::new(alloc),
+        foreign_deps,
+        foreign_dep_spans,
+        unknown_type_spans: Items::new(alloc),
+        required_resource_types: Items::new(alloc),
+    })
+}
+
+#[test]
+fn packages_are_copied(rt: HostRuntime) -> Result<(), Fail> {
+    let alloc = rt.alloc();
+    let id = InterfaceId::from_index(0);
+    let item = WorldItem::Interface {
+        id,
+        stability: Stability::Unknown,
+        docs: Docs::none(),
+        span: Span::new(7, 8),
+        external_id: None,
+    };
+    let main = package_of(alloc, world_of(alloc, WorldKey::Interface(id), item)?)?;
+    let group = UnresolvedPackageGroup {
+        main,
+        nested: Items::new(alloc),
+        source_map: SourceMap::with_base(alloc, 9),
+    };
+    let copy = group.try_clone()?;
+    assert!(rt; copy.main.name == group.main.name);
+    assert_eq!(rt;
+        (copy.main.worlds.len(), copy.main.foreign_deps.len()),
+        (1, 1)
+    );
+    assert_eq!(rt; (copy.nested.len(), copy.source_map.end()), (0, 9));
     Ok(())
 }
