@@ -22,3 +22,6 @@ pub mod Order
 pub mod Refusing
 pub mod Roles
 pub mod Steps
+mod EachLemmas
+mod Examples
+mod QuestionExamples

@@ -6,6 +6,7 @@ pub mod abi;
 pub mod function;
 pub mod ids;
 pub mod interface;
+pub mod laws;
 pub mod package_name;
 pub mod reference;
 pub mod shape;

@@ -1,0 +1,7 @@
+mod Acceptance
+mod CauseExamples
+mod Examples
+mod IncludeExamples
+mod Listed
+mod PushExamples
+mod WorldCauseExamples
