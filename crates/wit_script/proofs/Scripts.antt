@@ -6,7 +6,7 @@ use Rattle.std.proofs.lemmas.Option.{slice_get-map}
 use Rattle.std.specs.List.{prefix_len}
 use Rattle.std.specs.Option.{option_and_then, option_map}
 use Rattle.wit_script.specs.Line.{is_silent, last_said_of}
-use Rattle.wit_script.specs.Script.{after_line, after_lines, IsBadLine}
+use Rattle.wit_script.specs.Script.{after_line, after_lines, AreShaped, IsBad, IsBadLine}
 use Rattle.wit_script.specs.declared.reader.Reading.{Reading}
 use Rattle.wit_script.specs.declared.statement.Statement.{Statement}
 
@@ -94,12 +94,13 @@ module _ (xs : List (Bor (List ℕ))) (i : ℕ) (d : Bor (List ℕ)) where
 
   -- the first line that isn't understood
   pub bad-line : (start reading : Reading) → i < length xs → after_lines start (map (λ (x : Bor (List ℕ)). x.now) (take i xs)) ≡ Some reading
-      → after_line reading (get_or xs i d).now ≡ None → IsBadLine start (map (λ (x : Bor (List ℕ)). x.now) xs) (i + 1)
-  bad-line start reading within read bad = record {
+      → AreShaped reading.commands → IsBad (after_line reading (get_or xs i d).now) → IsBadLine start (map (λ (x : Bor (List ℕ)). x.now) xs) (i + 1)
+  bad-line start reading within read shaped bad = record {
     before = i;
     reading = reading;
     line = (get_or xs i d).now;
     read = rw (take-map (λ (x : Bor (List ℕ)). x.now) i xs) read;
+    shaped = shaped;
     at = rw (slice_get-map (λ (x : Bor (List ℕ)). x.now) xs i, at-get xs i d within) refl;
     bad = bad;
     counted = refl;

@@ -1,15 +1,14 @@
 -- A script, line by line: what its lines say, and which line is the first that isn't understood.
-use Rattle.std.specs.Prelude.{◌≡◌, ◌⊎◌, ℕ, ◌+◌, List, [], ◌∷◌, ◌++◌, length, take, Bool, true, ◌&&◌, nat_le, Option, Some, None, IsSome, is_some, slice_get, option_and_then, if◌then◌else◌}
-use Rattle.std.specs.List.{list_all}
-use Rattle.std.specs.Option.{option_map, option_map_or, option_to_list}
-use Rattle.wit_items.specs.UsePath.{is_kebab_name}
-use Rattle.wit_items.specs.declared.interface.Interface.{Interface}
+use Rattle.std.specs.Prelude.{◌≡◌, ◌⊎◌, ℕ, ◌+◌, List, [], ◌∷◌, ◌++◌, length, take, nat_le, Option, Some, None, IsSome, is_some, slice_get, option_and_then, Result, Ok, Err, if◌then◌else◌}
+use Rattle.std.specs.List.{AllByRecursion}
+use Rattle.std.specs.Option.{option_map, option_to_list}
+use Rattle.wit_items.specs.Shape.{IsGroupShaped}
 use Rattle.wit_items.specs.declared.package_name.PackageName.{PackageName}
-use Rattle.wit_items.specs.declared.unresolved.UnresolvedPackage.{UnresolvedPackage}
-use Rattle.wit_items.specs.declared.world.World.{World}
 use Rattle.wit_script.specs.Line.{lines_of, last_said_of}
 use Rattle.wit_script.specs.Package.{longest_file, begun, with_line, group_of}
 use Rattle.wit_script.specs.Said.{said_of}
+use Rattle.wit_script.specs.declared.fault.LineFault.{LineFault}
+use Rattle.wit_script.specs.declared.fault.LineFault.TheVariants as line_fault
 use Rattle.wit_script.specs.declared.fault.ReadFault.{ReadFault}
 use Rattle.wit_script.specs.declared.fault.ReadFault.TheVariants as read_fault
 use Rattle.wit_script.specs.declared.package.OpenPackage.{OpenPackage}
@@ -18,20 +17,6 @@ use Rattle.wit_script.specs.declared.reader.ScriptCommand.{ScriptCommand}
 use Rattle.wit_script.specs.declared.reader.ScriptCommand.TheVariants as asks
 use Rattle.wit_script.specs.declared.statement.Statement.{Statement}
 use Rattle.wit_script.specs.declared.statement.Statement.TheVariants as says
-
--- an interface whose name, where it has one, is a kebab name
-abbrev pub has_kebab_name : Interface → Bool
-has_kebab_name interface = option_map_or is_kebab_name interface.name true
-
--- a world whose name is a kebab name
-abbrev pub has_kebab_world_name : World → Bool
-has_kebab_world_name world = is_kebab_name world.name
-
--- a package whose namespace and name, interfaces and worlds have kebab names: all that its shape asks of what lines make
-abbrev pub has_kebab_names : UnresolvedPackage → Bool
-has_kebab_names p =
-    is_kebab_name p.name.namespace && (is_kebab_name p.name.name
-    && (list_all has_kebab_name p.interfaces && list_all has_kebab_world_name p.worlds))
 
 -- no line is read
 abbrev pub new_reading : Reading
@@ -49,10 +34,10 @@ with_package r name line = option_map (with_begun r) (begun name line)
 abbrev pub with_package_line_in : Reading → Option OpenPackage → Option Reading
 with_package_line_in r next = option_map (λ p. record r { current = Some p }) next
 
--- one package, pushed, where it has the shape that a graph takes
+-- one package, pushed. Its file fits into a source map, as each of its lines did
 abbrev pub with_pushed : Reading → List OpenPackage → OpenPackage → Option Reading
 with_pushed r [] p =
-    if nat_le (length p.contents) longest_file && has_kebab_names (group_of p).main
+    if nat_le (length p.contents) longest_file
     then Some (record r { commands = r.commands ++ asks.Push (group_of p) ∷ []; current = None })
     else None
 with_pushed r (before ∷ others) p = None
@@ -88,12 +73,28 @@ abbrev pub after_lines : Reading → List (List ℕ) → Option Reading
 after_lines r [] = Some r
 after_lines r (line ∷ lines) = option_and_then (λ next. after_lines next lines) (after_line r line)
 
--- the script is understood and asks this: each line is understood after those before it, and no package waits for its `push`
+-- a package that is pushed has its shape
+abbrev pub IsShapedCommand : ScriptCommand → Type 0
+IsShapedCommand (asks.Push group) = IsGroupShaped group
+IsShapedCommand (asks.Print owner world) = Unit {0}
+IsShapedCommand (asks.Select owner text) = Unit {0}
+
+abbrev pub AreShaped : List ScriptCommand → Type 0
+AreShaped commands = AllByRecursion IsShapedCommand commands
+
+-- no reading comes out, or one that pushes a package without its shape
+abbrev pub IsBad : Option Reading → Type 0
+IsBad None = Unit {0}
+IsBad (Some next) = ¬ AreShaped next.commands
+
+-- the script is understood and asks this: each line is understood after those before it, each package that is pushed has
+-- its shape, and none waits for its `push`
 pub record IsUnderstood (text : List ℕ) (commands : List ScriptCommand) : Type 0 where
   pub reading : Reading
   pub read : after_lines new_reading (lines_of text) ≡ Some reading
-  pub ended : reading.current ≡ None
   pub asked : reading.commands ≡ commands
+  pub shaped : AreShaped commands
+  pub ended : reading.current ≡ None
 
 -- of these lines this one, counted from 1, isn't understood, and those before it are
 pub record IsBadLine (start : Reading) (lines : List (List ℕ)) (number : ℕ) : Type 0 where
@@ -101,14 +102,16 @@ pub record IsBadLine (start : Reading) (lines : List (List ℕ)) (number : ℕ) 
   pub reading : Reading
   pub line : List ℕ
   pub read : after_lines start (take before lines) ≡ Some reading
+  pub shaped : AreShaped reading.commands
   pub at : slice_get lines before ≡ Some line
-  pub bad : after_line reading line ≡ None
+  pub bad : IsBad (after_line reading line)
   pub counted : number ≡ before + 1
 
 -- all lines are understood, but a package waits for its `push`; this is the last line that says something
 pub record IsUnended (lines : List (List ℕ)) (number : ℕ) : Type 0 where
   pub reading : Reading
   pub read : after_lines new_reading lines ≡ Some reading
+  pub shaped : AreShaped reading.commands
   pub waits : IsSome reading.current
   pub counted : number ≡ last_said_of lines
 
@@ -125,3 +128,9 @@ HasLineFault start lines read_fault.OutOfMemory = Unit {0}
 abbrev pub HasReadFault : List ℕ → ReadFault → Type 0
 HasReadFault text (read_fault.NotUnderstood number) = IsNotUnderstood text number
 HasReadFault text read_fault.OutOfMemory = Unit {0}
+
+-- a reading that goes on with packages of their shape, or ends at a bad line
+abbrev pub GoesOn : {A : Type 0} → Option Reading → Result A LineFault → Reading → Type 0
+GoesOn expected (Ok done) new = (expected ≡ Some new) × AreShaped new.commands
+GoesOn expected (Err line_fault.NotUnderstood) new = IsBad expected
+GoesOn expected (Err line_fault.OutOfMemory) new = Unit {0}

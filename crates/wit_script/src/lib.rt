@@ -9,7 +9,6 @@ pub mod printer;
 pub mod reader;
 pub mod ready;
 pub mod script;
-pub mod shape;
 pub mod statement;
 pub mod stream;
 pub mod token;

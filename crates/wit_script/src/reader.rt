@@ -3,13 +3,12 @@ ghost use Rattle.std.specs.Prelude.{◌≡◌, map, Some, IfOk, IfErr, OnOk, not
 ghost use Rattle.wit_script.specs.Line.{is_silent, last_said_of};
 ghost use Rattle.wit_script.specs.Reading.{IsRead, Leads};
 ghost use Rattle.wit_script.specs.Said.{said_of};
-ghost use Rattle.wit_script.specs.Script.{new_reading, with_statement, with_package, with_push, with_command, after_line, after_lines, IsUnderstood, HasLineFault, HasReadFault};
+ghost use Rattle.wit_script.specs.Script.{new_reading, with_statement, with_package, with_push, with_command, after_line, after_lines, GoesOn, IsShapedCommand, AreShaped, IsUnderstood, HasLineFault, HasReadFault};
 
 use crate::fault::{LineFault, ReadFault};
 use crate::line::{is_comment, lines, tokens};
 use crate::package::OpenPackage;
 use crate::ready::ReadyGroup;
-use crate::shape::has_kebab_names;
 use crate::statement::{Statement, read_statement};
 use std::alloc::Global;
 use wit_items::{Items, MapFault, PackageName, Text};
@@ -55,7 +54,8 @@ impl Reading {
 
     /// Adds what a line says.
     fn add(&mut self, alloc: Global, said: Statement, line: &str) -> Result<(), LineFault>
-        ensures { Leads (with_statement self.old said line.now) result self.new }
+        requires { AreShaped self.old.commands }
+        ensures { GoesOn (with_statement self.old said line.now) result self.new }
     {
         match said {
             Statement::Package(name) => self.add_package(alloc, name, line),
@@ -77,7 +77,8 @@ impl Reading {
 
     /// Begins a package.
     fn add_package(&mut self, alloc: Global, name: PackageName, line: &str) -> Result<(), LineFault>
-        ensures { Leads (with_package self.old name line.now) result self.new }
+        ensures next { Leads (with_package self.old name line.now) result self.new }
+        ensures commands { self.new.commands ≡ self.old.commands }
     {
         let package = OpenPackage::new(alloc, name, line)?;
         if let Some(before) = self.current.replace(package) {
@@ -88,7 +89,8 @@ impl Reading {
 
     /// Ends the packages, of which there is one, and adds the command that pushes it.
     fn add_push(&mut self, alloc: Global) -> Result<(), LineFault>
-        ensures { Leads (with_push self.old) result self.new }
+        requires { AreShaped self.old.commands }
+        ensures { GoesOn (with_push self.old) result self.new }
     {
         let Some(package) = self.current.take() else {
             return Err(LineFault::NotUnderstood);
@@ -101,7 +103,7 @@ impl Reading {
             Err(MapFault::OffsetOverflow) => return Err(LineFault::NotUnderstood),
             Err(MapFault::OutOfMemory) => return Err(LineFault::OutOfMemory),
         };
-        if !has_kebab_names(&group.main) {
+        if !group.is_shaped(alloc)? {
             return Err(LineFault::NotUnderstood);
         }
         self.commands
@@ -111,7 +113,9 @@ impl Reading {
 
     /// Adds a command where no package waits for its `push`.
     fn add_command(&mut self, command: ScriptCommand) -> Result<(), LineFault>
-        ensures { Leads (with_command self.old command) result self.new }
+        requires shaped { AreShaped self.old.commands }
+        requires command { IsShapedCommand command }
+        ensures { GoesOn (with_command self.old command) result self.new }
     {
         if self.current.is_some() {
             return Err(LineFault::NotUnderstood);
@@ -139,7 +143,8 @@ fn read_line(alloc: Global, line: &str) -> Result<Option<Statement>, LineFault>
 
 /// Adds a line, and tells whether it says anything.
 fn add_line(alloc: Global, reading: &mut Reading, line: &str) -> Result<bool, LineFault>
-    ensures next { Leads (after_line reading.old line.now) result reading.new }
+    requires { AreShaped reading.old.commands }
+    ensures next { GoesOn (after_line reading.old line.now) result reading.new }
     ensures told { IfOk result (λ said. said ≡ not (is_silent line.now)) }
 {
     match read_line(alloc, line)? {
@@ -153,7 +158,9 @@ fn add_line(alloc: Global, reading: &mut Reading, line: &str) -> Result<bool, Li
 
 /// Adds lines, and answers how many there are up to the last that says something.
 fn add_lines(alloc: Global, reading: &mut Reading, lines: &[&str]) -> Result<usize, ReadFault>
+    requires { AreShaped reading.old.commands }
     ensures read { OnOk result (after_lines reading.old (map (λ line. line.now) lines.now) ≡ Some reading.new) }
+    ensures shaped { OnOk result (AreShaped reading.new.commands) }
     ensures last { IfOk result (λ last. last ≡ last_said_of (map (λ line. line.now) lines.now)) }
     ensures fault { IfErr result (λ fault. HasLineFault reading.old (map (λ line. line.now) lines.now) fault) }
 {

@@ -10,7 +10,7 @@ none = record { ref_ptr = (0, 0); now = [] }
 pub returns-in-Err-NotUnderstood-clause-fault : goal.returns-in-Err-NotUnderstood-clause-fault
 unfolding none
 returns-in-Err-NotUnderstood-clause-fault c =
-    bad-line c.args.lines.now c.loop-index.index none c.args.reading.now c.loop-index.reading c.loop-index-test.true c.loop-index.invariant.read
+    bad-line c.args.lines.now c.loop-index.index none c.args.reading.now c.loop-index.reading c.loop-index-test.true c.loop-index.invariant.read c.loop-index.invariant.shaped
     (rw c.in-Err-NotUnderstood.field-0-is at c.in-Err-NotUnderstood.ensures.next)
 
 pub loop-index-preserved : goal.loop-index-preserved
@@ -18,7 +18,8 @@ unfolding none
 loop-index-preserved c = record {
   read =
       read-next c.args.lines.now c.loop-index.index none c.args.reading.now c.loop-index.reading c.add_line.new.reading
-      c.loop-index-test.true c.loop-index.invariant.read c.in-Ok.ensures.next;
+      c.loop-index-test.true c.loop-index.invariant.read c.in-Ok.ensures.next.0;
+  shaped = c.in-Ok.ensures.next.1;
   last = elim c.if-says_something.branch [
     | then-says_something w ↦
         rw w.last-is (last-said c.args.lines.now c.loop-index.index none c.loop-index-test.true (sym w.if-says_something.true ∙ c.in-Ok.ensures.told))
