@@ -1,4 +1,4 @@
-//! Examples of the definitions: each function has no body, and its contract is what is proved.
+//! Examples of the definitions: the contract of each function is what is proved.
 ghost use Rattle.wit_resolve_graph.specs.Examples.{ExamplesOfRuns, ExamplesOfSelection};
 
 /// Worlds that are chosen, and what is said where none is.
@@ -9,4 +9,6 @@ pub fn examples_of_selection()
 /// Short runs, and what no run does.
 pub fn examples_of_runs()
     ensures { ExamplesOfRuns }
-{}
+{
+    wit_link::laws::examples_of_pushes();
+}
