@@ -7,6 +7,7 @@ use Rattle.std.specs.Prelude.{Option, codes}
 use Rattle.std.specs.Str.{bytes_eq}
 use Rattle.std.specs.declared.cmp.Ordering.TheVariants.{Greater, Less}
 use Rattle.wit_values.specs.Version.{Parts, version_cmp}
+use Rattle.wit_relations.specs.Relation.{IsPath}
 use Rattle.wit_items.specs.Foreign.{ForeignItem}
 use Rattle.wit_items.specs.Span.{end_of}
 use Rattle.wit_items.specs.declared.function.Function.{Function}
@@ -22,9 +23,11 @@ use Rattle.wit_items.specs.declared.stability.Stability.TheVariants.{Unknown, St
 use Rattle.wit_items.specs.declared.types.TypeDef.{TypeDef}
 use Rattle.wit_graph.specs.Examples.{empty_graph}
 use Rattle.wit_graph.specs.Samples.{foo_bar, no_docs, type_in}
-use Rattle.wit_link.specs.Cause.{AnInterface, IsActiveFunction, IsCause, IsExcluded, IsUnreleased, LacksInterface, PassesTheEnd, RefersTo, Thing, owner_thing}
+use Rattle.wit_items.specs.declared.types.Handle.TheVariants as handle
+use Rattle.wit_graph.specs.Questions.{held_rows}
+use Rattle.wit_link.specs.Cause.{AnInterface, IsActiveFunction, IsBorrow, IsCause, IsExcluded, IsUnreleased, LacksInterface, PassesTheEnd, RefersTo, Thing, owner_thing}
 use Rattle.wit_link.specs.Cause as reason
-use Rattle.wit_link.specs.CauseExamples.{ExamplesOfCauses, bare, gated, gated_owner, loose_interface, name_of, naming}
+use Rattle.wit_link.specs.CauseExamples.{ExamplesOfCauses, bare, gated, gated_owner, loose_interface, name_of, naming, returning}
 use Rattle.wit_link.specs.Examples.{feature_f, gate_f, no_features}
 use Rattle.wit_link.specs.Gates.{IsAsked, Place, interface_is_active}
 use Rattle.wit_link.specs.Gates as asked
@@ -110,6 +113,15 @@ just_fits : PassesTheEnd (record (bare foo_bar) { package_name_span = Some (8, 1
 just_fits (from, to, inside, far) =
     let end : 10 ≡ to = ap (λ (p : Place). end_of p) (only_one _ _ inside) in
     absurd (omega (arith, end, far))
+
+-- ---- an own is no borrow
+
+own_alone : (b : ℕ) (path : List ℕ) → IsPath (held_rows (returning (type.Id 2)).types) 2 path b → IsBorrow (returning (type.Id 2)).types b → ⊥
+own_alone b [] same borrow =
+    let here : IsBorrow (returning (type.Id 2)).types 2 = subst (IsBorrow (returning (type.Id 2)).types) (sym same) borrow in
+    let is : kind.Handle (handle.Own 0) ≡ kind.Handle (handle.Borrow here.0) = here.1 in
+    cc
+own_alone b (k ∷ path) leads borrow = none_in k leads.0
 
 pub causes : ExamplesOfCauses
 unfolding digits
@@ -200,6 +212,7 @@ causes = record {
     span_is = refl;
     message_is = refl;
   });
+  own_result = λ holds. own_alone holds.0 holds.1.0 holds.1.1 holds.2;
   alike = inr (record {
     world = _;
     lists = _;

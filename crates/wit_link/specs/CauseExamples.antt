@@ -18,7 +18,7 @@ use Rattle.wit_graph.specs.Samples.{entry_of, foo_bar, function_of, interface_of
 use Rattle.wit_graph.specs.declared.cause.Cause.TheVariants as cause
 use Rattle.wit_graph.specs.declared.error_kind.ResolveErrorKind.TheVariants.{PackageNotFound, InterfaceNotFound, DuplicatePackage, Semantic, OffsetOverflow, OutOfMemory}
 use Rattle.wit_graph.specs.declared.graph.Graph.{Graph}
-use Rattle.wit_link.specs.Cause.{IsCause}
+use Rattle.wit_link.specs.Cause.{HoldsBorrow, IsCause}
 use Rattle.wit_link.specs.Examples.{feature_f, function_entry, gate_f, no_features}
 
 -- a package of this name without anything, whose name stands at 8 to 13
@@ -115,6 +115,7 @@ pub record ExamplesOfCauses : Type 0 where
       (Semantic None (codes "function `f` returns a type which contains a `borrow<T>` which is not supported") cause.BorrowInResult)
   pub borrow_in_list : IsCause no_features empty_graph (returning (type.Id 3)) 0
       (Semantic None (codes "function `f` returns a type which contains a `borrow<T>` which is not supported") cause.BorrowInResult)
+  pub own_result : HoldsBorrow (returning (type.Id 2)).types 2 → ⊥
   -- 17
   pub alike : IsCause no_features empty_graph (importing (function_entry (codes "ab") ∷ function_entry (codes "AB") ∷ [])) 0
       (Semantic None (codes "import `AB` in world `w` conflicts with import `ab` (names must be strongly unique)") cause.NotStronglyUnique)
