@@ -4,3 +4,4 @@ pub mod Pieces
 pub mod Arguments
 pub mod Keys
 pub mod Scripts
+pub mod Answered

@@ -8,3 +8,4 @@ pub mod Ready
 pub mod Package
 pub mod Script
 pub mod Said
+pub mod Answer
