@@ -1,6 +1,8 @@
 mod Acceptance
 mod CauseExamples
 mod Examples
+mod HasImage
+mod ImageExamples
 mod IncludeExamples
 mod Listed
 mod PushExamples

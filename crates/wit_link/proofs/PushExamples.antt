@@ -9,7 +9,7 @@ use Rattle.wit_items.specs.Each.{SomeAt}
 use Rattle.wit_items.specs.PackageOrder.{package_cmp}
 use Rattle.wit_items.specs.Span.{moved_by}
 use Rattle.wit_items.specs.declared.package_name.PackageName.{PackageName}
-use Rattle.wit_link.specs.Groups.{Handed, handed_uses, names_of}
+use Rattle.wit_link.specs.Groups.{Handed, IsHandedTwice, IsOnHandedCycle, handed_uses, names_of}
 use Rattle.wit_link.specs.Include.{IsCopied}
 use Rattle.wit_relations.specs.Walks.{walk, walk_within}
 use Rattle.wit_items.specs.declared.interface.Interface.{Interface}
@@ -24,15 +24,16 @@ use Rattle.wit_items.specs.declared.world.WorldKey.TheVariants as key
 use Rattle.wit_graph.specs.Elaborated.{import_steps, import_steps_within}
 use Rattle.wit_graph.specs.Examples.{empty_graph}
 use Rattle.wit_graph.specs.Samples.{entry_of, foo_bar, interface_of, sample, sample_interfaces, sample_types, type_in, world_of}
+use Rattle.wit_graph.specs.declared.error_kind.ResolveErrorKind.TheVariants.{DuplicatePackage, PackageCycle}
 use Rattle.wit_graph.specs.declared.graph.Graph.{Graph}
 use Rattle.wit_graph.specs.declared.graph.Package.{Package}
 use Rattle.wit_link.proofs.Acceptance.{no_reason}
 use Rattle.wit_link.proofs.Listed.{EachAt-nil, EachAt-one, EachAt-two, differ, none_in, only_one}
 use Rattle.wit_link.specs.Examples.{feature_f, gate_f, no_features}
-use Rattle.wit_link.specs.CauseExamples.{bare, gated, loose_interface, loose_world}
+use Rattle.wit_link.specs.CauseExamples.{bare, gated, loose_interface, loose_world, naming}
 use Rattle.wit_link.specs.Gates.{interface_is_active, type_is_active, world_is_active}
 use Rattle.wit_link.specs.Image.{IsImage, IsInterfaceImage, Maps}
-use Rattle.wit_link.specs.PushExamples.{ExamplesOfGroups, ExamplesOfIncludes, ExamplesOfPushes, first_package, main_and_dep, main_name}
+use Rattle.wit_link.specs.PushExamples.{ExamplesOfGroups, ExamplesOfIncludes, ExamplesOfPushes, each_other, first_package, main_and_dep, main_name}
 use Rattle.wit_link.specs.Pushed.{AreMaps, IsBuilt, IsFinished, active_part}
 
 -- ---- the first addition
@@ -219,23 +220,46 @@ no_way_back zero used uses (k ∷ path) leads = none_in k (subst (λ (x : ℕ). 
 no_way_back (suc zero) used uses path leads = none_in used uses
 no_way_back (suc (suc user)) used uses path leads = none_in used uses
 
+-- main and dep are on one cycle
+on_cycle : IsOnHandedCycle each_other (Some (40, 45)) main_name
+on_cycle = record {
+  user = 1;
+  used = 0;
+  told = 0;
+  on_cycle = record { is_used = (0, lit< tt, refl); leads_back = (1 ∷ [], ((0, lit< tt, refl), refl)) };
+  depends = record { p = _; place = 0; name = main_name; items = _; is = refl; names = refl; used_is = refl; span_is = refl };
+  to_told = ([], refl);
+  from_told = (1 ∷ [], ((0, lit< tt, refl), refl));
+  is = refl;
+}
+
+-- main is on a cycle of its own
+on_own_cycle : IsOnHandedCycle ((naming main_name main_name Unknown, 0) ∷ []) (Some (20, 25)) main_name
+on_own_cycle = record {
+  user = 0;
+  used = 0;
+  told = 0;
+  on_cycle = record { is_used = (0, lit< tt, refl); leads_back = ([], refl) };
+  depends = record { p = _; place = 0; name = main_name; items = _; is = refl; names = refl; used_is = refl; span_is = refl };
+  to_told = ([], refl);
+  from_told = ([], refl);
+  is = refl;
+}
+
+twice : IsHandedTwice ((bare foo_bar, 0) ∷ (bare foo_bar, 16) ∷ []) foo_bar (Some (24, 29)) (Some (8, 13))
+twice = record { earlier = 0; later = 1; before = lit< tt; first = (refl, refl); second = (refl, refl) }
+
 pub groups : ExamplesOfGroups
 unfolding walk walk_within
 groups = record {
   uses = refl;
   itself = refl;
   dependency_first = record { roots = 1 ∷ 0 ∷ []; all = record { moves = (0, 1) ∷ []; below = (lit< tt, lit< tt, tt); is = refl }; by_name = sorted_names; is = refl };
-  twice = record { earlier = 0; later = 1; before = lit< tt; first = (refl, refl); second = (refl, refl) };
+  twice = twice;
   not_twice = λ name t. only_handed name t.earlier t.later t.before t.second;
-  cycle = record {
-    user = 1;
-    used = 0;
-    told = 0;
-    on_cycle = record { is_used = (0, lit< tt, refl); leads_back = (1 ∷ [], ((0, lit< tt, refl), refl)) };
-    depends = record { p = _; place = 0; name = main_name; items = _; is = refl; names = refl; used_is = refl; span_is = refl };
-    to_told = ([], refl);
-    from_told = (1 ∷ [], ((0, lit< tt, refl), refl));
-    is = refl;
-  };
+  cycle = on_cycle;
   no_cycle = λ home c. no_way_back c.user c.used c.on_cycle.is_used c.on_cycle.leads_back.0 c.on_cycle.leads_back.1;
+  cycle_alone = λ error c. c.sortable (PackageCycle (Some (40, 45)) main_name) on_cycle;
+  itself_alone = λ error c. c.sortable (PackageCycle (Some (20, 25)) main_name) on_own_cycle;
+  twice_alone = λ error c. c.sortable (DuplicatePackage foo_bar (Some (24, 29)) (Some (8, 13))) twice;
 }

@@ -20,16 +20,18 @@ use Rattle.wit_graph.specs.Imported.{IsInConflict}
 use Rattle.wit_graph.specs.Samples.{entry_of, foo_bar, no_docs, sample, sample_types, world_of}
 use Rattle.wit_graph.specs.declared.graph.Graph.{Graph}
 use Rattle.wit_graph.specs.declared.graph.Package.{Package}
+use Rattle.wit_link.proofs.ImageExamples.{export_has_image, include_has_image}
 use Rattle.wit_link.proofs.Listed.{EachAt-nil, EachAt-one, EachAt-two, differ, none_in, only_one}
-use Rattle.wit_link.specs.Cause.{FindsType, IsAtInclude, IsAtWorld, NamesForeignType, lists_of}
+use Rattle.wit_link.specs.Cause.{FindsType, IsAtInclude, IsAtWorld, IsImageCause, NamesForeignType, lists_of}
 use Rattle.wit_link.specs.Examples.{function_entry, gate_f, named_as, no_features}
 use Rattle.wit_link.specs.Gates.{interface_is_active, world_is_active}
+use Rattle.wit_link.specs.Gates as asked
 use Rattle.wit_link.specs.Image.{Maps, alias_rows}
 use Rattle.wit_link.specs.Include.{IsRenamed}
-use Rattle.wit_link.specs.PushExamples.{gate_g, main_name}
+use Rattle.wit_link.specs.PushExamples.{gate_g, main_name, since_one}
 use Rattle.wit_link.specs.Pushed.{AreMaps, HasWorld, IsBuilt, new_package}
 use Rattle.wit_link.specs.Rename.{renamed_by}
-use Rattle.wit_link.specs.WorldCauseExamples.{ExamplesOfWorldCauses, all_features, exporting, exporting_package, gated_entry, including, including_package, naming_type, three, with_base}
+use Rattle.wit_link.specs.WorldCauseExamples.{ExamplesOfWorldCauses, all_features, exporting, exporting_package, gated_entry, including, including_package, naming_type, no_version, since_package, three, with_base}
 
 -- one of two things
 of_two : {X : Type 0} (P : X → Type 0) (a b x : X) → Contains (a ∷ b ∷ []) x → (a ≡ x → P x) → (b ≡ x → P x) → P x
@@ -134,6 +136,7 @@ at_world : (names : List IncludeName) → IsAtWorld all_features with_base (incl
 at_world names = record {
   css = [];
   place = 1;
+  has_image = include_has_image names;
   built = include_built names;
   next = refl;
   image = record {
@@ -215,6 +218,7 @@ at_exporting : IsAtWorld no_features three exporting_package 0 0 exporting [] ex
 at_exporting = record {
   css = [];
   place = 0;
+  has_image = export_has_image;
   built = record {
     more_types = [];
     images = [];
@@ -254,6 +258,18 @@ a_clear e inside conflict =
     let there : IsInConflict (uses_of three.types three.interfaces) (entry_of 0 ∷ entry_of 2 ∷ []) (entry_of 0) =
     subst (IsInConflict (uses_of three.types three.interfaces) (entry_of 0 ∷ entry_of 2 ∷ [])) (sym (only_one (entry_of 0) e inside)) conflict in
     none_in there.2.0 (subst (λ (i : ℕ). Contains (direct (uses_of three.types three.interfaces) i) there.2.0) (sym (only_one 0 there.0 there.1)) there.2.2)
+
+-- a `@since`, and no version
+lacks_version : IsImageCause all_features with_base since_package 0 no_version
+lacks_version = record {
+  note = since_one;
+  place = None;
+  asked = asked.of_interface 1 _ _ refl (0, lit< tt, refl);
+  stable = tt;
+  no_version = refl;
+  span_is = refl;
+  message_is = refl;
+}
 
 pub world_causes : ExamplesOfWorldCauses
 world_causes = record {
@@ -299,6 +315,8 @@ world_causes = record {
     shadowed = (key.Interface 0 ∷ [], [], refl, (1, lit< tt, refl));
     span_is = refl;
   });
+  lacks_version = inl lacks_version;
+  no_shadow = λ span word name c. elim c [ inl early ↦ early | inr late ↦ late.at_include.at_world.has_image no_version lacks_version ];
   mismatch = inr (record {
     new = with_main [];
     lists = lists_of begun;

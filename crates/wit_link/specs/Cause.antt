@@ -1,7 +1,8 @@
 -- Why the addition of a package to a graph is refused: one definition for each reason, each with the
 -- fields and the place that the error tells. All of them read the graph, the features, the package and the
 -- offset by which its spans move. The reasons that lie in a world read what came of the package up to it:
--- its types, its interfaces and the worlds before it. Want of memory is no reason here.
+-- its types, its interfaces and the worlds before it; they don't hold where the package has no image, but for
+-- labels of a world that includes nothing. Want of memory is no reason here.
 -- Source: `append` of wit-parser 0.263.0.
 use Rattle.std.specs.Prelude.{◌≡◌, ◌≢◌, ◌⊎◌, ◌≤◌, ◌+◌, ◌^◌, ℕ, true, List, [], ◌∷◌, ◌++◌, map, take, length, slice_get, Option, None, Some, Contains, codes}
 use Rattle.std.specs.List.{flat_map}
@@ -282,13 +283,37 @@ pub record ReturnsBorrow (features : Features) (g : Graph) (u : UnresolvedPackag
   pub span_is : span ≡ moved_by offset f.span
   pub message_is : message ≡ borrow_text f.name
 
+-- ---- what leaves no image
+
+-- the reasons that a message tells, of those that leave no image
+abbrev pub IsImageSemantic : Features → Graph → UnresolvedPackage → ℕ → Cause → Place → List ℕ → Type 0
+IsImageSemantic features g u offset cause.GateWithoutVersion = LacksVersion features u offset
+IsImageSemantic features g u offset cause.GateUnreleased = IsUnreleased features u offset
+IsImageSemantic features g u offset cause.Excluded = RefersToExcluded features u offset
+IsImageSemantic features g u offset cause.ExcludedOwner = HasExcludedOwner features u offset
+IsImageSemantic features g u offset cause.TypeNotDefined = LacksType features g u offset
+IsImageSemantic features g u offset _ = λ span message. ⊥
+
+-- the addition of u to the graph g has a reason to be refused with this error that leaves u without an image
+abbrev pub IsImageCause : Features → Graph → UnresolvedPackage → ℕ → ResolveErrorKind → Type 0
+IsImageCause features g u offset (PackageNotFound span requested known) = LacksPackage g u offset span requested known
+IsImageCause features g u offset (WorldNotFound span requested home) = LacksWorld features g u offset span requested home
+IsImageCause features g u offset (InterfaceNotFound span requested home) = LacksInterface features g u offset span requested home
+IsImageCause features g u offset (Semantic span message c) = IsImageSemantic features g u offset c span message
+IsImageCause features g u offset _ = ⊥
+
+-- u has an image in the graph g: no such reason holds
+abbrev pub HasImage : Features → Graph → UnresolvedPackage → ℕ → Type 0
+HasImage features g u offset = (error : ResolveErrorKind) → IsImageCause features g u offset error → ⊥
+
 -- ---- reasons in a world
 
--- the package's types, interfaces and first k worlds make new of the graph, the next world is this one, and
--- its lists after its first includes, which make the copies cs, are these
+-- the package has an image; its types, interfaces and first k worlds make new of the graph, the next world is
+-- this one, and its lists after its first includes, which make the copies cs, are these
 pub record IsAtWorld (features : Features) (g : Graph) (u : UnresolvedPackage) (offset : ℕ) (k : ℕ) (world : World) (cs : List Copies) (m : Maps) (new : Graph) (begun : World) (lists : Lists) : Type 0 where
   pub css : List (List Copies)
   pub place : ℕ
+  pub has_image : HasImage features g u offset
   pub built : IsBuilt features g u offset m css cs k new
   pub next : slice_get (active_worlds features u) k ≡ Some (place, world)
   pub image : IsWorldImage new.types m offset (Some (length g.packages)) (active_entries features u.types world) begun
@@ -367,8 +392,9 @@ pub record RenamesNothing (features : Features) (g : Graph) (u : UnresolvedPacka
   pub span_is : span ≡ moved_by offset include.span
   pub message_is : message ≡ rename_text name.name
 
--- the lists of a world of the package that takes part: with all its includes, or as it is written where it
--- includes nothing; the spans of its entries are still to move by `offset`
+-- the lists of a world of the package that takes part: with all its includes, where the package has an image;
+-- or as it is written where it includes nothing, image or not; the spans of its entries are then still to
+-- move by `offset`
 pub data HaveLists (features : Features) (g : Graph) (u : UnresolvedPackage) (offset : ℕ) : World → Lists → ℕ → Type 0 where
   made : (k : ℕ) (world : World) (cs : List Copies) (m : Maps) (new : Graph) (begun : World) (lists : Lists) → IsAtWorld features g u offset k world cs m new begun lists
       → length cs ≡ length (active_includes features world) → HaveLists features g u offset world lists 0
@@ -429,16 +455,12 @@ PassesTheEnd u offset = (from : ℕ) × (to : ℕ) × Contains (package_spans u)
 
 -- ---- all reasons
 
--- the reasons that a message tells, of those that read the graph and the package alone
+-- the reasons that a message tells, of those that read the graph and the package alone: they leave no image,
+-- or stand beside it
 abbrev pub IsEarlySemantic : Features → Graph → UnresolvedPackage → ℕ → Cause → Place → List ℕ → Type 0
-IsEarlySemantic features g u offset cause.GateWithoutVersion = LacksVersion features u offset
-IsEarlySemantic features g u offset cause.GateUnreleased = IsUnreleased features u offset
-IsEarlySemantic features g u offset cause.Excluded = RefersToExcluded features u offset
-IsEarlySemantic features g u offset cause.ExcludedOwner = HasExcludedOwner features u offset
-IsEarlySemantic features g u offset cause.TypeNotDefined = LacksType features g u offset
 IsEarlySemantic features g u offset cause.NotAResource = IsNoResource features g u offset
 IsEarlySemantic features g u offset cause.BorrowInResult = ReturnsBorrow features g u offset
-IsEarlySemantic features g u offset _ = λ span message. ⊥
+IsEarlySemantic features g u offset c = IsImageSemantic features g u offset c
 
 -- of those that read what came of the package up to a world
 abbrev pub IsLateSemantic : Features → Graph → UnresolvedPackage → ℕ → Cause → Place → List ℕ → Type 0
@@ -448,15 +470,12 @@ IsLateSemantic features g u offset cause.NoGetter = LacksGetter features g u off
 IsLateSemantic features g u offset _ = λ span message. ⊥
 
 -- the addition of u to the graph g has a reason to be refused with this error that lies in the graph and
--- the package alone
+-- the package alone: it leaves no image, or stands beside it
 abbrev pub IsEarlyCause : Features → Graph → UnresolvedPackage → ℕ → ResolveErrorKind → Type 0
-IsEarlyCause features g u offset (PackageNotFound span requested known) = LacksPackage g u offset span requested known
-IsEarlyCause features g u offset (WorldNotFound span requested home) = LacksWorld features g u offset span requested home
-IsEarlyCause features g u offset (InterfaceNotFound span requested home) = LacksInterface features g u offset span requested home
 IsEarlyCause features g u offset (DuplicatePackage name span1 span2) = IsDuplicate g u offset name span1 span2
 IsEarlyCause features g u offset (Semantic span message c) = IsEarlySemantic features g u offset c span message
 IsEarlyCause features g u offset OffsetOverflow = PassesTheEnd u offset
-IsEarlyCause features g u offset _ = ⊥
+IsEarlyCause features g u offset error = IsImageCause features g u offset error
 
 -- one that lies in a world
 abbrev pub IsLateCause : Features → Graph → UnresolvedPackage → ℕ → ResolveErrorKind → Type 0

@@ -116,8 +116,8 @@ IsSortCause handed (PackageCycle span home) = IsOnHandedCycle handed span home
 IsSortCause handed OffsetOverflow = TellsTooFar handed
 IsSortCause handed _ = ⊥
 
--- adding handed packages, sorted, has a reason to be refused with this error: one of them can't be added
--- to what those before it make of the graph
+-- adding handed packages has a reason to be refused with this error: they can be sorted, and one of them
+-- can't be added to what those before it make of the graph
 pub record IsPushCause (features : Features) (g : Graph) (handed : List Handed) (error : ResolveErrorKind) : Type 0 where
   pub order : List ℕ
   pub before : List Handed
@@ -125,6 +125,7 @@ pub record IsPushCause (features : Features) (g : Graph) (handed : List Handed) 
   pub after : List Handed
   pub mid : Graph
   pub ids : List ℕ
+  pub sortable : (e : ResolveErrorKind) → IsSortCause handed e → ⊥
   pub sorted : AreSorted handed order (before ++ p ∷ after)
   pub pushed : ArePushed features g before mid ids
   pub cause : IsCause features mid p.0 p.1 error

@@ -15,11 +15,12 @@ use Rattle.wit_graph.specs.Samples.{entry_of, foo_bar, function_of, interface_of
 use Rattle.wit_items.specs.declared.types.Type_.TheVariants as type
 use Rattle.wit_items.specs.declared.types.TypeDefKind.TheVariants as kind
 use Rattle.wit_items.specs.declared.types.TypeOwner.TheVariants as owner
+use Rattle.wit_graph.specs.declared.error_kind.ResolveErrorKind.{ResolveErrorKind}
 use Rattle.wit_graph.specs.declared.graph.Graph.{Graph}
 use Rattle.wit_link.specs.Cause.{IsAccepted}
 use Rattle.wit_link.specs.CauseExamples.{bare, gated, loose_interface, loose_world, name_of, naming}
 use Rattle.wit_link.specs.Examples.{feature_f, function_entry, gate_f, named_as, no_features}
-use Rattle.wit_link.specs.Groups.{Handed, IsGroupOrder, IsHandedTwice, IsOnHandedCycle, handed_uses}
+use Rattle.wit_link.specs.Groups.{Handed, IsGroupOrder, IsHandedTwice, IsOnHandedCycle, IsPushCause, handed_uses}
 use Rattle.wit_link.specs.Include.{Copies, Included, IsTaken, IncludeJoinsTo, IsCopied, IsJoined, IsRenamed, IsShadowed, JoinsTo}
 use Rattle.wit_link.specs.Pushed.{Pushed}
 
@@ -135,3 +136,8 @@ pub record ExamplesOfGroups : Type 0 where
   pub not_twice : (name : PackageName) → IsHandedTwice ((bare foo_bar, 0) ∷ []) name (Some (8, 13)) (Some (8, 13)) → ⊥
   pub cycle : IsOnHandedCycle each_other (Some (40, 45)) main_name
   pub no_cycle : (home : PackageName) → IsOnHandedCycle main_and_dep (Some (20, 25)) home → ⊥
+  -- packages that can't be sorted are refused for that alone, not for what one of them lacks, or for a name
+  -- that is there twice
+  pub cycle_alone : (error : ResolveErrorKind) → IsPushCause no_features empty_graph each_other error → ⊥
+  pub itself_alone : (error : ResolveErrorKind) → IsPushCause no_features empty_graph ((naming main_name main_name Unknown, 0) ∷ []) error → ⊥
+  pub twice_alone : (error : ResolveErrorKind) → IsPushCause no_features empty_graph ((bare foo_bar, 0) ∷ (bare foo_bar, 16) ∷ []) error → ⊥

@@ -13,13 +13,15 @@ use Rattle.wit_items.specs.declared.world.WorldItem.TheVariants as item
 use Rattle.wit_items.specs.declared.world.WorldKey.TheVariants as key
 use Rattle.wit_graph.specs.Samples.{entry_of, foo_bar, foo_bar_of, interface_of, no_docs, sample, type_in, world_of}
 use Rattle.wit_graph.specs.declared.cause.Cause.TheVariants as cause
+use Rattle.wit_graph.specs.declared.error_kind.ResolveErrorKind.{ResolveErrorKind}
 use Rattle.wit_graph.specs.declared.error_kind.ResolveErrorKind.TheVariants.{InvalidTransitiveDependency, ItemShadowing, Semantic, StabilityMismatch, WorldNotFound}
 use Rattle.wit_graph.specs.declared.features.Features.{Features}
 use Rattle.wit_graph.specs.declared.graph.Graph.{Graph}
 use Rattle.wit_link.specs.Cause.{FindsType, IsCause}
 use Rattle.wit_link.specs.CauseExamples.{bare, loose_interface, loose_world}
 use Rattle.wit_link.specs.Examples.{function_entry, gate_f, named_as, no_features}
-use Rattle.wit_link.specs.PushExamples.{gate_g, main_name}
+use Rattle.wit_link.specs.Gates.{Place}
+use Rattle.wit_link.specs.PushExamples.{gate_g, main_name, since_one}
 
 -- all features are on
 abbrev pub all_features : Features
@@ -64,6 +66,14 @@ including_package names = record (bare main_name) {
   foreign_dep_spans = None ∷ [];
 }
 
+-- the same without renamings, with an interface of its own under `@since`
+abbrev pub since_package : UnresolvedPackage
+since_package = record (including_package []) { interfaces = loose_interface (codes "a") [] Unknown ∷ loose_interface (codes "i") [] since_one ∷ [] }
+
+-- the error that it has a `@since`, and no version
+abbrev pub no_version : ResolveErrorKind
+no_version = Semantic None (codes "package [foo:main] contains a feature gate with a version specifier, so it must have a version") cause.GateWithoutVersion
+
 -- foo:bar with a; b, which uses a; and c, which uses b
 abbrev pub three : Graph
 three = record {
@@ -87,7 +97,7 @@ exporting_package = record (bare main_name) {
   foreign_dep_spans = None ∷ [];
 }
 
--- reasons that hold, and one that just doesn't
+-- reasons that hold, and reasons that just don't
 pub record ExamplesOfWorldCauses : Type 0 where
   -- 2
   pub no_world : IsCause no_features three (including_package []) 0 (WorldNotFound None (codes "w") foo_bar)
@@ -98,6 +108,9 @@ pub record ExamplesOfWorldCauses : Type 0 where
   pub no_resource : IsCause no_features (sample [] []) (naming_type (codes "t")) 0 (Semantic (Some (40, 41)) (codes "type used in a handle must be a resource") cause.NotAResource)
   -- 7
   pub shadows : IsCause all_features with_base (including_package []) 0 (ItemShadowing (Some (50, 60)) (codes "import") (codes "f"))
+  -- 9 where the package has no version, and then not 7: it has no image
+  pub lacks_version : IsCause all_features with_base since_package 0 no_version
+  pub no_shadow : (span : Place) (word name : List ℕ) → IsCause all_features with_base since_package 0 (ItemShadowing span word name) → ⊥
   -- 8: from the included entry into the one that was there
   pub mismatch : IsCause all_features with_base (including_package []) 0 (StabilityMismatch (Some (50, 60)) gate_g gate_f)
   -- 16
