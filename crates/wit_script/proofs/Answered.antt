@@ -1,5 +1,5 @@
 -- Answers one after another.
-use Rattle.std.proofs.Common.{◌≡◌, ℕ, List, [], ◌∷◌, ◌++◌, refl, sym, ap, ◌∙◌, subst, append_assoc}
+use Rattle.std.proofs.Common.{ℕ, List, [], ◌∷◌, ◌++◌, refl, sym, ap, ◌∙◌, subst, append_assoc}
 use Rattle.std.proofs.lemmas.List.{append-nil}
 use Rattle.wit_resolve_graph.specs.State.{State}
 use Rattle.wit_script.specs.Answer.{Runs, Chooses, Answers, AnswersAll}

@@ -2,6 +2,8 @@
 #![tactic(auto)]
 
 #[cfg(test)]
+mod failing_streams;
+#[cfg(test)]
 mod first_path;
 #[cfg(test)]
 mod shape;
