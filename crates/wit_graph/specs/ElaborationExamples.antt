@@ -1,5 +1,5 @@
 -- Worked worlds over four interfaces: a; b, which uses a; c, which uses a and then b; d, which uses b.
-use Rattle.std.specs.Prelude.{ℕ, ◌≡◌, List, [], ◌∷◌, Option, None, codes, Contains}
+use Rattle.std.specs.Prelude.{ℕ, ◌≡◌, List, [], ◌∷◌, None, codes}
 use Rattle.wit_items.specs.declared.stability.Stability.TheVariants.{Unknown}
 use Rattle.wit_items.specs.declared.world.WorldItem.{WorldItem}
 use Rattle.wit_items.specs.declared.world.WorldItem.TheVariants as item

@@ -1,6 +1,6 @@
 -- The order of package names: by the namespace, then the name, then the version, a name without a version
 -- first. Versions are ordered as SemVer 2.0.0 orders them, and then by their build metadata.
-use Rattle.std.specs.Prelude.{Bool, ◌&&◌, nat_eq}
+use Rattle.std.specs.Prelude.{Bool, ◌&&◌}
 use Rattle.std.specs.Cmp.Lexicographic.{slice_cmp}
 use Rattle.std.specs.Option.{option_cmp, option_eq}
 use Rattle.std.specs.Ordering.{nat_cmp, on, then_cmp}

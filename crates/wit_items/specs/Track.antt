@@ -2,7 +2,7 @@
 -- Source: SemVer 2.0.0, in which releases of one major version other than 0 are compatible, and Cargo's
 -- reading of it for version 0; `version_compat_track` of wit-parser 0.263.0. What the suffix is, is a rule
 -- of this project.
-use Rattle.std.specs.Prelude.{ℕ, ◌==◌, List, [], ◌∷◌, ◌++◌, drop, length, Option, None, Some, decimal, if◌then◌else◌}
+use Rattle.std.specs.Prelude.{ℕ, ◌==◌, List, [], ◌∷◌, drop, length, Option, None, Some, decimal, if◌then◌else◌}
 use Rattle.semver.specs.Identifiers.{parts_text}
 use Rattle.wit_values.specs.Version.{Parts}
 

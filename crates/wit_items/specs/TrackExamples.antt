@@ -1,5 +1,5 @@
 -- Tracks of some versions.
-use Rattle.std.specs.Prelude.{◌≡◌, List, [], ◌∷◌, None, Some, codes}
+use Rattle.std.specs.Prelude.{◌≡◌, [], None, Some, codes}
 use Rattle.wit_items.specs.Track.{track_of, track_suffix, track_text}
 
 -- tracks, their texts and what remains of a version

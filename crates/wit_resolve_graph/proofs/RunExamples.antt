@@ -1,5 +1,5 @@
 -- A push of one package.
-use Rattle.std.proofs.Common.{◌≡◌, ◌⊎◌, ◌∙◌, ℕ, ◌<◌, zero, suc, List, [], ◌∷◌, length, Some, slice_get, refl, inl, inr, lit<, Contains, arith}
+use Rattle.std.proofs.Common.{ℕ, ◌<◌, zero, suc, List, [], ◌∷◌, slice_get, refl, inl, inr, lit<, Contains, arith}
 use Rattle.std.specs.Prelude.{IsSortedByKey}
 use Rattle.std.specs.Option.{option_cmp}
 use Rattle.wit_relations.specs.Relation.{direct}
@@ -10,7 +10,7 @@ use Rattle.wit_items.specs.declared.package_name.PackageName.{PackageName}
 use Rattle.wit_graph.specs.Examples.{empty_graph}
 use Rattle.wit_graph.specs.Samples.{entry_of, sample}
 use Rattle.wit_graph.specs.declared.error_kind.ResolveErrorKind.{ResolveErrorKind}
-use Rattle.wit_graph.specs.declared.error_kind.ResolveErrorKind.TheVariants.{PackageNotFound, WorldNotFound, InterfaceNotFound, InvalidTransitiveDependency, DuplicatePackage, PackageCycle, ItemShadowing, StabilityMismatch, Semantic, OffsetOverflow, OutOfMemory}
+use Rattle.wit_graph.specs.declared.error_kind.ResolveErrorKind.TheVariants.{DuplicatePackage, PackageCycle, OffsetOverflow}
 use Rattle.wit_link.specs.Cause.{IsAccepted}
 use Rattle.wit_link.specs.Examples.{no_features}
 use Rattle.wit_link.specs.Gates.{Place}
