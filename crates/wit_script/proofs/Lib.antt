@@ -5,3 +5,4 @@ pub mod Arguments
 pub mod Keys
 pub mod Scripts
 pub mod Answered
+pub mod ReadScripts

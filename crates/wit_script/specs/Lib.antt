@@ -9,3 +9,4 @@ pub mod Package
 pub mod Script
 pub mod Said
 pub mod Answer
+pub mod ScriptExamples

@@ -3,6 +3,7 @@
 
 pub mod answer;
 pub mod fault;
+pub mod laws;
 pub mod line;
 pub mod package;
 pub mod printer;
