@@ -23,3 +23,6 @@ pub mod RefusedKeys
 pub mod Refusing
 pub mod Roles
 pub mod Steps
+mod EachLemmas
+mod Examples
+mod QuestionExamples

@@ -7,6 +7,11 @@ pub mod Entries
 pub mod Error
 pub mod ErrorLoan
 pub mod ErrorText
+pub mod Examples
 pub mod IdText
 pub mod Imported
 pub mod Listed
+pub mod Questions
+pub mod Relations
+pub mod Samples
+pub mod Valid

@@ -2,12 +2,12 @@
 ghost use Rattle.std.specs.Prelude.{◌≡◌, ◌↔◌, ◌<◌, IfOk, IsTrue, length};
 ghost use Rattle.wit_graph.specs.Elaboration.{CanElaborate};
 ghost use Rattle.wit_graph.specs.Entries.{role_of};
-ghost use Rattle.wit_graph.specs.Listed.{AreListed, IsRoleInRange, IsUnderOwnKey};
+ghost use Rattle.wit_graph.specs.Listed.{AreListed, IsListed, IsRoleInRange, IsUnderOwnKey};
 
 use crate::graph::Graph;
 use crate::role::{Role, item_interface};
 use std::alloc::{AllocError, Global};
-use wit_items::{TypeDef, WorldId, WorldItem, WorldKey, uses_of};
+use wit_items::{TypeDef, World, WorldId, WorldItem, WorldKey, uses_of};
 use wit_relations::is_acyclic;
 use wit_values::Table;
 
@@ -21,12 +21,19 @@ pub fn is_elaborable(alloc: Global, graph: &Graph, world: WorldId) -> Result<boo
         return Ok(false);
     };
     let types = graph.types.as_slice();
-    let count = graph.interfaces.len();
-    if !are_listed(types, count, &listed.imports) || !are_listed(types, count, &listed.exports) {
+    if !is_listed(types, graph.interfaces.len(), listed) {
         return Ok(false);
     }
     let uses = uses_of(alloc, types, graph.interfaces.as_slice())?;
     is_acyclic(alloc, uses.as_slice())
+}
+
+/// Whether the keys and ids of a world are in order, over these types and so many interfaces: what
+/// stands under the key of an interface is that interface, and the interfaces of all entries are there.
+pub fn is_listed(types: &[TypeDef], interfaces: usize, world: &World) -> bool
+    ensures { IsTrue result ↔ IsListed types.now interfaces world.now.imports world.now.exports }
+{
+    are_listed(types, interfaces, &world.imports) && are_listed(types, interfaces, &world.exports)
 }
 
 /// Whether the keys and ids of entries are in order.

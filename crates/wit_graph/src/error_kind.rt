@@ -259,10 +259,10 @@ impl fmt::Display for ResolveErrorKind {
                 write!(f, "package '{requested}' not found{known}")
             }
             Self::WorldNotFound {
-                requested,
+                requested: world,
                 package,
                 ..
-            } => write!(f, "world '{requested}' not found in package '{package}'"),
+            } => write!(f, "world '{world}' not found in package '{package}'"),
             Self::InterfaceNotFound {
                 requested,
                 package,
@@ -282,13 +282,10 @@ impl fmt::Display for ResolveErrorKind {
                 write!(f, "package `{package}` creates a dependency cycle")
             }
             Self::ItemShadowing {
-                item_type,
-                name,
+                item_type: word,
+                name: label,
                 ..
-            } => write!(
-                f,
-                "{item_type} of `{name}` shadows previously {item_type}ed items"
-            ),
+            } => write!(f, "{word} of `{label}` shadows previously {word}ed items"),
             Self::StabilityMismatch { from, into, .. } => {
                 let from = StabilityText(from);
                 let into = StabilityText(into);

@@ -1,6 +1,8 @@
-//! Laws of elaboration: each function has no body, and its contract is what is proved.
+//! Laws of elaboration, and examples of the definitions: each function has no body, and its contract is
+//! what is proved.
 ghost use Rattle.wit_graph.specs.ElaborationExamples.{WorkedConflicts, WorkedElaborations};
 ghost use Rattle.wit_graph.specs.ElaborationLaws.{ConflictsAreRefused, ElaboratesOnce, ImportsAreExact, ImportsKeepOrder, OrderIsFree};
+ghost use Rattle.wit_graph.specs.Examples.{ExamplesOfQuestions, ExamplesOfRelations, ExamplesOfValidity};
 
 /// Elaborating an elaborated world changes nothing.
 pub fn elaborates_once()
@@ -37,4 +39,19 @@ pub fn worked_conflicts()
 /// There is a refused key exactly where there is a conflict.
 pub fn conflicts_are_refused()
     ensures { ConflictsAreRefused }
+{}
+
+/// Small graphs: which are valid and which aren't.
+pub fn examples_of_validity()
+    ensures { ExamplesOfValidity }
+{}
+
+/// Small graphs: what uses, refers to and depends on what.
+pub fn examples_of_relations()
+    ensures { ExamplesOfRelations }
+{}
+
+/// Small graphs: what is answered to questions about them.
+pub fn examples_of_questions()
+    ensures { ExamplesOfQuestions }
 {}

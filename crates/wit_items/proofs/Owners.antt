@@ -1,8 +1,8 @@
 -- What a look-up in a world's imports tells of the types that the world lists.
-use Rattle.std.proofs.Common.{◌≡◌, ℕ, Bool, true, false, cond, List, [], ◌∷◌, map, flat_map, Option, Some, None, refl, ap, sym, subst, inl, inr, ◌⊎◌, ◌∙◌}
-use Rattle.std.specs.Prelude.{◌↔◌, Contains}
+use Rattle.std.proofs.Common.{◌≡◌, ℕ, Bool, List, [], flat_map, Option, Some, None, refl, ap, sym, subst, inl, inr}
+use Rattle.std.specs.Prelude.{Contains}
 use Rattle.std.specs.Bool.{Decides}
-use Rattle.std.specs.List.{IsDistinct, AllByRecursion}
+use Rattle.std.specs.List.{IsDistinct}
 use Rattle.std.specs.Map.{lookup, keys_of}
 use Rattle.std.specs.Cmp.{IsEquivalence}
 use Rattle.std.proofs.lemmas.Bool.Decides.{Decides-like, Decides-eqb, same_from_decides}

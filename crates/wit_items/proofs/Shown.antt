@@ -1,5 +1,5 @@
 -- What is told of the owners that a type shows.
-use Rattle.std.proofs.Common.{◌≡◌, ℕ, ◌+◌, ◌<◌, ◌==◌, Bool, true, false, cond, List, [], ◌∷◌, ◌++◌, ◌⊎◌, inl, inr, map, length, get_or, Option, Some, None, slice_get, refl, ap, sym, subst, ◌∙◌}
+use Rattle.std.proofs.Common.{◌≡◌, ℕ, Bool, true, false, List, [], ◌∷◌, ◌++◌, ◌⊎◌, inl, inr, Option, Some, slice_get, refl, ap, sym, subst, ◌∙◌}
 use Rattle.std.specs.Prelude.{◌↔◌, Contains, IsSome, is_some, if◌then◌else◌}
 use Rattle.std.specs.Bool.{Decides}
 use Rattle.std.specs.Option.{IsSomeAnd, option_map}
@@ -7,7 +7,7 @@ use Rattle.std.proofs.lemmas.Bool.Decides.{Decides-like, Decides-eqb}
 use Rattle.std.proofs.lemmas.List.Elements.{Contains-append_cases, Contains-append_left, Contains-append_right}
 use Rattle.std.proofs.lemmas.Option.{slice_get-map, get_or_from_slice_get}
 use Rattle.wit_relations.proofs.Members.{Contains-nil, Contains-here, Contains-cons_cases}
-use Rattle.wit_relations.specs.Relation.{IsPath, Reaches, direct}
+use Rattle.wit_relations.specs.Relation.{IsPath, direct}
 use Rattle.wit_items.specs.Each.{SomeAt}
 use Rattle.wit_items.specs.Ownership.{Shows, through_unnamed}
 use Rattle.wit_items.specs.Reference.{referred}

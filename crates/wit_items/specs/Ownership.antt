@@ -2,7 +2,7 @@
 use Rattle.std.specs.Prelude.{◌≡◌, ℕ, ◌<◌, ◌⊎◌, List, [], ◌∷◌, map, length, Option, Some, None, IsSome, IfSome, Contains, is_some, if◌then◌else◌}
 use Rattle.std.specs.List.{flat_map}
 use Rattle.wit_relations.specs.Relation.{Reaches}
-use Rattle.wit_items.specs.Each.{Each, EachAt, SomeAt}
+use Rattle.wit_items.specs.Each.{Each, SomeAt}
 use Rattle.wit_items.specs.Reference.{referred, function_references}
 use Rattle.wit_items.specs.Uses.{alias_target}
 use Rattle.wit_items.specs.declared.function.Function.{Function}

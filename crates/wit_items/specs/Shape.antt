@@ -13,7 +13,7 @@ use Rattle.std.specs.Str.{bytes_eq}
 use Rattle.wit_relations.specs.Relation.{IsAcyclic}
 use Rattle.wit_items.specs.Each.{Each, EachAt, SomeAt}
 use Rattle.wit_items.specs.Entries.{EntriesUseOwn, HasExports, HasImports, IncludesEarlier, StandOnce}
-use Rattle.wit_items.specs.Foreign.{ForeignItem, ForeignItems, AreFirst, AreForeignTypes, AreUnknownFirst, IsForeign, ListUnknownAlone, foreign_interfaces, foreign_worlds}
+use Rattle.wit_items.specs.Foreign.{ForeignItem, AreFirst, AreForeignTypes, AreUnknownFirst, IsForeign, ListUnknownAlone, foreign_interfaces, foreign_worlds}
 use Rattle.wit_items.specs.Ownership.{AliasesNamed, FunctionsUseOwn, IsListed, IsPlain, ListsOwn, NamesFunctions, RefersToOwn}
 use Rattle.wit_items.specs.Reference.{referred}
 use Rattle.wit_items.specs.UsePath.{IsKebabName}

@@ -1,6 +1,6 @@
 -- Of which owners the named types are that a type is or refers to through types without names, as one
 -- pass over the types tells it.
-use Rattle.std.specs.Prelude.{◌≡◌, ◌≢◌, ℕ, ◌==◌, Bool, true, false, List, length, if◌then◌else◌}
+use Rattle.std.specs.Prelude.{◌≡◌, ◌≢◌, ◌==◌, Bool, true, false, List, length, if◌then◌else◌}
 use Rattle.wit_items.specs.Each.{EachAt}
 use Rattle.wit_items.specs.Ownership.{Shows}
 use Rattle.wit_items.specs.declared.shape.shown.Shown.{Shown}

@@ -6,6 +6,7 @@ pub mod abi;
 pub mod function;
 pub mod ids;
 pub mod interface;
+pub mod laws;
 pub mod package_name;
 pub mod reference;
 pub mod shape;
@@ -35,3 +36,6 @@ pub use crate::use_path::{ParsedUsePath, UsePathFault, is_kebab_name, parse_use_
 pub use crate::uses::{alias_target, interface_uses, type_interface_dep, uses_of};
 pub use crate::world::{IncludeName, World, WorldInclude, WorldItem, WorldKey};
 pub use wit_values::{Items, Names, Table, Text, TryClone, Version};
+
+#[cfg(test)]
+mod tests;

@@ -90,11 +90,11 @@ fn are_shaped(alloc: Global, packages: &[UnresolvedPackage]) -> Result<bool, All
 }
 
 /// Whether nothing is said of the package that interfaces and worlds belong to.
-fn is_unplaced(package: &UnresolvedPackage) -> bool
-    ensures { IsTrue result ↔ IsUnplaced «package».now }
+fn is_unplaced(unresolved: &UnresolvedPackage) -> bool
+    ensures { IsTrue result ↔ IsUnplaced unresolved.now }
 {
-    are_interfaces_unplaced(package.interfaces.as_slice())
-        && are_worlds_unplaced(package.worlds.as_slice())
+    are_interfaces_unplaced(unresolved.interfaces.as_slice())
+        && are_worlds_unplaced(unresolved.worlds.as_slice())
 }
 
 fn are_interfaces_unplaced(interfaces: &[Interface]) -> bool

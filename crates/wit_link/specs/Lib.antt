@@ -1,0 +1,14 @@
+pub mod Cause
+pub mod CauseExamples
+pub mod CauseText
+pub mod Examples
+pub mod Gates
+pub mod Groups
+pub mod Image
+pub mod Include
+pub mod Labels
+pub mod PushExamples
+pub mod Pushed
+pub mod Rename
+pub mod Spans
+pub mod WorldCauseExamples

@@ -1,17 +1,19 @@
 //! Adding a package to a graph.
-ghost use Rattle.std.specs.Prelude.{◌≡◌, OnErr};
+ghost use Rattle.std.specs.Prelude.{◌≡◌, ◌<◌, OnErr, length};
+ghost use Rattle.wit_graph.specs.Elaboration.{graph_uses};
+ghost use Rattle.wit_relations.specs.Relation.{IsAcyclic};
 
 use crate::image::Image;
 use crate::remap::Remap;
 use std::alloc::{AllocError, Global};
 use wit_graph::{
-    Features, Graph, Package, ResolveError, ResolveErrorKind, ResolveResult, elaborate,
-    is_elaborable,
+    Elaborator, Features, Graph, Package, ResolveError, ResolveErrorKind, ResolveResult, is_listed,
 };
 use wit_items::{
     Interface, InterfaceId, Items, Names, PackageId, Span, TryClone, TypeId, UnresolvedPackage,
-    World, WorldId,
+    World, WorldId, uses_of,
 };
+use wit_relations::is_acyclic;
 use wit_values::try_clone_two;
 
 /// Adds a package to a graph, its spans moved by an offset, and answers its id.
@@ -69,17 +71,41 @@ fn add_package(
     add_interfaces(alloc, graph, &image, package)?;
     add_worlds(alloc, graph, &image, package)?;
     add_tables(alloc, graph, &image, package)?;
-    for world in first_world..graph.worlds.len() {
-        elaborate_listed(alloc, graph, WorldId::from_index(world))?;
-    }
+    elaborate_from(alloc, graph, first_world)?;
     Ok(id)
 }
 
-/// Elaborates a world whose keys and ids are in order, where no interface comes back to itself; any
-/// other stays as it is listed.
-fn elaborate_listed(alloc: Global, graph: &mut Graph, world: WorldId) -> ResolveResult<()> {
-    if is_elaborable(alloc, graph, world)? {
-        elaborate(alloc, graph, world)?;
+/// Elaborates the worlds from a place on, where no interface comes back to itself along its uses.
+fn elaborate_from(alloc: Global, graph: &mut Graph, first: usize) -> ResolveResult<()> {
+    let types = graph.types.as_slice();
+    let uses = uses_of(alloc, types, graph.interfaces.as_slice())?;
+    if !is_acyclic(alloc, uses.as_slice())? {
+        return Ok(());
+    }
+    let mut elaborator = Elaborator::new(alloc, types, graph.interfaces.as_slice())?;
+    for world in first..graph.worlds.len() {
+        elaborate_listed(alloc, graph, &mut elaborator, world)?;
+    }
+    Ok(())
+}
+
+/// Elaborates a world whose keys and ids are in order; any other stays as it is listed.
+fn elaborate_listed(
+    alloc: Global,
+    graph: &mut Graph,
+    elaborator: &mut Elaborator,
+    world: usize,
+) -> ResolveResult<()>
+    requires uses { elaborator.old ≡ graph_uses graph.old }
+    requires world { world < length graph.old.worlds }
+    requires acyclic { IsAcyclic (graph_uses graph.old) }
+    ensures uses { graph_uses graph.new ≡ graph_uses graph.old }
+    ensures same { elaborator.new ≡ elaborator.old }
+    ensures worlds { length graph.new.worlds ≡ length graph.old.worlds }
+{
+    let interfaces = graph.interfaces.len();
+    if is_listed(graph.types.as_slice(), interfaces, graph.worlds.at(world)) {
+        elaborator.elaborate(alloc, graph, WorldId::from_index(world))?;
     }
     Ok(())
 }

@@ -4,6 +4,7 @@
 pub mod adding;
 mod image;
 mod item_image;
+pub mod laws;
 pub mod remap;
 mod type_image;
 

@@ -1,2 +1,5 @@
+pub mod Examples
+pub mod Selection
 pub mod State
+pub mod Step
 pub mod Supported

@@ -3,6 +3,7 @@
 #![tactic(auto)]
 
 pub mod command;
+pub mod laws;
 pub mod resolve;
 mod running;
 mod select;

@@ -3,3 +3,6 @@ pub mod Known
 pub mod Pieces
 pub mod Arguments
 pub mod Keys
+pub mod Scripts
+pub mod Answered
+pub mod ReadScripts

@@ -6,3 +6,7 @@ pub mod Reading
 pub mod Statement
 pub mod Ready
 pub mod Package
+pub mod Script
+pub mod Said
+pub mod Answer
+pub mod ScriptExamples

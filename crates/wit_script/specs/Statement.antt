@@ -1,5 +1,5 @@
 -- What a line says by its tokens alone. Lines of other words are not understood yet.
-use Rattle.std.specs.Prelude.{ℕ, List, [], ◌∷◌, Bool, true, false, ◌||◌, ◌==◌, not, Option, Some, None, codes, nat_eq, if◌then◌else◌}
+use Rattle.std.specs.Prelude.{ℕ, List, [], ◌∷◌, Bool, false, ◌||◌, ◌==◌, Option, Some, None, codes, nat_eq, if◌then◌else◌}
 use Rattle.std.specs.List.{starts_with, list_any}
 use Rattle.std.specs.Option.{option_map}
 use Rattle.std.specs.Str.{bytes_eq}
@@ -56,14 +56,14 @@ use_line_of (path ∷ name ∷ []) = option_map (λ own. says_line.Use own name 
 use_line_of (path ∷ name ∷ new ∷ []) = option_map (λ own. says_line.Use own name new) (local_path_of path)
 use_line_of (path ∷ name ∷ new ∷ next ∷ arguments) = None
 
--- the import of a path; a token with `=` has a label, which isn't understood yet
-abbrev pub import_of : List ℕ → Option PackageLine
-import_of path = if list_any (λ b. b == 61) path then None else option_map says_line.Import (local_path_of path)
+-- a token of the form `LABEL=PATH`
+abbrev pub has_label : List ℕ → Bool
+has_label token = list_any (λ b. b == 61) token
 
--- `import PATH`
+-- `import PATH`; a label isn't understood yet
 abbrev pub import_line_of : List (List ℕ) → Option PackageLine
 import_line_of [] = None
-import_line_of (path ∷ []) = import_of path
+import_line_of (path ∷ []) = if has_label path then None else option_map says_line.Import (local_path_of path)
 import_line_of (path ∷ next ∷ arguments) = None
 
 -- `push`

@@ -1,4 +1,9 @@
 //! The answers to the commands of a script.
+ghost use Rattle.std.specs.Prelude.{◌≡◌, [], ◌∷◌, IfOk, OnOk, string_bytes};
+ghost use Rattle.std.specs.List.{flat_map};
+ghost use Rattle.wit_resolve_graph.specs.State.{State, new_state};
+ghost use Rattle.wit_script.specs.Answer.{any_run, any_choice, Answers, AnswersAll, IsPushed, IsPrinted, IsSelected, IsTold, IsChosenText, refusal_text, pushed_text, reply_text, world_named};
+
 use crate::printer::{print_world, world_id};
 use crate::reader::ScriptCommand;
 use crate::ready::ReadyGroup;
@@ -7,7 +12,9 @@ use wit_items::{Items, PackageId, PackageName, Text, WorldId};
 use wit_resolve_graph::{Command, Reply, Resolve, ResolveError, ResolveResult, run};
 
 /// The answers to commands on an empty graph, in order.
-pub fn answers_to(alloc: Global, commands: Items<ScriptCommand>) -> Result<String, AllocError> {
+pub fn answers_to(alloc: Global, commands: Items<ScriptCommand>) -> Result<String, AllocError>
+    ensures { IfOk result (λ text. (after : State) × AnswersAll any_run any_choice new_state commands (string_bytes text) after) }
+{
     let mut resolve = Resolve::new(alloc);
     let mut answers = String::new(alloc);
     for command in commands.into_vec() {
@@ -22,7 +29,9 @@ fn answer_to(
     alloc: Global,
     resolve: &mut Resolve,
     command: ScriptCommand,
-) -> Result<String, AllocError> {
+) -> Result<String, AllocError>
+    ensures { IfOk result (λ text. Answers any_run any_choice resolve.old command (string_bytes text) resolve.new) }
+{
     match command {
         ScriptCommand::Push(group) => push(alloc, resolve, group),
         ScriptCommand::Print { package, world } => print(alloc, resolve, &package, &world),
@@ -31,34 +40,36 @@ fn answer_to(
 }
 
 /// Adds a package: `pushed PKG`, or a refusal.
-fn push(alloc: Global, resolve: &mut Resolve, group: ReadyGroup) -> Result<String, AllocError> {
+fn push(alloc: Global, resolve: &mut Resolve, group: ReadyGroup) -> Result<String, AllocError>
+    ensures { IfOk result (λ text. IsPushed any_run resolve.old group (string_bytes text) resolve.new) }
+{
     let command = Command::PushGroups {
         main: group.into_group(),
         deps: Items::new(alloc),
     };
     let commands = vec![in alloc; command]?;
     match run(alloc, resolve, commands) {
-        Ok(replies) => replies_text(alloc, resolve, replies),
+        Ok(replies) => replies_text(alloc, resolve, &replies),
         Err(refusal) => refused(alloc, &refusal),
     }
 }
 
 /// A line for each reply.
-fn replies_text(
-    alloc: Global,
-    resolve: &Resolve,
-    replies: Vec<Reply>,
-) -> Result<String, AllocError> {
+fn replies_text(alloc: Global, resolve: &Resolve, replies: &[Reply]) -> Result<String, AllocError>
+    ensures { IfOk result (λ text. string_bytes text ≡ flat_map (reply_text resolve.now.graph) replies.now) }
+{
     let mut text = String::new(alloc);
     for reply in replies {
-        let line = reply_text(alloc, resolve, &reply)?;
+        let line = reply_text(alloc, resolve, reply)?;
         text.push_str(&line)?;
     }
     Ok(text)
 }
 
 /// The line of a reply.
-fn reply_text(alloc: Global, resolve: &Resolve, reply: &Reply) -> Result<String, AllocError> {
+fn reply_text(alloc: Global, resolve: &Resolve, reply: &Reply) -> Result<String, AllocError>
+    ensures { IfOk result (λ text. string_bytes text ≡ reply_text resolve.now.graph reply.now) }
+{
     match reply {
         Reply::Done => String::from_str(alloc, "done\n"),
         Reply::Pushed(id) => pushed(alloc, resolve, *id),
@@ -69,7 +80,9 @@ fn reply_text(alloc: Global, resolve: &Resolve, reply: &Reply) -> Result<String,
 }
 
 /// `pushed PKG`
-fn pushed(alloc: Global, resolve: &Resolve, id: PackageId) -> Result<String, AllocError> {
+fn pushed(alloc: Global, resolve: &Resolve, id: PackageId) -> Result<String, AllocError>
+    ensures { IfOk result (λ text. string_bytes text ≡ pushed_text resolve.now.graph id) }
+{
     match resolve.packages().get(id.index()) {
         Some(package) => {
             let name = &package.name;
@@ -80,13 +93,17 @@ fn pushed(alloc: Global, resolve: &Resolve, id: PackageId) -> Result<String, All
 }
 
 /// `refused N TEXT`, N being the number of the refusal.
-fn refused(alloc: Global, refusal: &ResolveError) -> Result<String, AllocError> {
+fn refused(alloc: Global, refusal: &ResolveError) -> Result<String, AllocError>
+    ensures { IfOk result (λ text. string_bytes text ≡ refusal_text refusal.now) }
+{
     let number = refusal.number();
     format!(in alloc; "refused {number} {refusal}\n")
 }
 
 /// The text of an answer that may be refused.
-fn told(alloc: Global, answer: ResolveResult<String>) -> Result<String, AllocError> {
+fn told(alloc: Global, answer: ResolveResult<String>) -> Result<String, AllocError>
+    ensures { IfOk result (λ text. IsTold answer (string_bytes text)) }
+{
     match answer {
         Ok(text) => Ok(text),
         Err(refusal) => refused(alloc, &refusal),
@@ -97,18 +114,22 @@ fn told(alloc: Global, answer: ResolveResult<String>) -> Result<String, AllocErr
 fn print(
     alloc: Global,
     resolve: &Resolve,
-    package: &PackageName,
+    owner: &PackageName,
     world: &Text,
-) -> Result<String, AllocError> {
-    match world_named(resolve, package, world) {
+) -> Result<String, AllocError>
+    ensures { IfOk result (λ text. IsPrinted resolve.now.graph owner.now world.now (string_bytes text)) }
+{
+    match world_named(resolve, owner, world) {
         Some(id) => told(alloc, print_world(alloc, resolve, id)),
         None => String::from_str(alloc, "no world\n"),
     }
 }
 
 /// The world of this name in the package of that name.
-fn world_named(resolve: &Resolve, package: &PackageName, world: &Text) -> Option<WorldId> {
-    let id = resolve.package_names().get(package)?;
+fn world_named(resolve: &Resolve, owner: &PackageName, world: &Text) -> Option<WorldId>
+    ensures { result ≡ world_named resolve.now.graph owner.now world.now }
+{
+    let id = resolve.package_names().get(owner)?;
     let package = resolve.packages().get(id.index())?;
     let world = package.worlds.get(world.as_str())?;
     Some(*world)
@@ -118,10 +139,12 @@ fn world_named(resolve: &Resolve, package: &PackageName, world: &Text) -> Option
 fn select(
     alloc: Global,
     resolve: &Resolve,
-    package: &PackageName,
+    owner: &PackageName,
     text: &Option<Text>,
-) -> Result<String, AllocError> {
-    match resolve.package_names().get(package) {
+) -> Result<String, AllocError>
+    ensures { IfOk result (λ out. IsSelected any_choice resolve.now.graph owner.now text.now (string_bytes out)) }
+{
+    match resolve.package_names().get(owner) {
         Some(id) => told(alloc, selected(alloc, resolve, *id, text)),
         None => String::from_str(alloc, "no package\n"),
     }
@@ -131,14 +154,16 @@ fn select(
 fn selected(
     alloc: Global,
     resolve: &Resolve,
-    package: PackageId,
+    id: PackageId,
     text: &Option<Text>,
-) -> ResolveResult<String> {
+) -> ResolveResult<String>
+    ensures { IfOk result (λ out. IsChosenText any_choice resolve.now.graph id text.now (string_bytes out)) }
+{
     let text = match text {
         Some(text) => Some(text.as_str()),
         None => None,
     };
-    let world = resolve.select_world(alloc, &[package], text)?;
-    let id = world_id(alloc, resolve.graph(), world)?;
-    Ok(format!(in alloc; "selected {id}\n")?)
+    let world = resolve.select_world(alloc, &[id], text)?;
+    let id_text = world_id(alloc, resolve.graph(), world)?;
+    Ok(format!(in alloc; "selected {id_text}\n")?)
 }

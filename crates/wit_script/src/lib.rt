@@ -3,13 +3,13 @@
 
 pub mod answer;
 pub mod fault;
+pub mod laws;
 pub mod line;
 pub mod package;
 pub mod printer;
 pub mod reader;
 pub mod ready;
 pub mod script;
-pub mod shape;
 pub mod statement;
 pub mod stream;
 pub mod token;

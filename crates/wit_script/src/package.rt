@@ -1,7 +1,6 @@
 //! A package whose lines are being read.
-ghost use Rattle.std.specs.Prelude.{◌≡◌, ◌++◌, ◌∷◌, [], length, ◌≤◌, ◌<◌, ◌^◌, IfOk, IfSome, IsErrOf};
-ghost use Rattle.wit_items.specs.SourceMap.{end_after};
-ghost use Rattle.wit_script.specs.Package.{span_after, with_newline, with_text, begun, empty_interface, empty_world, alias_of, import_of, with_interface, with_world, open_interface, open_world, type_named, type_in, with_alias, with_type, with_use, with_import, with_line, group_of};
+ghost use Rattle.std.specs.Prelude.{◌≡◌, ◌++◌, ◌∷◌, [], length, ◌≤◌, ◌<◌, ◌^◌, IfOk, IfSome, OnOk, IsErrOf, nat_le, true, false};
+ghost use Rattle.wit_script.specs.Package.{span_after, with_newline, with_text, begun, empty_interface, empty_world, alias_of, import_of, with_interface, with_world, open_interface, open_world, type_named, type_in, with_alias, with_type, with_use, with_import, with_line, group_of, longest_file};
 ghost use Rattle.wit_script.specs.Reading.{IsRead, Leads};
 
 use crate::fault::LineFault;
@@ -324,7 +323,8 @@ impl OpenPackage {
     /// The package as a group of its own, with its file.
     pub fn into_group(self, alloc: Global) -> Result<UnresolvedPackageGroup, MapFault>
         ensures ok { IfOk result (λ group. group ≡ group_of self) }
-        ensures overflow { IsErrOf result MapFault.OffsetOverflow → 2 ^ 32 ≤ end_after 0 self.contents }
+        ensures fits { OnOk result (nat_le (length self.contents) longest_file ≡ true) }
+        ensures overflow { IsErrOf result MapFault.OffsetOverflow → nat_le (length self.contents) longest_file ≡ false }
     {
         let path = self.name.to_string(alloc)?;
         let mut source_map = SourceMap::new(alloc);

@@ -1,4 +1,9 @@
 //! From the bytes of a script to its answers.
+ghost use Rattle.std.specs.Prelude.{◌≡◌, List, ℕ, true, IfOk, IfSome, IsErrOf, string_bytes};
+ghost use Rattle.std.specs.Str.{IsUtf8};
+ghost use Rattle.std.specs.Io.KnownBytes.{Appends};
+ghost use Rattle.wit_script.specs.Answer.{any_run, any_choice, Prints};
+
 use crate::answer::answers_to;
 use crate::fault::{ReadFault, ScriptFault};
 use crate::reader::read_script;
@@ -9,26 +14,42 @@ use std::io::{Read, Write};
 
 /// Reads a script to the end of the reader, runs it, and writes its answers. A script that isn't
 /// understood is answered by one line and not run, and the answer is then false.
+///
+/// The clauses speak of readers and writers that tell their bytes. After a fault some of the answers may
+/// have been written.
 pub fn execute<R: Read, W: Write>(
     alloc: Global,
     reader: &mut Watched<R>,
     writer: &mut Watched<W>,
-) -> Result<bool, ScriptFault> {
-    let bytes = read_all(alloc, reader)?;
-    let Ok(text) = str::from_utf8(&bytes) else {
+) -> Result<bool, ScriptFault>
+    ensures ok { IfOk result (λ understood. IfSome (R.remaining reader.old.inner) (λ input.
+        (text : List ℕ) × Prints any_run any_choice input understood text × Appends (W.contents writer.old.inner) (W.contents writer.new.inner) text)) }
+    ensures read { IsErrOf result ScriptFault.Read → reader.new.failed ≡ true }
+    ensures write { IsErrOf result ScriptFault.Write → writer.new.failed ≡ true }
+    ensures utf8 { IsErrOf result ScriptFault.NotUtf8 → IfSome (R.remaining reader.old.inner) (λ input. IsUtf8 input → ⊥) }
+{
+    let input = read_all(alloc, reader)?;
+    let (understood, text) = printed(alloc, &input)?;
+    write_all(writer, &text)?;
+    Ok(understood)
+}
+
+/// What a script prints, and whether it is understood.
+fn printed(alloc: Global, input: &[u8]) -> Result<(bool, String), ScriptFault>
+    ensures ok { IfOk result (λ answer. Prints any_run any_choice input.now answer.0 (string_bytes answer.1)) }
+    ensures read { IsErrOf result ScriptFault.Read → ⊥ }
+    ensures write { IsErrOf result ScriptFault.Write → ⊥ }
+    ensures utf8 { IsErrOf result ScriptFault.NotUtf8 → IsUtf8 input.now → ⊥ }
+{
+    let Ok(script) = str::from_utf8(input) else {
         return Err(ScriptFault::NotUtf8);
     };
-    match read_script(alloc, text) {
-        Ok(commands) => {
-            let answers = answers_to(alloc, commands)?;
-            write_all(writer, &answers)?;
-            Ok(true)
-        }
-        Err(ReadFault::NotUnderstood { line }) => {
-            let answer = format!(in alloc; "line {line}: not understood\n")?;
-            write_all(writer, &answer)?;
-            Ok(false)
-        }
+    match read_script(alloc, script) {
+        Ok(commands) => Ok((true, answers_to(alloc, commands)?)),
+        Err(ReadFault::NotUnderstood { line }) => Ok((
+            false,
+            format!(in alloc; "line {line}: not understood\n")?,
+        )),
         Err(ReadFault::OutOfMemory) => Err(ScriptFault::OutOfMemory),
     }
 }

@@ -1,7 +1,7 @@
 //! What a line says by its tokens alone.
 ghost use Rattle.std.specs.Prelude.{◌≡◌, map};
 ghost use Rattle.wit_script.specs.Reading.{IsRead};
-ghost use Rattle.wit_script.specs.Statement.{statement_of, package_line_by, is_gate, has_gate, local_path_of, package_statement_of, interface_line_of, world_line_of, type_line_of, use_line_of, import_line_of, import_of, push_statement_of, print_statement_of, select_statement_of};
+ghost use Rattle.wit_script.specs.Statement.{statement_of, package_line_by, is_gate, has_gate, has_label, local_path_of, package_statement_of, interface_line_of, world_line_of, type_line_of, use_line_of, import_line_of, push_statement_of, print_statement_of, select_statement_of};
 ghost use Rattle.wit_script.specs.Token.{package_name_of};
 
 use crate::fault::LineFault;
@@ -175,24 +175,26 @@ fn use_line(alloc: Global, arguments: &[&str]) -> Result<PackageLine, LineFault>
     Ok(PackageLine::Use { path, name, new })
 }
 
-/// `import PATH`. A token with `=` has a label, which isn't read yet.
+/// `import PATH`. A token with a label isn't read yet.
 fn import_line(alloc: Global, arguments: &[&str]) -> Result<PackageLine, LineFault>
     ensures { IsRead (import_line_of (map (λ t. t.now) arguments.now)) result }
 {
     match arguments {
-        [path] => import_of(alloc, path),
+        [path] => {
+            if has_label(path) {
+                return Err(LineFault::NotUnderstood);
+            }
+            Ok(PackageLine::Import(local_path(alloc, path)?))
+        }
         _ => Err(LineFault::NotUnderstood),
     }
 }
 
-/// The import of a path without a label.
-fn import_of(alloc: Global, path: &str) -> Result<PackageLine, LineFault>
-    ensures { IsRead (import_of path.now) result }
+/// Whether a token has the form `LABEL=PATH`.
+fn has_label(token: &str) -> bool
+    ensures { result ≡ has_label token.now }
 {
-    if path.as_bytes().contains(&b'=') {
-        return Err(LineFault::NotUnderstood);
-    }
-    Ok(PackageLine::Import(local_path(alloc, path)?))
+    token.as_bytes().contains(&b'=')
 }
 
 /// `push`

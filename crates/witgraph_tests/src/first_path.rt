@@ -4,14 +4,15 @@ use std::test::Fail;
 use wit_script::{ScriptFault, Watched, execute};
 
 /// A script, what it prints, and whether it is understood.
-struct Row {
-    name: &'static str,
-    script: &'static str,
-    prints: &'static str,
-    is_understood: bool,
+#[derive(Drop)]
+pub struct Row {
+    pub name: &'static str,
+    pub script: &'static str,
+    pub prints: &'static str,
+    pub is_understood: bool,
 }
 
-const FIRST_RUN: Row = Row {
+pub const FIRST_RUN: Row = Row {
     name: "first run",
     script: "package foo:bar\n\
     interface a\n\

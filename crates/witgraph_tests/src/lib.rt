@@ -1,5 +1,9 @@
-//! Tests that cross crates: whole scripts and what they print.
+//! Tests that cross crates: whole scripts and what they print, and packages that are built in place.
 #![tactic(auto)]
 
 #[cfg(test)]
+mod failing_streams;
+#[cfg(test)]
 mod first_path;
+#[cfg(test)]
+mod shape;

@@ -173,26 +173,26 @@ fn all_are_foreign(
 /// Whether what the package knows of other packages has its shape.
 pub(crate) fn has_foreign(
     alloc: Global,
-    package: &UnresolvedPackage,
+    unresolved: &UnresolvedPackage,
     interfaces: &[usize],
     worlds: &[usize],
 ) -> Result<bool, AllocError>
-    requires interfaces { interfaces.now ≡ foreign_interfaces «package».now.foreign_deps }
-    requires worlds { worlds.now ≡ foreign_worlds «package».now.foreign_deps }
-    ensures { IfOk result (λ holds. IsTrue holds ↔ HasForeign «package».now) }
+    requires interfaces { interfaces.now ≡ foreign_interfaces unresolved.now.foreign_deps }
+    requires worlds { worlds.now ≡ foreign_worlds unresolved.now.foreign_deps }
+    ensures { IfOk result (λ holds. IsTrue holds ↔ HasForeign unresolved.now) }
 {
-    if package.foreign_dep_spans.len() != package.foreign_deps.len() {
+    if unresolved.foreign_dep_spans.len() != unresolved.foreign_deps.len() {
         return Ok(false);
     }
-    if !are_first(alloc, interfaces, package.interfaces.len())? {
+    if !are_first(alloc, interfaces, unresolved.interfaces.len())? {
         return Ok(false);
     }
-    if !are_first(alloc, worlds, package.worlds.len())? {
+    if !are_first(alloc, worlds, unresolved.worlds.len())? {
         return Ok(false);
     }
     Ok(all_are_foreign(
-        package.interfaces.as_slice(),
-        package.worlds.as_slice(),
-        &package.foreign_deps,
+        unresolved.interfaces.as_slice(),
+        unresolved.worlds.as_slice(),
+        &unresolved.foreign_deps,
     ))
 }

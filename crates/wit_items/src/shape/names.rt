@@ -22,31 +22,31 @@ use wit_values::{NameSet, Text};
 /// interfaces and worlds are foreign.
 pub(crate) fn has_names(
     alloc: Global,
-    package: &UnresolvedPackage,
+    unresolved: &UnresolvedPackage,
     interfaces: usize,
     worlds: usize,
 ) -> Result<bool, AllocError>
-    requires foreign { HasForeign «package».now }
-    requires interfaces { interfaces ≡ length (foreign_interfaces «package».now.foreign_deps) }
-    requires worlds { worlds ≡ length (foreign_worlds «package».now.foreign_deps) }
-    ensures { IfOk result (λ holds. IsTrue holds ↔ HasNames «package».now) }
+    requires foreign { HasForeign unresolved.now }
+    requires interfaces { interfaces ≡ length (foreign_interfaces unresolved.now.foreign_deps) }
+    requires worlds { worlds ≡ length (foreign_worlds unresolved.now.foreign_deps) }
+    ensures { IfOk result (λ holds. IsTrue holds ↔ HasNames unresolved.now) }
 {
-    if !is_kebab_name(package.name.namespace.as_str()) {
+    if !is_kebab_name(unresolved.name.namespace.as_str()) {
         return Ok(false);
     }
-    if !is_kebab_name(package.name.name.as_str()) {
+    if !is_kebab_name(unresolved.name.name.as_str()) {
         return Ok(false);
     }
-    if !are_interfaces_kebab(package.interfaces.as_slice()) {
+    if !are_interfaces_kebab(unresolved.interfaces.as_slice()) {
         return Ok(false);
     }
-    if !are_worlds_kebab(package.worlds.as_slice()) {
+    if !are_worlds_kebab(unresolved.worlds.as_slice()) {
         return Ok(false);
     }
-    if !do_interfaces_differ(alloc, package.interfaces.as_slice(), interfaces)? {
+    if !interface_names_differ(alloc, unresolved.interfaces.as_slice(), interfaces)? {
         return Ok(false);
     }
-    do_worlds_differ(alloc, package.worlds.as_slice(), worlds)
+    world_names_differ(alloc, unresolved.worlds.as_slice(), worlds)
 }
 
 /// Whether the names of interfaces are kebab names.
@@ -77,7 +77,7 @@ fn are_worlds_kebab(worlds: &[World]) -> bool
 }
 
 /// Whether the names of the interfaces after the foreign ones differ.
-fn do_interfaces_differ(
+fn interface_names_differ(
     alloc: Global,
     interfaces: &[Interface],
     foreign: usize,
@@ -86,16 +86,16 @@ fn do_interfaces_differ(
     ensures { IfOk result (λ differ. IsTrue differ ↔ IsDistinct bytes_eq (interface_names foreign interfaces.now)) }
 {
     let names = interface_names(alloc, &interfaces[foreign..])?;
-    do_differ(alloc, &names)
+    texts_differ(alloc, &names)
 }
 
 /// Whether the names of the worlds after the foreign ones differ.
-fn do_worlds_differ(alloc: Global, worlds: &[World], foreign: usize) -> Result<bool, AllocError>
+fn world_names_differ(alloc: Global, worlds: &[World], foreign: usize) -> Result<bool, AllocError>
     requires { foreign ≤ length worlds.now }
     ensures { IfOk result (λ differ. IsTrue differ ↔ IsDistinct bytes_eq (world_names foreign worlds.now)) }
 {
     let names = world_names(alloc, &worlds[foreign..])?;
-    do_differ(alloc, &names)
+    texts_differ(alloc, &names)
 }
 
 /// The names of interfaces that have one.
@@ -123,7 +123,7 @@ fn world_names(alloc: Global, worlds: &[World]) -> Result<Vec<&str>, AllocError>
 }
 
 /// Whether texts differ.
-fn do_differ(alloc: Global, texts: &[&str]) -> Result<bool, AllocError>
+fn texts_differ(alloc: Global, texts: &[&str]) -> Result<bool, AllocError>
     ensures { IfOk result (λ differ. IsTrue differ ↔ IsDistinct bytes_eq (map (λ (text : Bor (List ℕ)). text.now) texts.now)) }
 {
     let mut met = NameSet::new(alloc);

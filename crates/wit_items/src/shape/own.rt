@@ -23,23 +23,23 @@ use wit_values::{Items, Table};
 /// what each type shows.
 pub(crate) fn keeps_to_own(
     alloc: Global,
-    package: &UnresolvedPackage,
+    unresolved: &UnresolvedPackage,
     shown: &Items<Shown>,
 ) -> Result<bool, AllocError>
-    requires { TellsEach «package».now.types shown.now }
-    ensures { IfOk result (λ holds. IsTrue holds ↔ KeepsToOwn «package».now) }
+    requires { TellsEach unresolved.now.types shown.now }
+    ensures { IfOk result (λ holds. IsTrue holds ↔ KeepsToOwn unresolved.now) }
 {
-    let types = package.types.as_slice();
+    let types = unresolved.types.as_slice();
     if !all_refer_to_own(alloc, types, shown)? {
         return Ok(false);
     }
-    if !all_functions_use_own(alloc, types, shown, package.interfaces.as_slice())? {
+    if !all_functions_use_own(alloc, types, shown, unresolved.interfaces.as_slice())? {
         return Ok(false);
     }
-    if !all_imports_use_own(alloc, types, shown, package.worlds.as_slice())? {
+    if !all_imports_use_own(alloc, types, shown, unresolved.worlds.as_slice())? {
         return Ok(false);
     }
-    all_exports_use_own(alloc, types, shown, package.worlds.as_slice())
+    all_exports_use_own(alloc, types, shown, unresolved.worlds.as_slice())
 }
 
 /// Whether each named type but an alias refers to types of its owner alone.

@@ -18,18 +18,18 @@ use std::alloc::{AllocError, Global};
 use wit_values::{Names, Text, TryClone};
 
 /// Whether types, and what lists them, agree.
-pub(crate) fn has_owners(alloc: Global, package: &UnresolvedPackage) -> Result<bool, AllocError>
-    ensures { IfOk result (λ holds. IsTrue holds ↔ HasOwners «package».now) }
+pub(crate) fn has_owners(alloc: Global, unresolved: &UnresolvedPackage) -> Result<bool, AllocError>
+    ensures { IfOk result (λ holds. IsTrue holds ↔ HasOwners unresolved.now) }
 {
-    let interfaces = package.interfaces.as_slice();
-    let types = package.types.as_slice();
+    let interfaces = unresolved.interfaces.as_slice();
+    let types = unresolved.types.as_slice();
     if !all_list_own(types, interfaces) {
         return Ok(false);
     }
     if !all_name_functions(interfaces) {
         return Ok(false);
     }
-    are_listed(interfaces, package.worlds.as_slice(), types)
+    are_listed(interfaces, unresolved.worlds.as_slice(), types)
 }
 
 /// Whether each type with an owner is listed by it, and each other has no name.

@@ -16,11 +16,14 @@ use std::alloc::{AllocError, Global};
 
 /// Whether types refer to earlier types, aliases to named types, and types without names are
 /// neither aliases nor resources.
-pub(crate) fn has_references(alloc: Global, package: &UnresolvedPackage) -> Result<bool, AllocError>
-    ensures { IfOk result (λ holds. IsTrue holds ↔ HasReferences «package».now) }
+pub(crate) fn has_references(
+    alloc: Global,
+    unresolved: &UnresolvedPackage,
+) -> Result<bool, AllocError>
+    ensures { IfOk result (λ holds. IsTrue holds ↔ HasReferences unresolved.now) }
 {
-    let types = package.types.as_slice();
-    if !all_alias_named(types, package.interfaces.as_slice()) {
+    let types = unresolved.types.as_slice();
+    if !all_alias_named(types, unresolved.interfaces.as_slice()) {
         return Ok(false);
     }
     if !are_plain_if_unnamed(types) {

@@ -14,22 +14,22 @@ use crate::unresolved::UnresolvedPackage;
 
 /// Whether what the package knows of the types of other packages has its shape, where so many
 /// interfaces are foreign.
-pub(crate) fn has_unknown(package: &UnresolvedPackage, foreign: usize) -> bool
-    requires { foreign ≡ length (foreign_interfaces «package».now.foreign_deps) }
-    ensures { IsTrue result ↔ HasUnknown «package».now }
+pub(crate) fn has_unknown(unresolved: &UnresolvedPackage, foreign: usize) -> bool
+    requires { foreign ≡ length (foreign_interfaces unresolved.now.foreign_deps) }
+    ensures { IsTrue result ↔ HasUnknown unresolved.now }
 {
-    let unknown = package.unknown_type_spans.len();
-    let types = package.types.as_slice();
+    let unknown = unresolved.unknown_type_spans.len();
+    let types = unresolved.types.as_slice();
     if !are_unknown_first(unknown, types) {
         return false;
     }
     if !are_foreign_types(unknown, foreign, types) {
         return false;
     }
-    if !all_list_unknown_alone(unknown, foreign, package.interfaces.as_slice()) {
+    if !all_list_unknown_alone(unknown, foreign, unresolved.interfaces.as_slice()) {
         return false;
     }
-    are_required_unknown(types, package.required_resource_types.as_slice())
+    are_required_unknown(types, unresolved.required_resource_types.as_slice())
 }
 
 /// Whether the types of kind `Unknown` are the first so many ones.

@@ -17,12 +17,12 @@ use std::alloc::{AllocError, Global};
 use wit_values::{Items, Table};
 
 /// Whether worlds import, export and include what they should.
-pub(crate) fn has_worlds(alloc: Global, package: &UnresolvedPackage) -> Result<bool, AllocError>
-    ensures { IfOk result (λ holds. IsTrue holds ↔ HasWorlds «package».now) }
+pub(crate) fn has_worlds(alloc: Global, unresolved: &UnresolvedPackage) -> Result<bool, AllocError>
+    ensures { IfOk result (λ holds. IsTrue holds ↔ HasWorlds unresolved.now) }
 {
-    let interfaces = package.interfaces.as_slice();
-    let worlds = package.worlds.as_slice();
-    if !all_have_imports(interfaces, package.types.as_slice(), worlds) {
+    let interfaces = unresolved.interfaces.as_slice();
+    let worlds = unresolved.worlds.as_slice();
+    if !all_have_imports(interfaces, unresolved.types.as_slice(), worlds) {
         return Ok(false);
     }
     if !all_have_exports(interfaces, worlds) {

@@ -1,4 +1,4 @@
-use Rattle.std.proofs.Common.{◌≡◌, ◌∙◌, ◌<◌, ◌-◌, suc, Bor, List, ℕ, length, slice_get, Some, sym, arith}
+use Rattle.std.proofs.Common.{◌≡◌, ◌∙◌, ◌<◌, ◌-◌, length, slice_get, Some, sym, arith}
 use Rattle.wit_script.proofs.Arguments.{has_gate_last, some_at}
 use Rattle.wit_script.proofs.statement.has_gate.Goals as goal
 

@@ -1,7 +1,5 @@
-use Rattle.std.proofs.Common.{◌≡◌, ℕ, List, Bool, true, subst, sym, ◌∙◌, rules}
-use Rattle.std.specs.Prelude.{◌↔◌, IsTrue, IfOk, IsSome, is_some}
-use Rattle.wit_items.specs.Each.{Each}
-use Rattle.wit_items.specs.Ownership.{IsOwn}
+use Rattle.std.proofs.Common.{subst, sym}
+use Rattle.std.specs.Prelude.{◌↔◌, IsTrue, IfOk}
 use Rattle.wit_items.specs.Entries.{ItemUsesOwn}
 use Rattle.wit_items.specs.declared.world.WorldItem.{WorldItem}
 use Rattle.wit_items.proofs.shape.own.item_uses_own.Goals as goal

@@ -1,5 +1,5 @@
-use Rattle.std.proofs.Common.{◌≡◌, ℕ, List, Bool, true, subst, sym, ◌∙◌, rules}
-use Rattle.std.specs.Prelude.{◌↔◌, IsTrue, IfOk, IsSome, is_some}
+use Rattle.std.proofs.Common.{◌≡◌, ℕ, List, true, subst, ◌∙◌, rules}
+use Rattle.std.specs.Prelude.{◌↔◌, IsTrue, is_some}
 use Rattle.wit_items.specs.Each.{Each}
 use Rattle.wit_items.specs.Ownership.{IsOwn}
 use Rattle.wit_items.proofs.shape.own.refers_to_own.Goals as goal

@@ -1,5 +1,5 @@
-use Rattle.std.proofs.Common.{◌≡◌, ℕ, List, Bool, true, subst, sym, ◌∙◌, rules}
-use Rattle.std.specs.Prelude.{◌↔◌, IsTrue, IfOk, IsSome, is_some}
+use Rattle.std.proofs.Common.{ℕ, List, subst, ◌∙◌}
+use Rattle.std.specs.Prelude.{◌↔◌, IsTrue}
 use Rattle.wit_items.specs.Each.{Each}
 use Rattle.wit_items.specs.Ownership.{IsOwn}
 use Rattle.wit_items.proofs.shape.own.uses_own.Goals as goal

@@ -1,4 +1,4 @@
-use Rattle.std.proofs.Common.{◌≡◌, ℕ, List, Option, Some, None, subst, sym}
+use Rattle.std.proofs.Common.{ℕ, List, Option, Some, subst, sym}
 use Rattle.std.specs.Prelude.{◌↔◌, IsTrue, IfOk}
 use Rattle.wit_items.specs.Ownership.{IsListed}
 use Rattle.wit_items.specs.declared.types.TypeOwner.{TypeOwner}

@@ -1,9 +1,8 @@
-use Rattle.std.proofs.Common.{◌≡◌, ℕ, ◌+◌, ◌<◌, List, length, take, Some, Bool, true, false, slice_get, refl, subst, sym, ◌∙◌, arith, rules}
+use Rattle.std.proofs.Common.{◌≡◌, ℕ, ◌+◌, ◌<◌, List, take, Some, true, false, slice_get, refl, subst, sym, ◌∙◌, arith, rules}
 use Rattle.std.specs.Prelude.{is_some}
 use Rattle.std.proofs.lemmas.Option.{slice_get_read}
 use Rattle.std.proofs.lemmas.Grind.{common_steps}
 use Rattle.wit_values.specs.Lists.{take-next_at}
-use Rattle.wit_items.specs.Ownership.{Shows}
 use Rattle.wit_items.specs.Reference.{referred}
 use Rattle.wit_items.specs.Shown.{Tells, joined}
 use Rattle.wit_items.specs.declared.shape.shown.Shown.{Shown}

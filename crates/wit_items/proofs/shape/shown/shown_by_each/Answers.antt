@@ -1,4 +1,4 @@
-use Rattle.std.proofs.Common.{◌≡◌, ℕ, ◌+◌, ◌++◌, ◌∷◌, [], List, length, Some, slice_get, inl, inr, subst, sym, ap, ◌∙◌, arith, length-append}
+use Rattle.std.proofs.Common.{ℕ, ◌+◌, ◌++◌, ◌∷◌, [], List, length, inl, inr, subst, sym, ap, ◌∙◌, length-append}
 use Rattle.wit_values.specs.Lists.{push-cases}
 use Rattle.wit_items.specs.Each.{EachAt}
 use Rattle.wit_items.specs.Ownership.{Shows}

@@ -1,6 +1,5 @@
-use Rattle.std.proofs.Common.{ℕ, ◌<◌, List, filter, length, subst, sym, ◌∙◌}
+use Rattle.std.proofs.Common.{ℕ, ◌<◌, List, length, subst, sym, ◌∙◌}
 use Rattle.wit_items.specs.Each.{Each}
-use Rattle.wit_items.specs.Entries.{is_unnamed}
 use Rattle.wit_items.proofs.Unnamed.{unnamed_below}
 use Rattle.wit_items.proofs.shape.worlds.stand_once.Goals as goal
 

@@ -1,4 +1,4 @@
-use Rattle.std.proofs.Common.{◌≡◌, ap, ◌∙◌, is_some, rules, true, false, sym}
+use Rattle.std.proofs.Common.{◌≡◌, ◌∙◌, rules, true, false, sym}
 use Rattle.std.specs.List.{list_any}
 use Rattle.wit_items.specs.declared.world.WorldKey.{WorldKey}
 use Rattle.wit_items.specs.declared.world.WorldItem.{WorldItem}

@@ -5,7 +5,7 @@ use Rattle.std.specs.Str.{bytes_eq}
 use Rattle.std.proofs.lemmas.Option.{slice_get-get_or}
 use Rattle.wit_values.specs.Lists.{map-next}
 use Rattle.wit_items.proofs.Distinct.{found_before, new_behind, shown}
-use Rattle.wit_items.proofs.shape.names.do_differ.Goals as goal
+use Rattle.wit_items.proofs.shape.names.texts_differ.Goals as goal
 
 pub loop-text-init : goal.loop-text-init
 unfolding IsDistinct

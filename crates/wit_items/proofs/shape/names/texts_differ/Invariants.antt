@@ -2,7 +2,7 @@ use Rattle.std.proofs.Common.{◌≡◌, ℕ, List, map, take}
 use Rattle.std.specs.Borrow.{Bor}
 use Rattle.std.specs.List.{IsDistinct}
 use Rattle.std.specs.Str.{bytes_eq}
-use Rattle.wit_items.proofs.shape.names.do_differ.Given as goal
+use Rattle.wit_items.proofs.shape.names.texts_differ.Given as goal
 
 -- the first ones are met, and differ
 abbrev pub invariant-loop-text : goal.invariant-loop-text

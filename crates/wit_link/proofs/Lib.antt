@@ -1,0 +1,9 @@
+mod Acceptance
+mod CauseExamples
+mod Examples
+mod HasImage
+mod ImageExamples
+mod IncludeExamples
+mod Listed
+mod PushExamples
+mod WorldCauseExamples

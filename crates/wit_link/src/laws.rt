@@ -1,0 +1,60 @@
+//! Examples of the definitions: each function has no body, and its contract is what is proved.
+ghost use Rattle.wit_link.specs.CauseExamples.{ExamplesOfCauses};
+ghost use Rattle.wit_link.specs.PushExamples.{
+  ExamplesOfGroups,
+  ExamplesOfIncluded,
+  ExamplesOfIncludes,
+  ExamplesOfPushes,
+};
+ghost use Rattle.wit_link.specs.WorldCauseExamples.{ExamplesOfWorldCauses};
+ghost use Rattle.wit_link.specs.Examples.{ExamplesOfGates, ExamplesOfImages, ExamplesOfLabels, ExamplesOfRenaming};
+
+/// Notes that are active and notes that aren't.
+pub fn examples_of_gates()
+    ensures { ExamplesOfGates }
+{}
+
+/// Labels that a renaming is of and labels that it isn't of.
+pub fn examples_of_renaming()
+    ensures { ExamplesOfRenaming }
+{}
+
+/// Labels that clash and labels that don't; where setters go.
+pub fn examples_of_labels()
+    ensures { ExamplesOfLabels }
+{}
+
+/// What leads to a resource, and what becomes an `own`.
+pub fn examples_of_images()
+    ensures { ExamplesOfImages }
+{}
+
+/// Packages that can't be added, and why; and those that lack just this reason.
+pub fn examples_of_causes()
+    ensures { ExamplesOfCauses }
+{}
+
+/// Packages that are added to a graph, and what adding them isn't.
+pub fn examples_of_pushes()
+    ensures { ExamplesOfPushes }
+{}
+
+/// Stabilities that are joined, labels that are there already, and what is copied.
+pub fn examples_of_includes()
+    ensures { ExamplesOfIncludes }
+{}
+
+/// Packages that depend on each other, and their order.
+pub fn examples_of_groups()
+    ensures { ExamplesOfGroups }
+{}
+
+/// A world that includes another with a type under a new name, and what isn't that.
+pub fn examples_of_included()
+    ensures { ExamplesOfIncluded }
+{}
+
+/// Packages that can't be added for what they name of others, or for a world of theirs.
+pub fn examples_of_world_causes()
+    ensures { ExamplesOfWorldCauses }
+{}

@@ -1,0 +1,112 @@
+-- What a command does, and runs of commands. A command changes the state and answers, or refuses with an
+-- error that has a reason and then leaves graph and features as they were. Want of memory is no reason, but
+-- may always be answered where memory is taken.
+use Rattle.std.specs.Prelude.{◌≡◌, ◌⊎◌, ◌<◌, ◌^◌, ℕ, List, [], ◌∷◌, ◌++◌, length, slice_get, Some, if◌then◌else◌}
+use Rattle.std.specs.List.{list_any}
+use Rattle.std.specs.Str.{bytes_eq}
+use Rattle.wit_items.specs.SourceMap.{Sources, with_sources}
+use Rattle.wit_items.specs.declared.package_name.PackageName.{PackageName}
+use Rattle.wit_items.specs.declared.unresolved.UnresolvedPackageGroup.{UnresolvedPackageGroup}
+use Rattle.wit_graph.specs.declared.error_kind.ResolveErrorKind.{ResolveErrorKind}
+use Rattle.wit_graph.specs.declared.error_kind.ResolveErrorKind.TheVariants.{OffsetOverflow, OutOfMemory}
+use Rattle.wit_graph.specs.declared.features.Features.{Features}
+use Rattle.wit_link.specs.Groups.{ArePushed, AreSorted, Handed, IsGroupsCause, IsSortCause, files_end, packages_of}
+use Rattle.wit_link.specs.Pushed.{HasWorld}
+use Rattle.wit_resolve_graph.specs.State.{State}
+use Rattle.wit_resolve_graph.specs.declared.command.Command.{Command}
+use Rattle.wit_resolve_graph.specs.declared.command.Command.TheVariants.{AddFeature, SetAllFeatures, PushGroups, Merge, Importize, Exportize, Semver}
+use Rattle.wit_resolve_graph.specs.declared.command.Reply.{Reply}
+use Rattle.wit_resolve_graph.specs.declared.command.Reply.TheVariants.{Done, Pushed, Merged, NoWorld, Refused}
+
+-- ---- features
+
+-- the features with one more, which is there once
+abbrev pub with_feature : Features → List ℕ → Features
+with_feature features name = record features { names = if list_any (bytes_eq name) features.names then features.names else features.names ++ name ∷ [] }
+
+-- ---- groups
+
+-- the sources with the files of groups after them
+abbrev pub with_files : Sources → List UnresolvedPackageGroup → Sources
+with_files sources [] = sources
+with_files sources (group ∷ groups) = with_files (with_sources sources group.source_map) groups
+
+-- groups are added: their packages in order, dependencies first, their files at the end, main group first,
+-- and the answer is the id of the main group's main package; nothing speaks against their order, against
+-- the end of their files or against a package
+pub record PushesGroups (old : State) (main : UnresolvedPackageGroup) (deps : List UnresolvedPackageGroup) (id : ℕ) (new : State) : Type 0 where
+  pub order : List ℕ
+  pub sorted : List Handed
+  pub ids : List ℕ
+  pub place : ℕ
+  pub sortable : (error : ResolveErrorKind) → IsSortCause (packages_of old.source_map.end (main ∷ deps)) error → ⊥
+  pub fits : files_end old.source_map.end (main ∷ deps) < 2 ^ 32
+  pub are_sorted : AreSorted (packages_of old.source_map.end (main ∷ deps)) order sorted
+  pub are_pushed : ArePushed old.features old.graph sorted new.graph ids
+  pub main_is : slice_get order place ≡ Some (length main.nested)
+  pub id_is : slice_get ids place ≡ Some id
+  pub features : new.features ≡ old.features
+  pub files : new.source_map ≡ with_files old.source_map (main ∷ deps)
+
+-- where files are after a refusal: at the end, but after a position that is too large nowhere, and after
+-- want of memory there or not
+abbrev pub HasFilesAfter : ResolveErrorKind → Sources → List UnresolvedPackageGroup → Sources → Type 0
+HasFilesAfter OffsetOverflow old groups new = new ≡ old
+HasFilesAfter OutOfMemory old groups new = (new ≡ old) ⊎ (new ≡ with_files old groups)
+HasFilesAfter _ old groups new = new ≡ with_files old groups
+
+-- the addition of groups is refused with this error
+pub record RefusesGroups (old : State) (main : UnresolvedPackageGroup) (deps : List UnresolvedPackageGroup) (error : ResolveErrorKind) (new : State) : Type 0 where
+  pub cause : (error ≡ OutOfMemory) ⊎ IsGroupsCause old.features old.graph old.source_map.end (main ∷ deps) error
+  pub graph : new.graph ≡ old.graph
+  pub features : new.features ≡ old.features
+  pub files : HasFilesAfter error old.source_map (main ∷ deps) new.source_map
+
+-- ---- other commands
+
+-- there is no world of this name in a package of that name
+abbrev pub IsAbsent : State → PackageName → List ℕ → Type 0
+IsAbsent state home name = (w : ℕ) → HasWorld state.graph home name w → ⊥
+
+-- what merging, turning and semver merging do isn't defined yet: no such answer is one of a run so far
+abbrev pub Waits : Type 0
+Waits = ⊥
+
+-- the answer of a command that takes memory and changes nothing of the sources, where memory is refused
+abbrev pub LacksMemory : State → ResolveErrorKind → State → Type 0
+LacksMemory old error new = (error ≡ OutOfMemory) × (new ≡ old)
+
+-- ---- steps
+
+-- from old, the command may be answered so and lead to new
+abbrev pub Step : State → Command → Reply → State → Type 0
+Step old (AddFeature name) Done new = new ≡ record old { features = with_feature old.features name }
+Step old (AddFeature name) (Refused error) new = LacksMemory old error new
+Step old (AddFeature name) _ new = ⊥
+Step old (SetAllFeatures all) Done new = new ≡ record old { features = record old.features { all = all } }
+Step old (SetAllFeatures all) _ new = ⊥
+Step old (PushGroups main deps) (Pushed id) new = PushesGroups old main deps id new
+Step old (PushGroups main deps) (Refused error) new = RefusesGroups old main deps error new
+Step old (PushGroups main deps) _ new = ⊥
+Step old (Merge other) (Merged remap) new = Waits
+Step old (Merge other) (Refused error) new = Waits
+Step old (Merge other) _ new = ⊥
+Step old (Importize home world out) NoWorld new = IsAbsent old home world × (new ≡ old)
+Step old (Importize home world out) Done new = Waits
+Step old (Importize home world out) (Refused error) new = Waits
+Step old (Importize home world out) _ new = ⊥
+Step old (Exportize home world out keys) NoWorld new = IsAbsent old home world × (new ≡ old)
+Step old (Exportize home world out keys) Done new = Waits
+Step old (Exportize home world out keys) (Refused error) new = Waits
+Step old (Exportize home world out keys) _ new = ⊥
+Step old (Semver home world) NoWorld new = IsAbsent old home world × (new ≡ old)
+Step old (Semver home world) Done new = Waits
+Step old (Semver home world) (Refused error) new = Waits
+Step old (Semver home world) _ new = ⊥
+
+-- one step after another, with one reply to each command
+abbrev pub Run : State → List Command → List Reply → State → Type 0
+Run old [] [] new = new ≡ old
+Run old (command ∷ commands) (reply ∷ replies) new = (mid : State) × Step old command reply mid × Run mid commands replies new
+Run old [] (reply ∷ replies) new = ⊥
+Run old (command ∷ commands) [] new = ⊥

@@ -1,0 +1,21 @@
+-- Answers one after another.
+use Rattle.std.proofs.Common.{ℕ, List, [], ◌∷◌, ◌++◌, refl, sym, ap, ◌∙◌, subst, append_assoc}
+use Rattle.std.proofs.lemmas.List.{append-nil}
+use Rattle.wit_resolve_graph.specs.State.{State}
+use Rattle.wit_script.specs.Answer.{Runs, Chooses, Answers, AnswersAll}
+use Rattle.wit_script.specs.declared.reader.ScriptCommand.{ScriptCommand}
+
+-- one more answer
+pub AnswersAll-more : (runs : Runs) (chooses : Chooses) (before between after : State) (commands : List ScriptCommand) (command : ScriptCommand) (text more : List ℕ)
+    → AnswersAll runs chooses before commands text between → Answers runs chooses between command more after
+    → AnswersAll runs chooses before (commands ++ command ∷ []) (text ++ more) after
+AnswersAll-more runs chooses before between after [] command text more all one =
+    (after, more, [], subst (λ (s : State). Answers runs chooses s command more after) all.1 one, (refl, refl), ap (λ (t : List ℕ). t ++ more) all.0 ∙ sym (append-nil more))
+AnswersAll-more runs chooses before between after (first ∷ commands) command text more all one = (
+  all.0,
+  all.1,
+  all.2 ++ more,
+  all.3,
+  AnswersAll-more runs chooses all.0 between after commands command all.2 more all.4 one,
+  ap (λ (t : List ℕ). t ++ more) all.5 ∙ append_assoc all.1 all.2 more,
+)
