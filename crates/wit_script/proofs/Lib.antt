@@ -6,3 +6,4 @@ pub mod Keys
 pub mod Scripts
 pub mod Answered
 pub mod ReadScripts
+pub mod Told

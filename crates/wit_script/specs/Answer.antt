@@ -1,5 +1,5 @@
 -- What the commands of a script answer.
-use Rattle.std.specs.Prelude.{◌≡◌, ◌⊎◌, ℕ, Bool, true, false, List, [], ◌∷◌, ◌++◌, Option, Result, Ok, Err, slice_get, option_and_then, codes, MatchOption, String, string_bytes}
+use Rattle.std.specs.Prelude.{◌≡◌, ◌⊎◌, ℕ, Bool, true, false, List, [], ◌∷◌, ◌++◌, Option, None, Result, Ok, Err, slice_get, option_and_then, codes, MatchOption, String, string_bytes}
 use Rattle.std.specs.declared.alloc.Global.{Global}
 use Rattle.std.specs.Fmt.{decimal}
 use Rattle.std.specs.List.{flat_map}
@@ -8,14 +8,18 @@ use Rattle.std.specs.Option.{option_map_or}
 use Rattle.std.specs.Str.{bytes_eq}
 use Rattle.wit_graph.specs.Error.{error_number}
 use Rattle.wit_graph.specs.ErrorText.{kind_text}
+use Rattle.wit_graph.specs.declared.cause.Cause.TheVariants.{WorldSelection}
 use Rattle.wit_graph.specs.declared.error_kind.ResolveErrorKind.{ResolveErrorKind}
+use Rattle.wit_graph.specs.declared.error_kind.ResolveErrorKind.TheVariants.{OutOfMemory, Semantic}
 use Rattle.wit_graph.specs.declared.graph.Graph.{Graph}
 use Rattle.wit_graph.specs.declared.graph.Package.{Package}
 use Rattle.wit_items.specs.PackageName.{package_name_text}
-use Rattle.wit_items.specs.contracts.package_name.PackageNamePartialEq.TheImpl.{eq-value}
+use Rattle.wit_items.specs.PackageOrder.{same_package}
 use Rattle.wit_items.specs.declared.package_name.PackageName.{PackageName}
 use Rattle.wit_items.specs.declared.unresolved.UnresolvedPackageGroup.{UnresolvedPackageGroup}
+use Rattle.wit_resolve_graph.specs.Selection.{selected_world}
 use Rattle.wit_resolve_graph.specs.State.{State, new_state}
+use Rattle.wit_resolve_graph.specs.Step.{Run}
 use Rattle.wit_resolve_graph.specs.declared.command.Command.{Command}
 use Rattle.wit_resolve_graph.specs.declared.command.Command.TheVariants.{PushGroups}
 use Rattle.wit_resolve_graph.specs.declared.command.Reply.{Reply}
@@ -54,9 +58,9 @@ reply_text g (reply.Refused kind) = refusal_text kind
 abbrev pub Runs : Type 1
 Runs = State → List Command → List Reply → State → Type 0
 
--- which world may be chosen of a package
+-- which world may be chosen of a package, or what may be said instead
 abbrev pub Chooses : Type 1
-Chooses = Graph → ℕ → Option (List ℕ) → ℕ → Type 0
+Chooses = Graph → ℕ → Option (List ℕ) → Result ℕ ResolveErrorKind → Type 0
 
 -- a group that is pushed by a run of one command: its replies are told, or the refusal of the run itself, after which all
 -- is as before
@@ -67,7 +71,7 @@ IsPushed runs before group text after =
 
 -- the package of this name
 abbrev pub package_named : Graph → PackageName → Option ℕ
-package_named g name = lookup (eq-value.it name) g.package_names
+package_named g name = lookup (same_package name) g.package_names
 
 -- the world of this name in the package at a place
 abbrev pub world_in : Graph → List ℕ → ℕ → Option ℕ
@@ -80,21 +84,25 @@ world_named g owner world = option_and_then (world_in g world) (package_named g 
 -- `print`: the world, or want of memory; `no world` where it isn't there
 abbrev pub IsPrinted : Graph → PackageName → List ℕ → List ℕ → Type 0
 IsPrinted g owner world text =
-    MatchOption (world_named g owner world) (text ≡ codes "no world\n") (λ id. (text ≡ world_text_at g id) ⊎ IsRefusal text)
+    MatchOption (world_named g owner world) (text ≡ codes "no world\n") (λ id. (text ≡ world_text_at g id) ⊎ (text ≡ refusal_text OutOfMemory))
 
--- `selected ID`, of some world
+-- `selected ID`
 abbrev pub selected_text : Graph → ℕ → List ℕ
 selected_text g id = codes "selected " ++ (world_id_at g id ++ codes "\n")
 
--- `selected ID` of a world that may be chosen
-abbrev pub IsChosenText : Chooses → Graph → ℕ → Option (List ℕ) → List ℕ → Type 0
-IsChosenText chooses g id said text = (world : ℕ) × chooses g id said world × (text ≡ selected_text g world)
+-- the line of a choice
+abbrev pub choice_text : Graph → Result ℕ ResolveErrorKind → List ℕ
+choice_text g (Ok world) = selected_text g world
+choice_text g (Err kind) = refusal_text kind
 
--- `select`: a world that may be chosen, or a refusal; `no package` where the package isn't there
+-- a choice that may be made of a package, told
+abbrev pub IsChoiceTold : Chooses → Graph → ℕ → Option (List ℕ) → List ℕ → Type 0
+IsChoiceTold chooses g id said text = (choice : Result ℕ ResolveErrorKind) × chooses g id said choice × (text ≡ choice_text g choice)
+
+-- `select`: a choice; `no package` where the package isn't there
 abbrev pub IsSelected : Chooses → Graph → PackageName → Option (List ℕ) → List ℕ → Type 0
 IsSelected chooses g owner said text =
-    MatchOption (package_named g owner) (text ≡ codes "no package\n")
-    (λ id. IsChosenText chooses g id said text ⊎ IsRefusal text)
+    MatchOption (package_named g owner) (text ≡ codes "no package\n") (λ id. IsChoiceTold chooses g id said text)
 
 -- the answer to a command, and the state after it
 abbrev pub Answers : Runs → Chooses → State → ScriptCommand → List ℕ → State → Type 0
@@ -131,9 +139,19 @@ abbrev pub Prints : Runs → Chooses → List ℕ → Bool → List ℕ → Type
 Prints runs chooses input true text = PrintsAnswers runs chooses input text
 Prints runs chooses input false text = PrintsLine input text
 
--- what is known of a run so far: nothing, and nothing of a choice
+-- what `select_world` chooses, or says, or want of memory
+abbrev pub IsChoice : Chooses
+IsChoice g id said (Ok world) = selected_world g (id ∷ []) said ≡ Ok world
+IsChoice g id said (Err kind) =
+    (kind ≡ OutOfMemory) ⊎ ((message : List ℕ) × (selected_world g (id ∷ []) said ≡ Err message) × (kind ≡ Semantic None message WorldSelection))
+
+-- what a script prints, and whether it is understood: the answers of a run of its commands
+abbrev pub PrintsByRun : List ℕ → Bool → List ℕ → Type 0
+PrintsByRun = Prints Run IsChoice
+
+-- what is known of a run and of a choice where `run` and `select_world` don't promise which they are
 abbrev pub any_run : Runs
 any_run before commands replies after = Unit {0}
 
 abbrev pub any_choice : Chooses
-any_choice g id said world = Unit {0}
+any_choice g id said choice = Unit {0}

@@ -1,8 +1,8 @@
 //! The answers to the commands of a script.
-ghost use Rattle.std.specs.Prelude.{◌≡◌, [], ◌∷◌, IfOk, OnOk, string_bytes};
+ghost use Rattle.std.specs.Prelude.{◌≡◌, ℕ, IfOk, string_bytes};
 ghost use Rattle.std.specs.List.{flat_map};
 ghost use Rattle.wit_resolve_graph.specs.State.{State, new_state};
-ghost use Rattle.wit_script.specs.Answer.{any_run, any_choice, Answers, AnswersAll, IsPushed, IsPrinted, IsSelected, IsTold, IsChosenText, refusal_text, pushed_text, reply_text, world_named};
+ghost use Rattle.wit_script.specs.Answer.{any_run, any_choice, Answers, AnswersAll, IsPushed, IsPrinted, IsSelected, IsTold, refusal_text, selected_text, pushed_text, reply_text, world_named};
 
 use crate::printer::{print_world, world_id};
 use crate::reader::ScriptCommand;
@@ -157,7 +157,7 @@ fn selected(
     id: PackageId,
     text: &Option<Text>,
 ) -> ResolveResult<String>
-    ensures { IfOk result (λ out. IsChosenText any_choice resolve.now.graph id text.now (string_bytes out)) }
+    ensures { IfOk result (λ out. (world : ℕ) × (string_bytes out ≡ selected_text resolve.now.graph world)) }
 {
     let text = match text {
         Some(text) => Some(text.as_str()),

@@ -1,6 +1,7 @@
 //! What a world prints as.
-ghost use Rattle.std.specs.Prelude.{◌≡◌, ◌++◌, IfOk, OnOk, string_bytes};
+ghost use Rattle.std.specs.Prelude.{◌≡◌, ◌++◌, IfErr, IfOk, OnOk, string_bytes};
 ghost use Rattle.std.specs.List.{flat_map};
+ghost use Rattle.wit_graph.specs.declared.error_kind.ResolveErrorKind.TheVariants.{OutOfMemory};
 ghost use Rattle.wit_script.specs.World.{world_id_at, world_text_at, entry_text, entry_line, labelled_text};
 
 use std::alloc::Global;
@@ -11,7 +12,8 @@ use wit_resolve_graph::{Graph, Resolve, ResolveResult};
 /// A world as lines of text, each with a newline: `world` and its id text, then a line for each import
 /// and each export. Empty where the world isn't there.
 pub fn print_world(alloc: Global, resolve: &Resolve, id: WorldId) -> ResolveResult<String>
-    ensures { IfOk result (λ text. string_bytes text ≡ world_text_at resolve.now.graph id) }
+    ensures text { IfOk result (λ text. string_bytes text ≡ world_text_at resolve.now.graph id) }
+    ensures err { IfErr result (λ e. e ≡ OutOfMemory) }
 {
     let graph = resolve.graph();
     let Some(world) = graph.worlds.get(id.index()) else {
@@ -26,7 +28,8 @@ pub fn print_world(alloc: Global, resolve: &Resolve, id: WorldId) -> ResolveResu
 
 /// The id text of a world. Empty where it isn't there or has no package.
 pub fn world_id(alloc: Global, graph: &Graph, id: WorldId) -> ResolveResult<String>
-    ensures { IfOk result (λ text. string_bytes text ≡ world_id_at graph.now id) }
+    ensures text { IfOk result (λ text. string_bytes text ≡ world_id_at graph.now id) }
+    ensures err { IfErr result (λ e. e ≡ OutOfMemory) }
 {
     let Some(world) = graph.worlds.get(id.index()) else {
         return Ok(String::new(alloc));
@@ -45,7 +48,8 @@ fn print_entries(
     entries: &Table<WorldKey, WorldItem>,
     text: &mut String,
 ) -> ResolveResult<()>
-    ensures { OnOk result (string_bytes text.new ≡ string_bytes text.old ++ flat_map (entry_line graph.now word.now) entries.now) }
+    ensures err { IfErr result (λ e. e ≡ OutOfMemory) }
+    ensures text { OnOk result (string_bytes text.new ≡ string_bytes text.old ++ flat_map (entry_line graph.now word.now) entries.now) }
 {
     for index in 0..entries.len() {
         let (key, item) = entries.entry_at(index);
@@ -62,7 +66,8 @@ fn print_entry(
     key: &WorldKey,
     item: &WorldItem,
 ) -> ResolveResult<String>
-    ensures { IfOk result (λ text. string_bytes text ≡ entry_text graph.now key.now item.now) }
+    ensures text { IfOk result (λ text. string_bytes text ≡ entry_text graph.now key.now item.now) }
+    ensures err { IfErr result (λ e. e ≡ OutOfMemory) }
 {
     match key {
         WorldKey::Interface(_) => graph.name_world_key(alloc, key),
@@ -77,7 +82,8 @@ fn print_labelled(
     label: &Text,
     item: &WorldItem,
 ) -> ResolveResult<String>
-    ensures { IfOk result (λ text. string_bytes text ≡ labelled_text graph.now label.now item.now) }
+    ensures text { IfOk result (λ text. string_bytes text ≡ labelled_text graph.now label.now item.now) }
+    ensures err { IfErr result (λ e. e ≡ OutOfMemory) }
 {
     match item {
         WorldItem::Interface { id, .. } => match graph.id_of(alloc, *id)? {

@@ -1,6 +1,5 @@
-use Rattle.std.proofs.Common.{refl, inl, inr, codes, [], Some, ◌∷◌}
-use Rattle.wit_script.specs.Line.{lines_of}
-use Rattle.wit_script.specs.Script.{new_reading, after_lines}
+use Rattle.std.proofs.Common.{refl, inl, inr, codes}
+use Rattle.wit_script.specs.Script.{new_reading}
 use Rattle.wit_script.proofs.ReadScripts.{after}
 use Rattle.wit_script.proofs.laws.examples_of_scripts.Goals as goal
 

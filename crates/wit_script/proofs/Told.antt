@@ -1,0 +1,26 @@
+-- Answers that are told, or their refusals.
+use Rattle.std.proofs.Common.{◌≡◌, ℕ, List, Option, Some, Result, Ok, Err, String, string_bytes, inl, inr, ap, ◌∙◌}
+use Rattle.std.specs.Prelude.{IfErr, IfOk}
+use Rattle.std.specs.declared.alloc.Global.{Global}
+use Rattle.wit_graph.specs.declared.error_kind.ResolveErrorKind.{ResolveErrorKind}
+use Rattle.wit_graph.specs.declared.error_kind.ResolveErrorKind.TheVariants.{OutOfMemory}
+use Rattle.wit_graph.specs.declared.graph.Graph.{Graph}
+use Rattle.wit_items.specs.declared.package_name.PackageName.{PackageName}
+use Rattle.wit_script.specs.Answer.{IsPrinted, IsSelected, IsTold, any_choice, package_named, refusal_text, selected_text, world_named}
+use Rattle.wit_script.specs.World.{world_text_at}
+
+-- a world that is there
+pub printed_some : {E : Type 0} (g : Graph) (owner : PackageName) (world : List ℕ) (id : ℕ) (answer : Result (String Global) ResolveErrorKind) (told : Result (String Global) E)
+    → world_named g owner world ≡ Some id → IfOk answer (λ text. string_bytes text ≡ world_text_at g id) → IfErr answer (λ e. e ≡ OutOfMemory)
+    → IfOk told (λ text. IsTold answer (string_bytes text)) → IfOk told (λ text. IsPrinted g owner world (string_bytes text))
+printed_some g owner world id (Ok text) (Ok line) there shown lacks said = rw there (inl (said ∙ shown))
+printed_some g owner world id (Err kind) (Ok line) there shown lacks said = rw there (inr (said ∙ ap refusal_text lacks))
+printed_some g owner world id answer (Err e) there shown lacks said = tt
+
+-- a package that is there
+pub selected_some : {E : Type 0} (g : Graph) (owner : PackageName) (text : Option (List ℕ)) (id : ℕ) (answer : Result (String Global) ResolveErrorKind) (told : Result (String Global) E)
+    → package_named g owner ≡ Some id → IfOk answer (λ out. (world : ℕ) × (string_bytes out ≡ selected_text g world))
+    → IfOk told (λ out. IsTold answer (string_bytes out)) → IfOk told (λ out. IsSelected any_choice g owner text (string_bytes out))
+selected_some g owner text id (Ok out) (Ok line) there shown said = rw there (Ok shown.0, tt, said ∙ shown.1)
+selected_some g owner text id (Err kind) (Ok line) there shown said = rw there (Err kind, tt, said)
+selected_some g owner text id answer (Err e) there shown said = tt
