@@ -1,3 +1,4 @@
+pub mod Added
 pub mod Cause
 pub mod CauseExamples
 pub mod CauseText
@@ -11,4 +12,5 @@ pub mod PushExamples
 pub mod Pushed
 pub mod Rename
 pub mod Spans
+pub mod Supported
 pub mod WorldCauseExamples
