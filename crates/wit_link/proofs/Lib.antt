@@ -5,5 +5,6 @@ mod HasImage
 mod ImageExamples
 mod IncludeExamples
 mod Listed
+mod Places
 mod PushExamples
 mod WorldCauseExamples
