@@ -6,6 +6,7 @@ pub mod Examples
 pub mod Gates
 pub mod Groups
 pub mod Image
+pub mod Images
 pub mod Include
 pub mod Labels
 pub mod PushExamples

@@ -1,7 +1,10 @@
 //! The images of functions, interfaces and worlds.
+ghost use Rattle.std.specs.Prelude.{◌≡◌, IfOk, map};
+ghost use Rattle.wit_link.specs.Added.{placed_function, placed_param, placed_key, placed_item};
+ghost use Rattle.wit_link.specs.Images.{image_places};
+
 use crate::image::Image;
 use std::alloc::{AllocError, Global};
-use wit_graph::ResolveResult;
 use wit_items::{
     Function, Interface, Items, Names, Param, Table, TryClone, TypeId, World, WorldItem, WorldKey,
 };
@@ -13,7 +16,7 @@ impl<'a> Image<'a> {
         &self,
         alloc: Global,
         interface: &Interface,
-    ) -> ResolveResult<Interface> {
+    ) -> Result<Interface, AllocError> {
         let span = self.span(interface.span)?;
         let types = self.listed_types(alloc, &interface.types)?;
         let functions = self.functions(alloc, &interface.functions)?;
@@ -52,7 +55,7 @@ impl<'a> Image<'a> {
         &self,
         alloc: Global,
         functions: &Names<Function>,
-    ) -> ResolveResult<Names<Function>> {
+    ) -> Result<Names<Function>, AllocError> {
         let mut images = Names::new(alloc);
         for index in 0..functions.len() {
             let (name, function) = functions.entry_at(index);
@@ -64,7 +67,9 @@ impl<'a> Image<'a> {
         Ok(images)
     }
 
-    fn function(&self, alloc: Global, function: &Function) -> ResolveResult<Function> {
+    fn function(&self, alloc: Global, function: &Function) -> Result<Function, AllocError>
+        ensures { IfOk result (λ x. x ≡ placed_function (image_places self.now) function.now) }
+    {
         let span = self.span(function.span)?;
         let params = self.params(alloc, function.params.as_slice())?;
         let name = function.name.try_clone()?;
@@ -85,7 +90,9 @@ impl<'a> Image<'a> {
         })
     }
 
-    fn params(&self, alloc: Global, params: &[Param]) -> ResolveResult<Items<Param>> {
+    fn params(&self, alloc: Global, params: &[Param]) -> Result<Items<Param>, AllocError>
+        ensures { IfOk result (λ x. x ≡ map (placed_param (image_places self.now)) params.now) }
+    {
         let mut images = Items::new(alloc);
         for param in params {
             images.push(self.param(param)?)?;
@@ -93,7 +100,9 @@ impl<'a> Image<'a> {
         Ok(images)
     }
 
-    fn param(&self, param: &Param) -> ResolveResult<Param> {
+    fn param(&self, param: &Param) -> Result<Param, AllocError>
+        ensures { IfOk result (λ x. x ≡ placed_param (image_places self.now) param.now) }
+    {
         let span = self.span(param.span)?;
         Ok(Param {
             name: param.name.try_clone()?,
@@ -103,7 +112,7 @@ impl<'a> Image<'a> {
     }
 
     /// The image of a world, which belongs to the package that takes it. Its includes are left out.
-    pub(crate) fn world(&self, alloc: Global, world: &World) -> ResolveResult<World> {
+    pub(crate) fn world(&self, alloc: Global, world: &World) -> Result<World, AllocError> {
         let span = self.span(world.span)?;
         let imports = self.entries(alloc, &world.imports)?;
         let exports = self.entries(alloc, &world.exports)?;
@@ -124,7 +133,7 @@ impl<'a> Image<'a> {
         &self,
         alloc: Global,
         entries: &Table<WorldKey, WorldItem>,
-    ) -> ResolveResult<Table<WorldKey, WorldItem>> {
+    ) -> Result<Table<WorldKey, WorldItem>, AllocError> {
         let mut images = Table::new(alloc);
         for index in 0..entries.len() {
             let (key, item) = entries.entry_at(index);
@@ -137,14 +146,18 @@ impl<'a> Image<'a> {
         Ok(images)
     }
 
-    fn key(&self, key: &WorldKey) -> Result<WorldKey, AllocError> {
+    fn key(&self, key: &WorldKey) -> Result<WorldKey, AllocError>
+        ensures { IfOk result (λ x. x ≡ placed_key (image_places self.now) key.now) }
+    {
         match key {
             WorldKey::Name(label) => Ok(WorldKey::Name(label.try_clone()?)),
             WorldKey::Interface(id) => Ok(WorldKey::Interface(self.interface_id(*id))),
         }
     }
 
-    fn item(&self, alloc: Global, item: &WorldItem) -> ResolveResult<WorldItem> {
+    fn item(&self, alloc: Global, item: &WorldItem) -> Result<WorldItem, AllocError>
+        ensures { IfOk result (λ x. x ≡ placed_item (image_places self.now) item.now) }
+    {
         match item {
             WorldItem::Interface {
                 id,
