@@ -7,4 +7,5 @@ mod IncludeExamples
 mod Listed
 mod Places
 mod PushExamples
+mod Tables
 mod WorldCauseExamples

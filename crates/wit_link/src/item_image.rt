@@ -1,7 +1,10 @@
 //! The images of functions, interfaces and worlds.
-ghost use Rattle.std.specs.Prelude.{◌≡◌, IfOk, map};
-ghost use Rattle.wit_link.specs.Added.{placed_function, placed_param, placed_key, placed_item};
-ghost use Rattle.wit_link.specs.Images.{image_places};
+ghost use Rattle.std.specs.Prelude.{◌≡◌, IfOk, OnOk, map};
+ghost use Rattle.std.specs.List.{IsDistinct};
+ghost use Rattle.std.specs.Map.{keys_of};
+ghost use Rattle.std.specs.Str.{bytes_eq};
+ghost use Rattle.wit_link.specs.Added.{placed_function, placed_interface, placed_param, placed_key, placed_item};
+ghost use Rattle.wit_link.specs.Images.{image_places, placed_listed, placed_named};
 
 use crate::image::Image;
 use std::alloc::{AllocError, Global};
@@ -11,12 +14,17 @@ use wit_items::{
 use wit_values::{try_clone_three, try_clone_two};
 
 impl<'a> Image<'a> {
-    /// The image of an interface, which belongs to the package that takes it.
+    /// The image of an interface, which belongs to the package that takes it. A caller learns here that
+    /// the names in its tables differ.
     pub(crate) fn interface(
         &self,
         alloc: Global,
         interface: &Interface,
-    ) -> Result<Interface, AllocError> {
+    ) -> Result<Interface, AllocError>
+        ensures image { IfOk result (λ x. x ≡ placed_interface (image_places self.now) interface.now) }
+        ensures types { OnOk result (IsDistinct bytes_eq (keys_of interface.now.types)) }
+        ensures functions { OnOk result (IsDistinct bytes_eq (keys_of interface.now.functions)) }
+    {
         let span = self.span(interface.span)?;
         let types = self.listed_types(alloc, &interface.types)?;
         let functions = self.functions(alloc, &interface.functions)?;
@@ -40,13 +48,14 @@ impl<'a> Image<'a> {
         &self,
         alloc: Global,
         types: &Names<TypeId>,
-    ) -> Result<Names<TypeId>, AllocError> {
+    ) -> Result<Names<TypeId>, AllocError>
+        ensures image { IfOk result (λ x. x ≡ map (placed_listed (image_places self.now)) types.now) }
+        ensures distinct { OnOk result (IsDistinct bytes_eq (keys_of types.now)) }
+    {
         let mut images = Names::new(alloc);
         for index in 0..types.len() {
             let (name, id) = types.entry_at(index);
-            if !images.contains_key(name) {
-                images.push(String::from_str(alloc, name)?, self.type_id(*id))?;
-            }
+            images.push(String::from_str(alloc, name)?, self.type_id(*id))?;
         }
         Ok(images)
     }
@@ -55,14 +64,15 @@ impl<'a> Image<'a> {
         &self,
         alloc: Global,
         functions: &Names<Function>,
-    ) -> Result<Names<Function>, AllocError> {
+    ) -> Result<Names<Function>, AllocError>
+        ensures image { IfOk result (λ x. x ≡ map (placed_named (image_places self.now)) functions.now) }
+        ensures distinct { OnOk result (IsDistinct bytes_eq (keys_of functions.now)) }
+    {
         let mut images = Names::new(alloc);
         for index in 0..functions.len() {
             let (name, function) = functions.entry_at(index);
             let function = self.function(alloc, function)?;
-            if !images.contains_key(name) {
-                images.push(String::from_str(alloc, name)?, function)?;
-            }
+            images.push(String::from_str(alloc, name)?, function)?;
         }
         Ok(images)
     }
