@@ -5,5 +5,7 @@ mod HasImage
 mod ImageExamples
 mod IncludeExamples
 mod Listed
+mod Places
 mod PushExamples
+mod Tables
 mod WorldCauseExamples

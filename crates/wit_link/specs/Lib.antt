@@ -7,6 +7,7 @@ pub mod Fits
 pub mod Gates
 pub mod Groups
 pub mod Image
+pub mod Images
 pub mod Include
 pub mod Labels
 pub mod PushExamples
