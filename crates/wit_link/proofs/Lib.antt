@@ -5,5 +5,6 @@ mod HasImage
 mod ImageExamples
 mod IncludeExamples
 mod Listed
+mod OwnerPlaces
 mod PushExamples
 mod WorldCauseExamples
