@@ -5,6 +5,8 @@ mod HasImage
 mod ImageExamples
 mod IncludeExamples
 mod Listed
+mod OwnerImages
 mod OwnerPlaces
+mod OwnerReach
 mod PushExamples
 mod WorldCauseExamples
