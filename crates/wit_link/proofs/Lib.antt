@@ -8,5 +8,6 @@ mod Listed
 mod OwnerImages
 mod OwnerPlaces
 mod OwnerReach
+mod OwnersStay
 mod PushExamples
 mod WorldCauseExamples

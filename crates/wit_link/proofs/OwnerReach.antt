@@ -77,7 +77,10 @@ module _ (types us : List TypeDef) (p : Places) (earlier : EachAt (λ i (def : T
       let spot = place_of (referred def.0.kind) old.0 among in
       let before : old.0 < i = earlier i def.0 def.1 spot.0 old.0 spot.1 in
       let inside : old.0 < length us = omega arith in
-      let rest = path_new old.0 next path j (sym old.2 ∙ types_at old.0 inside) inside is.1 in
+      let image_at = types_at old.0 inside in
+      let is_image = old.2 in
+      let next_place : next ≡ length types + old.0 = omega arith in
+      let rest = path_new old.0 next path j next_place inside is.1 in
       (rest.0, rest.1, rest.2, (old.0 ∷ rest.3.0, (in_row row us i def.0 old.0 def.1 old.1, rest.3.1)))
 
   shows_new : (i k : ℕ) (by : TypeOwner) → k ≡ length types + i → i < length us → Shows (types ++ map (placed_type p) us) k by
