@@ -10,4 +10,5 @@ mod OwnerPlaces
 mod OwnerReach
 mod OwnersStay
 mod PushExamples
+mod ReferencesStay
 mod WorldCauseExamples
