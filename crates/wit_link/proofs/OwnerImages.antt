@@ -1,5 +1,5 @@
 -- What types and functions at their places refer to: what they referred to, at its place.
-use Rattle.std.proofs.Common.{◌≡◌, ◌∙◌, ℕ, List, [], ◌∷◌, ◌++◌, map, Option, None, Some, option_map, option_to_list, refl, sym, ap, subst}
+use Rattle.std.proofs.Common.{◌≡◌, ◌∙◌, ℕ, List, ◌++◌, map, Option, None, Some, option_map, option_to_list, refl, ap}
 use Rattle.std.proofs.lemmas.List.{map-append}
 use Rattle.std.specs.List.{flat_map}
 use Rattle.wit_items.specs.Function.{resource_of}

@@ -1,9 +1,9 @@
 -- What stands where in lists that are joined end to end, the second of them as it is after a function: the
 -- things of a graph and, behind them, those of a package at their places.
-use Rattle.std.proofs.Common.{◌≡◌, ◌∙◌, ℕ, zero, suc, ◌+◌, ◌<◌, List, [], ◌∷◌, ◌++◌, ◌⊎◌, inl, inr, map, length, get_or, Option, None, Some, option_map, slice_get, slice_index_or, refl, sym, ap, subst, arith, Contains, IsSomeAnd, IfSome, length-append}
+use Rattle.std.proofs.Common.{◌≡◌, ◌∙◌, ℕ, zero, suc, ◌+◌, ◌<◌, List, [], ◌∷◌, ◌++◌, ◌⊎◌, inl, inr, map, length, Option, None, Some, option_map, slice_get, refl, sym, ap, subst, arith, Contains, IsSomeAnd}
 use Rattle.std.specs.List.{flat_map, range_with_len}
-use Rattle.std.proofs.lemmas.List.{map-append, length-map}
-use Rattle.std.proofs.lemmas.Option.{slice_get-map, slice_get_within, slice_get-get_or, get_or_from_slice_get, slice_get_past}
+use Rattle.std.proofs.lemmas.List.{map-append}
+use Rattle.std.proofs.lemmas.Option.{slice_get-map, slice_get_within, slice_get-get_or, get_or_from_slice_get}
 use Rattle.wit_values.specs.Lists.{slice_get-append}
 use Rattle.wit_items.specs.Each.{Each, EachAt, SomeAt}
 use Rattle.wit_relations.specs.Relation.{direct}

@@ -1,17 +1,16 @@
 -- What is reached through types without names, in a graph with the types of a package at their places: from
 -- an old type old ones as before, from a new type the new ones that it reached in the package.
-use Rattle.std.proofs.Common.{◌≡◌, ◌∙◌, ℕ, ◌+◌, ◌<◌, Bool, true, false, List, [], ◌∷◌, ◌++◌, map, length, Some, slice_get, refl, sym, ap, subst, arith, Contains, All, IsSome, if◌then◌else◌, is_some}
+use Rattle.std.proofs.Common.{◌≡◌, ◌∙◌, ℕ, ◌+◌, ◌<◌, Bool, true, false, List, [], ◌∷◌, ◌++◌, map, length, Some, slice_get, refl, sym, ap, subst, arith, Contains, IsSome, if◌then◌else◌, is_some}
 use Rattle.std.proofs.lemmas.List.{length-append, length-map}
 use Rattle.std.proofs.lemmas.List.Elements.{All-contains}
-use Rattle.std.proofs.lemmas.Option.{slice_get_within}
 use Rattle.wit_relations.specs.Relation.{IsAcyclic, IsPath, Reaches, direct}
-use Rattle.wit_items.specs.Each.{Each, EachAt, SomeAt}
+use Rattle.wit_items.specs.Each.{Each, EachAt}
 use Rattle.wit_items.specs.Ownership.{IsOwn, Shows}
 use Rattle.wit_items.specs.Reference.{referred, type_references}
 use Rattle.wit_items.specs.declared.types.TypeDef.{TypeDef}
 use Rattle.wit_items.specs.declared.types.TypeOwner.{TypeOwner}
 use Rattle.wit_link.specs.Added.{Places, placed_type, placed_owner}
-use Rattle.wit_link.proofs.OwnerPlaces.{at_behind, at_below, at_map, at_new, Contains-map_cases, found_at, from_map, from_row, in_row, place_of, some_at}
+use Rattle.wit_link.proofs.OwnerPlaces.{at_behind, at_below, Contains-map_cases, found_at, from_map, from_row, in_row, place_of, some_at}
 use Rattle.wit_link.proofs.OwnerImages.{referred_placed}
 
 -- what a type refers to if it has no name
@@ -36,8 +35,8 @@ module _ (types more : List TypeDef) (acyclic : IsAcyclic (type_references types
       let from = from_row row (types ++ more) i k is.0 in
       let old : slice_get types i ≡ Some from.0 = at_below types more i from.0 within from.1 in
       let there : k < length (type_references types) =
-          All-contains (λ (t : ℕ). t < length (type_references types)) (direct (type_references types) i) k (acyclic.in_range i)
-          (in_row (λ (def : TypeDef). referred def.kind) types i from.0 k old (row_within (is_some from.0.name) (referred from.0.kind) k from.2)) in
+      All-contains (λ (t : ℕ). t < length (type_references types)) (direct (type_references types) i) k (acyclic.in_range i)
+      (in_row (λ (def : TypeDef). referred def.kind) types i from.0 k old (row_within (is_some from.0.name) (referred from.0.kind) k from.2)) in
       let below : k < length types = omega (arith, length-map types (λ (def : TypeDef). referred def.kind)) in
       let rest = path_old k path j below is.1 in
       ((in_row row types i from.0 k old from.2, rest.0), rest.1)
@@ -69,9 +68,9 @@ module _ (types us : List TypeDef) (p : Places) (earlier : EachAt (λ i (def : T
       let from = from_row row (types ++ map (placed_type p) us) k next is.0 in
       let def = from_map (placed_type p) us i from.0 (at_behind types (map (placed_type p) us) i k from.0 place from.1) in
       let image : row (placed_type p def.0) ≡ map p.types (row def.0) =
-          row_placed p (is_some def.0.name) (referred def.0.kind) (referred (placed_type p def.0).kind) (referred_placed p def.0.kind) in
+      row_placed p (is_some def.0.name) (referred def.0.kind) (referred (placed_type p def.0).kind) (referred_placed p def.0.kind) in
       let has : Contains (map p.types (row def.0)) next =
-          subst (λ (ids : List ℕ). Contains ids next) image (subst (λ (d : TypeDef). Contains (row d) next) (sym def.2) from.2) in
+      subst (λ (ids : List ℕ). Contains ids next) image (subst (λ (d : TypeDef). Contains (row d) next) (sym def.2) from.2) in
       let old = Contains-map_cases p.types (row def.0) next has in
       let among : Contains (referred def.0.kind) old.0 = row_within (is_some def.0.name) (referred def.0.kind) old.0 old.1 in
       let spot = place_of (referred def.0.kind) old.0 among in

@@ -1,5 +1,5 @@
 -- Which types and functions belong to whom, in a graph with a supported package added.
-use Rattle.std.proofs.Common.{◌≡◌, ◌∙◌, ◌≢◌, ℕ, zero, suc, ◌+◌, ◌<◌, List, [], ◌∷◌, ◌++◌, map, length, get_or, Option, None, Some, slice_get, refl, sym, ap, subst, arith, inl, inr, Contains}
+use Rattle.std.proofs.Common.{◌≡◌, ◌∙◌, ℕ, zero, suc, ◌+◌, ◌<◌, List, [], ◌∷◌, ◌++◌, map, length, Option, None, Some, slice_get, refl, sym, ap, subst, arith, inl, inr, Contains}
 use Rattle.std.proofs.lemmas.Bool.{cases_lt}
 use Rattle.std.specs.List.{IsDistinct, flat_map}
 use Rattle.std.specs.Map.{keys_of}
@@ -7,8 +7,7 @@ use Rattle.std.specs.Str.{bytes_eq}
 use Rattle.std.proofs.lemmas.Map.Made.{AllPairs-from_IsDistinct}
 use Rattle.std.proofs.lemmas.Option.{slice_get_within, get_or_from_slice_get}
 use Rattle.std.proofs.lemmas.Slice.Eq.{bytes_eq-Decides}
-use Rattle.wit_values.specs.Lists.{slice_get-append}
-use Rattle.wit_items.specs.Each.{Each, EachAt, SomeAt}
+use Rattle.wit_items.specs.Each.{Each}
 use Rattle.wit_items.specs.Entries.{Entry}
 use Rattle.wit_items.specs.Ownership.{IsListed, IsTypeOf, ListsOwn, NamesFunctions, listed_type, world_types}
 use Rattle.wit_items.specs.Shape.{IsShaped}
@@ -27,7 +26,7 @@ use Rattle.wit_graph.specs.Valid.{HasDistinctKeys, HasOwners, IsValid}
 use Rattle.wit_graph.specs.declared.graph.Graph.{Graph}
 use Rattle.wit_link.specs.Added.{Added, NamesDiffer, Places, next_places, placed_function, placed_interface, placed_owner, placed_type}
 use Rattle.wit_link.specs.Supported.{IsSupported, IsSupportedImport}
-use Rattle.wit_link.proofs.OwnerPlaces.{at_map, Contains-map, Each-joined, Each-map, EachAt-joined, SomeAt-new, SomeAt-old, found_at, from_map, next_id}
+use Rattle.wit_link.proofs.OwnerPlaces.{Contains-map, Each-joined, Each-map, EachAt-joined, SomeAt-new, SomeAt-old, found_at, from_map, next_id}
 
 -- ---- names that differ
 
@@ -110,8 +109,8 @@ module _ (g : Graph) (u : UnresolvedPackage) (p : Places) (finished : List World
       SomeAt-new (placed_interface p) (λ (interface : Interface). Contains interface.types (name, i)) (λ (interface : Interface). Contains interface.types (name, length g.types + i)) g.interfaces u.interfaces
       f (p.interfaces f) (interfaces_at f inside)
       (λ interface has.
-          subst (λ (t : ℕ). Contains (placed_interface p interface).types (name, t)) (types_at i within)
-          (Contains-map (λ (e : List ℕ × ℕ). (e.0, p.types e.1)) interface.types (name, i) has))
+      subst (λ (t : ℕ). Contains (placed_interface p interface).types (name, t)) (types_at i within)
+      (Contains-map (λ (e : List ℕ × ℕ). (e.0, p.types e.1)) interface.types (name, i) has))
       listed
   listed_new i None (owner.World w) within listed = listed
   listed_new i (Some name) (owner.World w) within listed =
@@ -124,13 +123,13 @@ module _ (g : Graph) (u : UnresolvedPackage) (p : Places) (finished : List World
   lists_new f interface within own =
       Each-map (λ (e : List ℕ × ℕ). (e.0, p.types e.1)) (λ (e : List ℕ × ℕ). IsTypeOf all_types (owner.Interface (length g.interfaces + f)) e.0 e.1) interface.types
       (λ i e at.
-          let listed : IsTypeOf u.types (owner.Interface f) e.0 e.1 = own i e at in
-          let there = found_at (λ (def : TypeDef). (def.name ≡ Some e.0) × (def.owner ≡ owner.Interface f)) u.types e.1 listed in
-          SomeAt-new (placed_type p) (λ (def : TypeDef). (def.name ≡ Some e.0) × (def.owner ≡ owner.Interface f))
-          (λ (def : TypeDef). (def.name ≡ Some e.0) × (def.owner ≡ owner.Interface (length g.interfaces + f))) g.types u.types e.1 (p.types e.1)
-          (types_at e.1 (slice_get_within u.types e.1 there.0 there.1))
-          (λ def is. (is.0, ap (placed_owner p) is.1 ∙ ap owner.Interface (interfaces_at f within)))
-          listed)
+      let listed : IsTypeOf u.types (owner.Interface f) e.0 e.1 = own i e at in
+      let there = found_at (λ (def : TypeDef). (def.name ≡ Some e.0) × (def.owner ≡ owner.Interface f)) u.types e.1 listed in
+      SomeAt-new (placed_type p) (λ (def : TypeDef). (def.name ≡ Some e.0) × (def.owner ≡ owner.Interface f))
+      (λ (def : TypeDef). (def.name ≡ Some e.0) × (def.owner ≡ owner.Interface (length g.interfaces + f))) g.types u.types e.1 (p.types e.1)
+      (types_at e.1 (slice_get_within u.types e.1 there.0 there.1))
+      (λ def is. (is.0, ap (placed_owner p) is.1 ∙ ap owner.Interface (interfaces_at f within)))
+      listed)
 
   names_new : (interface : Interface) → NamesFunctions interface → NamesFunctions (placed_interface p interface)
   names_new interface named =
@@ -163,7 +162,7 @@ pub HasOwners-of_added : (g : Graph) (u : UnresolvedPackage) (offset : ℕ) (new
 HasOwners-of_added g u offset new valid shaped supported differ added =
     let p = next_places g u offset in
     let all = owners g u p added.finished shaped supported
-        (λ t within. next_id (length g.types) (length u.types) t within)
-        (λ f within. next_id (length g.interfaces) (length u.interfaces) f within)
-        valid.well_formed.owners differ in
+    (λ t within. next_id (length g.types) (length u.types) t within)
+    (λ f within. next_id (length g.interfaces) (length u.interfaces) f within)
+    valid.well_formed.owners differ in
     rw (added.types_are, added.interfaces_are, added.worlds_are) all

@@ -1,9 +1,9 @@
 -- What types and functions refer to, in a graph with a supported package added.
-use Rattle.std.proofs.Common.{◌≡◌, ◌∙◌, ◌≢◌, ◌⊎◌, inl, inr, ℕ, ◌+◌, ◌<◌, List, [], ◌∷◌, ◌++◌, map, length, Option, None, Some, option_map, slice_get, refl, sym, ap, subst, IfSome, IsSome}
+use Rattle.std.proofs.Common.{◌≡◌, ◌≢◌, ◌⊎◌, inl, inr, ℕ, ◌+◌, ◌<◌, List, ◌++◌, map, length, Option, None, Some, option_map, sym, ap, subst, IfSome, IsSome}
 use Rattle.std.proofs.lemmas.Option.{slice_get_within}
 use Rattle.wit_relations.specs.Relation.{IsAcyclic}
-use Rattle.wit_items.specs.Each.{Each, EachAt, SomeAt}
-use Rattle.wit_items.specs.Ownership.{AliasesNamed, FunctionsUseOwn, IsNamed, IsNamedInterface, IsOwn, IsPlain, RefersToOwn, UsesOwn, parts}
+use Rattle.wit_items.specs.Each.{Each, SomeAt}
+use Rattle.wit_items.specs.Ownership.{AliasesNamed, FunctionsUseOwn, IsNamedInterface, IsOwn, IsPlain, RefersToOwn, UsesOwn, parts}
 use Rattle.wit_items.specs.Reference.{function_references, type_references}
 use Rattle.wit_items.specs.Shape.{IsShaped}
 use Rattle.wit_items.specs.Uses.{alias_target}
@@ -16,7 +16,7 @@ use Rattle.wit_items.specs.declared.types.TypeOwner.TheVariants as owner
 use Rattle.wit_items.specs.declared.unresolved.UnresolvedPackage.{UnresolvedPackage}
 use Rattle.wit_graph.specs.Valid.{HasReferences, IsValid}
 use Rattle.wit_graph.specs.declared.graph.Graph.{Graph}
-use Rattle.wit_link.specs.Added.{Added, NamesDiffer, Places, next_places, placed_function, placed_interface, placed_kind, placed_owner, placed_type}
+use Rattle.wit_link.specs.Added.{Added, NamesDiffer, Places, next_places, placed_function, placed_interface, placed_owner, placed_type}
 use Rattle.wit_link.specs.Supported.{IsSupported}
 use Rattle.wit_link.proofs.OwnerImages.{alias_placed, function_placed, known_placed, parts_placed, plain_placed}
 use Rattle.wit_link.proofs.OwnerPlaces.{Each-joined, Each-map, EachAt-joined, SomeAt-new, SomeAt-old, found_at, next_id}
@@ -100,9 +100,9 @@ module _ (g : Graph) (u : UnresolvedPackage) (p : Places) (shaped : IsShaped u) 
   functions_new f interface within own =
       Each-map (λ (e : List ℕ × Function). (e.0, placed_function p e.1)) (λ (e : List ℕ × Function). UsesOwn all_types (owner.Interface (length g.interfaces + f)) e.1) interface.functions
       (λ i e at.
-          subst (λ (place : ℕ). UsesOwn all_types (owner.Interface place) (placed_function p e.1)) (interfaces_at f within)
-          (subst (Each (IsOwn all_types (owner.Interface (p.interfaces f)))) (sym (function_placed p e.1))
-          (Each-map p.types (IsOwn all_types (owner.Interface (p.interfaces f))) (function_references e.1) (λ j t there. owns_new (owner.Interface f) t (own i e at j t there)))))
+      subst (λ (place : ℕ). UsesOwn all_types (owner.Interface place) (placed_function p e.1)) (interfaces_at f within)
+      (subst (Each (IsOwn all_types (owner.Interface (p.interfaces f)))) (sym (function_placed p e.1))
+      (Each-map p.types (IsOwn all_types (owner.Interface (p.interfaces f))) (function_references e.1) (λ j t there. owns_new (owner.Interface f) t (own i e at j t there)))))
 
   references : HasReferences g.types g.interfaces → IsAcyclic (type_references g.types) → HasReferences all_types all_interfaces
   references old acyclic = record {
@@ -133,9 +133,9 @@ pub HasReferences-of_added : (g : Graph) (u : UnresolvedPackage) (offset : ℕ) 
     → HasReferences new.types new.interfaces
 HasReferences-of_added g u offset new valid shaped supported differ added =
     let all = references g u (next_places g u offset) shaped supported
-        (λ t within. next_id (length g.types) (length u.types) t within)
-        (λ f within. next_id (length g.interfaces) (length u.interfaces) f within)
-        valid.well_formed.references valid.no_cycles.types in
+    (λ t within. next_id (length g.types) (length u.types) t within)
+    (λ f within. next_id (length g.interfaces) (length u.interfaces) f within)
+    valid.well_formed.references valid.no_cycles.types in
     rw (added.types_are, added.interfaces_are) all
 
 -- each type's kind stays known
@@ -143,7 +143,7 @@ pub known-of_added : (g : Graph) (u : UnresolvedPackage) (offset : ℕ) (new : G
     → Each (λ (def : TypeDef). def.kind ≢ kind.Unknown) new.types
 known-of_added g u offset new valid shaped supported differ added =
     let all = known g u (next_places g u offset) shaped supported
-        (λ t within. next_id (length g.types) (length u.types) t within)
-        (λ f within. next_id (length g.interfaces) (length u.interfaces) f within)
-        valid.known in
+    (λ t within. next_id (length g.types) (length u.types) t within)
+    (λ f within. next_id (length g.interfaces) (length u.interfaces) f within)
+    valid.known in
     rw added.types_are all
