@@ -1,4 +1,5 @@
 mod Acceptance
+mod AllActive
 mod CauseExamples
 mod Examples
 mod HasImage
@@ -6,4 +7,5 @@ mod ImageExamples
 mod IncludeExamples
 mod Listed
 mod PushExamples
+mod PushedLists
 mod WorldCauseExamples
