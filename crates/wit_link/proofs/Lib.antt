@@ -6,6 +6,7 @@ mod HasImage
 mod ImageExamples
 mod IncludeExamples
 mod Listed
+mod PlacedImages
 mod PushExamples
 mod PushedLists
 mod WorldCauseExamples
