@@ -7,6 +7,7 @@ mod ImageExamples
 mod IncludeExamples
 mod Listed
 mod PlacedImages
+mod PlacedMaps
 mod PushExamples
 mod PushedLists
 mod WorldCauseExamples
