@@ -1,4 +1,5 @@
 mod Acceptance
+mod AllActive
 mod CauseExamples
 mod Examples
 mod HasImage
@@ -9,6 +10,9 @@ mod OwnerImages
 mod OwnerPlaces
 mod OwnerReach
 mod OwnersStay
+mod PlacedImages
+mod PlacedMaps
 mod PushExamples
+mod PushedLists
 mod ReferencesStay
 mod WorldCauseExamples
