@@ -18,6 +18,7 @@ pub mod ImportsAgain
 pub mod Keys
 pub mod WorldExamples
 pub mod WorldLaws
+pub mod MadeEntries
 pub mod Marking
 pub mod OneWalk
 pub mod Order

@@ -2,7 +2,7 @@
 //! what is proved.
 ghost use Rattle.wit_graph.specs.ElaborationExamples.{WorkedConflicts, WorkedElaborations};
 ghost use Rattle.wit_graph.specs.ElaborationLaws.{ConflictsAreRefused, ElaboratesOnce, ImportsAreExact, ImportsKeepOrder, OrderIsFree};
-ghost use Rattle.wit_graph.specs.KeptByElaboration.{ElaborationIsLocal};
+ghost use Rattle.wit_graph.specs.KeptByElaboration.{ElaboratedEntries, ElaborationIsLocal};
 ghost use Rattle.wit_graph.specs.Examples.{ExamplesOfQuestions, ExamplesOfRelations, ExamplesOfValidity};
 
 /// Elaborating an elaborated world changes nothing.
@@ -46,6 +46,12 @@ pub fn conflicts_are_refused()
 /// change no elaboration.
 pub fn elaboration_is_local()
     ensures { ElaborationIsLocal }
+{}
+
+/// Each import of an elaborated world was listed or is a dependency that is used, and each export was
+/// listed or is a dependency under an exported key.
+pub fn elaborated_entries()
+    ensures { ElaboratedEntries }
 {}
 
 /// Small graphs: which are valid and which aren't.
