@@ -19,6 +19,7 @@ pub mod Keys
 pub mod WorldExamples
 pub mod WorldLaws
 pub mod MadeEntries
+pub mod ElaboratedKeys
 pub mod Marking
 pub mod OneWalk
 pub mod Order

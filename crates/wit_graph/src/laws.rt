@@ -2,7 +2,7 @@
 //! what is proved.
 ghost use Rattle.wit_graph.specs.ElaborationExamples.{WorkedConflicts, WorkedElaborations};
 ghost use Rattle.wit_graph.specs.ElaborationLaws.{ConflictsAreRefused, ElaboratesOnce, ImportsAreExact, ImportsKeepOrder, OrderIsFree};
-ghost use Rattle.wit_graph.specs.KeptByElaboration.{ElaboratedEntries, ElaborationIsLocal};
+ghost use Rattle.wit_graph.specs.KeptByElaboration.{ElaboratedEntries, ElaboratedOnce, ElaborationIsLocal, ExportKeysStay};
 ghost use Rattle.wit_graph.specs.Examples.{ExamplesOfQuestions, ExamplesOfRelations, ExamplesOfValidity};
 
 /// Elaborating an elaborated world changes nothing.
@@ -52,6 +52,17 @@ pub fn elaboration_is_local()
 /// listed or is a dependency under an exported key.
 pub fn elaborated_entries()
     ensures { ElaboratedEntries }
+{}
+
+/// No two imports of an elaborated world have one key, nor have two exports where no two of those
+/// listed had.
+pub fn elaborated_once()
+    ensures { ElaboratedOnce }
+{}
+
+/// The keys of the exports are those that were listed.
+pub fn export_keys_stay()
+    ensures { ExportKeysStay }
 {}
 
 /// Small graphs: which are valid and which aren't.
