@@ -2,7 +2,7 @@
 //! what is proved.
 ghost use Rattle.wit_graph.specs.ElaborationExamples.{WorkedConflicts, WorkedElaborations};
 ghost use Rattle.wit_graph.specs.ElaborationLaws.{ConflictsAreRefused, ElaboratesOnce, ImportsAreExact, ImportsKeepOrder, OrderIsFree};
-ghost use Rattle.wit_graph.specs.KeptByElaboration.{ElaboratedEntries, ElaboratedOnce, ElaborationIsLocal, ExportKeysStay};
+ghost use Rattle.wit_graph.specs.KeptByElaboration.{ElaboratedEntries, ElaboratedOnce, ElaborationIsLocal, ExportKeysStay, ImportsAreLeast};
 ghost use Rattle.wit_graph.specs.Examples.{ExamplesOfQuestions, ExamplesOfRelations, ExamplesOfValidity};
 
 /// Elaborating an elaborated world changes nothing.
@@ -63,6 +63,12 @@ pub fn elaborated_once()
 /// The keys of the exports are those that were listed.
 pub fn export_keys_stay()
     ensures { ExportKeysStay }
+{}
+
+/// The interfaces that an elaborated world imports are the least list that has those where the listed
+/// imports begin and those that the exports need, and with each one all that it uses.
+pub fn imports_are_least()
+    ensures { ImportsAreLeast }
 {}
 
 /// Small graphs: which are valid and which aren't.
