@@ -20,6 +20,7 @@ pub mod WorldExamples
 pub mod WorldLaws
 pub mod MadeEntries
 pub mod ElaboratedKeys
+pub mod Labels
 pub mod LeastImports
 pub mod Marking
 pub mod OneWalk

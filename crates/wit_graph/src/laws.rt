@@ -2,7 +2,7 @@
 //! what is proved.
 ghost use Rattle.wit_graph.specs.ElaborationExamples.{WorkedConflicts, WorkedElaborations};
 ghost use Rattle.wit_graph.specs.ElaborationLaws.{ConflictsAreRefused, ElaboratesOnce, ImportsAreExact, ImportsKeepOrder, OrderIsFree};
-ghost use Rattle.wit_graph.specs.KeptByElaboration.{ElaboratedEntries, ElaboratedOnce, ElaborationIsLocal, ExportKeysStay, ImportsAreLeast};
+ghost use Rattle.wit_graph.specs.KeptByElaboration.{ElaboratedEntries, ElaboratedOnce, ElaborationIsLocal, ExportKeysStay, ImportsAreLeast, LabelsStay};
 ghost use Rattle.wit_graph.specs.Examples.{ExamplesOfQuestions, ExamplesOfRelations, ExamplesOfValidity};
 
 /// Elaborating an elaborated world changes nothing.
@@ -69,6 +69,11 @@ pub fn export_keys_stay()
 /// imports begin and those that the exports need, and with each one all that it uses.
 pub fn imports_are_least()
     ensures { ImportsAreLeast }
+{}
+
+/// The imports under labels are those that were listed, by class.
+pub fn labels_stay()
+    ensures { LabelsStay }
 {}
 
 /// Small graphs: which are valid and which aren't.
