@@ -26,7 +26,7 @@ use Rattle.wit_graph.proofs.Roles.{InOrder, instance_from_role, role_of-settled,
 use Rattle.wit_graph.proofs.Steps.{import_steps_first, import_steps_below, needs_below}
 
 -- the key of an entry is among the keys
-keys-Contains : (es : List Entry) (e : Entry) → Contains es e → Contains (keys_of es) e.0
+pub keys-Contains : (es : List Entry) (e : Entry) → Contains es e → Contains (keys_of es) e.0
 keys-Contains [] e has = absurd (Contains-nil has)
 keys-Contains (d ∷ es) e has =
     elim (Contains-cons_cases d e es has)

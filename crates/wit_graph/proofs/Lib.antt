@@ -11,11 +11,17 @@ pub mod Filters
 pub mod FirstClasses
 pub mod FirstConflict
 pub mod FreshEntries
+pub mod GrowingElaboration
+pub mod GrowingUses
 pub mod Importing
 pub mod ImportsAgain
 pub mod Keys
 pub mod WorldExamples
 pub mod WorldLaws
+pub mod MadeEntries
+pub mod ElaboratedKeys
+pub mod Labels
+pub mod LeastImports
 pub mod Marking
 pub mod OneWalk
 pub mod Order
