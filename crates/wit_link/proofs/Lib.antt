@@ -1,9 +1,11 @@
 mod Acceptance
 mod CauseExamples
+mod CyclePlaces
 mod Examples
 mod HasImage
 mod ImageExamples
 mod IncludeExamples
+mod JoinedRows
 mod Listed
 mod PushExamples
 mod WorldCauseExamples
