@@ -1,7 +1,6 @@
 -- Where the things of an added package go, and what stands there.
-use Rattle.std.proofs.Common.{◌≡◌, ◌∙◌, ℕ, ◌+◌, ◌<◌, ◌==◌, zero, suc, Bool, true, false, List, [], ◌∷◌, ◌++◌, map, length, Option, Some, None, IsSomeAnd, option_map, filter_map, slice_get, refl, ap, sym, subst, arith, eqb, eqb-true, eq-eqb, ne_eqb}
-use Rattle.std.specs.List.{range_with_len}
-use Rattle.wit_values.specs.Lists.{slice_get-append}
+use Rattle.std.proofs.Common.{◌≡◌, ◌∙◌, ℕ, ◌+◌, ◌<◌, ◌==◌, zero, suc, Bool, true, false, List, [], ◌∷◌, ◌++◌, map, length, Option, Some, None, IsSomeAnd, option_map, filter_map, slice_get, refl, ap, sym, arith, eqb-true, eq-eqb, ne_eqb}
+use Rattle.std.specs.List.{cons_option}
 use Rattle.wit_items.specs.Each.{Each}
 use Rattle.wit_link.specs.Added.{new_id, next_ids, id_or}
 
@@ -56,7 +55,7 @@ module _ {X Y Z W : Type 0} where
   filter_map_commutes f h k e (x ∷ xs) each = by (f (h x)) (e x) (each 0 x refl) (filter_map_commutes f h k e xs (λ i z at. each (suc i) z at))
     where
       by : (o : Option Z) (p : Option W) → o ≡ option_map k p → filter_map f (map h xs) ≡ map k (filter_map e xs)
-          → filter_map (λ (y : Option Z). y) (o ∷ []) ++ filter_map f (map h xs) ≡ map k (filter_map (λ (y : Option W). y) (p ∷ []) ++ filter_map e xs)
+          → cons_option o (filter_map f (map h xs)) ≡ map k (cons_option p (filter_map e xs))
       by None None is rest = rest
       by None (Some w) is rest = cc
       by (Some z) None is rest = cc

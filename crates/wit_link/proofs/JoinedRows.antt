@@ -1,5 +1,5 @@
 -- Rows behind other rows: where both are acyclic, and the ones behind are moved up past the ones before.
-use Rattle.std.proofs.Common.{◌≡◌, ◌∙◌, ◌⊎◌, inl, inr, ℕ, ◌+◌, ◌-◌, ◌<◌, ◌≤◌, zero, suc, List, [], ◌∷◌, ◌++◌, map, length, refl, ap, sym, subst, arith, Contains, All}
+use Rattle.std.proofs.Common.{◌≡◌, ◌∙◌, ◌⊎◌, inl, inr, ℕ, ◌+◌, ◌-◌, ◌<◌, zero, suc, List, [], ◌∷◌, ◌++◌, map, length, refl, ap, sym, subst, arith, Contains, All}
 use Rattle.std.proofs.lemmas.Bool.{cases_lt}
 use Rattle.std.proofs.lemmas.List.{get_or_append_left, get_or-append-add, length-append, length-map}
 use Rattle.std.proofs.lemmas.List.Elements.{All-contains, All-map, All-weaker, All-same}
@@ -81,9 +81,9 @@ module _ (uses rows : List (List ℕ)) (acyclic : IsAcyclic uses) (acyclic_rows 
         | inr past ↦
             let at : i ≡ length uses + (i - length uses) = omega (arith, past) in
             All-same (λ j. j < length (uses ++ moved_rows (length uses) rows)) (direct (uses ++ moved_rows (length uses) rows) i) (map (λ j. length uses + j) (direct rows (i - length uses)))
-                (ap (direct (uses ++ moved_rows (length uses) rows)) at ∙ direct_right uses rows (i - length uses))
-                (All-map (λ j. j < length (uses ++ moved_rows (length uses) rows)) (λ j. length uses + j) (direct rows (i - length uses))
-                (All-weaker (λ j. j < length rows) (λ j. length uses + j < length (uses ++ moved_rows (length uses) rows)) (λ j within. omega (arith, joined_length, within)) (direct rows (i - length uses)) (acyclic_rows.in_range (i - length uses))))
+            (ap (direct (uses ++ moved_rows (length uses) rows)) at ∙ direct_right uses rows (i - length uses))
+            (All-map (λ j. j < length (uses ++ moved_rows (length uses) rows)) (λ j. length uses + j) (direct rows (i - length uses))
+            (All-weaker (λ j. j < length rows) (λ j. length uses + j < length (uses ++ moved_rows (length uses) rows)) (λ j within. omega (arith, joined_length, within)) (direct rows (i - length uses)) (acyclic_rows.in_range (i - length uses))))
       ]
 
   no_cycle_behind : (m k : ℕ) (path : List ℕ) → IsPath (uses ++ moved_rows (length uses) rows) (length uses + m) (k ∷ path) (length uses + m) → ⊥

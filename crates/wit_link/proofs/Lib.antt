@@ -8,4 +8,5 @@ mod IncludeExamples
 mod JoinedRows
 mod Listed
 mod PushExamples
+mod UsesStay
 mod WorldCauseExamples
