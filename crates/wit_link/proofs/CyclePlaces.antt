@@ -1,6 +1,6 @@
 -- Where the things of an added package go, and what stands there.
 use Rattle.std.proofs.Common.{◌≡◌, ◌∙◌, ℕ, ◌+◌, ◌<◌, ◌==◌, zero, suc, Bool, true, false, List, [], ◌∷◌, ◌++◌, map, length, Option, Some, None, IsSomeAnd, option_map, filter_map, slice_get, refl, ap, sym, arith, eqb-true, eq-eqb, ne_eqb}
-use Rattle.std.specs.List.{cons_option}
+use Rattle.std.specs.List.{AllByRecursion, cons_option, flat_map}
 use Rattle.wit_items.specs.Each.{Each}
 use Rattle.wit_link.specs.Added.{new_id, next_ids, id_or}
 
@@ -81,3 +81,18 @@ same_test n i j = by (i == j) refl
     by : (b : Bool) → (i == j) ≡ b → ((n + i) == (n + j)) ≡ (i == j)
     by true is = let same : i ≡ j = eqb-true i j is in eq-eqb (n + i) (n + j) (ap (λ (k : ℕ). n + k) same) ∙ sym is
     by false is = ne_eqb (n + i) (n + j) (λ both. let same : i ≡ j = omega (arith, both) in let yes_is : (i == j) ≡ true = eq-eqb i j same in cc) ∙ sym is
+
+-- ---- what holds of each element
+
+module _ {X : Type 0} (P : X → Type 0) where
+  pub all_appended : (xs ys : List X) → AllByRecursion P xs → AllByRecursion P ys → AllByRecursion P (xs ++ ys)
+  all_appended [] ys first second = second
+  all_appended (x ∷ xs) ys first second = (first.0, all_appended xs ys first.1 second)
+
+  pub all_images : {W : Type 0} (h : W → X) (ws : List W) → Each (λ w. P (h w)) ws → AllByRecursion P (map h ws)
+  all_images h [] each = tt
+  all_images h (w ∷ ws) each = (each 0 w refl, all_images h ws (λ i z at. each (suc i) z at))
+
+  pub all_flattened : {W : Type 0} (f : W → List X) (ws : List W) → Each (λ w. AllByRecursion P (f w)) ws → AllByRecursion P (flat_map f ws)
+  all_flattened f [] each = tt
+  all_flattened f (w ∷ ws) each = all_appended (f w) (flat_map f ws) (each 0 w refl) (all_flattened f ws (λ i z at. each (suc i) z at))
