@@ -1,6 +1,7 @@
 -- Where the things of an added package go, and what stands there.
 use Rattle.std.proofs.Common.{◌≡◌, ◌∙◌, ℕ, ◌+◌, ◌<◌, ◌==◌, zero, suc, Bool, true, false, List, [], ◌∷◌, ◌++◌, map, length, Option, Some, None, IsSomeAnd, option_map, filter_map, slice_get, refl, ap, sym, arith, eqb-true, eq-eqb, ne_eqb}
 use Rattle.std.specs.List.{AllByRecursion, cons_option, flat_map}
+use Rattle.std.proofs.lemmas.List.{map-append}
 use Rattle.wit_items.specs.Each.{Each}
 use Rattle.wit_link.specs.Added.{new_id, next_ids, id_or}
 
@@ -96,3 +97,17 @@ module _ {X : Type 0} (P : X → Type 0) where
   pub all_flattened : {W : Type 0} (f : W → List X) (ws : List W) → Each (λ w. AllByRecursion P (f w)) ws → AllByRecursion P (flat_map f ws)
   all_flattened f [] each = tt
   all_flattened f (w ∷ ws) each = all_appended (f w) (flat_map f ws) (each 0 w refl) (all_flattened f ws (λ i z at. each (suc i) z at))
+
+-- ---- more on images
+
+-- what stands among images is the image of what stands there
+pub at_map : {X Y : Type 0} (f : X → Y) (xs : List X) (i : ℕ) (y : Y) → slice_get (map f xs) i ≡ Some y → (x : X) × (slice_get xs i ≡ Some x) × (f x ≡ y)
+at_map f [] i y at = cc
+at_map f (x ∷ xs) zero y at = (x, refl, cc)
+at_map f (x ∷ xs) (suc i) y at = at_map f xs i y at
+
+pub flat_map_commutes : {X Y : Type 0} (f : Y → List ℕ) (h : X → Y) (k : ℕ → ℕ) (e : X → List ℕ) (xs : List X) → ((x : X) → f (h x) ≡ map k (e x)) → flat_map f (map h xs) ≡ map k (flat_map e xs)
+flat_map_commutes f h k e [] each = refl
+flat_map_commutes f h k e (x ∷ xs) each =
+    let rest = flat_map_commutes f h k e xs each in
+    (λ i. each x i ++ rest i) ∙ sym (map-append k (e x) (flat_map e xs))

@@ -8,5 +8,6 @@ mod IncludeExamples
 mod JoinedRows
 mod Listed
 mod PushExamples
+mod TypesStay
 mod UsesStay
 mod WorldCauseExamples
