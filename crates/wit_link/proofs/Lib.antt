@@ -7,6 +7,7 @@ mod ImageExamples
 mod IncludeExamples
 mod JoinedRows
 mod Listed
+mod PackagesStay
 mod PushExamples
 mod TypesStay
 mod UsesStay

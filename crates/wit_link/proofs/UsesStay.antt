@@ -58,13 +58,13 @@ dep_stays types more by (Some t) P there =
     named_dep_of (types ++ more) by t named.0 (slice_get-append types more t named.0 named.1) ∙ sym (named_dep_of types by t named.0 named.1)
 
 module _ (g : Graph) (valid : IsValid g) (more : List TypeDef) where
-  type_stays : (id : ℕ) (def : TypeDef) → slice_get g.types id ≡ Some def → type_interface_dep (g.types ++ more) id ≡ type_interface_dep g.types id
+  pub type_stays : (id : ℕ) (def : TypeDef) → slice_get g.types id ≡ Some def → type_interface_dep (g.types ++ more) id ≡ type_interface_dep g.types id
   type_stays id def at =
       dep_of (g.types ++ more) id def (slice_get-append g.types more id def at)
       ∙ dep_stays g.types more def.owner (alias_target def.kind) _ (valid.well_formed.references.aliases id def at)
       ∙ sym (dep_of g.types id def at)
 
-  interface_stays : (i : ℕ) (interface : Interface) → slice_get g.interfaces i ≡ Some interface → interface_uses (g.types ++ more) interface ≡ interface_uses g.types interface
+  pub interface_stays : (i : ℕ) (interface : Interface) → slice_get g.interfaces i ≡ Some interface → interface_uses (g.types ++ more) interface ≡ interface_uses g.types interface
   interface_stays i interface at =
       filter_map_agrees (λ (e : List ℕ × ℕ). type_interface_dep (g.types ++ more) e.1) (λ (e : List ℕ × ℕ). type_interface_dep g.types e.1) interface.types
       (λ k e on. let def = there_is (slice_get g.types e.1) _ (valid.well_formed.owners.own_types i interface at k e on) in type_stays e.1 def.0 def.1)
@@ -150,7 +150,7 @@ module _ (g : Graph) (u : UnresolvedPackage) (offset : ℕ) (shaped : IsShaped u
       ∙ target_moved def.owner (alias_target def.kind) _ (owner_below id def at) (shaped.references.aliases id def at)
       ∙ ap (option_map (λ j. length g.interfaces + j)) (sym (dep_of u.types id def at))
 
-  interface_moved : (i : ℕ) (interface : Interface) → slice_get u.interfaces i ≡ Some interface
+  pub interface_moved : (i : ℕ) (interface : Interface) → slice_get u.interfaces i ≡ Some interface
       → interface_uses all_types (placed_interface p interface) ≡ map (λ j. length g.interfaces + j) (interface_uses u.types interface)
   interface_moved i interface at =
       filter_map_commutes (λ (e : List ℕ × ℕ). type_interface_dep all_types e.1) (λ (e : List ℕ × ℕ). let r : List ℕ × ℕ = (e.0, p.types e.1) in r) (λ j. length g.interfaces + j)
