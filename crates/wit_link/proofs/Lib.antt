@@ -1,15 +1,18 @@
 mod Acceptance
 mod AllActive
 mod CauseExamples
+mod CyclePlaces
 mod Examples
 mod HasImage
 mod ImageExamples
 mod IncludeExamples
+mod JoinedRows
 mod Listed
 mod OwnerImages
 mod OwnerPlaces
 mod OwnerReach
 mod OwnersStay
+mod PackagesStay
 mod PlacedImages
 mod PlacedMaps
 mod Places
@@ -17,4 +20,6 @@ mod PushExamples
 mod PushedLists
 mod ReferencesStay
 mod Tables
+mod TypesStay
+mod UsesStay
 mod WorldCauseExamples
