@@ -8,6 +8,7 @@ mod IncludeExamples
 mod Listed
 mod PlacedImages
 mod PlacedMaps
+mod PlacedWorlds
 mod PushExamples
 mod PushedLists
 mod WorldCauseExamples
