@@ -1,4 +1,5 @@
 mod Acceptance
+mod AddedIsPushed
 mod AllActive
 mod CauseExamples
 mod Examples
