@@ -1,4 +1,5 @@
 mod Acceptance
+mod AddedIsPushed
 mod AllActive
 mod CauseExamples
 mod CyclePlaces
@@ -15,6 +16,7 @@ mod OwnersStay
 mod PackagesStay
 mod PlacedImages
 mod PlacedMaps
+mod PlacedWorlds
 mod Places
 mod PushExamples
 mod PushedLists

@@ -152,40 +152,40 @@ next_maps g u = record {
 }
 
 module _ (g : Graph) (u : UnresolvedPackage) (offset : ℕ) (types : List TypeDef) (shaped : IsShaped u) (supported : IsSupported u) (types_are : types ≡ g.types ++ map (placed_type (next_places g u offset)) u.types) where
-  abbrev P : Places
-  P = next_places g u offset
+  abbrev new_places : Places
+  new_places = next_places g u offset
 
   -- a type stands at its place
-  pub type_place : (t : ℕ) (def : TypeDef) → slice_get u.types t ≡ Some def → slice_get types (P.types t) ≡ Some (placed_type P def)
+  pub type_place : (t : ℕ) (def : TypeDef) → slice_get u.types t ≡ Some def → slice_get types (new_places.types t) ≡ Some (placed_type new_places def)
   type_place t def at =
-      ap (λ (l : List TypeDef). slice_get l (P.types t)) types_are
-      ∙ ap (slice_get (g.types ++ map (placed_type P) u.types)) (next_id_is (length g.types) (length u.types) t (below_length u.types t def at))
-      ∙ slice_get-after g.types (map (placed_type P) u.types) t
-      ∙ slice_get-map (placed_type P) u.types t
-      ∙ ap (option_map (placed_type P)) at
+      ap (λ (l : List TypeDef). slice_get l (new_places.types t)) types_are
+      ∙ ap (slice_get (g.types ++ map (placed_type new_places) u.types)) (next_id_is (length g.types) (length u.types) t (below_length u.types t def at))
+      ∙ slice_get-after g.types (map (placed_type new_places) u.types) t
+      ∙ slice_get-map (placed_type new_places) u.types t
+      ∙ ap (option_map (placed_type new_places)) at
 
   -- what it is another name of
-  alias_row : (t : ℕ) (def : TypeDef) → slice_get u.types t ≡ Some def → direct (alias_rows types) (P.types t) ≡ option_to_list (alias_target (placed_kind P def.kind))
+  alias_row : (t : ℕ) (def : TypeDef) → slice_get u.types t ≡ Some def → direct (alias_rows types) (new_places.types t) ≡ option_to_list (alias_target (placed_kind new_places def.kind))
   alias_row t def at =
-      index_or_at (alias_rows types) (P.types t) (option_to_list (alias_target (placed_kind P def.kind))) []
-      (slice_get-map (λ (d : TypeDef). option_to_list (alias_target d.kind)) types (P.types t) ∙ ap (option_map (λ (d : TypeDef). option_to_list (alias_target d.kind))) (type_place t def at))
+      index_or_at (alias_rows types) (new_places.types t) (option_to_list (alias_target (placed_kind new_places def.kind))) []
+      (slice_get-map (λ (d : TypeDef). option_to_list (alias_target d.kind)) types (new_places.types t) ∙ ap (option_map (λ (d : TypeDef). option_to_list (alias_target d.kind))) (type_place t def at))
 
-  leads_nowhere : (t : ℕ) (def : TypeDef) (path : List ℕ) (r : ℕ) → slice_get u.types t ≡ Some def → IsPath (alias_rows types) (P.types t) path r
+  leads_nowhere : (t : ℕ) (def : TypeDef) (path : List ℕ) (r : ℕ) → slice_get u.types t ≡ Some def → IsPath (alias_rows types) (new_places.types t) path r
       → SomeAt types r (λ (d : TypeDef). d.kind ≡ kind.Resource) → ⊥
   leads_nowhere t def [] r at leads resource =
       let there = is_there types r (λ (d : TypeDef). d.kind ≡ kind.Resource) resource in
-      let placed : Some (placed_type P def) ≡ Some there.0 = sym (type_place t def at) ∙ ap (slice_get types) leads ∙ there.1 in
-      let same : placed_type P def ≡ there.0 = cc in
-      not_resource P def.kind (supported.types t def at).data_kind (ap (λ (d : TypeDef). d.kind) same ∙ there.2)
+      let placed : Some (placed_type new_places def) ≡ Some there.0 = sym (type_place t def at) ∙ ap (slice_get types) leads ∙ there.1 in
+      let same : placed_type new_places def ≡ there.0 = cc in
+      not_resource new_places def.kind (supported.types t def at).data_kind (ap (λ (d : TypeDef). d.kind) same ∙ there.2)
   leads_nowhere t def (k ∷ path) r at leads resource =
-      let inside : Contains (option_to_list (alias_target (placed_kind P def.kind))) k = subst (λ (row : List ℕ). Contains row k) (alias_row t def at) leads.0 in
-      let source = alias_source P def.kind k (in_option (alias_target (placed_kind P def.kind)) k inside) in
+      let inside : Contains (option_to_list (alias_target (placed_kind new_places def.kind))) k = subst (λ (row : List ℕ). Contains row k) (alias_row t def at) leads.0 in
+      let source = alias_source new_places def.kind k (in_option (alias_target (placed_kind new_places def.kind)) k inside) in
       let earlier : source.0 < t = shaped.references.earlier t def at 0 source.0 source.2 in
       let below : t < length u.types = below_length u.types t def at in
       let there = at_below u.types source.0 (omega arith) in
       leads_nowhere source.0 there.0 path r there.1 (subst (λ (i : ℕ). IsPath (alias_rows types) i path r) (sym source.1) leads.1) resource
 
-  pub go_to_places : GoToPlaces types P (next_maps g u) (length u.types) (length u.interfaces) (length u.worlds)
+  pub go_to_places : GoToPlaces types new_places (next_maps g u) (length u.types) (length u.interfaces) (length u.worlds)
   go_to_places = record {
     types_go = goes_next (length g.types) (length u.types);
     interfaces_go = goes_next (length g.interfaces) (length u.interfaces);
@@ -194,13 +194,13 @@ module _ (g : Graph) (u : UnresolvedPackage) (offset : ℕ) (types : List TypeDe
   }
 
   -- a type at its place is its image
-  pub type_image_at : (t : ℕ) (def : TypeDef) → slice_get u.types t ≡ Some def → IsImage types (next_maps g u) offset def (P.types t)
+  pub type_image_at : (t : ℕ) (def : TypeDef) → slice_get u.types t ≡ Some def → IsImage types (next_maps g u) offset def (new_places.types t)
   type_image_at t def at =
       let data_kind : IsData def.kind = (supported.types t def at).data_kind in
       let below : t < length u.types = below_length u.types t def at in
-      placed_image types P (next_maps g u) (length u.types) (length u.interfaces) (length u.worlds) go_to_places def (P.types t) data_kind
-      (some_at types (P.types t) (placed_type P def) (IsTypeImage types (next_maps g u) offset def) (type_place t def at)
-      (placed_type_image types P (next_maps g u) (length u.types) (length u.interfaces) (length u.worlds) go_to_places def data_kind
+      placed_image types new_places (next_maps g u) (length u.types) (length u.interfaces) (length u.worlds) go_to_places def (new_places.types t) data_kind
+      (some_at types (new_places.types t) (placed_type new_places def) (IsTypeImage types (next_maps g u) offset def) (type_place t def at)
+      (placed_type_image types new_places (next_maps g u) (length u.types) (length u.interfaces) (length u.worlds) go_to_places def data_kind
       (λ i id refers. let earlier : id < t = shaped.references.earlier t def at i id refers in omega arith)
       (owner_below u.interfaces u.worlds t def.name def.owner (shaped.owners.listed t def at))))
 
@@ -215,9 +215,9 @@ module _ (g : Graph) (u : UnresolvedPackage) (offset : ℕ) (types : List TypeDe
     own_interfaces = own_ids u.interfaces (length g.interfaces) (active_interfaces features u) (all_interfaces features u supported);
     own_worlds = own_ids u.worlds (length g.worlds) (active_worlds features u) (all_worlds features u supported);
     own_types = λ t def at own active. (
-      P.types t,
+      new_places.types t,
       goes_next (length g.types) (length u.types) t (below_length u.types t def at),
-      (let new : P.types t ≡ length g.types + t = next_id_is (length g.types) (length u.types) t (below_length u.types t def at) in omega arith),
+      (let new : new_places.types t ≡ length g.types + t = next_id_is (length g.types) (length u.types) t (below_length u.types t def at) in omega arith),
       type_image_at t def at,
     );
     distinct = λ s t t' a name at named above first second.
