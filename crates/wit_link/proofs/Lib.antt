@@ -6,4 +6,6 @@ mod ImageExamples
 mod IncludeExamples
 mod Listed
 mod PushExamples
+mod TablePlaces
+mod TablesStay
 mod WorldCauseExamples
