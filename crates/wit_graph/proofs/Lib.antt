@@ -11,6 +11,8 @@ pub mod Filters
 pub mod FirstClasses
 pub mod FirstConflict
 pub mod FreshEntries
+pub mod GrowingElaboration
+pub mod GrowingUses
 pub mod Importing
 pub mod ImportsAgain
 pub mod Keys

@@ -2,6 +2,7 @@
 //! what is proved.
 ghost use Rattle.wit_graph.specs.ElaborationExamples.{WorkedConflicts, WorkedElaborations};
 ghost use Rattle.wit_graph.specs.ElaborationLaws.{ConflictsAreRefused, ElaboratesOnce, ImportsAreExact, ImportsKeepOrder, OrderIsFree};
+ghost use Rattle.wit_graph.specs.KeptByElaboration.{ElaborationIsLocal};
 ghost use Rattle.wit_graph.specs.Examples.{ExamplesOfQuestions, ExamplesOfRelations, ExamplesOfValidity};
 
 /// Elaborating an elaborated world changes nothing.
@@ -39,6 +40,12 @@ pub fn worked_conflicts()
 /// There is a refused key exactly where there is a conflict.
 pub fn conflicts_are_refused()
     ensures { ConflictsAreRefused }
+{}
+
+/// More interfaces, and other types over which the imports are and carry what they were and did,
+/// change no elaboration.
+pub fn elaboration_is_local()
+    ensures { ElaborationIsLocal }
 {}
 
 /// Small graphs: which are valid and which aren't.
