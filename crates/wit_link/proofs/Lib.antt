@@ -5,7 +5,12 @@ mod HasImage
 mod ImageExamples
 mod IncludeExamples
 mod Listed
+mod OwnerImages
+mod OwnerPlaces
+mod OwnerReach
+mod OwnersStay
 mod PushExamples
+mod ReferencesStay
 mod TablePlaces
 mod TablesStay
 mod WorldCauseExamples
