@@ -1,9 +1,11 @@
 mod Acceptance
 mod CauseExamples
+mod CyclePlaces
 mod Examples
 mod HasImage
 mod ImageExamples
 mod IncludeExamples
+mod JoinedRows
 mod Listed
 mod OwnerImages
 mod OwnerPlaces
@@ -13,4 +15,5 @@ mod PushExamples
 mod ReferencesStay
 mod TablePlaces
 mod TablesStay
+mod UsesStay
 mod WorldCauseExamples
