@@ -2,6 +2,7 @@ mod Acceptance
 mod CauseExamples
 mod CyclePlaces
 mod Examples
+mod GrownWorlds
 mod HasImage
 mod ImageExamples
 mod IncludeExamples

@@ -41,6 +41,12 @@ module _ {X : Type 0} where
   pub at-Contains : (xs : List X) (x : X) → Contains xs x → (i : ℕ) × (slice_get xs i ≡ Some x)
   at-Contains xs x has = (has.0, slice_get-get_or xs has.0 x has.1 ∙ ap Some has.2)
 
+  -- a place that is within the list has an element
+  pub at-below : (xs : List X) (i : ℕ) → i < length xs → (x : X) × (slice_get xs i ≡ Some x)
+  at-below [] i below = absurd (omega arith)
+  at-below (x ∷ xs) zero below = (x, refl)
+  at-below (x ∷ xs) (suc i) below = at-below xs i (omega arith)
+
   -- what holds of each element that is contained
   pub Each-contained : (P : X → Type 0) (xs : List X) (x : X) → Each P xs → Contains xs x → P x
   Each-contained P xs x each has = let there = at-Contains xs x has in each there.0 x there.1
