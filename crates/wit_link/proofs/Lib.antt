@@ -18,3 +18,4 @@ mod TablePlaces
 mod TablesStay
 mod UsesStay
 mod WorldCauseExamples
+mod WorldsStay

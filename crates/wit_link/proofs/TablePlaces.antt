@@ -1,6 +1,7 @@
 -- Where things stand in lists that grow, and where the next ids of a graph go.
-use Rattle.std.proofs.Common.{◌≡◌, ◌∙◌, ℕ, ◌+◌, ◌<◌, zero, suc, List, [], ◌∷◌, ◌++◌, ◌⊎◌, inl, inr, map, length, get_or, slice_get, Option, Some, None, option_map, filter_map, refl, ap, sym, subst, arith, Contains}
+use Rattle.std.proofs.Common.{◌≡◌, ◌∙◌, ℕ, ◌+◌, ◌<◌, zero, suc, List, [], ◌∷◌, ◌++◌, ◌⊎◌, inl, inr, map, length, get_or, slice_get, Option, Some, None, option_map, filter_map, flat_map, refl, ap, sym, subst, arith, Contains}
 use Rattle.std.proofs.lemmas.Bool.{cases_order}
+use Rattle.std.proofs.lemmas.List.Elements.{Contains-append_cases}
 use Rattle.std.proofs.lemmas.Map.Made.{AllPairs-from_IsDistinct}
 use Rattle.std.proofs.lemmas.Option.{get_or_from_slice_get, slice_get-get_or, slice_get-map, slice_get_within}
 use Rattle.std.proofs.lemmas.Slice.Eq.{bytes_eq-Decides}
@@ -174,6 +175,15 @@ module _ {X Y : Type 0} where
       by None k is there rest = rest k there
       by (Some w) zero is there rest = (0, z, refl, is ∙ there)
       by (Some w) (suc k) is there rest = rest k there
+
+-- what is in lists that are joined end to end is in one of them
+pub flat_map_cases : {X Y : Type 0} (f : X → List Y) (xs : List X) (y : Y) → Contains (flat_map f xs) y → (i : ℕ) × (x : X) × (slice_get xs i ≡ Some x) × Contains (f x) y
+flat_map_cases f [] y has = absurd (omega (arith, has.1))
+flat_map_cases f (z ∷ zs) y has =
+    elim (Contains-append_cases (f z) (flat_map f zs) y has) [
+      | inl here ↦ (0, z, refl, here)
+      | inr there ↦ let more = flat_map_cases f zs y there in (suc more.0, more.1, more.2, more.3)
+    ]
 
 -- ---- keys that differ
 
