@@ -4,6 +4,7 @@ mod AllActive
 mod CauseExamples
 mod CyclePlaces
 mod Examples
+mod GrownWorlds
 mod HasImage
 mod ImageExamples
 mod IncludeExamples
@@ -21,7 +22,10 @@ mod Places
 mod PushExamples
 mod PushedLists
 mod ReferencesStay
+mod TablePlaces
 mod Tables
+mod TablesStay
 mod TypesStay
 mod UsesStay
 mod WorldCauseExamples
+mod WorldsStay
