@@ -1,8 +1,9 @@
 //! A graph of packages with its features and its sources.
-ghost use Rattle.std.specs.Prelude.{◌≡◌, [], IfOk, OnErr, string_bytes};
-ghost use Rattle.std.specs.Option.{option_map};
+ghost use Rattle.std.specs.Prelude.{◌≡◌, [], Ok, IfErr, IfOk, OnErr, string_bytes};
+ghost use Rattle.std.specs.Option.{option_copied, option_map};
 ghost use Rattle.wit_graph.specs.IdText.{id_text, interface_id_at, key_text};
 ghost use Rattle.wit_items.specs.SourceMap.{with_sources};
+ghost use Rattle.wit_resolve_graph.specs.Selection.{IsSaid, selected_world};
 ghost use Rattle.wit_resolve_graph.specs.State.{new_state};
 
 use crate::select::select_world;
@@ -179,7 +180,10 @@ impl Resolve {
         alloc: Global,
         main_packages: &[PackageId],
         world: Option<&str>,
-    ) -> ResolveResult<WorldId> {
+    ) -> ResolveResult<WorldId>
+        ensures ok { IfOk result (λ id. selected_world self.now.graph main_packages.now (option_copied world.entry) ≡ Ok id) }
+        ensures err { IfErr result (IsSaid (selected_world self.now.graph main_packages.now (option_copied world.entry))) }
+    {
         select_world(alloc, &self.graph, main_packages, world)
     }
 
