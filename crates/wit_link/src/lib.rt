@@ -2,6 +2,7 @@
 #![tactic(auto)]
 
 pub mod adding;
+mod finishing;
 mod fits;
 mod image;
 mod item_image;
