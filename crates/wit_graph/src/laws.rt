@@ -65,7 +65,7 @@ pub fn export_keys_stay()
     ensures { ExportKeysStay }
 {}
 
-/// The interfaces that an elaborated world imports are the least list that has those where the listed
+/// The interfaces that an elaborated world imports are the least set that has those where the listed
 /// imports begin and those that the exports need, and with each one all that it uses.
 pub fn imports_are_least()
     ensures { ImportsAreLeast }
