@@ -85,6 +85,11 @@ ElaboratedEntries = (types : List TypeDef) (uses : List (List ℕ)) (old new : W
     (Contains new.imports e → IsSettled old.imports e ⊎ IsMadeImport types uses old.imports old.exports e)
     × (Contains new.exports e → Contains old.exports e ⊎ IsMadeExport old.exports e)
 
+-- the keys and ids of an elaborated world are in order too
+abbrev pub ListedStays : Type 0
+ListedStays = (types : List TypeDef) (uses : List (List ℕ)) (old new : World) → IsAcyclic uses → IsListed types (length uses) old.imports old.exports →
+    Elaborated types uses old new → IsListed types (length uses) new.imports new.exports
+
 -- ---- the least imports
 
 -- a set of interfaces has those where the imports begin and those that the exports need, and with each one all that it uses
