@@ -2,8 +2,8 @@
 //! what is proved.
 ghost use Rattle.wit_graph.specs.ElaborationExamples.{WorkedConflicts, WorkedElaborations};
 ghost use Rattle.wit_graph.specs.ElaborationLaws.{ConflictsAreRefused, ElaboratesOnce, ImportsAreExact, ImportsKeepOrder, OrderIsFree};
-ghost use Rattle.wit_graph.specs.KeptByElaboration.{ElaboratedEntries, ElaboratedOnce, ElaborationIsLocal, ExportKeysStay, ImportsAreLeast, LabelsStay, ListedStays};
 ghost use Rattle.wit_graph.specs.Examples.{ExamplesOfQuestions, ExamplesOfRelations, ExamplesOfValidity};
+ghost use Rattle.wit_graph.specs.KeptByElaboration.{ElaboratedEntries, ElaboratedOnce, ElaborationIsLocal, ExportKeysStay, ImportsAreLeast, LabelsStay, ListedStays};
 
 /// Elaborating an elaborated world changes nothing.
 pub fn elaborates_once()
