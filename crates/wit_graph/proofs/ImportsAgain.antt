@@ -55,7 +55,7 @@ module _ (types : List TypeDef) where
     all_imports = fresh_entries [] (from_imports ++ from_exports)
 
     -- an import that is made is in order by itself
-    record IsFine (f : Entry) : Type 0 where
+    pub record IsFine (f : Entry) : Type 0 where
       pub own : (i : ℕ) → f.0 ≡ Interface i → (role_of types f.1) ≡ Instance i
       pub inside : IsRoleInRange (length uses) (role_of types f.1)
       pub is_settled : settled_item f.1 ≡ f.1
@@ -84,7 +84,7 @@ module _ (types : List TypeDef) where
     unfolding import_steps
     steps_first i seen = import_steps_first uses acyclic (is_exported exports) (length uses) i seen
 
-    import_fine : (f : Entry) → Contains all_imports f → IsFine f
+    pub import_fine : (f : Entry) → Contains all_imports f → IsFine f
     import_fine f has =
         elim (Contains-append_cases from_imports from_exports f (fresh_entries_in [] (from_imports ++ from_exports) f has)) [
           | inl of_import ↦

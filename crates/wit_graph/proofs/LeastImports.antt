@@ -1,5 +1,5 @@
--- The imports are the least list that has where they begin and is closed under uses.
-use Rattle.std.proofs.Common.{◌≡◌, ℕ, inl, inr, List, [], ◌∷◌, ◌++◌, length, refl, sym, ap, subst, Contains}
+-- The imports are the least set that has where they begin and is closed under uses.
+use Rattle.std.proofs.Common.{◌≡◌, ℕ, true, inl, inr, List, [], ◌∷◌, ◌++◌, length, refl, sym, ap, subst, Contains}
 use Rattle.std.proofs.lemmas.List.Elements.{Contains-get_or}
 use Rattle.wit_items.specs.declared.types.TypeDef.{TypeDef}
 use Rattle.wit_items.specs.declared.world.World.{World}
@@ -22,14 +22,15 @@ module _ (types : List TypeDef) (uses : List (List ℕ)) (imports exports : List
   imported_closed i j (inl need) among = inl (need.0, need.1, need.2, need.3, need.4, (need.5.0 ++ j ∷ [], IsPath-push uses need.1 need.5.0 i j need.5.1 among))
   imported_closed i j (inr root) among = inr (root.0, root.1, (root.2.0 ++ j ∷ [], IsPath-push uses root.0 root.2.0 i j root.2.1 among))
 
-  -- a list that has where the imports begin and is closed has what is reached
-  along : (ids : List ℕ) → HoldsImports types uses imports exports ids → (i : ℕ) (path : List ℕ) (j : ℕ) → Contains ids i → IsPath uses i path j → Contains ids j
-  along ids holds i [] j has same = subst (λ m. Contains ids m) same has
-  along ids holds i (k ∷ path) j has leads = along ids holds k path j (holds.closed i k has leads.0) leads.1
+  -- a set that has where the imports begin and is closed has what is reached
+  module _ (Among : ℕ → Type 0) (holds : HoldsImports types uses imports exports Among) where
+    along : (i : ℕ) (path : List ℕ) (j : ℕ) → Among i → IsPath uses i path j → Among j
+    along i [] j has same = subst Among same has
+    along i (k ∷ path) j has leads = along k path j (holds.closed i k has leads.0) leads.1
 
-  has_imported : (ids : List ℕ) → HoldsImports types uses imports exports ids → (j : ℕ) → IsImported types uses imports exports j → Contains ids j
-  has_imported ids holds j (inl need) = holds.needed j need
-  has_imported ids holds j (inr root) = along ids holds root.0 root.2.0 j (holds.roots root.0 root.1) root.2.1
+    has_imported : (j : ℕ) → IsImported types uses imports exports j → Among j
+    has_imported j (inl need) = holds.needed j need
+    has_imported j (inr root) = along root.0 root.2.0 j (holds.roots root.0 root.1) root.2.1
 
 pub imports_are_least : ImportsAreLeast
 imports_are_least types uses old new acyclic listed is =
@@ -44,5 +45,5 @@ imports_are_least types uses old new acyclic listed is =
         needed = λ j need. there j (inl need);
         closed = λ i j has among. there j (imported_closed types uses old.imports old.exports i j (imported i has) among);
       },
-      λ ids holds at d below. has_imported types uses old.imports old.exports ids holds _ (imported _ (Contains-get_or (ids_of new.imports) at d below)),
+      λ test holds at d below. has_imported types uses old.imports old.exports (λ i. test i ≡ true) holds _ (imported _ (Contains-get_or (ids_of new.imports) at d below)),
     )

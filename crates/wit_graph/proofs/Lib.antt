@@ -22,6 +22,7 @@ pub mod MadeEntries
 pub mod ElaboratedKeys
 pub mod Labels
 pub mod LeastImports
+pub mod ListedAgain
 pub mod Marking
 pub mod OneWalk
 pub mod Order

@@ -2,8 +2,8 @@
 //! what is proved.
 ghost use Rattle.wit_graph.specs.ElaborationExamples.{WorkedConflicts, WorkedElaborations};
 ghost use Rattle.wit_graph.specs.ElaborationLaws.{ConflictsAreRefused, ElaboratesOnce, ImportsAreExact, ImportsKeepOrder, OrderIsFree};
-ghost use Rattle.wit_graph.specs.KeptByElaboration.{ElaboratedEntries, ElaboratedOnce, ElaborationIsLocal, ExportKeysStay, ImportsAreLeast, LabelsStay};
 ghost use Rattle.wit_graph.specs.Examples.{ExamplesOfQuestions, ExamplesOfRelations, ExamplesOfValidity};
+ghost use Rattle.wit_graph.specs.KeptByElaboration.{ElaboratedEntries, ElaboratedOnce, ElaborationIsLocal, ExportKeysStay, ImportsAreLeast, LabelsStay, ListedStays};
 
 /// Elaborating an elaborated world changes nothing.
 pub fn elaborates_once()
@@ -65,7 +65,7 @@ pub fn export_keys_stay()
     ensures { ExportKeysStay }
 {}
 
-/// The interfaces that an elaborated world imports are the least list that has those where the listed
+/// The interfaces that an elaborated world imports are the least set that has those where the listed
 /// imports begin and those that the exports need, and with each one all that it uses.
 pub fn imports_are_least()
     ensures { ImportsAreLeast }
@@ -74,6 +74,11 @@ pub fn imports_are_least()
 /// The imports under labels are those that were listed, by class.
 pub fn labels_stay()
     ensures { LabelsStay }
+{}
+
+/// The keys and ids of an elaborated world are in order, where those of the listed one were.
+pub fn listed_stays()
+    ensures { ListedStays }
 {}
 
 /// Small graphs: which are valid and which aren't.
