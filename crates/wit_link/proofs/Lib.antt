@@ -3,6 +3,7 @@ mod AddedIsPushed
 mod AllActive
 mod CauseExamples
 mod CyclePlaces
+mod ElaboratingWorlds
 mod Examples
 mod GrownWorlds
 mod HasImage
