@@ -1,4 +1,5 @@
 mod Acceptance
+mod AddedRow
 mod CauseExamples
 mod CyclePlaces
 mod Examples

@@ -39,7 +39,7 @@ module _ {X Y : Type 0} where
   filter_map_same f g [] all = refl
   filter_map_same f g (x ∷ xs) all = let here : f x ≡ g x = all.0 in let rest : filter_map f xs ≡ filter_map g xs = filter_map_same f g xs all.1 in cc
 
-  filter_map_none : (f : X → Option Y) (xs : List X) → AllByRecursion (λ x. f x ≡ None) xs → filter_map f xs ≡ []
+  pub filter_map_none : (f : X → Option Y) (xs : List X) → AllByRecursion (λ x. f x ≡ None) xs → filter_map f xs ≡ []
   filter_map_none f [] all = refl
   filter_map_none f (x ∷ xs) all = let here : f x ≡ None = all.0 in let rest : filter_map f xs ≡ [] = filter_map_none f xs all.1 in cc
 
@@ -48,7 +48,7 @@ module _ {X Y : Type 0} where
   flat_map_same f g (x ∷ xs) each = let here = each 0 x refl in let rest = flat_map_same f g xs (λ i z at. each (suc i) z at) in λ i. here i ++ rest i
 
   -- what holds of each that is kept
-  all_kept : (P : Y → Type 0) (f : X → Option Y) (xs : List X) → Each (λ x. IfSome (f x) P) xs → AllByRecursion P (filter_map f xs)
+  pub all_kept : (P : Y → Type 0) (f : X → Option Y) (xs : List X) → Each (λ x. IfSome (f x) P) xs → AllByRecursion P (filter_map f xs)
   all_kept P f [] each = tt
   all_kept P f (x ∷ xs) each = by (f x) (each 0 x refl) (all_kept P f xs (λ i z at. each (suc i) z at))
     where
@@ -77,7 +77,7 @@ module _ {X : Type 0} where
 -- ---- the interface of an owner is there
 
 -- what an alias needs is in range, where owners are
-dep_below : (types : List TypeDef) (interfaces : List Interface) (worlds : List World) → EachAt (λ i (def : TypeDef). IsListed interfaces worlds i def.name def.owner) types
+pub dep_below : (types : List TypeDef) (interfaces : List Interface) (worlds : List World) → EachAt (λ i (def : TypeDef). IsListed interfaces worlds i def.name def.owner) types
     → (id : ℕ) → IfSome (type_interface_dep types id) (λ j. j < length interfaces)
 dep_below types interfaces worlds listed id = first (slice_get types id)
   where
