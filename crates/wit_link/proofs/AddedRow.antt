@@ -33,15 +33,15 @@ use Rattle.wit_link.proofs.UsesStay.{interface_moved, interface_place}
 -- ---- lists
 
 module _ {X : Type 0} where
-  there_is_one : (xs : List X) (i : ℕ) → i < length xs → (x : X) × (slice_get xs i ≡ Some x)
+  pub there_is_one : (xs : List X) (i : ℕ) → i < length xs → (x : X) × (slice_get xs i ≡ Some x)
   there_is_one [] i below = absurd (omega (arith, below))
   there_is_one (x ∷ xs) zero below = (x, refl)
   there_is_one (x ∷ xs) (suc i) below = there_is_one xs i (omega (arith, below))
 
-  each_of : (P : X → Type 0) (xs : List X) → AllByRecursion P xs → Each P xs
+  pub each_of : (P : X → Type 0) (xs : List X) → AllByRecursion P xs → Each P xs
   each_of P xs all i x at = AllByRecursion-at P xs i x all at
 
-  all_filtered : (P : X → Type 0) (test : X → Bool) (xs : List X) → AllByRecursion P xs → AllByRecursion P (filter test xs)
+  pub all_filtered : (P : X → Type 0) (test : X → Bool) (xs : List X) → AllByRecursion P xs → AllByRecursion P (filter test xs)
   all_filtered P test [] all = tt
   all_filtered P test (x ∷ xs) all = by (test x) (all_filtered P test xs all.1)
     where
@@ -89,7 +89,7 @@ module _ (g : Graph) (u : UnresolvedPackage) (offset : ℕ) (shaped : IsShaped u
   IsNew j = IsAdded (length g.interfaces) (length u.interfaces) j
 
   -- an added interface uses added ones
-  uses_added : (k : ℕ) (interface : Interface) → slice_get u.interfaces k ≡ Some interface → AllByRecursion IsNew (interface_uses types (placed_interface p interface))
+  pub uses_added : (k : ℕ) (interface : Interface) → slice_get u.interfaces k ≡ Some interface → AllByRecursion IsNew (interface_uses types (placed_interface p interface))
   uses_added k interface at =
       subst (AllByRecursion IsNew) (sym (interface_moved g u offset shaped k interface at))
       (all_images IsNew (λ j. length g.interfaces + j) (interface_uses u.types interface)

@@ -1,5 +1,6 @@
 mod Acceptance
 mod AddedRow
+mod AddedWorlds
 mod CauseExamples
 mod CyclePlaces
 mod Examples
