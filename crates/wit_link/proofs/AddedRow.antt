@@ -1,34 +1,22 @@
 -- What an added package that names nothing of others names: interfaces of its own alone.
-use Rattle.std.proofs.Common.{◌≡◌, ◌∙◌, ℕ, ◌+◌, ◌-◌, ◌<◌, ◌≤◌, ◌==◌, zero, suc, Bool, true, false, List, [], ◌∷◌, ◌++◌, map, length, Option, Some, None, IfSome, option_map, option_and_then, filter, filter_map, flat_map, slice_get, get_or, refl, arith, ap, sym, subst, if◌then◌else◌, eq-eqb}
-use Rattle.std.proofs.lemmas.Option.{get_or_from_slice_get}
-use Rattle.std.specs.List.{AllByRecursion, AllZip, cons_option, enumerate_from, list_any}
+use Rattle.std.proofs.Common.{◌≡◌, ◌∙◌, ℕ, ◌+◌, ◌-◌, ◌<◌, ◌≤◌, ◌==◌, zero, suc, Bool, true, false, List, [], ◌∷◌, ◌++◌, map, length, Option, Some, None, option_map, option_and_then, filter, flat_map, slice_get, refl, arith, ap, sym, subst, if◌then◌else◌, eq-eqb}
+use Rattle.std.specs.List.{AllByRecursion, cons_option, enumerate_from}
 use Rattle.std.specs.Option.{option_map_or}
 use Rattle.wit_values.specs.Lists.{AllByRecursion-at, AllByRecursion-weaker}
-use Rattle.wit_relations.specs.Relation.{direct}
-use Rattle.wit_relations.specs.Walks.{walk, walk_within}
 use Rattle.wit_items.specs.Each.{Each}
-use Rattle.wit_items.specs.Entries.{Entry, IsImport}
 use Rattle.wit_items.specs.Shape.{IsShaped}
-use Rattle.wit_items.specs.Uses.{interface_uses, type_interface_dep, uses_of}
+use Rattle.wit_items.specs.Uses.{interface_uses, type_interface_dep}
 use Rattle.wit_items.specs.declared.interface.Interface.{Interface}
 use Rattle.wit_items.specs.declared.types.TypeDef.{TypeDef}
 use Rattle.wit_items.specs.declared.unresolved.UnresolvedPackage.{UnresolvedPackage}
 use Rattle.wit_items.specs.declared.world.World.{World}
-use Rattle.wit_items.specs.declared.world.WorldItem.{WorldItem}
-use Rattle.wit_items.specs.declared.world.WorldItem.TheVariants as item
-use Rattle.wit_items.specs.declared.world.WorldKey.{WorldKey}
-use Rattle.wit_items.specs.declared.world.WorldKey.TheVariants as key
-use Rattle.wit_graph.specs.Elaborated.{Elaborated, dependency_of, elaborated_exports, elaborated_imports, export_imports, import_carries, import_walk, needs, settled_item}
-use Rattle.wit_graph.specs.Entries.{by_class, fresh_entries, of_class, role_of, same_key}
-use Rattle.wit_graph.specs.Imported.{is_exported}
-use Rattle.wit_graph.specs.Relations.{entry_interface, other_package, package_interfaces, package_needs, world_interfaces}
+use Rattle.wit_graph.specs.Relations.{other_package, package_interfaces, package_needs, world_interfaces}
 use Rattle.wit_graph.specs.declared.graph.Graph.{Graph}
-use Rattle.wit_link.specs.Added.{Places, added_package, next_places, placed_entry, placed_interface, placed_item, placed_key, placed_type, placed_world}
+use Rattle.wit_link.specs.Added.{Places, added_package, next_places, placed_interface, placed_type}
 use Rattle.wit_link.specs.Pushed.{named_ids, world_ids}
-use Rattle.wit_link.specs.Supported.{IsSupported, IsSupportedImport}
-use Rattle.wit_link.proofs.CyclePlaces.{all_appended, all_flattened, all_images, at_behind, at_image_behind, at_map, there_is, within}
+use Rattle.wit_link.proofs.CyclePlaces.{all_appended, all_flattened, all_images, at_behind, at_image_behind, at_map}
 use Rattle.wit_link.proofs.PackagesStay.{all_kept, dep_below, filter_map_none}
-use Rattle.wit_link.proofs.UsesStay.{interface_moved, interface_place}
+use Rattle.wit_link.proofs.UsesStay.{interface_moved}
 
 -- ---- lists
 
@@ -123,9 +111,9 @@ module _ (g : Graph) (u : UnresolvedPackage) (offset : ℕ) (shaped : IsShaped u
       let places = world_ids (length g.worlds) (enumerate_from 0 u.worlds) in
       all_appended IsNew (flat_map by_interfaces ids) (flat_map by_worlds places)
       (all_flattened IsNew by_interfaces ids (λ k e on. table_added e.1 (slice_get interfaces e.1)
-          (each_of (λ (e : List ℕ × ℕ). length g.interfaces ≤ e.1) ids (named_ids_from (length g.interfaces) (length g.interfaces) (enumerate_from 0 u.interfaces) (omega arith)) k e on) refl))
+      (each_of (λ (e : List ℕ × ℕ). length g.interfaces ≤ e.1) ids (named_ids_from (length g.interfaces) (length g.interfaces) (enumerate_from 0 u.interfaces) (omega arith)) k e on) refl))
       (all_flattened IsNew by_worlds places (λ k e on. world_table_added worlds named e.1 (slice_get (g.worlds ++ worlds) e.1)
-          (each_of (λ (e : List ℕ × ℕ). length g.worlds ≤ e.1) places (world_ids_from (length g.worlds) (length g.worlds) (enumerate_from 0 u.worlds) (omega arith)) k e on) refl))
+      (each_of (λ (e : List ℕ × ℕ). length g.worlds ≤ e.1) places (world_ids_from (length g.worlds) (length g.worlds) (enumerate_from 0 u.worlds) (omega arith)) k e on) refl))
 
   -- an added interface is of the new package
   same_package : (j : ℕ) → IsNew j → other_package interfaces (length g.packages) j ≡ None

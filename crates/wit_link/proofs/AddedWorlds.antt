@@ -1,7 +1,7 @@
 -- What the elaborated worlds of an added package name: interfaces of its own alone.
-use Rattle.std.proofs.Common.{◌≡◌, ◌∙◌, ℕ, ◌+◌, ◌<◌, zero, suc, Bool, true, false, List, [], ◌∷◌, ◌++◌, map, length, Option, Some, None, IfSome, filter_map, flat_map, slice_get, refl, arith, ap, sym, subst, if◌then◌else◌}
+use Rattle.std.proofs.Common.{◌≡◌, ◌∙◌, ℕ, ◌+◌, ◌<◌, zero, suc, Bool, true, false, List, [], ◌∷◌, ◌++◌, map, length, Some, IfSome, filter_map, flat_map, slice_get, ap, sym, subst, if◌then◌else◌}
 use Rattle.std.proofs.lemmas.Option.{get_or_from_slice_get}
-use Rattle.std.specs.List.{AllByRecursion, AllZip, cons_option, list_any}
+use Rattle.std.specs.List.{AllByRecursion, AllZip, list_any}
 use Rattle.wit_relations.specs.Relation.{direct}
 use Rattle.wit_relations.specs.Walks.{walk, walk_within}
 use Rattle.wit_items.specs.Each.{Each}
@@ -21,7 +21,7 @@ use Rattle.wit_graph.specs.Entries.{by_class, fresh_entries, of_class, role_of, 
 use Rattle.wit_graph.specs.Imported.{is_exported}
 use Rattle.wit_graph.specs.Relations.{entry_interface, world_interfaces}
 use Rattle.wit_graph.specs.declared.graph.Graph.{Graph}
-use Rattle.wit_link.specs.Added.{Places, next_places, placed_entry, placed_interface, placed_item, placed_key, placed_type, placed_world}
+use Rattle.wit_link.specs.Added.{Places, next_places, placed_entry, placed_interface, placed_item, placed_type, placed_world}
 use Rattle.wit_link.specs.Supported.{IsSupported, IsSupportedImport, IsSupportedWorld}
 use Rattle.wit_link.proofs.AddedRow.{IsAdded, NamesAdded, all_filtered, each_of, there_is_one, uses_added}
 use Rattle.wit_link.proofs.CyclePlaces.{each_pair, all_appended, all_flattened, all_images, at_image, at_image_behind, there_is, within}

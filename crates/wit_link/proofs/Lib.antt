@@ -3,6 +3,7 @@ mod AddedRow
 mod AddedWorlds
 mod CauseExamples
 mod CyclePlaces
+mod CyclesStay
 mod Examples
 mod HasImage
 mod ImageExamples
