@@ -1,8 +1,11 @@
 mod Acceptance
 mod AddedIsPushed
+mod AddedRow
+mod AddedWorlds
 mod AllActive
 mod CauseExamples
 mod CyclePlaces
+mod CyclesStay
 mod ElaboratingWorlds
 mod Examples
 mod GrownWorlds
