@@ -18,6 +18,11 @@ pub mod ImportsAgain
 pub mod Keys
 pub mod WorldExamples
 pub mod WorldLaws
+pub mod MadeEntries
+pub mod ElaboratedKeys
+pub mod Labels
+pub mod LeastImports
+pub mod ListedAgain
 pub mod Marking
 pub mod OneWalk
 pub mod Order

@@ -85,17 +85,22 @@ ElaboratedEntries = (types : List TypeDef) (uses : List (List ℕ)) (old new : W
     (Contains new.imports e → IsSettled old.imports e ⊎ IsMadeImport types uses old.imports old.exports e)
     × (Contains new.exports e → Contains old.exports e ⊎ IsMadeExport old.exports e)
 
+-- the keys and ids of an elaborated world are in order too
+abbrev pub ListedStays : Type 0
+ListedStays = (types : List TypeDef) (uses : List (List ℕ)) (old new : World) → IsAcyclic uses → IsListed types (length uses) old.imports old.exports →
+    Elaborated types uses old new → IsListed types (length uses) new.imports new.exports
+
 -- ---- the least imports
 
--- a list of interfaces has those where the imports begin and those that the exports need, and with each one all that it uses
-pub record HoldsImports (types : List TypeDef) (uses : List (List ℕ)) (imports exports : List Entry) (ids : List ℕ) : Type 0 where
-  pub roots : (r : ℕ) → Contains (flat_map (λ (e : Entry). roots_of uses e.0 (role_of types e.1)) imports) r → Contains ids r
-  pub needed : (j : ℕ) → Needed uses exports j → Contains ids j
-  pub closed : (i j : ℕ) → Contains ids i → Contains (direct uses i) j → Contains ids j
+-- a set of interfaces has those where the imports begin and those that the exports need, and with each one all that it uses
+pub record HoldsImports (types : List TypeDef) (uses : List (List ℕ)) (imports exports : List Entry) (Among : ℕ → Type 0) : Type 0 where
+  pub roots : (r : ℕ) → Contains (flat_map (λ (e : Entry). roots_of uses e.0 (role_of types e.1)) imports) r → Among r
+  pub needed : (j : ℕ) → Needed uses exports j → Among j
+  pub closed : (i j : ℕ) → Among i → Contains (direct uses i) j → Among j
 
--- the interfaces that an elaborated world imports are such a list, and each such list has them
+-- the interfaces that an elaborated world imports are such a set, and each such set that a test tells has them all
 abbrev pub ImportsAreLeast : Type 0
 ImportsAreLeast = (types : List TypeDef) (uses : List (List ℕ)) (old new : World) → IsAcyclic uses → IsListed types (length uses) old.imports old.exports →
     Elaborated types uses old new →
-    HoldsImports types uses old.imports old.exports (ids_of new.imports)
-    × ((ids : List ℕ) → HoldsImports types uses old.imports old.exports ids → All (Contains ids) (ids_of new.imports))
+    HoldsImports types uses old.imports old.exports (Contains (ids_of new.imports))
+    × ((test : ℕ → Bool) → HoldsImports types uses old.imports old.exports (λ i. test i ≡ true) → All (λ i. test i ≡ true) (ids_of new.imports))
