@@ -1,6 +1,7 @@
 -- Where the things of an added package go, and what stands there.
-use Rattle.std.proofs.Common.{◌≡◌, ◌∙◌, ℕ, ◌+◌, ◌<◌, ◌==◌, zero, suc, Bool, true, false, List, [], ◌∷◌, ◌++◌, map, length, Option, Some, None, IsSomeAnd, option_map, filter_map, slice_get, refl, ap, sym, arith, eqb-true, eq-eqb, ne_eqb}
-use Rattle.std.specs.List.{cons_option}
+use Rattle.std.proofs.Common.{◌≡◌, ◌∙◌, ℕ, ◌+◌, ◌<◌, ◌==◌, zero, suc, Bool, true, false, List, [], ◌∷◌, ◌++◌, map, length, Option, Some, None, IsSomeAnd, option_map, filter_map, slice_get, refl, ap, sym, subst, arith, eqb-true, eq-eqb, ne_eqb}
+use Rattle.std.specs.List.{AllByRecursion, AllZip, cons_option, flat_map}
+use Rattle.std.proofs.lemmas.List.{map-append}
 use Rattle.wit_items.specs.Each.{Each}
 use Rattle.wit_link.specs.Added.{new_id, next_ids, id_or}
 
@@ -81,3 +82,40 @@ same_test n i j = by (i == j) refl
     by : (b : Bool) → (i == j) ≡ b → ((n + i) == (n + j)) ≡ (i == j)
     by true is = let same : i ≡ j = eqb-true i j is in eq-eqb (n + i) (n + j) (ap (λ (k : ℕ). n + k) same) ∙ sym is
     by false is = ne_eqb (n + i) (n + j) (λ both. let same : i ≡ j = omega (arith, both) in let yes_is : (i == j) ≡ true = eq-eqb i j same in cc) ∙ sym is
+
+-- ---- what holds of each element
+
+module _ {X : Type 0} (P : X → Type 0) where
+  pub all_appended : (xs ys : List X) → AllByRecursion P xs → AllByRecursion P ys → AllByRecursion P (xs ++ ys)
+  all_appended [] ys first second = second
+  all_appended (x ∷ xs) ys first second = (first.0, all_appended xs ys first.1 second)
+
+  pub all_images : {W : Type 0} (h : W → X) (ws : List W) → Each (λ w. P (h w)) ws → AllByRecursion P (map h ws)
+  all_images h [] each = tt
+  all_images h (w ∷ ws) each = (each 0 w refl, all_images h ws (λ i z at. each (suc i) z at))
+
+  pub all_flattened : {W : Type 0} (f : W → List X) (ws : List W) → Each (λ w. AllByRecursion P (f w)) ws → AllByRecursion P (flat_map f ws)
+  all_flattened f [] each = tt
+  all_flattened f (w ∷ ws) each = all_appended (f w) (flat_map f ws) (each 0 w refl) (all_flattened f ws (λ i z at. each (suc i) z at))
+
+-- ---- more on images
+
+-- what stands among images is the image of what stands there
+pub at_map : {X Y : Type 0} (f : X → Y) (xs : List X) (i : ℕ) (y : Y) → slice_get (map f xs) i ≡ Some y → (x : X) × (slice_get xs i ≡ Some x) × (f x ≡ y)
+at_map f [] i y at = cc
+at_map f (x ∷ xs) zero y at = (x, refl, cc)
+at_map f (x ∷ xs) (suc i) y at = at_map f xs i y at
+
+pub flat_map_commutes : {X Y : Type 0} (f : Y → List ℕ) (h : X → Y) (k : ℕ → ℕ) (e : X → List ℕ) (xs : List X) → ((x : X) → f (h x) ≡ map k (e x)) → flat_map f (map h xs) ≡ map k (flat_map e xs)
+flat_map_commutes f h k e [] each = refl
+flat_map_commutes f h k e (x ∷ xs) each =
+    let rest = flat_map_commutes f h k e xs each in
+    (λ i. each x i ++ rest i) ∙ sym (map-append k (e x) (flat_map e xs))
+
+-- what follows from what holds of two lists, place by place
+pub each_pair : {X Y : Type 0} {R : X → Y → Type 0} {P : Y → Type 0} (xs : List X) (ys : List Y) → AllZip R xs ys → ((i : ℕ) (x : X) (y : Y) → slice_get xs i ≡ Some x → R x y → P y) → Each P ys
+each_pair [] [] zip f i y at = cc
+each_pair [] (z ∷ ys) zip f i y at = absurd zip
+each_pair (x ∷ xs) [] zip f i y at = cc
+each_pair {P} (x ∷ xs) (z ∷ ys) zip f zero y at = let same : z ≡ y = cc in subst P same (f 0 x z refl zip.0)
+each_pair (x ∷ xs) (z ∷ ys) zip f (suc i) y at = each_pair xs ys zip.1 (λ k x y on r. f (suc k) x y on r) i y at

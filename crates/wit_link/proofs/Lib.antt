@@ -1,4 +1,6 @@
 mod Acceptance
+mod AddedRow
+mod AddedWorlds
 mod CauseExamples
 mod CyclePlaces
 mod Examples
@@ -12,10 +14,12 @@ mod OwnerImages
 mod OwnerPlaces
 mod OwnerReach
 mod OwnersStay
+mod PackagesStay
 mod PushExamples
 mod ReferencesStay
 mod TablePlaces
 mod TablesStay
+mod TypesStay
 mod UsesStay
 mod WorldCauseExamples
 mod WorldsStay

@@ -1,9 +1,10 @@
 -- Which interfaces use which, when a package is added: what was there uses what it used, and what is added
 -- uses, moved up, what it used in its package.
-use Rattle.std.proofs.Common.{◌≡◌, ◌∙◌, ℕ, ◌+◌, ◌<◌, ◌==◌, Bool, true, false, List, ◌++◌, map, length, Option, Some, None, IfSome, option_map, option_and_then, slice_get, refl, ap, sym, subst, if◌then◌else◌}
-use Rattle.std.proofs.lemmas.List.{map-append, length-map}
+use Rattle.std.proofs.Common.{◌≡◌, ◌∙◌, ℕ, ◌+◌, ◌<◌, ◌==◌, Bool, true, false, List, [], ◌∷◌, ◌++◌, map, length, Option, Some, None, IfSome, option_map, option_and_then, slice_get, refl, arith, ap, sym, subst, if◌then◌else◌}
+use Rattle.std.proofs.lemmas.List.{length-append, length-map, map-append}
 use Rattle.wit_values.specs.Lists.{slice_get-append}
 use Rattle.wit_relations.specs.Relation.{IsAcyclic}
+use Rattle.wit_items.specs.Entries.{Entry, IsImport}
 use Rattle.wit_items.specs.Each.{SomeAt}
 use Rattle.wit_items.specs.Ownership.{IsListed}
 use Rattle.wit_items.specs.Shape.{IsShaped}
@@ -18,10 +19,17 @@ use Rattle.wit_items.specs.declared.types.Type_.{Type_}
 use Rattle.wit_items.specs.declared.types.Type_.TheVariants as type
 use Rattle.wit_items.specs.declared.unresolved.UnresolvedPackage.{UnresolvedPackage}
 use Rattle.wit_items.specs.declared.world.World.{World}
+use Rattle.wit_items.specs.declared.world.WorldItem.{WorldItem}
+use Rattle.wit_items.specs.declared.world.WorldItem.TheVariants as item
+use Rattle.wit_items.specs.declared.world.WorldKey.{WorldKey}
+use Rattle.wit_items.specs.declared.world.WorldKey.TheVariants as key
+use Rattle.wit_graph.specs.Entries.{role_of}
+use Rattle.wit_graph.specs.Listed.{AreListed, IsListed as AreInOrder, IsRoleInRange, IsUnderOwnKey}
 use Rattle.wit_graph.specs.Valid.{IsValid}
 use Rattle.wit_graph.specs.declared.graph.Graph.{Graph}
-use Rattle.wit_link.specs.Added.{Places, next_places, placed_interface, placed_kind, placed_owner, placed_type}
-use Rattle.wit_link.proofs.CyclePlaces.{at_image_behind, filter_map_agrees, filter_map_commutes, map_agrees, map_commutes, new_id-next, same_test, there_is, within}
+use Rattle.wit_link.specs.Added.{Places, next_places, placed_entry, placed_interface, placed_item, placed_key, placed_kind, placed_owner, placed_type, placed_world}
+use Rattle.wit_link.specs.Supported.{IsSupported, IsSupportedImport}
+use Rattle.wit_link.proofs.CyclePlaces.{all_images, at_image_behind, filter_map_agrees, filter_map_commutes, map_agrees, map_commutes, new_id-next, same_test, there_is, within}
 use Rattle.wit_link.proofs.JoinedRows.{IsAcyclic-joined, moved_rows}
 
 -- ---- what an alias needs
@@ -50,13 +58,13 @@ dep_stays types more by (Some t) P there =
     named_dep_of (types ++ more) by t named.0 (slice_get-append types more t named.0 named.1) ∙ sym (named_dep_of types by t named.0 named.1)
 
 module _ (g : Graph) (valid : IsValid g) (more : List TypeDef) where
-  type_stays : (id : ℕ) (def : TypeDef) → slice_get g.types id ≡ Some def → type_interface_dep (g.types ++ more) id ≡ type_interface_dep g.types id
+  pub type_stays : (id : ℕ) (def : TypeDef) → slice_get g.types id ≡ Some def → type_interface_dep (g.types ++ more) id ≡ type_interface_dep g.types id
   type_stays id def at =
       dep_of (g.types ++ more) id def (slice_get-append g.types more id def at)
       ∙ dep_stays g.types more def.owner (alias_target def.kind) _ (valid.well_formed.references.aliases id def at)
       ∙ sym (dep_of g.types id def at)
 
-  interface_stays : (i : ℕ) (interface : Interface) → slice_get g.interfaces i ≡ Some interface → interface_uses (g.types ++ more) interface ≡ interface_uses g.types interface
+  pub interface_stays : (i : ℕ) (interface : Interface) → slice_get g.interfaces i ≡ Some interface → interface_uses (g.types ++ more) interface ≡ interface_uses g.types interface
   interface_stays i interface at =
       filter_map_agrees (λ (e : List ℕ × ℕ). type_interface_dep (g.types ++ more) e.1) (λ (e : List ℕ × ℕ). type_interface_dep g.types e.1) interface.types
       (λ k e on. let def = there_is (slice_get g.types e.1) _ (valid.well_formed.owners.own_types i interface at k e on) in type_stays e.1 def.0 def.1)
@@ -142,7 +150,7 @@ module _ (g : Graph) (u : UnresolvedPackage) (offset : ℕ) (shaped : IsShaped u
       ∙ target_moved def.owner (alias_target def.kind) _ (owner_below id def at) (shaped.references.aliases id def at)
       ∙ ap (option_map (λ j. length g.interfaces + j)) (sym (dep_of u.types id def at))
 
-  interface_moved : (i : ℕ) (interface : Interface) → slice_get u.interfaces i ≡ Some interface
+  pub interface_moved : (i : ℕ) (interface : Interface) → slice_get u.interfaces i ≡ Some interface
       → interface_uses all_types (placed_interface p interface) ≡ map (λ j. length g.interfaces + j) (interface_uses u.types interface)
   interface_moved i interface at =
       filter_map_commutes (λ (e : List ℕ × ℕ). type_interface_dep all_types e.1) (λ (e : List ℕ × ℕ). let r : List ℕ × ℕ = (e.0, p.types e.1) in r) (λ j. length g.interfaces + j)
@@ -171,3 +179,40 @@ uses_acyclic-of_added g u offset valid shaped =
     subst (λ (n : ℕ). IsAcyclic (uses_of g.types g.interfaces ++ moved_rows n (uses_of u.types u.interfaces))) long
     (IsAcyclic-joined (uses_of g.types g.interfaces) (uses_of u.types u.interfaces) valid.no_cycles.uses shaped.uses) in
     subst IsAcyclic (sym (uses-of_added g u offset valid shaped)) joined
+
+-- ---- worlds
+
+-- a supported import at its place is under its own key, and in range
+import_placed : (p : Places) (n : ℕ) (interfaces : List Interface) (types more : List TypeDef) (w : ℕ) → ((i : ℕ) → i < length interfaces → p.interfaces i ≡ n + i) → (k : WorldKey) (i : WorldItem)
+    → IsSupportedImport k i → IsImport interfaces types w k i → IsUnderOwnKey (placed_key p k) (placed_item p i) × IsRoleInRange (n + length interfaces) (role_of more (placed_item p i))
+import_placed p n interfaces types more w places (key.Interface f) (item.Interface id note docs span external_id) supported imported =
+    let named = there_is (slice_get interfaces f) _ imported.1 in
+    let below = within interfaces f named.0 named.1 in
+    (ap (λ (x : ℕ). p.interfaces x ∷ []) imported.0, omega (arith, ap p.interfaces imported.0, places f below, below))
+import_placed p n interfaces types more w places _ _ supported imported = absurd supported
+
+-- the worlds that are added have their keys and ids in order, before their elaboration
+pub listed-of_added : (g : Graph) (u : UnresolvedPackage) (offset : ℕ) → IsShaped u → IsSupported u → (w : ℕ) (world : World) → slice_get u.worlds w ≡ Some world
+    → AreInOrder (g.types ++ map (placed_type (next_places g u offset)) u.types) (length g.interfaces + length u.interfaces) (placed_world (next_places g u offset) world).imports (placed_world (next_places g u offset) world).exports
+listed-of_added g u offset shaped supported w world at =
+    let types : List TypeDef = g.types ++ map (placed_type (next_places g u offset)) u.types in
+    let each = supported.worlds w world at in
+    let placed = λ (k : ℕ) (e : Entry) (on : slice_get world.imports k ≡ Some e).
+    import_placed (next_places g u offset) (length g.interfaces) u.interfaces u.types types w (interface_place g u offset shaped) e.0 e.1 (each.imports k e on) (shaped.worlds.imports w world at k e on) in
+    record {
+      of_imports = record {
+        own_keys = all_images (λ (e : Entry). IsUnderOwnKey e.0 e.1) (placed_entry (next_places g u offset)) world.imports (λ k e on. (placed k e on).0);
+        in_range = all_images (λ (e : Entry). IsRoleInRange (length g.interfaces + length u.interfaces) (role_of types e.1)) (placed_entry (next_places g u offset)) world.imports (λ k e on. (placed k e on).1);
+      };
+      of_exports = subst (λ (es : List Entry). AreListed types (length g.interfaces + length u.interfaces) (map (placed_entry (next_places g u offset)) es)) (sym each.no_exports) (record { own_keys = tt; in_range = tt });
+    }
+
+-- so counted in the new graph
+pub listed-in_new : (g : Graph) (u : UnresolvedPackage) (offset : ℕ) → IsShaped u → IsSupported u → (w : ℕ) (world : World) → slice_get u.worlds w ≡ Some world
+    → AreInOrder (g.types ++ map (placed_type (next_places g u offset)) u.types) (length (g.interfaces ++ map (placed_interface (next_places g u offset)) u.interfaces))
+    (placed_world (next_places g u offset) world).imports (placed_world (next_places g u offset) world).exports
+listed-in_new g u offset shaped supported w world at =
+    let many : length (g.interfaces ++ map (placed_interface (next_places g u offset)) u.interfaces) ≡ length g.interfaces + length u.interfaces =
+    length-append g.interfaces (map (placed_interface (next_places g u offset)) u.interfaces) ∙ ap (λ n. length g.interfaces + n) (length-map u.interfaces (placed_interface (next_places g u offset))) in
+    subst (λ (n : ℕ). AreInOrder (g.types ++ map (placed_type (next_places g u offset)) u.types) n (placed_world (next_places g u offset) world).imports (placed_world (next_places g u offset) world).exports) (sym many)
+    (listed-of_added g u offset shaped supported w world at)
