@@ -6,6 +6,7 @@ mod HasImage
 mod ImageExamples
 mod IncludeExamples
 mod Listed
+mod NoEarlyCause
 mod OwnerImages
 mod OwnerPlaces
 mod OwnerReach
