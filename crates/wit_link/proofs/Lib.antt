@@ -1,4 +1,5 @@
 mod Acceptance
+mod Accepts
 mod AllActive
 mod CauseExamples
 mod Examples
@@ -6,6 +7,7 @@ mod HasImage
 mod ImageExamples
 mod IncludeExamples
 mod Listed
+mod NoCause
 mod NoEarlyCause
 mod OwnerImages
 mod OwnerPlaces
