@@ -1,6 +1,8 @@
 mod Acceptance
+mod Accepts
 mod AddedRow
 mod AddedWorlds
+mod AllActive
 mod CauseExamples
 mod CyclePlaces
 mod Examples
@@ -10,12 +12,17 @@ mod ImageExamples
 mod IncludeExamples
 mod JoinedRows
 mod Listed
+mod NoCause
+mod NoEarlyCause
 mod OwnerImages
 mod OwnerPlaces
 mod OwnerReach
 mod OwnersStay
 mod PackagesStay
+mod PlacedImages
+mod PlacedMaps
 mod PushExamples
+mod PushedLists
 mod ReferencesStay
 mod TablePlaces
 mod TablesStay

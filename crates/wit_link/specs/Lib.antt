@@ -3,6 +3,7 @@ pub mod Cause
 pub mod CauseExamples
 pub mod CauseText
 pub mod Examples
+pub mod Fits
 pub mod Gates
 pub mod Groups
 pub mod Image
