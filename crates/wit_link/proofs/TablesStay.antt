@@ -229,14 +229,14 @@ module _ (g : Graph) (u : UnresolvedPackage) (offset : ℕ) (types : List TypeDe
       EachAt-append (λ _ (home : Package). HasDistinctKeys home.interfaces) g.packages (added_package g u ∷ []) tables.distinct_interfaces
       (EachAt-only (λ _ (home : Package). HasDistinctKeys home.interfaces) (added_package g u)
       (HasDistinctKeys-from_test (added_package g u).interfaces
-      (subst (IsDistinct bytes_eq) (sym (keys_of-named (length g.interfaces) 0 u.interfaces)) (own_interfaces u supported.no_deps shaped.names.interfaces_differ))))
+      (subst (IsDistinct bytes_eq) (sym (keys_of-named (length g.interfaces) 0 u.interfaces)) (own_interfaces u supported.alone.no_deps shaped.names.interfaces_differ))))
 
   distinct_worlds : Each (λ (home : Package). HasDistinctKeys home.worlds) packages
   distinct_worlds =
       EachAt-append (λ _ (home : Package). HasDistinctKeys home.worlds) g.packages (added_package g u ∷ []) tables.distinct_worlds
       (EachAt-only (λ _ (home : Package). HasDistinctKeys home.worlds) (added_package g u)
       (HasDistinctKeys-from_test (added_package g u).worlds
-      (subst (IsDistinct bytes_eq) (sym (keys_of-worlds (length g.worlds) 0 u.worlds)) (own_worlds u supported.no_deps shaped.names.worlds_differ))))
+      (subst (IsDistinct bytes_eq) (sym (keys_of-worlds (length g.worlds) 0 u.worlds)) (own_worlds u supported.alone.no_deps shaped.names.worlds_differ))))
 
   tables_stay : HasTables packages interfaces worlds
   tables_stay = record {
