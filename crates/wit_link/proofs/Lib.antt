@@ -1,4 +1,5 @@
 mod Acceptance
+mod Accepts
 mod AddedIsPushed
 mod AddedRow
 mod AddedWorlds
@@ -14,6 +15,8 @@ mod ImageExamples
 mod IncludeExamples
 mod JoinedRows
 mod Listed
+mod NoCause
+mod NoEarlyCause
 mod OwnerImages
 mod OwnerPlaces
 mod OwnerReach
