@@ -3,6 +3,7 @@ mod Accepts
 mod AllActive
 mod CauseExamples
 mod Examples
+mod FitsIsExact
 mod HasImage
 mod ImageExamples
 mod IncludeExamples

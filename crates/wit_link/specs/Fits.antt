@@ -1,6 +1,6 @@
 -- Whether the spans of a package still end within the last position, 4294967295, when they are moved. The
 -- law `fitting_is_exact` says that a package fits exactly where no span of it passes the end.
-use Rattle.std.specs.Prelude.{◌≡◌, ℕ, ◌+◌, ◌<◌, ◌^◌, List}
+use Rattle.std.specs.Prelude.{ℕ, ◌+◌, ◌<◌, ◌^◌, List}
 use Rattle.wit_items.specs.Each.{Each}
 use Rattle.wit_items.specs.Entries.{Entry}
 use Rattle.wit_items.specs.Span.{end_of}
