@@ -9,6 +9,7 @@ mod CyclePlaces
 mod CyclesStay
 mod ElaboratingWorlds
 mod Examples
+mod FitsIsExact
 mod GrownWorlds
 mod HasImage
 mod ImageExamples

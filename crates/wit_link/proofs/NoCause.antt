@@ -1,13 +1,12 @@
 -- Nothing speaks against adding a supported package, other than that it is there or that its spans pass the
 -- end: its worlds include nothing, export nothing and have no labels.
-use Rattle.std.proofs.Common.{◌≡◌, ◌∙◌, ◌⊎◌, inl, inr, ℕ, zero, suc, List, [], ◌∷◌, length, take, Option, None, Some, slice_get, refl, sym, ap, subst, Contains, zero-add}
+use Rattle.std.proofs.Common.{◌≡◌, ◌∙◌, inl, inr, ℕ, zero, suc, List, [], ◌∷◌, length, take, Option, None, Some, slice_get, refl, sym, ap, subst}
 use Rattle.std.specs.List.{AllZip}
 use Rattle.std.specs.Map.{keys_of}
 use Rattle.std.specs.Option.{option_map}
 use Rattle.wit_items.specs.Each.{Each}
 use Rattle.wit_items.specs.Entries.{Entry}
 use Rattle.wit_items.specs.Shape.{IsShaped}
-use Rattle.wit_items.specs.declared.function.Function.{Function}
 use Rattle.wit_items.specs.declared.types.TypeDef.{TypeDef}
 use Rattle.wit_items.specs.declared.unresolved.UnresolvedPackage.{UnresolvedPackage}
 use Rattle.wit_items.specs.declared.world.World.{World}
@@ -35,7 +34,6 @@ use Rattle.wit_link.specs.Supported.{IsSupported, IsSupportedImport, IsSupported
 use Rattle.wit_link.proofs.AllActive.{all_worlds, no_includes, whole_entries}
 use Rattle.wit_link.proofs.Listed.{none_in}
 use Rattle.wit_link.proofs.NoEarlyCause.{each_contained, no_early_cause, no_function, no_label}
-use Rattle.wit_link.proofs.OwnerPlaces.{from_map}
 use Rattle.wit_link.proofs.PushedLists.{at-enumerate}
 
 -- ---- lists of interfaces under their own keys
