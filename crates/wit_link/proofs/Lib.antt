@@ -1,6 +1,7 @@
 mod Acceptance
 mod CauseExamples
 mod Examples
+mod FirstOnes
 mod HasImage
 mod ImageExamples
 mod IncludeExamples

@@ -1,7 +1,10 @@
 //! Adding a package to a graph.
-ghost use Rattle.std.specs.Prelude.{◌≡◌, ◌<◌, OnErr, length};
+ghost use Rattle.std.specs.Prelude.{◌≡◌, ◌++◌, ◌+◌, ◌<◌, ◌^◌, IfOk, OnErr, OnOk, length, map};
 ghost use Rattle.wit_graph.specs.Elaboration.{graph_uses};
 ghost use Rattle.wit_relations.specs.Relation.{IsAcyclic};
+ghost use Rattle.wit_items.specs.Each.{Each};
+ghost use Rattle.wit_link.specs.Added.{NamesDiffer, next_ids, next_remap, placed_interface, placed_type, placed_world};
+ghost use Rattle.wit_link.specs.Images.{AreNext, HasKeysBelow, image_places};
 
 use crate::image::Image;
 use crate::remap::Remap;
@@ -110,63 +113,115 @@ fn elaborate_listed(
     Ok(())
 }
 
-/// The next ids of the graph, in the order of the package's lists.
+/// The next ids of the graph, in the order of the package's lists. The graph has room for what takes them.
 fn fresh_ids(
     alloc: Global,
     graph: &mut Graph,
     package: &UnresolvedPackage,
-) -> Result<Remap, AllocError> {
+) -> Result<Remap, AllocError>
+    ensures remap { IfOk result (λ remap. remap ≡ next_remap graph.old «package».now) }
+    ensures same { graph.new ≡ graph.old }
+{
     graph.types.reserve(package.types.len())?;
     graph.interfaces.reserve(package.interfaces.len())?;
     graph.worlds.reserve(package.worlds.len())?;
-    let mut types = Items::new(alloc);
-    let first_type = graph.types.len();
-    for index in 0..package.types.len() {
-        types.push(Some(TypeId::from_index(first_type + index)))?;
-    }
-    let mut interfaces = Items::new(alloc);
-    let first_interface = graph.interfaces.len();
-    for index in 0..package.interfaces.len() {
-        interfaces.push(Some(InterfaceId::from_index(first_interface + index)))?;
-    }
-    let mut worlds = Items::new(alloc);
-    let first_world = graph.worlds.len();
-    for index in 0..package.worlds.len() {
-        worlds.push(Some(WorldId::from_index(first_world + index)))?;
-    }
+    let types = next_types(alloc, graph.types.len(), package.types.len())?;
+    let interfaces = next_interfaces(alloc, graph.interfaces.len(), package.interfaces.len())?;
+    let worlds = next_worlds(alloc, graph.worlds.len(), package.worlds.len())?;
     Ok(Remap::from_lists(types, interfaces, worlds, Items::new(alloc)))
 }
 
+/// So many ids of types, one after another.
+fn next_types(
+    alloc: Global,
+    first: usize,
+    count: usize,
+) -> Result<Items<Option<TypeId>>, AllocError>
+    requires { first + count < 2 ^ 64 }
+    ensures { IfOk result (λ ids. ids ≡ next_ids first count) }
+{
+    let mut ids = Items::new(alloc);
+    for index in 0..count {
+        ids.push(Some(TypeId::from_index(first + index)))?;
+    }
+    Ok(ids)
+}
+
+/// So many ids of interfaces, one after another.
+fn next_interfaces(
+    alloc: Global,
+    first: usize,
+    count: usize,
+) -> Result<Items<Option<InterfaceId>>, AllocError>
+    requires { first + count < 2 ^ 64 }
+    ensures { IfOk result (λ ids. ids ≡ next_ids first count) }
+{
+    let mut ids = Items::new(alloc);
+    for index in 0..count {
+        ids.push(Some(InterfaceId::from_index(first + index)))?;
+    }
+    Ok(ids)
+}
+
+/// So many ids of worlds, one after another.
+fn next_worlds(
+    alloc: Global,
+    first: usize,
+    count: usize,
+) -> Result<Items<Option<WorldId>>, AllocError>
+    requires { first + count < 2 ^ 64 }
+    ensures { IfOk result (λ ids. ids ≡ next_ids first count) }
+{
+    let mut ids = Items::new(alloc);
+    for index in 0..count {
+        ids.push(Some(WorldId::from_index(first + index)))?;
+    }
+    Ok(ids)
+}
+
+/// Adds the types of a package at their places.
 fn add_types(
     alloc: Global,
     graph: &mut Graph,
     image: &Image<'_>,
     package: &UnresolvedPackage,
-) -> ResolveResult<()> {
+) -> Result<(), AllocError>
+    ensures { OnOk result (graph.new ≡ record graph.old { types = graph.old.types ++ map (placed_type (image_places image.now)) «package».now.types }) }
+{
     for ty in package.types.as_slice() {
         graph.types.push(image.type_def(alloc, ty)?)?;
     }
     Ok(())
 }
 
+/// Adds the interfaces of a package at their places. A caller learns here that the names in their tables
+/// differ.
 fn add_interfaces(
     alloc: Global,
     graph: &mut Graph,
     image: &Image<'_>,
     package: &UnresolvedPackage,
-) -> ResolveResult<()> {
+) -> Result<(), AllocError>
+    ensures interfaces { OnOk result (graph.new ≡ record graph.old { interfaces = graph.old.interfaces ++ map (placed_interface (image_places image.now)) «package».now.interfaces }) }
+    ensures names { OnOk result (NamesDiffer «package».now) }
+{
     for interface in package.interfaces.as_slice() {
         graph.interfaces.push(image.interface(alloc, interface)?)?;
     }
     Ok(())
 }
 
+/// Adds the worlds of a package at their places.
 fn add_worlds(
     alloc: Global,
     graph: &mut Graph,
     image: &Image<'_>,
     package: &UnresolvedPackage,
-) -> ResolveResult<()> {
+) -> Result<(), AllocError>
+    requires next { AreNext image.now.remap.now.interfaces }
+    requires keys { Each (HasKeysBelow (length image.now.remap.now.interfaces)) «package».now.worlds }
+    ensures { OnOk result (graph.new ≡ record graph.old { worlds = graph.old.worlds ++ map (placed_world (image_places image.now)) «package».now.worlds }) }
+{
     for world in package.worlds.as_slice() {
         graph.worlds.push(image.world(alloc, world)?)?;
     }
