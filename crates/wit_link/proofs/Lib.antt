@@ -6,7 +6,9 @@ mod HasImage
 mod ImageExamples
 mod IncludeExamples
 mod Listed
+mod PackageTables
 mod Places
 mod PushExamples
+mod ShapedParts
 mod Tables
 mod WorldCauseExamples
