@@ -9,6 +9,7 @@ mod CyclePlaces
 mod CyclesStay
 mod ElaboratingWorlds
 mod Examples
+mod FirstOnes
 mod FitsIsExact
 mod GrownWorlds
 mod HasImage
@@ -22,6 +23,7 @@ mod OwnerImages
 mod OwnerPlaces
 mod OwnerReach
 mod OwnersStay
+mod PackageTables
 mod PackagesStay
 mod PlacedImages
 mod PlacedMaps
@@ -30,6 +32,7 @@ mod Places
 mod PushExamples
 mod PushedLists
 mod ReferencesStay
+mod ShapedParts
 mod TablePlaces
 mod Tables
 mod TablesStay
