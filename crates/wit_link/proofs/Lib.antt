@@ -10,6 +10,7 @@ mod ImageExamples
 mod IncludeExamples
 mod JoinedRows
 mod Listed
+mod NearMisses
 mod OwnerImages
 mod OwnerPlaces
 mod OwnerReach

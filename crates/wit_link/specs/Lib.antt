@@ -11,6 +11,7 @@ pub mod Image
 pub mod Images
 pub mod Include
 pub mod Labels
+pub mod NearMisses
 pub mod PushExamples
 pub mod Pushed
 pub mod Rename

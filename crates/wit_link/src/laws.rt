@@ -1,5 +1,6 @@
 //! Examples of the definitions: each function has no body, and its contract is what is proved.
 ghost use Rattle.wit_link.specs.CauseExamples.{ExamplesOfCauses};
+ghost use Rattle.wit_link.specs.NearMisses.{ExamplesOfNearMisses};
 ghost use Rattle.wit_link.specs.PushExamples.{
   ExamplesOfGroups,
   ExamplesOfIncluded,
@@ -57,4 +58,9 @@ pub fn examples_of_included()
 /// Packages that can't be added for what they name of others, or for a world of theirs.
 pub fn examples_of_world_causes()
     ensures { ExamplesOfWorldCauses }
+{}
+
+/// Packages that just lack a reason to be refused.
+pub fn examples_of_near_misses()
+    ensures { ExamplesOfNearMisses }
 {}
