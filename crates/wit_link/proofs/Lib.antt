@@ -29,4 +29,5 @@ mod TablesStay
 mod TypesStay
 mod UsesStay
 mod WorldCauseExamples
+mod WorldNearMisses
 mod WorldsStay

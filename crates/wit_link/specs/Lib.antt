@@ -18,3 +18,4 @@ pub mod Rename
 pub mod Spans
 pub mod Supported
 pub mod WorldCauseExamples
+pub mod WorldNearMisses

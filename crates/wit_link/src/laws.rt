@@ -8,6 +8,7 @@ ghost use Rattle.wit_link.specs.PushExamples.{
   ExamplesOfPushes,
 };
 ghost use Rattle.wit_link.specs.WorldCauseExamples.{ExamplesOfWorldCauses};
+ghost use Rattle.wit_link.specs.WorldNearMisses.{ExamplesOfWorldNearMisses};
 ghost use Rattle.wit_link.specs.Examples.{ExamplesOfGates, ExamplesOfImages, ExamplesOfLabels, ExamplesOfRenaming};
 
 /// Notes that are active and notes that aren't.
@@ -63,4 +64,9 @@ pub fn examples_of_world_causes()
 /// Packages that just lack a reason to be refused.
 pub fn examples_of_near_misses()
     ensures { ExamplesOfNearMisses }
+{}
+
+/// Packages that just lack a reason that lies in a world, whatever their image is.
+pub fn examples_of_world_near_misses()
+    ensures { ExamplesOfWorldNearMisses }
 {}
