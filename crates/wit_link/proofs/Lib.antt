@@ -17,6 +17,7 @@ mod ImageExamples
 mod IncludeExamples
 mod JoinedRows
 mod Listed
+mod NearMisses
 mod NoCause
 mod NoEarlyCause
 mod OwnerImages
@@ -39,4 +40,5 @@ mod TablesStay
 mod TypesStay
 mod UsesStay
 mod WorldCauseExamples
+mod WorldNearMisses
 mod WorldsStay

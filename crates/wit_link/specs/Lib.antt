@@ -11,9 +11,11 @@ pub mod Image
 pub mod Images
 pub mod Include
 pub mod Labels
+pub mod NearMisses
 pub mod PushExamples
 pub mod Pushed
 pub mod Rename
 pub mod Spans
 pub mod Supported
 pub mod WorldCauseExamples
+pub mod WorldNearMisses

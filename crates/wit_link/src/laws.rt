@@ -1,5 +1,6 @@
 //! Examples of the definitions: each function has no body, and its contract is what is proved.
 ghost use Rattle.wit_link.specs.CauseExamples.{ExamplesOfCauses};
+ghost use Rattle.wit_link.specs.NearMisses.{ExamplesOfNearMisses};
 ghost use Rattle.wit_link.specs.PushExamples.{
   ExamplesOfGroups,
   ExamplesOfIncluded,
@@ -7,6 +8,7 @@ ghost use Rattle.wit_link.specs.PushExamples.{
   ExamplesOfPushes,
 };
 ghost use Rattle.wit_link.specs.WorldCauseExamples.{ExamplesOfWorldCauses};
+ghost use Rattle.wit_link.specs.WorldNearMisses.{ExamplesOfWorldNearMisses};
 ghost use Rattle.wit_link.specs.Examples.{ExamplesOfGates, ExamplesOfImages, ExamplesOfLabels, ExamplesOfRenaming};
 
 /// Notes that are active and notes that aren't.
@@ -57,4 +59,14 @@ pub fn examples_of_included()
 /// Packages that can't be added for what they name of others, or for a world of theirs.
 pub fn examples_of_world_causes()
     ensures { ExamplesOfWorldCauses }
+{}
+
+/// Packages that just lack a reason to be refused.
+pub fn examples_of_near_misses()
+    ensures { ExamplesOfNearMisses }
+{}
+
+/// Packages that just lack a reason that lies in a world, whatever their image is.
+pub fn examples_of_world_near_misses()
+    ensures { ExamplesOfWorldNearMisses }
 {}
