@@ -1,5 +1,6 @@
 mod Acceptance
 mod Accepts
+mod AddedFromParts
 mod AddedIsPushed
 mod AddedRow
 mod AddedWorlds
@@ -33,12 +34,14 @@ mod Places
 mod PushExamples
 mod PushedLists
 mod ReferencesStay
+mod SameName
 mod ShapedParts
 mod TablePlaces
 mod Tables
 mod TablesStay
 mod TypesStay
 mod UsesStay
+mod ValidStays
 mod WorldCauseExamples
 mod WorldNearMisses
 mod WorldsStay

@@ -52,11 +52,11 @@ module _ (u : UnresolvedPackage) where
   -- where nothing is foreign the names of all interfaces differ, and of all worlds
   pub interfaces_differ : IsShaped u → IsSupported u → IsDistinct bytes_eq (interface_names 0 u.interfaces)
   interfaces_differ shaped supported =
-      subst (λ (deps : ForeignItems). IsDistinct bytes_eq (interface_names (length (foreign_interfaces deps)) u.interfaces)) supported.no_deps shaped.names.interfaces_differ
+      subst (λ (deps : ForeignItems). IsDistinct bytes_eq (interface_names (length (foreign_interfaces deps)) u.interfaces)) supported.alone.no_deps shaped.names.interfaces_differ
 
   pub worlds_differ : IsShaped u → IsSupported u → IsDistinct bytes_eq (world_names 0 u.worlds)
   worlds_differ shaped supported =
-      subst (λ (deps : ForeignItems). IsDistinct bytes_eq (world_names (length (foreign_worlds deps)) u.worlds)) supported.no_deps shaped.names.worlds_differ
+      subst (λ (deps : ForeignItems). IsDistinct bytes_eq (world_names (length (foreign_worlds deps)) u.worlds)) supported.alone.no_deps shaped.names.worlds_differ
 
 -- ---- next ids
 
