@@ -5,6 +5,7 @@ mod AddedIsPushed
 mod AddedRow
 mod AddedWorlds
 mod AllActive
+mod Appending
 mod CauseExamples
 mod CyclePlaces
 mod CyclesStay

@@ -1,48 +1,58 @@
 //! Adding a package to a graph.
-ghost use Rattle.std.specs.Prelude.{◌≡◌, ◌++◌, ◌∷◌, [], ◌+◌, ◌<◌, ◌^◌, IfOk, None, OnErr, OnOk, length, map};
+ghost use Rattle.std.specs.Prelude.{◌≡◌, ◌⊎◌, ◌++◌, ◌∷◌, [], ◌+◌, ◌<◌, ◌^◌, IfErr, IfOk, None, OnErr, OnOk, length, map};
 ghost use Rattle.std.specs.List.{IsDistinct};
 ghost use Rattle.std.specs.Map.{lookup};
 ghost use Rattle.std.specs.Str.{bytes_eq};
-ghost use Rattle.wit_graph.specs.Elaboration.{graph_uses};
-ghost use Rattle.wit_relations.specs.Relation.{IsAcyclic};
+ghost use Rattle.wit_graph.specs.Valid.{IsValid};
+ghost use Rattle.wit_graph.specs.declared.error_kind.ResolveErrorKind.{ResolveErrorKind};
+ghost use Rattle.wit_graph.specs.declared.error_kind.ResolveErrorKind.TheVariants.{OutOfMemory};
 ghost use Rattle.wit_items.specs.Each.{Each};
 ghost use Rattle.wit_items.specs.PackageOrder.{same_package};
 ghost use Rattle.wit_items.specs.Shape.{IsShaped, interface_names, world_names};
 ghost use Rattle.wit_link.specs.Supported.{IsSupported};
-ghost use Rattle.wit_link.specs.Added.{NamesDiffer, next_ids, next_remap, placed_interface, placed_type, placed_world};
+ghost use Rattle.wit_link.specs.Added.{Added, NamesDiffer, next_ids, next_remap, placed_interface, placed_type, placed_world};
+ghost use Rattle.wit_link.specs.Cause.{IsAccepted, IsCause};
+ghost use Rattle.wit_link.specs.Fits.{IsNameTaken};
 ghost use Rattle.wit_link.specs.Images.{AreNext, HasKeysBelow, image_places, interfaces_at, package_at, with_parts, worlds_at};
 
+use crate::finishing::elaborate_from;
+use crate::fits::spans_fit;
 use crate::image::Image;
+use crate::laws::additions_stay_valid;
 use crate::remap::Remap;
 use std::alloc::{AllocError, Global};
-use wit_graph::{
-    Elaborator, Features, Graph, Package, ResolveError, ResolveErrorKind, ResolveResult, is_listed,
-};
+use wit_graph::{Features, Graph, Package, ResolveError, ResolveErrorKind, ResolveResult};
 use wit_items::{
     Interface, InterfaceId, Items, Names, PackageId, Span, TryClone, TypeId, UnresolvedPackage,
-    World, WorldId, uses_of,
+    World, WorldId,
 };
-use wit_relations::is_acyclic;
 use wit_values::try_clone_two;
 
 /// Adds a package to a graph, its spans moved by an offset, and answers its id.
 ///
-/// So far it takes packages that name nothing of other packages and have no gates, includes or labels.
-/// Refused where a package of that name is there (5), where a span would pass 4294967295 (27), and for
-/// memory (28). After a refusal the graph is as before.
+/// So far it takes packages that `is_supported` tells. Refused where a package of that name is there (5),
+/// where a span would pass 4294967295 (27), and for memory (28). After a refusal the graph is as before.
 pub fn append(
     alloc: Global,
     graph: &mut Graph,
-    _features: &Features,
+    features: &Features,
     package: UnresolvedPackage,
     span_offset: u32,
 ) -> ResolveResult<PackageId>
     requires shaped { IsShaped «package» }
     requires supported { IsSupported «package» }
+    requires valid { IsValid graph.old }
+    ensures ok { IfOk result (λ id. IsAccepted features.now graph.old «package» span_offset graph.new id) }
+    ensures valid { IsValid graph.new }
     ensures err { OnErr result (graph.new ≡ graph.old) }
+    ensures cause { IfErr result (λ kind. (kind ≡ OutOfMemory) ⊎ IsCause features.now graph.old «package» span_offset kind) }
+    ensures refuses { (kind : ResolveErrorKind) → IsCause features.now graph.old «package» span_offset kind → OnOk result ⊥ }
 {
     if graph.package_names.contains_key(&package.name) {
-        return Err(duplicate(package, span_offset));
+        return Err(name_taken(package, span_offset));
+    }
+    if !spans_fit(&package, span_offset) {
+        return Err(ResolveError::from(ResolveErrorKind::OffsetOverflow));
     }
     let mut next = graph.try_clone()?;
     let id = add_package(alloc, &mut next, &package, span_offset)?;
@@ -51,7 +61,9 @@ pub fn append(
 }
 
 /// The refusal of a package whose name is there.
-fn duplicate(package: UnresolvedPackage, span_offset: u32) -> ResolveError {
+fn name_taken(package: UnresolvedPackage, span_offset: u32) -> ResolveError
+    ensures { IsNameTaken span_offset «package» result }
+{
     match package.package_name_span.moved(span_offset) {
         Some(span1) => ResolveError::from(ResolveErrorKind::DuplicatePackage {
             name: package.name,
@@ -62,7 +74,7 @@ fn duplicate(package: UnresolvedPackage, span_offset: u32) -> ResolveError {
     }
 }
 
-/// Adds a package with its types, interfaces and worlds, and elaborates its worlds.
+/// Adds a package whose spans fit and whose name is new, with its worlds elaborated.
 fn add_package(
     alloc: Global,
     graph: &mut Graph,
@@ -72,10 +84,13 @@ fn add_package(
     requires shaped { IsShaped «package».now }
     requires supported { IsSupported «package».now }
     requires new { lookup (same_package «package».now.name) graph.old.package_names ≡ None }
+    requires valid { IsValid graph.old }
+    ensures id { IfOk result (λ id. id ≡ length graph.old.packages) }
+    ensures added { OnOk result (Added graph.old «package».now span_offset graph.new) }
+    ensures valid { OnOk result (IsValid graph.new) }
+    ensures err { IfErr result (λ kind. kind ≡ OutOfMemory) }
 {
-    if package.package_name_span.moved(span_offset).is_none() {
-        return Err(ResolveError::from(ResolveErrorKind::OffsetOverflow));
-    }
+    additions_stay_valid();
     let first_world = graph.worlds.len();
     let id = add_parts(alloc, graph, package, span_offset)?;
     elaborate_from(alloc, graph, first_world)?;
@@ -109,41 +124,6 @@ fn add_parts(
     add_worlds(alloc, graph, &image, package)?;
     add_tables(alloc, graph, &image, package)?;
     Ok(id)
-}
-
-/// Elaborates the worlds from a place on, where no interface comes back to itself along its uses.
-fn elaborate_from(alloc: Global, graph: &mut Graph, first: usize) -> ResolveResult<()> {
-    let types = graph.types.as_slice();
-    let uses = uses_of(alloc, types, graph.interfaces.as_slice())?;
-    if !is_acyclic(alloc, uses.as_slice())? {
-        return Ok(());
-    }
-    let mut elaborator = Elaborator::new(alloc, types, graph.interfaces.as_slice())?;
-    for world in first..graph.worlds.len() {
-        elaborate_listed(alloc, graph, &mut elaborator, world)?;
-    }
-    Ok(())
-}
-
-/// Elaborates a world whose keys and ids are in order; any other stays as it is listed.
-fn elaborate_listed(
-    alloc: Global,
-    graph: &mut Graph,
-    elaborator: &mut Elaborator,
-    world: usize,
-) -> ResolveResult<()>
-    requires uses { elaborator.old ≡ graph_uses graph.old }
-    requires world { world < length graph.old.worlds }
-    requires acyclic { IsAcyclic (graph_uses graph.old) }
-    ensures uses { graph_uses graph.new ≡ graph_uses graph.old }
-    ensures same { elaborator.new ≡ elaborator.old }
-    ensures worlds { length graph.new.worlds ≡ length graph.old.worlds }
-{
-    let interfaces = graph.interfaces.len();
-    if is_listed(graph.types.as_slice(), interfaces, graph.worlds.at(world)) {
-        elaborator.elaborate(alloc, graph, WorldId::from_index(world))?;
-    }
-    Ok(())
 }
 
 /// The next ids of the graph, in the order of the package's lists. The graph has room for what takes them.
