@@ -11,6 +11,7 @@ mod IncludeExamples
 mod JoinedRows
 mod Listed
 mod NearMisses
+mod OrderExamples
 mod OwnerImages
 mod OwnerPlaces
 mod OwnerReach

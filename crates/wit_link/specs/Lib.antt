@@ -12,6 +12,7 @@ pub mod Images
 pub mod Include
 pub mod Labels
 pub mod NearMisses
+pub mod OrderExamples
 pub mod PushExamples
 pub mod Pushed
 pub mod Rename

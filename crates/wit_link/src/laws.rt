@@ -1,6 +1,7 @@
 //! Examples of the definitions: each function has no body, and its contract is what is proved.
 ghost use Rattle.wit_link.specs.CauseExamples.{ExamplesOfCauses};
 ghost use Rattle.wit_link.specs.NearMisses.{ExamplesOfNearMisses};
+ghost use Rattle.wit_link.specs.OrderExamples.{ExamplesOfOrders};
 ghost use Rattle.wit_link.specs.PushExamples.{
   ExamplesOfGroups,
   ExamplesOfIncluded,
@@ -69,4 +70,9 @@ pub fn examples_of_near_misses()
 /// Packages that just lack a reason that lies in a world, whatever their image is.
 pub fn examples_of_world_near_misses()
     ensures { ExamplesOfWorldNearMisses }
+{}
+
+/// Orders of packages that are handed in together, and what isn't one.
+pub fn examples_of_orders()
+    ensures { ExamplesOfOrders }
 {}
