@@ -2,13 +2,16 @@ mod Acceptance
 mod AddedIsPushed
 mod AllActive
 mod CauseExamples
+mod ConflictNearMiss
 mod CyclePlaces
+mod EntryImages
 mod Examples
 mod GrownWorlds
 mod HasImage
 mod ImageExamples
 mod IncludeExamples
 mod JoinedRows
+mod LabelNearMisses
 mod Listed
 mod NearMisses
 mod OrderExamples
