@@ -1,5 +1,6 @@
 mod Acceptance
 mod AddedIsPushed
+mod AddingExamples
 mod AllActive
 mod CauseExamples
 mod ConflictNearMiss

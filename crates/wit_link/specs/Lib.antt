@@ -1,4 +1,5 @@
 pub mod Added
+pub mod AddingExamples
 pub mod Cause
 pub mod CauseExamples
 pub mod CauseText

@@ -1,4 +1,5 @@
 //! Examples of the definitions: each function has no body, and its contract is what is proved.
+ghost use Rattle.wit_link.specs.AddingExamples.{ExamplesOfAdding};
 ghost use Rattle.wit_link.specs.CauseExamples.{ExamplesOfCauses};
 ghost use Rattle.wit_link.specs.NearMisses.{ExamplesOfNearMisses};
 ghost use Rattle.wit_link.specs.OrderExamples.{ExamplesOfOrders};
@@ -75,4 +76,9 @@ pub fn examples_of_world_near_misses()
 /// Orders of packages that are handed in together, and what isn't one.
 pub fn examples_of_orders()
     ensures { ExamplesOfOrders }
+{}
+
+/// Packages that can be added so far, their spans, and what adding one makes of a graph.
+pub fn examples_of_adding()
+    ensures { ExamplesOfAdding }
 {}
