@@ -1,5 +1,5 @@
 -- The near misses of reasons in a world.
-use Rattle.std.proofs.Common.{◌≡◌, ◌⊎◌, ◌∙◌, ℕ, ◌+◌, ◌++◌, zero, suc, List, true, [], ◌∷◌, map, length, take, Option, Some, None, slice_get, option_map, refl, ap, sym, subst, inl, inr, lit<, Contains, arith}
+use Rattle.std.proofs.Common.{◌≡◌, ◌⊎◌, ◌∙◌, ℕ, ◌+◌, ◌++◌, zero, suc, List, true, [], ◌∷◌, map, length, take, Some, slice_get, refl, ap, sym, subst, inl, inr, lit<, Contains, arith}
 use Rattle.std.specs.Prelude.{codes}
 use Rattle.std.specs.List.{AllZip}
 use Rattle.std.specs.Map.{keys_of}
@@ -16,9 +16,12 @@ use Rattle.wit_items.specs.declared.world.WorldItem.{WorldItem}
 use Rattle.wit_items.specs.declared.world.WorldItem.TheVariants as item
 use Rattle.wit_items.specs.declared.world.WorldKey.{WorldKey}
 use Rattle.wit_items.specs.declared.world.WorldKey.TheVariants as key
-use Rattle.wit_graph.specs.Samples.{foo_bar, no_docs, world_of}
+use Rattle.wit_graph.specs.Samples.{foo_bar, world_of}
 use Rattle.wit_graph.specs.declared.graph.Graph.{Graph}
 use Rattle.wit_graph.specs.declared.graph.Package.{Package}
+use Rattle.wit_link.proofs.EntryImages.{function_image, interface_at, interface_image, key_apart, label_same, no_images, some_same, under}
+use Rattle.wit_link.proofs.ConflictNearMiss.{closed}
+use Rattle.wit_link.proofs.LabelNearMisses.{has_getter, not_alike}
 use Rattle.wit_link.proofs.Listed.{differ, none_in, only_one}
 use Rattle.wit_link.specs.Cause.{HasStability, IsAtInclude, IsAtWorld, IsListCalled, Mismatches, RenamesNothing, Shadows, lists_of}
 use Rattle.wit_link.specs.Examples.{function_entry, gate_f, named_as}
@@ -35,56 +38,21 @@ only_late : {A : Type 0} → ⊥ ⊎ A → (A → ⊥) → ⊥
 only_late (inl early) not = early
 only_late (inr late) not = not late
 
-some_same : {X : Type 0} (a b : X) → Some a ≡ Some b → a ≡ b
-some_same a b same = cc
-
-label_same : (a b : List ℕ) → key.Name a ≡ key.Name b → a ≡ b
-label_same a b same = cc
-
-key_apart : (i : ℕ) (label : List ℕ) → key.Interface i ≡ key.Name label → ⊥
-key_apart i label same = cc
-
 -- ---- what a world imports that has interface a and function f
 
--- the image of an interface stands under its key
-interface_image : (types : List TypeDef) (m : Maps) (i : ℕ) (note : Stability) (e : Entry) → IsEntryImage types m 0 (key.Interface i, item.Interface i note no_docs None None) e
-    → (j : ℕ) × (e ≡ (key.Interface j, item.Interface j note no_docs None None))
-interface_image types m i note (k, held) (by_key, (j, goes, is)) =
-    let there : option_map key.Interface (Some j) ≡ Some k = subst (λ (o : Option ℕ). option_map key.Interface o ≡ Some k) goes by_key in
-    let same : key.Interface j ≡ k = some_same _ _ there in
-    (j, cc)
-
--- that of a function under its label
-label_stays : (types : List TypeDef) (m : Maps) (label : List ℕ) (e : Entry) → IsEntryImage types m 0 (function_entry label) e → key.Name label ≡ e.0
-label_stays types m label e image = some_same _ _ image.0
-
 -- the two entries
-abbrev under : WorldKey → WorldItem → Entry
-under k held = (k, held)
-
-abbrev a_at : ℕ → Entry
-a_at j = (key.Interface j, item.Interface j gate_f no_docs None None)
-
-abbrev f_with : WorldItem → Entry
-f_with held = (key.Name (codes "f"), held)
-
 record AreBoth (entries : List Entry) : Type 0 where
   j : ℕ
   held : WorldItem
-  are : entries ≡ a_at j ∷ f_with held ∷ []
+  are : entries ≡ interface_at j gate_f ∷ under (key.Name (codes "f")) held ∷ []
 
 both : (types : List TypeDef) (m : Maps) (entries : List Entry) → AllZip (IsEntryImage types m 0) (gated_entry gate_f ∷ function_entry (codes "f") ∷ []) entries → AreBoth entries
 both types m [] zip = absurd zip
 both types m (a ∷ []) zip = absurd zip.1
 both types m (a ∷ f ∷ []) (first, (second, rest)) =
     let image = interface_image types m 0 gate_f a first in
-    let label : f_with f.1 ≡ f = ap (λ (k : WorldKey). under k f.1) (label_stays types m (codes "f") f second) in
-    record { j = image.0; held = f.1; are = ap (λ (e : Entry). e ∷ f ∷ []) image.1 ∙ ap (λ (e : Entry). a_at image.0 ∷ e ∷ []) (sym label) }
+    record { j = image.0; held = f.1; are = ap (λ (e : Entry). e ∷ f ∷ []) image.2 ∙ ap (λ (e : Entry). interface_at image.0 gate_f ∷ e ∷ []) (sym (function_image types m (codes "f") f second)) }
 both types m (a ∷ b ∷ c ∷ entries) (first, (second, rest)) = absurd rest
-
-none : {X Y : Type 0} (R : X → Y → Type 0) (ys : List Y) → AllZip R [] ys → ys ≡ []
-none R [] zip = refl
-none R (y ∷ ys) zip = absurd zip
 
 -- ---- the include
 
@@ -138,7 +106,7 @@ module _ (note : Stability) (label : List ℕ) (names : List IncludeName) where
       let included : AreIncluded new m 1 (Some 1) [] [] (lists_of begun) lists = made cs first.0 at.included in (
         first.1,
         subst (λ (l : Lists). AreBoth l.imports) (sym included) (both new.types m begun.imports image.imports),
-        ap (λ (l : Lists). l.exports) included ∙ none (IsEntryImage new.types m 0) begun.exports image.exports,
+        ap (λ (l : Lists). l.exports) included ∙ no_images (IsEntryImage new.types m 0) begun.exports image.exports,
       )
     where
       made : (cs : List Copies) → cs ≡ [] → AreIncluded new m (1 + k) (Some 1) (take (length cs) (active_includes all_features world)) cs (lists_of begun) lists → AreIncluded new m 1 (Some 1) [] [] (lists_of begun) lists
@@ -218,7 +186,7 @@ stability_of (item.Function f) = Unknown
 stability_of (item.Type_ t span) = Unknown
 
 -- an interface among a and f has the gate of a
-gate_of : (j i : ℕ) (held : WorldItem) (note : Stability) → HasStability (a_at j ∷ f_with held ∷ []) i note → gate_f ≡ note
+gate_of : (j i : ℕ) (held : WorldItem) (note : Stability) → HasStability (interface_at j gate_f ∷ under (key.Name (codes "f")) held ∷ []) i note → gate_f ≡ note
 unfolding stability_of
 gate_of j i held note (docs, place, external_id, (zero, below, is)) = ap (λ (e : Entry). stability_of e.1) is
 gate_of j i held note (docs, place, external_id, (suc zero, below, is)) = absurd (key_apart i (codes "f") (sym (ap (λ (e : Entry). e.0) is)))
@@ -261,7 +229,10 @@ renames span message c =
 
 pub world_near_misses : ExamplesOfWorldNearMisses
 world_near_misses = record {
+  closed = λ span name c. only_late c (closed span name);
   other_label = λ span word name c. only_late c (other_label span word name);
   same_gate = λ span brings has c. only_late c (same_gate span brings has);
   renames = λ span message c. only_late c (renames span message);
+  not_alike = λ span message c. only_late c (not_alike span message);
+  has_getter = λ span message c. only_late c (has_getter span message);
 }

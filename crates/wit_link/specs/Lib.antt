@@ -1,4 +1,5 @@
 pub mod Added
+pub mod AddingExamples
 pub mod AddingLaws
 pub mod Cause
 pub mod CauseExamples
@@ -13,6 +14,7 @@ pub mod Images
 pub mod Include
 pub mod Labels
 pub mod NearMisses
+pub mod OrderExamples
 pub mod PushExamples
 pub mod Pushed
 pub mod Rename

@@ -1,7 +1,9 @@
 //! Laws of additions, and examples of the definitions: the contract of each function is what is proved.
 ghost use Rattle.wit_link.specs.AddingLaws.{AdditionsArePushes, AdditionsStayValid, FittingIsExact};
+ghost use Rattle.wit_link.specs.AddingExamples.{ExamplesOfAdding};
 ghost use Rattle.wit_link.specs.CauseExamples.{ExamplesOfCauses};
 ghost use Rattle.wit_link.specs.NearMisses.{ExamplesOfNearMisses};
+ghost use Rattle.wit_link.specs.OrderExamples.{ExamplesOfOrders};
 ghost use Rattle.wit_link.specs.PushExamples.{
   ExamplesOfGroups,
   ExamplesOfIncluded,
@@ -92,4 +94,14 @@ pub fn examples_of_near_misses()
 /// Packages that just lack a reason that lies in a world, whatever their image is.
 pub fn examples_of_world_near_misses()
     ensures { ExamplesOfWorldNearMisses }
+{}
+
+/// Orders of packages that are handed in together, and what isn't one.
+pub fn examples_of_orders()
+    ensures { ExamplesOfOrders }
+{}
+
+/// Packages that can be added so far, their spans, and what adding one makes of a graph.
+pub fn examples_of_adding()
+    ensures { ExamplesOfAdding }
 {}
