@@ -1,10 +1,9 @@
 -- The examples of what can be added, and of what is added.
-use Rattle.std.proofs.Common.{◌≡◌, ℕ, ◌+◌, ◌<◌, ◌≤◌, ◌^◌, List, [], ◌∷◌, length, Some, None, refl, ap, sym, subst, lit<, lit≤, arith}
+use Rattle.std.proofs.Common.{◌≡◌, ◌+◌, ◌<◌, ◌^◌, List, [], ◌∷◌, length, None, refl, ap, sym, subst, lit<, lit≤, arith}
 use Rattle.std.specs.List.{AllZip}
 use Rattle.wit_relations.specs.Walks.{walk, walk_within}
 use Rattle.wit_items.specs.Uses.{uses_of}
 use Rattle.wit_items.specs.declared.stability.Stability.TheVariants.{Unknown}
-use Rattle.wit_items.specs.declared.types.Type_.TheVariants as type
 use Rattle.wit_items.specs.declared.world.World.{World}
 use Rattle.wit_graph.specs.Elaborated.{Elaborated, import_steps, import_steps_within}
 use Rattle.wit_graph.specs.Examples.{empty_graph}
@@ -13,7 +12,7 @@ use Rattle.wit_graph.specs.declared.graph.Package.{Package}
 use Rattle.wit_link.proofs.Listed.{EachAt-nil, EachAt-one, EachAt-two, none_in}
 use Rattle.wit_link.specs.Added.{Added, next_places, placed_world}
 use Rattle.wit_link.specs.AddingExamples.{ExamplesOfAdding, first_with, with_export, with_include}
-use Rattle.wit_link.specs.CauseExamples.{gated, loose_world, naming, returning}
+use Rattle.wit_link.specs.CauseExamples.{gated, loose_world, naming}
 use Rattle.wit_link.specs.Examples.{gate_f}
 use Rattle.wit_link.specs.Fits.{PackageFits}
 use Rattle.wit_link.specs.PushExamples.{dep_name, first_package, main_name}
@@ -77,9 +76,9 @@ not_elaborated : Added empty_graph first_package 0 (sample (entry_of 1 ∷ []) [
 unfolding walk walk_within import_steps import_steps_within
 not_elaborated a =
     let each : AllZip (λ (old : World) (done : World). Elaborated sample_types (uses_of sample_types sample_interfaces) (placed_world (next_places empty_graph first_package 0) old) done)
-        (loose_world (entry_of 1 ∷ []) ∷ []) (world_of (codes "w") (entry_of 1 ∷ []) [] ∷ []) =
+    (loose_world (entry_of 1 ∷ []) ∷ []) (world_of (codes "w") (entry_of 1 ∷ []) [] ∷ []) =
     subst (λ (ws : List World). AllZip (λ (old : World) (done : World). Elaborated sample_types (uses_of sample_types sample_interfaces) (placed_world (next_places empty_graph first_package 0) old) done)
-        (loose_world (entry_of 1 ∷ []) ∷ []) ws) (sym a.worlds_are) a.elaborated in
+    (loose_world (entry_of 1 ∷ []) ∷ []) ws) (sym a.worlds_are) a.elaborated in
     let count : 1 ≡ 2 = ap (λ (w : World). length w.imports) each.0.world_is in
     absurd (omega (arith, count))
 

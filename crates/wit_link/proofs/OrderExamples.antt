@@ -1,5 +1,5 @@
 -- The examples of orders.
-use Rattle.std.proofs.Common.{◌≡◌, ◌⊎◌, ◌∙◌, ℕ, ◌<◌, ◌≤◌, ◌+◌, ◌^◌, zero, suc, true, false, List, [], ◌∷◌, length, flat_map, Some, None, slice_get, IsPermutation, refl, ap, sym, subst, inl, inr, lit<, lit≤, Contains, arith}
+use Rattle.std.proofs.Common.{◌≡◌, ◌⊎◌, ◌∙◌, ℕ, ◌<◌, zero, suc, List, [], ◌∷◌, length, flat_map, Some, slice_get, IsPermutation, refl, ap, sym, subst, inl, inr, lit<, lit≤, Contains, arith}
 use Rattle.std.proofs.lemmas.Bool.{false≢true}
 use Rattle.std.proofs.lemmas.List.Sorted.{Contains-permutation, length_permutation}
 use Rattle.std.specs.Prelude.{IsSortedByKey}
@@ -16,9 +16,8 @@ use Rattle.wit_graph.specs.declared.error_kind.ResolveErrorKind.{ResolveErrorKin
 use Rattle.wit_graph.specs.declared.error_kind.ResolveErrorKind.TheVariants.{DuplicatePackage, OffsetOverflow, PackageCycle}
 use Rattle.wit_link.proofs.Listed.{none_in}
 use Rattle.wit_link.specs.CauseExamples.{bare, naming}
-use Rattle.wit_link.specs.Examples.{no_features}
 use Rattle.wit_link.specs.Gates.{Place}
-use Rattle.wit_link.specs.Groups.{AreSorted, Handed, IsGroupOrder, IsHandedTwice, IsOnHandedCycle, IsSortCause, IsTooFar, TellsTooFar, handed_uses, names_of}
+use Rattle.wit_link.specs.Groups.{AreSorted, Handed, IsGroupOrder, IsHandedTwice, IsSortCause, IsTooFar, TellsTooFar, handed_uses, names_of}
 use Rattle.wit_link.specs.OrderExamples.{ExamplesOfOrders, dep_on_main, twice_at, two_alone}
 use Rattle.wit_link.specs.PushExamples.{dep_name, main_and_dep, main_name}
 
