@@ -76,9 +76,9 @@ not_elaborated : Added empty_graph first_package 0 (sample (entry_of 1 ∷ []) [
 unfolding walk walk_within import_steps import_steps_within
 not_elaborated a =
     let each : AllZip (λ (old : World) (done : World). Elaborated sample_types (uses_of sample_types sample_interfaces) (placed_world (next_places empty_graph first_package 0) old) done)
-        (loose_world (entry_of 1 ∷ []) ∷ []) (world_of (codes "w") (entry_of 1 ∷ []) [] ∷ []) =
+    (loose_world (entry_of 1 ∷ []) ∷ []) (world_of (codes "w") (entry_of 1 ∷ []) [] ∷ []) =
     subst (λ (ws : List World). AllZip (λ (old : World) (done : World). Elaborated sample_types (uses_of sample_types sample_interfaces) (placed_world (next_places empty_graph first_package 0) old) done)
-        (loose_world (entry_of 1 ∷ []) ∷ []) ws) (sym a.worlds_are) a.elaborated in
+    (loose_world (entry_of 1 ∷ []) ∷ []) ws) (sym a.worlds_are) a.elaborated in
     let count : 1 ≡ 2 = ap (λ (w : World). length w.imports) each.0.world_is in
     absurd (omega (arith, count))
 

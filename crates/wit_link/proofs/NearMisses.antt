@@ -29,6 +29,7 @@ use Rattle.wit_link.specs.Examples.{no_features}
 use Rattle.wit_link.specs.Gates.{Place}
 use Rattle.wit_link.specs.Image.{LeadsToResource}
 use Rattle.wit_link.specs.NearMisses.{ExamplesOfNearMisses, with_resource}
+use Rattle.wit_link.specs.PushExamples.{gate_g}
 use Rattle.wit_link.specs.Pushed.{HasInterface}
 use Rattle.wit_link.specs.WorldCauseExamples.{naming_type}
 
@@ -113,9 +114,9 @@ own_result span message c =
 
 pub near_misses : ExamplesOfNearMisses
 near_misses = record {
-  has_package = λ span requested known c. only_early c (include_has_image [] (PackageNotFound span requested known));
-  has_world = λ span requested home c. only_early c (include_has_image [] (WorldNotFound span requested home));
-  has_interface = λ span requested home c. only_early c (include_has_image [] (InterfaceNotFound span requested home));
+  has_package = λ span requested known c. only_early c (include_has_image gate_g (codes "f") [] (PackageNotFound span requested known));
+  has_world = λ span requested home c. only_early c (include_has_image gate_g (codes "f") [] (WorldNotFound span requested home));
+  has_interface = λ span requested home c. only_early c (include_has_image gate_g (codes "f") [] (InterfaceNotFound span requested home));
   has_type = λ span message c. only_early c (has_type span message);
   is_resource = λ span message c. only_early c (is_resource span message);
   own_result = λ span message c. only_early c (own_result span message);

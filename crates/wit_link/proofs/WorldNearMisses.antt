@@ -1,5 +1,5 @@
 -- The near misses of reasons in a world.
-use Rattle.std.proofs.Common.{◌≡◌, ◌⊎◌, ◌∙◌, ℕ, ◌+◌, ◌++◌, zero, suc, List, true, [], ◌∷◌, map, length, take, Some, slice_get, refl, ap, sym, subst, inl, inr, lit<, Contains, arith}
+use Rattle.std.proofs.Common.{◌≡◌, ◌⊎◌, ◌∙◌, ℕ, ◌+◌, ◌++◌, zero, suc, List, true, [], ◌∷◌, map, length, take, Some, None, slice_get, refl, ap, sym, subst, inl, inr, lit<, Contains, arith}
 use Rattle.std.specs.Prelude.{codes}
 use Rattle.std.specs.List.{AllZip}
 use Rattle.std.specs.Map.{keys_of}
@@ -16,13 +16,14 @@ use Rattle.wit_items.specs.declared.world.WorldItem.{WorldItem}
 use Rattle.wit_items.specs.declared.world.WorldItem.TheVariants as item
 use Rattle.wit_items.specs.declared.world.WorldKey.{WorldKey}
 use Rattle.wit_items.specs.declared.world.WorldKey.TheVariants as key
-use Rattle.wit_graph.specs.Samples.{foo_bar, world_of}
+use Rattle.wit_graph.specs.Samples.{foo_bar, no_docs, world_of}
 use Rattle.wit_graph.specs.declared.graph.Graph.{Graph}
 use Rattle.wit_graph.specs.declared.graph.Package.{Package}
 use Rattle.wit_link.proofs.EntryImages.{function_image, interface_at, interface_image, key_apart, label_same, no_images, some_same, under}
 use Rattle.wit_link.proofs.ConflictNearMiss.{closed}
 use Rattle.wit_link.proofs.LabelNearMisses.{has_getter, not_alike}
 use Rattle.wit_link.proofs.Listed.{differ, none_in, only_one}
+use Rattle.wit_link.proofs.WorldCauseExamples.{at_include, begun, other_feature, with_main}
 use Rattle.wit_link.specs.Cause.{HasStability, IsAtInclude, IsAtWorld, IsListCalled, Mismatches, RenamesNothing, Shadows, lists_of}
 use Rattle.wit_link.specs.Examples.{function_entry, gate_f, named_as}
 use Rattle.wit_link.specs.Gates.{Place}
@@ -227,12 +228,49 @@ renames span message c =
     let name : named_as (codes "f") (codes "y") ≡ c.name = only_name c.before c.after c.name (subst (λ (i : WorldInclude). i.names ≡ c.before ++ c.name ∷ c.after) (sym known.include_is) c.names_are) in
     c.unmatched (subst (λ (n : IncludeName). IsRenamed c.old n) name (subst (λ (x : World). IsRenamed x (named_as (codes "f") (codes "y"))) known.old_is (codes "f", (1, lit< tt, refl), refl)))
 
+-- ---- what holds where these don't
+
+mismatch : (label : List ℕ) (names : List IncludeName) → Mismatches all_features (with_world gate_g label) (including_package names) 0 (Some (50, 60)) gate_g gate_f
+mismatch label names = record {
+  new = with_main gate_g label names;
+  lists = lists_of begun;
+  include = _;
+  old = _;
+  word = codes "import";
+  current = _;
+  brought = _;
+  i = 0;
+  at_include = at_include gate_g label names;
+  list = (inl (refl, refl), inl (refl, refl));
+  there = (no_docs, None, None, (0, lit< tt, refl));
+  comes = (no_docs, None, None, (0, lit< tt, refl));
+  apart = λ joined joins. other_feature joins.0;
+  span_is = refl;
+}
+
+same_label : Shadows all_features (with_world gate_f (codes "f")) (including_package []) 0 (Some (50, 60)) (codes "import") (codes "f")
+same_label = record {
+  new = with_main gate_f (codes "f") [];
+  lists = lists_of begun;
+  include = _;
+  old = _;
+  current = _;
+  brought = _;
+  at_include = at_include gate_f (codes "f") [];
+  list = (inl (refl, refl), inl (refl, refl));
+  shadowed = (key.Interface 0 ∷ [], [], refl, (1, lit< tt, refl));
+  span_is = refl;
+}
+
 pub world_near_misses : ExamplesOfWorldNearMisses
 world_near_misses = record {
   closed = λ span name c. only_late c (closed span name);
   other_label = λ span word name c. only_late c (other_label span word name);
+  other_gate = inr (mismatch (codes "h") []);
   same_gate = λ span brings has c. only_late c (same_gate span brings has);
+  same_label = inr same_label;
   renames = λ span message c. only_late c (renames span message);
+  renamed_gate = inr (mismatch (codes "f") (named_as (codes "f") (codes "y") ∷ []));
   not_alike = λ span message c. only_late c (not_alike span message);
   has_getter = λ span message c. only_late c (has_getter span message);
 }

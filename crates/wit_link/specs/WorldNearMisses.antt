@@ -1,5 +1,5 @@
 -- Packages that just lack a reason that lies in a world, whatever their image is.
-use Rattle.std.specs.Prelude.{ℕ, List, [], ◌∷◌, None, codes}
+use Rattle.std.specs.Prelude.{ℕ, List, [], ◌∷◌, None, Some, codes}
 use Rattle.wit_items.specs.declared.stability.Stability.{Stability}
 use Rattle.wit_items.specs.declared.stability.Stability.TheVariants.{Unknown}
 use Rattle.wit_items.specs.declared.unresolved.AstItem.TheVariants as named
@@ -33,12 +33,15 @@ closed_package = record (bare main_name) {
 pub record ExamplesOfWorldNearMisses : Type 0 where
   -- 4: b uses a, which is exported, and nothing else
   pub closed : (span : Place) (name : List ℕ) → IsCause no_features three closed_package 0 (InvalidTransitiveDependency span name) → ⊥
-  -- 7: the included world brings h, and f is there
+  -- 7: the included world brings h, and f is there; 8 holds
   pub other_label : (span : Place) (word name : List ℕ) → IsCause all_features (with_world gate_g (codes "h")) (including_package []) 0 (ItemShadowing span word name) → ⊥
-  -- 8: a comes under the gate that it has
+  pub other_gate : IsCause all_features (with_world gate_g (codes "h")) (including_package []) 0 (StabilityMismatch (Some (50, 60)) gate_g gate_f)
+  -- 8: a comes under the gate that it has; 7 holds
   pub same_gate : (span : Place) (brings has : Stability) → IsCause all_features (with_world gate_f (codes "f")) (including_package []) 0 (StabilityMismatch span brings has) → ⊥
-  -- 16: the renaming is of a label of the included world
+  pub same_label : IsCause all_features (with_world gate_f (codes "f")) (including_package []) 0 (ItemShadowing (Some (50, 60)) (codes "import") (codes "f"))
+  -- 16: the renaming is of a label of the included world; 8 holds
   pub renames : (span : Place) (message : List ℕ) → IsCause all_features (with_world gate_g (codes "f")) (including_package (named_as (codes "f") (codes "y") ∷ [])) 0 (Semantic span message cause.RenameUnmatched) → ⊥
+  pub renamed_gate : IsCause all_features (with_world gate_g (codes "f")) (including_package (named_as (codes "f") (codes "y") ∷ [])) 0 (StabilityMismatch (Some (50, 60)) gate_g gate_f)
   -- 17: labels that differ in more than case
   pub not_alike : (span : Place) (message : List ℕ) → IsCause no_features empty_graph (importing (function_entry (codes "ab") ∷ function_entry (codes "ac") ∷ [])) 0 (Semantic span message cause.NotStronglyUnique) → ⊥
   -- 18: a setter behind its getter
