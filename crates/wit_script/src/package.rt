@@ -6,7 +6,7 @@ ghost use Rattle.wit_script.specs.Reading.{IsRead, Leads};
 use crate::fault::LineFault;
 use crate::line::ink;
 use crate::statement::PackageLine;
-use crate::token::primitive;
+use crate::token::{is_compound, primitive};
 use std::alloc::{AllocError, Global};
 use std::mem;
 use wit_items::{
@@ -202,7 +202,8 @@ impl OpenPackage {
         Ok(())
     }
 
-    /// Adds another name of a primitive type or of an earlier type of the interface.
+    /// Adds another name of a primitive type or of an earlier type of the interface. Types that are made
+    /// of others aren't read yet.
     fn add_type(
         &mut self,
         alloc: Global,
@@ -212,6 +213,9 @@ impl OpenPackage {
     ) -> Result<(), LineFault>
         ensures { Leads (with_type self.old name ty.now span) result self.new }
     {
+        if is_compound(ty.as_str()) {
+            return Err(LineFault::NotUnderstood);
+        }
         let target = self
             .type_named(ty.as_str())
             .ok_or(LineFault::NotUnderstood)?;

@@ -3,7 +3,8 @@ ghost use Rattle.std.specs.Prelude.{◌≡◌, map, Some, IfOk, IfErr, OnOk, not
 ghost use Rattle.wit_script.specs.Line.{is_silent, last_said_of};
 ghost use Rattle.wit_script.specs.Reading.{IsRead, Leads};
 ghost use Rattle.wit_script.specs.Said.{said_of};
-ghost use Rattle.wit_script.specs.Script.{new_reading, with_statement, with_package, with_push, with_command, after_line, after_lines, GoesOn, IsShapedCommand, AreShaped, IsUnderstood, HasLineFault, HasReadFault};
+ghost use Rattle.wit_script.specs.Script.{new_reading, with_statement, with_package, with_push, with_command, after_line, after_lines, GoesOn, IsShapedCommand, AreShaped, IsReadAs, HasLineFault, StopsAt};
+ghost use Rattle.wit_script.specs.Understood.{IsUnderstood, HasReadFault, command_of};
 
 use crate::fault::{LineFault, ReadFault};
 use crate::line::{is_comment, lines, tokens};
@@ -180,13 +181,10 @@ fn add_lines(alloc: Global, reading: &mut Reading, lines: &[&str]) -> Result<usi
     Ok(last)
 }
 
-/// The commands of a script, or the number of its first line that isn't understood.
-///
-/// Where all lines are understood but packages wait for their `push`, the last line that says
-/// something is named.
-pub fn read_script(alloc: Global, text: &str) -> Result<Items<ScriptCommand>, ReadFault>
-    ensures ok { IfOk result (λ commands. IsUnderstood text.now commands) }
-    ensures fault { IfErr result (λ fault. HasReadFault text.now fault) }
+/// The commands that the lines of a script ask, or the number of the line at which reading stops.
+fn read_commands(alloc: Global, text: &str) -> Result<Items<ScriptCommand>, ReadFault>
+    ensures ok { IfOk result (λ commands. IsReadAs text.now commands) }
+    ensures fault { IfErr result (λ fault. StopsAt text.now fault) }
 {
     let lines = lines(alloc, text)?;
     let mut reading = Reading::new(alloc);
@@ -195,4 +193,15 @@ pub fn read_script(alloc: Global, text: &str) -> Result<Items<ScriptCommand>, Re
         return Err(ReadFault::NotUnderstood { line: last });
     }
     Ok(reading.commands)
+}
+
+/// The commands of a script, or the number of its first line that isn't understood.
+///
+/// Where all lines are understood but packages wait for their `push`, the last line that says
+/// something is named.
+pub fn read_script(alloc: Global, text: &str) -> Result<Items<ScriptCommand>, ReadFault>
+    ensures ok { IfOk result (λ commands. IsUnderstood text.now (map command_of commands)) }
+    ensures fault { IfErr result (λ fault. HasReadFault text.now fault) }
+{
+    read_commands(alloc, text)
 }

@@ -2,7 +2,8 @@
 ghost use Rattle.std.specs.Prelude.{◌≡◌, List, ℕ, true, IfOk, IfSome, IsErrOf, string_bytes};
 ghost use Rattle.std.specs.Str.{IsUtf8};
 ghost use Rattle.std.specs.Io.KnownBytes.{Appends};
-ghost use Rattle.wit_script.specs.Answer.{any_run, any_choice, Prints};
+ghost use Rattle.wit_script.specs.Answer.{any_run, any_choice};
+ghost use Rattle.wit_script.specs.Prints.{Prints};
 
 use crate::answer::answers_to;
 use crate::fault::{ReadFault, ScriptFault};
