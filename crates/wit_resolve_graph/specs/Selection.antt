@@ -2,7 +2,7 @@
 -- order: is the text a use path, are there main packages, which package is meant, and which world.
 -- Source: `select_world` of wit-parser 0.263.0; what is said of a text that is no use path is this
 -- project's own.
-use Rattle.std.specs.Prelude.{ℕ, ◌&&◌, Bool, List, [], ◌∷◌, ◌++◌, filter, slice_get, Option, None, Some, Result, Ok, Err, is_none, is_some, codes}
+use Rattle.std.specs.Prelude.{◌≡◌, ◌⊎◌, ℕ, ◌&&◌, Bool, List, [], ◌∷◌, ◌++◌, filter, slice_get, Option, None, Some, Result, Ok, Err, is_none, is_some, codes}
 use Rattle.std.specs.List.{flat_map}
 use Rattle.std.specs.Map.{lookup}
 use Rattle.std.specs.Option.{option_map_or, ok_or}
@@ -17,6 +17,9 @@ use Rattle.wit_items.specs.declared.use_path.ParsedUsePath.{ParsedUsePath}
 use Rattle.wit_items.specs.declared.use_path.ParsedUsePath.TheVariants as path
 use Rattle.wit_items.specs.declared.world.World.{World}
 use Rattle.wit_graph.specs.IdText.{id_text}
+use Rattle.wit_graph.specs.declared.cause.Cause.TheVariants.{WorldSelection}
+use Rattle.wit_graph.specs.declared.error_kind.ResolveErrorKind.{ResolveErrorKind}
+use Rattle.wit_graph.specs.declared.error_kind.ResolveErrorKind.TheVariants.{OutOfMemory, Semantic}
 use Rattle.wit_graph.specs.declared.graph.Graph.{Graph}
 use Rattle.wit_graph.specs.declared.graph.Package.{Package}
 
@@ -76,6 +79,12 @@ abbrev pub several_worlds_text : Graph → ℕ → Package → List ℕ
 several_worlds_text g p home = codes "There are multiple worlds in `" ++ (package_name_text home.name ++ (codes "`; one must be explicitly chosen:" ++ package_world_lines g p home))
 
 -- ---- packages
+
+-- the only main package
+abbrev pub only_main : Graph → List ℕ → Choice
+only_main g [] = Err no_main_text
+only_main g (p ∷ []) = Ok p
+only_main g (p ∷ q ∷ mains) = Err (several_mains_text g)
 
 -- the name has a version, and but for it is this one
 abbrev pub is_version_of : PackageName → PackageName → Bool
@@ -139,3 +148,22 @@ by_reading g mains text (Some chosen) = by_path g mains (Some chosen)
 abbrev pub selected_world : Graph → List ℕ → Option (List ℕ) → Choice
 selected_world g mains None = by_path g mains None
 selected_world g mains (Some text) = by_reading g mains text (use_path_of text)
+
+-- ---- what comes of it
+
+-- the refusal that says this
+abbrev pub selection_error : List ℕ → ResolveErrorKind
+selection_error message = Semantic None message WorldSelection
+
+-- the refusal of a choice: what is said instead, or want of memory
+abbrev pub IsSaid : Choice → ResolveErrorKind → Type 0
+IsSaid choice kind = (kind ≡ OutOfMemory) ⊎ ((message : List ℕ) × (choice ≡ Err message) × (kind ≡ selection_error message))
+
+-- what comes of a choice: the id, or its refusal
+abbrev pub ComesOf : Choice → Result ℕ ResolveErrorKind → Type 0
+ComesOf choice (Ok id) = choice ≡ Ok id
+ComesOf choice (Err kind) = IsSaid choice kind
+
+-- what comes of a selection among the main packages
+abbrev pub IsSelection : Graph → List ℕ → Option (List ℕ) → Result ℕ ResolveErrorKind → Type 0
+IsSelection g mains text = ComesOf (selected_world g mains text)
