@@ -8,5 +8,6 @@ pub mod Answered
 pub mod ReadScripts
 pub mod Told
 pub mod SoFar
+pub mod FitLines
 pub mod Forms
 pub mod ReadWhole

@@ -1,13 +1,14 @@
 -- What all commands answer. Between `other` and `merge` commands work on a second graph.
 use Rattle.std.specs.Prelude.{◌≡◌, ◌⊎◌, ℕ, true, List, [], ◌∷◌, ◌++◌, Option, None, Some}
 use Rattle.std.specs.List.{flat_map}
+use Rattle.wit_graph.specs.declared.error_kind.ResolveErrorKind.TheVariants.{OutOfMemory}
 use Rattle.wit_graph.specs.declared.graph.Graph.{Graph}
 use Rattle.wit_resolve_graph.specs.State.{State, new_state}
 use Rattle.wit_resolve_graph.specs.declared.command.Command.{Command}
 use Rattle.wit_resolve_graph.specs.declared.command.Command.TheVariants.{AddFeature, SetAllFeatures, PushGroups, Merge, Importize, Exportize, Semver}
 use Rattle.wit_resolve_graph.specs.declared.command.Reply.{Reply}
 use Rattle.wit_resolve_graph.specs.declared.command.Reply.TheVariants as reply
-use Rattle.wit_script.specs.Answer.{Runs, Chooses, IsPrinted, IsRefusal, IsSelected, reply_text}
+use Rattle.wit_script.specs.Answer.{Runs, Chooses, IsPrinted, IsSelected, refusal_text, reply_text}
 use Rattle.wit_script.specs.AnyScript.{AnyCommand, PushAll, Asked}
 use Rattle.wit_script.specs.AnyStatement.{TurnOn, TurnOnAll, SetTracks, OpenOther, MergeOther, TurnExports, TurnImports, KeepNewest, ShowWorld, ChooseWorld}
 
@@ -44,11 +45,12 @@ quiet_text g (reply.Merged remap) = reply_text g (reply.Merged remap)
 quiet_text g reply.NoWorld = reply_text g reply.NoWorld
 quiet_text g (reply.Refused kind) = reply_text g (reply.Refused kind)
 
--- a run of one command: its replies are told, or the refusal of the run itself, after which all is as before
+-- a run of one command: its replies are told, or the refusal of the run itself, which is want of memory, after
+-- which all is as before
 abbrev pub IsAnswered : Runs → (Graph → Reply → List ℕ) → State → Command → List ℕ → State → Type 0
 IsAnswered runs told before command text after =
     ((replies : List Reply) × runs before (command ∷ []) replies after × (text ≡ flat_map (told after.graph) replies))
-    ⊎ ((after ≡ before) × IsRefusal text)
+    ⊎ ((after ≡ before) × (text ≡ refusal_text OutOfMemory))
 
 -- the same on the graph on which commands work
 abbrev pub Works : Runs → (Graph → Reply → List ℕ) → Stage → Command → List ℕ → Stage → Type 0

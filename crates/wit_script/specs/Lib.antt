@@ -5,6 +5,7 @@ pub mod World
 pub mod Reading
 pub mod Statement
 pub mod Ready
+pub mod Fit
 pub mod Package
 pub mod Gate
 pub mod AnyLine
@@ -21,3 +22,4 @@ pub mod Answer
 pub mod AnyAnswer
 pub mod Prints
 pub mod ScriptExamples
+pub mod LaterExamples

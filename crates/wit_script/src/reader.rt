@@ -2,6 +2,7 @@
 ghost use Rattle.std.specs.Prelude.{◌≡◌, map, Some, IfOk, IfErr, OnOk, not};
 ghost use Rattle.wit_script.specs.Line.{is_silent, last_said_of};
 ghost use Rattle.wit_script.specs.Reading.{IsRead, Leads};
+ghost use Rattle.wit_script.specs.Fit.{IsFit};
 ghost use Rattle.wit_script.specs.Said.{said_of};
 ghost use Rattle.wit_script.specs.Script.{new_reading, with_statement, with_package, with_push, with_command, after_line, after_lines, GoesOn, IsShapedCommand, AreShaped, IsReadAs, HasLineFault, StopsAt};
 ghost use Rattle.wit_script.specs.Understood.{IsUnderstood, HasReadFault, command_of};
@@ -55,7 +56,8 @@ impl Reading {
 
     /// Adds what a line says.
     fn add(&mut self, alloc: Global, said: Statement, line: &str) -> Result<(), LineFault>
-        requires { AreShaped self.old.commands }
+        requires shaped { AreShaped self.old.commands }
+        requires fit { IsFit self.old }
         ensures { GoesOn (with_statement self.old said line.now) result self.new }
     {
         match said {
@@ -90,7 +92,8 @@ impl Reading {
 
     /// Ends the packages, of which there is one, and adds the command that pushes it.
     fn add_push(&mut self, alloc: Global) -> Result<(), LineFault>
-        requires { AreShaped self.old.commands }
+        requires shaped { AreShaped self.old.commands }
+        requires fit { IsFit self.old }
         ensures { GoesOn (with_push self.old) result self.new }
     {
         let Some(package) = self.current.take() else {
@@ -144,7 +147,8 @@ fn read_line(alloc: Global, line: &str) -> Result<Option<Statement>, LineFault>
 
 /// Adds a line, and tells whether it says anything.
 fn add_line(alloc: Global, reading: &mut Reading, line: &str) -> Result<bool, LineFault>
-    requires { AreShaped reading.old.commands }
+    requires shaped { AreShaped reading.old.commands }
+    requires fit { IsFit reading.old }
     ensures next { GoesOn (after_line reading.old line.now) result reading.new }
     ensures told { IfOk result (λ said. said ≡ not (is_silent line.now)) }
 {
@@ -159,7 +163,8 @@ fn add_line(alloc: Global, reading: &mut Reading, line: &str) -> Result<bool, Li
 
 /// Adds lines, and answers how many there are up to the last that says something.
 fn add_lines(alloc: Global, reading: &mut Reading, lines: &[&str]) -> Result<usize, ReadFault>
-    requires { AreShaped reading.old.commands }
+    requires shaped { AreShaped reading.old.commands }
+    requires fit { IsFit reading.old }
     ensures read { OnOk result (after_lines reading.old (map (λ line. line.now) lines.now) ≡ Some reading.new) }
     ensures shaped { OnOk result (AreShaped reading.new.commands) }
     ensures last { IfOk result (λ last. last ≡ last_said_of (map (λ line. line.now) lines.now)) }
