@@ -70,6 +70,13 @@ instance_one (item.Function function) i has = absurd (Contains-nil has)
 instance_one (item.Type_ id span) i has = absurd (Contains-nil has)
 
 module _ (types : List TypeDef) where
+  -- an exported interface is in range
+  pub instance_below : (interfaces : ℕ) (e : Entry) (x : ℕ) → Contains (instance_of e.1) x → IsRoleInRange interfaces (role_of types e.1) → x < interfaces
+  instance_below interfaces e x has inside =
+      let role = role_from_instance types e.1 x (instance_one e.1 x has) in
+      let inside' : IsRoleInRange interfaces (Instance x) = subst (λ r. IsRoleInRange interfaces r) role inside in
+      inside'
+
   -- what the steps of an exported interface import is needed outside
   steps_needed : (uses : List (List ℕ)) → IsAcyclic uses → (exports : List Entry) → ((e : Entry) (i : ℕ) → Contains exports e → e.0 ≡ Interface i → (role_of types e.1) ≡ Instance i) →
       (members i j : ℕ) → Contains (exported_interfaces exports) i → Contains (import_steps_within uses (is_exported exports) members i) j → Needed uses exports j
@@ -143,16 +150,10 @@ module _ (types : List TypeDef) where
         let at = Contains-keys made e.0 (fresh_entries_all [] (from_imports types uses acyclic imports exports listed ++ from_exports types uses acyclic imports exports listed) e has) in
         Contains-flat_map (λ (e : Entry). id_of e.0) (by_class types made) at.0 j (in_by_class types made at.0 at.1.0) (subst (λ k. Contains (id_of k) j) (sym (at.1.1 ∙ key)) (Contains-here j []))
 
-    instance_range : (e : Entry) (x : ℕ) → Contains (instance_of e.1) x → IsRoleInRange (length uses) (role_of types e.1) → x < length uses
-    instance_range e x has inside =
-        let role = role_from_instance types e.1 x (instance_one e.1 x has) in
-        let inside' : IsRoleInRange (length uses) (Instance x) = subst (λ r. IsRoleInRange (length uses) r) role inside in
-        inside'
-
     pub exact_from : (j : ℕ) → IsImported types uses imports exports j → Contains (ids_of (by_class types made)) j
     exact_from j (inl need) =
         let part = Contains-flat_map_cases (λ (e : Entry). instance_of e.1) exports need.0 need.2 in
-        let inside = instance_range part.0 need.0 part.1.1 (listed.exports_in_range part.0 part.1.0) in
+        let inside = instance_below (length uses) part.0 need.0 part.1.1 (listed.exports_in_range part.0 part.1.0) in
         let step = needed_steps uses acyclic (is_exported exports) need.0 need.1 j inside need.3 (no_any_from need.1 _ need.4) need.5 in
         listed_id (dependency_of (export_carries part.0.1) j) j
         (Contains-append_right (from_imports types uses acyclic imports exports listed) (from_exports types uses acyclic imports exports listed) (dependency_of (export_carries part.0.1) j)

@@ -31,6 +31,13 @@ pub filter-none : {X : Type 0} (p : X → Bool) (xs : List X) → ((x : X) → C
 filter-none p [] fails = refl
 filter-none p (x ∷ xs) fails = filter-fail p x xs (fails x (Contains-here x xs)) ∙ filter-none p xs (λ y has. fails y (Contains-there x y xs has))
 
+-- tests that tell the same of the members pick the same
+pub filter-same : {X : Type 0} (p q : X → Bool) (xs : List X) → ((x : X) → Contains xs x → p x ≡ q x) → filter p xs ≡ filter q xs
+filter-same p q [] same = refl
+filter-same p q (x ∷ xs) same =
+    ap (λ b. cond b (x ∷ filter p xs) (filter p xs)) (same x (Contains-here x xs))
+    ∙ ap (λ ys. cond (q x) (x ∷ ys) ys) (filter-same p q xs (λ y has. same y (Contains-there x y xs has)))
+
 pub Contains-filtered : {X : Type 0} (p : X → Bool) (xs : List X) (x : X) → Contains xs x → p x ≡ true → Contains (filter p xs) x
 Contains-filtered p [] x has pass = absurd (Contains-nil has)
 Contains-filtered p (y ∷ xs) x has pass =

@@ -26,7 +26,7 @@ use Rattle.wit_graph.proofs.Roles.{InOrder, instance_from_role, role_of-settled,
 use Rattle.wit_graph.proofs.Steps.{import_steps_first, import_steps_below, needs_below}
 
 -- the key of an entry is among the keys
-keys-Contains : (es : List Entry) (e : Entry) → Contains es e → Contains (keys_of es) e.0
+pub keys-Contains : (es : List Entry) (e : Entry) → Contains es e → Contains (keys_of es) e.0
 keys-Contains [] e has = absurd (Contains-nil has)
 keys-Contains (d ∷ es) e has =
     elim (Contains-cons_cases d e es has)
@@ -55,7 +55,7 @@ module _ (types : List TypeDef) where
     all_imports = fresh_entries [] (from_imports ++ from_exports)
 
     -- an import that is made is in order by itself
-    record IsFine (f : Entry) : Type 0 where
+    pub record IsFine (f : Entry) : Type 0 where
       pub own : (i : ℕ) → f.0 ≡ Interface i → (role_of types f.1) ≡ Instance i
       pub inside : IsRoleInRange (length uses) (role_of types f.1)
       pub is_settled : settled_item f.1 ≡ f.1
@@ -84,7 +84,7 @@ module _ (types : List TypeDef) where
     unfolding import_steps
     steps_first i seen = import_steps_first uses acyclic (is_exported exports) (length uses) i seen
 
-    import_fine : (f : Entry) → Contains all_imports f → IsFine f
+    pub import_fine : (f : Entry) → Contains all_imports f → IsFine f
     import_fine f has =
         elim (Contains-append_cases from_imports from_exports f (fresh_entries_in [] (from_imports ++ from_exports) f has)) [
           | inl of_import ↦

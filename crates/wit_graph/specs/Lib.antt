@@ -10,6 +10,7 @@ pub mod ErrorText
 pub mod Examples
 pub mod IdText
 pub mod Imported
+pub mod KeptByElaboration
 pub mod Listed
 pub mod Questions
 pub mod Relations

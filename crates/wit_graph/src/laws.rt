@@ -3,6 +3,7 @@
 ghost use Rattle.wit_graph.specs.ElaborationExamples.{WorkedConflicts, WorkedElaborations};
 ghost use Rattle.wit_graph.specs.ElaborationLaws.{ConflictsAreRefused, ElaboratesOnce, ImportsAreExact, ImportsKeepOrder, OrderIsFree};
 ghost use Rattle.wit_graph.specs.Examples.{ExamplesOfQuestions, ExamplesOfRelations, ExamplesOfValidity};
+ghost use Rattle.wit_graph.specs.KeptByElaboration.{ElaboratedEntries, ElaboratedOnce, ElaborationIsLocal, ExportKeysStay, ImportsAreLeast, LabelsStay, ListedStays};
 
 /// Elaborating an elaborated world changes nothing.
 pub fn elaborates_once()
@@ -39,6 +40,45 @@ pub fn worked_conflicts()
 /// There is a refused key exactly where there is a conflict.
 pub fn conflicts_are_refused()
     ensures { ConflictsAreRefused }
+{}
+
+/// More interfaces, and other types over which the imports are and carry what they were and did,
+/// change no elaboration.
+pub fn elaboration_is_local()
+    ensures { ElaborationIsLocal }
+{}
+
+/// Each import of an elaborated world was listed or is a dependency that is used, and each export was
+/// listed or is a dependency under an exported key.
+pub fn elaborated_entries()
+    ensures { ElaboratedEntries }
+{}
+
+/// No two imports of an elaborated world have one key, nor have two exports where no two of those
+/// listed had.
+pub fn elaborated_once()
+    ensures { ElaboratedOnce }
+{}
+
+/// The keys of the exports are those that were listed.
+pub fn export_keys_stay()
+    ensures { ExportKeysStay }
+{}
+
+/// The interfaces that an elaborated world imports are the least set that has those where the listed
+/// imports begin and those that the exports need, and with each one all that it uses.
+pub fn imports_are_least()
+    ensures { ImportsAreLeast }
+{}
+
+/// The imports under labels are those that were listed, by class.
+pub fn labels_stay()
+    ensures { LabelsStay }
+{}
+
+/// The keys and ids of an elaborated world are in order, where those of the listed one were.
+pub fn listed_stays()
+    ensures { ListedStays }
 {}
 
 /// Small graphs: which are valid and which aren't.

@@ -30,10 +30,14 @@ pub record IsSupportedType (def : TypeDef) : Type 0 where
   pub ungated : def.stability ≡ stability.Unknown
   pub data_kind : IsData def.kind
 
+-- no function among these has a gate
+abbrev pub AreUngated : List (List ℕ × Function) → Type 0
+AreUngated functions = Each (λ (e : List ℕ × Function). e.1.stability ≡ stability.Unknown) functions
+
 -- an interface without a gate, nor has a function of it one
 pub record IsSupportedInterface (interface : Interface) : Type 0 where
   pub ungated : interface.stability ≡ stability.Unknown
-  pub functions : Each (λ (e : List ℕ × Function). e.1.stability ≡ stability.Unknown) interface.functions
+  pub functions : AreUngated interface.functions
 
 -- an interface under its own key, without a gate
 abbrev pub IsSupportedImport : WorldKey → WorldItem → Type 0
@@ -47,13 +51,16 @@ pub record IsSupportedWorld (world : World) : Type 0 where
   pub no_exports : world.exports ≡ []
   pub no_includes : world.includes ≡ []
 
--- a package that can be added so far
-pub record IsSupported (u : UnresolvedPackage) : Type 0 where
-  -- it names nothing of other packages
+-- a package that names nothing of other packages
+pub record NamesNothing (u : UnresolvedPackage) : Type 0 where
   pub no_deps : u.foreign_deps ≡ []
   pub no_dep_spans : u.foreign_dep_spans ≡ []
   pub no_unknown : u.unknown_type_spans ≡ []
   pub no_required : u.required_resource_types ≡ []
+
+-- a package that can be added so far
+pub record IsSupported (u : UnresolvedPackage) : Type 0 where
+  pub alone : NamesNothing u
   pub types : Each IsSupportedType u.types
   pub interfaces : Each IsSupportedInterface u.interfaces
   pub worlds : Each IsSupportedWorld u.worlds

@@ -1,7 +1,13 @@
 //! The image of what is handed in under the maps of its ids: the same data with each id mapped and each
 //! span moved.
+ghost use Rattle.std.specs.Prelude.{◌≡◌, IfOk};
+ghost use Rattle.std.specs.Option.{option_map};
+ghost use Rattle.wit_items.specs.Span.{moved_by};
+ghost use Rattle.wit_link.specs.Added.{placed_ty, placed_owner, placed_handle, placed_function_kind};
+ghost use Rattle.wit_link.specs.Images.{image_places};
+
 use crate::remap::Remap;
-use wit_graph::{ResolveError, ResolveErrorKind, ResolveResult};
+use std::alloc::AllocError;
 use wit_items::{
     FunctionKind, Handle, InterfaceId, PackageId, Span, Type_, TypeId, TypeOwner, WorldId, WorldKey,
 };
@@ -15,50 +21,62 @@ pub(crate) struct Image<'a> {
 }
 
 impl<'a> Image<'a> {
-    pub(crate) fn type_id(&self, id: TypeId) -> TypeId {
+    pub(crate) fn type_id(&self, id: TypeId) -> TypeId
+        ensures { result ≡ (image_places self.now).types id }
+    {
         match self.remap.types().get(id.index()) {
             Some(Some(new)) => *new,
             _ => id,
         }
     }
 
-    pub(crate) fn interface_id(&self, id: InterfaceId) -> InterfaceId {
+    pub(crate) fn interface_id(&self, id: InterfaceId) -> InterfaceId
+        ensures { result ≡ (image_places self.now).interfaces id }
+    {
         match self.remap.interfaces().get(id.index()) {
             Some(Some(new)) => *new,
             _ => id,
         }
     }
 
-    pub(crate) fn world_id(&self, id: WorldId) -> WorldId {
+    pub(crate) fn world_id(&self, id: WorldId) -> WorldId
+        ensures { result ≡ (image_places self.now).worlds id }
+    {
         match self.remap.worlds().get(id.index()) {
             Some(Some(new)) => *new,
             _ => id,
         }
     }
 
-    pub(crate) fn ty(&self, ty: Type_) -> Type_ {
+    pub(crate) fn ty(&self, ty: Type_) -> Type_
+        ensures { result ≡ placed_ty (image_places self.now) ty }
+    {
         match ty {
             Type_::Id(id) => Type_::Id(self.type_id(id)),
             _ => ty,
         }
     }
 
-    pub(crate) fn optional_ty(&self, ty: Option<Type_>) -> Option<Type_> {
+    pub(crate) fn optional_ty(&self, ty: Option<Type_>) -> Option<Type_>
+        ensures { result ≡ option_map (placed_ty (image_places self.now)) ty }
+    {
         match ty {
             Some(ty) => Some(self.ty(ty)),
             None => None,
         }
     }
 
-    /// The span so many positions further on.
-    pub(crate) fn span(&self, span: Span) -> ResolveResult<Span> {
-        match span.moved(self.offset) {
-            Some(moved) => Ok(moved),
-            None => Err(ResolveError::from(ResolveErrorKind::OffsetOverflow)),
-        }
+    /// The span so many positions further on. The caller has seen that no span passes the last position, so
+    /// an error says that memory is wanting.
+    pub(crate) fn span(&self, span: Span) -> Result<Span, AllocError>
+        ensures { IfOk result (λ x. x ≡ moved_by self.now.offset span) }
+    {
+        span.moved(self.offset).ok_or(AllocError)
     }
 
-    pub(crate) fn owner(&self, owner: TypeOwner) -> TypeOwner {
+    pub(crate) fn owner(&self, owner: TypeOwner) -> TypeOwner
+        ensures { result ≡ placed_owner (image_places self.now) owner }
+    {
         match owner {
             TypeOwner::World(id) => TypeOwner::World(self.world_id(id)),
             TypeOwner::Interface(id) => TypeOwner::Interface(self.interface_id(id)),
@@ -66,14 +84,18 @@ impl<'a> Image<'a> {
         }
     }
 
-    pub(crate) fn handle(&self, handle: Handle) -> Handle {
+    pub(crate) fn handle(&self, handle: Handle) -> Handle
+        ensures { result ≡ placed_handle (image_places self.now) handle }
+    {
         match handle {
             Handle::Own(id) => Handle::Own(self.type_id(id)),
             Handle::Borrow(id) => Handle::Borrow(self.type_id(id)),
         }
     }
 
-    pub(crate) fn function_kind(&self, kind: FunctionKind) -> FunctionKind {
+    pub(crate) fn function_kind(&self, kind: FunctionKind) -> FunctionKind
+        ensures { result ≡ placed_function_kind (image_places self.now) kind }
+    {
         match kind {
             FunctionKind::Method(id) => FunctionKind::Method(self.type_id(id)),
             FunctionKind::AsyncMethod(id) => FunctionKind::AsyncMethod(self.type_id(id)),

@@ -1,19 +1,30 @@
 //! The images of functions, interfaces and worlds.
+ghost use Rattle.std.specs.Prelude.{◌≡◌, IfOk, OnOk, length, map};
+ghost use Rattle.std.specs.List.{IsDistinct};
+ghost use Rattle.std.specs.Map.{keys_of};
+ghost use Rattle.std.specs.Str.{bytes_eq};
+ghost use Rattle.wit_link.specs.Added.{placed_function, placed_interface, placed_param, placed_key, placed_item, placed_entry, placed_world};
+ghost use Rattle.wit_link.specs.Images.{AreNext, HaveKeysBelow, image_places, placed_listed, placed_named};
+
 use crate::image::Image;
 use std::alloc::{AllocError, Global};
-use wit_graph::ResolveResult;
 use wit_items::{
     Function, Interface, Items, Names, Param, Table, TryClone, TypeId, World, WorldItem, WorldKey,
 };
 use wit_values::{try_clone_three, try_clone_two};
 
 impl<'a> Image<'a> {
-    /// The image of an interface, which belongs to the package that takes it.
+    /// The image of an interface, which belongs to the package that takes it. A caller learns here that
+    /// the names in its tables differ.
     pub(crate) fn interface(
         &self,
         alloc: Global,
         interface: &Interface,
-    ) -> ResolveResult<Interface> {
+    ) -> Result<Interface, AllocError>
+        ensures image { IfOk result (λ x. x ≡ placed_interface (image_places self.now) interface.now) }
+        ensures types { OnOk result (IsDistinct bytes_eq (keys_of interface.now.types)) }
+        ensures functions { OnOk result (IsDistinct bytes_eq (keys_of interface.now.functions)) }
+    {
         let span = self.span(interface.span)?;
         let types = self.listed_types(alloc, &interface.types)?;
         let functions = self.functions(alloc, &interface.functions)?;
@@ -37,13 +48,14 @@ impl<'a> Image<'a> {
         &self,
         alloc: Global,
         types: &Names<TypeId>,
-    ) -> Result<Names<TypeId>, AllocError> {
+    ) -> Result<Names<TypeId>, AllocError>
+        ensures image { IfOk result (λ x. x ≡ map (placed_listed (image_places self.now)) types.now) }
+        ensures distinct { OnOk result (IsDistinct bytes_eq (keys_of types.now)) }
+    {
         let mut images = Names::new(alloc);
         for index in 0..types.len() {
             let (name, id) = types.entry_at(index);
-            if !images.contains_key(name) {
-                images.push(String::from_str(alloc, name)?, self.type_id(*id))?;
-            }
+            images.push(String::from_str(alloc, name)?, self.type_id(*id))?;
         }
         Ok(images)
     }
@@ -52,19 +64,22 @@ impl<'a> Image<'a> {
         &self,
         alloc: Global,
         functions: &Names<Function>,
-    ) -> ResolveResult<Names<Function>> {
+    ) -> Result<Names<Function>, AllocError>
+        ensures image { IfOk result (λ x. x ≡ map (placed_named (image_places self.now)) functions.now) }
+        ensures distinct { OnOk result (IsDistinct bytes_eq (keys_of functions.now)) }
+    {
         let mut images = Names::new(alloc);
         for index in 0..functions.len() {
             let (name, function) = functions.entry_at(index);
             let function = self.function(alloc, function)?;
-            if !images.contains_key(name) {
-                images.push(String::from_str(alloc, name)?, function)?;
-            }
+            images.push(String::from_str(alloc, name)?, function)?;
         }
         Ok(images)
     }
 
-    fn function(&self, alloc: Global, function: &Function) -> ResolveResult<Function> {
+    fn function(&self, alloc: Global, function: &Function) -> Result<Function, AllocError>
+        ensures { IfOk result (λ x. x ≡ placed_function (image_places self.now) function.now) }
+    {
         let span = self.span(function.span)?;
         let params = self.params(alloc, function.params.as_slice())?;
         let name = function.name.try_clone()?;
@@ -85,7 +100,9 @@ impl<'a> Image<'a> {
         })
     }
 
-    fn params(&self, alloc: Global, params: &[Param]) -> ResolveResult<Items<Param>> {
+    fn params(&self, alloc: Global, params: &[Param]) -> Result<Items<Param>, AllocError>
+        ensures { IfOk result (λ x. x ≡ map (placed_param (image_places self.now)) params.now) }
+    {
         let mut images = Items::new(alloc);
         for param in params {
             images.push(self.param(param)?)?;
@@ -93,7 +110,9 @@ impl<'a> Image<'a> {
         Ok(images)
     }
 
-    fn param(&self, param: &Param) -> ResolveResult<Param> {
+    fn param(&self, param: &Param) -> Result<Param, AllocError>
+        ensures { IfOk result (λ x. x ≡ placed_param (image_places self.now) param.now) }
+    {
         let span = self.span(param.span)?;
         Ok(Param {
             name: param.name.try_clone()?,
@@ -102,8 +121,14 @@ impl<'a> Image<'a> {
         })
     }
 
-    /// The image of a world, which belongs to the package that takes it. Its includes are left out.
-    pub(crate) fn world(&self, alloc: Global, world: &World) -> ResolveResult<World> {
+    /// The image of a world, which belongs to the package that takes it. Its includes are left out. Keys that
+    /// differ still differ, since interfaces take ids one after another.
+    pub(crate) fn world(&self, alloc: Global, world: &World) -> Result<World, AllocError>
+        requires next { AreNext self.now.remap.now.interfaces }
+        requires imports { HaveKeysBelow (length self.now.remap.now.interfaces) world.now.imports }
+        requires exports { HaveKeysBelow (length self.now.remap.now.interfaces) world.now.exports }
+        ensures { IfOk result (λ x. x ≡ placed_world (image_places self.now) world.now) }
+    {
         let span = self.span(world.span)?;
         let imports = self.entries(alloc, &world.imports)?;
         let exports = self.entries(alloc, &world.exports)?;
@@ -124,27 +149,33 @@ impl<'a> Image<'a> {
         &self,
         alloc: Global,
         entries: &Table<WorldKey, WorldItem>,
-    ) -> ResolveResult<Table<WorldKey, WorldItem>> {
+    ) -> Result<Table<WorldKey, WorldItem>, AllocError>
+        requires next { AreNext self.now.remap.now.interfaces }
+        requires keys { HaveKeysBelow (length self.now.remap.now.interfaces) entries.now }
+        ensures { IfOk result (λ x. x ≡ map (placed_entry (image_places self.now)) entries.now) }
+    {
         let mut images = Table::new(alloc);
         for index in 0..entries.len() {
             let (key, item) = entries.entry_at(index);
             let item = self.item(alloc, item)?;
             let key = self.key(key)?;
-            if !images.contains_key(&key) {
-                images.push(key, item)?;
-            }
+            images.push(key, item)?;
         }
         Ok(images)
     }
 
-    fn key(&self, key: &WorldKey) -> Result<WorldKey, AllocError> {
+    fn key(&self, key: &WorldKey) -> Result<WorldKey, AllocError>
+        ensures { IfOk result (λ x. x ≡ placed_key (image_places self.now) key.now) }
+    {
         match key {
             WorldKey::Name(label) => Ok(WorldKey::Name(label.try_clone()?)),
             WorldKey::Interface(id) => Ok(WorldKey::Interface(self.interface_id(*id))),
         }
     }
 
-    fn item(&self, alloc: Global, item: &WorldItem) -> ResolveResult<WorldItem> {
+    fn item(&self, alloc: Global, item: &WorldItem) -> Result<WorldItem, AllocError>
+        ensures { IfOk result (λ x. x ≡ placed_item (image_places self.now) item.now) }
+    {
         match item {
             WorldItem::Interface {
                 id,

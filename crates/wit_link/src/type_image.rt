@@ -1,13 +1,19 @@
 //! The images of types.
+ghost use Rattle.std.specs.Prelude.{◌≡◌, IfOk, map};
+ghost use Rattle.wit_link.specs.Added.{placed_ty, placed_field, placed_case, placed_kind, placed_type};
+ghost use Rattle.wit_link.specs.Image.{moved_flag, moved_enum_case};
+ghost use Rattle.wit_link.specs.Images.{image_places};
+
 use crate::image::Image;
-use std::alloc::Global;
-use wit_graph::ResolveResult;
+use std::alloc::{AllocError, Global};
 use wit_items::{Case, EnumCase, Field, Flag, Items, TryClone, Type_, TypeDef, TypeDefKind};
 use wit_values::{try_clone_four, try_clone_two};
 
 impl<'a> Image<'a> {
     /// The image of a type.
-    pub(crate) fn type_def(&self, alloc: Global, ty: &TypeDef) -> ResolveResult<TypeDef> {
+    pub(crate) fn type_def(&self, alloc: Global, ty: &TypeDef) -> Result<TypeDef, AllocError>
+        ensures { IfOk result (λ x. x ≡ placed_type (image_places self.now) ty.now) }
+    {
         let span = self.span(ty.span)?;
         let kind = self.kind(alloc, &ty.kind)?;
         let (name, docs, stability, external_id) = try_clone_four(
@@ -27,7 +33,9 @@ impl<'a> Image<'a> {
         })
     }
 
-    fn kind(&self, alloc: Global, kind: &TypeDefKind) -> ResolveResult<TypeDefKind> {
+    fn kind(&self, alloc: Global, kind: &TypeDefKind) -> Result<TypeDefKind, AllocError>
+        ensures { IfOk result (λ x. x ≡ placed_kind (image_places self.now) kind.now) }
+    {
         match kind {
             TypeDefKind::Record { fields } => Ok(TypeDefKind::Record {
                 fields: self.fields(alloc, fields.as_slice())?,
@@ -44,38 +52,28 @@ impl<'a> Image<'a> {
             TypeDefKind::Enum { cases } => Ok(TypeDefKind::Enum {
                 cases: self.enum_cases(alloc, cases.as_slice())?,
             }),
-            _ => Ok(self.small_kind(kind)),
-        }
-    }
-
-    /// The image of a kind that takes no memory. One that takes memory has the image `Unknown`.
-    fn small_kind(&self, kind: &TypeDefKind) -> TypeDefKind {
-        match kind {
-            TypeDefKind::Resource => TypeDefKind::Resource,
-            TypeDefKind::Handle(handle) => TypeDefKind::Handle(self.handle(*handle)),
-            TypeDefKind::Option(ty) => TypeDefKind::Option(self.ty(*ty)),
-            TypeDefKind::Result_ { ok, err } => TypeDefKind::Result_ {
+            TypeDefKind::Resource => Ok(TypeDefKind::Resource),
+            TypeDefKind::Handle(handle) => Ok(TypeDefKind::Handle(self.handle(*handle))),
+            TypeDefKind::Option(ty) => Ok(TypeDefKind::Option(self.ty(*ty))),
+            TypeDefKind::Result_ { ok, err } => Ok(TypeDefKind::Result_ {
                 ok: self.optional_ty(*ok),
                 err: self.optional_ty(*err),
-            },
-            TypeDefKind::List(ty) => TypeDefKind::List(self.ty(*ty)),
-            TypeDefKind::Map(key, value) => TypeDefKind::Map(self.ty(*key), self.ty(*value)),
+            }),
+            TypeDefKind::List(ty) => Ok(TypeDefKind::List(self.ty(*ty))),
+            TypeDefKind::Map(key, value) => Ok(TypeDefKind::Map(self.ty(*key), self.ty(*value))),
             TypeDefKind::FixedLengthList(ty, len) => {
-                TypeDefKind::FixedLengthList(self.ty(*ty), *len)
+                Ok(TypeDefKind::FixedLengthList(self.ty(*ty), *len))
             }
-            TypeDefKind::Future(ty) => TypeDefKind::Future(self.optional_ty(*ty)),
-            TypeDefKind::Stream(ty) => TypeDefKind::Stream(self.optional_ty(*ty)),
-            TypeDefKind::Type_(ty) => TypeDefKind::Type_(self.ty(*ty)),
-            TypeDefKind::Unknown
-            | TypeDefKind::Record { .. }
-            | TypeDefKind::Flags { .. }
-            | TypeDefKind::Tuple { .. }
-            | TypeDefKind::Variant { .. }
-            | TypeDefKind::Enum { .. } => TypeDefKind::Unknown,
+            TypeDefKind::Future(ty) => Ok(TypeDefKind::Future(self.optional_ty(*ty))),
+            TypeDefKind::Stream(ty) => Ok(TypeDefKind::Stream(self.optional_ty(*ty))),
+            TypeDefKind::Type_(ty) => Ok(TypeDefKind::Type_(self.ty(*ty))),
+            TypeDefKind::Unknown => Ok(TypeDefKind::Unknown),
         }
     }
 
-    fn fields(&self, alloc: Global, fields: &[Field]) -> ResolveResult<Items<Field>> {
+    fn fields(&self, alloc: Global, fields: &[Field]) -> Result<Items<Field>, AllocError>
+        ensures { IfOk result (λ x. x ≡ map (placed_field (image_places self.now)) fields.now) }
+    {
         let mut images = Items::new(alloc);
         for field in fields {
             images.push(self.field(field)?)?;
@@ -83,7 +81,9 @@ impl<'a> Image<'a> {
         Ok(images)
     }
 
-    fn flags(&self, alloc: Global, flags: &[Flag]) -> ResolveResult<Items<Flag>> {
+    fn flags(&self, alloc: Global, flags: &[Flag]) -> Result<Items<Flag>, AllocError>
+        ensures { IfOk result (λ x. x ≡ map (moved_flag self.now.offset) flags.now) }
+    {
         let mut images = Items::new(alloc);
         for flag in flags {
             images.push(self.flag(flag)?)?;
@@ -91,7 +91,9 @@ impl<'a> Image<'a> {
         Ok(images)
     }
 
-    fn cases(&self, alloc: Global, cases: &[Case]) -> ResolveResult<Items<Case>> {
+    fn cases(&self, alloc: Global, cases: &[Case]) -> Result<Items<Case>, AllocError>
+        ensures { IfOk result (λ x. x ≡ map (placed_case (image_places self.now)) cases.now) }
+    {
         let mut images = Items::new(alloc);
         for case in cases {
             images.push(self.case(case)?)?;
@@ -99,7 +101,9 @@ impl<'a> Image<'a> {
         Ok(images)
     }
 
-    fn enum_cases(&self, alloc: Global, cases: &[EnumCase]) -> ResolveResult<Items<EnumCase>> {
+    fn enum_cases(&self, alloc: Global, cases: &[EnumCase]) -> Result<Items<EnumCase>, AllocError>
+        ensures { IfOk result (λ x. x ≡ map (moved_enum_case self.now.offset) cases.now) }
+    {
         let mut images = Items::new(alloc);
         for case in cases {
             images.push(self.enum_case(case)?)?;
@@ -107,7 +111,9 @@ impl<'a> Image<'a> {
         Ok(images)
     }
 
-    fn types(&self, alloc: Global, types: &[Type_]) -> ResolveResult<Items<Type_>> {
+    fn types(&self, alloc: Global, types: &[Type_]) -> Result<Items<Type_>, AllocError>
+        ensures { IfOk result (λ x. x ≡ map (placed_ty (image_places self.now)) types.now) }
+    {
         let mut images = Items::new(alloc);
         for ty in types {
             images.push(self.ty(*ty))?;
@@ -115,7 +121,9 @@ impl<'a> Image<'a> {
         Ok(images)
     }
 
-    fn field(&self, field: &Field) -> ResolveResult<Field> {
+    fn field(&self, field: &Field) -> Result<Field, AllocError>
+        ensures { IfOk result (λ x. x ≡ placed_field (image_places self.now) field.now) }
+    {
         let span = self.span(field.span)?;
         let (name, docs) = try_clone_two(&field.name, &field.docs)?;
         Ok(Field {
@@ -126,7 +134,9 @@ impl<'a> Image<'a> {
         })
     }
 
-    fn case(&self, case: &Case) -> ResolveResult<Case> {
+    fn case(&self, case: &Case) -> Result<Case, AllocError>
+        ensures { IfOk result (λ x. x ≡ placed_case (image_places self.now) case.now) }
+    {
         let span = self.span(case.span)?;
         let (name, docs) = try_clone_two(&case.name, &case.docs)?;
         Ok(Case {
@@ -137,13 +147,17 @@ impl<'a> Image<'a> {
         })
     }
 
-    fn flag(&self, flag: &Flag) -> ResolveResult<Flag> {
+    fn flag(&self, flag: &Flag) -> Result<Flag, AllocError>
+        ensures { IfOk result (λ x. x ≡ moved_flag self.now.offset flag.now) }
+    {
         let span = self.span(flag.span)?;
         let (name, docs) = try_clone_two(&flag.name, &flag.docs)?;
         Ok(Flag { name, docs, span })
     }
 
-    fn enum_case(&self, case: &EnumCase) -> ResolveResult<EnumCase> {
+    fn enum_case(&self, case: &EnumCase) -> Result<EnumCase, AllocError>
+        ensures { IfOk result (λ x. x ≡ moved_enum_case self.now.offset case.now) }
+    {
         let span = self.span(case.span)?;
         let (name, docs) = try_clone_two(&case.name, &case.docs)?;
         Ok(EnumCase { name, docs, span })

@@ -220,13 +220,13 @@ module _ (old mid : State) (group : UnresolvedPackageGroup) (supported : IsSuppo
   groups_cause : (kind : ResolveErrorKind) → (kind ≡ OutOfMemory) ⊎ IsCause mid.features mid.graph group.main offset kind
       → (kind ≡ OutOfMemory) ⊎ IsGroupsCause old.features old.graph old.source_map.end (group ∷ []) kind
   groups_cause kind (inl memory) = inl memory
-  groups_cause kind (inr c) = inr (group_cause group supported.no_nested supported.main.no_deps old.features old.graph old.source_map.end kind (cause_before kind c))
+  groups_cause kind (inr c) = inr (group_cause group supported.no_nested supported.main.alone.no_deps old.features old.graph old.source_map.end kind (cause_before kind c))
 
   pub step_pushes : (new : State) (r : Result ℕ ResolveErrorKind) → (2 ^ 32 ≤ old.source_map.end + group.source_map.end → ⊥)
       → IfOk r (λ id. IsAccepted mid.features mid.graph group.main offset new.graph id)
       → new.features ≡ mid.features → new.source_map ≡ mid.source_map → IfOk r (λ id. PushesGroups old group [] id new)
   step_pushes new (Ok id) fits accepted features files =
-      pushes group supported.no_nested supported.main.no_deps old new id (omega (arith, fits)) (rw (grown, begins) at accepted) (features ∙ features_are) (files ∙ files_are)
+      pushes group supported.no_nested supported.main.alone.no_deps old new id (omega (arith, fits)) (rw (grown, begins) at accepted) (features ∙ features_are) (files ∙ files_are)
   step_pushes new (Err kind) fits accepted features files = tt
 
   pub step_refuses : (new : State) (r : Result ℕ ResolveErrorKind) → (r ≡ Err OffsetOverflow → ⊥) → OnErr r (new ≡ mid)
@@ -258,7 +258,7 @@ module _ (old mid : State) (group : UnresolvedPackageGroup) (supported : IsSuppo
 
   pub step_must_refuse : (P : Type 0) → (2 ^ 32 ≤ old.source_map.end + group.source_map.end → ⊥) → ((kind : ResolveErrorKind) → IsCause mid.features mid.graph group.main offset kind → P)
       → (kind : ResolveErrorKind) → IsGroupsCause old.features old.graph old.source_map.end (group ∷ []) kind → P
-  step_must_refuse P fits refuses kind c = elim (group_caused group supported.no_nested supported.main.no_deps old.features old.graph old.source_map.end kind c) [
+  step_must_refuse P fits refuses kind c = elim (group_caused group supported.no_nested supported.main.alone.no_deps old.features old.graph old.source_map.end kind c) [
     | inl of_package ↦ refuses kind (rw (grown, begins) of_package)
     | inr far ↦ absurd (fits far)
   ]

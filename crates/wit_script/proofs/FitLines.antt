@@ -173,10 +173,7 @@ fit-lines (line ∷ lines) r next fit read =
 pub fit-group : (p : OpenPackage) → IsFitPackage p → IsSupportedGroup (group_of p)
 fit-group p fit = record {
   main = record {
-    no_deps = refl;
-    no_dep_spans = refl;
-    no_unknown = refl;
-    no_required = refl;
+    alone = record { no_deps = refl; no_dep_spans = refl; no_unknown = refl; no_required = refl };
     types = fit.types;
     interfaces = fit.interfaces;
     worlds = fit.worlds;

@@ -1,10 +1,11 @@
 -- Facts about lists and tables that std doesn't have, for the proofs of the crates above. They say
 -- nothing about this crate's code.
-use Rattle.std.proofs.Common.{◌≡◌, ℕ, ◌+◌, suc, zero, Bool, true, false, cond, List, [], ◌∷◌, ◌++◌, ◌⊎◌, inl, inr, length, Option, None, Some, slice_get, slice_set, take, filter_map, map, refl, ap, subst, add-one}
+use Rattle.std.proofs.Common.{◌≡◌, ℕ, ◌+◌, suc, zero, Bool, true, false, cond, List, [], ◌∷◌, ◌++◌, ◌⊎◌, inl, inr, length, Option, None, Some, slice_get, slice_set, take, filter_map, map, refl, ap, subst, ◌∙◌, add-one}
 use Rattle.std.proofs.lemmas.List.{append-nil, map-append}
 use Rattle.std.proofs.lemmas.List.Elements.{filter_map-append}
-use Rattle.std.specs.List.{AllByRecursion}
-use Rattle.std.specs.Map.{lookup}
+use Rattle.std.specs.Cmp.{IsEquivalence}
+use Rattle.std.specs.List.{AllByRecursion, IsDistinct}
+use Rattle.std.specs.Map.{lookup, keys_of}
 
 module _ {X : Type 0} where
   take-suc_at : (xs : List X) (i : ℕ) (x : X) → slice_get xs i ≡ Some x → take (suc i) xs ≡ take i xs ++ x ∷ []
@@ -115,5 +116,53 @@ module _ {K V : Type 0} (test : K → Bool) where
     where
       by : (b : Bool) → cond b (Some e.1) (lookup test es) ≡ None → (lookup test es ≡ None → lookup test (es ++ (k, v) ∷ []) ≡ Some v)
           → cond b (Some e.1) (lookup test (es ++ (k, v) ∷ [])) ≡ Some v
+      by true h rest = cc
+      by false h rest = rest h
+
+-- ---- entries under keys that differ
+
+module _ {K V : Type 0} where
+  -- what holds of each key holds of the one at a place
+  pub key_at : (P : K → Type 0) (es : List (K × V)) (i : ℕ) (k : K) (v : V) → AllByRecursion P (keys_of es) → slice_get es i ≡ Some (k, v) → P k
+  key_at P [] i k v all at = cc
+  key_at P (e ∷ es) zero k v all at = let same : e ≡ (k, v) = cc in subst (λ (p : K × V). P p.0) same all.0
+  key_at P (e ∷ es) (suc i) k v all at = key_at P es i k v all.1 at
+
+  -- the key at a place is not among those before it
+  pub lookup-take : {eq : K → K → Bool} → IsEquivalence eq → (es : List (K × V)) (i : ℕ) (k : K) (v : V) → IsDistinct eq (keys_of es)
+      → slice_get es i ≡ Some (k, v) → lookup (eq k) (take i es) ≡ None
+  unfolding IsDistinct
+  lookup-take laws [] i k v distinct at = cc
+  lookup-take laws (e ∷ es) zero k v distinct at = refl
+  lookup-take {eq} laws (e ∷ es) (suc i) k v distinct at =
+      let differs : eq k e.0 ≡ false = laws.symm k e.0 ∙ key_at (λ y. eq e.0 y ≡ false) es i k v distinct.0 at in
+      rw differs (lookup-take laws es i k v distinct.1 at)
+
+module _ {K L V W : Type 0} (f : K → L) (g : V → W) where
+  -- where keys that differ go to keys that differ, the key at a place doesn't go to where one before it goes
+  pub lookup-moved : {eq : K → K → Bool} (eq' : L → L → Bool) → ((a b : K) → eq a b ≡ eq b a)
+      → (es : List (K × V)) (i : ℕ) (k : K) (v : V) → IsDistinct eq (keys_of es) → slice_get es i ≡ Some (k, v)
+      → ((j : ℕ) (b : K) (w : V) → slice_get es j ≡ Some (b, w) → eq k b ≡ false → eq' (f k) (f b) ≡ false)
+      → lookup (eq' (f k)) (map (λ (e : K × V). (f e.0, g e.1)) (take i es)) ≡ None
+  unfolding IsDistinct
+  lookup-moved eq' symm [] i k v distinct at apart = cc
+  lookup-moved eq' symm (e ∷ es) zero k v distinct at apart = refl
+  lookup-moved {eq} eq' symm (e ∷ es) (suc i) k v distinct at apart =
+      let differs : eq k e.0 ≡ false = symm k e.0 ∙ key_at (λ y. eq e.0 y ≡ false) es i k v distinct.0 at in
+      rw (apart 0 e.0 e.1 refl differs) (lookup-moved eq' symm es i k v distinct.1 at (λ j. apart (suc j)))
+
+module _ {K V W : Type 0} (g : V → W) where
+  -- other values leave the keys
+  pub keys_of-map : (es : List (K × V)) → keys_of (map (λ (e : K × V). (e.0, g e.1)) es) ≡ keys_of es
+  keys_of-map [] = refl
+  keys_of-map (e ∷ es) = ap (λ (ks : List K). e.0 ∷ ks) (keys_of-map es)
+
+  -- what isn't there isn't there among other values
+  pub lookup-map : (test : K → Bool) (es : List (K × V)) → lookup test es ≡ None → lookup test (map (λ (e : K × V). (e.0, g e.1)) es) ≡ None
+  lookup-map test [] none = refl
+  lookup-map test (e ∷ es) none = by (test e.0) none (λ h. lookup-map test es h)
+    where
+      by : (b : Bool) → cond b (Some e.1) (lookup test es) ≡ None → (lookup test es ≡ None → lookup test (map (λ (e : K × V). (e.0, g e.1)) es) ≡ None)
+          → cond b (Some (g e.1)) (lookup test (map (λ (e : K × V). (e.0, g e.1)) es)) ≡ None
       by true h rest = cc
       by false h rest = rest h

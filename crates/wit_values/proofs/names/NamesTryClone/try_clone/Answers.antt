@@ -1,6 +1,7 @@
 use Rattle.std.proofs.Common.{sym}
 use Rattle.std.specs.Cmp.Lexicographic.{nat_list_eq_equiv}
-use Rattle.wit_values.proofs.Entries.{lookup-take, take-next}
+use Rattle.wit_values.specs.Lists.{lookup-take}
+use Rattle.wit_values.proofs.Entries.{take-next}
 use Rattle.wit_values.proofs.names.NamesTryClone.try_clone.Goals as goal
 
 pub push-requires : goal.push-requires

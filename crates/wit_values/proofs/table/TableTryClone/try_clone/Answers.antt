@@ -1,5 +1,6 @@
 use Rattle.std.proofs.Common.{sym}
-use Rattle.wit_values.proofs.Entries.{lookup-take, take-next}
+use Rattle.wit_values.specs.Lists.{lookup-take}
+use Rattle.wit_values.proofs.Entries.{take-next}
 use Rattle.wit_values.proofs.table.TableTryClone.try_clone.Goals as goal
 
 pub push-requires : goal.push-requires
