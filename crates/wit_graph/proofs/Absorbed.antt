@@ -7,8 +7,8 @@ use Rattle.wit_items.specs.declared.types.TypeDef.{TypeDef}
 use Rattle.wit_items.specs.declared.world.WorldItem.{WorldItem}
 use Rattle.wit_items.specs.declared.world.WorldKey.{WorldKey}
 use Rattle.wit_items.specs.declared.world.WorldKey.TheVariants.{Name, Interface}
-use Rattle.wit_relations.proofs.Members.{Contains-nil, Contains-here, Contains-there, Contains-flat_map_cases}
-use Rattle.wit_relations.proofs.Walks.{Reaches-from_walk, UsesFirst-append, UsesFirst-IsPath}
+use Rattle.wit_relations.specs.MemberFacts.{Contains-nil, Contains-here, Contains-there, Contains-flat_map_cases}
+use Rattle.wit_relations.specs.WalkFacts.{Reaches-from_walk, UsesFirst-append, UsesFirst-IsPath}
 use Rattle.wit_relations.specs.Relation.{direct, IsAcyclic}
 use Rattle.wit_relations.specs.Walks.{UsesFirst, walk}
 use Rattle.wit_graph.specs.Entries.{Entry, Role, Instance, TypeUse, TypeDefinition, FreeFunction, ResourceFunction, role_of, id_of, same_key, fresh_entries}

@@ -3,9 +3,9 @@ use Rattle.std.proofs.Common.{◌≡◌, ℕ, ◌<◌, ◌↔◌, inl, inr, List
 use Rattle.std.specs.List.{list_any}
 use Rattle.std.proofs.lemmas.Bool.{cases_Bool, false≢true}
 use Rattle.std.proofs.lemmas.List.Elements.{All-contains}
-use Rattle.wit_relations.proofs.Fresh.{fresh_all, fresh_in, contains_from_any, any_from_contains}
-use Rattle.wit_relations.proofs.Members.{Contains-flat_map, Contains-flat_map_cases}
-use Rattle.wit_relations.proofs.Walks.{Contains-walk_end, UsesFirst-IsPath}
+use Rattle.wit_relations.specs.FreshFacts.{fresh_all, fresh_in, contains_from_any, any_from_contains}
+use Rattle.wit_relations.specs.MemberFacts.{Contains-flat_map, Contains-flat_map_cases}
+use Rattle.wit_relations.specs.WalkFacts.{Contains-walk_end, UsesFirst-IsPath}
 use Rattle.wit_relations.specs.Relation.{direct, IsPath, Reaches, IsAcyclic}
 use Rattle.wit_relations.specs.Walks.{UsesFirst, walk, first_of_each}
 use Rattle.wit_graph.specs.Elaborated.{needs}

@@ -11,8 +11,8 @@ use Rattle.wit_items.specs.declared.world.WorldItem.TheVariants as item
 use Rattle.wit_items.specs.declared.world.WorldKey.{WorldKey}
 use Rattle.wit_items.specs.declared.world.WorldKey.TheVariants.{Interface}
 use Rattle.wit_items.specs.contracts.world.WorldKeyPartialEq.TheImpl.{eq-value}
-use Rattle.wit_relations.proofs.Fresh.{any_from_contains, contains_from_any}
-use Rattle.wit_relations.proofs.Members.{Contains-nil, Contains-here, Contains-there, Contains-cons_cases, Contains-flat_map, Contains-flat_map_cases, flat_map-same}
+use Rattle.wit_relations.specs.FreshFacts.{any_from_contains, contains_from_any}
+use Rattle.wit_relations.specs.MemberFacts.{Contains-nil, Contains-here, Contains-there, Contains-cons_cases, Contains-flat_map, Contains-flat_map_cases, flat_map-same}
 use Rattle.wit_relations.specs.Relation.{IsAcyclic}
 use Rattle.wit_relations.specs.Walks.{Listed}
 use Rattle.wit_graph.specs.Elaborated.{dependency_of, needs, export_carries, import_walk, import_steps, export_imports, export_walk, elaborated_imports, elaborated_exports}

@@ -6,7 +6,7 @@ use Rattle.std.proofs.lemmas.List.Elements.{Contains-append_cases, Contains-appe
 use Rattle.wit_items.specs.declared.types.TypeDef.{TypeDef}
 use Rattle.wit_items.specs.declared.world.World.{World}
 use Rattle.wit_items.specs.declared.world.WorldKey.{WorldKey}
-use Rattle.wit_relations.proofs.Members.{Contains-nil, Contains-here, Contains-there, Contains-cons_cases, Contains-flat_map}
+use Rattle.wit_relations.specs.MemberFacts.{Contains-nil, Contains-here, Contains-there, Contains-cons_cases, Contains-flat_map}
 use Rattle.wit_relations.specs.Relation.{IsAcyclic}
 use Rattle.wit_graph.specs.Entries.{Entry, is_interface, fresh_entries}
 use Rattle.wit_graph.specs.Elaborated.{entry_walk, export_carries, elaborated_imports, elaborated_exports}

@@ -7,9 +7,9 @@ use Rattle.wit_items.specs.declared.world.WorldItem.{WorldItem}
 use Rattle.wit_items.specs.declared.world.WorldItem.TheVariants as item
 use Rattle.wit_items.specs.declared.world.WorldKey.{WorldKey}
 use Rattle.wit_items.specs.declared.world.WorldKey.TheVariants.{Name, Interface}
-use Rattle.wit_relations.proofs.Fresh.{any_from_contains, no_any_from}
-use Rattle.wit_relations.proofs.Members.{Contains-nil, Contains-here, Contains-cons_cases, Contains-flat_map, Contains-flat_map_cases}
-use Rattle.wit_relations.proofs.Walks.{Reaches-from_walk, walk-from_IsPath}
+use Rattle.wit_relations.specs.FreshFacts.{any_from_contains, no_any_from}
+use Rattle.wit_relations.specs.MemberFacts.{Contains-nil, Contains-here, Contains-cons_cases, Contains-flat_map, Contains-flat_map_cases}
+use Rattle.wit_relations.specs.WalkFacts.{Reaches-from_walk, walk-from_IsPath}
 use Rattle.wit_relations.specs.Relation.{direct, IsPath, Reaches, IsAcyclic}
 use Rattle.wit_relations.specs.Walks.{walk}
 use Rattle.wit_graph.specs.Entries.{Entry, Role, Instance, TypeUse, TypeDefinition, FreeFunction, ResourceFunction, role_of, instance_of, id_of, ids_of, by_class}

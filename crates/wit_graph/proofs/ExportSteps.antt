@@ -5,8 +5,8 @@ use Rattle.std.specs.Option.{option_to_list}
 use Rattle.std.proofs.lemmas.List.{append-nil}
 use Rattle.std.proofs.lemmas.List.Concat.{flat_map-append}
 use Rattle.wit_values.specs.Lists.{take-next_at}
-use Rattle.wit_relations.proofs.Fresh.{fresh-append}
-use Rattle.wit_relations.proofs.Members.{Contains-here, Contains-flat_map}
+use Rattle.wit_relations.specs.FreshFacts.{fresh-append}
+use Rattle.wit_relations.specs.MemberFacts.{Contains-here, Contains-flat_map}
 use Rattle.wit_relations.specs.Walks.{fresh, first_of_each}
 use Rattle.wit_graph.specs.Elaborated.{needs}
 use Rattle.wit_graph.specs.Entries.{Entry, Instance, instance_of, id_of}

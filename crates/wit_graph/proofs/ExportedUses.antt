@@ -5,9 +5,9 @@ use Rattle.std.proofs.lemmas.Bool.{cases_lt}
 use Rattle.std.proofs.lemmas.List.Elements.{All-contains, All-filter}
 use Rattle.wit_items.specs.declared.world.WorldKey.{WorldKey}
 use Rattle.wit_items.specs.declared.world.WorldKey.TheVariants.{Name, Interface}
-use Rattle.wit_relations.proofs.Members.{Contains-nil, Contains-here, Contains-cons_cases, Contains-flat_map, Contains-flat_map_cases}
-use Rattle.wit_relations.proofs.Fresh.{any_from_contains, contains_from_any}
-use Rattle.wit_relations.proofs.Walks.{Reaches-from_walk}
+use Rattle.wit_relations.specs.MemberFacts.{Contains-nil, Contains-here, Contains-cons_cases, Contains-flat_map, Contains-flat_map_cases}
+use Rattle.wit_relations.specs.FreshFacts.{any_from_contains, contains_from_any}
+use Rattle.wit_relations.specs.WalkFacts.{Reaches-from_walk}
 use Rattle.wit_relations.specs.Relation.{direct, IsPath, IsAcyclic}
 use Rattle.wit_relations.specs.Walks.{walk}
 use Rattle.wit_graph.specs.Entries.{Entry, Role, Instance, TypeUse, TypeDefinition, FreeFunction, ResourceFunction, class_of, id_of, ids_of}

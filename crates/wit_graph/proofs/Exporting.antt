@@ -10,7 +10,7 @@ use Rattle.wit_values.specs.Lists.{take-next_at}
 use Rattle.wit_items.specs.declared.world.WorldItem.{WorldItem}
 use Rattle.wit_items.specs.declared.world.WorldItem.TheVariants as item
 use Rattle.wit_items.specs.declared.world.WorldKey.TheVariants.{Interface}
-use Rattle.wit_relations.proofs.Fresh.{fresh_in}
+use Rattle.wit_relations.specs.FreshFacts.{fresh_in}
 use Rattle.wit_relations.specs.Walks.{Listed, fresh}
 use Rattle.wit_graph.specs.declared.entries.Lists.{Lists}
 use Rattle.wit_graph.specs.Elaborated.{Carried, dependency_of, export_carries, needs}

@@ -5,7 +5,7 @@ use Rattle.std.proofs.lemmas.List.{append-nil, length-map}
 use Rattle.std.proofs.lemmas.Bool.{cases_Bool, false≢true, false_from_ne_true}
 use Rattle.std.proofs.lemmas.List.Elements.{Contains-append_cases, Contains-append_right, filter-append}
 use Rattle.wit_items.specs.declared.types.TypeDef.{TypeDef}
-use Rattle.wit_relations.proofs.Members.{Contains-nil, Contains-here, Contains-cons_cases, Contains-flat_map, Contains-flat_map_cases}
+use Rattle.wit_relations.specs.MemberFacts.{Contains-nil, Contains-here, Contains-cons_cases, Contains-flat_map, Contains-flat_map_cases}
 use Rattle.wit_relations.specs.Relation.{IsAcyclic}
 use Rattle.wit_graph.specs.Entries.{Entry, Role, Instance, role_of, is_interface, fresh_entries}
 use Rattle.wit_graph.specs.Elaborated.{Carried, dependency_of, needs, entry_walk, export_carries, exported_uses, elaborated_exports}

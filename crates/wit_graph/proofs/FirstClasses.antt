@@ -11,7 +11,7 @@ use Rattle.wit_values.specs.Lists.{take-next_at}
 use Rattle.wit_items.specs.declared.types.TypeDef.{TypeDef}
 use Rattle.wit_items.specs.declared.world.WorldKey.{WorldKey}
 use Rattle.wit_items.specs.contracts.world.WorldKeyPartialEq.TheImpl.{eq-value}
-use Rattle.wit_relations.proofs.Members.{Contains-nil, Contains-cons_cases, Contains-here, Contains-there}
+use Rattle.wit_relations.specs.MemberFacts.{Contains-nil, Contains-cons_cases, Contains-here, Contains-there}
 use Rattle.wit_graph.specs.Entries.{Entry, same_key, role_of, class_of, of_class, by_class, fresh_entries}
 use Rattle.wit_graph.proofs.Classes.{by_class-new}
 use Rattle.wit_graph.proofs.Filters.{filter-pass, filter-fail}

@@ -1,6 +1,6 @@
 -- The first export that is in conflict.
 use Rattle.std.proofs.Common.{◌≡◌, ℕ, ◌↔◌, inl, inr, List, [], ◌∷◌, take, Some, slice_get, sym, ap, ◌∙◌, subst, Contains}
-use Rattle.wit_relations.proofs.Members.{Contains-nil, Contains-here, Contains-cons_cases}
+use Rattle.wit_relations.specs.MemberFacts.{Contains-nil, Contains-here, Contains-cons_cases}
 use Rattle.wit_relations.specs.Relation.{direct}
 use Rattle.wit_graph.specs.Elaborating.{HasMarkedUse, IsFirstConflict}
 use Rattle.wit_graph.specs.Entries.{Entry, instance_of}

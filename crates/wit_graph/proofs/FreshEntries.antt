@@ -11,8 +11,8 @@ use Rattle.std.proofs.lemmas.Map.Views.{Contains-from_any}
 use Rattle.std.proofs.lemmas.Slice.Eq.{bytes_eq-Decides}
 use Rattle.wit_items.specs.declared.world.WorldKey.{WorldKey}
 use Rattle.wit_items.specs.declared.world.WorldKey.TheVariants.{Name, Interface}
-use Rattle.wit_relations.proofs.Members.{Contains-nil, Contains-here, Contains-there, Contains-cons_cases, Contains-flat_map, Contains-flat_map_cases}
-use Rattle.wit_relations.proofs.Fresh.{fresh-seen, fresh-new, any_from_contains, contains_from_any, no_any_from}
+use Rattle.wit_relations.specs.MemberFacts.{Contains-nil, Contains-here, Contains-there, Contains-cons_cases, Contains-flat_map, Contains-flat_map_cases}
+use Rattle.wit_relations.specs.FreshFacts.{fresh-seen, fresh-new, any_from_contains, contains_from_any, no_any_from}
 use Rattle.wit_relations.specs.Walks.{fresh}
 use Rattle.wit_graph.specs.Entries.{Entry, same_key, id_of, ids_of, fresh_entries}
 use Rattle.wit_graph.specs.Elaborated.{Carried, dependency_of}

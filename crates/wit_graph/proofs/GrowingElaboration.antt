@@ -6,7 +6,7 @@ use Rattle.wit_items.specs.declared.types.TypeDef.{TypeDef}
 use Rattle.wit_items.specs.declared.world.WorldItem.{WorldItem}
 use Rattle.wit_items.specs.declared.world.WorldItem.TheVariants as item
 use Rattle.wit_items.specs.declared.world.World.{World}
-use Rattle.wit_relations.proofs.Members.{Contains-nil, Contains-cons_cases, Contains-flat_map_cases, flat_map-same}
+use Rattle.wit_relations.specs.MemberFacts.{Contains-nil, Contains-cons_cases, Contains-flat_map_cases, flat_map-same}
 use Rattle.wit_relations.specs.Relation.{direct, IsAcyclic}
 use Rattle.wit_graph.specs.Entries.{Entry, role_of, instance_of, is_instance, is_interface, class_of, of_class, by_class, fresh_entries}
 use Rattle.wit_graph.specs.Elaborated.{Carried, dependency_of, needs, import_carries, export_carries, settled_item, import_walk, export_imports, export_walk, import_steps, exported_uses, elaborated_imports, elaborated_exports}

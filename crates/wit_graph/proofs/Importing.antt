@@ -7,7 +7,7 @@ use Rattle.std.proofs.lemmas.List.Concat.{flat_map-append}
 use Rattle.std.proofs.lemmas.List.Elements.{Contains-append_cases}
 use Rattle.wit_items.specs.declared.types.TypeDef.{TypeDef}
 use Rattle.wit_items.specs.declared.world.WorldKey.TheVariants.{Interface}
-use Rattle.wit_relations.proofs.Fresh.{fresh-append, fresh_in}
+use Rattle.wit_relations.specs.FreshFacts.{fresh-append, fresh_in}
 use Rattle.wit_relations.specs.Walks.{Listed, fresh, walk}
 use Rattle.wit_graph.specs.Elaborated.{Carried, dependency_of, import_carries, needs, settled_item, import_walk}
 use Rattle.wit_graph.specs.Elaborating.{IsWalk, IsImporting}

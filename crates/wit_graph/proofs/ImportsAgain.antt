@@ -6,8 +6,8 @@ use Rattle.std.proofs.lemmas.List.{append-nil}
 use Rattle.std.proofs.lemmas.List.Elements.{Contains-append_cases, Contains-append_right}
 use Rattle.wit_items.specs.declared.types.TypeDef.{TypeDef}
 use Rattle.wit_items.specs.declared.world.WorldKey.TheVariants.{Interface}
-use Rattle.wit_relations.proofs.Fresh.{any_from_contains, contains_from_any}
-use Rattle.wit_relations.proofs.Members.{Contains-nil, Contains-here, Contains-there, Contains-cons_cases, Contains-flat_map, Contains-flat_map_cases}
+use Rattle.wit_relations.specs.FreshFacts.{any_from_contains, contains_from_any}
+use Rattle.wit_relations.specs.MemberFacts.{Contains-nil, Contains-here, Contains-there, Contains-cons_cases, Contains-flat_map, Contains-flat_map_cases}
 use Rattle.wit_relations.specs.Relation.{IsAcyclic}
 use Rattle.wit_relations.specs.Walks.{UsesFirst}
 use Rattle.wit_graph.specs.Entries.{Entry, Instance, role_of, instance_of, is_interface, ids_of, same_key, by_class, fresh_entries}

@@ -7,7 +7,7 @@ use Rattle.std.proofs.lemmas.List.Elements.{Contains-append_cases, Contains-appe
 use Rattle.wit_items.specs.declared.types.TypeDef.{TypeDef}
 use Rattle.wit_items.specs.declared.world.World.{World}
 use Rattle.wit_items.specs.declared.world.WorldKey.{WorldKey}
-use Rattle.wit_relations.proofs.Members.{Contains-nil, Contains-cons_cases, Contains-flat_map_cases, flat_map-same}
+use Rattle.wit_relations.specs.MemberFacts.{Contains-nil, Contains-cons_cases, Contains-flat_map_cases, flat_map-same}
 use Rattle.wit_relations.specs.Relation.{IsAcyclic}
 use Rattle.wit_graph.specs.Entries.{Entry, role_of, same_key, class_of, of_class, by_class, fresh_entries}
 use Rattle.wit_graph.specs.Elaborated.{dependency_of, needs, import_carries, import_walk, export_imports, elaborated_imports}

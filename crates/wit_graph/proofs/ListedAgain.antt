@@ -7,7 +7,7 @@ use Rattle.wit_items.specs.declared.world.World.{World}
 use Rattle.wit_items.specs.declared.world.WorldItem.{WorldItem}
 use Rattle.wit_items.specs.declared.world.WorldKey.{WorldKey}
 use Rattle.wit_items.specs.declared.world.WorldKey.TheVariants.{Name, Interface}
-use Rattle.wit_relations.proofs.Members.{Contains-here, Contains-there}
+use Rattle.wit_relations.specs.MemberFacts.{Contains-here, Contains-there}
 use Rattle.wit_relations.specs.Relation.{IsAcyclic}
 use Rattle.wit_graph.specs.Entries.{Entry, Instance, role_of, is_interface, by_class}
 use Rattle.wit_graph.specs.Elaborated.{elaborated_imports, elaborated_exports}

@@ -4,9 +4,9 @@ use Rattle.std.proofs.lemmas.Bool.{cond_both}
 use Rattle.std.proofs.lemmas.List.Elements.{Contains-append_cases, All-contains}
 use Rattle.wit_items.specs.declared.types.TypeDef.{TypeDef}
 use Rattle.wit_items.specs.declared.world.World.{World}
-use Rattle.wit_relations.proofs.Fresh.{contains_from_any}
-use Rattle.wit_relations.proofs.Members.{Contains-nil, Contains-here, Contains-cons_cases, Contains-flat_map, Contains-flat_map_cases}
-use Rattle.wit_relations.proofs.Walks.{Reaches-from_walk}
+use Rattle.wit_relations.specs.FreshFacts.{contains_from_any}
+use Rattle.wit_relations.specs.MemberFacts.{Contains-nil, Contains-here, Contains-cons_cases, Contains-flat_map, Contains-flat_map_cases}
+use Rattle.wit_relations.specs.WalkFacts.{Reaches-from_walk}
 use Rattle.wit_relations.specs.Relation.{direct, IsPath, IsAcyclic}
 use Rattle.wit_relations.specs.Walks.{walk}
 use Rattle.wit_graph.specs.Entries.{Entry, Role, Instance, TypeUse, TypeDefinition, FreeFunction, ResourceFunction, role_of, is_interface, id_of, by_class}

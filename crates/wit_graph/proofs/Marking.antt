@@ -3,8 +3,8 @@ use Rattle.std.proofs.Common.{◌≡◌, ℕ, zero, suc, ◌+◌, ◌<◌, ◌�
 use Rattle.std.proofs.lemmas.List.{append-nil, take_more, take_all}
 use Rattle.std.proofs.lemmas.List.Elements.{Contains-append_cases, Contains-append_left, Contains-append_right, All-contains}
 use Rattle.wit_values.specs.Lists.{take-next_at}
-use Rattle.wit_relations.proofs.Fresh.{fresh_in, fresh_all}
-use Rattle.wit_relations.proofs.Members.{Contains-nil, Contains-here, Contains-there, Contains-cons_cases}
+use Rattle.wit_relations.specs.FreshFacts.{fresh_in, fresh_all}
+use Rattle.wit_relations.specs.MemberFacts.{Contains-nil, Contains-here, Contains-there, Contains-cons_cases}
 use Rattle.wit_relations.specs.Relation.{direct, IsPath}
 use Rattle.wit_relations.specs.Walks.{UsesFirst, fresh}
 use Rattle.wit_graph.specs.Elaborating.{ReachesOneOf, AreMarked, AreOutside, HasMarkedUse}

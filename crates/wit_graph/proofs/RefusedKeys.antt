@@ -5,9 +5,9 @@ use Rattle.std.proofs.lemmas.Bool.{and_parts, cases_Bool, false≢true, or_cases
 use Rattle.std.proofs.lemmas.List.Elements.{All-contains, Contains-append_right}
 use Rattle.std.proofs.lemmas.List.Folds.{list_any_at}
 use Rattle.wit_items.specs.declared.world.WorldKey.{WorldKey}
-use Rattle.wit_relations.proofs.Fresh.{any_from_contains, contains_from_any, no_any_from}
-use Rattle.wit_relations.proofs.Members.{Contains-nil, Contains-here, Contains-there, Contains-cons_cases}
-use Rattle.wit_relations.proofs.Walks.{Reaches-from_walk, walk-from_IsPath}
+use Rattle.wit_relations.specs.FreshFacts.{any_from_contains, contains_from_any, no_any_from}
+use Rattle.wit_relations.specs.MemberFacts.{Contains-nil, Contains-here, Contains-there, Contains-cons_cases}
+use Rattle.wit_relations.specs.WalkFacts.{Reaches-from_walk, walk-from_IsPath}
 use Rattle.wit_relations.specs.Relation.{direct, IsAcyclic}
 use Rattle.wit_relations.specs.Walks.{walk}
 use Rattle.wit_graph.specs.Entries.{Entry, instance_of}

@@ -6,7 +6,7 @@ use Rattle.wit_items.specs.Uses.{type_interface_dep}
 use Rattle.wit_items.specs.declared.types.TypeDef.{TypeDef}
 use Rattle.wit_items.specs.declared.world.WorldItem.{WorldItem}
 use Rattle.wit_items.specs.declared.world.WorldItem.TheVariants as item
-use Rattle.wit_relations.proofs.Members.{Contains-nil, Contains-cons_cases}
+use Rattle.wit_relations.specs.MemberFacts.{Contains-nil, Contains-cons_cases}
 use Rattle.wit_graph.specs.Entries.{Entry, Instance, type_role, function_role, role_of, instance_of, is_instance, class_of}
 use Rattle.wit_graph.specs.Elaborated.{settled_item}
 use Rattle.wit_graph.specs.Listed.{IsUnderOwnKey, IsRoleInRange, IsListed}

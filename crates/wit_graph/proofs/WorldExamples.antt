@@ -2,8 +2,8 @@
 use Rattle.std.proofs.Common.{◌≡◌, ℕ, false, List, [], ◌∷◌, inl, inr, refl, sym, ◌∙◌, subst, nat_eq, Contains}
 use Rattle.std.specs.List.{list_any}
 use Rattle.std.proofs.lemmas.Bool.{false≢true}
-use Rattle.wit_relations.proofs.Fresh.{any_from_contains}
-use Rattle.wit_relations.proofs.Members.{Contains-nil, Contains-here, Contains-there, Contains-cons_cases}
+use Rattle.wit_relations.specs.FreshFacts.{any_from_contains}
+use Rattle.wit_relations.specs.MemberFacts.{Contains-nil, Contains-here, Contains-there, Contains-cons_cases}
 use Rattle.wit_relations.specs.Walks.{walk, walk_within}
 use Rattle.wit_relations.specs.Relation.{direct, IsPath}
 use Rattle.wit_graph.specs.Elaborated.{import_steps, import_steps_within}

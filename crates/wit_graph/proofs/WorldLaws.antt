@@ -3,7 +3,7 @@ use Rattle.std.proofs.Common.{◌≡◌, ℕ, inl, inr, List, [], length, sym, a
 use Rattle.std.specs.List.{flat_map}
 use Rattle.wit_items.specs.declared.types.TypeDef.{TypeDef}
 use Rattle.wit_items.specs.declared.world.World.{World}
-use Rattle.wit_relations.proofs.Members.{Contains-flat_map, Contains-flat_map_cases}
+use Rattle.wit_relations.specs.MemberFacts.{Contains-flat_map, Contains-flat_map_cases}
 use Rattle.wit_graph.specs.Entries.{Entry, role_of, instance_of, id_of, ids_of}
 use Rattle.wit_graph.specs.Elaborated.{Elaborated, elaborated_imports, elaborated_exports}
 use Rattle.wit_graph.specs.ElaborationLaws.{ElaboratesOnce, ImportsAreExact, ImportsKeepOrder, OrderIsFree, SameEntries, DependenciesFirst}

@@ -1,6 +1,5 @@
 pub mod Cuts
 pub mod Distinct
-pub mod Each
 pub mod Kebab
 pub mod SourceMapLemmas
 pub mod UsePathGrammar

@@ -6,7 +6,7 @@ use Rattle.std.specs.Option.{IsSomeAnd, option_map}
 use Rattle.std.proofs.lemmas.Bool.Decides.{Decides-like, Decides-eqb}
 use Rattle.std.proofs.lemmas.List.Elements.{Contains-append_cases, Contains-append_left, Contains-append_right}
 use Rattle.std.proofs.lemmas.Option.{slice_get-map, get_or_from_slice_get}
-use Rattle.wit_relations.proofs.Members.{Contains-nil, Contains-here, Contains-cons_cases}
+use Rattle.wit_relations.specs.MemberFacts.{Contains-nil, Contains-here, Contains-cons_cases}
 use Rattle.wit_relations.specs.Relation.{IsPath, direct}
 use Rattle.wit_items.specs.Each.{SomeAt}
 use Rattle.wit_items.specs.Ownership.{Shows, through_unnamed}

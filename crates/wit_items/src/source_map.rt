@@ -1,5 +1,5 @@
 //! Source maps, which give each byte of several files a position of its own.
-ghost use Rattle.std.specs.Prelude.{◌≡◌, ◌≤◌, ◌<◌, ◌+◌, ◌^◌, ◌↔◌, [], map, Some, string_bytes, IfOk, OnOk, OnErr};
+ghost use Rattle.std.specs.Prelude.{◌≡◌, ◌≤◌, ◌<◌, ◌+◌, ◌^◌, ◌↔◌, [], length, take, map, Some, string_bytes, IsTrue, IfOk, OnOk, OnErr};
 ghost use Rattle.std.specs.Option.{SomeIff};
 ghost use Rattle.std.specs.List.{AllByRecursion};
 ghost use Rattle.std.specs.Iterator.{YieldsFirstBy, item_count};
@@ -138,6 +138,30 @@ impl SourceMap {
         self.files.append(&mut files)?;
         self.end = end;
         Ok(offset)
+    }
+
+    /// Leaves the first so many files, of which the last ends at this position at most, where the next
+    /// one would begin then.
+    pub fn truncate(&mut self, len: usize, end: u32)
+        requires { AreLaidOut 0 (take len self.old.files) end }
+        ensures { self.new ≡ record { files = take len self.old.files; end = end } }
+    {
+        self.files.truncate(len);
+        self.end = end;
+    }
+
+    /// How many files it has.
+    pub fn len(&self) -> usize
+        ensures { result ≡ length self.now.files }
+    {
+        self.files.len()
+    }
+
+    /// Whether it has no file.
+    pub fn is_empty(&self) -> bool
+        ensures { IsTrue result ↔ (length self.now.files ≡ 0) }
+    {
+        self.len() == 0
     }
 
     /// The position at which the next file would begin.

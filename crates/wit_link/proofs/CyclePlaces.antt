@@ -1,6 +1,6 @@
 -- Where the things of an added package go, and what stands there.
-use Rattle.std.proofs.Common.{◌≡◌, ◌∙◌, ℕ, ◌+◌, ◌<◌, ◌==◌, zero, suc, Bool, true, false, List, [], ◌∷◌, ◌++◌, map, length, Option, Some, None, IsSomeAnd, option_map, filter_map, slice_get, refl, ap, sym, arith, eqb-true, eq-eqb, ne_eqb}
-use Rattle.std.specs.List.{AllByRecursion, cons_option, flat_map}
+use Rattle.std.proofs.Common.{◌≡◌, ◌∙◌, ℕ, ◌+◌, ◌<◌, ◌==◌, zero, suc, Bool, true, false, List, [], ◌∷◌, ◌++◌, map, length, Option, Some, None, IsSomeAnd, option_map, filter_map, slice_get, refl, ap, sym, subst, arith, eqb-true, eq-eqb, ne_eqb}
+use Rattle.std.specs.List.{AllByRecursion, AllZip, cons_option, flat_map}
 use Rattle.std.proofs.lemmas.List.{map-append}
 use Rattle.wit_items.specs.Each.{Each}
 use Rattle.wit_link.specs.Added.{new_id, next_ids, id_or}
@@ -111,3 +111,11 @@ flat_map_commutes f h k e [] each = refl
 flat_map_commutes f h k e (x ∷ xs) each =
     let rest = flat_map_commutes f h k e xs each in
     (λ i. each x i ++ rest i) ∙ sym (map-append k (e x) (flat_map e xs))
+
+-- what follows from what holds of two lists, place by place
+pub each_pair : {X Y : Type 0} {R : X → Y → Type 0} {P : Y → Type 0} (xs : List X) (ys : List Y) → AllZip R xs ys → ((i : ℕ) (x : X) (y : Y) → slice_get xs i ≡ Some x → R x y → P y) → Each P ys
+each_pair [] [] zip f i y at = cc
+each_pair [] (z ∷ ys) zip f i y at = absurd zip
+each_pair (x ∷ xs) [] zip f i y at = cc
+each_pair {P} (x ∷ xs) (z ∷ ys) zip f zero y at = let same : z ≡ y = cc in subst P same (f 0 x z refl zip.0)
+each_pair (x ∷ xs) (z ∷ ys) zip f (suc i) y at = each_pair xs ys zip.1 (λ k x y on r. f (suc k) x y on r) i y at

@@ -19,7 +19,8 @@ use Rattle.wit_link.specs.Cause.{HasImage, HasPackage}
 use Rattle.wit_link.specs.CauseExamples.{loose_interface, loose_world}
 use Rattle.wit_link.specs.Examples.{function_entry, gate_f, no_features}
 use Rattle.wit_link.specs.Gates.{HasEntry, asked_notes, interface_notes, world_is_active, world_notes}
-use Rattle.wit_link.specs.WorldCauseExamples.{all_features, exporting, exporting_package, gated_entry, including, including_package, three, with_base}
+use Rattle.wit_link.specs.WorldCauseExamples.{all_features, exporting, exporting_package, gated_entry, including, including_package, three}
+use Rattle.wit_link.specs.WorldNearMisses.{with_world}
 
 -- what holds of both of two things holds of each of them
 each_of_two : {X : Type 0} (P : X → Type 0) (a b x : X) → P a → P b → Contains (a ∷ b ∷ []) x → P x
@@ -94,10 +95,10 @@ include_includes names (suc zero) world i at inside =
     subst (λ (x : WorldInclude). (world_is_active all_features (including_package names) x.id ≡ true) × (IsStable x.stability → ⊥)) it (refl, λ stable. stable)
 include_includes names (suc (suc w)) world i at inside = cc
 
-include_plain : (names : List IncludeName) → IsPlain all_features with_base (including_package names)
-include_plain names = record {
-  packages = λ place requested items at. subst (HasPackage with_base) (package_is _ place requested items at) (0, (0, lit< tt, refl));
-  items = λ e inside. each_of_two (λ (x : ℕ × PackageName × ForeignItem). IsThere with_base x.1 x.2.0 x.2.1.0) _ _ e
+include_plain : (note : Stability) (label : List ℕ) (names : List IncludeName) → IsPlain all_features (with_world note label) (including_package names)
+include_plain note label names = record {
+  packages = λ place requested items at. subst (HasPackage (with_world note label)) (package_is _ place requested items at) (0, (0, lit< tt, refl));
+  items = λ e inside. each_of_two (λ (x : ℕ × PackageName × ForeignItem). IsThere (with_world note label) x.1 x.2.0 x.2.1.0) _ _ e
       (0, (0, (0, lit< tt, refl), (0, lit< tt, refl))) (0, (0, (0, lit< tt, refl), (0, lit< tt, refl))) inside;
   no_types = λ t def at. cc;
   no_functions = no_function_one (codes "a");
@@ -107,8 +108,8 @@ include_plain names = record {
   includes = include_includes names;
 }
 
-pub include_has_image : (names : List IncludeName) → HasImage all_features with_base (including_package names) 0
-include_has_image names = plain_has_image all_features with_base (including_package names) 0 (include_plain names)
+pub include_has_image : (note : Stability) (label : List ℕ) (names : List IncludeName) → HasImage all_features (with_world note label) (including_package names) 0
+include_has_image note label names = plain_has_image all_features (with_world note label) (including_package names) 0 (include_plain note label names)
 
 -- ---- the package with a conflict
 

@@ -1,36 +1,29 @@
 -- Which packages depend on which, when a package is added that names nothing of others: what was there
 -- depends on what it did, and the new package on none.
-use Rattle.std.proofs.Common.{◌≡◌, ◌∙◌, ◌⊎◌, inl, inr, ℕ, ◌+◌, ◌-◌, ◌<◌, ◌≤◌, ◌==◌, zero, suc, Bool, true, false, List, [], ◌∷◌, ◌++◌, map, length, Option, Some, None, IfSome, IsSomeAnd, option_map, option_and_then, filter_map, flat_map, slice_get, refl, arith, ap, sym, subst, if◌then◌else◌, eq-eqb}
-use Rattle.std.proofs.lemmas.Bool.{cases_lt}
-use Rattle.std.proofs.lemmas.List.{length-append, length-map, map-append}
+use Rattle.std.proofs.Common.{◌≡◌, ◌∙◌, ℕ, ◌+◌, ◌<◌, ◌==◌, zero, suc, Bool, true, false, List, [], ◌∷◌, ◌++◌, map, length, Option, Some, None, IfSome, option_and_then, filter_map, flat_map, slice_get, refl, arith, ap, sym, if◌then◌else◌}
+use Rattle.std.proofs.lemmas.List.{map-append}
 use Rattle.std.specs.List.{AllByRecursion, cons_option, enumerate_from}
 use Rattle.std.specs.Option.{option_map_or}
 use Rattle.wit_values.specs.Lists.{slice_get-append, AllByRecursion-weaker}
-use Rattle.wit_relations.specs.Relation.{IsAcyclic}
 use Rattle.wit_items.specs.Each.{Each, EachAt, SomeAt}
-use Rattle.wit_items.specs.Entries.{Entry, HasExports, HasImports, IsExport, IsImport}
+use Rattle.wit_items.specs.Entries.{Entry, IsExport, IsImport}
 use Rattle.wit_items.specs.Ownership.{IsListed}
-use Rattle.wit_items.specs.Shape.{IsShaped}
 use Rattle.wit_items.specs.Uses.{alias_target, interface_uses, other_owner, type_interface_dep}
 use Rattle.wit_items.specs.declared.interface.Interface.{Interface}
 use Rattle.wit_items.specs.declared.types.TypeDef.{TypeDef}
 use Rattle.wit_items.specs.declared.types.TypeOwner.{TypeOwner}
 use Rattle.wit_items.specs.declared.types.TypeOwner.TheVariants as owner
-use Rattle.wit_items.specs.declared.unresolved.UnresolvedPackage.{UnresolvedPackage}
 use Rattle.wit_items.specs.declared.world.World.{World}
 use Rattle.wit_items.specs.declared.world.WorldItem.{WorldItem}
 use Rattle.wit_items.specs.declared.world.WorldItem.TheVariants as item
 use Rattle.wit_items.specs.declared.world.WorldKey.{WorldKey}
 use Rattle.wit_items.specs.declared.world.WorldKey.TheVariants as key
-use Rattle.wit_graph.specs.Relations.{entry_interface, entry_interfaces, other_package, package_interfaces, package_needs, package_uses, world_interfaces}
+use Rattle.wit_graph.specs.Relations.{entry_interface, other_package, package_interfaces, package_needs, package_uses, world_interfaces}
 use Rattle.wit_graph.specs.Valid.{IsValid}
 use Rattle.wit_graph.specs.declared.graph.Graph.{Graph}
 use Rattle.wit_graph.specs.declared.graph.Package.{Package}
-use Rattle.wit_link.specs.Added.{Added, Places, added_package, next_places, placed_interface, placed_type}
-use Rattle.wit_link.specs.Pushed.{named_ids, world_ids}
-use Rattle.wit_link.proofs.CyclePlaces.{all_appended, all_flattened, all_images, at_behind, at_image_behind, at_map, filter_map_agrees, there_is, within}
-use Rattle.wit_link.proofs.JoinedRows.{IsAcyclic-earlier, IsAcyclic-joined, moved_rows}
-use Rattle.wit_link.proofs.UsesStay.{interface_moved, interface_stays, type_stays}
+use Rattle.wit_link.proofs.CyclePlaces.{all_appended, all_flattened, filter_map_agrees, there_is, within}
+use Rattle.wit_link.proofs.UsesStay.{interface_stays, type_stays}
 
 -- ---- lists
 
@@ -39,7 +32,7 @@ module _ {X Y : Type 0} where
   filter_map_same f g [] all = refl
   filter_map_same f g (x ∷ xs) all = let here : f x ≡ g x = all.0 in let rest : filter_map f xs ≡ filter_map g xs = filter_map_same f g xs all.1 in cc
 
-  filter_map_none : (f : X → Option Y) (xs : List X) → AllByRecursion (λ x. f x ≡ None) xs → filter_map f xs ≡ []
+  pub filter_map_none : (f : X → Option Y) (xs : List X) → AllByRecursion (λ x. f x ≡ None) xs → filter_map f xs ≡ []
   filter_map_none f [] all = refl
   filter_map_none f (x ∷ xs) all = let here : f x ≡ None = all.0 in let rest : filter_map f xs ≡ [] = filter_map_none f xs all.1 in cc
 
@@ -48,7 +41,7 @@ module _ {X Y : Type 0} where
   flat_map_same f g (x ∷ xs) each = let here = each 0 x refl in let rest = flat_map_same f g xs (λ i z at. each (suc i) z at) in λ i. here i ++ rest i
 
   -- what holds of each that is kept
-  all_kept : (P : Y → Type 0) (f : X → Option Y) (xs : List X) → Each (λ x. IfSome (f x) P) xs → AllByRecursion P (filter_map f xs)
+  pub all_kept : (P : Y → Type 0) (f : X → Option Y) (xs : List X) → Each (λ x. IfSome (f x) P) xs → AllByRecursion P (filter_map f xs)
   all_kept P f [] each = tt
   all_kept P f (x ∷ xs) each = by (f x) (each 0 x refl) (all_kept P f xs (λ i z at. each (suc i) z at))
     where
@@ -77,7 +70,7 @@ module _ {X : Type 0} where
 -- ---- the interface of an owner is there
 
 -- what an alias needs is in range, where owners are
-dep_below : (types : List TypeDef) (interfaces : List Interface) (worlds : List World) → EachAt (λ i (def : TypeDef). IsListed interfaces worlds i def.name def.owner) types
+pub dep_below : (types : List TypeDef) (interfaces : List Interface) (worlds : List World) → EachAt (λ i (def : TypeDef). IsListed interfaces worlds i def.name def.owner) types
     → (id : ℕ) → IfSome (type_interface_dep types id) (λ j. j < length interfaces)
 dep_below types interfaces worlds listed id = first (slice_get types id)
   where
@@ -155,11 +148,11 @@ module _ (g : Graph) (valid : IsValid g) (types : List TypeDef) (interfaces : Li
       → package_interfaces (g.types ++ types) (g.interfaces ++ interfaces) (g.worlds ++ worlds) home ≡ package_interfaces g.types g.interfaces g.worlds home
   named_stay p home at =
       let first = flat_map_same (λ (e : List ℕ × ℕ). option_map_or (interface_uses (g.types ++ types)) (slice_get (g.interfaces ++ interfaces) e.1) [])
-          (λ (e : List ℕ × ℕ). option_map_or (interface_uses g.types) (slice_get g.interfaces e.1) []) home.interfaces
-          (λ k e on. table_stays e.1 _ (valid.well_formed.tables.interface_tables p home at k e on)) in
+      (λ (e : List ℕ × ℕ). option_map_or (interface_uses g.types) (slice_get g.interfaces e.1) []) home.interfaces
+      (λ k e on. table_stays e.1 _ (valid.well_formed.tables.interface_tables p home at k e on)) in
       let second = flat_map_same (λ (e : List ℕ × ℕ). option_map_or (world_interfaces (g.types ++ types)) (slice_get (g.worlds ++ worlds) e.1) [])
-          (λ (e : List ℕ × ℕ). option_map_or (world_interfaces g.types) (slice_get g.worlds e.1) []) home.worlds
-          (λ k e on. world_table_stays e.1 _ (valid.well_formed.tables.world_tables p home at k e on)) in
+      (λ (e : List ℕ × ℕ). option_map_or (world_interfaces g.types) (slice_get g.worlds e.1) []) home.worlds
+      (λ k e on. world_table_stays e.1 _ (valid.well_formed.tables.world_tables p home at k e on)) in
       λ i. first i ++ second i
 
   -- what a package names is there
@@ -207,9 +200,9 @@ module _ (g : Graph) (valid : IsValid g) (types : List TypeDef) (interfaces : Li
   needs_stay q p home at =
       ap (filter_map (other_package (g.interfaces ++ interfaces) q)) (named_stay p home at)
       ∙ filter_map_same (other_package (g.interfaces ++ interfaces) q) (other_package g.interfaces q) (package_interfaces g.types g.interfaces g.worlds home)
-          (AllByRecursion-weaker (λ j. j < length g.interfaces) (λ j. other_package (g.interfaces ++ interfaces) q j ≡ other_package g.interfaces q j)
-          (λ j below. ap (option_and_then (λ (interface : Interface). option_and_then (λ r. if r == q then None else Some r) interface.package)) (at_before g.interfaces interfaces j below))
-          (package_interfaces g.types g.interfaces g.worlds home) (named_there home))
+      (AllByRecursion-weaker (λ j. j < length g.interfaces) (λ j. other_package (g.interfaces ++ interfaces) q j ≡ other_package g.interfaces q j)
+      (λ j below. ap (option_and_then (λ (interface : Interface). option_and_then (λ r. if r == q then None else Some r) interface.package)) (at_before g.interfaces interfaces j below))
+      (package_interfaces g.types g.interfaces g.worlds home) (named_there home))
 
   -- the rows of the packages that were there, and that of one more
   pub rows_stay : (home : Package) → package_needs (g.types ++ types) (g.interfaces ++ interfaces) (g.worlds ++ worlds) (length g.packages) home ≡ []

@@ -31,6 +31,7 @@ use Rattle.wit_link.specs.Include.{IsRenamed}
 use Rattle.wit_link.specs.PushExamples.{gate_g, main_name, since_one}
 use Rattle.wit_link.specs.Pushed.{AreMaps, HasWorld, IsBuilt, new_package}
 use Rattle.wit_link.specs.Rename.{renamed_by}
+use Rattle.wit_link.specs.WorldNearMisses.{with_world}
 use Rattle.wit_link.specs.WorldCauseExamples.{ExamplesOfWorldCauses, all_features, exporting, exporting_package, gated_entry, including, including_package, naming_type, no_version, since_package, three, with_base}
 
 -- one of two things
@@ -47,7 +48,7 @@ feature_of Unknown = []
 feature_of (Stable since deprecated) = []
 feature_of (Unstable feature deprecated) = feature
 
-other_feature : Unstable (codes "f") None ≡ Unstable (codes "g") None → ⊥
+pub other_feature : Unstable (codes "f") None ≡ Unstable (codes "g") None → ⊥
 unfolding feature_of
 other_feature same = differ (codes "f") (codes "g") refl (ap feature_of same)
 
@@ -84,9 +85,9 @@ no_worlds w (p, inside, there) =
 abbrev include_maps : Maps
 include_maps = record { types = λ t. None; interfaces = λ i. slice_get (0 ∷ []) i; worlds = λ w. slice_get (0 ∷ 1 ∷ []) w }
 
-abbrev with_main : List IncludeName → Graph
-with_main names = record with_base {
-  packages = with_base.packages ++ new_package all_features with_base (including_package names) ∷ [];
+abbrev pub with_main : Stability → List ℕ → List IncludeName → Graph
+with_main note label names = record (with_world note label) {
+  packages = (with_world note label).packages ++ new_package all_features (with_world note label) (including_package names) ∷ [];
   package_names = (foo_bar, 0) ∷ (main_name, 1) ∷ [];
 }
 
@@ -99,8 +100,8 @@ include_worlds names zero off = absurd (false≢true (sym off))
 include_worlds names (suc zero) off = absurd (false≢true (sym off))
 include_worlds names (suc (suc w)) off = refl
 
-include_are_maps : (names : List IncludeName) → AreMaps all_features with_base (including_package names) 0 with_base.types include_maps
-include_are_maps names = record {
+include_are_maps : (note : Stability) (label : List ℕ) (names : List IncludeName) → AreMaps all_features (with_world note label) (including_package names) 0 (with_world note label).types include_maps
+include_are_maps note label names = record {
   no_type = λ t off. refl;
   no_interface = include_interfaces names;
   no_world = include_worlds names;
@@ -112,8 +113,8 @@ include_are_maps names = record {
   distinct = λ s t t' a name at called new first second. cc;
 }
 
-include_built : (names : List IncludeName) → IsBuilt all_features with_base (including_package names) 0 include_maps [] [] 0 (with_main names)
-include_built names = record {
+include_built : (note : Stability) (label : List ℕ) (names : List IncludeName) → IsBuilt all_features (with_world note label) (including_package names) 0 include_maps [] [] 0 (with_main note label names)
+include_built note label names = record {
   more_types = [];
   images = [];
   copies = [];
@@ -123,21 +124,21 @@ include_built names = record {
   worlds_are = refl;
   packages_are = refl;
   names_are = refl;
-  maps = include_are_maps names;
+  maps = include_are_maps note label names;
   interface_images = tt;
   world_images = tt;
   copies_last = refl;
 }
 
-abbrev begun : World
+abbrev pub begun : World
 begun = record (world_of (codes "d") (gated_entry gate_f ∷ function_entry (codes "f") ∷ []) []) { «package» = Some 1 }
 
-at_world : (names : List IncludeName) → IsAtWorld all_features with_base (including_package names) 0 0 (including names) [] include_maps (with_main names) begun (lists_of begun)
-at_world names = record {
+at_world : (note : Stability) (label : List ℕ) (names : List IncludeName) → IsAtWorld all_features (with_world note label) (including_package names) 0 0 (including names) [] include_maps (with_main note label names) begun (lists_of begun)
+at_world note label names = record {
   css = [];
   place = 1;
-  has_image = include_has_image names;
-  built = include_built names;
+  has_image = include_has_image note label names;
+  built = include_built note label names;
   next = refl;
   image = record {
     name = refl;
@@ -155,16 +156,16 @@ at_world names = record {
   included = refl;
 }
 
-at_include : (names : List IncludeName) → IsAtInclude all_features with_base (including_package names) 0 (with_main names) (lists_of begun)
-    (record { stability = Unknown; id = 0; names = names; span = Some (50, 60) }) (world_of (codes "w") (gated_entry gate_g ∷ function_entry (codes "f") ∷ []) [])
-at_include names = record {
+pub at_include : (note : Stability) (label : List ℕ) (names : List IncludeName) → IsAtInclude all_features (with_world note label) (including_package names) 0 (with_main note label names) (lists_of begun)
+    (record { stability = Unknown; id = 0; names = names; span = Some (50, 60) }) (world_of (codes "w") (gated_entry note ∷ function_entry label ∷ []) [])
+at_include note label names = record {
   k = 0;
   world = including names;
   cs = [];
   m = include_maps;
   begun = begun;
   from = 0;
-  at_world = at_world names;
+  at_world = at_world note label names;
   next = refl;
   goes = refl;
   is = refl;
@@ -304,13 +305,13 @@ world_causes = record {
     message_is = refl;
   });
   shadows = inr (record {
-    new = with_main [];
+    new = with_main gate_g (codes "f") [];
     lists = lists_of begun;
     include = _;
     old = _;
     current = _;
     brought = _;
-    at_include = at_include [];
+    at_include = at_include gate_g (codes "f") [];
     list = (inl (refl, refl), inl (refl, refl));
     shadowed = (key.Interface 0 ∷ [], [], refl, (1, lit< tt, refl));
     span_is = refl;
@@ -318,7 +319,7 @@ world_causes = record {
   lacks_version = inl lacks_version;
   no_shadow = λ span word name c. elim c [ inl early ↦ early | inr late ↦ late.at_include.at_world.has_image no_version lacks_version ];
   mismatch = inr (record {
-    new = with_main [];
+    new = with_main gate_g (codes "f") [];
     lists = lists_of begun;
     include = _;
     old = _;
@@ -326,7 +327,7 @@ world_causes = record {
     current = _;
     brought = _;
     i = 0;
-    at_include = at_include [];
+    at_include = at_include gate_g (codes "f") [];
     list = (inl (refl, refl), inl (refl, refl));
     there = (no_docs, None, None, (0, lit< tt, refl));
     comes = (no_docs, None, None, (0, lit< tt, refl));
@@ -334,14 +335,14 @@ world_causes = record {
     span_is = refl;
   });
   unmatched = inr (record {
-    new = with_main (named_as (codes "x") (codes "y") ∷ []);
+    new = with_main gate_g (codes "f") (named_as (codes "x") (codes "y") ∷ []);
     lists = lists_of begun;
     include = _;
     old = _;
     before = [];
     name = named_as (codes "x") (codes "y");
     after = [];
-    at_include = at_include (named_as (codes "x") (codes "y") ∷ []);
+    at_include = at_include gate_g (codes "f") (named_as (codes "x") (codes "y") ∷ []);
     names_are = refl;
     earlier = EachAt-nil _;
     unmatched = unmatched;

@@ -1,9 +1,9 @@
 -- Whether the spans of a package still end within the last position, 4294967295, when they are moved. The
 -- law `fitting_is_exact` says that a package fits exactly where no span of it passes the end.
-use Rattle.std.specs.Prelude.{ℕ, ◌+◌, ◌<◌, ◌^◌, List}
+use Rattle.std.specs.Prelude.{◌≡◌, ◌⊎◌, None, ℕ, ◌+◌, ◌<◌, ◌^◌, List}
 use Rattle.wit_items.specs.Each.{Each}
 use Rattle.wit_items.specs.Entries.{Entry}
-use Rattle.wit_items.specs.Span.{end_of}
+use Rattle.wit_items.specs.Span.{end_of, moved_by}
 use Rattle.wit_items.specs.declared.function.Function.{Function}
 use Rattle.wit_items.specs.declared.function.Param.{Param}
 use Rattle.wit_items.specs.declared.interface.Interface.{Interface}
@@ -19,6 +19,8 @@ use Rattle.wit_items.specs.declared.world.World.{World}
 use Rattle.wit_items.specs.declared.world.WorldInclude.{WorldInclude}
 use Rattle.wit_items.specs.declared.world.WorldItem.{WorldItem}
 use Rattle.wit_items.specs.declared.world.WorldItem.TheVariants as item
+use Rattle.wit_graph.specs.declared.error_kind.ResolveErrorKind.{ResolveErrorKind}
+use Rattle.wit_graph.specs.declared.error_kind.ResolveErrorKind.TheVariants.{DuplicatePackage, OffsetOverflow}
 use Rattle.wit_link.specs.Gates.{Place}
 
 -- the place still ends within the last position
@@ -82,3 +84,10 @@ pub record PackageFits (offset : ℕ) (u : UnresolvedPackage) : Type 0 where
   pub types : Each (TypeFits offset) u.types
   pub interfaces : Each (InterfaceFits offset) u.interfaces
   pub worlds : Each (WorldFits offset) u.worlds
+
+-- the refusal of a package whose name is there: that it is there, with the place of the name, or that this
+-- place passes the end
+abbrev pub IsNameTaken : ℕ → UnresolvedPackage → ResolveErrorKind → Type 0
+IsNameTaken offset u error =
+    (error ≡ DuplicatePackage u.name (moved_by offset u.package_name_span) None)
+    ⊎ ((error ≡ OffsetOverflow) × (Fits offset u.package_name_span → ⊥))

@@ -1,4 +1,6 @@
 pub mod Added
+pub mod AddingExamples
+pub mod AddingLaws
 pub mod Cause
 pub mod CauseExamples
 pub mod CauseText
@@ -11,9 +13,12 @@ pub mod Image
 pub mod Images
 pub mod Include
 pub mod Labels
+pub mod NearMisses
+pub mod OrderExamples
 pub mod PushExamples
 pub mod Pushed
 pub mod Rename
 pub mod Spans
 pub mod Supported
 pub mod WorldCauseExamples
+pub mod WorldNearMisses

@@ -1,37 +1,58 @@
 //! Adding a package to a graph.
-ghost use Rattle.std.specs.Prelude.{◌≡◌, ◌<◌, OnErr, length};
-ghost use Rattle.wit_graph.specs.Elaboration.{graph_uses};
-ghost use Rattle.wit_relations.specs.Relation.{IsAcyclic};
+ghost use Rattle.std.specs.Prelude.{◌≡◌, ◌⊎◌, ◌++◌, ◌∷◌, [], ◌+◌, ◌<◌, ◌^◌, IfErr, IfOk, None, OnErr, OnOk, length, map};
+ghost use Rattle.std.specs.List.{IsDistinct};
+ghost use Rattle.std.specs.Map.{lookup};
+ghost use Rattle.std.specs.Str.{bytes_eq};
+ghost use Rattle.wit_graph.specs.Valid.{IsValid};
+ghost use Rattle.wit_graph.specs.declared.error_kind.ResolveErrorKind.{ResolveErrorKind};
+ghost use Rattle.wit_graph.specs.declared.error_kind.ResolveErrorKind.TheVariants.{OutOfMemory};
+ghost use Rattle.wit_items.specs.Each.{Each};
+ghost use Rattle.wit_items.specs.PackageOrder.{same_package};
+ghost use Rattle.wit_items.specs.Shape.{IsShaped, interface_names, world_names};
+ghost use Rattle.wit_link.specs.Supported.{IsSupported};
+ghost use Rattle.wit_link.specs.Added.{Added, NamesDiffer, next_ids, next_remap, placed_interface, placed_type, placed_world};
+ghost use Rattle.wit_link.specs.Cause.{IsAccepted, IsCause};
+ghost use Rattle.wit_link.specs.Fits.{IsNameTaken};
+ghost use Rattle.wit_link.specs.Images.{AreNext, HasKeysBelow, image_places, interfaces_at, package_at, with_parts, worlds_at};
 
+use crate::finishing::elaborate_from;
+use crate::fits::spans_fit;
 use crate::image::Image;
+use crate::laws::additions_stay_valid;
 use crate::remap::Remap;
 use std::alloc::{AllocError, Global};
-use wit_graph::{
-    Elaborator, Features, Graph, Package, ResolveError, ResolveErrorKind, ResolveResult, is_listed,
-};
+use wit_graph::{Features, Graph, Package, ResolveError, ResolveErrorKind, ResolveResult};
 use wit_items::{
     Interface, InterfaceId, Items, Names, PackageId, Span, TryClone, TypeId, UnresolvedPackage,
-    World, WorldId, uses_of,
+    World, WorldId,
 };
-use wit_relations::is_acyclic;
 use wit_values::try_clone_two;
 
 /// Adds a package to a graph, its spans moved by an offset, and answers its id.
 ///
-/// So far it takes packages that name nothing of other packages and have no gates, includes or labels.
-/// Refused where a package of that name is there (5), where a span would pass 4294967295 (27), and for
-/// memory (28). After a refusal the graph is as before.
+/// So far it takes packages that `is_supported` tells. Refused where a package of that name is there (5),
+/// where a span would pass 4294967295 (27), and for memory (28). After a refusal the graph is as before.
 pub fn append(
     alloc: Global,
     graph: &mut Graph,
-    _features: &Features,
+    features: &Features,
     package: UnresolvedPackage,
     span_offset: u32,
 ) -> ResolveResult<PackageId>
+    requires shaped { IsShaped «package» }
+    requires supported { IsSupported «package» }
+    requires valid { IsValid graph.old }
+    ensures ok { IfOk result (λ id. IsAccepted features.now graph.old «package» span_offset graph.new id) }
+    ensures valid { IsValid graph.new }
     ensures err { OnErr result (graph.new ≡ graph.old) }
+    ensures cause { IfErr result (λ kind. (kind ≡ OutOfMemory) ⊎ IsCause features.now graph.old «package» span_offset kind) }
+    ensures refuses { (kind : ResolveErrorKind) → IsCause features.now graph.old «package» span_offset kind → OnOk result ⊥ }
 {
     if graph.package_names.contains_key(&package.name) {
-        return Err(duplicate(package, span_offset));
+        return Err(name_taken(package, span_offset));
+    }
+    if !spans_fit(&package, span_offset) {
+        return Err(ResolveError::from(ResolveErrorKind::OffsetOverflow));
     }
     let mut next = graph.try_clone()?;
     let id = add_package(alloc, &mut next, &package, span_offset)?;
@@ -40,7 +61,9 @@ pub fn append(
 }
 
 /// The refusal of a package whose name is there.
-fn duplicate(package: UnresolvedPackage, span_offset: u32) -> ResolveError {
+fn name_taken(package: UnresolvedPackage, span_offset: u32) -> ResolveError
+    ensures { IsNameTaken span_offset «package» result }
+{
     match package.package_name_span.moved(span_offset) {
         Some(span1) => ResolveError::from(ResolveErrorKind::DuplicatePackage {
             name: package.name,
@@ -51,122 +74,167 @@ fn duplicate(package: UnresolvedPackage, span_offset: u32) -> ResolveError {
     }
 }
 
-/// Adds the types, interfaces and worlds of a package, then the package, and elaborates its worlds.
+/// Adds a package whose spans fit and whose name is new, with its worlds elaborated.
 fn add_package(
     alloc: Global,
     graph: &mut Graph,
     package: &UnresolvedPackage,
     span_offset: u32,
-) -> ResolveResult<PackageId> {
-    let id = PackageId::from_index(graph.packages.len());
+) -> ResolveResult<PackageId>
+    requires shaped { IsShaped «package».now }
+    requires supported { IsSupported «package».now }
+    requires new { lookup (same_package «package».now.name) graph.old.package_names ≡ None }
+    requires valid { IsValid graph.old }
+    ensures id { IfOk result (λ id. id ≡ length graph.old.packages) }
+    ensures added { OnOk result (Added graph.old «package».now span_offset graph.new) }
+    ensures valid { OnOk result (IsValid graph.new) }
+    ensures err { IfErr result (λ kind. kind ≡ OutOfMemory) }
+{
+    additions_stay_valid();
     let first_world = graph.worlds.len();
+    let id = add_parts(alloc, graph, package, span_offset)?;
+    elaborate_from(alloc, graph, first_world)?;
+    Ok(id)
+}
+
+/// Adds the types, interfaces and worlds of a package at their places, then the package. A caller learns
+/// here that the names in the tables of its interfaces differ.
+fn add_parts(
+    alloc: Global,
+    graph: &mut Graph,
+    package: &UnresolvedPackage,
+    span_offset: u32,
+) -> Result<PackageId, AllocError>
+    requires shaped { IsShaped «package».now }
+    requires supported { IsSupported «package».now }
+    requires new { lookup (same_package «package».now.name) graph.old.package_names ≡ None }
+    ensures id { IfOk result (λ id. id ≡ length graph.old.packages) }
+    ensures parts { OnOk result (graph.new ≡ with_parts graph.old «package».now span_offset) }
+    ensures names { OnOk result (NamesDiffer «package».now) }
+{
+    let id = PackageId::from_index(graph.packages.len());
     let remap = fresh_ids(alloc, graph, package)?;
     let image = Image {
         remap: &remap,
         offset: span_offset,
         package: id,
     };
-    image.span(package.package_name_span)?;
     add_types(alloc, graph, &image, package)?;
     add_interfaces(alloc, graph, &image, package)?;
     add_worlds(alloc, graph, &image, package)?;
     add_tables(alloc, graph, &image, package)?;
-    elaborate_from(alloc, graph, first_world)?;
     Ok(id)
 }
 
-/// Elaborates the worlds from a place on, where no interface comes back to itself along its uses.
-fn elaborate_from(alloc: Global, graph: &mut Graph, first: usize) -> ResolveResult<()> {
-    let types = graph.types.as_slice();
-    let uses = uses_of(alloc, types, graph.interfaces.as_slice())?;
-    if !is_acyclic(alloc, uses.as_slice())? {
-        return Ok(());
-    }
-    let mut elaborator = Elaborator::new(alloc, types, graph.interfaces.as_slice())?;
-    for world in first..graph.worlds.len() {
-        elaborate_listed(alloc, graph, &mut elaborator, world)?;
-    }
-    Ok(())
-}
-
-/// Elaborates a world whose keys and ids are in order; any other stays as it is listed.
-fn elaborate_listed(
-    alloc: Global,
-    graph: &mut Graph,
-    elaborator: &mut Elaborator,
-    world: usize,
-) -> ResolveResult<()>
-    requires uses { elaborator.old ≡ graph_uses graph.old }
-    requires world { world < length graph.old.worlds }
-    requires acyclic { IsAcyclic (graph_uses graph.old) }
-    ensures uses { graph_uses graph.new ≡ graph_uses graph.old }
-    ensures same { elaborator.new ≡ elaborator.old }
-    ensures worlds { length graph.new.worlds ≡ length graph.old.worlds }
-{
-    let interfaces = graph.interfaces.len();
-    if is_listed(graph.types.as_slice(), interfaces, graph.worlds.at(world)) {
-        elaborator.elaborate(alloc, graph, WorldId::from_index(world))?;
-    }
-    Ok(())
-}
-
-/// The next ids of the graph, in the order of the package's lists.
+/// The next ids of the graph, in the order of the package's lists. The graph has room for what takes them.
 fn fresh_ids(
     alloc: Global,
     graph: &mut Graph,
     package: &UnresolvedPackage,
-) -> Result<Remap, AllocError> {
+) -> Result<Remap, AllocError>
+    ensures remap { IfOk result (λ remap. remap ≡ next_remap graph.old «package».now) }
+    ensures same { graph.new ≡ graph.old }
+{
     graph.types.reserve(package.types.len())?;
     graph.interfaces.reserve(package.interfaces.len())?;
     graph.worlds.reserve(package.worlds.len())?;
-    let mut types = Items::new(alloc);
-    let first_type = graph.types.len();
-    for index in 0..package.types.len() {
-        types.push(Some(TypeId::from_index(first_type + index)))?;
-    }
-    let mut interfaces = Items::new(alloc);
-    let first_interface = graph.interfaces.len();
-    for index in 0..package.interfaces.len() {
-        interfaces.push(Some(InterfaceId::from_index(first_interface + index)))?;
-    }
-    let mut worlds = Items::new(alloc);
-    let first_world = graph.worlds.len();
-    for index in 0..package.worlds.len() {
-        worlds.push(Some(WorldId::from_index(first_world + index)))?;
-    }
+    let types = next_types(alloc, graph.types.len(), package.types.len())?;
+    let interfaces = next_interfaces(alloc, graph.interfaces.len(), package.interfaces.len())?;
+    let worlds = next_worlds(alloc, graph.worlds.len(), package.worlds.len())?;
     Ok(Remap::from_lists(types, interfaces, worlds, Items::new(alloc)))
 }
 
+/// So many ids of types, one after another.
+fn next_types(
+    alloc: Global,
+    first: usize,
+    count: usize,
+) -> Result<Items<Option<TypeId>>, AllocError>
+    requires { first + count < 2 ^ 64 }
+    ensures { IfOk result (λ ids. ids ≡ next_ids first count) }
+{
+    let mut ids = Items::new(alloc);
+    for index in 0..count {
+        ids.push(Some(TypeId::from_index(first + index)))?;
+    }
+    Ok(ids)
+}
+
+/// So many ids of interfaces, one after another.
+fn next_interfaces(
+    alloc: Global,
+    first: usize,
+    count: usize,
+) -> Result<Items<Option<InterfaceId>>, AllocError>
+    requires { first + count < 2 ^ 64 }
+    ensures { IfOk result (λ ids. ids ≡ next_ids first count) }
+{
+    let mut ids = Items::new(alloc);
+    for index in 0..count {
+        ids.push(Some(InterfaceId::from_index(first + index)))?;
+    }
+    Ok(ids)
+}
+
+/// So many ids of worlds, one after another.
+fn next_worlds(
+    alloc: Global,
+    first: usize,
+    count: usize,
+) -> Result<Items<Option<WorldId>>, AllocError>
+    requires { first + count < 2 ^ 64 }
+    ensures { IfOk result (λ ids. ids ≡ next_ids first count) }
+{
+    let mut ids = Items::new(alloc);
+    for index in 0..count {
+        ids.push(Some(WorldId::from_index(first + index)))?;
+    }
+    Ok(ids)
+}
+
+/// Adds the types of a package at their places.
 fn add_types(
     alloc: Global,
     graph: &mut Graph,
     image: &Image<'_>,
     package: &UnresolvedPackage,
-) -> ResolveResult<()> {
+) -> Result<(), AllocError>
+    ensures { OnOk result (graph.new ≡ record graph.old { types = graph.old.types ++ map (placed_type (image_places image.now)) «package».now.types }) }
+{
     for ty in package.types.as_slice() {
         graph.types.push(image.type_def(alloc, ty)?)?;
     }
     Ok(())
 }
 
+/// Adds the interfaces of a package at their places. A caller learns here that the names in their tables
+/// differ.
 fn add_interfaces(
     alloc: Global,
     graph: &mut Graph,
     image: &Image<'_>,
     package: &UnresolvedPackage,
-) -> ResolveResult<()> {
+) -> Result<(), AllocError>
+    ensures interfaces { OnOk result (graph.new ≡ record graph.old { interfaces = graph.old.interfaces ++ map (placed_interface (image_places image.now)) «package».now.interfaces }) }
+    ensures names { OnOk result (NamesDiffer «package».now) }
+{
     for interface in package.interfaces.as_slice() {
         graph.interfaces.push(image.interface(alloc, interface)?)?;
     }
     Ok(())
 }
 
+/// Adds the worlds of a package at their places.
 fn add_worlds(
     alloc: Global,
     graph: &mut Graph,
     image: &Image<'_>,
     package: &UnresolvedPackage,
-) -> ResolveResult<()> {
+) -> Result<(), AllocError>
+    requires next { AreNext image.now.remap.now.interfaces }
+    requires keys { Each (HasKeysBelow (length image.now.remap.now.interfaces)) «package».now.worlds }
+    ensures { OnOk result (graph.new ≡ record graph.old { worlds = graph.old.worlds ++ map (placed_world (image_places image.now)) «package».now.worlds }) }
+{
     for world in package.worlds.as_slice() {
         graph.worlds.push(image.world(alloc, world)?)?;
     }
@@ -179,7 +247,12 @@ fn add_tables(
     graph: &mut Graph,
     image: &Image<'_>,
     package: &UnresolvedPackage,
-) -> ResolveResult<()> {
+) -> Result<(), AllocError>
+    requires interfaces { IsDistinct bytes_eq (interface_names 0 «package».now.interfaces) }
+    requires worlds { IsDistinct bytes_eq (world_names 0 «package».now.worlds) }
+    requires new { lookup (same_package «package».now.name) graph.old.package_names ≡ None }
+    ensures { OnOk result (graph.new ≡ record graph.old { packages = graph.old.packages ++ package_at (image_places image.now) «package».now ∷ []; package_names = graph.old.package_names ++ («package».now.name, image.now.«package») ∷ [] }) }
+{
     let interfaces = interface_table(alloc, image, package.interfaces.as_slice())?;
     let worlds = world_table(alloc, image, package.worlds.as_slice())?;
     let (name, docs) = try_clone_two(&package.name, &package.docs)?;
@@ -189,26 +262,28 @@ fn add_tables(
         interfaces,
         worlds,
     })?;
-    let name = package.name.try_clone()?;
-    if !graph.package_names.contains_key(&name) {
-        graph.package_names.push(name, image.package)?;
-    }
-    Ok(())
+    graph
+        .package_names
+        .push(package.name.try_clone()?, image.package)
 }
 
-/// The named interfaces under their names.
+/// The interfaces that have a name under it.
 fn interface_table(
     alloc: Global,
     image: &Image<'_>,
     interfaces: &[Interface],
-) -> Result<Names<InterfaceId>, AllocError> {
+) -> Result<Names<InterfaceId>, AllocError>
+    requires { IsDistinct bytes_eq (interface_names 0 interfaces.now) }
+    ensures { IfOk result (λ table. table ≡ interfaces_at (image_places image.now) interfaces.now) }
+{
     let mut table = Names::new(alloc);
     for (index, interface) in interfaces.iter().enumerate() {
-        if let Some(name) = &interface.name {
-            if !table.contains_key(name.as_str()) {
+        match &interface.name {
+            Some(name) => {
                 let id = image.interface_id(InterfaceId::from_index(index));
                 table.push(String::from_str(alloc, name.as_str())?, id)?;
             }
+            None => {}
         }
     }
     Ok(table)
@@ -219,13 +294,14 @@ fn world_table(
     alloc: Global,
     image: &Image<'_>,
     worlds: &[World],
-) -> Result<Names<WorldId>, AllocError> {
+) -> Result<Names<WorldId>, AllocError>
+    requires { IsDistinct bytes_eq (world_names 0 worlds.now) }
+    ensures { IfOk result (λ table. table ≡ worlds_at (image_places image.now) worlds.now) }
+{
     let mut table = Names::new(alloc);
     for (index, world) in worlds.iter().enumerate() {
-        if !table.contains_key(world.name.as_str()) {
-            let id = image.world_id(WorldId::from_index(index));
-            table.push(String::from_str(alloc, world.name.as_str())?, id)?;
-        }
+        let id = image.world_id(WorldId::from_index(index));
+        table.push(String::from_str(alloc, world.name.as_str())?, id)?;
     }
     Ok(table)
 }

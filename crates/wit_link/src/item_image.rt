@@ -1,10 +1,10 @@
 //! The images of functions, interfaces and worlds.
-ghost use Rattle.std.specs.Prelude.{◌≡◌, IfOk, OnOk, map};
+ghost use Rattle.std.specs.Prelude.{◌≡◌, IfOk, OnOk, length, map};
 ghost use Rattle.std.specs.List.{IsDistinct};
 ghost use Rattle.std.specs.Map.{keys_of};
 ghost use Rattle.std.specs.Str.{bytes_eq};
-ghost use Rattle.wit_link.specs.Added.{placed_function, placed_interface, placed_param, placed_key, placed_item};
-ghost use Rattle.wit_link.specs.Images.{image_places, placed_listed, placed_named};
+ghost use Rattle.wit_link.specs.Added.{placed_function, placed_interface, placed_param, placed_key, placed_item, placed_entry, placed_world};
+ghost use Rattle.wit_link.specs.Images.{AreNext, HaveKeysBelow, image_places, placed_listed, placed_named};
 
 use crate::image::Image;
 use std::alloc::{AllocError, Global};
@@ -121,8 +121,14 @@ impl<'a> Image<'a> {
         })
     }
 
-    /// The image of a world, which belongs to the package that takes it. Its includes are left out.
-    pub(crate) fn world(&self, alloc: Global, world: &World) -> Result<World, AllocError> {
+    /// The image of a world, which belongs to the package that takes it. Its includes are left out. Keys that
+    /// differ still differ, since interfaces take ids one after another.
+    pub(crate) fn world(&self, alloc: Global, world: &World) -> Result<World, AllocError>
+        requires next { AreNext self.now.remap.now.interfaces }
+        requires imports { HaveKeysBelow (length self.now.remap.now.interfaces) world.now.imports }
+        requires exports { HaveKeysBelow (length self.now.remap.now.interfaces) world.now.exports }
+        ensures { IfOk result (λ x. x ≡ placed_world (image_places self.now) world.now) }
+    {
         let span = self.span(world.span)?;
         let imports = self.entries(alloc, &world.imports)?;
         let exports = self.entries(alloc, &world.exports)?;
@@ -143,15 +149,17 @@ impl<'a> Image<'a> {
         &self,
         alloc: Global,
         entries: &Table<WorldKey, WorldItem>,
-    ) -> Result<Table<WorldKey, WorldItem>, AllocError> {
+    ) -> Result<Table<WorldKey, WorldItem>, AllocError>
+        requires next { AreNext self.now.remap.now.interfaces }
+        requires keys { HaveKeysBelow (length self.now.remap.now.interfaces) entries.now }
+        ensures { IfOk result (λ x. x ≡ map (placed_entry (image_places self.now)) entries.now) }
+    {
         let mut images = Table::new(alloc);
         for index in 0..entries.len() {
             let (key, item) = entries.entry_at(index);
             let item = self.item(alloc, item)?;
             let key = self.key(key)?;
-            if !images.contains_key(&key) {
-                images.push(key, item)?;
-            }
+            images.push(key, item)?;
         }
         Ok(images)
     }

@@ -1,7 +1,7 @@
 -- The worked rows.
 use Rattle.std.proofs.Common.{ℕ, ◌<◌, ◌≤◌, zero, suc, List, [], ◌∷◌, refl, arith, lit<, inl, inr, Contains, All}
 use Rattle.std.proofs.lemmas.List.Elements.{All-from_recursion, All-contains, All-nil}
-use Rattle.wit_relations.proofs.Members.{Contains-nil, Contains-here, Contains-there, Contains-cons_cases}
+use Rattle.wit_relations.specs.MemberFacts.{Contains-nil, Contains-here, Contains-there, Contains-cons_cases}
 use Rattle.wit_relations.specs.Relation.{direct, IsPath, IsInRange}
 use Rattle.wit_relations.specs.Walks.{walk_within, walk}
 use Rattle.wit_relations.specs.Examples.{stairs, ring, ExamplesOfPaths, ExamplesOfCycles, ExamplesOfWalks}

@@ -1,6 +1,3 @@
-pub mod Members
-pub mod Walks
-pub mod Fresh
 pub mod Marks
 pub mod Stack
 pub mod WalkLaws

@@ -5,8 +5,8 @@ use Rattle.std.proofs.lemmas.Bool.{cases_eq, cases_Bool, false≢true}
 use Rattle.std.proofs.lemmas.List.{get_or-set_same, get_or-set_other, length-set, drop_more}
 use Rattle.std.proofs.lemmas.List.Elements.{All-head, All-tail}
 use Rattle.std.proofs.lemmas.Option.{get_or_from_slice_get, slice_get_cases}
-use Rattle.wit_relations.proofs.Members.{Contains-nil, Contains-cons_cases}
-use Rattle.wit_relations.proofs.Fresh.{any_from_contains, contains_from_any}
+use Rattle.wit_relations.specs.MemberFacts.{Contains-nil, Contains-cons_cases}
+use Rattle.wit_relations.specs.FreshFacts.{any_from_contains, contains_from_any}
 use Rattle.wit_relations.specs.Walks.{MarksTell}
 
 -- a mark tells whether its node is listed

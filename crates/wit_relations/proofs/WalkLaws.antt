@@ -2,9 +2,9 @@
 use Rattle.std.proofs.Common.{ℕ, ◌<◌, List, [], length}
 use Rattle.std.specs.List.{flat_map}
 use Rattle.std.proofs.lemmas.List.Elements.{All-contains}
-use Rattle.wit_relations.proofs.Members.{Contains-flat_map, Contains-flat_map_cases}
-use Rattle.wit_relations.proofs.Walks.{walk_is, walk-from_IsPath, Reaches-from_walk, UsesFirst-walk, UsesFirst-flat_map}
-use Rattle.wit_relations.proofs.Fresh.{fresh_in, fresh_all, IsDistinct-fresh, UsesFirst-fresh}
+use Rattle.wit_relations.specs.MemberFacts.{Contains-flat_map, Contains-flat_map_cases}
+use Rattle.wit_relations.specs.WalkFacts.{walk_is, walk-from_IsPath, Reaches-from_walk, UsesFirst-walk, UsesFirst-flat_map}
+use Rattle.wit_relations.specs.FreshFacts.{fresh_in, fresh_all, IsDistinct-fresh, UsesFirst-fresh}
 use Rattle.wit_relations.specs.Walks.{walk}
 use Rattle.wit_relations.specs.Laws.{FirstsAreOnce, WalksUnfold, WalksReach, WalksKeepOrder}
 

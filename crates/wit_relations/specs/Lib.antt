@@ -1,5 +1,8 @@
-pub mod Relation
-pub mod Walks
 pub mod Cycles
-pub mod Laws
 pub mod Examples
+pub mod FreshFacts
+pub mod Laws
+pub mod MemberFacts
+pub mod Relation
+pub mod WalkFacts
+pub mod Walks

@@ -1,2 +1,5 @@
+mod EmptyGraph
+mod OnePackage
 mod RunExamples
+mod Runs
 mod Selected

@@ -1,10 +1,7 @@
 -- Lists that are read from a place on, and texts that are made line by line.
-use Rattle.std.proofs.Common.{◌≡◌, ℕ, suc, zero, ◌+◌, Bool, true, false, List, [], ◌∷◌, ◌++◌, length, take, drop, filter, Some, Err, slice_get, refl, ap, sym, ◌∙◌, add-one, append_assoc}
+use Rattle.std.proofs.Common.{◌≡◌, ℕ, suc, zero, ◌+◌, Bool, true, false, List, [], ◌∷◌, ◌++◌, take, drop, filter, Some, slice_get, refl, ap, sym, ◌∙◌, add-one, append_assoc}
 use Rattle.std.proofs.lemmas.List.{append-nil}
 use Rattle.std.specs.List.{flat_map}
-use Rattle.wit_graph.specs.declared.graph.Graph.{Graph}
-use Rattle.wit_graph.specs.declared.graph.Package.{Package}
-use Rattle.wit_resolve_graph.specs.Selection.{only_world, several_worlds_text}
 
 module _ {X : Type 0} where
   flat_map-suc : (f : X → List ℕ) (xs : List X) (i : ℕ) (x : X) → slice_get xs i ≡ Some x → flat_map f (take (suc i) xs) ≡ flat_map f (take i xs) ++ f x
@@ -37,9 +34,3 @@ module _ {X : Type 0} where
   -- and where it passes
   pub filter-met : (p : X → Bool) (xs : List X) (i : ℕ) (x : X) → slice_get xs i ≡ Some x → p x ≡ true → filter p (drop i xs) ≡ x ∷ filter p (drop (i + 1) xs)
   filter-met p xs i x at passes = rw (drop-next_at xs i x at, passes) refl
-
--- several worlds are neither none nor one
-pub several-worlds : (g : Graph) (p : ℕ) (home : Package) (es : List (List ℕ × ℕ)) → (length es ≡ 0 → ⊥) → (length es ≡ 1 → ⊥) → only_world g p home es ≡ Err (several_worlds_text g p home)
-several-worlds g p home [] some more = absurd (some refl)
-several-worlds g p home (e ∷ []) some more = absurd (more refl)
-several-worlds g p home (a ∷ b ∷ rest) some more = refl

@@ -1,9 +1,11 @@
 -- What commands are taken so far.
 use Rattle.std.specs.Prelude.{◌≡◌, []}
+use Rattle.wit_items.specs.Shape.{IsGroupShaped}
+use Rattle.wit_link.specs.Supported.{IsSupportedGroup}
 use Rattle.wit_resolve_graph.specs.declared.command.Command.{Command}
 use Rattle.wit_resolve_graph.specs.declared.command.Command.TheVariants.{PushGroups}
 
--- the main group alone is pushed, and nothing is nested in it
+-- the main group alone is pushed, and it has its shape and can be added so far
 abbrev pub IsSupported : Command → Type 0
-IsSupported (PushGroups main deps) = (main.nested ≡ []) × (deps ≡ [])
+IsSupported (PushGroups main deps) = IsGroupShaped main × IsSupportedGroup main × (deps ≡ [])
 IsSupported _ = ⊥

@@ -1,15 +1,23 @@
 //! A graph of packages with its features and its sources.
-ghost use Rattle.std.specs.Prelude.{◌≡◌, [], Ok, IfErr, IfOk, OnErr, string_bytes};
+ghost use Rattle.std.specs.Prelude.{◌≡◌, ◌⊎◌, ◌↔◌, ◌≤◌, ◌+◌, ◌^◌, [], ◌∷◌, Ok, Err, IfErr, IfOk, OnErr, OnOk, IsTrue, string_bytes};
 ghost use Rattle.std.specs.Option.{option_copied, option_map};
 ghost use Rattle.wit_graph.specs.IdText.{id_text, interface_id_at, key_text};
+ghost use Rattle.wit_graph.specs.Valid.{IsValid};
+ghost use Rattle.wit_graph.specs.declared.error_kind.ResolveErrorKind.{ResolveErrorKind};
+ghost use Rattle.wit_graph.specs.declared.error_kind.ResolveErrorKind.TheVariants.{OffsetOverflow, OutOfMemory};
+ghost use Rattle.wit_items.specs.Shape.{IsGroupShaped, IsShaped};
 ghost use Rattle.wit_items.specs.SourceMap.{with_sources};
+ghost use Rattle.wit_link.specs.Cause.{IsAccepted, IsCause};
+ghost use Rattle.wit_link.specs.Groups.{IsGroupsCause};
+ghost use Rattle.wit_link.specs.Supported.{IsSupported, IsSupportedGroup};
 ghost use Rattle.wit_resolve_graph.specs.Selection.{IsSaid, selected_world};
 ghost use Rattle.wit_resolve_graph.specs.State.{new_state};
+ghost use Rattle.wit_resolve_graph.specs.Step.{PushesGroups, RefusesGroups};
 
 use crate::select::select_world;
 use std::alloc::{AllocError, Global};
 use std::marker::Model;
-use wit_graph::{Features, Graph, Package, ResolveResult};
+use wit_graph::{Features, Graph, Package, ResolveErrorKind, ResolveResult};
 use wit_items::{
     Interface, InterfaceId, Items, PackageId, PackageName, SourceMap, Table, TryClone, TypeDef,
     UnresolvedPackage, UnresolvedPackageGroup, World, WorldId, WorldKey,
@@ -17,7 +25,7 @@ use wit_items::{
 use wit_link::append;
 use wit_values::try_clone_three;
 
-/// Packages whose names are resolved: a graph, the features that are on, and the sources.
+/// Packages whose names are resolved: a valid graph, the features that are on, and the sources.
 #[derive(Debug, Drop)]
 pub struct Resolve {
     graph: Graph,
@@ -26,11 +34,14 @@ pub struct Resolve {
 }
 
 impl Model for Resolve {
+    ghost use Rattle.wit_graph.specs.Valid.{IsValid};
     ghost use Rattle.wit_resolve_graph.specs.State.{State};
 
     ghost Value = { State };
 
     ghost view = { λ a. record { graph = a.graph; features = a.features; source_map = a.source_map } };
+
+    ghost invariant = { λ a. IsValid a.graph };
 }
 
 impl Resolve {
@@ -45,8 +56,10 @@ impl Resolve {
         }
     }
 
+    /// The graph. A caller learns here that it is valid.
     pub fn graph(&self) -> &Graph
-        ensures { result.now ≡ self.now.graph }
+        ensures value { result.now ≡ self.now.graph }
+        ensures valid { IsValid self.now.graph }
     {
         &self.graph
     }
@@ -108,14 +121,16 @@ impl Resolve {
     pub fn push_source_map(&mut self, alloc: Global, source_map: SourceMap) -> ResolveResult<u32>
         ensures ok { IfOk result (λ offset. (offset ≡ self.old.source_map.end) × (self.new ≡ record self.old { source_map = with_sources self.old.source_map source_map })) }
         ensures err { OnErr result (self.new ≡ self.old) }
+        ensures cause { IfErr result (λ kind. (kind ≡ OutOfMemory) ⊎ ((kind ≡ OffsetOverflow) × (2 ^ 32 ≤ self.old.source_map.end + source_map.end))) }
+        ensures refuses { 2 ^ 32 ≤ self.old.source_map.end + source_map.end → OnOk result ⊥ }
     {
         Ok(self.source_map.append(alloc, source_map)?)
     }
 
     /// Adds a package, its spans moved by an offset, and answers its id.
     ///
-    /// So far the package names nothing of other packages and has no gates, includes or labels.
-    /// Refused where a package of that name is there (5), where a span would pass 4294967295 (27), and
+    /// So far the package names nothing of other packages and has no resources, gates, includes, labels
+    /// or exports. Refused where a package of that name is there (5), where a span would pass 4294967295 (27), and
     /// for memory (28); nothing has changed then.
     pub fn push(
         &mut self,
@@ -123,9 +138,14 @@ impl Resolve {
         package: UnresolvedPackage,
         span_offset: u32,
     ) -> ResolveResult<PackageId>
+        requires shaped { IsShaped «package» }
+        requires supported { IsSupported «package» }
+        ensures ok { IfOk result (λ id. IsAccepted self.old.features self.old.graph «package» span_offset self.new.graph id) }
         ensures features { self.new.features ≡ self.old.features }
         ensures source_map { self.new.source_map ≡ self.old.source_map }
         ensures err { OnErr result (self.new ≡ self.old) }
+        ensures cause { IfErr result (λ kind. (kind ≡ OutOfMemory) ⊎ IsCause self.old.features self.old.graph «package» span_offset kind) }
+        ensures refuses { (kind : ResolveErrorKind) → IsCause self.old.features self.old.graph «package» span_offset kind → OnOk result ⊥ }
     {
         append(alloc, &mut self.graph, &self.features, package, span_offset)
     }
@@ -133,16 +153,19 @@ impl Resolve {
     /// Adds the main package of a group and puts the group's files at the end of the source map, and
     /// answers the package's id.
     ///
-    /// So far nothing is nested in the group. Refused as `push`; the packages are as before then, and
-    /// the files are at the end of the source map, but after 27 and 28 they may not be there.
+    /// So far nothing is nested in the group. Refused as `push`; the packages are as before then. The
+    /// files are at the end of the source map after a refusal, but after 27 nowhere, and after 28
+    /// there or not.
     pub fn push_group(
         &mut self,
         alloc: Global,
         group: UnresolvedPackageGroup,
     ) -> ResolveResult<PackageId>
-        requires { group.nested ≡ [] }
-        ensures features { self.new.features ≡ self.old.features }
-        ensures err { OnErr result (self.new.graph ≡ self.old.graph) }
+        requires shaped { IsGroupShaped group }
+        requires supported { IsSupportedGroup group }
+        ensures ok { IfOk result (λ id. PushesGroups self.old group [] id self.new) }
+        ensures err { IfErr result (λ kind. RefusesGroups self.old group [] kind self.new) }
+        ensures refuses { (kind : ResolveErrorKind) → IsGroupsCause self.old.features self.old.graph self.old.source_map.end (group ∷ []) kind → OnOk result ⊥ }
     {
         let UnresolvedPackageGroup {
             main,
@@ -150,8 +173,14 @@ impl Resolve {
             source_map,
         } = group;
         drop(nested);
+        let files = self.source_map.len();
+        let end = self.source_map.end();
         let offset = self.push_source_map(alloc, source_map)?;
-        self.push(alloc, main, offset)
+        let pushed = self.push(alloc, main, offset);
+        if is_offset_overflow(&pushed) {
+            self.source_map.truncate(files, end);
+        }
+        pushed
     }
 
     /// Adds the packages of groups, and answers the id of the main group's main package.
@@ -163,10 +192,12 @@ impl Resolve {
         main: UnresolvedPackageGroup,
         deps: Items<UnresolvedPackageGroup>,
     ) -> ResolveResult<PackageId>
-        requires nested { main.nested ≡ [] }
+        requires shaped { IsGroupShaped main }
+        requires supported { IsSupportedGroup main }
         requires deps { deps ≡ [] }
-        ensures features { self.new.features ≡ self.old.features }
-        ensures err { OnErr result (self.new.graph ≡ self.old.graph) }
+        ensures ok { IfOk result (λ id. PushesGroups self.old main deps id self.new) }
+        ensures err { IfErr result (λ kind. RefusesGroups self.old main deps kind self.new) }
+        ensures refuses { (kind : ResolveErrorKind) → IsGroupsCause self.old.features self.old.graph self.old.source_map.end (main ∷ deps) kind → OnOk result ⊥ }
     {
         drop(deps);
         self.push_group(alloc, main)
@@ -206,6 +237,16 @@ impl Resolve {
         ensures { IfOk result (λ text. string_bytes text ≡ key_text self.now.graph.packages self.now.graph.interfaces key.now) }
     {
         self.graph.name_world_key(alloc, key)
+    }
+}
+
+/// Whether a push is refused since a position would pass 4294967295.
+fn is_offset_overflow(pushed: &ResolveResult<PackageId>) -> bool
+    ensures { IsTrue result ↔ (pushed.now ≡ Err OffsetOverflow) }
+{
+    match pushed {
+        Ok(_) => false,
+        Err(refusal) => matches!(refusal.kind(), ResolveErrorKind::OffsetOverflow),
     }
 }
 

@@ -1,6 +1,8 @@
 //! Runs of commands.
-ghost use Rattle.std.specs.Prelude.{◌≡◌, OnErr};
+ghost use Rattle.std.specs.Prelude.{◌≡◌, IfErr, IfOk, OnErr};
 ghost use Rattle.std.specs.List.{AllByRecursion};
+ghost use Rattle.wit_graph.specs.declared.error_kind.ResolveErrorKind.TheVariants.{OutOfMemory};
+ghost use Rattle.wit_resolve_graph.specs.Step.{Run, Step};
 ghost use Rattle.wit_resolve_graph.specs.Supported.{IsSupported};
 
 use crate::command::{Command, Reply};
@@ -11,14 +13,17 @@ use wit_graph::ResolveResult;
 /// Runs commands in order, and answers a reply to each. Room for all replies is made first; where there
 /// is none, nothing has changed.
 ///
-/// So far a command is `PushGroups` with the main group alone, and nothing nested in it.
+/// So far a command is `PushGroups` with the main group alone, nothing nested in it, and a package that
+/// `Resolve::push` takes.
 pub fn run(
     alloc: Global,
     resolve: &mut Resolve,
     commands: Vec<Command>,
 ) -> ResolveResult<Vec<Reply>>
     requires { AllByRecursion IsSupported commands.items }
+    ensures ok { IfOk result (λ replies. Run resolve.old commands.items replies.items resolve.new) }
     ensures err { OnErr result (resolve.new ≡ resolve.old) }
+    ensures cause { IfErr result (λ kind. kind ≡ OutOfMemory) }
 {
     let mut replies = Vec::with_capacity(alloc, commands.len())?;
     for command in commands {
@@ -31,6 +36,7 @@ pub fn run(
 /// The reply to one command.
 fn step(alloc: Global, resolve: &mut Resolve, command: Command) -> Reply
     requires { IsSupported command }
+    ensures { Step resolve.old command result resolve.new }
 {
     match command {
         Command::PushGroups { main, deps } => match resolve.push_groups(alloc, main, deps) {

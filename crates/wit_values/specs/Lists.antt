@@ -139,17 +139,17 @@ module _ {K V : Type 0} where
       rw differs (lookup-take laws es i k v distinct.1 at)
 
 module _ {K L V W : Type 0} (f : K → L) (g : V → W) where
-  -- keys that differ, and differ where they go, still differ: the key at a place is not among those before it
-  pub lookup-moved : {eq : K → K → Bool} (eq' : L → L → Bool) → IsEquivalence eq → (es : List (K × V)) (i : ℕ) (k : K) (v : V)
-      → IsDistinct eq (keys_of es) → slice_get es i ≡ Some (k, v)
-      → AllByRecursion (λ (b : K). eq k b ≡ false → eq' (f k) (f b) ≡ false) (keys_of es)
+  -- where keys that differ go to keys that differ, the key at a place doesn't go to where one before it goes
+  pub lookup-moved : {eq : K → K → Bool} (eq' : L → L → Bool) → ((a b : K) → eq a b ≡ eq b a)
+      → (es : List (K × V)) (i : ℕ) (k : K) (v : V) → IsDistinct eq (keys_of es) → slice_get es i ≡ Some (k, v)
+      → ((j : ℕ) (b : K) (w : V) → slice_get es j ≡ Some (b, w) → eq k b ≡ false → eq' (f k) (f b) ≡ false)
       → lookup (eq' (f k)) (map (λ (e : K × V). (f e.0, g e.1)) (take i es)) ≡ None
   unfolding IsDistinct
-  lookup-moved eq' laws [] i k v distinct at apart = cc
-  lookup-moved eq' laws (e ∷ es) zero k v distinct at apart = refl
-  lookup-moved {eq} eq' laws (e ∷ es) (suc i) k v distinct at apart =
-      let differs : eq k e.0 ≡ false = laws.symm k e.0 ∙ key_at (λ y. eq e.0 y ≡ false) es i k v distinct.0 at in
-      rw (apart.0 differs) (lookup-moved eq' laws es i k v distinct.1 at apart.1)
+  lookup-moved eq' symm [] i k v distinct at apart = cc
+  lookup-moved eq' symm (e ∷ es) zero k v distinct at apart = refl
+  lookup-moved {eq} eq' symm (e ∷ es) (suc i) k v distinct at apart =
+      let differs : eq k e.0 ≡ false = symm k e.0 ∙ key_at (λ y. eq e.0 y ≡ false) es i k v distinct.0 at in
+      rw (apart 0 e.0 e.1 refl differs) (lookup-moved eq' symm es i k v distinct.1 at (λ j. apart (suc j)))
 
 module _ {K V W : Type 0} (g : V → W) where
   -- other values leave the keys

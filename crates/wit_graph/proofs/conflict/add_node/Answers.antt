@@ -1,5 +1,5 @@
 use Rattle.std.proofs.Common.{◌++◌, [], List, ℕ, ap, ◌∙◌, sym}
-use Rattle.wit_relations.proofs.Fresh.{fresh-absent}
+use Rattle.wit_relations.specs.FreshFacts.{fresh-absent}
 use Rattle.wit_relations.specs.Walks.{Listed}
 use Rattle.wit_graph.proofs.conflict.add_node.Goals as goal
 

@@ -1,5 +1,5 @@
 use Rattle.std.proofs.Common.{◌≡◌, ℕ, Bool, true, false, not, List, get_or, ap, ◌∙◌, arith}
-use Rattle.wit_relations.proofs.Fresh.{any_from_contains, no_any_from}
+use Rattle.wit_relations.specs.FreshFacts.{any_from_contains, no_any_from}
 use Rattle.wit_graph.specs.Elaborating.{is_listed}
 use Rattle.wit_graph.specs.declared.exports.Parted.{Parted}
 use Rattle.wit_graph.proofs.Filters.{pick_next, pick_skip}

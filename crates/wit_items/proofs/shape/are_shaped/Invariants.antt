@@ -1,4 +1,4 @@
-use Rattle.wit_items.proofs.Each.{EachBelow}
+use Rattle.wit_items.specs.EachFacts.{EachBelow}
 use Rattle.wit_items.specs.Shape.{IsShaped}
 use Rattle.wit_items.proofs.shape.are_shaped.Given as goal
 

@@ -1,5 +1,5 @@
 use Rattle.std.proofs.Common.{arith}
-use Rattle.wit_items.proofs.Each.{more, all, fails}
+use Rattle.wit_items.specs.EachFacts.{more, all, fails}
 use Rattle.wit_link.proofs.fits.entries_fit.Goals as goal
 
 pub returns-then-not-item_fits : goal.returns-then-not-item_fits

@@ -1,5 +1,5 @@
 use Rattle.std.proofs.Common.{ℕ, List}
-use Rattle.wit_items.proofs.Each.{EachBelow}
+use Rattle.wit_items.specs.EachFacts.{EachBelow}
 use Rattle.wit_items.specs.declared.function.Function.{Function}
 use Rattle.wit_link.specs.Fits.{FunctionFits}
 use Rattle.wit_link.proofs.fits.functions_fit.Given as goal

@@ -1,5 +1,5 @@
 use Rattle.std.proofs.Common.{ℕ}
-use Rattle.wit_items.proofs.Each.{EachBelow}
+use Rattle.wit_items.specs.EachFacts.{EachBelow}
 use Rattle.wit_link.specs.Fits.{RequiredFits}
 use Rattle.wit_link.specs.Gates.{Place}
 use Rattle.wit_link.proofs.fits.required_fit.Given as goal

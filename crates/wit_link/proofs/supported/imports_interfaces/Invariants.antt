@@ -1,4 +1,4 @@
-use Rattle.wit_items.proofs.Each.{EachBelow}
+use Rattle.wit_items.specs.EachFacts.{EachBelow}
 use Rattle.wit_items.specs.Entries.{Entry}
 use Rattle.wit_link.specs.Supported.{IsSupportedImport}
 use Rattle.wit_link.proofs.supported.imports_interfaces.Given as goal

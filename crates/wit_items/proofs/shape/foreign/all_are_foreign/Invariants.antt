@@ -1,6 +1,6 @@
 use Rattle.std.proofs.Common.{List}
 use Rattle.wit_items.specs.Each.{Each}
-use Rattle.wit_items.proofs.Each.{EachBelow}
+use Rattle.wit_items.specs.EachFacts.{EachBelow}
 use Rattle.wit_items.specs.Foreign.{ForeignItem, IsForeign}
 use Rattle.wit_items.specs.declared.package_name.PackageName.{PackageName}
 use Rattle.wit_items.proofs.shape.foreign.all_are_foreign.Given as goal

@@ -1,5 +1,5 @@
 use Rattle.std.proofs.Common.{arith}
-use Rattle.wit_items.proofs.Each.{more, all, fails}
+use Rattle.wit_items.specs.EachFacts.{more, all, fails}
 use Rattle.wit_items.proofs.shape.foreign.are_foreign.Goals as goal
 
 pub returns-then-not-is_foreign : goal.returns-then-not-is_foreign

@@ -1,4 +1,4 @@
-use Rattle.wit_items.proofs.Each.{EachBelow}
+use Rattle.wit_items.specs.EachFacts.{EachBelow}
 use Rattle.wit_items.specs.Foreign.{IsForeign}
 use Rattle.wit_items.proofs.shape.foreign.are_foreign.Given as goal
 

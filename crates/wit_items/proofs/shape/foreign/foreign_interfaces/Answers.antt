@@ -1,7 +1,7 @@
 use Rattle.std.proofs.Common.{List, flat_map}
 use Rattle.wit_items.specs.Foreign.{ForeignItem, interface_id}
 use Rattle.wit_items.specs.declared.package_name.PackageName.{PackageName}
-use Rattle.wit_items.proofs.Each.{gathered-next}
+use Rattle.wit_items.specs.EachFacts.{gathered-next}
 use Rattle.wit_items.proofs.shape.foreign.foreign_interfaces.Goals as goal
 
 pub loop-index-preserved : goal.loop-index-preserved

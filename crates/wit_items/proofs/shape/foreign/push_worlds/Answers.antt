@@ -1,5 +1,5 @@
 use Rattle.wit_items.specs.Foreign.{ForeignItem, world_id}
-use Rattle.wit_items.proofs.Each.{pushed-next}
+use Rattle.wit_items.specs.EachFacts.{pushed-next}
 use Rattle.wit_items.proofs.shape.foreign.push_worlds.Goals as goal
 
 pub loop-index-preserved : goal.loop-index-preserved

@@ -1,4 +1,4 @@
-use Rattle.wit_items.proofs.Each.{EachBelow}
+use Rattle.wit_items.specs.EachFacts.{EachBelow}
 use Rattle.wit_items.specs.Entries.{EntriesUseOwn}
 use Rattle.wit_items.specs.declared.world.World.{World}
 use Rattle.wit_items.proofs.shape.own.all_exports_use_own.Given as goal

@@ -1,4 +1,4 @@
-use Rattle.wit_items.proofs.Each.{EachBelow}
+use Rattle.wit_items.specs.EachFacts.{EachBelow}
 use Rattle.wit_items.specs.Ownership.{FunctionsUseOwn}
 use Rattle.wit_items.proofs.shape.own.all_functions_use_own.Given as goal
 

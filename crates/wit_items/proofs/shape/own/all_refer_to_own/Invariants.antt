@@ -1,4 +1,4 @@
-use Rattle.wit_items.proofs.Each.{EachBelow}
+use Rattle.wit_items.specs.EachFacts.{EachBelow}
 use Rattle.wit_items.specs.Ownership.{RefersToOwn}
 use Rattle.wit_items.proofs.shape.own.all_refer_to_own.Given as goal
 

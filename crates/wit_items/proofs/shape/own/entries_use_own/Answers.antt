@@ -1,5 +1,5 @@
 use Rattle.std.proofs.Common.{arith}
-use Rattle.wit_items.proofs.Each.{more, all, fails}
+use Rattle.wit_items.specs.EachFacts.{more, all, fails}
 use Rattle.wit_items.proofs.shape.own.entries_use_own.Goals as goal
 
 pub returns-then-not-branch : goal.returns-then-not-branch

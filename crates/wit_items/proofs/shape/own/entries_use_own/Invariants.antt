@@ -1,4 +1,4 @@
-use Rattle.wit_items.proofs.Each.{EachBelow}
+use Rattle.wit_items.specs.EachFacts.{EachBelow}
 use Rattle.wit_items.specs.Entries.{Entry, ItemUsesOwn}
 use Rattle.wit_items.proofs.shape.own.entries_use_own.Given as goal
 

@@ -1,4 +1,4 @@
-use Rattle.wit_items.proofs.Each.{EachBelow}
+use Rattle.wit_items.specs.EachFacts.{EachBelow}
 use Rattle.wit_items.specs.Ownership.{ListsOwn}
 use Rattle.wit_items.proofs.shape.owners.all_list_own.Given as goal
 

@@ -1,4 +1,4 @@
-use Rattle.wit_items.proofs.Each.{EachBelow}
+use Rattle.wit_items.specs.EachFacts.{EachBelow}
 use Rattle.wit_items.specs.Ownership.{IsListed}
 use Rattle.wit_items.specs.declared.types.TypeDef.{TypeDef}
 use Rattle.wit_items.proofs.shape.owners.are_listed.Given as goal

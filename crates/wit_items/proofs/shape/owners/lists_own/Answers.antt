@@ -1,5 +1,5 @@
 use Rattle.std.proofs.Common.{arith}
-use Rattle.wit_items.proofs.Each.{more, all, fails}
+use Rattle.wit_items.specs.EachFacts.{more, all, fails}
 use Rattle.wit_items.proofs.shape.owners.lists_own.Goals as goal
 
 pub returns-then-not-is_type_of : goal.returns-then-not-is_type_of

@@ -1,6 +1,6 @@
 use Rattle.std.proofs.Common.{ℕ, Option, ◌≡◌}
 use Rattle.wit_items.specs.Each.{SomeAt}
-use Rattle.wit_items.proofs.Each.{EachBelow}
+use Rattle.wit_items.specs.EachFacts.{EachBelow}
 use Rattle.wit_items.specs.declared.types.TypeDef.{TypeDef}
 use Rattle.wit_items.specs.declared.types.TypeDefKind.TheVariants as kind
 use Rattle.wit_items.proofs.shape.unknown.are_required_unknown.Given as goal

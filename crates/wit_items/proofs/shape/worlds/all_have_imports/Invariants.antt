@@ -1,4 +1,4 @@
-use Rattle.wit_items.proofs.Each.{EachBelow}
+use Rattle.wit_items.specs.EachFacts.{EachBelow}
 use Rattle.wit_items.specs.Entries.{HasImports}
 use Rattle.wit_items.proofs.shape.worlds.all_have_imports.Given as goal
 

@@ -1,4 +1,4 @@
-use Rattle.wit_items.proofs.Each.{EachBelow}
+use Rattle.wit_items.specs.EachFacts.{EachBelow}
 use Rattle.wit_items.specs.Entries.{Entry, IsExport}
 use Rattle.wit_items.proofs.shape.worlds.has_exports.Given as goal
 

@@ -1,5 +1,5 @@
 use Rattle.std.proofs.Common.{arith}
-use Rattle.wit_items.proofs.Each.{more, all, fails}
+use Rattle.wit_items.specs.EachFacts.{more, all, fails}
 use Rattle.wit_items.proofs.shape.worlds.has_imports.Goals as goal
 
 pub returns-then-not-is_import : goal.returns-then-not-is_import

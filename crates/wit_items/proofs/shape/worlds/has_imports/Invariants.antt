@@ -1,4 +1,4 @@
-use Rattle.wit_items.proofs.Each.{EachBelow}
+use Rattle.wit_items.specs.EachFacts.{EachBelow}
 use Rattle.wit_items.specs.Entries.{Entry, IsImport}
 use Rattle.wit_items.proofs.shape.worlds.has_imports.Given as goal
 

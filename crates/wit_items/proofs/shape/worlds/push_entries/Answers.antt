@@ -1,5 +1,5 @@
 use Rattle.wit_items.specs.Entries.{Entry, item_interface}
-use Rattle.wit_items.proofs.Each.{pushed-next}
+use Rattle.wit_items.specs.EachFacts.{pushed-next}
 use Rattle.wit_items.proofs.shape.worlds.push_entries.Goals as goal
 
 pub loop-index-preserved : goal.loop-index-preserved

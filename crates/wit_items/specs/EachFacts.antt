@@ -1,4 +1,5 @@
--- What holds of the first elements of a list, each at its place: the steps of a loop that tests them.
+-- Facts on what holds of the first elements of a list, each at its place: the steps of a loop that tests
+-- them, for the proofs of this crate and of the crates above. They say nothing about this crate's code.
 use Rattle.std.proofs.Common.{◌≡◌, ℕ, ◌+◌, ◌<◌, ◌≤◌, ◌++◌, ◌∷◌, [], ◌⊎◌, inl, inr, List, Bool, true, false, length, take, flat_map, refl, Some, slice_get, subst, sym, ap, ◌∙◌, append_assoc, arith}
 use Rattle.std.proofs.lemmas.Grind.{flat_map-append}
 use Rattle.std.proofs.lemmas.List.{append-nil}

@@ -1,4 +1,5 @@
--- What `fresh` keeps.
+-- Facts on what `fresh` keeps, for the proofs of this crate and of the crates above. They say nothing about
+-- this crate's code.
 use Rattle.std.proofs.Common.{◌≡◌, ℕ, true, false, List, [], ◌∷◌, ◌++◌, inl, inr, refl, sym, ◌∙◌, subst, get_or, append_assoc, nat_eq, Contains}
 use Rattle.std.specs.List.{list_any, IsDistinct}
 use Rattle.std.specs.Cmp.{nat_eq_equiv}
@@ -7,7 +8,7 @@ use Rattle.std.proofs.lemmas.Bool.{eqb-true, ne_eqb, cases_Bool, false≢true, c
 use Rattle.std.proofs.lemmas.Map.Keys.{IsDistinct-cons}
 use Rattle.std.proofs.lemmas.Map.Views.{Contains-from_any, list_any-from_Contains}
 use Rattle.std.proofs.lemmas.List.Elements.{Contains-append_cases, Contains-append_left, Contains-append_right, Contains-push, Contains-get_or, recursion_from_All}
-use Rattle.wit_relations.proofs.Members.{Contains-nil, Contains-here, Contains-there, Contains-cons_cases}
+use Rattle.wit_relations.specs.MemberFacts.{Contains-nil, Contains-here, Contains-there, Contains-cons_cases}
 use Rattle.wit_relations.specs.Walks.{fresh, UsesFirst}
 
 pub any_from_contains : (x : ℕ) (xs : List ℕ) → Contains xs x → list_any (nat_eq x) xs ≡ true

@@ -1,4 +1,5 @@
--- The recursion equation of `walk`.
+-- Facts on walks, for the proofs of this crate and of the crates above: how a walk unfolds, and what it
+-- reaches. They say nothing about this crate's code.
 use Rattle.std.proofs.Common.{◌≡◌, ℕ, ◌<◌, zero, suc, false, List, [], ◌∷◌, ◌++◌, inl, inr, length, refl, sym, ap, subst, get_or, append_assoc, arith, eqb, Contains, All}
 use Rattle.std.specs.List.{flat_map, IsDistinct}
 use Rattle.std.proofs.lemmas.List.Elements.{Contains-append_cases, Contains-append_left, Contains-append_right, Contains-push}
@@ -7,7 +8,7 @@ use Rattle.std.proofs.lemmas.Map.Views.{Contains-from_any}
 use Rattle.std.proofs.lemmas.Bool.{eqb-true, ne_eqb}
 use Rattle.std.proofs.lemmas.List.Elements.{recursion_from_All, Contains-get_or, All-contains}
 use Rattle.std.proofs.lemmas.List.{append-nil}
-use Rattle.wit_relations.proofs.Members.{Contains-nil, Contains-here, Contains-there, Contains-cons_cases, flat_map-same, Contains-flat_map, Contains-flat_map_cases}
+use Rattle.wit_relations.specs.MemberFacts.{Contains-nil, Contains-here, Contains-there, Contains-cons_cases, flat_map-same, Contains-flat_map, Contains-flat_map_cases}
 use Rattle.wit_relations.specs.Relation.{direct, IsPath, Reaches, IsAcyclic}
 use Rattle.wit_relations.specs.Walks.{walk_within, walk, UsesFirst}
 

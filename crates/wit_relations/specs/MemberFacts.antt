@@ -1,4 +1,5 @@
--- Membership of a list by its first element, and of lists joined end to end.
+-- Facts on members of lists, by the first element and of lists joined end to end, for the proofs of this
+-- crate and of the crates above. They say nothing about this crate's code.
 use Rattle.std.proofs.Common.{◌≡◌, zero, suc, List, [], ◌∷◌, ◌⊎◌, inl, inr, refl, sym, subst, arith, Contains}
 use Rattle.std.specs.List.{flat_map}
 use Rattle.std.proofs.lemmas.List.Elements.{Contains-append_cases, Contains-append_left, Contains-append_right}

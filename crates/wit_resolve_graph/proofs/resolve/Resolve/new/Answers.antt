@@ -1,0 +1,5 @@
+use Rattle.wit_resolve_graph.proofs.EmptyGraph.{valid_without}
+use Rattle.wit_resolve_graph.proofs.resolve.Resolve.new.Goals as goal
+
+pub invariant_of-result : goal.invariant_of-result
+invariant_of-result c = valid_without c.new.result c.new.ensures.types c.new.ensures.interfaces c.new.ensures.worlds c.new.ensures.packages c.new.ensures.names

@@ -1,0 +1,17 @@
+use Rattle.std.proofs.Common.{rules, ◌≡◌, ◌++◌, ◌∷◌, [], List, subst, sym}
+use Rattle.wit_resolve_graph.specs.Step.{Run}
+use Rattle.wit_resolve_graph.specs.declared.command.Reply.{Reply}
+use Rattle.wit_resolve_graph.proofs.Runs.{Run-more}
+use Rattle.wit_resolve_graph.proofs.running.run.Goals as goal
+
+pub loop-command-preserved : goal.loop-command-preserved
+loop-command-preserved c =
+    let longer : c.push.new.self.items ≡ c.loop-command.replies.items ++ c.step-reply.result ∷ [] = search rules in
+    record {
+      room = search rules;
+      supported = search rules;
+      run =
+          subst (λ (replies : List Reply). Run c.args.resolve.now (c.loop-command.yielded ++ c.in-Some.command ∷ []) replies c.step-reply.new.resolve) (sym longer)
+          (Run-more c.args.resolve.now c.loop-command.resolve c.step-reply.new.resolve c.loop-command.yielded c.loop-command.replies.items c.in-Some.command c.step-reply.result
+          c.loop-command.invariant.run c.step-reply.ensures);
+    }
