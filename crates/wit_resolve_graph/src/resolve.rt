@@ -220,21 +220,24 @@ impl Resolve {
 
     /// The id text of an interface, None where it has no name: see `Graph::id_of`.
     pub fn id_of(&self, alloc: Global, id: InterfaceId) -> ResolveResult<Option<String>>
-        ensures { IfOk result (λ text. option_map string_bytes text ≡ interface_id_at self.now.graph.packages self.now.graph.interfaces id) }
+        ensures text { IfOk result (λ text. option_map string_bytes text ≡ interface_id_at self.now.graph.packages self.now.graph.interfaces id) }
+        ensures err { IfErr result (λ kind. kind ≡ OutOfMemory) }
     {
         self.graph.id_of(alloc, id)
     }
 
     /// The id text of an interface or a world of this name in a package: see `Graph::id_of_name`.
     pub fn id_of_name(&self, alloc: Global, package: PackageId, name: &str) -> ResolveResult<String>
-        ensures { IfOk result (λ text. string_bytes text ≡ id_text self.now.graph.packages «package» name.now) }
+        ensures text { IfOk result (λ text. string_bytes text ≡ id_text self.now.graph.packages «package» name.now) }
+        ensures err { IfErr result (λ kind. kind ≡ OutOfMemory) }
     {
         self.graph.id_of_name(alloc, package, name)
     }
 
     /// What names a key of a world: see `Graph::name_world_key`.
     pub fn name_world_key(&self, alloc: Global, key: &WorldKey) -> ResolveResult<String>
-        ensures { IfOk result (λ text. string_bytes text ≡ key_text self.now.graph.packages self.now.graph.interfaces key.now) }
+        ensures text { IfOk result (λ text. string_bytes text ≡ key_text self.now.graph.packages self.now.graph.interfaces key.now) }
+        ensures err { IfErr result (λ kind. kind ≡ OutOfMemory) }
     {
         self.graph.name_world_key(alloc, key)
     }
