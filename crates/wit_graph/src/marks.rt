@@ -1,5 +1,5 @@
 //! Marks of interfaces, for the elaboration of one world after another.
-ghost use Rattle.std.specs.Prelude.{IfOk};
+ghost use Rattle.std.specs.Prelude.{◌≡◌, [], IfOk};
 ghost use Rattle.wit_graph.specs.Elaborating.{HaveNodes};
 
 use std::alloc::{AllocError, Global};
@@ -24,7 +24,8 @@ pub(crate) struct Marks {
 impl Marks {
     /// No marks, for so many interfaces.
     pub(crate) fn new(alloc: Global, interfaces: usize) -> Result<Marks, AllocError>
-        ensures { IfOk result (λ marks. HaveNodes marks interfaces) }
+        ensures nodes { IfOk result (λ marks. HaveNodes marks interfaces) }
+        ensures none { IfOk result (λ marks. (marks.walked.order ≡ []) × (marks.exported.order ≡ []) × (marks.reaching.order ≡ []) × (marks.outside.order ≡ []) × (marks.leading.order ≡ [])) }
     {
         Ok(Marks {
             walked: Listing::new(alloc, interfaces)?,

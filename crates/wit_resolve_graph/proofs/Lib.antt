@@ -2,4 +2,5 @@ mod EmptyGraph
 mod OnePackage
 mod RunExamples
 mod Runs
+mod RunsKeep
 mod Selected

@@ -1,4 +1,5 @@
 pub mod Examples
+pub mod RunLaws
 pub mod Selection
 pub mod State
 pub mod Step

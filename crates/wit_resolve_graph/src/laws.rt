@@ -1,5 +1,11 @@
-//! Examples of the definitions: the contract of each function is what is proved.
+//! A law of runs, and examples of the definitions: the contract of each function is what is proved.
 ghost use Rattle.wit_resolve_graph.specs.Examples.{ExamplesOfRuns, ExamplesOfSelection};
+ghost use Rattle.wit_resolve_graph.specs.RunLaws.{RunsKeep};
+
+/// What was there before a run is there after it, with the same ids and names.
+pub fn runs_keep()
+    ensures { RunsKeep }
+{}
 
 /// Worlds that are chosen, and what is said where none is.
 pub fn examples_of_selection()

@@ -7,3 +7,7 @@ pub mod Scripts
 pub mod Answered
 pub mod ReadScripts
 pub mod Told
+pub mod SoFar
+pub mod FitLines
+pub mod Forms
+pub mod ReadWhole

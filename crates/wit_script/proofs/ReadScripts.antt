@@ -1,14 +1,14 @@
 -- What is read of small texts.
 use Rattle.std.proofs.Common.{ℕ, List, Option, Some, None}
+use Rattle.wit_script.specs.AnyScript.{AnyReading, nothing_read}
 use Rattle.wit_script.specs.Line.{lines_of}
-use Rattle.wit_script.specs.Script.{new_reading, after_lines}
-use Rattle.wit_script.specs.declared.reader.Reading.{Reading}
+use Rattle.wit_script.specs.Understood.{reading_of}
 
 -- a reading, or an empty one
-abbrev pub or_new : Option Reading → Reading
-or_new None = new_reading
-or_new (Some reading) = reading
+abbrev pub or_nothing : Option AnyReading → AnyReading
+or_nothing None = nothing_read
+or_nothing (Some reading) = reading
 
 -- what the lines of a text say
-abbrev pub after : List ℕ → Reading
-after text = or_new (after_lines new_reading (lines_of text))
+abbrev pub after : List ℕ → AnyReading
+after text = or_nothing (reading_of (lines_of text))

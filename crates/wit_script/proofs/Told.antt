@@ -6,7 +6,10 @@ use Rattle.wit_graph.specs.declared.error_kind.ResolveErrorKind.{ResolveErrorKin
 use Rattle.wit_graph.specs.declared.error_kind.ResolveErrorKind.TheVariants.{OutOfMemory}
 use Rattle.wit_graph.specs.declared.graph.Graph.{Graph}
 use Rattle.wit_items.specs.declared.package_name.PackageName.{PackageName}
-use Rattle.wit_script.specs.Answer.{IsPrinted, IsSelected, IsTold, any_choice, package_named, refusal_text, selected_text, world_named}
+use Rattle.wit_items.specs.declared.unresolved.UnresolvedPackageGroup.{UnresolvedPackageGroup}
+use Rattle.wit_resolve_graph.specs.State.{State}
+use Rattle.wit_resolve_graph.specs.Step.{Run}
+use Rattle.wit_script.specs.Answer.{IsPushed, IsPrinted, IsSelected, IsTold, IsChoice, package_named, refusal_text, selected_text, world_named}
 use Rattle.wit_script.specs.World.{world_text_at}
 
 -- a world that is there
@@ -19,8 +22,15 @@ printed_some g owner world id answer (Err e) there shown lacks said = tt
 
 -- a package that is there
 pub selected_some : {E : Type 0} (g : Graph) (owner : PackageName) (text : Option (List ℕ)) (id : ℕ) (answer : Result (String Global) ResolveErrorKind) (told : Result (String Global) E)
-    → package_named g owner ≡ Some id → IfOk answer (λ out. (world : ℕ) × (string_bytes out ≡ selected_text g world))
-    → IfOk told (λ out. IsTold answer (string_bytes out)) → IfOk told (λ out. IsSelected any_choice g owner text (string_bytes out))
-selected_some g owner text id (Ok out) (Ok line) there shown said = rw there (Ok shown.0, tt, said ∙ shown.1)
-selected_some g owner text id (Err kind) (Ok line) there shown said = rw there (Err kind, tt, said)
-selected_some g owner text id answer (Err e) there shown said = tt
+    → package_named g owner ≡ Some id → IfOk answer (λ out. (world : ℕ) × IsChoice g id text (Ok world) × (string_bytes out ≡ selected_text g world))
+    → IfErr answer (λ kind. IsChoice g id text (Err kind))
+    → IfOk told (λ out. IsTold answer (string_bytes out)) → IfOk told (λ out. IsSelected IsChoice g owner text (string_bytes out))
+selected_some g owner text id (Ok out) (Ok line) there shown refused said = rw there (Ok shown.0, shown.1, said ∙ shown.2)
+selected_some g owner text id (Err kind) (Ok line) there shown refused said = rw there (Err kind, refused, said)
+selected_some g owner text id answer (Err e) there shown refused said = tt
+
+-- a run that lacks memory for its replies
+pub pushed_lacks : {E : Type 0} (before after : State) (group : UnresolvedPackageGroup) (kind : ResolveErrorKind) (told : Result (String Global) E)
+    → kind ≡ OutOfMemory → after ≡ before → IfOk told (λ text. string_bytes text ≡ refusal_text kind) → IfOk told (λ text. IsPushed Run before group (string_bytes text) after)
+pushed_lacks before after group kind (Ok text) lacks same said = inr (same, said ∙ ap refusal_text lacks)
+pushed_lacks before after group kind (Err e) lacks same said = tt

@@ -1,5 +1,5 @@
 -- What the commands of a script answer.
-use Rattle.std.specs.Prelude.{◌≡◌, ◌⊎◌, ℕ, Bool, true, false, List, [], ◌∷◌, ◌++◌, Option, None, Result, Ok, Err, slice_get, option_and_then, codes, MatchOption, String, string_bytes}
+use Rattle.std.specs.Prelude.{◌≡◌, ◌⊎◌, ℕ, List, [], ◌∷◌, ◌++◌, Option, Result, Ok, Err, slice_get, option_and_then, codes, MatchOption, String, string_bytes}
 use Rattle.std.specs.declared.alloc.Global.{Global}
 use Rattle.std.specs.Fmt.{decimal}
 use Rattle.std.specs.List.{flat_map}
@@ -8,23 +8,20 @@ use Rattle.std.specs.Option.{option_map_or}
 use Rattle.std.specs.Str.{bytes_eq}
 use Rattle.wit_graph.specs.Error.{error_number}
 use Rattle.wit_graph.specs.ErrorText.{kind_text}
-use Rattle.wit_graph.specs.declared.cause.Cause.TheVariants.{WorldSelection}
 use Rattle.wit_graph.specs.declared.error_kind.ResolveErrorKind.{ResolveErrorKind}
-use Rattle.wit_graph.specs.declared.error_kind.ResolveErrorKind.TheVariants.{OutOfMemory, Semantic}
+use Rattle.wit_graph.specs.declared.error_kind.ResolveErrorKind.TheVariants.{OutOfMemory}
 use Rattle.wit_graph.specs.declared.graph.Graph.{Graph}
 use Rattle.wit_graph.specs.declared.graph.Package.{Package}
 use Rattle.wit_items.specs.PackageName.{package_name_text}
 use Rattle.wit_items.specs.PackageOrder.{same_package}
 use Rattle.wit_items.specs.declared.package_name.PackageName.{PackageName}
 use Rattle.wit_items.specs.declared.unresolved.UnresolvedPackageGroup.{UnresolvedPackageGroup}
-use Rattle.wit_resolve_graph.specs.Selection.{selected_world}
-use Rattle.wit_resolve_graph.specs.State.{State, new_state}
-use Rattle.wit_resolve_graph.specs.Step.{Run}
+use Rattle.wit_resolve_graph.specs.Selection.{IsSelection}
+use Rattle.wit_resolve_graph.specs.State.{State}
 use Rattle.wit_resolve_graph.specs.declared.command.Command.{Command}
 use Rattle.wit_resolve_graph.specs.declared.command.Command.TheVariants.{PushGroups}
 use Rattle.wit_resolve_graph.specs.declared.command.Reply.{Reply}
 use Rattle.wit_resolve_graph.specs.declared.command.Reply.TheVariants as reply
-use Rattle.wit_script.specs.Script.{IsUnderstood, IsNotUnderstood}
 use Rattle.wit_script.specs.World.{world_id_at, world_text_at}
 use Rattle.wit_script.specs.declared.reader.ScriptCommand.{ScriptCommand}
 use Rattle.wit_script.specs.declared.reader.ScriptCommand.TheVariants as asks
@@ -32,10 +29,6 @@ use Rattle.wit_script.specs.declared.reader.ScriptCommand.TheVariants as asks
 -- `refused N TEXT`, N being the number of the refusal
 abbrev pub refusal_text : ResolveErrorKind → List ℕ
 refusal_text kind = codes "refused " ++ (decimal (error_number kind) ++ (codes " " ++ (kind_text kind ++ codes "\n")))
-
--- the line of some refusal
-abbrev pub IsRefusal : List ℕ → Type 0
-IsRefusal text = (kind : ResolveErrorKind) × (text ≡ refusal_text kind)
 
 -- an answer, or its refusal
 abbrev pub IsTold : Result (String Global) ResolveErrorKind → List ℕ → Type 0
@@ -62,12 +55,12 @@ Runs = State → List Command → List Reply → State → Type 0
 abbrev pub Chooses : Type 1
 Chooses = Graph → ℕ → Option (List ℕ) → Result ℕ ResolveErrorKind → Type 0
 
--- a group that is pushed by a run of one command: its replies are told, or the refusal of the run itself, after which all
--- is as before
+-- a group that is pushed by a run of one command: its replies are told, or the refusal of the run itself, which is want of
+-- memory, after which all is as before
 abbrev pub IsPushed : Runs → State → UnresolvedPackageGroup → List ℕ → State → Type 0
 IsPushed runs before group text after =
     ((replies : List Reply) × runs before (PushGroups group [] ∷ []) replies after × (text ≡ flat_map (reply_text after.graph) replies))
-    ⊎ ((after ≡ before) × IsRefusal text)
+    ⊎ ((after ≡ before) × (text ≡ refusal_text OutOfMemory))
 
 -- the package of this name
 abbrev pub package_named : Graph → PackageName → Option ℕ
@@ -117,41 +110,6 @@ AnswersAll runs chooses before (command ∷ commands) text after =
     (between : State) × (first : List ℕ) × (rest : List ℕ)
     × Answers runs chooses before command first between × AnswersAll runs chooses between commands rest after × (text ≡ first ++ rest)
 
--- the line that answers a script which isn't understood
-abbrev pub not_understood_text : ℕ → List ℕ
-not_understood_text number = codes "line " ++ (decimal number ++ codes ": not understood\n")
-
--- what a script prints: the answers to its commands on an empty graph
-pub record PrintsAnswers (runs : Runs) (chooses : Chooses) (input text : List ℕ) : Type 0 where
-  pub commands : List ScriptCommand
-  pub understood : IsUnderstood input commands
-  pub after : State
-  pub answered : AnswersAll runs chooses new_state commands text after
-
--- what a script prints that isn't understood: the one line
-pub record PrintsLine (input text : List ℕ) : Type 0 where
-  pub number : ℕ
-  pub bad : IsNotUnderstood input number
-  pub line : text ≡ not_understood_text number
-
--- what a script prints, and whether it is understood
-abbrev pub Prints : Runs → Chooses → List ℕ → Bool → List ℕ → Type 0
-Prints runs chooses input true text = PrintsAnswers runs chooses input text
-Prints runs chooses input false text = PrintsLine input text
-
 -- what `select_world` chooses, or says, or want of memory
 abbrev pub IsChoice : Chooses
-IsChoice g id said (Ok world) = selected_world g (id ∷ []) said ≡ Ok world
-IsChoice g id said (Err kind) =
-    (kind ≡ OutOfMemory) ⊎ ((message : List ℕ) × (selected_world g (id ∷ []) said ≡ Err message) × (kind ≡ Semantic None message WorldSelection))
-
--- what a script prints, and whether it is understood: the answers of a run of its commands
-abbrev pub PrintsByRun : List ℕ → Bool → List ℕ → Type 0
-PrintsByRun = Prints Run IsChoice
-
--- what is known of a run and of a choice where `run` and `select_world` don't promise which they are
-abbrev pub any_run : Runs
-any_run before commands replies after = Unit {0}
-
-abbrev pub any_choice : Chooses
-any_choice g id said choice = Unit {0}
+IsChoice g id said choice = IsSelection g (id ∷ []) said choice

@@ -22,7 +22,7 @@ use Rattle.wit_items.specs.declared.world.WorldItem.TheVariants as item
 use Rattle.wit_items.specs.declared.world.WorldKey.{WorldKey}
 use Rattle.wit_items.specs.declared.world.WorldKey.TheVariants as key
 use Rattle.wit_script.specs.Line.{ink_start_of, ink_end_of}
-use Rattle.wit_script.specs.Token.{primitive_of}
+use Rattle.wit_script.specs.Token.{is_compound, primitive_of}
 use Rattle.wit_script.specs.declared.package.OpenPackage.{OpenPackage}
 use Rattle.wit_script.specs.declared.package.Scope.{Scope}
 use Rattle.wit_script.specs.declared.package.Scope.TheVariants as scope
@@ -162,9 +162,9 @@ with_alias_at p name target span at = option_and_then (with_alias_in p name targ
 abbrev pub with_alias : OpenPackage → List ℕ → Type_ → Place → Option OpenPackage
 with_alias p name target span = option_and_then (with_alias_at p name target span) (open_interface p)
 
--- `type NAME TYPE`
+-- `type NAME TYPE`, where the type isn't one that is made of others, even where an earlier type has its text as its name
 abbrev pub with_type : OpenPackage → List ℕ → List ℕ → Place → Option OpenPackage
-with_type p name ty span = option_and_then (λ target. with_alias p name target span) (type_named p ty)
+with_type p name ty span = if is_compound ty then None else option_and_then (λ target. with_alias p name target span) (type_named p ty)
 
 -- `use PATH NAME NEW`
 abbrev pub with_use : OpenPackage → List ℕ → List ℕ → List ℕ → Place → Option OpenPackage

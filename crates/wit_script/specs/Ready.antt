@@ -1,8 +1,8 @@
 -- Groups that a graph takes so far.
-use Rattle.std.specs.Prelude.{◌≡◌, []}
 use Rattle.wit_items.specs.Shape.{IsGroupShaped}
 use Rattle.wit_items.specs.declared.unresolved.UnresolvedPackageGroup.{UnresolvedPackageGroup}
+use Rattle.wit_link.specs.Supported.{IsSupportedGroup}
 
--- one package of the shape that a graph takes, with nothing nested in it
+-- a group of the shape that a graph takes, which can be added so far
 abbrev pub IsReady : UnresolvedPackageGroup → Type 0
-IsReady group = IsGroupShaped group × (group.nested ≡ [])
+IsReady group = IsGroupShaped group × IsSupportedGroup group

@@ -1,4 +1,5 @@
--- A script, line by line: what its lines say, and which line is the first that isn't understood.
+-- A script as the reader reads it, line by line: of the lines that are accepted so far what they make, and at which line it
+-- stops. That this is what the relation of all lines says is proved.
 use Rattle.std.specs.Prelude.{◌≡◌, ◌⊎◌, ℕ, ◌+◌, List, [], ◌∷◌, ◌++◌, length, take, nat_le, Option, Some, None, IsSome, is_some, slice_get, option_and_then, Result, Ok, Err, if◌then◌else◌}
 use Rattle.std.specs.List.{AllByRecursion}
 use Rattle.std.specs.Option.{option_map, option_to_list}
@@ -87,16 +88,16 @@ abbrev pub IsBad : Option Reading → Type 0
 IsBad None = Unit {0}
 IsBad (Some next) = ¬ AreShaped next.commands
 
--- the script is understood and asks this: each line is understood after those before it, each package that is pushed has
--- its shape, and none waits for its `push`
-pub record IsUnderstood (text : List ℕ) (commands : List ScriptCommand) : Type 0 where
+-- the script is read and asks this: each line is read after those before it, each package that is pushed has its shape, and
+-- none waits for its `push`
+pub record IsReadAs (text : List ℕ) (commands : List ScriptCommand) : Type 0 where
   pub reading : Reading
   pub read : after_lines new_reading (lines_of text) ≡ Some reading
   pub asked : reading.commands ≡ commands
   pub shaped : AreShaped commands
   pub ended : reading.current ≡ None
 
--- of these lines this one, counted from 1, isn't understood, and those before it are
+-- of these lines this one, counted from 1, isn't read, and those before it are
 pub record IsBadLine (start : Reading) (lines : List (List ℕ)) (number : ℕ) : Type 0 where
   pub before : ℕ
   pub reading : Reading
@@ -107,7 +108,7 @@ pub record IsBadLine (start : Reading) (lines : List (List ℕ)) (number : ℕ) 
   pub bad : IsBad (after_line reading line)
   pub counted : number ≡ before + 1
 
--- all lines are understood, but a package waits for its `push`; this is the last line that says something
+-- all lines are read, but a package waits for its `push`; this is the last line that says something
 pub record IsUnended (lines : List (List ℕ)) (number : ℕ) : Type 0 where
   pub reading : Reading
   pub read : after_lines new_reading lines ≡ Some reading
@@ -115,9 +116,9 @@ pub record IsUnended (lines : List (List ℕ)) (number : ℕ) : Type 0 where
   pub waits : IsSome reading.current
   pub counted : number ≡ last_said_of lines
 
--- the script isn't understood, and this line is named
-abbrev pub IsNotUnderstood : List ℕ → ℕ → Type 0
-IsNotUnderstood text number = IsBadLine new_reading (lines_of text) number ⊎ IsUnended (lines_of text) number
+-- the script isn't read, and this line is named
+abbrev pub IsStoppedAt : List ℕ → ℕ → Type 0
+IsStoppedAt text number = IsBadLine new_reading (lines_of text) number ⊎ IsUnended (lines_of text) number
 
 -- why lines aren't added
 abbrev pub HasLineFault : Reading → List (List ℕ) → ReadFault → Type 0
@@ -125,9 +126,9 @@ HasLineFault start lines (read_fault.NotUnderstood number) = IsBadLine start lin
 HasLineFault start lines read_fault.OutOfMemory = Unit {0}
 
 -- why a script isn't read
-abbrev pub HasReadFault : List ℕ → ReadFault → Type 0
-HasReadFault text (read_fault.NotUnderstood number) = IsNotUnderstood text number
-HasReadFault text read_fault.OutOfMemory = Unit {0}
+abbrev pub StopsAt : List ℕ → ReadFault → Type 0
+StopsAt text (read_fault.NotUnderstood number) = IsStoppedAt text number
+StopsAt text read_fault.OutOfMemory = Unit {0}
 
 -- a reading that goes on with packages of their shape, or ends at a bad line
 abbrev pub GoesOn : {A : Type 0} → Option Reading → Result A LineFault → Reading → Type 0

@@ -1,5 +1,5 @@
 -- What the definition of scripts says of small scripts.
-use Rattle.std.specs.Prelude.{◌≡◌, ℕ, List, [], ◌∷◌, ◌++◌, Some, None, codes}
+use Rattle.std.specs.Prelude.{◌≡◌, ℕ, List, [], ◌∷◌, ◌++◌, false, Some, None, codes}
 use Rattle.wit_items.specs.declared.interface.Interface.{Interface}
 use Rattle.wit_items.specs.declared.package_name.PackageName.{PackageName}
 use Rattle.wit_items.specs.declared.types.Type_.{Type_}
@@ -10,9 +10,9 @@ use Rattle.wit_items.specs.declared.unresolved.UnresolvedPackageGroup.{Unresolve
 use Rattle.wit_items.specs.declared.world.WorldKey.TheVariants as key
 use Rattle.wit_script.specs.Line.{lines_of}
 use Rattle.wit_script.specs.Package.{alias_of, empty_interface, empty_world, import_of}
-use Rattle.wit_script.specs.Script.{IsNotUnderstood, IsUnderstood, after_lines, new_reading}
-use Rattle.wit_script.specs.declared.reader.ScriptCommand.{ScriptCommand}
-use Rattle.wit_script.specs.declared.reader.ScriptCommand.TheVariants as asks
+use Rattle.wit_script.specs.AnyScript.{AnyCommand, PushAll, Asked}
+use Rattle.wit_script.specs.AnyStatement.{ChooseWorld, ShowWorld}
+use Rattle.wit_script.specs.Understood.{IsNotUnderstood, IsUnderstood, reading_of}
 
 -- the lines of foo:bar
 abbrev pub first_package : List ℕ
@@ -62,14 +62,14 @@ first_group = record {
 }
 
 -- what lines say from the first on, where all is understood and nothing waits
-abbrev pub Asks : List ℕ → List ScriptCommand → Type 0
-Asks text commands = after_lines new_reading (lines_of text) ≡ Some (record { commands = commands; finished = []; current = None })
+abbrev pub Asks : List ℕ → List AnyCommand → Type 0
+Asks text commands = reading_of (lines_of text) ≡ Some (record { commands = commands; finished = []; current = None; other = false })
 
 -- scripts and what they ask, and scripts that aren't understood
 pub record ExamplesOfScripts : Type 0 where
   pub first_package : Asks (first_package ++ codes "push\nprint foo:bar w\nselect foo:bar")
-      (asks.Push first_group ∷ asks.Print foo_bar (codes "w") ∷ asks.Select foo_bar None ∷ [])
-  pub spaces : Asks (codes "  select   foo:bar  w ") (asks.Select foo_bar (Some (codes "w")) ∷ [])
+      (PushAll first_group [] ∷ Asked (ShowWorld foo_bar (codes "w")) ∷ Asked (ChooseWorld foo_bar None) ∷ [])
+  pub spaces : Asks (codes "  select   foo:bar  w ") (Asked (ChooseWorld foo_bar (Some (codes "w"))) ∷ [])
   pub nothing : IsUnderstood [] []
   pub comments : IsUnderstood (codes "# only\n\n   \n") []
   -- there is no package to push

@@ -1,6 +1,6 @@
 -- What single tokens of a script say.
-use Rattle.std.specs.Prelude.{ℕ, List, length, ◌==◌, nat_lt, Option, Some, None, Result, Ok, Err, codes, if◌then◌else◌}
-use Rattle.std.specs.List.{position_or_len, before_first, after_first}
+use Rattle.std.specs.Prelude.{ℕ, Bool, List, length, ◌==◌, ◌&&◌, ◌||◌, nat_eq, nat_lt, Option, Some, None, Result, Ok, Err, codes, if◌then◌else◌}
+use Rattle.std.specs.List.{position_or_len, before_first, after_first, starts_with, ends_with}
 use Rattle.std.specs.Str.{bytes_eq}
 use Rattle.std.specs.Option.{option_map}
 use Rattle.semver.specs.Parse.{version_parts}
@@ -51,3 +51,14 @@ primitive_of token =
     else if bytes_eq token (codes "string") then Some type.String
     else if bytes_eq token (codes "error-context") then Some type.ErrorContext
     else None
+
+-- `WORD<..>`
+abbrev pub is_form : List ℕ → List ℕ → Bool
+is_form opening token = starts_with nat_eq token opening && ends_with nat_eq token (codes ">")
+
+-- the text of a type that is neither a primitive nor a name
+abbrev pub is_compound : List ℕ → Bool
+is_compound token =
+    bytes_eq token (codes "future") || (bytes_eq token (codes "stream")
+    || (is_form (codes "list<") token || (is_form (codes "option<") token || (is_form (codes "future<") token || (is_form (codes "stream<") token
+    || (is_form (codes "own<") token || is_form (codes "borrow<") token))))))

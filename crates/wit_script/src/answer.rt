@@ -1,8 +1,9 @@
 //! The answers to the commands of a script.
-ghost use Rattle.std.specs.Prelude.{◌≡◌, ℕ, IfOk, string_bytes};
+ghost use Rattle.std.specs.Prelude.{◌≡◌, ℕ, Ok, Err, IfErr, IfOk, string_bytes};
 ghost use Rattle.std.specs.List.{flat_map};
 ghost use Rattle.wit_resolve_graph.specs.State.{State, new_state};
-ghost use Rattle.wit_script.specs.Answer.{any_run, any_choice, Answers, AnswersAll, IsPushed, IsPrinted, IsSelected, IsTold, refusal_text, selected_text, pushed_text, reply_text, world_named};
+ghost use Rattle.wit_resolve_graph.specs.Step.{Run};
+ghost use Rattle.wit_script.specs.Answer.{IsChoice, Answers, AnswersAll, IsPushed, IsPrinted, IsSelected, IsTold, refusal_text, selected_text, pushed_text, reply_text, world_named};
 
 use crate::printer::{print_world, world_id};
 use crate::reader::ScriptCommand;
@@ -13,7 +14,7 @@ use wit_resolve_graph::{Command, Reply, Resolve, ResolveError, ResolveResult, ru
 
 /// The answers to commands on an empty graph, in order.
 pub fn answers_to(alloc: Global, commands: Items<ScriptCommand>) -> Result<String, AllocError>
-    ensures { IfOk result (λ text. (after : State) × AnswersAll any_run any_choice new_state commands (string_bytes text) after) }
+    ensures { IfOk result (λ text. (after : State) × AnswersAll Run IsChoice new_state commands (string_bytes text) after) }
 {
     let mut resolve = Resolve::new(alloc);
     let mut answers = String::new(alloc);
@@ -30,7 +31,7 @@ fn answer_to(
     resolve: &mut Resolve,
     command: ScriptCommand,
 ) -> Result<String, AllocError>
-    ensures { IfOk result (λ text. Answers any_run any_choice resolve.old command (string_bytes text) resolve.new) }
+    ensures { IfOk result (λ text. Answers Run IsChoice resolve.old command (string_bytes text) resolve.new) }
 {
     match command {
         ScriptCommand::Push(group) => push(alloc, resolve, group),
@@ -41,7 +42,7 @@ fn answer_to(
 
 /// Adds a package: `pushed PKG`, or a refusal.
 fn push(alloc: Global, resolve: &mut Resolve, group: ReadyGroup) -> Result<String, AllocError>
-    ensures { IfOk result (λ text. IsPushed any_run resolve.old group (string_bytes text) resolve.new) }
+    ensures { IfOk result (λ text. IsPushed Run resolve.old group (string_bytes text) resolve.new) }
 {
     let command = Command::PushGroups {
         main: group.into_group(),
@@ -142,7 +143,7 @@ fn select(
     owner: &PackageName,
     text: &Option<Text>,
 ) -> Result<String, AllocError>
-    ensures { IfOk result (λ out. IsSelected any_choice resolve.now.graph owner.now text.now (string_bytes out)) }
+    ensures { IfOk result (λ out. IsSelected IsChoice resolve.now.graph owner.now text.now (string_bytes out)) }
 {
     match resolve.package_names().get(owner) {
         Some(id) => told(alloc, selected(alloc, resolve, *id, text)),
@@ -157,7 +158,8 @@ fn selected(
     id: PackageId,
     text: &Option<Text>,
 ) -> ResolveResult<String>
-    ensures { IfOk result (λ out. (world : ℕ) × (string_bytes out ≡ selected_text resolve.now.graph world)) }
+    ensures ok { IfOk result (λ out. (world : ℕ) × IsChoice resolve.now.graph id text.now (Ok world) × (string_bytes out ≡ selected_text resolve.now.graph world)) }
+    ensures err { IfErr result (λ kind. IsChoice resolve.now.graph id text.now (Err kind)) }
 {
     let text = match text {
         Some(text) => Some(text.as_str()),

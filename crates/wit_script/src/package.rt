@@ -1,12 +1,14 @@
 //! A package whose lines are being read.
 ghost use Rattle.std.specs.Prelude.{◌≡◌, ◌++◌, ◌∷◌, [], length, ◌≤◌, ◌<◌, ◌^◌, IfOk, IfSome, OnOk, IsErrOf, nat_le, true, false};
 ghost use Rattle.wit_script.specs.Package.{span_after, with_newline, with_text, begun, empty_interface, empty_world, alias_of, import_of, with_interface, with_world, open_interface, open_world, type_named, type_in, with_alias, with_type, with_use, with_import, with_line, group_of, longest_file};
+ghost use Rattle.wit_link.specs.Supported.{IsSupportedGroup};
 ghost use Rattle.wit_script.specs.Reading.{IsRead, Leads};
+ghost use Rattle.wit_script.specs.Fit.{IsFitPackage};
 
 use crate::fault::LineFault;
 use crate::line::ink;
 use crate::statement::PackageLine;
-use crate::token::primitive;
+use crate::token::{is_compound, primitive};
 use std::alloc::{AllocError, Global};
 use std::mem;
 use wit_items::{
@@ -202,7 +204,8 @@ impl OpenPackage {
         Ok(())
     }
 
-    /// Adds another name of a primitive type or of an earlier type of the interface.
+    /// Adds another name of a primitive type or of an earlier type of the interface. Types that are made
+    /// of others aren't read yet.
     fn add_type(
         &mut self,
         alloc: Global,
@@ -212,6 +215,9 @@ impl OpenPackage {
     ) -> Result<(), LineFault>
         ensures { Leads (with_type self.old name ty.now span) result self.new }
     {
+        if is_compound(ty.as_str()) {
+            return Err(LineFault::NotUnderstood);
+        }
         let target = self
             .type_named(ty.as_str())
             .ok_or(LineFault::NotUnderstood)?;
@@ -322,7 +328,9 @@ impl OpenPackage {
 
     /// The package as a group of its own, with its file.
     pub fn into_group(self, alloc: Global) -> Result<UnresolvedPackageGroup, MapFault>
+        requires { IsFitPackage self }
         ensures ok { IfOk result (λ group. group ≡ group_of self) }
+        ensures supported { IfOk result (λ group. IsSupportedGroup group) }
         ensures fits { OnOk result (nat_le (length self.contents) longest_file ≡ true) }
         ensures overflow { IsErrOf result MapFault.OffsetOverflow → nat_le (length self.contents) longest_file ≡ false }
     {

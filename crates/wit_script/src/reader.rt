@@ -2,8 +2,10 @@
 ghost use Rattle.std.specs.Prelude.{◌≡◌, map, Some, IfOk, IfErr, OnOk, not};
 ghost use Rattle.wit_script.specs.Line.{is_silent, last_said_of};
 ghost use Rattle.wit_script.specs.Reading.{IsRead, Leads};
+ghost use Rattle.wit_script.specs.Fit.{IsFit};
 ghost use Rattle.wit_script.specs.Said.{said_of};
-ghost use Rattle.wit_script.specs.Script.{new_reading, with_statement, with_package, with_push, with_command, after_line, after_lines, GoesOn, IsShapedCommand, AreShaped, IsUnderstood, HasLineFault, HasReadFault};
+ghost use Rattle.wit_script.specs.Script.{new_reading, with_statement, with_package, with_push, with_command, after_line, after_lines, GoesOn, IsShapedCommand, AreShaped, IsReadAs, HasLineFault, StopsAt};
+ghost use Rattle.wit_script.specs.Understood.{IsUnderstood, HasReadFault, command_of};
 
 use crate::fault::{LineFault, ReadFault};
 use crate::line::{is_comment, lines, tokens};
@@ -54,7 +56,8 @@ impl Reading {
 
     /// Adds what a line says.
     fn add(&mut self, alloc: Global, said: Statement, line: &str) -> Result<(), LineFault>
-        requires { AreShaped self.old.commands }
+        requires shaped { AreShaped self.old.commands }
+        requires fit { IsFit self.old }
         ensures { GoesOn (with_statement self.old said line.now) result self.new }
     {
         match said {
@@ -89,7 +92,8 @@ impl Reading {
 
     /// Ends the packages, of which there is one, and adds the command that pushes it.
     fn add_push(&mut self, alloc: Global) -> Result<(), LineFault>
-        requires { AreShaped self.old.commands }
+        requires shaped { AreShaped self.old.commands }
+        requires fit { IsFit self.old }
         ensures { GoesOn (with_push self.old) result self.new }
     {
         let Some(package) = self.current.take() else {
@@ -143,7 +147,8 @@ fn read_line(alloc: Global, line: &str) -> Result<Option<Statement>, LineFault>
 
 /// Adds a line, and tells whether it says anything.
 fn add_line(alloc: Global, reading: &mut Reading, line: &str) -> Result<bool, LineFault>
-    requires { AreShaped reading.old.commands }
+    requires shaped { AreShaped reading.old.commands }
+    requires fit { IsFit reading.old }
     ensures next { GoesOn (after_line reading.old line.now) result reading.new }
     ensures told { IfOk result (λ said. said ≡ not (is_silent line.now)) }
 {
@@ -158,7 +163,8 @@ fn add_line(alloc: Global, reading: &mut Reading, line: &str) -> Result<bool, Li
 
 /// Adds lines, and answers how many there are up to the last that says something.
 fn add_lines(alloc: Global, reading: &mut Reading, lines: &[&str]) -> Result<usize, ReadFault>
-    requires { AreShaped reading.old.commands }
+    requires shaped { AreShaped reading.old.commands }
+    requires fit { IsFit reading.old }
     ensures read { OnOk result (after_lines reading.old (map (λ line. line.now) lines.now) ≡ Some reading.new) }
     ensures shaped { OnOk result (AreShaped reading.new.commands) }
     ensures last { IfOk result (λ last. last ≡ last_said_of (map (λ line. line.now) lines.now)) }
@@ -180,13 +186,10 @@ fn add_lines(alloc: Global, reading: &mut Reading, lines: &[&str]) -> Result<usi
     Ok(last)
 }
 
-/// The commands of a script, or the number of its first line that isn't understood.
-///
-/// Where all lines are understood but packages wait for their `push`, the last line that says
-/// something is named.
-pub fn read_script(alloc: Global, text: &str) -> Result<Items<ScriptCommand>, ReadFault>
-    ensures ok { IfOk result (λ commands. IsUnderstood text.now commands) }
-    ensures fault { IfErr result (λ fault. HasReadFault text.now fault) }
+/// The commands that the lines of a script ask, or the number of the line at which reading stops.
+fn read_commands(alloc: Global, text: &str) -> Result<Items<ScriptCommand>, ReadFault>
+    ensures ok { IfOk result (λ commands. IsReadAs text.now commands) }
+    ensures fault { IfErr result (λ fault. StopsAt text.now fault) }
 {
     let lines = lines(alloc, text)?;
     let mut reading = Reading::new(alloc);
@@ -195,4 +198,15 @@ pub fn read_script(alloc: Global, text: &str) -> Result<Items<ScriptCommand>, Re
         return Err(ReadFault::NotUnderstood { line: last });
     }
     Ok(reading.commands)
+}
+
+/// The commands of a script, or the number of its first line that isn't understood.
+///
+/// Where all lines are understood but packages wait for their `push`, the last line that says
+/// something is named.
+pub fn read_script(alloc: Global, text: &str) -> Result<Items<ScriptCommand>, ReadFault>
+    ensures ok { IfOk result (λ commands. IsUnderstood text.now (map command_of commands)) }
+    ensures fault { IfErr result (λ fault. HasReadFault text.now fault) }
+{
+    read_commands(alloc, text)
 }

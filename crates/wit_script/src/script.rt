@@ -2,7 +2,7 @@
 ghost use Rattle.std.specs.Prelude.{◌≡◌, List, ℕ, true, IfOk, IfSome, IsErrOf, string_bytes};
 ghost use Rattle.std.specs.Str.{IsUtf8};
 ghost use Rattle.std.specs.Io.KnownBytes.{Appends};
-ghost use Rattle.wit_script.specs.Answer.{any_run, any_choice, Prints};
+ghost use Rattle.wit_script.specs.Prints.{PrintsByRun};
 
 use crate::answer::answers_to;
 use crate::fault::{ReadFault, ScriptFault};
@@ -23,7 +23,7 @@ pub fn execute<R: Read, W: Write>(
     writer: &mut Watched<W>,
 ) -> Result<bool, ScriptFault>
     ensures ok { IfOk result (λ understood. IfSome (R.remaining reader.old.inner) (λ input.
-        (text : List ℕ) × Prints any_run any_choice input understood text × Appends (W.contents writer.old.inner) (W.contents writer.new.inner) text)) }
+        (text : List ℕ) × PrintsByRun input understood text × Appends (W.contents writer.old.inner) (W.contents writer.new.inner) text)) }
     ensures read { IsErrOf result ScriptFault.Read → reader.new.failed ≡ true }
     ensures write { IsErrOf result ScriptFault.Write → writer.new.failed ≡ true }
     ensures utf8 { IsErrOf result ScriptFault.NotUtf8 → IfSome (R.remaining reader.old.inner) (λ input. IsUtf8 input → ⊥) }
@@ -36,7 +36,7 @@ pub fn execute<R: Read, W: Write>(
 
 /// What a script prints, and whether it is understood.
 fn printed(alloc: Global, input: &[u8]) -> Result<(bool, String), ScriptFault>
-    ensures ok { IfOk result (λ answer. Prints any_run any_choice input.now answer.0 (string_bytes answer.1)) }
+    ensures ok { IfOk result (λ answer. PrintsByRun input.now answer.0 (string_bytes answer.1)) }
     ensures read { IsErrOf result ScriptFault.Read → ⊥ }
     ensures write { IsErrOf result ScriptFault.Write → ⊥ }
     ensures utf8 { IsErrOf result ScriptFault.NotUtf8 → IsUtf8 input.now → ⊥ }

@@ -1,6 +1,6 @@
 //! What single tokens say.
 ghost use Rattle.std.specs.Prelude.{◌≡◌, IfOk};
-ghost use Rattle.wit_script.specs.Token.{package_name_of, primitive_of, version_of};
+ghost use Rattle.wit_script.specs.Token.{is_compound, is_form, package_name_of, primitive_of, version_of};
 
 use std::alloc::{AllocError, Global};
 use wit_items::{PackageName, Text, Type_, Version};
@@ -64,4 +64,26 @@ pub fn primitive(token: &str) -> Option<Type_>
         "error-context" => Some(Type_::ErrorContext),
         _ => None,
     }
+}
+
+/// Whether a token is the text of a type that is neither a primitive nor a name: `future`, `stream`, or a
+/// word with another type between `<` and `>`.
+pub fn is_compound(token: &str) -> bool
+    ensures { result ≡ is_compound token.now }
+{
+    token == "future"
+        || token == "stream"
+        || is_form("list<", token)
+        || is_form("option<", token)
+        || is_form("future<", token)
+        || is_form("stream<", token)
+        || is_form("own<", token)
+        || is_form("borrow<", token)
+}
+
+/// Whether a token begins with this word and its `<`, and ends with `>`.
+fn is_form(opening: &str, token: &str) -> bool
+    ensures { result ≡ is_form opening.now token.now }
+{
+    token.starts_with(opening) && token.ends_with(">")
 }

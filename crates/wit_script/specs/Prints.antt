@@ -1,0 +1,35 @@
+-- What a script prints.
+use Rattle.std.specs.Prelude.{◌≡◌, ℕ, Bool, true, false, List, ◌++◌, codes}
+use Rattle.std.specs.Fmt.{decimal}
+use Rattle.wit_resolve_graph.specs.State.{new_state}
+use Rattle.wit_resolve_graph.specs.Step.{Run}
+use Rattle.wit_script.specs.Answer.{Runs, Chooses, IsChoice}
+use Rattle.wit_script.specs.AnyAnswer.{Stage, alone, AllAnswers}
+use Rattle.wit_script.specs.AnyScript.{AnyCommand}
+use Rattle.wit_script.specs.Understood.{IsUnderstood, IsNotUnderstood}
+
+-- the line that answers a script which isn't understood
+abbrev pub not_understood_text : ℕ → List ℕ
+not_understood_text number = codes "line " ++ (decimal number ++ codes ": not understood\n")
+
+-- what a script prints: the answers to its commands on an empty graph
+pub record PrintsAnswers (runs : Runs) (chooses : Chooses) (input text : List ℕ) : Type 0 where
+  pub commands : List AnyCommand
+  pub understood : IsUnderstood input commands
+  pub after : Stage
+  pub answered : AllAnswers runs chooses (alone new_state) commands text after
+
+-- what a script prints that isn't understood: the one line
+pub record PrintsLine (input text : List ℕ) : Type 0 where
+  pub number : ℕ
+  pub bad : IsNotUnderstood input number
+  pub line : text ≡ not_understood_text number
+
+-- what a script prints, and whether it is understood
+abbrev pub Prints : Runs → Chooses → List ℕ → Bool → List ℕ → Type 0
+Prints runs chooses input true text = PrintsAnswers runs chooses input text
+Prints runs chooses input false text = PrintsLine input text
+
+-- what a script prints, and whether it is understood: the answers of a run of its commands
+abbrev pub PrintsByRun : List ℕ → Bool → List ℕ → Type 0
+PrintsByRun = Prints Run IsChoice
