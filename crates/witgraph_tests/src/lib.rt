@@ -6,4 +6,12 @@ mod failing_streams;
 #[cfg(test)]
 mod first_path;
 #[cfg(test)]
+mod linking;
+#[cfg(test)]
+mod pushing;
+#[cfg(test)]
+mod reading;
+#[cfg(test)]
+mod sample;
+#[cfg(test)]
 mod shape;
