@@ -4,6 +4,8 @@
 #[cfg(test)]
 mod failing_streams;
 #[cfg(test)]
+mod files;
+#[cfg(test)]
 mod first_path;
 #[cfg(test)]
 mod linking;
