@@ -1,5 +1,5 @@
 //! From the bytes of a script to its answers.
-ghost use Rattle.std.specs.Prelude.{◌≡◌, List, ℕ, true, IfOk, IfSome, IsErrOf, string_bytes};
+ghost use Rattle.std.specs.Prelude.{◌≡◌, [], List, ℕ, true, IfOk, IfSome, OnOk, IsErrOf, string_bytes};
 ghost use Rattle.std.specs.Str.{IsUtf8};
 ghost use Rattle.std.specs.Io.KnownBytes.{Appends};
 ghost use Rattle.wit_script.specs.Prints.{PrintsByRun};
@@ -24,6 +24,7 @@ pub fn execute<R: Read, W: Write>(
 ) -> Result<bool, ScriptFault>
     ensures ok { IfOk result (λ understood. IfSome (R.remaining reader.old.inner) (λ input.
         (text : List ℕ) × PrintsByRun input understood text × Appends (W.contents writer.old.inner) (W.contents writer.new.inner) text)) }
+    ensures end { OnOk result (IfSome (R.remaining reader.new.inner) (λ rest. rest ≡ [])) }
     ensures read { IsErrOf result ScriptFault.Read → reader.new.failed ≡ true }
     ensures write { IsErrOf result ScriptFault.Write → writer.new.failed ≡ true }
     ensures utf8 { IsErrOf result ScriptFault.NotUtf8 → IfSome (R.remaining reader.old.inner) (λ input. IsUtf8 input → ⊥) }

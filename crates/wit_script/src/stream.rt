@@ -1,5 +1,5 @@
 //! All bytes of a reader, and bytes to a writer.
-ghost use Rattle.std.specs.Prelude.{◌≡◌, true, IfSome, OnOk, IfErr, IfOk, IsErrOf};
+ghost use Rattle.std.specs.Prelude.{◌≡◌, [], true, IfSome, OnOk, IfErr, IfOk, IsErrOf};
 ghost use Rattle.std.specs.Io.KnownBytes.{Appends};
 
 use crate::fault::ScriptFault;
@@ -10,6 +10,7 @@ use std::io::{Read, Write};
 /// All bytes of a reader up to its end.
 pub fn read_all<R: Read>(alloc: Global, reader: &mut Watched<R>) -> Result<Vec<u8>, ScriptFault>
     ensures ok { IfOk result (λ v. IfSome (R.remaining reader.old.inner) (λ input. v.items ≡ input)) }
+    ensures end { OnOk result (IfSome (R.remaining reader.new.inner) (λ rest. rest ≡ [])) }
     ensures read { IsErrOf result ScriptFault.Read → reader.new.failed ≡ true }
     ensures write { IsErrOf result ScriptFault.Write → ⊥ }
     ensures utf8 { IsErrOf result ScriptFault.NotUtf8 → ⊥ }
