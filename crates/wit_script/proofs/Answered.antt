@@ -4,6 +4,7 @@ use Rattle.std.proofs.lemmas.List.{append-nil}
 use Rattle.wit_resolve_graph.specs.State.{State, new_state}
 use Rattle.wit_script.specs.Answer.{Runs, Chooses, Answers, AnswersAll}
 use Rattle.wit_script.specs.AnyAnswer.{AllAnswers, AnyAnswers, alone}
+use Rattle.std.specs.Str.{IsUtf8}
 use Rattle.wit_script.specs.Prints.{PrintsAnswers}
 use Rattle.wit_script.specs.Understood.{IsUnderstood, command_of}
 use Rattle.wit_script.specs.declared.reader.ScriptCommand.{ScriptCommand}
@@ -44,9 +45,10 @@ answers-all runs chooses before after (command ∷ commands) text told = (
 )
 
 -- what is printed of a script that is understood
-pub prints_answers : (runs : Runs) (chooses : Chooses) (input text : List ℕ) (commands : List ScriptCommand) → IsUnderstood input (map command_of commands)
+pub prints_answers : (runs : Runs) (chooses : Chooses) (input text : List ℕ) (commands : List ScriptCommand) → IsUtf8 input → IsUnderstood input (map command_of commands)
     → (after : State) × AnswersAll runs chooses new_state commands text after → PrintsAnswers runs chooses input text
-prints_answers runs chooses input text commands understood told = record {
+prints_answers runs chooses input text commands utf8 understood told = record {
+  utf8 = utf8;
   commands = map command_of commands;
   understood = understood;
   after = alone told.0;

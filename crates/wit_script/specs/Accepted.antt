@@ -44,6 +44,6 @@ is_statement_accepted r (Some says.Push) = is_alone r.finished
 is_statement_accepted r (Some (says.Print owner world)) = true
 is_statement_accepted r (Some (says.Select owner text)) = true
 
--- lines that say nothing are accepted, and of the others those that `statement_of` reads, with these two exceptions
+-- lines that say nothing are accepted, and of the others those that `statement_of` reads, but for types of worlds, compound types and a push of several packages
 abbrev pub is_accepted_so_far : AnyReading → List ℕ → Bool
 is_accepted_so_far r line = is_silent line || is_statement_accepted r (statement_of (tokens_of line))

@@ -1,6 +1,7 @@
 -- What a script prints.
 use Rattle.std.specs.Prelude.{◌≡◌, ℕ, Bool, true, false, List, ◌++◌, codes}
 use Rattle.std.specs.Fmt.{decimal}
+use Rattle.std.specs.Str.{IsUtf8}
 use Rattle.wit_resolve_graph.specs.State.{new_state}
 use Rattle.wit_resolve_graph.specs.Step.{Run}
 use Rattle.wit_script.specs.Answer.{Runs, Chooses, IsChoice}
@@ -12,8 +13,9 @@ use Rattle.wit_script.specs.Understood.{IsUnderstood, IsNotUnderstood}
 abbrev pub not_understood_text : ℕ → List ℕ
 not_understood_text number = codes "line " ++ (decimal number ++ codes ": not understood\n")
 
--- what a script prints: the answers to its commands on an empty graph
+-- what a script prints, which is text: the answers to its commands on an empty graph
 pub record PrintsAnswers (runs : Runs) (chooses : Chooses) (input text : List ℕ) : Type 0 where
+  pub utf8 : IsUtf8 input
   pub commands : List AnyCommand
   pub understood : IsUnderstood input commands
   pub after : Stage
@@ -21,6 +23,7 @@ pub record PrintsAnswers (runs : Runs) (chooses : Chooses) (input text : List �
 
 -- what a script prints that isn't understood: the one line
 pub record PrintsLine (input text : List ℕ) : Type 0 where
+  pub utf8 : IsUtf8 input
   pub number : ℕ
   pub bad : IsNotUnderstood input number
   pub line : text ≡ not_understood_text number
