@@ -1,3 +1,4 @@
+pub mod Arranging
 pub mod Marks
 pub mod Stack
 pub mod WalkLaws

@@ -1,4 +1,5 @@
 pub mod Cycles
+pub mod EarlierFacts
 pub mod Examples
 pub mod FreshFacts
 pub mod Laws

@@ -1,6 +1,6 @@
 -- Facts on walks, for the proofs of this crate and of the crates above: how a walk unfolds, and what it
 -- reaches. They say nothing about this crate's code.
-use Rattle.std.proofs.Common.{◌≡◌, ℕ, ◌<◌, zero, suc, false, List, [], ◌∷◌, ◌++◌, inl, inr, length, refl, sym, ap, subst, get_or, append_assoc, arith, eqb, Contains, All}
+use Rattle.std.proofs.Common.{◌≡◌, ℕ, ◌<◌, zero, suc, false, List, [], ◌∷◌, ◌++◌, inl, inr, length, take, slice_get, Some, refl, sym, ap, subst, get_or, append_assoc, arith, eqb, Contains, All}
 use Rattle.std.specs.List.{flat_map, IsDistinct}
 use Rattle.std.proofs.lemmas.List.Elements.{Contains-append_cases, Contains-append_left, Contains-append_right, Contains-push}
 use Rattle.std.proofs.lemmas.Map.Steps.{length-le_from_distinct_below}
@@ -139,6 +139,14 @@ UsesFirst-use uses (x ∷ xs) seen i j first among edge =
       | inl same ↦ Contains-append_left seen (x ∷ xs) j (All-contains (Contains seen) (direct uses x) j first.0 (subst (λ y. Contains (direct uses y) j) (sym same) edge))
       | inr there ↦ rw (append_assoc seen (x ∷ []) xs) at (UsesFirst-use uses xs (seen ++ x ∷ []) i j first.1 there edge)
     ]
+
+-- what the member at a place uses was seen or stands before it
+pub UsesFirst-at : (uses : List (List ℕ)) (xs seen : List ℕ) (k i j : ℕ) → UsesFirst uses seen xs → slice_get xs k ≡ Some i → Contains (direct uses i) j → Contains (seen ++ take k xs) j
+UsesFirst-at uses [] seen k i j first at edge = cc
+UsesFirst-at uses (x ∷ xs) seen zero i j first at edge =
+    let same : x ≡ i = cc in
+    Contains-append_left seen [] j (All-contains (Contains seen) (direct uses x) j first.0 (subst (λ y. Contains (direct uses y) j) (sym same) edge))
+UsesFirst-at uses (x ∷ xs) seen (suc k) i j first at edge = rw (append_assoc seen (x ∷ []) (take k xs)) at (UsesFirst-at uses xs (seen ++ x ∷ []) k i j first.1 at edge)
 
 pub UsesFirst-IsPath : (uses : List (List ℕ)) (xs : List ℕ) (i : ℕ) (path : List ℕ) (j : ℕ) → UsesFirst uses [] xs → Contains xs i → IsPath uses i path j → Contains xs j
 UsesFirst-IsPath uses xs i [] j first among same = subst (λ x. Contains xs x) same among

@@ -6,14 +6,14 @@
 //! whether some thing comes back to itself.
 #![tactic(auto)]
 
+pub mod arrange;
 pub mod cycle;
 mod frame;
 pub mod laws;
 pub mod relation;
-#[cfg(test)]
-mod tests;
 pub mod walk;
 
+pub use crate::arrange::in_order;
 pub use crate::cycle::{CycleUse, find_cycle, is_acyclic};
 pub use crate::relation::{direct_uses, is_in_range};
 pub use crate::walk::{Listing, walk_order};

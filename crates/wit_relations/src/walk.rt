@@ -2,7 +2,7 @@
 //!
 //! A listing keeps the first of each node that walks come to. It holds a node after all that the
 //! node uses, so what is listed need not be walked again.
-ghost use Rattle.std.specs.Prelude.{◌≡◌, ◌<◌, ◌++◌, ◌∷◌, ◌↔◌, [], OnOk, OnErr, IfOk, IsTrue, All, Contains, length};
+ghost use Rattle.std.specs.Prelude.{◌≡◌, ℕ, ◌<◌, ◌++◌, ◌∷◌, ◌↔◌, [], OnOk, OnErr, IfOk, IsTrue, All, Contains, length};
 ghost use Rattle.std.specs.List.{flat_map};
 ghost use Rattle.wit_relations.specs.Relation.{IsAcyclic};
 ghost use Rattle.wit_relations.specs.Walks.{UsesFirst, first_of_each, fresh, walk};
@@ -41,6 +41,22 @@ impl Listing {
             marks: Items::from_vec(marks),
             order: Items::new(alloc),
         })
+    }
+
+    /// All nodes, each after all that it uses.
+    ///
+    /// It takes a mark and a step for each node, and a step for each of their uses.
+    pub fn of_all(alloc: Global, uses: &[Items<usize>]) -> Result<Listing, AllocError>
+        requires { IsAcyclic uses.now }
+        ensures nodes { IfOk result (λ l. l.nodes ≡ length uses.now) }
+        ensures all { IfOk result (λ l. (i : ℕ) → i < length uses.now → Contains l.order i) }
+        ensures uses_first { IfOk result (λ l. UsesFirst uses.now [] l.order) }
+    {
+        let mut listing = Listing::new(alloc, uses.len())?;
+        for root in 0..uses.len() {
+            listing.list_walk(alloc, uses, root)?;
+        }
+        Ok(listing)
     }
 
     /// The nodes that are listed, in order.

@@ -1,10 +1,10 @@
 -- A set of texts, and the set that keeps it.
-use Rattle.std.proofs.Common.{◌≡◌, ℕ, Bool, false, List, [], ◌∷◌, ◌++◌, ◌+◌, String, string_bytes, refl, ap, sym, ◌∙◌, string_eq, take, slice_get, Some, suc, zero, if◌then◌else◌, true}
+use Rattle.std.proofs.Common.{◌≡◌, ℕ, Bool, false, List, [], ◌∷◌, ◌++◌, String, string_bytes, refl, ap, sym, subst, ◌∙◌, append_assoc, length, string_eq, if◌then◌else◌, true}
 use Rattle.std.specs.declared.alloc.Global.{Global}
 use Rattle.std.specs.Cmp.Lexicographic.{nat_list_eq_equiv}
 use Rattle.std.specs.List.{IsDistinct, AllByRecursion, list_any}
 use Rattle.std.specs.Str.{bytes_eq}
-use Rattle.wit_values.specs.Lists.{AllByRecursion-at, take-next_at}
+use Rattle.wit_values.specs.Lists.{AllByRecursion-at, slice_get-behind}
 use Rattle.wit_values.specs.NameSet.{texts_of}
 
 pub list_any-texts : (test : List ℕ → Bool) (ks : List (String Global)) → list_any test (texts_of ks) ≡ list_any (λ k. test (string_bytes k)) ks
@@ -35,16 +35,15 @@ texts-insert ks k = rw (list_any-texts (bytes_eq (string_bytes k)) ks) (by (list
     by false = texts-append ks (k ∷ [])
 
 -- a text is not among those before it
-pub absent_before : (xs : List (List ℕ)) (i : ℕ) (x : List ℕ) → IsDistinct bytes_eq xs → slice_get xs i ≡ Some x → list_any (bytes_eq x) (take i xs) ≡ false
+absent_before : (xs ys : List (List ℕ)) (x : List ℕ) → IsDistinct bytes_eq (xs ++ x ∷ ys) → list_any (bytes_eq x) xs ≡ false
 unfolding IsDistinct
-absent_before [] i x distinct at = cc
-absent_before (y ∷ ys) zero x distinct at = refl
-absent_before (y ∷ ys) (suc i) x distinct at =
-    let differs : bytes_eq x y ≡ false = nat_list_eq_equiv.symm x y ∙ AllByRecursion-at (λ z. bytes_eq y z ≡ false) ys i x distinct.0 at in
-    rw differs (absent_before ys i x distinct.1 at)
+absent_before [] ys x distinct = refl
+absent_before (z ∷ zs) ys x distinct =
+    let differs : bytes_eq x z ≡ false = nat_list_eq_equiv.symm x z ∙ AllByRecursion-at (λ y. bytes_eq z y ≡ false) (zs ++ x ∷ ys) (length zs) x distinct.0 (slice_get-behind zs ys x) in
+    rw differs (absent_before zs ys x distinct.1)
 
 -- one more text, which is new
-pub insert-next : (xs : List (List ℕ)) (i : ℕ) (x : List ℕ) (copy : List (List ℕ)) → IsDistinct bytes_eq xs → slice_get xs i ≡ Some x → copy ≡ take i xs →
-    (if list_any (bytes_eq x) copy then copy else copy ++ x ∷ []) ≡ take (i + 1) xs
-insert-next xs i x copy distinct at same =
-    rw (same, absent_before xs i x distinct at) (sym (take-next_at xs i x at))
+pub insert-next : (copy : List (List ℕ)) (x : List ℕ) (rest all : List (List ℕ)) → copy ++ x ∷ rest ≡ all → IsDistinct bytes_eq all →
+    (if list_any (bytes_eq x) copy then copy else copy ++ x ∷ []) ++ rest ≡ all
+insert-next copy x rest all whole distinct =
+    rw (absent_before copy rest x (subst (IsDistinct bytes_eq) (sym whole) distinct)) (append_assoc copy (x ∷ []) rest ∙ whole)

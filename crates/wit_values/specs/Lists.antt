@@ -1,11 +1,15 @@
 -- Facts about lists and tables that std doesn't have, for the proofs of the crates above. They say
 -- nothing about this crate's code.
-use Rattle.std.proofs.Common.{◌≡◌, ℕ, ◌+◌, suc, zero, Bool, true, false, cond, List, [], ◌∷◌, ◌++◌, ◌⊎◌, inl, inr, length, Option, None, Some, slice_get, slice_set, take, filter_map, map, refl, ap, subst, ◌∙◌, add-one}
+use Rattle.std.proofs.Common.{◌≡◌, ℕ, ◌+◌, suc, zero, Bool, true, false, cond, List, [], ◌∷◌, ◌++◌, ◌⊎◌, inl, inr, length, Option, None, Some, slice_get, slice_set, take, filter_map, map, refl, ap, sym, subst, ◌∙◌, add-one}
 use Rattle.std.proofs.lemmas.List.{append-nil, map-append}
 use Rattle.std.proofs.lemmas.List.Elements.{filter_map-append}
+use Rattle.std.proofs.lemmas.Bool.{false≢true}
 use Rattle.std.specs.Cmp.{IsEquivalence}
+use Rattle.std.specs.Cmp.Lexicographic.{nat_list_eq_equiv}
+use Rattle.std.specs.Str.{bytes_eq}
 use Rattle.std.specs.List.{AllByRecursion, IsDistinct}
 use Rattle.std.specs.Map.{lookup, keys_of}
+use Rattle.wit_values.specs.Table.{HasDistinctKeys}
 
 module _ {X : Type 0} where
   take-suc_at : (xs : List X) (i : ℕ) (x : X) → slice_get xs i ≡ Some x → take (suc i) xs ≡ take i xs ++ x ∷ []
@@ -27,6 +31,11 @@ module _ {X : Type 0} where
   pub slice_get-push : (xs : List X) (x : X) → slice_get (xs ++ x ∷ []) (length xs) ≡ Some x
   slice_get-push [] x = refl
   slice_get-push (z ∷ zs) x = slice_get-push zs x
+
+  -- the place behind some elements
+  pub slice_get-behind : (xs ys : List X) (x : X) → slice_get (xs ++ x ∷ ys) (length xs) ≡ Some x
+  slice_get-behind [] ys x = refl
+  slice_get-behind (z ∷ zs) ys x = slice_get-behind zs ys x
 
   -- what stands in a list with one more is old or the new one
   pub push-cases : (xs : List X) (new : X) (i : ℕ) (x : X) → slice_get (xs ++ new ∷ []) i ≡ Some x
@@ -128,6 +137,60 @@ module _ {K V : Type 0} where
   key_at P (e ∷ es) zero k v all at = let same : e ≡ (k, v) = cc in subst (λ (p : K × V). P p.0) same all.0
   key_at P (e ∷ es) (suc i) k v all at = key_at P es i k v all.1 at
 
+  -- no key stands at two places
+  pub HasDistinctKeys-from_test : {eq : K → K → Bool} → IsEquivalence eq → (es : List (K × V)) → IsDistinct eq (keys_of es) → HasDistinctKeys es
+  unfolding IsDistinct
+  HasDistinctKeys-from_test laws [] distinct i j e f first second same = cc
+  HasDistinctKeys-from_test laws (d ∷ es) distinct zero zero e f first second same = refl
+  HasDistinctKeys-from_test {eq} laws (d ∷ es) distinct zero (suc j) e f first second same =
+      let differs : eq d.0 f.0 ≡ false = key_at (λ y. eq d.0 y ≡ false) es j f.0 f.1 distinct.0 second in
+      let one : d ≡ e = cc in
+      let equal : d.0 ≡ f.0 = ap (λ (p : K × V). p.0) one ∙ same in
+      let holds : eq d.0 f.0 ≡ true = subst (λ (y : K). eq d.0 y ≡ true) equal (laws.refl d.0) in
+      cc
+  HasDistinctKeys-from_test {eq} laws (d ∷ es) distinct (suc i) zero e f first second same =
+      let differs : eq d.0 e.0 ≡ false = key_at (λ y. eq d.0 y ≡ false) es i e.0 e.1 distinct.0 first in
+      let one : d ≡ f = cc in
+      let equal : d.0 ≡ e.0 = ap (λ (p : K × V). p.0) one ∙ sym same in
+      let holds : eq d.0 e.0 ≡ true = subst (λ (y : K). eq d.0 y ≡ true) equal (laws.refl d.0) in
+      cc
+  HasDistinctKeys-from_test laws (d ∷ es) distinct (suc i) (suc j) e f first second same =
+      ap suc (HasDistinctKeys-from_test laws es distinct.1 i j e f first second same)
+
+  -- no entry, and one or two
+  pub HasDistinctKeys-nil : HasDistinctKeys {K = K} {V = V} []
+  HasDistinctKeys-nil i j e f first second same = cc
+
+  pub HasDistinctKeys-one : (e : K × V) → HasDistinctKeys (e ∷ [])
+  HasDistinctKeys-one e zero zero f g first second same = refl
+  HasDistinctKeys-one e zero (suc j) f g first second same = cc
+  HasDistinctKeys-one e (suc i) j f g first second same = cc
+
+  pub HasDistinctKeys-two : (e f : K × V) → (e.0 ≡ f.0 → ⊥) → HasDistinctKeys (e ∷ f ∷ [])
+  HasDistinctKeys-two e f differ zero zero a b first second same = refl
+  HasDistinctKeys-two e f differ zero (suc zero) a b first second same =
+      let x : e ≡ a = cc in
+      let y : f ≡ b = cc in
+      absurd (differ (ap (λ (p : K × V). p.0) x ∙ same ∙ sym (ap (λ (p : K × V). p.0) y)))
+  HasDistinctKeys-two e f differ zero (suc (suc j)) a b first second same = cc
+  HasDistinctKeys-two e f differ (suc zero) zero a b first second same =
+      let x : f ≡ a = cc in
+      let y : e ≡ b = cc in
+      absurd (differ (ap (λ (p : K × V). p.0) y ∙ sym same ∙ sym (ap (λ (p : K × V). p.0) x)))
+  HasDistinctKeys-two e f differ (suc zero) (suc zero) a b first second same = refl
+  HasDistinctKeys-two e f differ (suc zero) (suc (suc j)) a b first second same = cc
+  HasDistinctKeys-two e f differ (suc (suc i)) j a b first second same = cc
+
+  -- a key is not among those before it
+  pub lookup-before : {eq : K → K → Bool} → IsEquivalence eq → (es fs : List (K × V)) (k : K) (v : V) → IsDistinct eq (keys_of (es ++ (k, v) ∷ fs))
+      → lookup (eq k) es ≡ None
+  unfolding IsDistinct
+  lookup-before laws [] fs k v distinct = refl
+  lookup-before {eq} laws (e ∷ es) fs k v distinct =
+      let there : slice_get (es ++ (k, v) ∷ fs) (length es) ≡ Some (k, v) = slice_get-behind es fs (k, v) in
+      let differs : eq k e.0 ≡ false = laws.symm k e.0 ∙ key_at (λ y. eq e.0 y ≡ false) (es ++ (k, v) ∷ fs) (length es) k v distinct.0 there in
+      rw differs (lookup-before laws es fs k v distinct.1)
+
   -- the key at a place is not among those before it
   pub lookup-take : {eq : K → K → Bool} → IsEquivalence eq → (es : List (K × V)) (i : ℕ) (k : K) (v : V) → IsDistinct eq (keys_of es)
       → slice_get es i ≡ Some (k, v) → lookup (eq k) (take i es) ≡ None
@@ -166,3 +229,7 @@ module _ {K V W : Type 0} (g : V → W) where
           → cond b (Some (g e.1)) (lookup test (map (λ (e : K × V). (e.0, g e.1)) es)) ≡ None
       by true h rest = cc
       by false h rest = rest h
+
+-- texts that a test tells apart are different
+pub differ : (a b : List ℕ) → bytes_eq a b ≡ false → a ≡ b → ⊥
+differ a b other same = false≢true (sym other ∙ subst (λ (z : List ℕ). bytes_eq a z ≡ true) same (nat_list_eq_equiv.refl a))

@@ -10,8 +10,6 @@ pub mod items;
 pub mod name_set;
 pub mod names;
 pub mod table;
-#[cfg(test)]
-mod tests;
 pub mod text;
 pub mod try_clone;
 pub mod version;

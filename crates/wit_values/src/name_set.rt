@@ -35,7 +35,7 @@ impl NameSet {
         }
     }
 
-    /// How many texts it has. A caller learns here that they differ.
+    /// How many texts it has.
     pub fn len(&self) -> usize
         ensures len { result ≡ length self.now }
         ensures small { result < 2 ^ 63 }
@@ -89,8 +89,8 @@ impl TryClone for NameSet {
     fn try_clone(&self) -> Result<NameSet, AllocError> {
         let alloc = self.allocator();
         let mut copy = NameSet::new(alloc);
-        for index in 0..self.len() {
-            copy.insert(alloc, self.text_at(index))?;
+        for text in self.inner.iter() {
+            copy.insert(alloc, text.as_str())?;
         }
         Ok(copy)
     }

@@ -4,8 +4,10 @@ ghost use Rattle.std.specs.Map.{lookup, keys_of};
 ghost use Rattle.std.specs.Str.{bytes_eq};
 ghost use Rattle.std.specs.Option.{option_copied};
 ghost use Rattle.std.specs.List.{IsDistinct};
-ghost use Rattle.std.specs.Iterator.{YieldsFirstBy, item_count};
+ghost use Rattle.std.specs.Iterator.{at_most};
+ghost use Rattle.std.specs.Map.Iter.{ShowsInOrder, TakesFirst};
 ghost use Rattle.wit_values.specs.Names.{named, deref_named};
+ghost use Rattle.wit_values.specs.Table.{HasDistinctKeys};
 
 use crate::try_clone::TryClone;
 use indexmap::IndexMap;
@@ -53,13 +55,21 @@ impl<V> Names<V> {
         self.inner
     }
 
-    /// How many pairs it has. A caller learns here that the names differ.
+    /// How many pairs it has.
     pub fn len(&self) -> usize
         ensures len { result ≡ length self.now }
         ensures small { result < 2 ^ 63 }
         ensures distinct { IsDistinct bytes_eq (keys_of self.now) }
     {
         self.inner.len()
+    }
+
+    /// The names in a table differ: a fact for proofs, which does nothing.
+    pub fn keys_differ(&self)
+        ensures test { IsDistinct bytes_eq (keys_of self.now) }
+        ensures keys { HasDistinctKeys self.now }
+    {
+        let _ = self.iter();
     }
 
     /// Whether it has no pair.
@@ -96,7 +106,9 @@ impl<V> Names<V> {
 
     /// The pairs, in order.
     pub fn iter(&self) -> NamesIter<'_, V>
-        ensures { result ≡ self.now }
+        ensures rest { result ≡ self.now }
+        ensures runs { ShowsInOrder (deref_named {V = V}) }
+        ensures distinct { IsDistinct bytes_eq (keys_of self.now) }
     {
         NamesIter {
             inner: self.inner.iter(),
@@ -148,9 +160,9 @@ impl<'a, V> Model for NamesIter<'a, V> {
 impl<'a, V> Iterator for NamesIter<'a, V> {
     type Item = (&'a str, &'a V);
 
-    ghost next_gives = { YieldsFirstBy deref_named (λ s. s) };
+    ghost next_gives = { TakesFirst deref_named };
 
-    ghost remaining = { item_count (λ s. s) };
+    ghost remaining = { λ s. at_most (length s) };
 
     fn next(&mut self) -> Option<(&'a str, &'a V)> {
         let (key, value) = self.inner.next()?;
@@ -162,8 +174,7 @@ impl<V: TryClone> TryClone for Names<V> {
     fn try_clone(&self) -> Result<Names<V>, AllocError> {
         let alloc = self.allocator();
         let mut copy = Names::new(alloc);
-        for index in 0..self.len() {
-            let (key, value) = self.entry_at(index);
+        for (key, value) in self.iter() {
             copy.push(String::from_str(alloc, key)?, value.try_clone()?)?;
         }
         Ok(copy)

@@ -4,6 +4,7 @@ ghost use Rattle.std.specs.List.{IsDistinct};
 ghost use Rattle.std.specs.Map.{lookup, keys_of};
 ghost use Rattle.std.specs.Map.Iter.{ShowsInOrder, deref_pair};
 ghost use Rattle.std.specs.Option.{option_copied, option_map};
+ghost use Rattle.wit_values.specs.Table.{HasDistinctKeys};
 
 use crate::try_clone::TryClone;
 use indexmap::IndexMap;
@@ -51,13 +52,21 @@ impl<K: Eq + Hash, V> Table<K, V> {
         self.inner
     }
 
-    /// How many pairs it has. A caller learns here that the keys differ.
+    /// How many pairs it has.
     pub fn len(&self) -> usize
         ensures len { result ≡ length self.now }
         ensures small { result < 2 ^ 63 }
         ensures distinct { IsDistinct K.eq (keys_of self.now) }
     {
         self.inner.len()
+    }
+
+    /// The keys of a table differ: a fact for proofs, which does nothing.
+    pub fn keys_differ(&self)
+        ensures test { IsDistinct K.eq (keys_of self.now) }
+        ensures keys { HasDistinctKeys self.now }
+    {
+        let _ = self.iter();
     }
 
     /// Whether it has no pair.
@@ -103,6 +112,7 @@ impl<K: Eq + Hash, V> Table<K, V> {
     pub fn iter(&self) -> Iter<'_, K, V>
         ensures rest { result ≡ self.now }
         ensures runs { ShowsInOrder (deref_pair {K = K} {X = V}) }
+        ensures distinct { IsDistinct K.eq (keys_of self.now) }
     {
         self.inner.iter()
     }
@@ -139,8 +149,7 @@ impl<K: Eq + Hash, V> Table<K, V> {
 impl<K: Eq + Hash + TryClone, V: TryClone> TryClone for Table<K, V> {
     fn try_clone(&self) -> Result<Table<K, V>, AllocError> {
         let mut copy = Table::new(self.allocator());
-        for index in 0..self.len() {
-            let (key, value) = self.entry_at(index);
+        for (key, value) in self.iter() {
             copy.push(key.try_clone()?, value.try_clone()?)?;
         }
         Ok(copy)

@@ -1,6 +1,7 @@
-use Rattle.std.proofs.Common.{◌≡◌, take}
+use Rattle.std.proofs.Common.{◌≡◌, ◌++◌}
+use Rattle.wit_values.specs.NameSet.{texts_of}
 use Rattle.wit_values.proofs.name_set.NameSetTryClone.try_clone.Given as goal
 
--- the copies so far
-abbrev pub invariant-loop-index : goal.invariant-loop-index
-invariant-loop-index l = l.copy ≡ take l.index l.self
+-- the copies so far, and the texts that are left
+abbrev pub invariant-loop-text : goal.invariant-loop-text
+invariant-loop-text l = l.copy ++ texts_of l.text-iterator ≡ l.self

@@ -1,13 +1,28 @@
-use Rattle.std.proofs.Common.{sym}
+use Rattle.std.proofs.Common.{◌≡◌, ◌++◌, ◌∷◌, [], ap, sym, subst, ◌∙◌, append_assoc}
+use Rattle.std.proofs.lemmas.List.{append-nil}
+use Rattle.std.proofs.lemmas.Map.Iter.{rest_more, rest_all}
 use Rattle.std.specs.Cmp.Lexicographic.{nat_list_eq_equiv}
-use Rattle.wit_values.specs.Lists.{lookup-take}
-use Rattle.wit_values.proofs.Entries.{take-next}
+use Rattle.std.specs.List.{IsDistinct}
+use Rattle.std.specs.Str.{bytes_eq}
+use Rattle.std.specs.Map.{keys_of}
+use Rattle.wit_values.specs.Names.{deref_named}
+use Rattle.wit_values.specs.Lists.{lookup-before}
 use Rattle.wit_values.proofs.names.NamesTryClone.try_clone.Goals as goal
 
 pub push-requires : goal.push-requires
 push-requires g c =
-    rw (c.in_ok-from_str.ensures.ok, c.loop-index.invariant) (lookup-take nat_list_eq_equiv _ _ _ _ c.len-index-end.ensures.distinct c.entry_at.ensures)
+    let more = rest_more deref_named _ _ _ _ c.in-Some.is c.next.ensures.steps in
+    let whole : c.loop-key.copy ++ (c.in-Some.key.now, c.in-Some.value.now) ∷ c.next.new.self ≡ c.args.self.now = ap (λ l. c.loop-key.copy ++ l) (sym more) ∙ c.loop-key.invariant in
+    rw c.in_ok-from_str.ensures.ok (lookup-before nat_list_eq_equiv c.loop-key.copy c.next.new.self c.in-Some.key.now c.in-Some.value.now
+    (subst (λ es. IsDistinct bytes_eq (keys_of es)) (sym whole) c.iter-key-items.ensures.distinct))
 
-pub loop-index-preserved : goal.loop-index-preserved
-loop-index-preserved g c =
-    rw (c.in_ok-push.ensures.ok, c.loop-index.invariant, c.in_ok-from_str.ensures.ok, c.in_ok-try_clone.ensures) (sym (take-next _ _ _ _ c.entry_at.ensures))
+pub loop-key-preserved : goal.loop-key-preserved
+loop-key-preserved g c =
+    let more = rest_more deref_named _ _ _ _ c.in-Some.is c.next.ensures.steps in
+    rw (c.in_ok-push.ensures.ok, c.in_ok-from_str.ensures.ok, c.in_ok-try_clone.ensures)
+    (append_assoc c.loop-key.copy ((c.in-Some.key.now, c.in-Some.value.now) ∷ []) c.next.new.self ∙ ap (λ l. c.loop-key.copy ++ l) (sym more) ∙ c.loop-key.invariant)
+
+pub returns : goal.returns
+returns g c =
+    let none = rest_all deref_named _ _ _ c.in-None.is c.next.ensures.steps in
+    sym (append-nil c.loop-key.copy) ∙ ap (λ l. c.loop-key.copy ++ l) (sym none) ∙ c.loop-key.invariant

@@ -1,6 +1,6 @@
-use Rattle.std.proofs.Common.{◌≡◌, take}
+use Rattle.std.proofs.Common.{◌≡◌, ◌++◌}
 use Rattle.wit_values.proofs.table.TableTryClone.try_clone.Given as goal
 
--- the copies so far
-abbrev pub invariant-loop-index : goal.invariant-loop-index
-invariant-loop-index g l = l.copy ≡ take l.index l.self
+-- the copies so far, and the pairs that are left
+abbrev pub invariant-loop-key : goal.invariant-loop-key
+invariant-loop-key g l = l.copy ++ l.key-iterator ≡ l.self
