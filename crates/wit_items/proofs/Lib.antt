@@ -1,7 +1,6 @@
 pub mod Cuts
 pub mod Distinct
 pub mod Kebab
-pub mod SourceMapLemmas
 pub mod UsePathGrammar
 pub mod VersionErrors
 pub mod Owners

@@ -1,36 +1,16 @@
 -- What a look-up in a world's imports tells of the types that the world lists.
-use Rattle.std.proofs.Common.{◌≡◌, ℕ, Bool, List, [], flat_map, Option, Some, None, refl, ap, sym, subst, inl, inr}
+use Rattle.std.proofs.Common.{◌≡◌, ℕ, List, [], flat_map, Option, Some, None, refl, ap, sym, subst, inl, inr}
 use Rattle.std.specs.Prelude.{Contains}
-use Rattle.std.specs.Bool.{Decides}
 use Rattle.std.specs.List.{IsDistinct}
 use Rattle.std.specs.Map.{lookup, keys_of}
-use Rattle.std.specs.Cmp.{IsEquivalence}
-use Rattle.std.proofs.lemmas.Bool.Decides.{Decides-like, Decides-eqb, same_from_decides}
 use Rattle.std.proofs.lemmas.Map.Views.{Contains-from_lookup, lookup-from_Contains}
-use Rattle.std.proofs.lemmas.Slice.Eq.{bytes_eq-Decides}
 use Rattle.wit_relations.specs.MemberFacts.{Contains-nil, Contains-here, Contains-cons_cases, Contains-flat_map, Contains-flat_map_cases}
 use Rattle.wit_items.specs.Ownership.{IsTypeItem, listed_type}
-use Rattle.wit_items.specs.contracts.world.WorldKeyPartialEq.TheImpl.{eq-value}
+use Rattle.wit_items.specs.WorldKeyFacts.{key_is, key_laws, same_key}
 use Rattle.wit_items.specs.declared.world.WorldItem.{WorldItem}
 use Rattle.wit_items.specs.declared.world.WorldItem.TheVariants as item
 use Rattle.wit_items.specs.declared.world.WorldKey.{WorldKey}
 use Rattle.wit_items.specs.declared.world.WorldKey.TheVariants as key
-
-abbrev pub same_key : WorldKey → WorldKey → Bool
-same_key = eq-value.it
-
-key_is : (j k : WorldKey) → Decides (same_key j k) (j ≡ k)
-key_is (key.Name m) (key.Name n) = Decides-like _ (λ h. ap key.Name h) (λ h. cc) (bytes_eq-Decides m n)
-key_is (key.Name m) (key.Interface g) = (λ h. cc, λ h. cc)
-key_is (key.Interface f) (key.Name n) = (λ h. cc, λ h. cc)
-key_is (key.Interface f) (key.Interface g) = Decides-like _ (λ h. ap key.Interface h) (λ h. cc) (Decides-eqb f g)
-
-key_laws : IsEquivalence same_key
-key_laws = record {
-  refl = λ j. (key_is j j).1 refl;
-  symm = λ j k. same_from_decides (same_key j k) (same_key k j) (key_is j k) (Decides-like _ (λ h. sym h) (λ h. sym h) (key_is k j));
-  congr = λ j k l equal. ap (λ (m : WorldKey). same_key m l) ((key_is j k).0 equal);
-}
 
 -- an entry that lists a type
 listed_by : (k : WorldKey) (v : WorldItem) (name : List ℕ) (id : ℕ) → Contains (listed_type k v) (name, id)

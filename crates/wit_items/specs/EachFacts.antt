@@ -1,12 +1,13 @@
 -- Facts on what holds of the first elements of a list, each at its place: the steps of a loop that tests
 -- them, for the proofs of this crate and of the crates above. They say nothing about this crate's code.
-use Rattle.std.proofs.Common.{◌≡◌, ℕ, ◌+◌, ◌<◌, ◌≤◌, ◌++◌, ◌∷◌, [], ◌⊎◌, inl, inr, List, Bool, true, false, length, take, flat_map, refl, Some, slice_get, subst, sym, ap, ◌∙◌, append_assoc, arith}
+use Rattle.std.proofs.Common.{◌≡◌, ℕ, zero, suc, ◌+◌, ◌<◌, ◌≤◌, ◌++◌, ◌∷◌, [], ◌⊎◌, inl, inr, List, Bool, true, false, length, take, flat_map, refl, Option, None, Some, slice_get, subst, sym, ap, ◌∙◌, append_assoc, arith}
 use Rattle.std.proofs.lemmas.Grind.{flat_map-append}
 use Rattle.std.proofs.lemmas.List.{append-nil}
 use Rattle.wit_values.specs.Lists.{take-next_at}
 use Rattle.std.specs.Prelude.{◌↔◌, IsTrue}
 use Rattle.std.proofs.lemmas.Option.{slice_get_within}
-use Rattle.wit_items.specs.Each.{EachAt}
+use Rattle.std.specs.Option.{IsSomeAnd}
+use Rattle.wit_items.specs.Each.{EachAt, SomeAt}
 
 -- P holds of each of the first n elements and its place
 pub record EachBelow {X : Type 0} (n : ℕ) (P : ℕ → X → Type 0) (xs : List X) : Type 0 where
@@ -30,6 +31,23 @@ module _ {X : Type 0} where
       | inr same ↦ at_same P xs n i x y same at there (test.0 passed)
     ];
   }
+
+  -- lists that are written out
+  pub EachAt-nil : (P : ℕ → X → Type 0) → EachAt P []
+  EachAt-nil P i x at = cc
+
+  pub EachAt-cons : (P : ℕ → X → Type 0) (x : X) (xs : List X) → P 0 x → EachAt (λ i. P (suc i)) xs → EachAt P (x ∷ xs)
+  EachAt-cons P x xs here others zero y at = let same : x ≡ y = cc in subst (P 0) same here
+  EachAt-cons P x xs here others (suc i) y at = others i y at
+
+  pub EachAt-one : (P : ℕ → X → Type 0) (x : X) → P 0 x → EachAt P (x ∷ [])
+  EachAt-one P x here = EachAt-cons P x [] here (EachAt-nil (λ i. P (suc i)))
+
+  pub EachAt-two : (P : ℕ → X → Type 0) (x y : X) → P 0 x → P 1 y → EachAt P (x ∷ y ∷ [])
+  EachAt-two P x y first second = EachAt-cons P x (y ∷ []) first (EachAt-one (λ i. P (suc i)) y second)
+
+  pub EachAt-three : (P : ℕ → X → Type 0) (x y z : X) → P 0 x → P 1 y → P 2 z → EachAt P (x ∷ y ∷ z ∷ [])
+  EachAt-three P x y z first second third = EachAt-cons P x (y ∷ z ∷ []) first (EachAt-two (λ i. P (suc i)) y z second third)
 
   -- all
   pub all : {P : ℕ → X → Type 0} {xs : List X} {n : ℕ} → EachBelow n P xs → length xs ≤ n → (true ≡ true) ↔ EachAt P xs
@@ -59,3 +77,14 @@ module _ {X : Type 0} where
   pub nil_from_length : (xs : List X) → length xs ≡ 0 → xs ≡ []
   nil_from_length [] none = refl
   nil_from_length (x ∷ xs) none = absurd (omega arith)
+
+  -- what stands at a place, of which P holds
+  at_some : (P : X → Type 0) (o : Option X) → IsSomeAnd o P → (x : X) × (o ≡ Some x) × P x
+  at_some P None holds = absurd holds
+  at_some P (Some x) holds = (x, refl, holds)
+
+  pub SomeAt-is : (P : X → Type 0) (xs : List X) (i : ℕ) → SomeAt xs i P → (x : X) × (slice_get xs i ≡ Some x) × P x
+  SomeAt-is P xs i holds = at_some P (slice_get xs i) holds
+
+  pub SomeAt-of : (P : X → Type 0) (xs : List X) (i : ℕ) (x : X) → slice_get xs i ≡ Some x → P x → SomeAt xs i P
+  SomeAt-of P xs i x at holds = subst (λ (o : Option X). IsSomeAnd o P) (sym at) holds

@@ -10,6 +10,7 @@ use Rattle.std.specs.Prelude.{◌≡◌, ℕ, ◌<◌, List, map, drop, length, 
 use Rattle.std.specs.List.{IsDistinct, flat_map}
 use Rattle.std.specs.Option.{option_to_list}
 use Rattle.std.specs.Str.{bytes_eq}
+use Rattle.wit_values.specs.Table.{HasDistinctKeys}
 use Rattle.wit_relations.specs.Relation.{IsAcyclic}
 use Rattle.wit_items.specs.Each.{Each, EachAt, SomeAt}
 use Rattle.wit_items.specs.Entries.{EntriesUseOwn, HasExports, HasImports, IncludesEarlier, StandOnce}
@@ -33,6 +34,18 @@ interface_names foreign interfaces = flat_map (λ (interface : Interface). optio
 -- the names of the worlds after the foreign ones
 abbrev pub world_names : ℕ → List World → List (List ℕ)
 world_names foreign worlds = map (λ (world : World). world.name) (drop foreign worlds)
+
+-- no table holds two entries under one key
+pub record KeysDiffer (p : UnresolvedPackage) : Type 0 where
+  -- the names of an interface's types, and those of its functions
+  pub types : Each (λ (interface : Interface). HasDistinctKeys interface.types) p.interfaces
+  pub functions : Each (λ (interface : Interface). HasDistinctKeys interface.functions) p.interfaces
+  -- the keys of what a world imports, and of what it exports
+  pub imports : Each (λ (world : World). HasDistinctKeys world.imports) p.worlds
+  pub exports : Each (λ (world : World). HasDistinctKeys world.exports) p.worlds
+  -- the other packages, and the names of what is named of each
+  pub packages : HasDistinctKeys p.foreign_deps
+  pub items : Each (λ (e : PackageName × List ForeignItem). HasDistinctKeys e.1) p.foreign_deps
 
 -- what the package knows of other packages
 pub record HasForeign (p : UnresolvedPackage) : Type 0 where
@@ -108,6 +121,7 @@ pub record IsUnplaced (p : UnresolvedPackage) : Type 0 where
 
 -- the shape of an unresolved package
 pub record IsShaped (p : UnresolvedPackage) : Type 0 where
+  pub keys : KeysDiffer p
   pub unplaced : IsUnplaced p
   pub foreign : HasForeign p
   pub unknown : HasUnknown p

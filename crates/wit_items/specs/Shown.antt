@@ -1,8 +1,9 @@
 -- Of which owners the named types are that a type is or refers to through types without names, as one
--- pass over the types tells it.
-use Rattle.std.specs.Prelude.{◌≡◌, ◌≢◌, ◌==◌, Bool, true, false, List, length, if◌then◌else◌}
-use Rattle.wit_items.specs.Each.{EachAt}
+-- pass over the types tells it, in an order in which each stands after those that it refers to.
+use Rattle.std.specs.Prelude.{◌≡◌, ◌≢◌, ◌==◌, ℕ, Bool, true, false, List, Some, length, slice_get, if◌then◌else◌}
+use Rattle.wit_items.specs.Each.{Each, EachAt, SomeAt}
 use Rattle.wit_items.specs.Ownership.{Shows}
+use Rattle.wit_items.specs.Reference.{referred}
 use Rattle.wit_items.specs.declared.shape.shown.Shown.{Shown}
 use Rattle.wit_items.specs.declared.shape.shown.Shown.TheVariants.{Nothing, One, Several}
 use Rattle.wit_items.specs.declared.types.TypeDef.{TypeDef}
@@ -19,6 +20,10 @@ Tells shows Several = (a : TypeOwner) × (b : TypeOwner) × shows a × shows b �
 pub record TellsEach (types : List TypeDef) (shown : List Shown) : Type 0 where
   pub long : length shown ≡ length types
   pub each : EachAt (λ id. Tells (Shows types id)) shown
+
+-- it is told of each type that the type at a place refers to
+abbrev pub IsTold : List TypeDef → List Shown → ℕ → Type 0
+IsTold types shown index = (def : TypeDef) → slice_get types index ≡ Some def → Each (λ id. SomeAt shown id (Tells (Shows types id))) (referred def.kind)
 
 abbrev pub same_owner : TypeOwner → TypeOwner → Bool
 same_owner owner.None owner.None = true

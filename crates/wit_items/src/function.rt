@@ -3,14 +3,14 @@ ghost use Rattle.std.specs.Prelude.{◌≡◌};
 ghost use Rattle.wit_items.specs.Function.{resource_of, accessor_of};
 
 use crate::ids::TypeId;
-use crate::span::Span;
 use crate::stability::{Docs, Stability};
 use crate::types::Type_;
 use std::alloc::AllocError;
+use wit_sources::Span;
 use wit_values::{Items, Text, TryClone, try_clone_three, try_clone_two};
 
 /// What a function is: whether it belongs to a resource, and whether it reads or writes a property.
-#[derive(Clone, Copy, Debug, PartialEq, Eq)]
+#[derive(Clone, Copy, PartialEq, Eq)]
 pub enum FunctionKind {
     Freestanding,
     AsyncFreestanding,
@@ -77,7 +77,7 @@ impl FunctionKind {
 }
 
 /// A parameter of a function.
-#[derive(Debug, PartialEq, Eq, Drop)]
+#[derive(Drop)]
 pub struct Param {
     pub name: Text,
     pub ty: Type_,
@@ -95,7 +95,6 @@ impl TryClone for Param {
 }
 
 /// A function, with its name as WIT's component names spell it, as `[method]r.f`.
-#[derive(Debug, PartialEq, Eq)]
 pub struct Function {
     pub name: Text,
     pub kind: FunctionKind,

@@ -2,31 +2,36 @@
 ghost use Rattle.std.specs.Prelude.{◌≡◌};
 
 use std::alloc::AllocError;
-use std::marker::Model;
+use std::marker::{Model, PhantomData};
 use wit_values::TryClone;
 
-/// The place of a type in the list of types of its graph, or of its unresolved package.
-#[derive(Clone, Copy, Debug, PartialEq, Eq, PartialOrd, Ord, Hash)]
-pub struct TypeId {
+/// The place of a thing in the list of its sort.
+#[derive_where(Clone, Copy, Debug, PartialEq, Eq, PartialOrd, Ord, Hash)]
+pub struct Id<S> {
     index: usize,
+    #[derive_where(skip)]
+    sort: PhantomData<S>,
 }
 
-impl Model for TypeId {
+impl<S> Model for Id<S> {
     ghost use Rattle.std.specs.Prelude.{ℕ};
 
     ghost Value = { ℕ };
 
     ghost view = { λ i. i.index };
 
-    ghost inverse = { λ n. record { index = n } };
+    ghost inverse = { λ n. record { index = n; sort = record {} } };
 }
 
-impl TypeId {
+impl<S> Id<S> {
     /// The id of the thing at this place, from 0.
-    pub fn from_index(index: usize) -> TypeId
+    pub fn from_index(index: usize) -> Id<S>
         ensures { result ≡ index }
     {
-        TypeId { index }
+        Id {
+            index,
+            sort: PhantomData,
+        }
     }
 
     /// The place, from 0.
@@ -37,122 +42,32 @@ impl TypeId {
     }
 }
 
-impl TryClone for TypeId {
-    fn try_clone(&self) -> Result<TypeId, AllocError> {
-        Ok(*self)
+impl<S> TryClone for Id<S> {
+    fn try_clone(&self) -> Result<Id<S>, AllocError> {
+        Ok(Id::from_index(self.index))
     }
 }
+
+/// The sort of types.
+pub enum TypeSort {}
+
+/// The sort of interfaces.
+pub enum InterfaceSort {}
+
+/// The sort of worlds.
+pub enum WorldSort {}
+
+/// The sort of packages.
+pub enum PackageSort {}
+
+/// The place of a type in the list of types of its graph, or of its unresolved package.
+pub type TypeId = Id<TypeSort>;
 
 /// The place of an interface in the list of interfaces of its graph, or of its unresolved package.
-#[derive(Clone, Copy, Debug, PartialEq, Eq, PartialOrd, Ord, Hash)]
-pub struct InterfaceId {
-    index: usize,
-}
-
-impl Model for InterfaceId {
-    ghost use Rattle.std.specs.Prelude.{ℕ};
-
-    ghost Value = { ℕ };
-
-    ghost view = { λ i. i.index };
-
-    ghost inverse = { λ n. record { index = n } };
-}
-
-impl InterfaceId {
-    /// The id of the thing at this place, from 0.
-    pub fn from_index(index: usize) -> InterfaceId
-        ensures { result ≡ index }
-    {
-        InterfaceId { index }
-    }
-
-    /// The place, from 0.
-    pub fn index(self) -> usize
-        ensures { result ≡ self }
-    {
-        self.index
-    }
-}
-
-impl TryClone for InterfaceId {
-    fn try_clone(&self) -> Result<InterfaceId, AllocError> {
-        Ok(*self)
-    }
-}
+pub type InterfaceId = Id<InterfaceSort>;
 
 /// The place of a world in the list of worlds of its graph, or of its unresolved package.
-#[derive(Clone, Copy, Debug, PartialEq, Eq, PartialOrd, Ord, Hash)]
-pub struct WorldId {
-    index: usize,
-}
-
-impl Model for WorldId {
-    ghost use Rattle.std.specs.Prelude.{ℕ};
-
-    ghost Value = { ℕ };
-
-    ghost view = { λ i. i.index };
-
-    ghost inverse = { λ n. record { index = n } };
-}
-
-impl WorldId {
-    /// The id of the thing at this place, from 0.
-    pub fn from_index(index: usize) -> WorldId
-        ensures { result ≡ index }
-    {
-        WorldId { index }
-    }
-
-    /// The place, from 0.
-    pub fn index(self) -> usize
-        ensures { result ≡ self }
-    {
-        self.index
-    }
-}
-
-impl TryClone for WorldId {
-    fn try_clone(&self) -> Result<WorldId, AllocError> {
-        Ok(*self)
-    }
-}
+pub type WorldId = Id<WorldSort>;
 
 /// The place of a package in the list of packages of its graph, or of its unresolved package.
-#[derive(Clone, Copy, Debug, PartialEq, Eq, PartialOrd, Ord, Hash)]
-pub struct PackageId {
-    index: usize,
-}
-
-impl Model for PackageId {
-    ghost use Rattle.std.specs.Prelude.{ℕ};
-
-    ghost Value = { ℕ };
-
-    ghost view = { λ i. i.index };
-
-    ghost inverse = { λ n. record { index = n } };
-}
-
-impl PackageId {
-    /// The id of the thing at this place, from 0.
-    pub fn from_index(index: usize) -> PackageId
-        ensures { result ≡ index }
-    {
-        PackageId { index }
-    }
-
-    /// The place, from 0.
-    pub fn index(self) -> usize
-        ensures { result ≡ self }
-    {
-        self.index
-    }
-}
-
-impl TryClone for PackageId {
-    fn try_clone(&self) -> Result<PackageId, AllocError> {
-        Ok(*self)
-    }
-}
+pub type PackageId = Id<PackageSort>;

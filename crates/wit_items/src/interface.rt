@@ -1,13 +1,12 @@
 //! Interfaces.
 use crate::function::Function;
 use crate::ids::{PackageId, TypeId};
-use crate::span::Span;
 use crate::stability::{Docs, Stability};
 use std::alloc::AllocError;
+use wit_sources::Span;
 use wit_values::{Names, Text, TryClone, try_clone_three, try_clone_two};
 
 /// An interface: types and functions under their names.
-#[derive(Debug)]
 pub struct Interface {
     /// Its name in its package. An interface that a world writes in place has none.
     pub name: Option<Text>,

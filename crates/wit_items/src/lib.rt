@@ -1,4 +1,4 @@
-//! The data of WIT: ids, spans, sources, names, types, functions, interfaces, worlds and unresolved
+//! The data of WIT: ids, names, types, functions, interfaces, worlds and unresolved
 //! packages, with the names of wit-parser 0.263.0. A name that a contract can't spell takes a `_`.
 #![tactic(auto)]
 
@@ -10,8 +10,6 @@ pub mod laws;
 pub mod package_name;
 pub mod reference;
 pub mod shape;
-pub mod source_map;
-pub mod span;
 pub mod stability;
 pub mod types;
 pub mod unresolved;
@@ -21,12 +19,12 @@ pub mod world;
 
 pub use crate::abi::{LiftLowerAbi, ManglingAndAbi};
 pub use crate::function::{AccessorKind, Function, FunctionKind, Param};
-pub use crate::ids::{InterfaceId, PackageId, TypeId, WorldId};
+pub use crate::ids::{
+    Id, InterfaceId, InterfaceSort, PackageId, PackageSort, TypeId, TypeSort, WorldId, WorldSort,
+};
 pub use crate::interface::Interface;
 pub use crate::package_name::PackageName;
 pub use crate::reference::{function_references, referred, type_references};
-pub use crate::source_map::{MapFault, SourceMap, SourceNames};
-pub use crate::span::Span;
 pub use crate::stability::{Docs, Stability};
 pub use crate::types::{
     Case, EnumCase, Field, Flag, Handle, Type_, TypeDef, TypeDefKind, TypeOwner,
@@ -35,7 +33,5 @@ pub use crate::unresolved::{AstItem, UnresolvedPackage, UnresolvedPackageGroup};
 pub use crate::use_path::{ParsedUsePath, UsePathFault, is_kebab_name, parse_use_path};
 pub use crate::uses::{alias_target, interface_uses, type_interface_dep, uses_of};
 pub use crate::world::{IncludeName, World, WorldInclude, WorldItem, WorldKey};
+pub use wit_sources::{MapFault, SourceMap, SourceNames, Span};
 pub use wit_values::{Items, Names, Table, Text, TryClone, Version};
-
-#[cfg(test)]
-mod tests;

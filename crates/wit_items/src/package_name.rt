@@ -72,35 +72,3 @@ impl fmt::Display for PackageName {
         Ok(())
     }
 }
-
-#[cfg(test)]
-mod tests {
-    use super::*;
-    use std::alloc::Global;
-    use std::test::Fail;
-
-    fn named(alloc: Global, version: Option<Version>) -> Result<PackageName, AllocError> {
-        let namespace = Text::try_from_str(alloc, "foo")?;
-        Ok(PackageName::new(namespace, Text::try_from_str(alloc, "bar")?, version))
-    }
-
-    #[test]
-    fn names_are_printed(rt: HostRuntime) -> Result<(), Fail> {
-        let alloc = rt.alloc();
-        let text = named(alloc, None)?.to_string(alloc)?;
-        assert_eq!(rt; text.as_str(), "foo:bar");
-        let version = Version::parse(alloc, "1.0.0-rc.1+b")?;
-        let text = named(alloc, Some(version))?.try_clone()?.to_string(alloc)?;
-        assert_eq!(rt; text.as_str(), "foo:bar@1.0.0-rc.1+b");
-        Ok(())
-    }
-
-    #[test]
-    fn names_are_ordered(rt: HostRuntime) -> Result<(), Fail> {
-        let alloc = rt.alloc();
-        let plain = named(alloc, None)?;
-        let versioned = named(alloc, Some(Version::parse(alloc, "1.0.0")?))?;
-        assert!(rt; plain < versioned);
-        Ok(())
-    }
-}

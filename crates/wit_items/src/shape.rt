@@ -6,14 +6,15 @@ ghost use Rattle.wit_items.specs.declared.interface.Interface.{Interface};
 ghost use Rattle.wit_items.specs.declared.world.World.{World};
 
 mod foreign;
-mod names;
+pub mod keys;
+pub mod names;
 mod numbers;
-mod own;
-mod owners;
-mod references;
-mod shown;
-mod unknown;
-mod worlds;
+pub mod own;
+pub mod owners;
+pub mod references;
+pub mod shown;
+pub mod unknown;
+pub mod worlds;
 
 use crate::interface::Interface;
 use crate::unresolved::{UnresolvedPackage, UnresolvedPackageGroup};
@@ -34,6 +35,7 @@ impl UnresolvedPackage {
     pub fn is_shaped(&self, alloc: Global) -> Result<bool, AllocError>
         ensures { IfOk result (λ shaped. IsTrue shaped ↔ IsShaped self.now) }
     {
+        keys::keys_differ(self);
         if !is_unplaced(self) {
             return Ok(false);
         }

@@ -1,12 +1,12 @@
 //! Types.
 use crate::ids::{InterfaceId, TypeId, WorldId};
-use crate::span::Span;
 use crate::stability::{Docs, Stability};
 use std::alloc::AllocError;
+use wit_sources::Span;
 use wit_values::{Items, Text, TryClone, try_clone_four};
 
 /// What a value is of: a primitive of WIT, or a type of a list of types.
-#[derive(Clone, Copy, Debug, PartialEq, Eq)]
+#[derive(Clone, Copy, PartialEq, Eq)]
 pub enum Type_ {
     Bool,
     U8,
@@ -32,7 +32,7 @@ impl TryClone for Type_ {
 }
 
 /// A field of a record.
-#[derive(Debug, PartialEq, Eq, Drop)]
+#[derive(PartialEq, Eq, Drop)]
 pub struct Field {
     pub name: Text,
     pub ty: Type_,
@@ -52,7 +52,7 @@ impl TryClone for Field {
 }
 
 /// A case of a variant, with the type of its payload where it has one.
-#[derive(Debug, PartialEq, Eq, Drop)]
+#[derive(PartialEq, Eq, Drop)]
 pub struct Case {
     pub name: Text,
     pub ty: Option<Type_>,
@@ -72,7 +72,7 @@ impl TryClone for Case {
 }
 
 /// One of the flags of a `flags` type.
-#[derive(Debug, PartialEq, Eq, Drop)]
+#[derive(PartialEq, Eq, Drop)]
 pub struct Flag {
     pub name: Text,
     pub docs: Docs,
@@ -90,7 +90,7 @@ impl TryClone for Flag {
 }
 
 /// A case of an enum.
-#[derive(Debug, PartialEq, Eq, Drop)]
+#[derive(PartialEq, Eq, Drop)]
 pub struct EnumCase {
     pub name: Text,
     pub docs: Docs,
@@ -108,14 +108,14 @@ impl TryClone for EnumCase {
 }
 
 /// A handle of a resource: the resource itself, or a loan of it.
-#[derive(Clone, Copy, Debug, PartialEq, Eq)]
+#[derive(Clone, Copy, PartialEq, Eq)]
 pub enum Handle {
     Own(TypeId),
     Borrow(TypeId),
 }
 
 /// Who owns a type.
-#[derive(Clone, Copy, Debug, PartialEq, Eq)]
+#[derive(Clone, Copy, PartialEq, Eq)]
 pub enum TypeOwner {
     /// The world that lists it among its imports.
     World(WorldId),
@@ -126,7 +126,7 @@ pub enum TypeOwner {
 }
 
 /// What a type is.
-#[derive(Debug, PartialEq, Eq, Drop)]
+#[derive(PartialEq, Eq, Drop)]
 pub enum TypeDefKind {
     Record {
         fields: Items<Field>,
@@ -195,7 +195,6 @@ impl TryClone for TypeDefKind {
 }
 
 /// A type of a list of types.
-#[derive(Debug, PartialEq, Eq)]
 pub struct TypeDef {
     /// Its name, which a type with an owner has.
     pub name: Option<Text>,

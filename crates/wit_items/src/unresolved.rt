@@ -1,17 +1,18 @@
 //! Packages as a reader of WIT hands them in: the names of other packages are not looked up yet.
+ghost use Rattle.std.specs.Prelude.{◌≡◌};
+
 use crate::ids::{InterfaceId, TypeId, WorldId};
 use crate::interface::Interface;
 use crate::package_name::PackageName;
-use crate::source_map::SourceMap;
-use crate::span::Span;
 use crate::stability::{Docs, Stability};
 use crate::types::TypeDef;
 use crate::world::World;
 use std::alloc::AllocError;
+use wit_sources::{SourceMap, Span};
 use wit_values::{Items, Names, Table, TryClone, try_clone_four, try_clone_three, try_clone_two};
 
 /// An interface or a world of an unresolved package.
-#[derive(Clone, Copy, Debug, PartialEq, Eq)]
+#[derive(Clone, Copy)]
 pub enum AstItem {
     Interface(InterfaceId),
     World(WorldId),
@@ -24,7 +25,6 @@ impl TryClone for AstItem {
 }
 
 /// A package before its foreign names are looked up. Its ids are places in its own lists.
-#[derive(Debug, Drop)]
 pub struct UnresolvedPackage {
     pub name: PackageName,
     pub package_name_span: Span,
@@ -44,6 +44,55 @@ pub struct UnresolvedPackage {
     pub unknown_type_spans: Items<Span>,
     /// Types that have to be resources, and where they have to be.
     pub required_resource_types: Items<(TypeId, Span)>,
+}
+
+/// As the derived one: each field is let go. A call of it costs the check less than a derived one,
+/// which is checked again wherever a value is let go.
+impl Drop for UnresolvedPackage {
+    fn drop(self) {
+        let UnresolvedPackage {
+            name,
+            docs,
+            worlds,
+            interfaces,
+            types,
+            foreign_deps,
+            foreign_dep_spans,
+            unknown_type_spans,
+            required_resource_types,
+            package_name_span: _,
+        } = self;
+        drop(name);
+        drop(docs);
+        drop(worlds);
+        drop(interfaces);
+        drop(types);
+        drop(foreign_deps);
+        drop(foreign_dep_spans);
+        drop(unknown_type_spans);
+        drop(required_resource_types);
+    }
+}
+
+impl UnresolvedPackage {
+    /// Its name alone.
+    pub fn into_name(self) -> PackageName
+        ensures { result ≡ self.name }
+    {
+        let UnresolvedPackage {
+            name,
+            docs: _,
+            worlds: _,
+            interfaces: _,
+            types: _,
+            foreign_deps: _,
+            foreign_dep_spans: _,
+            unknown_type_spans: _,
+            required_resource_types: _,
+            package_name_span: _,
+        } = self;
+        name
+    }
 }
 
 impl TryClone for UnresolvedPackage {
@@ -77,7 +126,7 @@ impl TryClone for UnresolvedPackage {
 }
 
 /// The packages of one reading: the main one, those that are nested in its files, and the files.
-#[derive(Debug, Drop)]
+#[derive(Drop)]
 pub struct UnresolvedPackageGroup {
     pub main: UnresolvedPackage,
     pub nested: Items<UnresolvedPackage>,

@@ -13,7 +13,7 @@ use std::fmt;
 use wit_values::{Text, TryClone, Version, try_clone_two};
 
 /// What a use path names.
-#[derive(Debug, PartialEq, Eq, Drop)]
+#[derive(Drop)]
 pub enum ParsedUsePath {
     /// A name alone.
     Name(Text),
@@ -211,70 +211,5 @@ fn version_fault(error: semver::Error) -> UsePathFault
         UsePathFault::OutOfMemory
     } else {
         UsePathFault::Invalid
-    }
-}
-
-#[cfg(test)]
-mod tests {
-    use super::*;
-    use std::test::Fail;
-
-    #[test]
-    fn kebab_names(rt: HostRuntime) {
-        for name in ["a", "foo-bar", "a1-B2", "FOO-bar", "a-1", "Z"] {
-            assert!(rt; is_kebab_name(name), "{name}");
-        }
-        for name in [
-            "", "-", "-a", "a-", "a--b", "1a", "aB", "a-bC", "a_b", "a b", "é", "a:b", "a/b", "a@b",
-        ] {
-            assert!(rt; !is_kebab_name(name), "{name}");
-        }
-    }
-
-    fn told(alloc: Global, text: &str) -> Result<String, AllocError> {
-        match parse_use_path(alloc, text) {
-            Ok(ParsedUsePath::Name(name)) => format!(in alloc; "{name}"),
-            Ok(ParsedUsePath::Package(package, name)) => format!(in alloc; "{name} of {package}"),
-            Err(fault) => format!(in alloc; "{fault}"),
-        }
-    }
-
-    #[test]
-    fn use_paths(rt: HostRuntime) -> Result<(), Fail> {
-        let alloc = rt.alloc();
-        for (text, want) in [
-            ("w", "w"),
-            ("foo:bar/w", "w of foo:bar"),
-            ("foo:bar/w@1.0.0", "w of foo:bar@1.0.0"),
-            ("a:b/c@1.0.0-rc.1+b-2", "c of a:b@1.0.0-rc.1+b-2"),
-            ("FOO:b1/c-D@0.0.0", "c-D of FOO:b1@0.0.0"),
-        ] {
-            assert_eq!(rt; told(alloc, text)?.as_str(), want, "{text}");
-        }
-        for text in [
-            "",
-            "W-",
-            "foo@1.0.0",
-            "foo:bar",
-            "foo:bar@1.0.0",
-            "foo:bar/",
-            "foo:bar/@1.0.0",
-            "foo:bar/w/x",
-            "foo:bar/w/x@1.0.0",
-            "foo/w",
-            ":bar/w",
-            "foo:/w",
-            "foo:bar/w@1",
-            "foo:bar/w@",
-            "foo:bar/w@1.0.0@2.0.0",
-            "foo:bar/w@01.0.0",
-            "foo:bar/w@18446744073709551616.0.0",
-            "foo:bar/w@1.0.0 ",
-            "a:b:c/d",
-            "a/b:c",
-        ] {
-            assert_eq!(rt; told(alloc, text)?.as_str(), "invalid use path", "{text}");
-        }
-        Ok(())
     }
 }

@@ -1,13 +1,13 @@
 //! Worlds.
 use crate::function::Function;
 use crate::ids::{InterfaceId, PackageId, TypeId, WorldId};
-use crate::span::Span;
 use crate::stability::{Docs, Stability};
 use std::alloc::AllocError;
+use wit_sources::Span;
 use wit_values::{Items, Table, Text, TryClone, try_clone_six, try_clone_three, try_clone_two};
 
 /// The key of an entry of a world: a label, or an interface by its id.
-#[derive(Debug, PartialEq, Eq, Hash, Drop)]
+#[derive(PartialEq, Eq, Hash, Drop)]
 pub enum WorldKey {
     Name(Text),
     Interface(InterfaceId),
@@ -23,7 +23,7 @@ impl TryClone for WorldKey {
 }
 
 /// What a world imports or exports under a key.
-#[derive(Debug, Drop)]
+#[derive(Drop)]
 pub enum WorldItem {
     Interface {
         id: InterfaceId,
@@ -69,7 +69,7 @@ impl TryClone for WorldItem {
 }
 
 /// A label of an included world, and the label that stands in its place.
-#[derive(Debug, PartialEq, Eq, Drop)]
+#[derive(Drop)]
 pub struct IncludeName {
     pub name: Text,
     pub as_: Text,
@@ -83,7 +83,7 @@ impl TryClone for IncludeName {
 }
 
 /// An include of a world in another.
-#[derive(Debug, PartialEq, Eq, Drop)]
+#[derive(Drop)]
 pub struct WorldInclude {
     pub stability: Stability,
     pub id: WorldId,
@@ -104,7 +104,6 @@ impl TryClone for WorldInclude {
 }
 
 /// A world: what a component imports and exports.
-#[derive(Debug)]
 pub struct World {
     pub name: Text,
     pub imports: Table<WorldKey, WorldItem>,

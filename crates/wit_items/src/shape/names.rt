@@ -1,4 +1,4 @@
-//! What the things of an unresolved package are called.
+//! What things are called.
 ghost use Rattle.std.specs.Prelude.{◌≡◌, ◌≤◌, ◌↔◌, List, ℕ, map, length, Some, IfOk, IfSome, IsTrue};
 ghost use Rattle.std.specs.List.{IsDistinct, flat_map};
 ghost use Rattle.std.specs.Borrow.{Bor};
@@ -50,7 +50,7 @@ pub(crate) fn has_names(
 }
 
 /// Whether the names of interfaces are kebab names.
-fn are_interfaces_kebab(interfaces: &[Interface]) -> bool
+pub fn are_interfaces_kebab(interfaces: &[Interface]) -> bool
     ensures { IsTrue result ↔ Each (λ (interface : Interface). IfSome interface.name IsKebabName) interfaces.now }
 {
     interfaces
@@ -137,7 +137,7 @@ fn texts_differ(alloc: Global, texts: &[&str]) -> Result<bool, AllocError>
 }
 
 /// Whether there is a name, and it is the wanted one.
-pub(crate) fn has_name(name: &Option<Text>, wanted: &str) -> bool
+pub fn has_name(name: &Option<Text>, wanted: &str) -> bool
     ensures { IsTrue result ↔ (name.now ≡ Some wanted.now) }
 {
     match name {
@@ -147,7 +147,7 @@ pub(crate) fn has_name(name: &Option<Text>, wanted: &str) -> bool
 }
 
 /// Whether a text is the wanted one.
-pub(crate) fn is_text(text: &Text, wanted: &str) -> bool
+pub fn is_text(text: &Text, wanted: &str) -> bool
     ensures { IsTrue result ↔ (text.now ≡ wanted.now) }
 {
     text.as_str() == wanted

@@ -43,7 +43,7 @@ pub(crate) fn keeps_to_own(
 }
 
 /// Whether each named type but an alias refers to types of its owner alone.
-fn all_refer_to_own(
+pub fn all_refer_to_own(
     alloc: Global,
     types: &[TypeDef],
     shown: &Items<Shown>,
@@ -108,7 +108,7 @@ fn uses_own(
 }
 
 /// Whether each function of each interface refers to types of the interface alone.
-fn all_functions_use_own(
+pub fn all_functions_use_own(
     alloc: Global,
     types: &[TypeDef],
     shown: &Items<Shown>,
@@ -159,7 +159,7 @@ fn functions_use_own(
 }
 
 /// Whether each function that worlds import refers to types of its world alone.
-fn all_imports_use_own(
+pub fn all_imports_use_own(
     alloc: Global,
     types: &[TypeDef],
     shown: &Items<Shown>,
@@ -177,7 +177,7 @@ fn all_imports_use_own(
 }
 
 /// Whether each function that worlds export refers to types of its world alone.
-fn all_exports_use_own(
+pub fn all_exports_use_own(
     alloc: Global,
     types: &[TypeDef],
     shown: &Items<Shown>,

@@ -33,7 +33,7 @@ pub(crate) fn has_owners(alloc: Global, unresolved: &UnresolvedPackage) -> Resul
 }
 
 /// Whether each type with an owner is listed by it, and each other has no name.
-fn are_listed(
+pub fn are_listed(
     interfaces: &[Interface],
     worlds: &[World],
     types: &[TypeDef],
@@ -126,7 +126,7 @@ fn is_type_item(item: Option<&WorldItem>, index: usize) -> bool
 }
 
 /// Whether each interface lists its own types alone, each under its name.
-fn all_list_own(types: &[TypeDef], interfaces: &[Interface]) -> bool
+pub fn all_list_own(types: &[TypeDef], interfaces: &[Interface]) -> bool
     ensures { IsTrue result ↔ EachAt (ListsOwn types.now) interfaces.now }
 {
     for (index, interface) in interfaces.iter().enumerate() {
@@ -167,7 +167,7 @@ pub(crate) fn is_type_of(types: &[TypeDef], owner: TypeOwner, name: &str, id: Ty
 }
 
 /// Whether each function of each interface stands under its name.
-fn all_name_functions(interfaces: &[Interface]) -> bool
+pub fn all_name_functions(interfaces: &[Interface]) -> bool
     ensures { IsTrue result ↔ Each NamesFunctions interfaces.now }
 {
     interfaces

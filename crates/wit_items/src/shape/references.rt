@@ -1,4 +1,4 @@
-//! What the types of an unresolved package refer to.
+//! What types refer to.
 ghost use Rattle.std.specs.Prelude.{◌≡◌, ◌↔◌, ◌<◌, ◌⊎◌, None, IfOk, IsSome, IsTrue};
 ghost use Rattle.wit_items.specs.Each.{Each, EachAt, SomeAt};
 ghost use Rattle.wit_items.specs.Ownership.{AliasesNamed, IsNamed, IsNamedInterface, IsPlain};
@@ -58,7 +58,7 @@ fn are_before(ids: &[TypeId], index: usize) -> bool
 }
 
 /// Whether each alias of a type names a named type of its own owner or of an interface with a name.
-fn all_alias_named(types: &[TypeDef], interfaces: &[Interface]) -> bool
+pub fn all_alias_named(types: &[TypeDef], interfaces: &[Interface]) -> bool
     ensures { IsTrue result ↔ Each (AliasesNamed types.now interfaces.now) types.now }
 {
     types
@@ -111,7 +111,7 @@ pub(crate) fn is_named(interfaces: &[Interface], id: InterfaceId) -> bool
 }
 
 /// Whether no type without a name is an alias or a resource.
-fn are_plain_if_unnamed(types: &[TypeDef]) -> bool
+pub fn are_plain_if_unnamed(types: &[TypeDef]) -> bool
     ensures { IsTrue result ↔ Each (λ (def : TypeDef). (def.name ≡ None) → IsPlain def.kind) types.now }
 {
     types.iter().all(|def| is_plain_if_unnamed(def))

@@ -1,41 +1,44 @@
 //! Of which owners the named types are that a type is or refers to through types without names.
 //!
-//! A type without a name refers to earlier types alone, so one pass over the types tells it of each.
+//! Where no type refers to itself, one pass over the types tells it of each, in an order in which each
+//! stands after those that it refers to.
 ghost use Rattle.std.specs.Prelude.{◌≡◌, ◌↔◌, ◌<◌, length, IfOk, IsTrue};
-ghost use Rattle.wit_items.specs.Each.{Each, EachAt};
 ghost use Rattle.wit_items.specs.Ownership.{IsOwn, Shows};
-ghost use Rattle.wit_items.specs.Reference.{referred};
-ghost use Rattle.wit_items.specs.Shown.{IsOnly, Tells, TellsEach, joined};
-ghost use Rattle.wit_items.specs.declared.types.TypeDef.{TypeDef};
+ghost use Rattle.wit_items.specs.Reference.{type_references};
+ghost use Rattle.wit_items.specs.Shown.{IsOnly, IsTold, Tells, TellsEach, joined};
+ghost use Rattle.wit_relations.specs.Relation.{IsAcyclic};
 
 use crate::ids::TypeId;
-use crate::reference::referred;
+use crate::reference::{referred, type_references};
 use crate::types::{TypeDef, TypeOwner};
 use std::alloc::{AllocError, Global};
+use wit_relations::Listing;
 use wit_values::Items;
 
 /// Of no owner, of one alone, or of different ones.
 #[derive(Clone, Copy)]
-pub(crate) enum Shown {
+pub enum Shown {
     Nothing,
     One(TypeOwner),
     Several,
 }
 
-/// What each type shows, where each refers to earlier ones.
-pub(crate) fn shown_by_each(alloc: Global, types: &[TypeDef]) -> Result<Items<Shown>, AllocError>
-    requires { EachAt (λ i (def : TypeDef). Each (λ id. id < i) (referred def.kind)) types.now }
+/// What each type shows, where no type refers to itself.
+pub fn shown_by_each(alloc: Global, types: &[TypeDef]) -> Result<Items<Shown>, AllocError>
+    requires { IsAcyclic (type_references types.now) }
     ensures { IfOk result (λ shown. TellsEach types.now shown) }
 {
-    let mut shown = Items::new(alloc);
-    for index in 0..types.len() {
-        let next = shown_by(alloc, types, &shown, index)?;
-        shown.push(next)?;
+    let references = type_references(alloc, types)?;
+    let listing = Listing::of_all(alloc, references.as_slice())?;
+    let mut shown = Items::from_vec(vec![in alloc; Shown::Nothing; types.len()]?);
+    for index in listing.order() {
+        let told = shown_by(alloc, types, &shown, *index)?;
+        shown.set(*index, told);
     }
     Ok(shown)
 }
 
-/// What a type shows, where that of the types before it is known.
+/// What a type shows, where it is told of the types that it refers to.
 fn shown_by(
     alloc: Global,
     types: &[TypeDef],
@@ -43,9 +46,7 @@ fn shown_by(
     index: usize,
 ) -> Result<Shown, AllocError>
     requires index { index < length types.now }
-    requires earlier { EachAt (λ i (def : TypeDef). Each (λ id. id < i) (referred def.kind)) types.now }
-    requires known { EachAt (λ id. Tells (Shows types.now id)) shown.now }
-    requires long { length shown.now ≡ index }
+    requires known { IsTold types.now shown.now index }
     ensures { IfOk result (λ told. Tells (Shows types.now index) told) }
 {
     let def = &types[index];
@@ -77,7 +78,7 @@ fn join(a: Shown, b: Shown) -> Shown
 }
 
 /// Whether there is such a type, and no named type that it shows is of another owner.
-pub(crate) fn is_own(types: &[TypeDef], shown: &Items<Shown>, owner: TypeOwner, id: TypeId) -> bool
+pub fn is_own(types: &[TypeDef], shown: &Items<Shown>, owner: TypeOwner, id: TypeId) -> bool
     requires { TellsEach types.now shown.now }
     ensures { IsTrue result ↔ IsOwn types.now owner id }
 {

@@ -8,9 +8,9 @@ ghost use Rattle.wit_items.specs.declared.types.TypeDefKind.TheVariants as kind;
 
 use crate::ids::TypeId;
 use crate::interface::Interface;
-use crate::span::Span;
 use crate::types::{TypeDef, TypeDefKind, TypeOwner};
 use crate::unresolved::UnresolvedPackage;
+use wit_sources::Span;
 
 /// Whether what the package knows of the types of other packages has its shape, where so many
 /// interfaces are foreign.
@@ -61,7 +61,8 @@ fn is_unknown_below(unknown: usize, index: usize, def: &TypeDef) -> bool
     }
 }
 
-fn is_unknown(def: &TypeDef) -> bool
+/// Whether a type is known by its name alone.
+pub fn is_unknown(def: &TypeDef) -> bool
     ensures { IsTrue result ↔ (def.now.kind ≡ kind.Unknown) }
 {
     matches!(def.kind, TypeDefKind::Unknown)

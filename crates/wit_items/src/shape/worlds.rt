@@ -1,4 +1,4 @@
-//! What the worlds of an unresolved package import, export and include.
+//! What worlds import, export and include.
 ghost use Rattle.std.specs.Prelude.{◌≡◌, ◌↔◌, ◌++◌, filter, IfOk, OnOk, IsTrue};
 ghost use Rattle.wit_items.specs.Each.{Each, EachAt};
 ghost use Rattle.wit_items.specs.Entries.{HasExports, HasImports, IncludesEarlier, IsExport, IsImport, StandOnce, held_interfaces, is_unnamed, item_interface, placed_interfaces};
@@ -74,7 +74,7 @@ fn is_import(
 }
 
 /// Whether the imports of each world are imports.
-fn all_have_imports(interfaces: &[Interface], types: &[TypeDef], worlds: &[World]) -> bool
+pub fn all_have_imports(interfaces: &[Interface], types: &[TypeDef], worlds: &[World]) -> bool
     ensures { IsTrue result ↔ EachAt (HasImports interfaces.now types.now) worlds.now }
 {
     for (index, world) in worlds.iter().enumerate() {
@@ -105,7 +105,7 @@ fn has_imports(interfaces: &[Interface], types: &[TypeDef], owner: WorldId, worl
 }
 
 /// Whether the exports of each world are exports.
-fn all_have_exports(interfaces: &[Interface], worlds: &[World]) -> bool
+pub fn all_have_exports(interfaces: &[Interface], worlds: &[World]) -> bool
     ensures { IsTrue result ↔ Each (HasExports interfaces.now) worlds.now }
 {
     worlds.iter().all(|world| has_exports(interfaces, world))
@@ -144,7 +144,11 @@ fn includes_earlier(index: usize, world: &World) -> bool
 }
 
 /// Whether no interface without a name stands in two places of all worlds.
-fn stand_once(alloc: Global, interfaces: &[Interface], worlds: &[World]) -> Result<bool, AllocError>
+pub fn stand_once(
+    alloc: Global,
+    interfaces: &[Interface],
+    worlds: &[World],
+) -> Result<bool, AllocError>
     ensures { IfOk result (λ once. IsTrue once ↔ StandOnce interfaces.now worlds.now) }
 {
     let placed = placed_interfaces(alloc, worlds)?;

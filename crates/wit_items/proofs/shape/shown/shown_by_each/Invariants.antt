@@ -1,9 +1,13 @@
-use Rattle.std.proofs.Common.{◌≡◌, length}
-use Rattle.wit_items.specs.Each.{EachAt}
+use Rattle.std.proofs.Common.{◌≡◌, ℕ, length, take}
+use Rattle.std.specs.Prelude.{Contains}
+use Rattle.wit_items.specs.Each.{SomeAt}
 use Rattle.wit_items.specs.Ownership.{Shows}
 use Rattle.wit_items.specs.Shown.{Tells}
 use Rattle.wit_items.proofs.shape.shown.shown_by_each.Given as goal
 
--- what the first ones show is known
+-- it is told of the first ones of the order
 abbrev pub invariant-loop-index : goal.invariant-loop-index
-invariant-loop-index l = record { long : length l.shown ≡ l.index; known : EachAt (λ id. Tells (Shows l.types id)) l.shown }
+invariant-loop-index l = record {
+  long : length l.shown ≡ length l.types;
+  known : (id : ℕ) → Contains (take l.index-index l.index-items) id → SomeAt l.shown id (Tells (Shows l.types id));
+}

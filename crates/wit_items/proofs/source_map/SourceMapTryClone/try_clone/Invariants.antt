@@ -1,5 +1,0 @@
-use Rattle.std.proofs.Common.{◌≡◌, take}
-use Rattle.wit_items.proofs.source_map.SourceMapTryClone.try_clone.Given as goal
-
-abbrev pub invariant-loop-file : goal.invariant-loop-file
-invariant-loop-file l = l.files.items ≡ take l.file-index l.file-items

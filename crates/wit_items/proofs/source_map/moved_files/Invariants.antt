@@ -1,8 +1,0 @@
-use Rattle.std.proofs.Common.{◌≡◌}
-use Rattle.wit_items.specs.SourceMap.{moved_file}
-use Rattle.wit_items.proofs.SourceMapLemmas.{map_first}
-use Rattle.wit_items.proofs.source_map.moved_files.Given as goal
-
--- the files before the index have moved
-abbrev pub invariant-loop-file : goal.invariant-loop-file
-invariant-loop-file l = l.file-items ≡ map_first (moved_file l.offset) l.file-index l.fn.files.items

@@ -1,0 +1,2 @@
+mod ShapeMisses
+mod Shaped

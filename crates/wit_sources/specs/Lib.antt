@@ -1,0 +1,2 @@
+pub mod SourceMap
+pub mod Span

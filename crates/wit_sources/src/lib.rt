@@ -1,0 +1,8 @@
+//! Places in source texts: spans, and the files of a source map in one row of positions.
+#![tactic(auto)]
+
+pub mod source_map;
+pub mod span;
+
+pub use crate::source_map::{MapFault, SourceMap, SourceNames};
+pub use crate::span::Span;
