@@ -4,7 +4,7 @@ use Rattle.std.proofs.lemmas.Bool.{false≢true}
 use Rattle.std.specs.Cmp.Lexicographic.{nat_list_eq_equiv}
 use Rattle.std.specs.Str.{bytes_eq}
 use Rattle.wit_items.specs.Each.{EachAt}
-use Rattle.wit_graph.specs.Valid.{HasDistinctKeys}
+use Rattle.wit_values.specs.Table.{HasDistinctKeys}
 
 module _ {X : Type 0} where
   pub EachAt-nil : (P : ℕ → X → Type 0) → EachAt P []

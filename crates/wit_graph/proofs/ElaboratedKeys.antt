@@ -11,7 +11,7 @@ use Rattle.wit_relations.specs.Relation.{IsAcyclic}
 use Rattle.wit_graph.specs.Entries.{Entry, is_interface, fresh_entries}
 use Rattle.wit_graph.specs.Elaborated.{entry_walk, export_carries, elaborated_imports, elaborated_exports}
 use Rattle.wit_graph.specs.KeptByElaboration.{ElaboratedOnce, ExportKeysStay}
-use Rattle.wit_graph.specs.Valid.{HasDistinctKeys}
+use Rattle.wit_values.specs.Table.{HasDistinctKeys}
 use Rattle.wit_graph.proofs.Classes.{by_class-new}
 use Rattle.wit_graph.proofs.ExportedUses.{exported_entry}
 use Rattle.wit_graph.proofs.ExportsAgain.{inner, walked, functions, kept, made, functions_other}

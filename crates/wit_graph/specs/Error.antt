@@ -1,7 +1,7 @@
 -- The numbers and places of errors.
 use Rattle.std.specs.Prelude.{ℕ, Option, None}
-use Rattle.wit_items.specs.declared.source_map.MapFault.{MapFault}
-use Rattle.wit_items.specs.declared.source_map.MapFault.TheVariants as fault
+use Rattle.wit_sources.specs.declared.source_map.MapFault.{MapFault}
+use Rattle.wit_sources.specs.declared.source_map.MapFault.TheVariants as fault
 use Rattle.wit_graph.specs.declared.cause.Cause.{Cause}
 use Rattle.wit_graph.specs.declared.cause.Cause.TheVariants.{GateWithoutVersion, GateUnreleased, Excluded, ExcludedOwner, TypeNotDefined, NotAResource, BorrowInResult, RenameUnmatched, NotStronglyUnique, NoGetter, LabelClash, NameTaken, TypeExported, InterfaceCycle, TypeCycle, MergeMismatch, UpgradeMismatch, WorldSelection, Other}
 use Rattle.wit_graph.specs.declared.error_kind.ResolveErrorKind.{ResolveErrorKind}

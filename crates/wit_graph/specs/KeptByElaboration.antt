@@ -11,7 +11,7 @@ use Rattle.wit_graph.specs.Entries.{Entry, TypeUse, role_of, ids_of, by_class}
 use Rattle.wit_graph.specs.Elaborated.{Carried, Elaborated, dependency_of, import_carries, settled_item}
 use Rattle.wit_graph.specs.Imported.{Needed, IsImported, exported_keys, roots_of}
 use Rattle.wit_graph.specs.Listed.{IsListed}
-use Rattle.wit_graph.specs.Valid.{HasDistinctKeys}
+use Rattle.wit_values.specs.Table.{HasDistinctKeys}
 
 -- ---- a graph that grows
 

@@ -12,6 +12,7 @@ pub mod IdText
 pub mod Imported
 pub mod KeptByElaboration
 pub mod Listed
+pub mod ListedFacts
 pub mod Questions
 pub mod Relations
 pub mod Samples

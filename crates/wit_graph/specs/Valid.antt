@@ -2,8 +2,9 @@
 -- it reads, so that a change of another list leaves it alone.
 -- Source: `assert_valid` and the field documentation of wit-parser 0.263.0; the WIT page of the component
 -- model (names of packages and interfaces, what may stand in a world).
-use Rattle.std.specs.Prelude.{◌≡◌, ◌≢◌, ℕ, List, [], Option, None, Some, slice_get, Contains, IfSome}
+use Rattle.std.specs.Prelude.{◌≡◌, ◌≢◌, ℕ, List, [], Option, None, Some, Contains, IfSome}
 use Rattle.std.specs.Option.{IsSomeAnd}
+use Rattle.wit_values.specs.Table.{HasDistinctKeys}
 use Rattle.wit_relations.specs.Relation.{IsAcyclic}
 use Rattle.wit_items.specs.Each.{Each, EachAt, SomeAt}
 use Rattle.wit_items.specs.Entries.{Entry, EntriesUseOwn, HasExports, HasImports, StandOnce}
@@ -22,10 +23,6 @@ use Rattle.wit_graph.specs.Elaborated.{Elaborated}
 use Rattle.wit_graph.specs.Relations.{package_uses}
 use Rattle.wit_graph.specs.declared.graph.Graph.{Graph}
 use Rattle.wit_graph.specs.declared.graph.Package.{Package}
-
--- two entries under one key are one entry
-abbrev pub HasDistinctKeys : {K V : Type 0} → List (K × V) → Type 0
-HasDistinctKeys {K} {V} es = (i j : ℕ) (e f : K × V) → slice_get es i ≡ Some e → slice_get es j ≡ Some f → e.0 ≡ f.0 → i ≡ j
 
 -- ---- packages and their tables
 

@@ -5,7 +5,7 @@
 ghost use Rattle.std.specs.Prelude.{◌≡◌, ◌<◌, IfOk, IfErr, OnOk, OnErr, length};
 ghost use Rattle.wit_graph.specs.Elaborated.{elaborated_exports, elaborated_imports};
 ghost use Rattle.wit_graph.specs.Elaborating.{HaveNodes, TellsExported};
-ghost use Rattle.wit_graph.specs.Elaboration.{AreElaborated, ElaboratesWorld, HasConflictAt, IsElaborationError, IsErrorAt, IsListedAt, graph_uses};
+ghost use Rattle.wit_graph.specs.Elaboration.{AreElaborated, ElaboratesWorld, HasConflictAt, IsConflictError, IsElaborationError, IsErrorAt, IsListedAt, graph_uses};
 ghost use Rattle.wit_graph.specs.Imported.{HasConflict};
 ghost use Rattle.wit_graph.specs.Listed.{IsListed};
 ghost use Rattle.wit_graph.specs.declared.error_kind.ResolveErrorKind.TheVariants.{OutOfMemory};
@@ -100,14 +100,28 @@ impl Elaborator {
         ensures cause { IfErr result (IsElaborationError graph.now world) }
         ensures same { self.new ≡ self.old }
     {
-        let current = graph.worlds.at(world.index());
+        self.lists_for(alloc, graph, graph.worlds.at(world.index()))
+    }
+
+    /// The elaborated lists of a world over the types and interfaces of a graph, of which it need not
+    /// be one.
+    pub fn lists_for(&mut self, alloc: Global, graph: &Graph, world: &World) -> ResolveResult<Lists>
+        requires uses { self.old ≡ graph_uses graph.now }
+        requires acyclic { IsAcyclic (graph_uses graph.now) }
+        requires listed { IsListed graph.now.types (length graph.now.interfaces) world.now.imports world.now.exports }
+        ensures no_conflict { OnOk result (HasConflict (graph_uses graph.now) world.now.exports → ⊥) }
+        ensures imports { IfOk result (λ lists. lists.imports ≡ elaborated_imports graph.now.types (graph_uses graph.now) world.now.imports world.now.exports) }
+        ensures exports { IfOk result (λ lists. lists.exports ≡ elaborated_exports graph.now.types (graph_uses graph.now) world.now.exports) }
+        ensures cause { IfErr result (IsConflictError graph.now world.now) }
+        ensures same { self.new ≡ self.old }
+    {
         let uses = self.uses.as_slice();
-        let found = find_refused(alloc, uses, &current.exports, &mut self.marks)?;
+        let found = find_refused(alloc, uses, &world.exports, &mut self.marks)?;
         match found {
-            Some(index) => Err(conflict_error(alloc, graph, current, index)?),
+            Some(index) => Err(conflict_error(alloc, graph, world, index)?),
             None => {
                 let types = graph.types.as_slice();
-                Ok(lists_of(alloc, types, uses, &mut self.marks, current)?)
+                Ok(lists_of(alloc, types, uses, &mut self.marks, world)?)
             }
         }
     }
@@ -199,6 +213,3 @@ pub fn elaborate(alloc: Global, graph: &mut Graph, world: WorldId) -> ResolveRes
     )?;
     elaborator.elaborate(alloc, graph, world)
 }
-
-#[cfg(test)]
-mod tests;

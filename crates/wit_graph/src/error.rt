@@ -147,6 +147,3 @@ impl From<MapFault> for ResolveError {
         }
     }
 }
-
-#[cfg(test)]
-mod tests;

@@ -1,0 +1,108 @@
+-- What has a name in core wasm.
+-- Source: where `wasm_import_name` and `wasm_export_name` of wit-parser 0.263.0 end the process, this is
+-- false; and also where a key or a resource has no name.
+use Rattle.std.specs.Prelude.{ℕ, Bool, true, false, ◌&&◌, ◌||◌, not, List, Option, None, Some, is_some, nat_eq, slice_get}
+use Rattle.std.specs.List.{list_any}
+use Rattle.std.specs.Option.{option_copied, option_map_or}
+use Rattle.wit_items.specs.declared.abi.LiftLowerAbi.TheVariants.{Sync, AsyncCallback, AsyncStackful}
+use Rattle.wit_items.specs.declared.abi.ManglingAndAbi.{ManglingAndAbi}
+use Rattle.wit_items.specs.declared.abi.ManglingAndAbi.TheVariants.{Standard32, Legacy}
+use Rattle.wit_items.specs.declared.function.Function.{Function}
+use Rattle.wit_items.specs.declared.interface.Interface.{Interface}
+use Rattle.wit_items.specs.declared.types.TypeDef.{TypeDef}
+use Rattle.wit_items.specs.declared.world.WorldKey.{WorldKey}
+use Rattle.wit_items.specs.declared.world.WorldKey.TheVariants as key
+use Rattle.wit_graph.specs.Questions.{futures_and_streams, named_interface}
+use Rattle.wit_graph.specs.declared.graph.Graph.{Graph}
+use Rattle.wit_core_names.specs.declared.export.WasmExport.{WasmExport}
+use Rattle.wit_core_names.specs.declared.export.WasmExport.TheVariants as exports
+use Rattle.wit_core_names.specs.declared.export.WasmExportKind.{WasmExportKind}
+use Rattle.wit_core_names.specs.declared.export.WasmExportKind.TheVariants.{Normal, PostReturn, Callback}
+use Rattle.wit_core_names.specs.declared.import.FutureIntrinsic.{FutureIntrinsic}
+use Rattle.wit_core_names.specs.declared.import.FutureIntrinsic.TheVariants as future
+use Rattle.wit_core_names.specs.declared.import.ResourceIntrinsic.{ResourceIntrinsic}
+use Rattle.wit_core_names.specs.declared.import.ResourceIntrinsic.TheVariants.{ImportedDrop, ExportedDrop, ExportedNew, ExportedRep}
+use Rattle.wit_core_names.specs.declared.import.StreamIntrinsic.{StreamIntrinsic}
+use Rattle.wit_core_names.specs.declared.import.StreamIntrinsic.TheVariants as stream
+use Rattle.wit_core_names.specs.declared.import.WasmImport.{WasmImport}
+use Rattle.wit_core_names.specs.declared.import.WasmImport.TheVariants as imports
+
+-- a label names itself, and an interface must have a name
+abbrev pub key_has_name : List Interface → WorldKey → Bool
+key_has_name interfaces (key.Name label) = true
+key_has_name interfaces (key.Interface i) = is_some (named_interface interfaces i)
+
+-- without an interface nothing is asked
+abbrev pub interface_has_name : List Interface → Option WorldKey → Bool
+interface_has_name interfaces None = true
+interface_has_name interfaces (Some k) = key_has_name interfaces k
+
+-- a type with a name
+abbrev pub type_has_name : List TypeDef → ℕ → Bool
+type_has_name types t = option_map_or (λ (def : TypeDef). is_some def.name) (slice_get types t) false
+
+-- what serves exports is of an interface
+abbrev pub is_within : Option WorldKey → ResourceIntrinsic → Bool
+is_within interface ImportedDrop = true
+is_within interface ExportedDrop = is_some interface
+is_within interface ExportedNew = is_some interface
+is_within interface ExportedRep = is_some interface
+
+-- a type that is given is among the futures and streams of the function
+abbrev pub is_of_function : List TypeDef → Function → Option ℕ → Bool
+is_of_function types f None = true
+is_of_function types f (Some t) = list_any (nat_eq t) (futures_and_streams types f)
+
+-- reading, writing and ending these can go on after the call
+abbrev pub future_may_go_on : FutureIntrinsic → Bool
+future_may_go_on future.New = false
+future_may_go_on future.Read = true
+future_may_go_on future.Write = true
+future_may_go_on future.Forward = false
+future_may_go_on future.CancelRead = true
+future_may_go_on future.CancelWrite = true
+future_may_go_on future.DropReadable = false
+future_may_go_on future.DropWritable = false
+
+-- the same of streams
+abbrev pub stream_may_go_on : StreamIntrinsic → Bool
+stream_may_go_on stream.New = false
+stream_may_go_on stream.Read = true
+stream_may_go_on stream.Write = true
+stream_may_go_on stream.Forward = false
+stream_may_go_on stream.CancelRead = true
+stream_may_go_on stream.CancelWrite = true
+stream_may_go_on stream.DropReadable = false
+stream_may_go_on stream.DropWritable = false
+
+-- what is done with a future or a stream has names under the older ones alone
+abbrev pub can_name_value : Graph → ManglingAndAbi → Option WorldKey → Function → Option ℕ → Bool → Bool
+can_name_value g Standard32 interface f ty goes_on = false
+can_name_value g (Legacy abi) interface f ty goes_on = interface_has_name g.interfaces interface && (goes_on && is_of_function g.types f ty)
+
+-- an import that has names
+abbrev pub can_name_import : Graph → ManglingAndAbi → WasmImport → Bool
+can_name_import g mangling (imports.Func interface func) = interface_has_name g.interfaces (option_copied interface)
+can_name_import g mangling (imports.ResourceIntrinsic interface r intrinsic) =
+    interface_has_name g.interfaces (option_copied interface) && (type_has_name g.types r && is_within (option_copied interface) intrinsic)
+can_name_import g mangling (imports.FutureIntrinsic interface func ty intrinsic exported async) =
+    can_name_value g mangling (option_copied interface) func.now ty (not async || future_may_go_on intrinsic)
+can_name_import g mangling (imports.StreamIntrinsic interface func ty intrinsic exported async) =
+    can_name_value g mangling (option_copied interface) func.now ty (not async || stream_may_go_on intrinsic)
+
+-- a callback is there under the older names with callbacks alone
+abbrev pub is_called : ManglingAndAbi → WasmExportKind → Bool
+is_called mangling Normal = true
+is_called mangling PostReturn = true
+is_called Standard32 Callback = false
+is_called (Legacy Sync) Callback = false
+is_called (Legacy AsyncCallback) Callback = true
+is_called (Legacy AsyncStackful) Callback = false
+
+-- an export that has a name
+abbrev pub can_name_export : Graph → ManglingAndAbi → WasmExport → Bool
+can_name_export g mangling (exports.Func interface func kind) = is_called mangling kind && interface_has_name g.interfaces (option_copied interface)
+can_name_export g mangling (exports.ResourceDtor interface r) = key_has_name g.interfaces interface.now && type_has_name g.types r
+can_name_export g mangling exports.Memory = true
+can_name_export g mangling exports.Initialize = true
+can_name_export g mangling exports.Realloc = true

@@ -1,0 +1,173 @@
+//! The names before those of the build targets.
+ghost use Rattle.std.specs.Prelude.{◌≡◌, ◌++◌, IfErr, IfOk, string_bytes};
+ghost use Rattle.std.specs.Option.{option_copied};
+ghost use Rattle.wit_core_names.specs.Names.{export_name, exported_prefix, import_names, legacy_key, legacy_module};
+ghost use Rattle.wit_graph.specs.declared.error_kind.ResolveErrorKind.TheVariants.{OutOfMemory};
+ghost use Rattle.wit_items.specs.Reference.{type_references};
+ghost use Rattle.wit_items.specs.declared.abi.ManglingAndAbi.TheVariants.{Legacy};
+ghost use Rattle.wit_relations.specs.Relation.{IsAcyclic};
+
+use crate::export::{WasmExport, WasmExportKind};
+use crate::import::WasmImport;
+use crate::parts::{
+    async_prefix, export_prefix, exported_prefix, future_word, import_prefix, is_exported,
+    place_text, resource_mark, resource_name, stream_word,
+};
+use std::alloc::Global;
+use wit_graph::{Graph, ResolveResult};
+use wit_items::{LiftLowerAbi, WorldKey};
+
+/// The module of what is imported from an interface, or from nowhere else.
+fn legacy_module(
+    alloc: Global,
+    graph: &Graph,
+    interface: &Option<&WorldKey>,
+) -> ResolveResult<String>
+    ensures text { IfOk result (λ text. string_bytes text ≡ legacy_module graph.now (option_copied interface.now)) }
+    ensures err { IfErr result (λ e. e ≡ OutOfMemory) }
+{
+    match interface {
+        Some(key) => graph.name_world_key(alloc, key),
+        None => Ok(String::from_str(alloc, "$root")?),
+    }
+}
+
+/// The name of an interface's key before `#`, and nothing without an interface.
+fn legacy_key(alloc: Global, graph: &Graph, interface: &Option<&WorldKey>) -> ResolveResult<String>
+    ensures text { IfOk result (λ text. string_bytes text ≡ legacy_key graph.now (option_copied interface.now)) }
+    ensures err { IfErr result (λ e. e ≡ OutOfMemory) }
+{
+    match interface {
+        Some(key) => {
+            let name = graph.name_world_key(alloc, key)?;
+            Ok(format!(in alloc; "{name}#")?)
+        }
+        None => Ok(String::new(alloc)),
+    }
+}
+
+/// The module and the field of an import.
+pub(crate) fn legacy_import(
+    alloc: Global,
+    graph: &Graph,
+    abi: LiftLowerAbi,
+    import: &WasmImport<'_>,
+) -> ResolveResult<(String, String)>
+    requires { IsAcyclic (type_references graph.now.types) }
+    ensures names { IfOk result (λ names. (string_bytes names.0, string_bytes names.1) ≡ import_names graph.now (Legacy abi) import.now) }
+    ensures err { IfErr result (λ e. e ≡ OutOfMemory) }
+{
+    match import {
+        WasmImport::Func { interface, func } => {
+            let module = legacy_module(alloc, graph, interface)?;
+            let (prefix, name) = (import_prefix(abi), &func.name);
+            Ok((module, format!(in alloc; "{prefix}{name}")?))
+        }
+        WasmImport::ResourceIntrinsic {
+            interface,
+            resource,
+            intrinsic,
+        } => {
+            let module = module_of(alloc, graph, interface, is_exported(*intrinsic))?;
+            let (prefix, mark) = (import_prefix(abi), resource_mark(*intrinsic));
+            let name = resource_name(graph, *resource);
+            Ok((module, format!(in alloc; "{prefix}{mark}{name}")?))
+        }
+        WasmImport::FutureIntrinsic {
+            interface,
+            func,
+            ty,
+            intrinsic,
+            exported,
+            async_,
+        } => {
+            let module = module_of(alloc, graph, interface, *exported)?;
+            let place = place_text(alloc, graph, func, *ty)?;
+            let (lowered, word, name) = (
+                async_prefix(*async_),
+                future_word(*intrinsic),
+                &func.name,
+            );
+            Ok((
+                module,
+                format!(in alloc; "{lowered}[future-{word}-{place}]{name}")?,
+            ))
+        }
+        WasmImport::StreamIntrinsic {
+            interface,
+            func,
+            ty,
+            intrinsic,
+            exported,
+            async_,
+        } => {
+            let module = module_of(alloc, graph, interface, *exported)?;
+            let place = place_text(alloc, graph, func, *ty)?;
+            let (lowered, word, name) = (
+                async_prefix(*async_),
+                stream_word(*intrinsic),
+                &func.name,
+            );
+            Ok((
+                module,
+                format!(in alloc; "{lowered}[stream-{word}-{place}]{name}")?,
+            ))
+        }
+    }
+}
+
+/// The module of what may serve an export.
+fn module_of(
+    alloc: Global,
+    graph: &Graph,
+    interface: &Option<&WorldKey>,
+    exported: bool,
+) -> ResolveResult<String>
+    ensures text { IfOk result (λ text. string_bytes text ≡ exported_prefix exported ++ legacy_module graph.now (option_copied interface.now)) }
+    ensures err { IfErr result (λ e. e ≡ OutOfMemory) }
+{
+    let prefix = exported_prefix(exported);
+    let module = legacy_module(alloc, graph, interface)?;
+    Ok(format!(in alloc; "{prefix}{module}")?)
+}
+
+/// The name of an export.
+pub(crate) fn legacy_export(
+    alloc: Global,
+    graph: &Graph,
+    abi: LiftLowerAbi,
+    export: &WasmExport<'_>,
+) -> ResolveResult<String>
+    ensures name { IfOk result (λ name. string_bytes name ≡ export_name graph.now (Legacy abi) export.now) }
+    ensures err { IfErr result (λ e. e ≡ OutOfMemory) }
+{
+    let prefix = export_prefix(abi);
+    match export {
+        WasmExport::Func {
+            interface,
+            func,
+            kind,
+        } => {
+            let key = legacy_key(alloc, graph, interface)?;
+            let name = &func.name;
+            match kind {
+                WasmExportKind::Normal => Ok(format!(in alloc; "{prefix}{key}{name}")?),
+                WasmExportKind::PostReturn => Ok(format!(in alloc;
+                    "{prefix}cabi_post_{key}{name}"
+                )?),
+                WasmExportKind::Callback => Ok(format!(in alloc; "[callback]{prefix}{key}{name}")?),
+            }
+        }
+        WasmExport::ResourceDtor {
+            interface,
+            resource,
+        } => {
+            let key = graph.name_world_key(alloc, interface)?;
+            let name = resource_name(graph, *resource);
+            Ok(format!(in alloc; "{prefix}{key}#[dtor]{name}")?)
+        }
+        WasmExport::Memory => Ok(String::from_str(alloc, "memory")?),
+        WasmExport::Initialize => Ok(String::from_str(alloc, "_initialize")?),
+        WasmExport::Realloc => Ok(String::from_str(alloc, "cabi_realloc")?),
+    }
+}

@@ -1,0 +1,6 @@
+mod Clashing
+mod Examples
+mod GroupSteps
+mod NewLabels
+mod PlacingSteps
+mod SetterSteps

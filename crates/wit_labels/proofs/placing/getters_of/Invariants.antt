@@ -1,0 +1,8 @@
+use Rattle.std.proofs.Common.{◌≡◌, ℕ, map, take}
+use Rattle.wit_items.specs.Entries.{Entry}
+use Rattle.wit_labels.specs.Setters.{awaited, places}
+use Rattle.wit_labels.proofs.placing.getters_of.Given as goal
+
+-- those so far
+abbrev pub invariant-loop-place : goal.invariant-loop-place
+invariant-loop-place l = l.getters ≡ map (λ (p : ℕ × Entry). awaited l.entries.entries p.0 p.1) (take l.place (places l.entries.entries))

@@ -1,0 +1,6 @@
+pub mod Examples
+pub mod Groups
+pub mod Placing
+pub mod Rename
+pub mod Setters
+pub mod Strong

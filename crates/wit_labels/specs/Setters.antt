@@ -1,0 +1,85 @@
+-- Where setters stand in a list of a world: beside their getters.
+-- Source: getters and setters on the WIT page of the component model; `process_world_includes` of wit-parser
+-- 0.263.0. That a setter is told by its label is a rule of this project.
+use Rattle.std.specs.Prelude.{◌≡◌, ℕ, ◌&&◌, Bool, not, false, List, [], ◌∷◌, ◌++◌, map, length, drop, filter, nat_eq, nat_lt, codes, Contains, Option, Some, None, is_some, position, slice_get, if◌then◌else◌}
+use Rattle.std.specs.List.{list_any, flat_map, enumerate_from, starts_with}
+use Rattle.std.specs.Option.{option_and_then, option_eq}
+use Rattle.std.specs.Map.{keys_of}
+use Rattle.std.specs.Str.{bytes_eq}
+use Rattle.wit_items.specs.Entries.{Entry}
+use Rattle.wit_items.specs.declared.world.WorldItem.{WorldItem}
+use Rattle.wit_items.specs.declared.world.WorldItem.TheVariants as item
+use Rattle.wit_items.specs.declared.world.WorldKey.{WorldKey}
+use Rattle.wit_items.specs.declared.world.WorldKey.TheVariants as key
+use Rattle.wit_labels.specs.Groups.{groups_of}
+
+-- the first occurrence of a text, replaced
+abbrev pub replaced_first : List ℕ → List ℕ → List ℕ → List ℕ
+replaced_first old new [] = []
+replaced_first old new (b ∷ bs) = if starts_with nat_eq (b ∷ bs) old then new ++ drop (length old) (b ∷ bs) else b ∷ replaced_first old new bs
+
+-- the label begins with a group `[set]`, and with none `[get]`
+abbrev pub is_setter_label : List ℕ → Bool
+is_setter_label label = list_any (bytes_eq (codes "[set]")) (groups_of label) && not (list_any (bytes_eq (codes "[get]")) (groups_of label))
+
+-- the label of a setter's getter: `[get]` for the first `[set]`
+abbrev pub getter_label : List ℕ → List ℕ
+getter_label label = replaced_first (codes "[set]") (codes "[get]") label
+
+-- is the entry a function?
+abbrev pub is_function : WorldItem → Bool
+is_function (item.Interface id stability docs span external_id) = false
+is_function (item.Function function) = Bool.true
+is_function (item.Type_ id span) = false
+
+-- the label of the getter that an entry asks for, where the entry is a setter
+abbrev pub wanted_getter : WorldKey → WorldItem → Option (List ℕ)
+wanted_getter (key.Name label) (item.Function function) = if is_setter_label label then Some (getter_label label) else None
+wanted_getter k held = None
+
+-- ---- setters without a getter
+
+-- the entry is a setter under this label
+abbrev pub IsSetter : List ℕ → Entry → Type 0
+IsSetter label e = (e.0 ≡ key.Name label) × (is_function e.1 && is_setter_label label ≡ Bool.true)
+
+-- each setter's getter, or whatever has its label, is in the same list
+abbrev pub HaveGetters : List Entry → Type 0
+HaveGetters entries = (e : Entry) (label : List ℕ) → Contains entries e → IsSetter label e → Contains (keys_of entries) (key.Name (getter_label label))
+
+-- the entry at this place is a setter without a getter
+pub record LacksGetterAt (entries : List Entry) (place : ℕ) : Type 0 where
+  pub label : List ℕ
+  pub entry : Entry
+  pub at : slice_get entries place ≡ Some entry
+  pub setter : IsSetter label entry
+  pub absent : Contains (keys_of entries) (key.Name (getter_label label)) → ⊥
+
+-- ---- where setters stand
+
+-- is the key this label?
+abbrev pub is_under : List ℕ → WorldKey → Bool
+is_under label (key.Name name) = bytes_eq label name
+is_under label (key.Interface i) = false
+
+-- the entries with their places
+abbrev pub places : List Entry → List (ℕ × Entry)
+places entries = enumerate_from 0 entries
+
+-- the place that was found, where it is after place i
+abbrev pub after : ℕ → Option ℕ → Option ℕ
+after i None = None
+after i (Some g) = if nat_lt i g then Some g else None
+
+-- the place of the getter that the entry at place i waits for: the one that it asks for, where that stands
+-- further on
+abbrev pub awaited : List Entry → ℕ → Entry → Option ℕ
+awaited entries i e = after i (option_and_then (λ (label : List ℕ). position (is_under label) (keys_of entries)) (wanted_getter e.0 e.1))
+
+-- the entries that wait for the one at place g
+abbrev pub waiting : List Entry → ℕ → List Entry
+waiting entries g = map (λ (s : ℕ × Entry). s.1) (filter (λ (s : ℕ × Entry). option_eq nat_eq (awaited entries s.0 s.1) (Some g)) (places entries))
+
+-- the list with each setter that stands before its getter moved to just after it; nothing else moves
+abbrev pub placed : List Entry → List Entry
+placed entries = flat_map (λ (p : ℕ × Entry). (if is_some (awaited entries p.0 p.1) then [] else p.1 ∷ []) ++ waiting entries p.0) (places entries)

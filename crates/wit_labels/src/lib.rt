@@ -1,0 +1,16 @@
+//! Labels of worlds: the groups in brackets with which they begin, how an `include` renames them, which
+//! are too alike to stand beside each other, and where setters stand.
+#![tactic(auto)]
+
+pub mod groups;
+pub mod laws;
+mod placing;
+pub mod renaming;
+pub mod setters;
+pub mod strong;
+
+pub use crate::groups::{has_group, rest_of, split_group};
+pub use crate::placing::place_setters;
+pub use crate::renaming::{rename, rename_first};
+pub use crate::setters::{find_setter_without_getter, getter_label, is_setter_label};
+pub use crate::strong::{Clash, find_clash, strong_key};

@@ -1,0 +1,197 @@
+//! Setters that stand before their getters are moved to just after them.
+ghost use Rattle.std.specs.Prelude.{◌≡◌, ℕ, ◌<◌, ◌++◌, ◌∷◌, [], IfOk, None, OnOk, Some, is_some, length, map, slice_get, slice_index_or, slice_set, if◌then◌else◌};
+ghost use Rattle.std.specs.List.{IsDistinct, range_with_len};
+ghost use Rattle.std.specs.Map.{keys_of};
+ghost use Rattle.wit_items.specs.Entries.{Entry};
+ghost use Rattle.wit_items.specs.contracts.world.WorldKeyPartialEq.TheImpl.{eq-value};
+ghost use Rattle.wit_labels.specs.Placing.{getters_of, placed_order, waiters};
+ghost use Rattle.wit_labels.specs.Setters.{after, awaited, placed};
+
+use crate::setters::wanted_getter;
+use indexmap::IndexMap;
+use std::alloc::{AllocError, Global};
+use wit_items::{Items, Table, WorldItem, WorldKey};
+use wit_relations::in_order;
+
+/// The entries, with each setter that stands before its getter moved to just after it. Nothing else
+/// moves; setters of one getter keep their order.
+pub fn place_setters(
+    alloc: Global,
+    entries: Table<WorldKey, WorldItem>,
+) -> Result<Table<WorldKey, WorldItem>, AllocError>
+    ensures { IfOk result (λ new. new ≡ placed entries) }
+{
+    let _count = entries.len();
+    let map = entries.into_map();
+    let getters = getters_of(alloc, &map)?;
+    let order = placed_order(alloc, &getters)?;
+    let items = in_order(alloc, items_of(alloc, map)?, order.as_slice())?;
+    table_of(alloc, items)
+}
+
+/// For each entry the place of the getter that it waits for.
+fn getters_of(
+    alloc: Global,
+    entries: &IndexMap<WorldKey, WorldItem>,
+) -> Result<Items<Option<usize>>, AllocError>
+    ensures { IfOk result (λ getters. getters ≡ getters_of entries.now.entries) }
+{
+    let mut getters = Items::new(alloc);
+    for place in 0..entries.len() {
+        getters.push(awaited(alloc, entries, place)?)?;
+    }
+    Ok(getters)
+}
+
+/// The entry at a place.
+fn entry_at(entries: &IndexMap<WorldKey, WorldItem>, place: usize) -> (&WorldKey, &WorldItem)
+    requires { place < length entries.now.entries }
+    ensures { slice_get entries.now.entries place ≡ Some (result.0.now, result.1.now) }
+{
+    match entries.get_index(place) {
+        Some(entry) => entry,
+        None => unreachable!(),
+    }
+}
+
+/// The place of the getter that the entry at a place waits for.
+fn awaited(
+    alloc: Global,
+    entries: &IndexMap<WorldKey, WorldItem>,
+    place: usize,
+) -> Result<Option<usize>, AllocError>
+    requires { place < length entries.now.entries }
+    ensures { IfOk result (λ getter. (e : Entry) → slice_get entries.now.entries place ≡ Some e → getter ≡ awaited entries.now.entries place e) }
+{
+    let (key, item) = entry_at(entries, place);
+    match wanted_getter(alloc, key, item)? {
+        Some(label) => Ok(after(place, entries.get_index_of(&WorldKey::Name(label)))),
+        None => Ok(None),
+    }
+}
+
+/// The place that was found, where it is after another.
+fn after(place: usize, found: Option<usize>) -> Option<usize>
+    ensures { result ≡ after place found }
+{
+    match found {
+        Some(getter) => { if place < getter { Some(getter) } else { None } }
+        None => None,
+    }
+}
+
+/// The places with each setter after its getter.
+fn placed_order(alloc: Global, getters: &Items<Option<usize>>) -> Result<Items<usize>, AllocError>
+    requires { (s g : ℕ) → slice_get getters.now s ≡ Some (Some g) → g < length getters.now }
+    ensures { IfOk result (λ order. order ≡ placed_order getters.now) }
+{
+    let mut rows = waiting_rows(alloc, getters)?;
+    let mut order = Items::new(alloc);
+    for place in 0..getters.len() {
+        push_unless_waiting(&mut order, *getters.at(place), place)?;
+        order.append(rows.replace(place, Items::new(alloc)))?;
+    }
+    Ok(order)
+}
+
+/// Adds a place that waits for none.
+fn push_unless_waiting(
+    order: &mut Items<usize>,
+    getter: Option<usize>,
+    place: usize,
+) -> Result<(), AllocError>
+    ensures { OnOk result (order.new ≡ order.old ++ (if is_some getter then [] else place ∷ [])) }
+{
+    match getter {
+        Some(_) => Ok(()),
+        None => order.push(place),
+    }
+}
+
+/// For each place those that wait for it.
+fn waiting_rows(
+    alloc: Global,
+    getters: &Items<Option<usize>>,
+) -> Result<Items<Items<usize>>, AllocError>
+    requires { (s g : ℕ) → slice_get getters.now s ≡ Some (Some g) → g < length getters.now }
+    ensures { IfOk result (λ rows. rows ≡ map (waiters getters.now (length getters.now)) (range_with_len 0 (length getters.now))) }
+{
+    let mut rows = empty_rows(alloc, getters.len())?;
+    for place in 0..getters.len() {
+        add_waiter(alloc, &mut rows, *getters.at(place), place)?;
+    }
+    Ok(rows)
+}
+
+/// Adds a place to the row of the getter that it waits for.
+fn add_waiter(
+    alloc: Global,
+    rows: &mut Items<Items<usize>>,
+    getter: Option<usize>,
+    place: usize,
+) -> Result<(), AllocError>
+    requires { (g : ℕ) → getter ≡ Some g → g < length rows.old }
+    ensures waits { OnOk result ((g : ℕ) → getter ≡ Some g → rows.new ≡ slice_set rows.old g (slice_index_or rows.old g [] ++ place ∷ [])) }
+    ensures none { getter ≡ None → rows.new ≡ rows.old }
+{
+    match getter {
+        Some(index) => add_to_row(alloc, rows, index, place),
+        None => Ok(()),
+    }
+}
+
+/// Adds a place to the end of a row.
+fn add_to_row(
+    alloc: Global,
+    rows: &mut Items<Items<usize>>,
+    index: usize,
+    place: usize,
+) -> Result<(), AllocError>
+    requires { index < length rows.old }
+    ensures { OnOk result (rows.new ≡ slice_set rows.old index (slice_index_or rows.old index [] ++ place ∷ [])) }
+{
+    let mut row = rows.replace(index, Items::new(alloc));
+    row.push(place)?;
+    rows.set(index, row);
+    Ok(())
+}
+
+/// So many rows of nothing.
+fn empty_rows(alloc: Global, count: usize) -> Result<Items<Items<usize>>, AllocError>
+    ensures { IfOk result (λ rows. rows ≡ map (λ _. []) (range_with_len 0 count)) }
+{
+    let mut rows = Items::new(alloc);
+    for index in 0..count {
+        rows.push(Items::new(alloc))?;
+    }
+    Ok(rows)
+}
+
+/// The entries as a list.
+fn items_of(
+    alloc: Global,
+    entries: IndexMap<WorldKey, WorldItem>,
+) -> Result<Items<(WorldKey, WorldItem)>, AllocError>
+    ensures { IfOk result (λ items. items ≡ entries.entries) }
+{
+    let mut items = Items::new(alloc);
+    for (key, item) in entries {
+        items.push((key, item))?;
+    }
+    Ok(items)
+}
+
+/// The table of these entries, whose keys differ.
+fn table_of(
+    alloc: Global,
+    items: Items<(WorldKey, WorldItem)>,
+) -> Result<Table<WorldKey, WorldItem>, AllocError>
+    requires { IsDistinct eq-value.it (keys_of items) }
+    ensures { IfOk result (λ table. table ≡ items) }
+{
+    let mut table = Table::new(alloc);
+    for (key, item) in items.into_vec() {
+        table.push(key, item)?;
+    }
+    Ok(table)
+}

@@ -1,0 +1,101 @@
+//! Which labels of a world are too alike to stand beside each other.
+ghost use Rattle.std.specs.Prelude.{◌≡◌, IfOk, IfSome, IfNone, MatchOption};
+ghost use Rattle.std.specs.Map.{keys_of};
+ghost use Rattle.wit_labels.specs.Strong.{AreStronglyUnique, Clashes, class_named, class_of, strong_key};
+
+use crate::groups::{rest_of, split_group};
+use std::alloc::{AllocError, Global};
+use wit_items::{Table, Text, WorldItem, WorldKey};
+
+/// What tells a label apart from another with the same words.
+#[derive(Clone, Copy, PartialEq, Eq, Hash)]
+pub enum Class {
+    Constructor,
+    Getter,
+    Setter,
+}
+
+/// What tells labels apart: labels with equal keys are too alike.
+#[derive(PartialEq, Eq, Hash, Drop)]
+pub struct StrongKey {
+    pub class: Option<Class>,
+    /// What follows the groups, in lower case.
+    pub name: Text,
+}
+
+/// Two labels of one list with equal keys.
+#[derive(Clone, Copy)]
+pub struct Clash<'a> {
+    pub label: &'a str,
+    /// The one that stands earlier.
+    pub earlier: &'a str,
+}
+
+/// The key of a label.
+pub fn strong_key(alloc: Global, label: &str) -> Result<StrongKey, AllocError>
+    ensures { IfOk result (λ key. key ≡ strong_key label.now) }
+{
+    let name = rest_of(label).to_ascii_lowercase(alloc)?;
+    Ok(StrongKey {
+        class: class_of(label),
+        name: Text::from_string(name),
+    })
+}
+
+/// The class of a label: the first that one of its groups tells.
+fn class_of(label: &str) -> Option<Class>
+    ensures { result ≡ class_of label.now }
+{
+    let mut rest = label;
+    while let Some((group, after)) = split_group(rest) {
+        let class = class_named(group);
+        if class.is_some() {
+            return class;
+        }
+        rest = after;
+    }
+    None
+}
+
+/// The class that a group tells.
+fn class_named(group: &str) -> Option<Class>
+    ensures { result ≡ class_named group.now }
+{
+    if group == "[constructor]" {
+        Some(Class::Constructor)
+    } else if group == "[get]" {
+        Some(Class::Getter)
+    } else if group == "[set]" {
+        Some(Class::Setter)
+    } else {
+        None
+    }
+}
+
+/// The first label that clashes with an earlier one of the same list, or None where no two clash.
+pub fn find_clash<'a>(
+    alloc: Global,
+    entries: &'a Table<WorldKey, WorldItem>,
+) -> Result<Option<Clash<'a>>, AllocError>
+    ensures some { IfOk result (λ found. IfSome found (λ c. Clashes (keys_of entries.now) c.label.now c.earlier.now)) }
+    ensures none { IfOk result (λ found. IfNone found (AreStronglyUnique (keys_of entries.now))) }
+{
+    let mut met = Table::new(alloc);
+    for place in 0..entries.len() {
+        match entries.entry_at(place).0 {
+            WorldKey::Name(label) => {
+                let label = label.as_str();
+                let key = strong_key(alloc, label)?;
+                if let Some(earlier) = met.get(&key) {
+                    return Ok(Some(Clash {
+                        label,
+                        earlier: *earlier,
+                    }));
+                }
+                met.push(key, label)?;
+            }
+            WorldKey::Interface(_) => {}
+        }
+    }
+    Ok(None)
+}

@@ -1,0 +1,5 @@
+pub mod FixedParts
+pub mod HeldRows
+pub mod PackageRows
+pub mod Tracks
+pub mod Unfolds

@@ -1,0 +1,17 @@
+use Rattle.std.proofs.Common.{◌∙◌, List, ℕ, ap, sym, subst, Contains}
+use Rattle.wit_relations.specs.Walks.{Listed}
+use Rattle.wit_questions.specs.Unfolding.{KeepsOthers}
+use Rattle.wit_questions.proofs.Unfolds.{KeepsOthers-marked, KeepsOthers-none}
+use Rattle.wit_questions.proofs.futures.mark.Goals as goal
+
+pub returns-in_ok-push-clause-others : goal.returns-in_ok-push-clause-others
+returns-in_ok-push-clause-others c =
+    subst (λ (new : List ℕ). KeepsOthers c.args.types.now c.args.held.now c.args.marked.now.order new c.args.place)
+    (sym (ap (λ (l : Listed). l.order) c.in_ok-push.ensures.ok))
+    (KeepsOthers-marked c.args.types.now c.args.held.now c.requires.acyclic c.args.marked.now.order c.args.place)
+
+pub returns-else-has_any-clause-others : goal.returns-else-has_any-clause-others
+returns-else-has_any-clause-others c =
+    KeepsOthers-none c.args.types.now c.args.held.now c.requires.acyclic c.args.marked.now.order c.args.place c.requires.in_range
+    (sym c.is_future.ensures ∙ c.if-is_future.false)
+    (λ u edge. c.has_any.ensures c.if-has_any.false u (subst (λ (us : List ℕ). Contains us u) (sym c.direct_uses.ensures) edge))

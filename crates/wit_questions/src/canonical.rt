@@ -1,0 +1,120 @@
+//! Canonical names: with the text of the track in the place of the version.
+ghost use Rattle.std.specs.Prelude.{◌≡◌, IfErr, IfOk, Some, string_bytes};
+ghost use Rattle.std.specs.Option.{option_map};
+ghost use Rattle.wit_graph.specs.Questions.{canonical_id_text, canonical_id_text_in, canonical_interface_id_at, canonical_key_text, track_part};
+ghost use Rattle.wit_graph.specs.declared.error_kind.ResolveErrorKind.TheVariants.{OutOfMemory};
+ghost use Rattle.wit_items.specs.Track.{track_text};
+
+use std::alloc::{AllocError, Global};
+use std::fmt;
+use wit_graph::{Graph, ResolveResult};
+use wit_items::{InterfaceId, PackageId, PackageName, Version, WorldKey};
+
+/// The canonical id text of an interface or a world of this name in a package:
+/// `namespace:package/name`, and `@track` where the package has a version. Empty where the package
+/// isn't there.
+pub fn canonicalized_id_of_name(
+    alloc: Global,
+    graph: &Graph,
+    package: PackageId,
+    name: &str,
+) -> ResolveResult<String>
+    ensures text { IfOk result (λ text. string_bytes text ≡ canonical_id_text graph.now.packages «package» name.now) }
+    ensures err { IfErr result (λ e. e ≡ OutOfMemory) }
+{
+    match graph.packages.get(package.index()) {
+        Some(package) => Ok(canonical_id_in(alloc, &package.name, name)?),
+        None => Ok(String::new(alloc)),
+    }
+}
+
+/// The canonical id text of an interface, None where it has no name or no package, or isn't there.
+pub fn canonicalized_id_of(
+    alloc: Global,
+    graph: &Graph,
+    id: InterfaceId,
+) -> ResolveResult<Option<String>>
+    ensures text { IfOk result (λ text. option_map string_bytes text ≡ canonical_interface_id_at graph.now.packages graph.now.interfaces id) }
+    ensures err { IfErr result (λ e. e ≡ OutOfMemory) }
+{
+    let Some(interface) = graph.interfaces.get(id.index()) else {
+        return Ok(None);
+    };
+    let Some(name) = &interface.name else {
+        return Ok(None);
+    };
+    let Some(package) = interface.package else {
+        return Ok(None);
+    };
+    Ok(Some(canonicalized_id_of_name(alloc, graph, package, name.as_str())?))
+}
+
+/// What names a key of a world: a label as it stands, an interface by its canonical id text, which is
+/// empty where the interface has none.
+pub fn name_canonicalized_world_key(
+    alloc: Global,
+    graph: &Graph,
+    key: &WorldKey,
+) -> ResolveResult<String>
+    ensures text { IfOk result (λ text. string_bytes text ≡ canonical_key_text graph.now.packages graph.now.interfaces key.now) }
+    ensures err { IfErr result (λ e. e ≡ OutOfMemory) }
+{
+    match key {
+        WorldKey::Name(label) => Ok(String::from_str(alloc, label.as_str())?),
+        WorldKey::Interface(id) => match canonicalized_id_of(alloc, graph, *id)? {
+            Some(text) => Ok(text),
+            None => Ok(String::new(alloc)),
+        },
+    }
+}
+
+/// `namespace:package/name`, and `@track` where the package has a version.
+fn canonical_id_in(alloc: Global, package: &PackageName, name: &str) -> Result<String, AllocError>
+    ensures { IfOk result (λ text. string_bytes text ≡ canonical_id_text_in «package».now name.now) }
+{
+    let namespace = &package.namespace;
+    let package_name = &package.name;
+    let track = TrackPart(&package.version);
+    format!(in alloc; "{namespace}:{package_name}/{name}{track}")
+}
+
+/// `@` and the text of the track, where there is a version.
+#[derive(Drop)]
+struct TrackPart<'a>(&'a Option<Version>);
+
+impl<'a> fmt::Display for TrackPart<'a> {
+    ghost output = { λ s. Some (track_part s.0.now) };
+
+    fn fmt<W: fmt::Write>(&self, f: &mut fmt::Formatter<W>) -> fmt::Result {
+        match self.0 {
+            Some(version) => {
+                let track = Track(version);
+                write!(f, "@{track}")
+            }
+            None => Ok(()),
+        }
+    }
+}
+
+/// The text of a version's track.
+#[derive(Drop)]
+struct Track<'a>(&'a Version);
+
+impl<'a> fmt::Display for Track<'a> {
+    ghost output = { λ s. Some (track_text s.0.now) };
+
+    fn fmt<W: fmt::Write>(&self, f: &mut fmt::Formatter<W>) -> fmt::Result {
+        let (major, minor, patch) = (self.0.major(), self.0.minor(), self.0.patch());
+        let pre = self.0.pre();
+        if !pre.is_empty() {
+            return write!(f, "{major}.{minor}.{patch}-{pre}");
+        }
+        if major != 0 {
+            return write!(f, "{major}");
+        }
+        if minor != 0 {
+            return write!(f, "0.{minor}");
+        }
+        write!(f, "0.0.{patch}")
+    }
+}

@@ -1,0 +1,38 @@
+//! What is asked of the entries of a world.
+ghost use Rattle.std.specs.Prelude.{◌≡◌};
+ghost use Rattle.std.specs.Option.{option_map};
+ghost use Rattle.wit_graph.specs.Questions.{external_id_value, implements_interface, named_interface};
+
+use wit_graph::Graph;
+use wit_items::{InterfaceId, Text, WorldItem, WorldKey};
+
+/// The interface with a name that stands under a label.
+pub fn implements_interface(graph: &Graph, key: &WorldKey, item: &WorldItem) -> Option<InterfaceId>
+    ensures { result ≡ implements_interface graph.now.interfaces key.now item.now }
+{
+    match (key, item) {
+        (WorldKey::Name(_), WorldItem::Interface { id, .. }) => named_interface(graph, *id),
+        _ => None,
+    }
+}
+
+/// An interface, where it has a name.
+pub fn named_interface(graph: &Graph, id: InterfaceId) -> Option<InterfaceId>
+    ensures { result ≡ named_interface graph.now.interfaces id }
+{
+    match &graph.interfaces.get(id.index())?.name {
+        Some(_) => Some(id),
+        None => None,
+    }
+}
+
+/// The external id of an entry, to look at: its own, or that of its function or type.
+pub fn external_id_of<'a>(graph: &'a Graph, item: &'a WorldItem) -> Option<&'a Text>
+    ensures { option_map (λ id. id.now) result ≡ external_id_value graph.now.types item.now }
+{
+    match item {
+        WorldItem::Interface { external_id, .. } => external_id.as_ref(),
+        WorldItem::Function(function) => function.external_id.as_ref(),
+        WorldItem::Type_ { id, .. } => graph.types.get(id.index())?.external_id.as_ref(),
+    }
+}

@@ -1,0 +1,23 @@
+//! What is asked of a graph of WIT packages: dependencies, canonical names, what values hold, and the
+//! futures and streams of a function.
+#![tactic(auto)]
+
+pub mod canonical;
+pub mod entries;
+pub mod futures;
+pub mod held;
+pub mod interface_deps;
+mod next;
+pub mod package_deps;
+mod world_deps;
+
+pub use crate::canonical::{
+    canonicalized_id_of, canonicalized_id_of_name, name_canonicalized_world_key,
+};
+pub use crate::entries::{external_id_of, implements_interface, named_interface};
+pub use crate::futures::find_futures_and_streams;
+pub use crate::held::{all_bits_valid, held_rows};
+pub use crate::interface_deps::{InterfaceDirectDeps, interface_direct_deps};
+pub use crate::package_deps::{
+    PackageDirectDeps, package_direct_deps, package_uses, topological_packages,
+};

@@ -1,0 +1,48 @@
+-- What the elaboration of a world, or its refusal, says of the world.
+use Rattle.std.proofs.Common.{◌≡◌, ◌∙◌, ℕ, Bool, Option, Some, Ok, Err, Result, slice_get, ap, sym, subst}
+use Rattle.std.specs.Prelude.{◌↔◌, IfOk, IsTrue}
+use Rattle.wit_items.specs.declared.world.World.{World}
+use Rattle.wit_graph.specs.Elaborated.{Elaborated, elaborated_exports, elaborated_imports}
+use Rattle.wit_graph.specs.Elaboration.{AreElaborated, IsConflictError, graph_uses}
+use Rattle.wit_graph.specs.Imported.{HasConflict}
+use Rattle.wit_graph.specs.declared.entries.Lists.{Lists}
+use Rattle.wit_graph.specs.declared.error_kind.ResolveErrorKind.{ResolveErrorKind}
+use Rattle.wit_graph.specs.declared.error_kind.ResolveErrorKind.TheVariants.{PackageNotFound, WorldNotFound, InterfaceNotFound, InvalidTransitiveDependency, DuplicatePackage, PackageCycle, ItemShadowing, StabilityMismatch, Semantic, OffsetOverflow, OutOfMemory}
+use Rattle.wit_graph.specs.declared.graph.Graph.{Graph}
+
+-- a weaker fact of an answer
+pub IfOk-weaker : {T E : Type 0} {P Q : T → Type 0} (r : Result T E) → ((x : T) → P x → Q x) → IfOk r P → IfOk r Q
+IfOk-weaker (Ok x) weaker holds = weaker x holds
+IfOk-weaker (Err e) weaker holds = tt
+
+-- a world is its own elaboration exactly if the elaborated lists are its lists
+pub elaborated_is : (g : Graph) (id : ℕ) (world : World) (lists : Lists) (b : Bool) → slice_get g.worlds id ≡ Some world → AreElaborated g id lists
+    → IsTrue b ↔ ((lists.imports ≡ world.imports) × (lists.exports ≡ world.exports)) → IsTrue b ↔ Elaborated g.types (graph_uses g) world world
+elaborated_is g id world lists b at is test =
+    let both : Some is.0 ≡ Some world = sym is.1 ∙ at in
+    let same : is.0 ≡ world = cc in
+    let no_conflict : HasConflict (graph_uses g) world.exports → ⊥ = subst (λ (x : World). HasConflict (graph_uses g) x.exports → ⊥) same is.2 in
+    let imports : lists.imports ≡ elaborated_imports g.types (graph_uses g) world.imports world.exports =
+    is.3 ∙ ap (λ (x : World). elaborated_imports g.types (graph_uses g) x.imports x.exports) same in
+    let exports : lists.exports ≡ elaborated_exports g.types (graph_uses g) world.exports = is.4 ∙ ap (λ (x : World). elaborated_exports g.types (graph_uses g) x.exports) same in (
+      λ passed.
+          let mine = test.0 passed in
+          let first : world.imports ≡ elaborated_imports g.types (graph_uses g) world.imports world.exports = sym mine.0 ∙ imports in
+          let second : world.exports ≡ elaborated_exports g.types (graph_uses g) world.exports = sym mine.1 ∙ exports in
+          record { no_conflict = no_conflict; world_is = λ k. record world { imports = first k; exports = second k } },
+      λ canonical. test.1 (imports ∙ sym (ap (λ (x : World). x.imports) canonical.world_is), exports ∙ sym (ap (λ (x : World). x.exports) canonical.world_is)),
+    )
+
+-- where there was memory, a refusal says that there is a conflict
+pub conflict_is : (g : Graph) (world : World) (kind : ResolveErrorKind) → IsConflictError g world kind → (kind ≡ OutOfMemory → ⊥) → HasConflict (graph_uses g) world.exports
+conflict_is g world (InvalidTransitiveDependency span name) cause memory = cause.0
+conflict_is g world OutOfMemory cause memory = absurd (memory (λ k. OutOfMemory))
+conflict_is g world (PackageNotFound span requested known) cause memory = absurd cause
+conflict_is g world (WorldNotFound span requested home) cause memory = absurd cause
+conflict_is g world (InterfaceNotFound span requested home) cause memory = absurd cause
+conflict_is g world (DuplicatePackage name span1 span2) cause memory = absurd cause
+conflict_is g world (PackageCycle span home) cause memory = absurd cause
+conflict_is g world (ItemShadowing span item_type name) cause memory = absurd cause
+conflict_is g world (StabilityMismatch span from into) cause memory = absurd cause
+conflict_is g world (Semantic span message c) cause memory = absurd cause
+conflict_is g world OffsetOverflow cause memory = absurd cause
