@@ -3,7 +3,7 @@ use Rattle.std.proofs.Common.{◌≡◌, ◌⊎◌, ◌∙◌, ℕ, zero, suc, f
 use Rattle.std.proofs.lemmas.Bool.{false≢true}
 use Rattle.std.specs.Prelude.{codes}
 use Rattle.wit_items.specs.Entries.{Entry}
-use Rattle.wit_items.specs.Span.{end_of}
+use Rattle.wit_sources.specs.Span.{end_of}
 use Rattle.wit_items.specs.Stability.{IsStable}
 use Rattle.wit_items.specs.declared.function.Function.{Function}
 use Rattle.wit_items.specs.declared.interface.Interface.{Interface}
@@ -27,10 +27,10 @@ use Rattle.wit_link.specs.Cause.{AType, AnInterface, AWorld, IsActiveFunction, I
 use Rattle.wit_link.specs.Cause as reason
 use Rattle.wit_link.specs.CauseExamples.{loose_interface, loose_world}
 use Rattle.wit_link.specs.Examples.{no_features}
-use Rattle.wit_link.specs.Gates.{HasEntry, HasNote, IsAsked, Place, type_is_active}
-use Rattle.wit_link.specs.Gates as asked
+use Rattle.wit_adding.specs.Gates.{HasEntry, HasNote, IsAsked, Place, type_is_active}
+use Rattle.wit_adding.specs.Gates as asked
 use Rattle.wit_link.specs.PushExamples.{first_package}
-use Rattle.wit_link.specs.Spans.{package_spans}
+use Rattle.wit_adding.specs.Spans.{package_spans}
 
 -- ---- what the package has
 

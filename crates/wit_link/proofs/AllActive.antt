@@ -17,7 +17,7 @@ use Rattle.wit_items.specs.declared.world.WorldItem.TheVariants as item
 use Rattle.wit_items.specs.declared.world.WorldKey.{WorldKey}
 use Rattle.wit_items.specs.declared.world.WorldKey.TheVariants as key
 use Rattle.wit_graph.specs.declared.features.Features.{Features}
-use Rattle.wit_link.specs.Gates.{function_is_active, include_is_active, interface_is_active, is_active, is_foreign_interface, is_foreign_world, item_is_active, type_is_active, world_is_active}
+use Rattle.wit_adding.specs.Gates.{function_is_active, include_is_active, interface_is_active, is_active, is_foreign_interface, is_foreign_world, item_is_active, type_is_active, world_is_active}
 use Rattle.wit_link.specs.Pushed.{active_entries, active_includes, active_interfaces, active_part, active_worlds}
 use Rattle.wit_link.specs.Supported.{IsSupported, IsSupportedImport, IsSupportedInterface, IsSupportedWorld}
 use Rattle.wit_link.proofs.PushedLists.{at-enumerate, at_or_none, filter-each}

@@ -9,7 +9,7 @@ use Rattle.std.specs.declared.cmp.Ordering.TheVariants.{Greater, Less}
 use Rattle.wit_values.specs.Version.{Parts, version_cmp}
 use Rattle.wit_relations.specs.Relation.{IsPath}
 use Rattle.wit_items.specs.Foreign.{ForeignItem}
-use Rattle.wit_items.specs.Span.{end_of}
+use Rattle.wit_sources.specs.Span.{end_of}
 use Rattle.wit_items.specs.declared.function.Function.{Function}
 use Rattle.wit_items.specs.declared.unresolved.AstItem.{AstItem}
 use Rattle.wit_items.specs.declared.unresolved.AstItem.TheVariants as named
@@ -29,8 +29,8 @@ use Rattle.wit_link.specs.Cause.{AnInterface, IsActiveFunction, IsBorrow, IsCaus
 use Rattle.wit_link.specs.Cause as reason
 use Rattle.wit_link.specs.CauseExamples.{ExamplesOfCauses, bare, gated, gated_owner, loose_interface, name_of, naming, returning}
 use Rattle.wit_link.specs.Examples.{feature_f, gate_f, no_features}
-use Rattle.wit_link.specs.Gates.{IsAsked, Place, interface_is_active}
-use Rattle.wit_link.specs.Gates as asked
+use Rattle.wit_adding.specs.Gates.{IsAsked, Place, interface_is_active}
+use Rattle.wit_adding.specs.Gates as asked
 
 none_in : {X : Type 0} (x : X) → Contains [] x → ⊥
 none_in x inside = absurd (omega (arith, inside.1))

@@ -19,10 +19,10 @@ use Rattle.wit_link.proofs.EntryImages.{interface_image, some_same}
 use Rattle.wit_link.proofs.Listed.{differ, none_in, only_one}
 use Rattle.wit_link.specs.Cause.{IsAtWorld, IsInConflictIn, lists_of}
 use Rattle.wit_link.specs.Examples.{no_features}
-use Rattle.wit_link.specs.Gates.{Place}
+use Rattle.wit_adding.specs.Gates.{Place}
 use Rattle.wit_link.specs.Image.{IsEntryImage, IsWorldImage, Maps}
 use Rattle.wit_link.specs.Include.{Copies, Lists}
-use Rattle.wit_link.specs.Labels.{placed}
+use Rattle.wit_labels.specs.Setters.{placed}
 use Rattle.wit_link.specs.Pushed.{AreIncluded, AreMaps, HasInterface, active_entries, active_includes, active_worlds}
 use Rattle.wit_link.specs.WorldCauseExamples.{exporting, three}
 use Rattle.wit_link.specs.WorldNearMisses.{closed_package}

@@ -1,6 +1,7 @@
 -- A graph without cycles has none when a supported package is added.
 use Rattle.std.proofs.Common.{◌≡◌, ◌∙◌, ℕ, ◌<◌, zero, suc, List, [], ◌∷◌, ◌++◌, map, length, Some, slice_get, sym, subst}
 use Rattle.std.specs.List.{AllZip}
+use Rattle.wit_relations.specs.EarlierFacts.{IsAcyclic-earlier}
 use Rattle.wit_relations.specs.Relation.{IsAcyclic}
 use Rattle.wit_items.specs.Each.{Each, EachAt}
 use Rattle.wit_items.specs.Reference.{type_references}
@@ -18,7 +19,7 @@ use Rattle.wit_link.specs.Added.{Added, added_package, next_places, placed_inter
 use Rattle.wit_link.specs.Supported.{IsSupported}
 use Rattle.wit_link.proofs.AddedRow.{NamesAdded, needs_none}
 use Rattle.wit_link.proofs.AddedWorlds.{worlds_added}
-use Rattle.wit_link.proofs.JoinedRows.{IsAcyclic-earlier, IsAcyclic-joined}
+use Rattle.wit_link.proofs.JoinedRows.{IsAcyclic-joined}
 use Rattle.wit_link.proofs.PackagesStay.{rows_stay}
 use Rattle.wit_link.proofs.TypesStay.{types_acyclic-of_added}
 use Rattle.wit_link.proofs.UsesStay.{uses_acyclic-of_added}

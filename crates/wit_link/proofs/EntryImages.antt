@@ -9,7 +9,7 @@ use Rattle.wit_items.specs.declared.world.WorldItem.TheVariants as item
 use Rattle.wit_items.specs.declared.world.WorldKey.{WorldKey}
 use Rattle.wit_items.specs.declared.world.WorldKey.TheVariants as key
 use Rattle.wit_graph.specs.Samples.{no_docs}
-use Rattle.wit_link.specs.Examples.{function_entry}
+use Rattle.wit_labels.specs.Examples.{function_entry}
 use Rattle.wit_link.specs.Image.{IsEntryImage, Maps}
 
 pub some_same : {X : Type 0} (a b : X) → Some a ≡ Some b → a ≡ b

@@ -22,8 +22,8 @@ use Rattle.wit_items.specs.declared.world.WorldItem.{WorldItem}
 use Rattle.wit_items.specs.declared.world.WorldItem.TheVariants as item
 use Rattle.wit_link.specs.Cause.{PassesTheEnd}
 use Rattle.wit_link.specs.Fits.{EntriesFit, Fits, FunctionFits, InterfaceFits, ItemFits, KindFits, PackageFits, TypeFits, WorldFits}
-use Rattle.wit_link.specs.Gates.{Place}
-use Rattle.wit_link.specs.Spans.{function_spans, interface_spans, item_spans, kind_spans, package_spans, type_spans, world_spans}
+use Rattle.wit_adding.specs.Gates.{Place}
+use Rattle.wit_adding.specs.Spans.{function_spans, interface_spans, item_spans, kind_spans, package_spans, type_spans, world_spans}
 use Rattle.wit_link.proofs.NoEarlyCause.{each_contained}
 use Rattle.wit_link.proofs.OwnerPlaces.{Each-map, at_map}
 use Rattle.wit_link.proofs.PushedLists.{Each-head, Each-left, Each-right, Each-tail}

@@ -26,8 +26,8 @@ use Rattle.wit_graph.specs.declared.features.Features.{Features}
 use Rattle.wit_graph.specs.declared.graph.Graph.{Graph}
 use Rattle.wit_link.specs.Cause.{HasImage, HasPackage, IsAccepted, IsActiveFunction, IsEarlyCause, IsEarlySemantic, IsExcluded, IsImageCause, IsImageSemantic, RefersTo, Thing}
 use Rattle.wit_link.specs.Cause as reason
-use Rattle.wit_link.specs.Gates.{HasEntry, HasNote, IsAsked, Place, asked_notes, interface_is_active, interface_notes, world_is_active, world_notes}
-use Rattle.wit_link.specs.Gates as asked
+use Rattle.wit_adding.specs.Gates.{HasEntry, HasNote, IsAsked, Place, asked_notes, interface_is_active, interface_notes, world_is_active, world_notes}
+use Rattle.wit_adding.specs.Gates as asked
 use Rattle.wit_link.specs.Pushed.{HasInterface, HasWorld, named_items}
 
 -- ---- a reason that leaves no image is one of the graph and the package alone

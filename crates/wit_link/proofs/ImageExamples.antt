@@ -17,8 +17,9 @@ use Rattle.wit_link.proofs.HasImage.{IsFine, IsPlain, IsThere, plain_has_image}
 use Rattle.wit_link.proofs.Listed.{none_in, only_one}
 use Rattle.wit_link.specs.Cause.{HasImage, HasPackage}
 use Rattle.wit_link.specs.CauseExamples.{loose_interface, loose_world}
-use Rattle.wit_link.specs.Examples.{function_entry, gate_f, no_features}
-use Rattle.wit_link.specs.Gates.{HasEntry, asked_notes, interface_notes, world_is_active, world_notes}
+use Rattle.wit_labels.specs.Examples.{function_entry}
+use Rattle.wit_link.specs.Examples.{gate_f, no_features}
+use Rattle.wit_adding.specs.Gates.{HasEntry, asked_notes, interface_notes, world_is_active, world_notes}
 use Rattle.wit_link.specs.WorldCauseExamples.{all_features, exporting, exporting_package, gated_entry, including, including_package, three}
 use Rattle.wit_link.specs.WorldNearMisses.{with_world}
 

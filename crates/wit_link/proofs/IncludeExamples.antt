@@ -8,7 +8,7 @@ use Rattle.wit_items.specs.declared.types.TypeDefKind.TheVariants as kind
 use Rattle.wit_items.specs.declared.types.Type_.TheVariants as type
 use Rattle.wit_items.specs.declared.world.WorldKey.{WorldKey}
 use Rattle.wit_items.specs.declared.world.WorldKey.TheVariants as key
-use Rattle.wit_graph.specs.Valid.{HasDistinctKeys}
+use Rattle.wit_values.specs.Table.{HasDistinctKeys}
 use Rattle.wit_link.proofs.Listed.{EachAt-nil, EachAt-one, differ, none_in, only_one}
 use Rattle.wit_link.specs.Image.{alias_rows}
 use Rattle.wit_link.specs.Include.{AreCopies, IsCopied}

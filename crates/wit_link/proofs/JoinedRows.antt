@@ -1,10 +1,8 @@
 -- Rows behind other rows: where both are acyclic, and the ones behind are moved up past the ones before.
 use Rattle.std.proofs.Common.{◌≡◌, ◌∙◌, ◌⊎◌, inl, inr, ℕ, ◌+◌, ◌-◌, ◌<◌, zero, suc, List, [], ◌∷◌, ◌++◌, map, length, get_or, refl, ap, sym, subst, arith, Contains, All}
 use Rattle.std.proofs.lemmas.Bool.{cases_lt}
-use Rattle.std.proofs.lemmas.List.{get_or_append_left, get_or-append-add, get_or_past, length-append, length-map}
+use Rattle.std.proofs.lemmas.List.{get_or_append_left, get_or-append-add, length-append, length-map}
 use Rattle.std.proofs.lemmas.List.Elements.{All-contains, All-map, All-weaker, All-same}
-use Rattle.std.proofs.lemmas.Option.{slice_get-get_or}
-use Rattle.wit_items.specs.Each.{Each, EachAt}
 use Rattle.wit_relations.specs.Relation.{direct, IsPath, IsAcyclic}
 
 -- ---- membership
@@ -110,30 +108,3 @@ module _ (uses rows : List (List ℕ)) (acyclic : IsAcyclic uses) (acyclic_rows 
   -- acyclic rows, with acyclic rows moved up behind them
   pub IsAcyclic-joined : IsAcyclic (uses ++ moved_rows (length uses) rows)
   IsAcyclic-joined = record { in_range = joined_in_range; no_cycle = joined_no_cycle }
-
--- ---- rows of earlier nodes
-
-module _ (rows : List (List ℕ)) (earlier : EachAt (λ i (row : List ℕ). Each (λ j. j < i) row) rows) where
-  earlier_uses : (i : ℕ) → All (λ j. (j < i) × (j < length rows)) (direct rows i)
-  earlier_uses i k d below =
-      elim (cases_lt i (length rows)) [
-        | inl there ↦ let first : get_or (direct rows i) k d < i = earlier i (direct rows i) (slice_get-get_or rows i [] there) k (get_or (direct rows i) k d) (slice_get-get_or (direct rows i) k d below) in
-            (first, omega (arith, first, there))
-        | inr past ↦ absurd (none_past (get_or_past rows i [] past) below)
-      ]
-    where
-      none_past : direct rows i ≡ [] → k < length (direct rows i) → ⊥
-      none_past none inside = let short : length (direct rows i) ≡ 0 = ap length none in omega (arith, short, inside)
-
-  goes_down : (i k : ℕ) (path : List ℕ) (j : ℕ) → IsPath rows i (k ∷ path) j → j < i
-  goes_down i k [] j leads = let first = All-contains (λ x. (x < i) × (x < length rows)) (direct rows i) k (earlier_uses i) leads.0 in omega (arith, first.0, leads.1)
-  goes_down i k (l ∷ path) j leads =
-      let first = All-contains (λ x. (x < i) × (x < length rows)) (direct rows i) k (earlier_uses i) leads.0 in
-      omega (arith, first.0, goes_down k l path j leads.1)
-
-  -- where each node uses earlier ones, none uses itself
-  pub IsAcyclic-earlier : IsAcyclic rows
-  IsAcyclic-earlier = record {
-    in_range = λ i. All-weaker (λ j. (j < i) × (j < length rows)) (λ j. j < length rows) (λ j both. both.1) (direct rows i) (earlier_uses i);
-    no_cycle = λ i k path leads. omega (arith, goes_down i k path i leads);
-  }

@@ -1,5 +1,5 @@
 -- Packages whose labels are apart, and whose setter has its getter.
-use Rattle.std.proofs.Common.{◌≡◌, ◌∙◌, ℕ, ◌+◌, zero, suc, true, List, [], ◌∷◌, length, take, Some, slice_get, refl, ap, sym, subst, inl, inr, lit<, Contains, arith}
+use Rattle.std.proofs.Common.{◌≡◌, ◌∙◌, ℕ, ◌+◌, ◌<◌, zero, suc, true, List, [], ◌∷◌, length, take, Some, slice_get, refl, ap, sym, subst, inl, inr, lit<, Contains, arith}
 use Rattle.std.proofs.lemmas.Bool.{false≢true}
 use Rattle.std.specs.Prelude.{codes}
 use Rattle.std.specs.List.{AllZip}
@@ -14,17 +14,37 @@ use Rattle.wit_items.specs.declared.world.WorldKey.TheVariants as key
 use Rattle.wit_graph.specs.Examples.{empty_graph}
 use Rattle.wit_graph.specs.declared.graph.Graph.{Graph}
 use Rattle.wit_link.proofs.EntryImages.{function_image, label_same, no_images, some_same, under}
-use Rattle.wit_link.proofs.Examples.{labels}
 use Rattle.wit_link.proofs.Listed.{none_in}
 use Rattle.wit_link.specs.Cause.{AreTooAlike, HaveLists, IsAtWorld, IsListCalled, LacksGetter, lists_of}
 use Rattle.wit_link.specs.Cause as reason
 use Rattle.wit_link.specs.CauseExamples.{importing, loose_world}
-use Rattle.wit_link.specs.Examples.{function_entry, no_features}
-use Rattle.wit_link.specs.Gates.{Place}
+use Rattle.wit_labels.specs.Examples.{function_entry, labelled}
+use Rattle.wit_link.specs.Examples.{no_features}
+use Rattle.wit_adding.specs.Gates.{Place}
 use Rattle.wit_link.specs.Image.{IsEntryImage, IsWorldImage, Maps}
 use Rattle.wit_link.specs.Include.{Copies, Lists}
-use Rattle.wit_link.specs.Labels.{Clashes, getter_label, is_setter_label}
+use Rattle.wit_labels.specs.Setters.{getter_label, is_setter_label}
+use Rattle.wit_labels.specs.Strong.{Clashes, strong_key}
+use Rattle.wit_labels.specs.declared.strong.StrongKey.{StrongKey}
+use Rattle.wit_values.specs.Lists.{differ}
 use Rattle.wit_link.specs.Pushed.{AreIncluded, active_entries, active_includes, active_worlds}
+
+same_label : (a b : List ℕ) → Some (key.Name a) ≡ Some (key.Name b) → a ≡ b
+same_label a b same = cc
+
+-- two labels with different names
+apart : (i j : ℕ) (n m : List ℕ) → i < j → slice_get (labelled (codes "ab" ∷ codes "ac" ∷ [])) i ≡ Some (key.Name m)
+    → slice_get (labelled (codes "ab" ∷ codes "ac" ∷ [])) j ≡ Some (key.Name n) → strong_key n ≡ strong_key m → ⊥
+apart zero zero n m below first second same = absurd (omega (arith, below))
+apart zero (suc zero) n m below first second same =
+    let by : strong_key (codes "ac") ≡ strong_key (codes "ab") =
+    subst (λ (x : List ℕ). strong_key (codes "ac") ≡ strong_key x) (sym (same_label (codes "ab") m first)) (subst (λ (x : List ℕ). strong_key x ≡ strong_key m) (sym (same_label (codes "ac") n second)) same) in
+    differ (codes "ac") (codes "ab") refl (ap (λ (k : StrongKey). k.name) by)
+apart zero (suc (suc j)) n m below first second same = cc
+apart (suc zero) zero n m below first second same = absurd (omega (arith, below))
+apart (suc zero) (suc zero) n m below first second same = absurd (omega (arith, below))
+apart (suc zero) (suc (suc j)) n m below first second same = cc
+apart (suc (suc i)) j n m below first second same = cc
 
 module _ (a b : List ℕ) where
   -- a package whose world imports functions under two labels
@@ -81,7 +101,7 @@ not_alike span message c =
     elim c.list [
       | inl import ↦
           let clash = subst (λ (es : List Entry). Clashes (keys_of es) c.n c.m) (import.1 ∙ have.0.are) c.clash in
-          labels.unique c.n c.m clash
+          apart clash.0 clash.1 c.n c.m clash.2 clash.3 clash.4 clash.5
       | inr export ↦
           let clash = subst (λ (es : List Entry). Clashes (keys_of es) c.n c.m) (export.1 ∙ have.1) c.clash in
           none_at clash.0 c.m clash.3

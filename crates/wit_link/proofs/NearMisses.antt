@@ -26,7 +26,7 @@ use Rattle.wit_link.specs.Cause.{FindsInterface, FindsType, HoldsBorrow, IsActiv
 use Rattle.wit_link.specs.Cause as reason
 use Rattle.wit_link.specs.CauseExamples.{loose_interface, returning}
 use Rattle.wit_link.specs.Examples.{no_features}
-use Rattle.wit_link.specs.Gates.{Place}
+use Rattle.wit_adding.specs.Gates.{Place}
 use Rattle.wit_link.specs.Image.{LeadsToResource}
 use Rattle.wit_link.specs.NearMisses.{ExamplesOfNearMisses, with_resource}
 use Rattle.wit_link.specs.PushExamples.{gate_g}

@@ -25,11 +25,11 @@ use Rattle.wit_graph.specs.declared.features.Features.{Features}
 use Rattle.wit_graph.specs.declared.graph.Graph.{Graph}
 use Rattle.wit_link.specs.Cause.{HasPackage, HaveLists, IsAtInclude, IsAtWorld, IsCause, IsEarlyCause, IsLateCause, IsLateSemantic, IsListCalled, PassesTheEnd, lists_of}
 use Rattle.wit_link.specs.Cause as reason
-use Rattle.wit_link.specs.Gates.{Place}
+use Rattle.wit_adding.specs.Gates.{Place}
 use Rattle.wit_link.specs.Image.{Maps, IsEntryImage, IsItemImage, IsWorldImage, mapped_key}
 use Rattle.wit_link.specs.Include.{Copies, Lists}
 use Rattle.wit_link.specs.Pushed.{AreIncluded, active_entries, active_includes, active_worlds, with_placed}
-use Rattle.wit_link.specs.Labels.{placed}
+use Rattle.wit_labels.specs.Setters.{placed}
 use Rattle.wit_link.specs.Supported.{IsSupported, IsSupportedImport, IsSupportedWorld}
 use Rattle.wit_link.proofs.AllActive.{all_worlds, no_includes, whole_entries}
 use Rattle.wit_link.proofs.Listed.{none_in}

@@ -38,8 +38,8 @@ use Rattle.wit_graph.specs.declared.features.Features.{Features}
 use Rattle.wit_graph.specs.declared.graph.Graph.{Graph}
 use Rattle.wit_link.specs.Cause.{AType, AnInterface, AWorld, FindsType, HasImage, HasPackage, HoldsBorrow, IsActiveFunction, IsEarlyCause, IsEarlySemantic, IsExcluded, IsImageSemantic, MayHoldBorrow, NamesForeignType, PassesTheEnd, RefersTo, Thing, kind_references, owner_thing}
 use Rattle.wit_link.specs.Cause as reason
-use Rattle.wit_link.specs.Gates.{HasEntry, HasNote, IsAsked, IsExcludedInterface, IsExcludedType, IsExcludedWorld, Place, asked_notes, interface_notes, world_notes}
-use Rattle.wit_link.specs.Gates as asked
+use Rattle.wit_adding.specs.Gates.{HasEntry, HasNote, IsAsked, IsExcludedInterface, IsExcludedType, IsExcludedWorld, Place, asked_notes, interface_notes, world_notes}
+use Rattle.wit_adding.specs.Gates as asked
 use Rattle.wit_link.specs.Pushed.{named_items}
 use Rattle.wit_link.specs.Supported.{IsData, IsSupported, IsSupportedImport}
 use Rattle.wit_link.proofs.AllActive.{left_out_interface, left_out_type, left_out_world, own_interface, own_world}

@@ -7,7 +7,7 @@ use Rattle.std.specs.Option.{option_cmp}
 use Rattle.wit_relations.specs.Relation.{direct}
 use Rattle.wit_relations.specs.Walks.{first_of_each, walk, walk_within}
 use Rattle.wit_items.specs.PackageOrder.{package_cmp}
-use Rattle.wit_items.specs.Span.{end_of, moved_by}
+use Rattle.wit_sources.specs.Span.{end_of, moved_by}
 use Rattle.wit_items.specs.Each.{SomeAt}
 use Rattle.wit_items.specs.declared.package_name.PackageName.{PackageName}
 use Rattle.wit_items.specs.declared.stability.Stability.TheVariants.{Unknown}
@@ -16,8 +16,8 @@ use Rattle.wit_graph.specs.declared.error_kind.ResolveErrorKind.{ResolveErrorKin
 use Rattle.wit_graph.specs.declared.error_kind.ResolveErrorKind.TheVariants.{DuplicatePackage, OffsetOverflow, PackageCycle}
 use Rattle.wit_link.proofs.Listed.{none_in}
 use Rattle.wit_link.specs.CauseExamples.{bare, naming}
-use Rattle.wit_link.specs.Gates.{Place}
-use Rattle.wit_link.specs.Groups.{AreSorted, Handed, IsGroupOrder, IsHandedTwice, IsSortCause, IsTooFar, TellsTooFar, handed_uses, names_of}
+use Rattle.wit_adding.specs.Gates.{Place}
+use Rattle.wit_sorting.specs.Sorting.{AreSorted, Handed, IsGroupOrder, IsHandedTwice, IsSortCause, IsTooFar, TellsTooFar, handed_uses, names_of}
 use Rattle.wit_link.specs.OrderExamples.{ExamplesOfOrders, dep_on_main, twice_at, two_alone}
 use Rattle.wit_link.specs.PushExamples.{dep_name, main_and_dep, main_name}
 

@@ -22,37 +22,14 @@ use Rattle.wit_items.specs.declared.world.WorldItem.{WorldItem}
 use Rattle.wit_items.specs.declared.world.WorldItem.TheVariants as item
 use Rattle.wit_items.specs.declared.world.WorldKey.{WorldKey}
 use Rattle.wit_items.specs.declared.world.WorldKey.TheVariants as key
-use Rattle.wit_graph.specs.Valid.{HasDistinctKeys, HasOwners, IsValid}
+use Rattle.wit_values.specs.Table.{HasDistinctKeys}
+use Rattle.wit_graph.specs.Valid.{HasOwners, IsValid}
 use Rattle.wit_graph.specs.declared.graph.Graph.{Graph}
-use Rattle.wit_link.specs.Added.{Added, NamesDiffer, Places, next_places, placed_function, placed_interface, placed_owner, placed_type}
+use Rattle.wit_link.specs.Added.{Added, Places, next_places, placed_function, placed_interface, placed_owner, placed_type}
 use Rattle.wit_link.specs.Supported.{IsSupported, IsSupportedImport}
 use Rattle.wit_link.proofs.OwnerPlaces.{Contains-map, Each-joined, Each-map, EachAt-joined, SomeAt-new, SomeAt-old, found_at, from_map, next_id}
 
 -- ---- names that differ
-
-module _ {K V : Type 0} where
-  at_keys : (es : List (K × V)) (i : ℕ) (e : K × V) → slice_get es i ≡ Some e → slice_get (keys_of es) i ≡ Some e.0
-  at_keys [] i e at = cc
-  at_keys (f ∷ es) zero e at = let same : f ≡ e = cc in ap (λ (h : K × V). Some h.0) same
-  at_keys (f ∷ es) (suc i) e at = at_keys es i e at
-
--- a table of different names has each name at one place
-pub distinct_places : {V : Type 0} (es : List (List ℕ × V)) → IsDistinct bytes_eq (keys_of es) → HasDistinctKeys es
-distinct_places {V} es apart i j e f first second same =
-    elim (cases_lt i j) [
-      | inl before ↦ absurd (differ i j e f first second before same)
-      | inr after ↦ elim (cases_lt j i) [
-        | inl before ↦ absurd (differ j i f e second first before (sym same))
-        | inr level ↦ omega arith
-      ]
-    ]
-  where
-    differ : (i j : ℕ) (e f : List ℕ × V) → slice_get es i ≡ Some e → slice_get es j ≡ Some f → i < j → e.0 ≡ f.0 → ⊥
-    differ i j e f first second before same =
-        let one = at_keys es i e first in
-        let other = at_keys es j f second in
-        AllPairs-from_IsDistinct bytes_eq-Decides (keys_of es) apart i j e.0 before (slice_get_within (keys_of es) j f.0 other)
-        (get_or_from_slice_get (keys_of es) i e.0 e.0 one ∙ same ∙ sym (get_or_from_slice_get (keys_of es) j f.0 e.0 other))
 
 -- a function of the values leaves the names
 pub distinct_map : {V W : Type 0} (m : V → W) (es : List (List ℕ × V)) → HasDistinctKeys es → HasDistinctKeys (map (λ (e : List ℕ × V). (e.0, m e.1)) es)
@@ -135,8 +112,8 @@ module _ (g : Graph) (u : UnresolvedPackage) (p : Places) (finished : List World
   names_new interface named =
       Each-map (λ (e : List ℕ × Function). (e.0, placed_function p e.1)) (λ (e : List ℕ × Function). e.1.name ≡ e.0) interface.functions (λ i e at. named i e at)
 
-  owners : HasOwners g.types g.interfaces g.worlds → NamesDiffer u → HasOwners all_types all_interfaces (g.worlds ++ finished)
-  owners old differ = record {
+  owners : HasOwners g.types g.interfaces g.worlds → HasOwners all_types all_interfaces (g.worlds ++ finished)
+  owners old = record {
     listed =
         EachAt-joined (placed_type p) (λ i (def : TypeDef). IsListed all_interfaces (g.worlds ++ finished) i def.name def.owner) g.types u.types
         (λ i def at. listed_old g.interfaces (map (placed_interface p) u.interfaces) g.worlds finished i def.name def.owner (old.listed i def at))
@@ -150,19 +127,19 @@ module _ (g : Graph) (u : UnresolvedPackage) (p : Places) (finished : List World
         (λ f interface at. names_new interface (shaped.owners.functions f interface at));
     distinct_types =
         Each-joined (placed_interface p) (λ (interface : Interface). HasDistinctKeys interface.types) g.interfaces u.interfaces old.distinct_types
-        (λ f interface at. distinct_map p.types interface.types (distinct_places interface.types (differ.types f interface at)));
+        (λ f interface at. distinct_map p.types interface.types (shaped.keys.types f interface at));
     distinct_functions =
         Each-joined (placed_interface p) (λ (interface : Interface). HasDistinctKeys interface.functions) g.interfaces u.interfaces old.distinct_functions
-        (λ f interface at. distinct_map (placed_function p) interface.functions (distinct_places interface.functions (differ.functions f interface at)));
+        (λ f interface at. distinct_map (placed_function p) interface.functions (shaped.keys.functions f interface at));
   }
 
 -- owners stay as they should be
-pub HasOwners-of_added : (g : Graph) (u : UnresolvedPackage) (offset : ℕ) (new : Graph) → IsValid g → IsShaped u → IsSupported u → NamesDiffer u → Added g u offset new
+pub HasOwners-of_added : (g : Graph) (u : UnresolvedPackage) (offset : ℕ) (new : Graph) → IsValid g → IsShaped u → IsSupported u → Added g u offset new
     → HasOwners new.types new.interfaces new.worlds
-HasOwners-of_added g u offset new valid shaped supported differ added =
+HasOwners-of_added g u offset new valid shaped supported added =
     let p = next_places g u offset in
     let all = owners g u p added.finished shaped supported
     (λ t within. next_id (length g.types) (length u.types) t within)
     (λ f within. next_id (length g.interfaces) (length u.interfaces) f within)
-    valid.well_formed.owners differ in
+    valid.well_formed.owners in
     rw (added.types_are, added.interfaces_are, added.worlds_are) all

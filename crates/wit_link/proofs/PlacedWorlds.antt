@@ -1,6 +1,8 @@
 -- The worlds of a supported package: they import interfaces alone, so nothing has a label and nothing moves.
-use Rattle.std.proofs.Common.{◌≡◌, ◌∙◌, ℕ, ◌+◌, ◌<◌, suc, zero, Bool, true, false, ◌&&◌, cond, List, [], ◌∷◌, ◌++◌, length, map, filter, Some, slice_get, refl, ap, sym, subst, arith, nat_lt, slice_index_or, IsSome, flat_map}
-use Rattle.std.specs.List.{AllZip, enumerate_from, list_any}
+use Rattle.std.proofs.Common.{◌≡◌, ◌∙◌, ℕ, ◌+◌, ◌<◌, suc, zero, Bool, true, false, cond, List, [], ◌∷◌, ◌++◌, length, map, filter, Option, Some, None, is_some, slice_get, refl, ap, sym, subst, arith, nat_eq, slice_index_or, IsSome, flat_map}
+use Rattle.std.specs.List.{AllZip, enumerate_from}
+use Rattle.std.specs.Option.{option_and_then, option_eq}
+use Rattle.std.specs.Prelude.{position}
 use Rattle.std.specs.Map.{keys_of}
 use Rattle.wit_items.specs.Each.{Each}
 use Rattle.wit_items.specs.Entries.{Entry, IsImport}
@@ -21,7 +23,8 @@ use Rattle.wit_graph.specs.declared.graph.Graph.{Graph}
 use Rattle.wit_link.specs.Added.{Places, placed_entry, placed_key, placed_world}
 use Rattle.wit_link.specs.Image.{IsEntryImage, IsWorldImage, Maps}
 use Rattle.wit_link.specs.Include.{Lists}
-use Rattle.wit_link.specs.Labels.{AreStronglyUnique, HaveGetters, is_setter_of, placed, places, waiting, waits}
+use Rattle.wit_labels.specs.Setters.{HaveGetters, after, awaited, is_under, placed, places, waiting, wanted_getter}
+use Rattle.wit_labels.specs.Strong.{AreStronglyUnique}
 use Rattle.wit_link.specs.Pushed.{AreFinished, AreIncluded, IsFinished, copied_ids, with_placed}
 use Rattle.wit_link.specs.Supported.{IsSupported, IsSupportedImport, IsSupportedWorld}
 use Rattle.wit_link.proofs.AllActive.{no_includes, whole_entries}
@@ -47,19 +50,11 @@ no_label (key.Interface i) label fine same = cc
 no_label (key.Name name) label fine same = fine
 
 -- nor is its entry a setter
-not_setter : (getter k : WorldKey) (held : WorldItem) → IsInterfaceKey k → is_setter_of getter k held ≡ false
-not_setter getter (key.Interface i) held fine = refl
-not_setter getter (key.Name label) held fine = absurd fine
-
-and_false : (b : Bool) → (b && false) ≡ false
-and_false true = refl
-and_false false = refl
+no_getter : (k : WorldKey) (held : WorldItem) → IsInterfaceKey k → wanted_getter k held ≡ None
+no_getter (key.Interface i) held fine = refl
+no_getter (key.Name label) held fine = absurd fine
 
 -- no test passes
-any-none : {X : Type 0} (test : X → Bool) (xs : List X) → ((x : X) → test x ≡ false) → list_any test xs ≡ false
-any-none test [] fails = refl
-any-none test (x ∷ xs) fails = rw (fails x) (any-none test xs fails)
-
 filter-none : {X : Type 0} (test : X → Bool) (xs : List X) → Each (λ (x : X). test x ≡ false) xs → filter test xs ≡ []
 filter-none test [] fails = refl
 filter-none {X} test (x ∷ xs) fails =
@@ -73,23 +68,21 @@ flat_map-alone {X} f n (x ∷ xs) alone =
     ∙ ap (λ (l : List X). x ∷ l) (flat_map-alone f (n + 1) xs (Each-tail (λ (e : ℕ × X). f e ≡ e.1 ∷ []) (n, x) (enumerate_from (n + 1) xs) alone))
 
 module _ (entries : List Entry) (fine : HaveInterfaceKeys entries) where
-  -- no entry waits for a getter, and none waits for it
-  none_waits : (i : ℕ) (e : Entry) → IsInterfaceKey e.0 → waits entries i e ≡ false
-  none_waits i e fine =
-      any-none (λ (g : ℕ × Entry). nat_lt i g.0 && is_setter_of g.1.0 e.0 e.1) (places entries) (λ g.
-      ap (λ (b : Bool). nat_lt i g.0 && b) (not_setter g.1.0 e.0 e.1 fine) ∙ and_false (nat_lt i g.0))
+  -- no entry waits for a getter
+  none_awaited : (i : ℕ) (e : Entry) → IsInterfaceKey e.0 → awaited entries i e ≡ None
+  none_awaited i e fine = ap (λ (o : Option (List ℕ)). after i (option_and_then (λ (label : List ℕ). position (is_under label) (keys_of entries)) o)) (no_getter e.0 e.1 fine)
 
-  none_waiting : (i : ℕ) (e : Entry) → waiting entries i e ≡ []
-  none_waiting i e =
+  none_waiting : (g : ℕ) → waiting entries g ≡ []
+  none_waiting g =
       ap (map (λ (s : ℕ × Entry). s.1))
-      (filter-none (λ (s : ℕ × Entry). nat_lt s.0 i && is_setter_of e.0 s.1.0 s.1.1) (places entries) (λ j s at.
-      ap (λ (b : Bool). nat_lt s.0 i && b) (not_setter e.0 s.1.0 s.1.1 (fine j s.1 (at-enumerate 0 entries j s at).1)) ∙ and_false (nat_lt s.0 i)))
+      (filter-none (λ (s : ℕ × Entry). option_eq nat_eq (awaited entries s.0 s.1) (Some g)) (places entries) (λ j s at.
+      ap (λ (o : Option ℕ). option_eq nat_eq o (Some g)) (none_awaited s.0 s.1 (fine j s.1 (at-enumerate 0 entries j s at).1))))
 
   -- so nothing moves
   pub placed_stays : placed entries ≡ entries
   placed_stays =
-      flat_map-alone (λ (p : ℕ × Entry). cond (waits entries p.0 p.1) [] (p.1 ∷ []) ++ waiting entries p.0 p.1) 0 entries (λ j p at.
-      rw (none_waits p.0 p.1 (fine j p.1 (at-enumerate 0 entries j p at).1), none_waiting p.0 p.1) refl)
+      flat_map-alone (λ (p : ℕ × Entry). cond (is_some (awaited entries p.0 p.1)) [] (p.1 ∷ []) ++ waiting entries p.0) 0 entries (λ j p at.
+      rw (none_awaited p.0 p.1 (fine j p.1 (at-enumerate 0 entries j p at).1), none_waiting p.0) refl)
 
 -- nothing has a label
 no_label_at : (entries : List Entry) → HaveInterfaceKeys entries → (i : ℕ) (label : List ℕ) → slice_get (keys_of entries) i ≡ Some (key.Name label) → ⊥

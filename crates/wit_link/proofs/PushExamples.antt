@@ -7,9 +7,9 @@ use Rattle.std.specs.Option.{option_cmp}
 use Rattle.wit_relations.specs.Relation.{IsPath, direct}
 use Rattle.wit_items.specs.Each.{SomeAt}
 use Rattle.wit_items.specs.PackageOrder.{package_cmp}
-use Rattle.wit_items.specs.Span.{moved_by}
+use Rattle.wit_sources.specs.Span.{moved_by}
 use Rattle.wit_items.specs.declared.package_name.PackageName.{PackageName}
-use Rattle.wit_link.specs.Groups.{Handed, IsHandedTwice, IsOnHandedCycle, handed_uses, names_of}
+use Rattle.wit_sorting.specs.Sorting.{Handed, IsHandedTwice, IsOnHandedCycle, handed_uses, names_of}
 use Rattle.wit_link.specs.Include.{IsCopied}
 use Rattle.wit_relations.specs.Walks.{walk, walk_within}
 use Rattle.wit_items.specs.declared.interface.Interface.{Interface}
@@ -31,7 +31,7 @@ use Rattle.wit_link.proofs.Acceptance.{no_reason}
 use Rattle.wit_link.proofs.Listed.{EachAt-nil, EachAt-one, EachAt-two, differ, none_in, only_one}
 use Rattle.wit_link.specs.Examples.{feature_f, gate_f, no_features}
 use Rattle.wit_link.specs.CauseExamples.{bare, gated, loose_interface, loose_world, naming}
-use Rattle.wit_link.specs.Gates.{interface_is_active, type_is_active, world_is_active}
+use Rattle.wit_adding.specs.Gates.{interface_is_active, type_is_active, world_is_active}
 use Rattle.wit_link.specs.Image.{IsImage, IsInterfaceImage, Maps}
 use Rattle.wit_link.specs.PushExamples.{ExamplesOfGroups, ExamplesOfIncludes, ExamplesOfPushes, each_other, first_package, main_and_dep, main_name}
 use Rattle.wit_link.specs.Pushed.{AreMaps, IsBuilt, IsFinished, active_part}

@@ -16,7 +16,7 @@ use Rattle.wit_items.specs.declared.types.TypeOwner.TheVariants as owner
 use Rattle.wit_items.specs.declared.unresolved.UnresolvedPackage.{UnresolvedPackage}
 use Rattle.wit_graph.specs.Valid.{HasReferences, IsValid}
 use Rattle.wit_graph.specs.declared.graph.Graph.{Graph}
-use Rattle.wit_link.specs.Added.{Added, NamesDiffer, Places, next_places, placed_function, placed_interface, placed_owner, placed_type}
+use Rattle.wit_link.specs.Added.{Added, Places, next_places, placed_function, placed_interface, placed_owner, placed_type}
 use Rattle.wit_link.specs.Supported.{IsSupported}
 use Rattle.wit_link.proofs.OwnerImages.{alias_placed, function_placed, known_placed, parts_placed, plain_placed}
 use Rattle.wit_link.proofs.OwnerPlaces.{Each-joined, Each-map, EachAt-joined, SomeAt-new, SomeAt-old, found_at, next_id}
@@ -129,9 +129,9 @@ module _ (g : Graph) (u : UnresolvedPackage) (p : Places) (shaped : IsShaped u) 
       (λ i def at. known_placed p def.kind (supported.types i def at).data_kind)
 
 -- what types and functions refer to stays as it should be
-pub HasReferences-of_added : (g : Graph) (u : UnresolvedPackage) (offset : ℕ) (new : Graph) → IsValid g → IsShaped u → IsSupported u → NamesDiffer u → Added g u offset new
+pub HasReferences-of_added : (g : Graph) (u : UnresolvedPackage) (offset : ℕ) (new : Graph) → IsValid g → IsShaped u → IsSupported u → Added g u offset new
     → HasReferences new.types new.interfaces
-HasReferences-of_added g u offset new valid shaped supported differ added =
+HasReferences-of_added g u offset new valid shaped supported added =
     let all = references g u (next_places g u offset) shaped supported
     (λ t within. next_id (length g.types) (length u.types) t within)
     (λ f within. next_id (length g.interfaces) (length u.interfaces) f within)
@@ -139,9 +139,9 @@ HasReferences-of_added g u offset new valid shaped supported differ added =
     rw (added.types_are, added.interfaces_are) all
 
 -- each type's kind stays known
-pub known-of_added : (g : Graph) (u : UnresolvedPackage) (offset : ℕ) (new : Graph) → IsValid g → IsShaped u → IsSupported u → NamesDiffer u → Added g u offset new
+pub known-of_added : (g : Graph) (u : UnresolvedPackage) (offset : ℕ) (new : Graph) → IsValid g → IsShaped u → IsSupported u → Added g u offset new
     → Each (λ (def : TypeDef). def.kind ≢ kind.Unknown) new.types
-known-of_added g u offset new valid shaped supported differ added =
+known-of_added g u offset new valid shaped supported added =
     let all = known g u (next_places g u offset) shaped supported
     (λ t within. next_id (length g.types) (length u.types) t within)
     (λ f within. next_id (length g.interfaces) (length u.interfaces) f within)

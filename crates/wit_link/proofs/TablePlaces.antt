@@ -10,7 +10,7 @@ use Rattle.std.specs.Map.{keys_of}
 use Rattle.std.specs.Option.{IfSome, IsSomeAnd}
 use Rattle.std.specs.Str.{bytes_eq}
 use Rattle.wit_items.specs.Each.{Each, EachAt, SomeAt}
-use Rattle.wit_graph.specs.Valid.{HasDistinctKeys}
+use Rattle.wit_values.specs.Table.{HasDistinctKeys}
 use Rattle.wit_link.specs.Added.{id_or, new_id, next_ids}
 use Rattle.wit_values.specs.Lists.{slice_get-append, push-cases}
 

@@ -16,11 +16,12 @@ use Rattle.wit_items.specs.declared.types.TypeDef.{TypeDef}
 use Rattle.wit_items.specs.declared.unresolved.UnresolvedPackage.{UnresolvedPackage}
 use Rattle.wit_items.specs.declared.world.World.{World}
 use Rattle.wit_graph.specs.Elaborated.{Elaborated}
-use Rattle.wit_graph.specs.Valid.{HasDistinctKeys, HasKebabNames, HasPackageNames, HasTables, IsInTable, IsInterfaceOf, IsValid, IsWorldInTable, IsWorldOf}
+use Rattle.wit_values.specs.Table.{HasDistinctKeys}
+use Rattle.wit_graph.specs.Valid.{HasKebabNames, HasPackageNames, HasTables, IsInTable, IsInterfaceOf, IsValid, IsWorldInTable, IsWorldOf}
 use Rattle.wit_graph.specs.declared.graph.Graph.{Graph}
 use Rattle.wit_graph.specs.declared.graph.Package.{Package}
 use Rattle.wit_link.proofs.TablePlaces.{AllZip-second, AllZip-first, Contains-at, Contains-filter_map, IfSome-of, IsSomeAnd-weaker, EachAt-append, EachAt-map, EachAt-only, HasDistinctKeys-from_test, HasDistinctKeys-push, SomeAt-longer, SomeAt-of, filter_map_cases, map_cases, numbered_cases, slice_get-mapped, slice_get-numbered, slice_get-right}
-use Rattle.wit_link.specs.Added.{Added, NamesDiffer, added_package, next_places, placed_interface, placed_world}
+use Rattle.wit_link.specs.Added.{Added, added_package, next_places, placed_interface, placed_world}
 use Rattle.wit_link.specs.Cause.{HasPackage}
 use Rattle.wit_link.specs.Pushed.{named_ids, world_ids}
 use Rattle.wit_link.specs.Supported.{IsSupported}
@@ -263,22 +264,22 @@ module _ (g : Graph) (u : UnresolvedPackage) (offset : ℕ) (names : HasKebabNam
 
 -- ---- the new graph
 
-pub HasPackageNames-of_added : (g : Graph) (u : UnresolvedPackage) (offset : ℕ) (new : Graph) → IsValid g → IsShaped u → IsSupported u → NamesDiffer u → (HasPackage g u.name → ⊥)
+pub HasPackageNames-of_added : (g : Graph) (u : UnresolvedPackage) (offset : ℕ) (new : Graph) → IsValid g → IsShaped u → IsSupported u → (HasPackage g u.name → ⊥)
     → Added g u offset new → HasPackageNames new.packages new.package_names
-HasPackageNames-of_added g u offset new valid shaped supported differ free is =
+HasPackageNames-of_added g u offset new valid shaped supported free is =
     subst (λ (packages : List Package). HasPackageNames packages new.package_names) (sym is.packages_are)
     (subst (λ (names : List (PackageName × ℕ)). HasPackageNames (g.packages ++ added_package g u ∷ []) names) (sym is.names_are) (package_names_stay g u valid.well_formed.package_names free))
 
-pub HasTables-of_added : (g : Graph) (u : UnresolvedPackage) (offset : ℕ) (new : Graph) → IsValid g → IsShaped u → IsSupported u → NamesDiffer u → (HasPackage g u.name → ⊥)
+pub HasTables-of_added : (g : Graph) (u : UnresolvedPackage) (offset : ℕ) (new : Graph) → IsValid g → IsShaped u → IsSupported u → (HasPackage g u.name → ⊥)
     → Added g u offset new → HasTables new.packages new.interfaces new.worlds
-HasTables-of_added g u offset new valid shaped supported differ free is =
+HasTables-of_added g u offset new valid shaped supported free is =
     subst (λ (packages : List Package). HasTables packages new.interfaces new.worlds) (sym is.packages_are)
     (subst (λ (interfaces : List Interface). HasTables (g.packages ++ added_package g u ∷ []) interfaces new.worlds) (sym is.interfaces_are)
     (subst (λ (worlds : List World). HasTables (g.packages ++ added_package g u ∷ []) (g.interfaces ++ map (placed_interface (next_places g u offset)) u.interfaces) worlds) (sym is.worlds_are)
     (tables_stay g u offset new.types (uses_of new.types new.interfaces) is.finished valid.well_formed.tables shaped supported is.elaborated)))
 
-pub HasKebabNames-of_added : (g : Graph) (u : UnresolvedPackage) (offset : ℕ) (new : Graph) → IsValid g → IsShaped u → IsSupported u → NamesDiffer u → (HasPackage g u.name → ⊥)
+pub HasKebabNames-of_added : (g : Graph) (u : UnresolvedPackage) (offset : ℕ) (new : Graph) → IsValid g → IsShaped u → IsSupported u → (HasPackage g u.name → ⊥)
     → Added g u offset new → HasKebabNames new.packages new.interfaces
-HasKebabNames-of_added g u offset new valid shaped supported differ free is =
+HasKebabNames-of_added g u offset new valid shaped supported free is =
     subst (λ (packages : List Package). HasKebabNames packages new.interfaces) (sym is.packages_are)
     (subst (λ (interfaces : List Interface). HasKebabNames (g.packages ++ added_package g u ∷ []) interfaces) (sym is.interfaces_are) (kebab_names_stay g u offset valid.names shaped))

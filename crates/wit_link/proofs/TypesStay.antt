@@ -3,8 +3,8 @@
 use Rattle.std.proofs.Common.{◌≡◌, ◌∙◌, ℕ, ◌+◌, ◌<◌, List, [], ◌∷◌, ◌++◌, map, length, Option, Some, None, option_map, slice_get, refl, arith, ap, sym, subst}
 use Rattle.std.proofs.lemmas.List.{length-map, map-append}
 use Rattle.wit_relations.specs.Relation.{IsAcyclic}
-use Rattle.wit_items.specs.Each.{Each}
 use Rattle.wit_items.specs.Reference.{handled, named_option, named_type, referred, type_references}
+use Rattle.wit_items.specs.ReferenceFacts.{IsAcyclic-references}
 use Rattle.wit_items.specs.Shape.{IsShaped}
 use Rattle.wit_items.specs.declared.types.Case.{Case}
 use Rattle.wit_items.specs.declared.types.Field.{Field}
@@ -20,7 +20,7 @@ use Rattle.wit_graph.specs.Valid.{IsValid}
 use Rattle.wit_graph.specs.declared.graph.Graph.{Graph}
 use Rattle.wit_link.specs.Added.{Places, next_places, placed_case, placed_field, placed_handle, placed_kind, placed_ty, placed_type}
 use Rattle.wit_link.proofs.CyclePlaces.{at_map, flat_map_commutes, map_agrees, map_commutes, within}
-use Rattle.wit_link.proofs.JoinedRows.{IsAcyclic-earlier, IsAcyclic-joined, moved_rows}
+use Rattle.wit_link.proofs.JoinedRows.{IsAcyclic-joined, moved_rows}
 use Rattle.wit_link.proofs.UsesStay.{type_place}
 
 -- ---- what a kind refers to, at its place
@@ -80,9 +80,7 @@ module _ (g : Graph) (u : UnresolvedPackage) (offset : ℕ) (shaped : IsShaped u
 
   -- the types of a package refer to earlier ones
   package_acyclic : IsAcyclic (type_references u.types)
-  package_acyclic = IsAcyclic-earlier (type_references u.types)
-      (λ i row at. let def = at_map (λ (def : TypeDef). referred def.kind) u.types i row at in
-      subst (λ (r : List ℕ). Each (λ j. j < i) r) def.2 (shaped.references.earlier i def.0 def.1))
+  package_acyclic = IsAcyclic-references u.types shaped.references.earlier
 
   -- and they are acyclic
   pub types_acyclic-of_added : IsValid g → IsAcyclic (type_references (g.types ++ map (placed_type p) u.types))

@@ -10,7 +10,7 @@ use Rattle.wit_graph.specs.ElaborationLaws.{ElaboratesOnce}
 use Rattle.wit_graph.specs.KeptByElaboration.{ElaborationIsLocal, ElaboratedEntries, ElaboratedOnce}
 use Rattle.wit_graph.specs.Valid.{IsValid}
 use Rattle.wit_graph.specs.declared.graph.Graph.{Graph}
-use Rattle.wit_link.specs.Added.{Added, NamesDiffer, next_places, placed_type}
+use Rattle.wit_link.specs.Added.{Added, next_places, placed_type}
 use Rattle.wit_link.specs.Cause.{HasPackage}
 use Rattle.wit_link.specs.Supported.{IsSupported}
 use Rattle.wit_link.proofs.CyclesStay.{HasNoCycles-of_added}
@@ -21,20 +21,20 @@ use Rattle.wit_link.proofs.UsesStay.{uses_acyclic-of_added}
 use Rattle.wit_link.proofs.WorldsStay.{HasWorlds-of_added, canonical-of_added}
 
 -- by the laws of elaboration
-pub IsValid-of_added : ElaboratesOnce → ElaborationIsLocal → ElaboratedOnce → ElaboratedEntries → (g : Graph) (u : UnresolvedPackage) (offset : ℕ) (new : Graph) → IsValid g → IsShaped u → IsSupported u → NamesDiffer u → (HasPackage g u.name → ⊥)
+pub IsValid-of_added : ElaboratesOnce → ElaborationIsLocal → ElaboratedOnce → ElaboratedEntries → (g : Graph) (u : UnresolvedPackage) (offset : ℕ) (new : Graph) → IsValid g → IsShaped u → IsSupported u → (HasPackage g u.name → ⊥)
     → Added g u offset new → IsValid new
-IsValid-of_added elaborates_once elaboration_is_local elaborated_once elaborated_entries g u offset new valid shaped supported differ absent added = record {
+IsValid-of_added elaborates_once elaboration_is_local elaborated_once elaborated_entries g u offset new valid shaped supported absent added = record {
   well_formed = record {
-    package_names = HasPackageNames-of_added g u offset new valid shaped supported differ absent added;
-    tables = HasTables-of_added g u offset new valid shaped supported differ absent added;
-    owners = HasOwners-of_added g u offset new valid shaped supported differ added;
-    references = HasReferences-of_added g u offset new valid shaped supported differ added;
-    worlds = HasWorlds-of_added g u offset new valid shaped supported differ absent added elaborates_once elaboration_is_local elaborated_once elaborated_entries acyclic;
+    package_names = HasPackageNames-of_added g u offset new valid shaped supported absent added;
+    tables = HasTables-of_added g u offset new valid shaped supported absent added;
+    owners = HasOwners-of_added g u offset new valid shaped supported added;
+    references = HasReferences-of_added g u offset new valid shaped supported added;
+    worlds = HasWorlds-of_added g u offset new valid shaped supported absent added elaborates_once elaboration_is_local elaborated_once elaborated_entries acyclic;
   };
-  names = HasKebabNames-of_added g u offset new valid shaped supported differ absent added;
-  known = known-of_added g u offset new valid shaped supported differ added;
+  names = HasKebabNames-of_added g u offset new valid shaped supported absent added;
+  known = known-of_added g u offset new valid shaped supported added;
   no_cycles = HasNoCycles-of_added g u offset new valid shaped supported added;
-  canonical = canonical-of_added g u offset new valid shaped supported differ absent added elaborates_once elaboration_is_local elaborated_once elaborated_entries acyclic;
+  canonical = canonical-of_added g u offset new valid shaped supported absent added elaborates_once elaboration_is_local elaborated_once elaborated_entries acyclic;
 }
   where
     acyclic : IsAcyclic (uses_of new.types new.interfaces)

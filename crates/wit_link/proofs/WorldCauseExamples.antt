@@ -23,14 +23,15 @@ use Rattle.wit_graph.specs.declared.graph.Package.{Package}
 use Rattle.wit_link.proofs.ImageExamples.{export_has_image, include_has_image}
 use Rattle.wit_link.proofs.Listed.{EachAt-nil, EachAt-one, EachAt-two, differ, none_in, only_one}
 use Rattle.wit_link.specs.Cause.{FindsType, IsAtInclude, IsAtWorld, IsImageCause, NamesForeignType, lists_of}
-use Rattle.wit_link.specs.Examples.{function_entry, gate_f, named_as, no_features}
-use Rattle.wit_link.specs.Gates.{interface_is_active, world_is_active}
-use Rattle.wit_link.specs.Gates as asked
+use Rattle.wit_labels.specs.Examples.{function_entry, named_as}
+use Rattle.wit_link.specs.Examples.{gate_f, no_features}
+use Rattle.wit_adding.specs.Gates.{interface_is_active, world_is_active}
+use Rattle.wit_adding.specs.Gates as asked
 use Rattle.wit_link.specs.Image.{Maps, alias_rows}
 use Rattle.wit_link.specs.Include.{IsRenamed}
 use Rattle.wit_link.specs.PushExamples.{gate_g, main_name, since_one}
 use Rattle.wit_link.specs.Pushed.{AreMaps, HasWorld, IsBuilt, new_package}
-use Rattle.wit_link.specs.Rename.{renamed_by}
+use Rattle.wit_labels.specs.Rename.{renamed_by}
 use Rattle.wit_link.specs.WorldNearMisses.{with_world}
 use Rattle.wit_link.specs.WorldCauseExamples.{ExamplesOfWorldCauses, all_features, exporting, exporting_package, gated_entry, including, including_package, naming_type, no_version, since_package, three, with_base}
 

@@ -25,8 +25,9 @@ use Rattle.wit_link.proofs.LabelNearMisses.{has_getter, not_alike}
 use Rattle.wit_link.proofs.Listed.{differ, none_in, only_one}
 use Rattle.wit_link.proofs.WorldCauseExamples.{at_include, begun, other_feature, with_main}
 use Rattle.wit_link.specs.Cause.{HasStability, IsAtInclude, IsAtWorld, IsListCalled, Mismatches, RenamesNothing, Shadows, lists_of}
-use Rattle.wit_link.specs.Examples.{function_entry, gate_f, named_as}
-use Rattle.wit_link.specs.Gates.{Place}
+use Rattle.wit_labels.specs.Examples.{function_entry, named_as}
+use Rattle.wit_link.specs.Examples.{gate_f}
+use Rattle.wit_adding.specs.Gates.{Place}
 use Rattle.wit_link.specs.Image.{IsEntryImage, IsWorldImage, Maps}
 use Rattle.wit_link.specs.Include.{Copies, IncludeJoinsTo, IsRenamed, IsShadowed, Lists, is_other_package, renamed_key}
 use Rattle.wit_link.specs.PushExamples.{gate_g}

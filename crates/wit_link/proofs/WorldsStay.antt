@@ -25,14 +25,16 @@ use Rattle.wit_graph.specs.ElaborationLaws.{ElaboratesOnce}
 use Rattle.wit_graph.specs.Entries.{role_of}
 use Rattle.wit_graph.specs.KeptByElaboration.{ElaboratedEntries, ElaboratedOnce, ElaborationIsLocal, IsMadeImport, IsSettled}
 use Rattle.wit_graph.specs.Listed.{IsListed}
-use Rattle.wit_graph.specs.Valid.{HasDistinctKeys, HasWorlds, IsOfPackage, IsValid}
+use Rattle.wit_graph.specs.ListedFacts.{lists_in_order}
+use Rattle.wit_values.specs.Table.{HasDistinctKeys}
+use Rattle.wit_graph.specs.Valid.{HasWorlds, IsOfPackage, IsValid}
 use Rattle.wit_graph.specs.declared.graph.Graph.{Graph}
 use Rattle.wit_graph.specs.declared.role.Role.TheVariants.{TypeUse}
-use Rattle.wit_link.proofs.GrownWorlds.{export_longer, import_longer, lists_in_order, of_package_longer, once_longer, own_longer, same_carried, same_roles, used_is_named}
+use Rattle.wit_link.proofs.GrownWorlds.{export_longer, import_longer, of_package_longer, once_longer, own_longer, same_carried, same_roles, used_is_named}
 use Rattle.wit_link.proofs.ReferencesStay.{HasReferences-of_added}
 use Rattle.wit_link.proofs.TablePlaces.{AllZip-second, Contains-at, EachAt-append, EachAt-map, SomeAt-is, SomeAt-of, at-Contains, flat_map_cases, new_id-is, slice_get-mapped, slice_get-right}
 use Rattle.wit_link.proofs.UsesStay.{old_uses}
-use Rattle.wit_link.specs.Added.{Added, NamesDiffer, Places, next_places, placed_entry, placed_interface, placed_item, placed_key, placed_type, placed_world}
+use Rattle.wit_link.specs.Added.{Added, Places, next_places, placed_entry, placed_interface, placed_item, placed_key, placed_type, placed_world}
 use Rattle.wit_link.specs.Cause.{HasPackage}
 use Rattle.wit_link.specs.Supported.{IsSupported, IsSupportedImport}
 
@@ -326,10 +328,10 @@ named_placed g u offset f named =
     (SomeAt-of (λ (interface : Interface). IsSome interface.name) all (length g.interfaces + f) (place there.0)
     (slice_get-right g.interfaces (map place u.interfaces) f (place there.0) (slice_get-mapped place u.interfaces f there.0 there.1)) there.2)
 
-module _ (g : Graph) (u : UnresolvedPackage) (offset : ℕ) (new : Graph) (valid : IsValid g) (shaped : IsShaped u) (supported : IsSupported u) (differ : NamesDiffer u) (free : HasPackage g u.name → ⊥)
+module _ (g : Graph) (u : UnresolvedPackage) (offset : ℕ) (new : Graph) (valid : IsValid g) (shaped : IsShaped u) (supported : IsSupported u) (free : HasPackage g u.name → ⊥)
     (is : Added g u offset new) (again : ElaboratesOnce) (local : ElaborationIsLocal) (once_each : ElaboratedOnce) (entries : ElaboratedEntries) (acyclic : IsAcyclic (uses_of new.types new.interfaces)) where
   all_aliases : Each (AliasesNamed (g.types ++ map (placed_type (next_places g u offset)) u.types) (g.interfaces ++ map (placed_interface (next_places g u offset)) u.interfaces)) (g.types ++ map (placed_type (next_places g u offset)) u.types)
-  all_aliases = to_joined g u offset new is (λ ts is. Each (AliasesNamed ts is) ts) (HasReferences-of_added g u offset new valid shaped supported differ is).aliases
+  all_aliases = to_joined g u offset new is (λ ts is. Each (AliasesNamed ts is) ts) (HasReferences-of_added g u offset new valid shaped supported is).aliases
 
   all_acyclic : IsAcyclic (uses_of (g.types ++ map (placed_type (next_places g u offset)) u.types) (g.interfaces ++ map (placed_interface (next_places g u offset)) u.interfaces))
   all_acyclic = to_joined g u offset new is (λ ts is. IsAcyclic (uses_of ts is)) acyclic

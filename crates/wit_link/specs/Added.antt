@@ -2,13 +2,10 @@
 -- id of its sort, and stands there as it is with its ids and spans moved; then each world is elaborated.
 -- The law `additions_are_pushes` says that this is `Pushed`.
 use Rattle.std.specs.Prelude.{◌≡◌, ℕ, List, [], ◌∷◌, ◌++◌, map, length, slice_get, Option, None, Some}
-use Rattle.std.specs.List.{AllZip, IsDistinct, enumerate_from, range_with_len}
-use Rattle.std.specs.Map.{keys_of}
+use Rattle.std.specs.List.{AllZip, enumerate_from, range_with_len}
 use Rattle.std.specs.Option.{option_map}
-use Rattle.std.specs.Str.{bytes_eq}
-use Rattle.wit_items.specs.Each.{Each}
 use Rattle.wit_items.specs.Entries.{Entry}
-use Rattle.wit_items.specs.Span.{moved_by}
+use Rattle.wit_sources.specs.Span.{moved_by}
 use Rattle.wit_items.specs.Uses.{uses_of}
 use Rattle.wit_items.specs.declared.function.Function.{Function}
 use Rattle.wit_items.specs.declared.function.FunctionKind.{FunctionKind}
@@ -212,11 +209,6 @@ added_package g u = record {
   interfaces = named_ids (length g.interfaces) (enumerate_from 0 u.interfaces);
   worlds = world_ids (length g.worlds) (enumerate_from 0 u.worlds);
 }
-
--- what is known of a package since its tables are tables: the names in each of them differ
-pub record NamesDiffer (u : UnresolvedPackage) : Type 0 where
-  pub types : Each (λ (interface : Interface). IsDistinct bytes_eq (keys_of interface.types)) u.interfaces
-  pub functions : Each (λ (interface : Interface). IsDistinct bytes_eq (keys_of interface.functions)) u.interfaces
 
 -- new is g with all things of u at their places, and with u's worlds elaborated
 pub record Added (g : Graph) (u : UnresolvedPackage) (offset : ℕ) (new : Graph) : Type 0 where

@@ -15,7 +15,7 @@ use Rattle.wit_link.specs.Examples.{gate_f}
 use Rattle.wit_link.specs.Fits.{PackageFits}
 use Rattle.wit_link.specs.Groups.{FilesPassTheEnd, packages_of}
 use Rattle.wit_link.specs.PushExamples.{dep_name, first_package, main_name}
-use Rattle.wit_link.specs.Spans.{package_spans}
+use Rattle.wit_adding.specs.Spans.{package_spans}
 use Rattle.wit_link.specs.Supported.{IsSupported, IsSupportedGroup}
 use Rattle.wit_link.specs.WorldCauseExamples.{including_package, naming_type}
 

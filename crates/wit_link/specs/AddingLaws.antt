@@ -5,7 +5,7 @@ use Rattle.wit_items.specs.declared.unresolved.UnresolvedPackage.{UnresolvedPack
 use Rattle.wit_graph.specs.Valid.{IsValid}
 use Rattle.wit_graph.specs.declared.features.Features.{Features}
 use Rattle.wit_graph.specs.declared.graph.Graph.{Graph}
-use Rattle.wit_link.specs.Added.{Added, NamesDiffer}
+use Rattle.wit_link.specs.Added.{Added}
 use Rattle.wit_link.specs.Cause.{HasPackage, PassesTheEnd}
 use Rattle.wit_link.specs.Fits.{PackageFits}
 use Rattle.wit_link.specs.Pushed.{Pushed}
@@ -18,7 +18,7 @@ AdditionsArePushes = (features : Features) (g : Graph) (u : UnresolvedPackage) (
 
 -- a valid graph stays valid when a package is added that it doesn't have
 abbrev pub AdditionsStayValid : Type 0
-AdditionsStayValid = (g : Graph) (u : UnresolvedPackage) (offset : ℕ) (new : Graph) → IsValid g → IsShaped u → IsSupported u → NamesDiffer u →
+AdditionsStayValid = (g : Graph) (u : UnresolvedPackage) (offset : ℕ) (new : Graph) → IsValid g → IsShaped u → IsSupported u →
     (HasPackage g u.name → ⊥) → Added g u offset new → IsValid new
 
 -- a package fits exactly where no span of it passes the end

@@ -14,7 +14,7 @@ use Rattle.wit_items.specs.Each.{Each, SomeAt}
 use Rattle.wit_items.specs.Entries.{Entry}
 use Rattle.wit_items.specs.Foreign.{ForeignItem}
 use Rattle.wit_items.specs.Reference.{function_references, named_option, named_type, referred}
-use Rattle.wit_items.specs.Span.{moved_by}
+use Rattle.wit_sources.specs.Span.{moved_by}
 use Rattle.wit_items.specs.Stability.{IsStable}
 use Rattle.wit_items.specs.Uses.{uses_of}
 use Rattle.wit_items.specs.declared.function.Function.{Function}
@@ -46,13 +46,14 @@ use Rattle.wit_graph.specs.declared.error_kind.ResolveErrorKind.{ResolveErrorKin
 use Rattle.wit_graph.specs.declared.error_kind.ResolveErrorKind.TheVariants.{PackageNotFound, WorldNotFound, InterfaceNotFound, InvalidTransitiveDependency, DuplicatePackage, ItemShadowing, StabilityMismatch, Semantic, OffsetOverflow}
 use Rattle.wit_graph.specs.declared.features.Features.{Features}
 use Rattle.wit_graph.specs.declared.graph.Graph.{Graph}
-use Rattle.wit_link.specs.CauseText.{gate_without_version_text, gate_unreleased_text, excluded_text, excluded_owner_text, type_not_defined_text, not_a_resource_text, borrow_text, rename_text, clash_text, getter_text}
-use Rattle.wit_link.specs.Gates.{Place, HasEntry, IsAsked, IsExcludedInterface, IsExcludedType, IsExcludedWorld, function_is_active, include_is_active, interface_is_active, is_active, type_is_active, world_is_active}
+use Rattle.wit_adding.specs.CauseText.{gate_without_version_text, gate_unreleased_text, excluded_text, excluded_owner_text, type_not_defined_text, not_a_resource_text, borrow_text, rename_text, clash_text, getter_text}
+use Rattle.wit_adding.specs.Gates.{Place, HasEntry, IsAsked, IsExcludedInterface, IsExcludedType, IsExcludedWorld, function_is_active, include_is_active, interface_is_active, is_active, type_is_active, world_is_active}
 use Rattle.wit_link.specs.Image.{Maps, IsWorldImage, LeadsToResource}
 use Rattle.wit_link.specs.Include.{Copies, IncludeJoinsTo, IsRenamed, IsShadowed, Lists, is_other_package, renamed_key}
-use Rattle.wit_link.specs.Labels.{Clashes, IsSetter, getter_label}
+use Rattle.wit_labels.specs.Setters.{IsSetter, getter_label}
+use Rattle.wit_labels.specs.Strong.{Clashes}
 use Rattle.wit_link.specs.Pushed.{AreIncluded, HasInterface, HasWorld, IsBuilt, Pushed, active_entries, active_includes, active_worlds, named_items, with_placed}
-use Rattle.wit_link.specs.Spans.{package_spans}
+use Rattle.wit_adding.specs.Spans.{package_spans}
 
 -- the graph has a package of this name
 abbrev pub HasPackage : Graph → PackageName → Type 0

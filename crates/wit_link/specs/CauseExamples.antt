@@ -19,7 +19,8 @@ use Rattle.wit_graph.specs.declared.cause.Cause.TheVariants as cause
 use Rattle.wit_graph.specs.declared.error_kind.ResolveErrorKind.TheVariants.{PackageNotFound, InterfaceNotFound, DuplicatePackage, Semantic, OffsetOverflow, OutOfMemory}
 use Rattle.wit_graph.specs.declared.graph.Graph.{Graph}
 use Rattle.wit_link.specs.Cause.{HoldsBorrow, IsCause}
-use Rattle.wit_link.specs.Examples.{feature_f, function_entry, gate_f, no_features}
+use Rattle.wit_labels.specs.Examples.{function_entry}
+use Rattle.wit_link.specs.Examples.{feature_f, gate_f, no_features}
 
 -- a package of this name without anything, whose name stands at 8 to 13
 abbrev pub bare : PackageName → UnresolvedPackage

@@ -3,7 +3,7 @@
 use Rattle.std.specs.Prelude.{◌≡◌, ◌⊎◌, None, ℕ, ◌+◌, ◌<◌, ◌^◌, List}
 use Rattle.wit_items.specs.Each.{Each}
 use Rattle.wit_items.specs.Entries.{Entry}
-use Rattle.wit_items.specs.Span.{end_of, moved_by}
+use Rattle.wit_sources.specs.Span.{end_of, moved_by}
 use Rattle.wit_items.specs.declared.function.Function.{Function}
 use Rattle.wit_items.specs.declared.function.Param.{Param}
 use Rattle.wit_items.specs.declared.interface.Interface.{Interface}
@@ -21,7 +21,7 @@ use Rattle.wit_items.specs.declared.world.WorldItem.{WorldItem}
 use Rattle.wit_items.specs.declared.world.WorldItem.TheVariants as item
 use Rattle.wit_graph.specs.declared.error_kind.ResolveErrorKind.{ResolveErrorKind}
 use Rattle.wit_graph.specs.declared.error_kind.ResolveErrorKind.TheVariants.{DuplicatePackage, OffsetOverflow}
-use Rattle.wit_link.specs.Gates.{Place}
+use Rattle.wit_adding.specs.Gates.{Place}
 
 -- the place still ends within the last position
 abbrev pub Fits : ℕ → Place → Type 0

@@ -9,7 +9,7 @@ use Rattle.std.specs.Option.{option_map, option_to_list}
 use Rattle.wit_relations.specs.Relation.{Reaches}
 use Rattle.wit_items.specs.Each.{SomeAt}
 use Rattle.wit_items.specs.Entries.{Entry}
-use Rattle.wit_items.specs.Span.{moved_by}
+use Rattle.wit_sources.specs.Span.{moved_by}
 use Rattle.wit_items.specs.Uses.{alias_target}
 use Rattle.wit_items.specs.declared.function.Function.{Function}
 use Rattle.wit_items.specs.declared.function.FunctionKind.{FunctionKind}

@@ -24,9 +24,9 @@ use Rattle.wit_items.specs.declared.world.WorldItem.TheVariants as item
 use Rattle.wit_items.specs.declared.world.WorldKey.{WorldKey}
 use Rattle.wit_items.specs.declared.world.WorldKey.TheVariants as key
 use Rattle.wit_graph.specs.Entries.{same_key}
-use Rattle.wit_graph.specs.Valid.{HasDistinctKeys}
+use Rattle.wit_values.specs.Table.{HasDistinctKeys}
 use Rattle.wit_link.specs.Image.{Maps, IsImage, IsInterfaceImage, IsItemImage}
-use Rattle.wit_link.specs.Rename.{renamed, renamed_by}
+use Rattle.wit_labels.specs.Rename.{renamed, renamed_by}
 
 -- ---- what is copied
 

@@ -11,7 +11,7 @@ use Rattle.wit_graph.specs.declared.graph.Graph.{Graph}
 use Rattle.wit_link.specs.Cause.{IsCause}
 use Rattle.wit_link.specs.CauseExamples.{returning}
 use Rattle.wit_link.specs.Examples.{no_features}
-use Rattle.wit_link.specs.Gates.{Place}
+use Rattle.wit_adding.specs.Gates.{Place}
 use Rattle.wit_link.specs.WorldCauseExamples.{all_features, including_package, naming_type, with_base}
 
 -- foo:bar, whose interface a has a resource t

@@ -5,7 +5,8 @@ use Rattle.wit_graph.specs.Samples.{foo_bar, sample}
 use Rattle.wit_graph.specs.declared.error_kind.ResolveErrorKind.TheVariants.{DuplicatePackage}
 use Rattle.wit_link.specs.CauseExamples.{bare, naming}
 use Rattle.wit_link.specs.Examples.{no_features}
-use Rattle.wit_link.specs.Groups.{AreSorted, Handed, IsGroupOrder, IsPushCause, TellsTooFar}
+use Rattle.wit_link.specs.Groups.{IsPushCause}
+use Rattle.wit_sorting.specs.Sorting.{AreSorted, Handed, IsGroupOrder, TellsTooFar}
 use Rattle.wit_link.specs.PushExamples.{dep_name, main_and_dep, main_name}
 
 -- foo:main and foo:dep, which name nothing of each other

@@ -19,8 +19,10 @@ use Rattle.wit_graph.specs.declared.error_kind.ResolveErrorKind.{ResolveErrorKin
 use Rattle.wit_graph.specs.declared.graph.Graph.{Graph}
 use Rattle.wit_link.specs.Cause.{IsAccepted}
 use Rattle.wit_link.specs.CauseExamples.{bare, gated, loose_interface, loose_world, name_of, naming}
-use Rattle.wit_link.specs.Examples.{feature_f, function_entry, gate_f, named_as, no_features}
-use Rattle.wit_link.specs.Groups.{Handed, IsGroupOrder, IsHandedTwice, IsOnHandedCycle, IsPushCause, handed_uses}
+use Rattle.wit_labels.specs.Examples.{function_entry, named_as}
+use Rattle.wit_link.specs.Examples.{feature_f, gate_f, no_features}
+use Rattle.wit_link.specs.Groups.{IsPushCause}
+use Rattle.wit_sorting.specs.Sorting.{Handed, IsGroupOrder, IsHandedTwice, IsOnHandedCycle, handed_uses}
 use Rattle.wit_link.specs.Include.{Copies, Included, IsTaken, IncludeJoinsTo, IsCopied, IsJoined, IsRenamed, IsShadowed, JoinsTo}
 use Rattle.wit_link.specs.Pushed.{Pushed}
 

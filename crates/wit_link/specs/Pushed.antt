@@ -27,10 +27,11 @@ use Rattle.wit_graph.specs.Elaborated.{Elaborated}
 use Rattle.wit_graph.specs.declared.features.Features.{Features}
 use Rattle.wit_graph.specs.declared.graph.Graph.{Graph}
 use Rattle.wit_graph.specs.declared.graph.Package.{Package}
-use Rattle.wit_link.specs.Gates.{is_foreign_interface, is_foreign_world, function_is_active, include_is_active, interface_is_active, item_is_active, type_is_active, world_is_active}
+use Rattle.wit_adding.specs.Gates.{is_foreign_interface, is_foreign_world, function_is_active, include_is_active, interface_is_active, item_is_active, type_is_active, world_is_active}
 use Rattle.wit_link.specs.Image.{Maps, IsImage, IsInterfaceImage, IsWorldImage}
 use Rattle.wit_link.specs.Include.{Copies, Included, Lists}
-use Rattle.wit_link.specs.Labels.{AreStronglyUnique, HaveGetters, placed}
+use Rattle.wit_labels.specs.Setters.{HaveGetters, placed}
+use Rattle.wit_labels.specs.Strong.{AreStronglyUnique}
 
 -- ---- what takes part
 

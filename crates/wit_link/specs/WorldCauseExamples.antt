@@ -19,8 +19,9 @@ use Rattle.wit_graph.specs.declared.features.Features.{Features}
 use Rattle.wit_graph.specs.declared.graph.Graph.{Graph}
 use Rattle.wit_link.specs.Cause.{FindsType, IsCause}
 use Rattle.wit_link.specs.CauseExamples.{bare, loose_interface, loose_world}
-use Rattle.wit_link.specs.Examples.{function_entry, gate_f, named_as, no_features}
-use Rattle.wit_link.specs.Gates.{Place}
+use Rattle.wit_labels.specs.Examples.{function_entry, named_as}
+use Rattle.wit_link.specs.Examples.{gate_f, no_features}
+use Rattle.wit_adding.specs.Gates.{Place}
 use Rattle.wit_link.specs.PushExamples.{gate_g, main_name, since_one}
 
 -- all features are on

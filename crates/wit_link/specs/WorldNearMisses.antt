@@ -11,8 +11,9 @@ use Rattle.wit_graph.specs.declared.error_kind.ResolveErrorKind.TheVariants.{Inv
 use Rattle.wit_graph.specs.declared.graph.Graph.{Graph}
 use Rattle.wit_link.specs.Cause.{IsCause}
 use Rattle.wit_link.specs.CauseExamples.{bare, importing, loose_interface}
-use Rattle.wit_link.specs.Examples.{function_entry, gate_f, named_as, no_features}
-use Rattle.wit_link.specs.Gates.{Place}
+use Rattle.wit_labels.specs.Examples.{function_entry, named_as}
+use Rattle.wit_link.specs.Examples.{gate_f, no_features}
+use Rattle.wit_adding.specs.Gates.{Place}
 use Rattle.wit_link.specs.PushExamples.{gate_g, main_name}
 use Rattle.wit_link.specs.WorldCauseExamples.{all_features, exporting, gated_entry, including_package, three}
 

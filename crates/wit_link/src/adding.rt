@@ -10,7 +10,7 @@ ghost use Rattle.wit_items.specs.Each.{Each};
 ghost use Rattle.wit_items.specs.PackageOrder.{same_package};
 ghost use Rattle.wit_items.specs.Shape.{IsShaped, interface_names, world_names};
 ghost use Rattle.wit_link.specs.Supported.{IsSupported};
-ghost use Rattle.wit_link.specs.Added.{Added, NamesDiffer, next_ids, next_remap, placed_interface, placed_type, placed_world};
+ghost use Rattle.wit_link.specs.Added.{Added, next_ids, next_remap, placed_interface, placed_type, placed_world};
 ghost use Rattle.wit_link.specs.Cause.{IsAccepted, IsCause};
 ghost use Rattle.wit_link.specs.Fits.{IsNameTaken};
 ghost use Rattle.wit_link.specs.Images.{AreNext, HasKeysBelow, image_places, interfaces_at, package_at, with_parts, worlds_at};
@@ -66,7 +66,7 @@ fn name_taken(package: UnresolvedPackage, span_offset: u32) -> ResolveError
 {
     match package.package_name_span.moved(span_offset) {
         Some(span1) => ResolveError::from(ResolveErrorKind::DuplicatePackage {
-            name: package.name,
+            name: package.into_name(),
             span1,
             span2: Span::unknown(),
         }),
@@ -97,8 +97,7 @@ fn add_package(
     Ok(id)
 }
 
-/// Adds the types, interfaces and worlds of a package at their places, then the package. A caller learns
-/// here that the names in the tables of its interfaces differ.
+/// Adds the types, interfaces and worlds of a package at their places, then the package.
 fn add_parts(
     alloc: Global,
     graph: &mut Graph,
@@ -110,7 +109,6 @@ fn add_parts(
     requires new { lookup (same_package «package».now.name) graph.old.package_names ≡ None }
     ensures id { IfOk result (λ id. id ≡ length graph.old.packages) }
     ensures parts { OnOk result (graph.new ≡ with_parts graph.old «package».now span_offset) }
-    ensures names { OnOk result (NamesDiffer «package».now) }
 {
     let id = PackageId::from_index(graph.packages.len());
     let remap = fresh_ids(alloc, graph, package)?;
@@ -207,16 +205,14 @@ fn add_types(
     Ok(())
 }
 
-/// Adds the interfaces of a package at their places. A caller learns here that the names in their tables
-/// differ.
+/// Adds the interfaces of a package at their places.
 fn add_interfaces(
     alloc: Global,
     graph: &mut Graph,
     image: &Image<'_>,
     package: &UnresolvedPackage,
 ) -> Result<(), AllocError>
-    ensures interfaces { OnOk result (graph.new ≡ record graph.old { interfaces = graph.old.interfaces ++ map (placed_interface (image_places image.now)) «package».now.interfaces }) }
-    ensures names { OnOk result (NamesDiffer «package».now) }
+    ensures { OnOk result (graph.new ≡ record graph.old { interfaces = graph.old.interfaces ++ map (placed_interface (image_places image.now)) «package».now.interfaces }) }
 {
     for interface in package.interfaces.as_slice() {
         graph.interfaces.push(image.interface(alloc, interface)?)?;

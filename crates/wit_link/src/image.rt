@@ -2,7 +2,7 @@
 //! span moved.
 ghost use Rattle.std.specs.Prelude.{◌≡◌, IfOk};
 ghost use Rattle.std.specs.Option.{option_map};
-ghost use Rattle.wit_items.specs.Span.{moved_by};
+ghost use Rattle.wit_sources.specs.Span.{moved_by};
 ghost use Rattle.wit_link.specs.Added.{placed_ty, placed_owner, placed_handle, placed_function_kind};
 ghost use Rattle.wit_link.specs.Images.{image_places};
 

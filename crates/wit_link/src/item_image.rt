@@ -1,8 +1,5 @@
 //! The images of functions, interfaces and worlds.
-ghost use Rattle.std.specs.Prelude.{◌≡◌, IfOk, OnOk, length, map};
-ghost use Rattle.std.specs.List.{IsDistinct};
-ghost use Rattle.std.specs.Map.{keys_of};
-ghost use Rattle.std.specs.Str.{bytes_eq};
+ghost use Rattle.std.specs.Prelude.{◌≡◌, IfOk, length, map};
 ghost use Rattle.wit_link.specs.Added.{placed_function, placed_interface, placed_param, placed_key, placed_item, placed_entry, placed_world};
 ghost use Rattle.wit_link.specs.Images.{AreNext, HaveKeysBelow, image_places, placed_listed, placed_named};
 
@@ -14,16 +11,13 @@ use wit_items::{
 use wit_values::{try_clone_three, try_clone_two};
 
 impl<'a> Image<'a> {
-    /// The image of an interface, which belongs to the package that takes it. A caller learns here that
-    /// the names in its tables differ.
+    /// The image of an interface, which belongs to the package that takes it.
     pub(crate) fn interface(
         &self,
         alloc: Global,
         interface: &Interface,
     ) -> Result<Interface, AllocError>
-        ensures image { IfOk result (λ x. x ≡ placed_interface (image_places self.now) interface.now) }
-        ensures types { OnOk result (IsDistinct bytes_eq (keys_of interface.now.types)) }
-        ensures functions { OnOk result (IsDistinct bytes_eq (keys_of interface.now.functions)) }
+        ensures { IfOk result (λ x. x ≡ placed_interface (image_places self.now) interface.now) }
     {
         let span = self.span(interface.span)?;
         let types = self.listed_types(alloc, &interface.types)?;
@@ -49,8 +43,7 @@ impl<'a> Image<'a> {
         alloc: Global,
         types: &Names<TypeId>,
     ) -> Result<Names<TypeId>, AllocError>
-        ensures image { IfOk result (λ x. x ≡ map (placed_listed (image_places self.now)) types.now) }
-        ensures distinct { OnOk result (IsDistinct bytes_eq (keys_of types.now)) }
+        ensures { IfOk result (λ x. x ≡ map (placed_listed (image_places self.now)) types.now) }
     {
         let mut images = Names::new(alloc);
         for index in 0..types.len() {
@@ -65,8 +58,7 @@ impl<'a> Image<'a> {
         alloc: Global,
         functions: &Names<Function>,
     ) -> Result<Names<Function>, AllocError>
-        ensures image { IfOk result (λ x. x ≡ map (placed_named (image_places self.now)) functions.now) }
-        ensures distinct { OnOk result (IsDistinct bytes_eq (keys_of functions.now)) }
+        ensures { IfOk result (λ x. x ≡ map (placed_named (image_places self.now)) functions.now) }
     {
         let mut images = Names::new(alloc);
         for index in 0..functions.len() {

@@ -12,7 +12,7 @@ ghost use Rattle.wit_link.specs.PushExamples.{
 };
 ghost use Rattle.wit_link.specs.WorldCauseExamples.{ExamplesOfWorldCauses};
 ghost use Rattle.wit_link.specs.WorldNearMisses.{ExamplesOfWorldNearMisses};
-ghost use Rattle.wit_link.specs.Examples.{ExamplesOfGates, ExamplesOfImages, ExamplesOfLabels, ExamplesOfRenaming};
+ghost use Rattle.wit_link.specs.Examples.{ExamplesOfGates, ExamplesOfImages};
 
 use wit_graph::laws::{elaborated_entries, elaborated_once, elaborates_once, elaboration_is_local};
 
@@ -39,16 +39,6 @@ pub fn fitting_is_exact()
 /// Notes that are active and notes that aren't.
 pub fn examples_of_gates()
     ensures { ExamplesOfGates }
-{}
-
-/// Labels that a renaming is of and labels that it isn't of.
-pub fn examples_of_renaming()
-    ensures { ExamplesOfRenaming }
-{}
-
-/// Labels that clash and labels that don't; where setters go.
-pub fn examples_of_labels()
-    ensures { ExamplesOfLabels }
 {}
 
 /// What leads to a resource, and what becomes an `own`.

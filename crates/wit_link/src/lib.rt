@@ -14,3 +14,4 @@ mod type_image;
 pub use crate::adding::append;
 pub use crate::remap::Remap;
 pub use crate::supported::{is_supported, is_supported_group};
+pub use wit_sorting::sort_groups;

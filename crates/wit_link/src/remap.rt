@@ -7,7 +7,7 @@ use wit_values::try_clone_four;
 
 /// The ids of the things that were handed in: for each place of the handed-in list the id in the
 /// graph that took it, or None where the thing isn't there because its feature isn't active.
-#[derive(Debug, Drop)]
+#[derive(Drop)]
 pub struct Remap {
     types: Items<Option<TypeId>>,
     interfaces: Items<Option<InterfaceId>>,

@@ -27,7 +27,7 @@ returns-clause-added c =
 
 pub returns-clause-valid : goal.returns-clause-valid
 returns-clause-valid c =
-    c.additions_stay_valid.ensures c.args.graph.now c.args.package.now c.args.span_offset c.elaborate_from.new.graph c.requires.valid c.requires.shaped c.requires.supported c.in_ok-id.ensures.names
+    c.additions_stay_valid.ensures c.args.graph.now c.args.package.now c.args.span_offset c.elaborate_from.new.graph c.requires.valid c.requires.shaped c.requires.supported
     (absent c.args.graph.now c.args.package.now.name c.requires.new)
     (added-of_elaborated c.args.graph.now c.args.package.now c.args.span_offset c.elaborate_from.new.graph
     (subst (λ (k : ℕ). ElaboratedFrom k (with_parts c.args.graph.now c.args.package.now c.args.span_offset) c.elaborate_from.new.graph) c.len-first_world.ensures

@@ -30,4 +30,4 @@ returns-clause-parts c =
     all_parts c.args.graph.now c.args.package.now c.args.span_offset c.from_index-id.result c.in_ok-remap.remap
     c.fresh_ids.new.graph c.add_types.new.graph c.add_interfaces.new.graph c.add_worlds.new.graph c.add_tables.new.graph
     c.in_ok-remap.ensures.same (c.from_index-id.ensures ∙ c.len.ensures) c.in_ok-remap.ensures.remap
-    c.in_ok-add_types.ensures c.in_ok-add_interfaces.ensures.interfaces c.in_ok-add_worlds.ensures c.in_ok-add_tables.ensures
+    c.in_ok-add_types.ensures c.in_ok-add_interfaces.ensures c.in_ok-add_worlds.ensures c.in_ok-add_tables.ensures

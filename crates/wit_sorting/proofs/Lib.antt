@@ -1,0 +1,3 @@
+mod NamePlaces
+mod Orders
+mod Refusals

@@ -1,0 +1,9 @@
+//! The order in which packages that are handed in together are added: dependencies first, else by name.
+#![tactic(auto)]
+
+mod depends;
+mod places;
+mod refusal;
+pub mod sort;
+
+pub use crate::sort::sort_groups;

@@ -1,0 +1,51 @@
+//! The order of packages that are handed in together.
+ghost use Rattle.std.specs.Prelude.{◌≡◌, ◌⊎◌, ℕ, ⊤, IfErr, IfOk, List, OnOk};
+ghost use Rattle.wit_graph.specs.declared.error_kind.ResolveErrorKind.{ResolveErrorKind};
+ghost use Rattle.wit_graph.specs.declared.error_kind.ResolveErrorKind.TheVariants.{OutOfMemory};
+ghost use Rattle.wit_sorting.specs.Sorting.{AreSorted, HaveSpans, IsSortCause};
+ghost use Rattle.wit_sorting.specs.SortingSteps.{IsOrdered};
+
+use crate::depends::uses_of_handed;
+use crate::places::{places_by_name, roots_by_name};
+use crate::refusal::handed_in_cycle;
+use std::alloc::Global;
+use wit_graph::ResolveResult;
+use wit_items::{Items, UnresolvedPackage};
+use wit_relations::{find_cycle, in_order, walk_order};
+
+/// The packages, each with the offset by which its spans move, in the order in which they are added:
+/// each after those that it depends on, and else in the order of their names.
+///
+/// Refused where two have one name (5), where packages depend on each other, or one on itself (6), and
+/// where a place that would be told ends past 4294967295 (27). Each package is moved.
+pub fn sort_groups(
+    alloc: Global,
+    handed: Items<(UnresolvedPackage, u32)>,
+) -> ResolveResult<Items<(UnresolvedPackage, u32)>>
+    requires { HaveSpans handed }
+    ensures ok { IfOk result (λ sorted. (order : List ℕ) × AreSorted handed order sorted) }
+    ensures cause { IfErr result (λ kind. (kind ≡ OutOfMemory) ⊎ IsSortCause handed kind) }
+    ensures refuses { (kind : ResolveErrorKind) → IsSortCause handed kind → OnOk result ⊥ }
+{
+    let order = group_order(alloc, &handed)?;
+    Ok(in_order(alloc, handed, order.as_slice())?)
+}
+
+/// The places of the packages in that order.
+fn group_order(
+    alloc: Global,
+    handed: &Items<(UnresolvedPackage, u32)>,
+) -> ResolveResult<Items<usize>>
+    requires { HaveSpans handed.now }
+    ensures ok { IfOk result (IsOrdered handed.now) }
+    ensures cause { IfErr result (λ kind. (kind ≡ OutOfMemory) ⊎ IsSortCause handed.now kind) }
+{
+    let places = places_by_name(alloc, handed)?;
+    let _count = places.len();
+    let uses = uses_of_handed(alloc, handed, &places)?;
+    if let Some(found) = find_cycle(alloc, uses.as_slice())? {
+        return Err(handed_in_cycle(handed, found));
+    }
+    let roots = roots_by_name(alloc, places)?;
+    Ok(walk_order(alloc, uses.as_slice(), roots.as_slice())?)
+}

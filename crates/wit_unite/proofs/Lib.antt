@@ -1,0 +1,12 @@
+pub mod Accepted
+pub mod Answering
+pub mod Distinct
+pub mod ListsFrom
+pub mod Looked
+pub mod NamedInterfaces
+pub mod OnePlaceTurned
+pub mod TurnExamples
+pub mod TurnSteps
+pub mod TurnedBack
+pub mod TurnedWorlds
+pub mod ValidTurns

@@ -1,0 +1,4 @@
+pub mod TurnCause
+pub mod TurnExamples
+pub mod TurnLaws
+pub mod Turned

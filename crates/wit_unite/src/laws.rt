@@ -1,0 +1,74 @@
+//! Laws of turned worlds: the contract of each function is what is proved.
+ghost use Rattle.wit_unite.specs.TurnExamples.{ExamplesOfRefusedTurns, ExamplesOfTurns};
+ghost use Rattle.wit_unite.specs.TurnLaws.{ExportizedImportsNothing, ExportizedStayValid, ImportizedExportsNothing, ImportizedStayValid, TurnedTwice};
+
+use wit_graph::laws::{
+    conflicts_are_refused, elaborated_entries, elaborated_once, elaborates_once, export_keys_stay,
+    imports_are_exact, imports_are_least, labels_stay,
+};
+
+/// A valid graph with a world whose exports became imports is valid, where nothing speaks against it.
+pub fn importized_stay_valid()
+    ensures { ImportizedStayValid }
+{
+    elaborates_once();
+    elaborated_entries();
+    elaborated_once();
+    labels_stay();
+    imports_are_least();
+    conflicts_are_refused();
+}
+
+/// So is one with a world whose imports became exports.
+pub fn exportized_stay_valid()
+    ensures { ExportizedStayValid }
+{
+    elaborates_once();
+    elaborated_entries();
+    elaborated_once();
+    labels_stay();
+    imports_are_least();
+    conflicts_are_refused();
+}
+
+/// A world whose exports became its imports exports nothing.
+pub fn importized_exports_nothing()
+    ensures { ImportizedExportsNothing }
+{}
+
+/// A world of which all imports became exports imports nothing.
+pub fn exportized_imports_nothing()
+    ensures { ExportizedImportsNothing }
+{
+    elaborates_once();
+    elaborated_entries();
+    elaborated_once();
+    labels_stay();
+    imports_are_least();
+    conflicts_are_refused();
+}
+
+/// A world without types that is turned and turned back exports what it exported and, under its own key,
+/// each interface that these need.
+pub fn turned_twice()
+    ensures { TurnedTwice }
+{
+    elaborates_once();
+    elaborated_entries();
+    elaborated_once();
+    labels_stay();
+    imports_are_least();
+    conflicts_are_refused();
+    export_keys_stay();
+    imports_are_exact();
+}
+
+/// Small graphs: what turns make of them, and what they don't.
+pub fn examples_of_turns()
+    ensures { ExamplesOfTurns }
+{}
+
+/// Small graphs: which turns are refused with which error, and which aren't.
+pub fn examples_of_refused_turns()
+    ensures { ExamplesOfRefusedTurns }
+{}
