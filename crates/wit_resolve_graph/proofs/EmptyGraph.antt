@@ -5,7 +5,8 @@ use Rattle.std.specs.List.{IsDistinct}
 use Rattle.wit_relations.specs.Relation.{IsAcyclic}
 use Rattle.wit_items.specs.Each.{EachAt}
 use Rattle.wit_graph.specs.Examples.{empty_graph}
-use Rattle.wit_graph.specs.Valid.{HasDistinctKeys, IsValid}
+use Rattle.wit_values.specs.Table.{HasDistinctKeys}
+use Rattle.wit_graph.specs.Valid.{IsValid}
 use Rattle.wit_graph.specs.declared.graph.Graph.{Graph}
 use Rattle.wit_graph.specs.declared.graph.Package.{Package}
 use Rattle.wit_items.specs.declared.interface.Interface.{Interface}

@@ -1,4 +1,5 @@
 mod EmptyGraph
+mod NamedWorlds
 mod OnePackage
 mod RunExamples
 mod Runs

@@ -11,7 +11,7 @@ use Rattle.wit_relations.specs.Walks.{first_of_each, walk, walk_within}
 use Rattle.wit_items.specs.Each.{SomeAt}
 use Rattle.wit_items.specs.Foreign.{ForeignItem}
 use Rattle.wit_items.specs.PackageOrder.{package_cmp, same_package}
-use Rattle.wit_items.specs.SourceMap.{AreLaidOut, Sources, moved_file, with_sources}
+use Rattle.wit_sources.specs.SourceMap.{AreLaidOut, Sources, moved_file, with_sources}
 use Rattle.wit_items.specs.declared.package_name.PackageName.{PackageName}
 use Rattle.wit_items.specs.declared.unresolved.UnresolvedPackage.{UnresolvedPackage}
 use Rattle.wit_items.specs.declared.unresolved.UnresolvedPackageGroup.{UnresolvedPackageGroup}
@@ -20,8 +20,9 @@ use Rattle.wit_graph.specs.declared.error_kind.ResolveErrorKind.TheVariants.{Dup
 use Rattle.wit_graph.specs.declared.features.Features.{Features}
 use Rattle.wit_graph.specs.declared.graph.Graph.{Graph}
 use Rattle.wit_link.specs.Cause.{IsAccepted, IsCause}
-use Rattle.wit_link.specs.Gates.{Place}
-use Rattle.wit_link.specs.Groups.{ArePushed, AreSorted, FilesPassTheEnd, Handed, IsGroupOrder, IsGroupsCause, IsHandedTwice, IsOnHandedCycle, IsPushCause, IsSortCause, handed_uses, names_of, packages_of}
+use Rattle.wit_adding.specs.Gates.{Place}
+use Rattle.wit_link.specs.Groups.{ArePushed, FilesPassTheEnd, IsGroupsCause, IsPushCause, packages_of}
+use Rattle.wit_sorting.specs.Sorting.{AreSorted, Handed, IsGroupOrder, IsHandedTwice, IsOnHandedCycle, IsSortCause, handed_uses, names_of}
 use Rattle.wit_link.specs.Supported.{IsSupportedGroup}
 use Rattle.wit_resolve_graph.specs.State.{State}
 use Rattle.wit_resolve_graph.specs.Step.{HasFilesAfter, PushesGroups, RefusesGroups, with_files}

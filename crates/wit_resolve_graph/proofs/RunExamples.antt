@@ -13,8 +13,8 @@ use Rattle.wit_graph.specs.declared.error_kind.ResolveErrorKind.{ResolveErrorKin
 use Rattle.wit_graph.specs.declared.error_kind.ResolveErrorKind.TheVariants.{DuplicatePackage, PackageCycle, OffsetOverflow}
 use Rattle.wit_link.specs.Cause.{IsAccepted}
 use Rattle.wit_link.specs.Examples.{no_features}
-use Rattle.wit_link.specs.Gates.{Place}
-use Rattle.wit_link.specs.Groups.{Handed, IsHandedTwice, IsOnHandedCycle, IsSortCause, handed_uses, names_of}
+use Rattle.wit_adding.specs.Gates.{Place}
+use Rattle.wit_sorting.specs.Sorting.{Handed, IsHandedTwice, IsOnHandedCycle, IsSortCause, handed_uses, names_of}
 use Rattle.wit_link.specs.PushExamples.{first_package}
 use Rattle.wit_resolve_graph.specs.Examples.{first_group, with_first}
 use Rattle.wit_resolve_graph.specs.State.{new_state}

@@ -1,14 +1,22 @@
 -- A run keeps what was there.
-use Rattle.std.proofs.Common.{◌≡◌, ◌∙◌, ℕ, List, [], ◌∷◌, ◌++◌, append_assoc, refl, ap, subst, sym}
+use Rattle.std.proofs.Common.{◌≡◌, ◌∙◌, inl, inr, ℕ, List, [], ◌∷◌, ◌++◌, Option, None, Some, slice_get, slice_set, append_assoc, refl, ap, subst, sym}
+use Rattle.std.specs.Option.{option_map_or}
 use Rattle.std.proofs.lemmas.List.{append-nil}
+use Rattle.wit_values.specs.Lists.{kept-cases, slice_get-append, slice_get-set}
+use Rattle.wit_items.specs.Each.{SomeAt}
 use Rattle.wit_items.specs.declared.unresolved.UnresolvedPackage.{UnresolvedPackage}
 use Rattle.wit_graph.specs.declared.features.Features.{Features}
+use Rattle.wit_items.specs.declared.world.World.{World}
 use Rattle.wit_graph.specs.declared.graph.Graph.{Graph}
-use Rattle.wit_link.specs.Groups.{ArePushed, Handed}
+use Rattle.wit_graph.specs.declared.graph.Package.{Package}
+use Rattle.wit_growth.specs.ListFacts.{found_at, same_at, some_at}
+use Rattle.wit_link.specs.Groups.{ArePushed}
+use Rattle.wit_sorting.specs.Sorting.{Handed}
 use Rattle.wit_link.specs.Pushed.{Pushed}
 use Rattle.wit_resolve_graph.specs.RunLaws.{Keeps, RunsKeep}
 use Rattle.wit_resolve_graph.specs.State.{State}
-use Rattle.wit_resolve_graph.specs.Step.{Run, Step}
+use Rattle.wit_resolve_graph.specs.Step.{Step, answers_at}
+use Rattle.wit_unite.specs.Turned.{Turn, exportized, importized, put_last, turned, turned_at, turned_world, with_renamed}
 use Rattle.wit_resolve_graph.specs.declared.command.Command.{Command}
 use Rattle.wit_resolve_graph.specs.declared.command.Command.TheVariants.{AddFeature, SetAllFeatures, PushGroups, Merge, Importize, Exportize, Semver}
 use Rattle.wit_resolve_graph.specs.declared.command.Reply.{Reply}
@@ -21,12 +29,18 @@ more_again : {X : Type 0} (xs ys zs : List X) → (more : List X) × (ys ≡ xs 
 more_again {X} xs ys zs first second =
     (first.0 ++ second.0, second.1 ∙ ap (λ (l : List X). l ++ second.0) first.1 ∙ append_assoc xs first.0 second.0)
 
+abbrev SameHome : World → World → Type 0
+SameHome old new = new.package ≡ old.package
+
+abbrev SamePackage : Package → Package → Type 0
+SamePackage old new = (new.name ≡ old.name) × (new.interfaces ≡ old.interfaces)
+
 keeps_all : (g : Graph) → Keeps g g
 keeps_all g = record {
   types = nothing_more g.types;
   interfaces = nothing_more g.interfaces;
-  worlds = nothing_more g.worlds;
-  packages = nothing_more g.packages;
+  worlds = λ w world at. some_at (SameHome world) g.worlds w world at refl;
+  packages = λ p home at. some_at (SamePackage home) g.packages p home at (refl, refl);
   names = nothing_more g.package_names;
 }
 
@@ -34,8 +48,14 @@ keeps_on : (g h k : Graph) → Keeps g h → Keeps h k → Keeps g k
 keeps_on g h k first second = record {
   types = more_again g.types h.types k.types first.types second.types;
   interfaces = more_again g.interfaces h.interfaces k.interfaces first.interfaces second.interfaces;
-  worlds = more_again g.worlds h.worlds k.worlds first.worlds second.worlds;
-  packages = more_again g.packages h.packages k.packages first.packages second.packages;
+  worlds = λ w world at.
+      let mid = found_at (SameHome world) h.worlds w (first.worlds w world at) in
+      let last = found_at (SameHome mid.0) k.worlds w (second.worlds w mid.0 mid.1) in
+      some_at (SameHome world) k.worlds w last.0 last.1 (last.2 ∙ mid.2);
+  packages = λ p home at.
+      let mid = found_at (SamePackage home) h.packages p (first.packages p home at) in
+      let last = found_at (SamePackage mid.0) k.packages p (second.packages p mid.0 mid.1) in
+      some_at (SamePackage home) k.packages p last.0 last.1 (last.2.0 ∙ mid.2.0, last.2.1 ∙ mid.2.1);
   names = more_again g.package_names h.package_names k.package_names first.names second.names;
 }
 
@@ -44,8 +64,10 @@ keeps_pushed : (features : Features) (g : Graph) (u : UnresolvedPackage) (offset
 keeps_pushed features g u offset new p pushed = record {
   types = (pushed.built.more_types, pushed.built.types_are);
   interfaces = (pushed.built.images ++ pushed.built.copies, pushed.built.interfaces_are);
-  worlds = (pushed.built.finished, pushed.built.worlds_are);
-  packages = (_, pushed.built.packages_are);
+  worlds = λ w world at.
+      some_at (SameHome world) new.worlds w world (subst (λ (ws : List World). slice_get ws w ≡ Some world) (sym pushed.built.worlds_are) (slice_get-append g.worlds pushed.built.finished w world at)) refl;
+  packages = λ i home at.
+      some_at (SamePackage home) new.packages i home (subst (λ (ps : List Package). slice_get ps i ≡ Some home) (sym pushed.built.packages_are) (slice_get-append g.packages _ i home at)) (refl, refl);
   names = (_, pushed.built.names_are);
 }
 
@@ -55,6 +77,50 @@ keeps_pushes features g (p ∷ ps) new (id ∷ ids) pushed =
     keeps_on g pushed.0 new (keeps_pushed features g p.0 p.1 pushed.0 id pushed.1.pushed) (keeps_pushes features pushed.0 ps new ids pushed.2)
 keeps_pushes features g [] new (id ∷ ids) pushed = absurd pushed
 keeps_pushes features g (p ∷ ps) new [] pushed = absurd pushed
+
+-- a turn keeps it
+module _ (g : Graph) (w : ℕ) (old : World) (turn : Turn) (there : slice_get g.worlds w ≡ Some old) where
+  worlds_turned : (v : ℕ) (world : World) → slice_get g.worlds v ≡ Some world → SomeAt (slice_set g.worlds w (turned_world g old turn)) v (SameHome world)
+  worlds_turned v world at =
+      elim (kept-cases g.worlds w (turned_world g old turn) v world at) [
+        | inl same ↦
+            let one : world ≡ old = same_at g.worlds v w world old same at there in
+            subst (λ (u : ℕ). SomeAt (slice_set g.worlds w (turned_world g old turn)) u (SameHome world)) (sym same)
+            (some_at (SameHome world) (slice_set g.worlds w (turned_world g old turn)) w (turned_world g old turn) (slice_get-set g.worlds w old (turned_world g old turn) there) (ap (λ (x : World). x.package) (sym one)))
+        | inr stays ↦ some_at (SameHome world) (slice_set g.worlds w (turned_world g old turn)) v world stays refl
+      ]
+
+  packages_renamed : (o : Option ℕ) (i : ℕ) (home : Package) → slice_get g.packages i ≡ Some home → SomeAt (with_renamed g.packages o w turn.name) i (SamePackage home)
+  packages_renamed None i home at = some_at (SamePackage home) g.packages i home at (refl, refl)
+  packages_renamed (Some p) i home at = by (slice_get g.packages p) refl
+    where
+      by : (o : Option Package) → slice_get g.packages p ≡ o → SomeAt (option_map_or (λ (x : Package). slice_set g.packages p (record x { worlds = put_last x.worlds w turn.name })) o g.packages) i (SamePackage home)
+      by None none = some_at (SamePackage home) g.packages i home at (refl, refl)
+      by (Some x) found =
+          let renamed : Package = record x { worlds = put_last x.worlds w turn.name } in
+          elim (kept-cases g.packages p renamed i home at) [
+            | inl same ↦
+                let one : home ≡ x = same_at g.packages i p home x same at found in
+                subst (λ (u : ℕ). SomeAt (slice_set g.packages p renamed) u (SamePackage home)) (sym same)
+                (some_at (SamePackage home) (slice_set g.packages p renamed) p renamed (slice_get-set g.packages p x renamed found) (ap (λ (y : Package). y.name) (sym one), ap (λ (y : Package). y.interfaces) (sym one)))
+            | inr stays ↦ some_at (SamePackage home) (slice_set g.packages p renamed) i home stays (refl, refl)
+          ]
+
+  keeps_turned_at : Keeps g (turned_at g w old turn)
+  keeps_turned_at = record {
+    types = nothing_more g.types;
+    interfaces = nothing_more g.interfaces;
+    worlds = worlds_turned;
+    packages = packages_renamed old.package;
+    names = nothing_more g.package_names;
+  }
+
+keeps_turned : (g : Graph) (w : ℕ) (f : World → Turn) → Keeps g (turned g w f)
+keeps_turned g w f = by (slice_get g.worlds w) refl
+  where
+    by : (o : Option World) → slice_get g.worlds w ≡ o → Keeps g (option_map_or (λ (world : World). turned_at g w world (f world)) o g)
+    by None none = keeps_all g
+    by (Some old) there = keeps_turned_at g w old (f old) there
 
 same_graph : (old new : State) → new.graph ≡ old.graph → Keeps old.graph new.graph
 same_graph old new same = subst (Keeps old.graph) (sym same) (keeps_all old.graph)
@@ -83,16 +149,18 @@ keeps_step old (Merge other) (reply.Pushed id) new step = absurd step
 keeps_step old (Merge other) (reply.Merged remap) new step = absurd step
 keeps_step old (Merge other) reply.NoWorld new step = absurd step
 keeps_step old (Merge other) (reply.Refused error) new step = absurd step
-keeps_step old (Importize home world out) reply.Done new step = absurd step
+keeps_step old (Importize home world out) reply.Done new step =
+    subst (λ (s : State). Keeps old.graph s.graph) (sym step.is_turned) (keeps_turned old.graph step.w (importized out))
 keeps_step old (Importize home world out) (reply.Pushed id) new step = absurd step
 keeps_step old (Importize home world out) (reply.Merged remap) new step = absurd step
 keeps_step old (Importize home world out) reply.NoWorld new step = unchanged old new step.1
-keeps_step old (Importize home world out) (reply.Refused error) new step = absurd step
-keeps_step old (Exportize home world out keys) reply.Done new step = absurd step
+keeps_step old (Importize home world out) (reply.Refused error) new step = unchanged old new step.same
+keeps_step old (Exportize home world out keys) reply.Done new step =
+    subst (λ (s : State). Keeps old.graph s.graph) (sym step.is_turned) (keeps_turned old.graph step.w (exportized (answers_at old keys step.w) out))
 keeps_step old (Exportize home world out keys) (reply.Pushed id) new step = absurd step
 keeps_step old (Exportize home world out keys) (reply.Merged remap) new step = absurd step
 keeps_step old (Exportize home world out keys) reply.NoWorld new step = unchanged old new step.1
-keeps_step old (Exportize home world out keys) (reply.Refused error) new step = absurd step
+keeps_step old (Exportize home world out keys) (reply.Refused error) new step = unchanged old new step.same
 keeps_step old (Semver home world) reply.Done new step = absurd step
 keeps_step old (Semver home world) (reply.Pushed id) new step = absurd step
 keeps_step old (Semver home world) (reply.Merged remap) new step = absurd step

@@ -10,7 +10,7 @@ use Rattle.wit_graph.specs.declared.graph.Package.{Package}
 use Rattle.wit_resolve_graph.specs.Selection.{selected_world}
 use Rattle.wit_resolve_graph.specs.State.{State, new_state}
 use Rattle.wit_resolve_graph.specs.Step.{Run}
-use Rattle.wit_resolve_graph.specs.declared.command.Command.TheVariants.{AddFeature, PushGroups, SetAllFeatures, Semver}
+use Rattle.wit_resolve_graph.specs.declared.command.Command.TheVariants.{AddFeature, Exportize, Importize, PushGroups, SetAllFeatures, Semver}
 use Rattle.wit_resolve_graph.specs.declared.command.Reply.TheVariants.{Done, NoWorld, Pushed}
 
 -- ---- selection
@@ -81,6 +81,8 @@ pub record ExamplesOfRuns : Type 0 where
   pub push_without_files : Run new_state (PushGroups first_group [] ∷ []) (Pushed 0 ∷ []) (record with_first { source_map = new_state.source_map }) → ⊥
   pub push_done : Run new_state (PushGroups first_group [] ∷ []) (Done ∷ []) with_first → ⊥
   pub no_world : Run new_state (Semver foo_bar (codes "w") ∷ []) (NoWorld ∷ []) new_state
+  pub no_turn : Run new_state (Importize foo_bar (codes "w") None ∷ Exportize foo_bar (codes "w") None None ∷ []) (NoWorld ∷ NoWorld ∷ []) new_state
+  pub turn_not_done : Run new_state (Importize foo_bar (codes "w") None ∷ []) (Done ∷ []) new_state → ⊥
   pub reply_missing : Run new_state (SetAllFeatures true ∷ []) [] new_state → ⊥
   pub wrong_reply : Run new_state (SetAllFeatures true ∷ []) (NoWorld ∷ []) new_state → ⊥
   pub not_done : Run new_state (SetAllFeatures true ∷ []) (Done ∷ []) new_state → ⊥

@@ -1,5 +1,6 @@
 -- What every run keeps.
 use Rattle.std.specs.Prelude.{◌≡◌, ℕ, List, ◌++◌}
+use Rattle.wit_items.specs.Each.{EachAt, SomeAt}
 use Rattle.wit_items.specs.declared.interface.Interface.{Interface}
 use Rattle.wit_items.specs.declared.package_name.PackageName.{PackageName}
 use Rattle.wit_items.specs.declared.types.TypeDef.{TypeDef}
@@ -11,15 +12,16 @@ use Rattle.wit_resolve_graph.specs.Step.{Run}
 use Rattle.wit_resolve_graph.specs.declared.command.Command.{Command}
 use Rattle.wit_resolve_graph.specs.declared.command.Reply.{Reply}
 
--- everything of a graph is in another at its id, and under its name
+-- everything of a graph is in another at its id: types and interfaces as they were, worlds of their packages
+-- (a turned world has another name and other lists), packages under their names with their interfaces
 pub record Keeps (old new : Graph) : Type 0 where
   pub types : (more : List TypeDef) × (new.types ≡ old.types ++ more)
   pub interfaces : (more : List Interface) × (new.interfaces ≡ old.interfaces ++ more)
-  pub worlds : (more : List World) × (new.worlds ≡ old.worlds ++ more)
-  pub packages : (more : List Package) × (new.packages ≡ old.packages ++ more)
+  pub worlds : EachAt (λ w (world : World). SomeAt new.worlds w (λ (x : World). x.package ≡ world.package)) old.worlds
+  pub packages : EachAt (λ p (home : Package). SomeAt new.packages p (λ (x : Package). (x.name ≡ home.name) × (x.interfaces ≡ home.interfaces))) old.packages
   pub names : (more : List (PackageName × ℕ)) × (new.package_names ≡ old.package_names ++ more)
 
--- what was there before a run is there after it, with the same ids and names. Merging and turning, which
--- change worlds in place, aren't among the steps of a run yet
+-- what was there before a run is there after it, with the same ids. Merging, which adds to interfaces that
+-- are there, isn't among the steps of a run yet
 abbrev pub RunsKeep : Type 0
 RunsKeep = (old new : State) (commands : List Command) (replies : List Reply) → Run old commands replies new → Keeps old.graph new.graph

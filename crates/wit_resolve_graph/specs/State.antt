@@ -2,7 +2,7 @@
 use Rattle.std.specs.Prelude.{[], false}
 use Rattle.wit_graph.specs.declared.features.Features.{Features}
 use Rattle.wit_graph.specs.declared.graph.Graph.{Graph}
-use Rattle.wit_items.specs.SourceMap.{Sources}
+use Rattle.wit_sources.specs.SourceMap.{Sources}
 
 pub record State : Type 0 where
   pub graph : Graph

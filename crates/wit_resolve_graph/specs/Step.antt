@@ -1,17 +1,25 @@
 -- What a command does, and runs of commands. A command changes the state and answers, or refuses with an
 -- error that has a reason and then leaves graph and features as they were. Want of memory is no reason, but
 -- may always be answered where memory is taken.
-use Rattle.std.specs.Prelude.{◌≡◌, ◌⊎◌, ◌<◌, ◌^◌, ℕ, List, [], ◌∷◌, ◌++◌, length, slice_get, Some, if◌then◌else◌}
+use Rattle.std.specs.Prelude.{◌≡◌, ◌⊎◌, ◌<◌, ◌^◌, ℕ, Bool, true, List, [], ◌∷◌, ◌++◌, length, map, slice_get, Option, None, Some, if◌then◌else◌}
 use Rattle.std.specs.List.{list_any}
 use Rattle.std.specs.Str.{bytes_eq}
-use Rattle.wit_items.specs.SourceMap.{Sources, with_sources}
+use Rattle.wit_sources.specs.SourceMap.{Sources, with_sources}
 use Rattle.wit_items.specs.declared.package_name.PackageName.{PackageName}
 use Rattle.wit_items.specs.declared.unresolved.UnresolvedPackageGroup.{UnresolvedPackageGroup}
+use Rattle.wit_items.specs.declared.world.World.{World}
+use Rattle.wit_items.specs.declared.world.WorldKey.{WorldKey}
+use Rattle.wit_graph.specs.declared.graph.Graph.{Graph}
+use Rattle.wit_graph.specs.Entries.{Entry}
+use Rattle.wit_graph.specs.IdText.{key_text}
 use Rattle.wit_graph.specs.declared.error_kind.ResolveErrorKind.{ResolveErrorKind}
 use Rattle.wit_graph.specs.declared.error_kind.ResolveErrorKind.TheVariants.{OffsetOverflow, OutOfMemory}
 use Rattle.wit_graph.specs.declared.features.Features.{Features}
-use Rattle.wit_link.specs.Groups.{ArePushed, AreSorted, Handed, IsGroupsCause, IsSortCause, files_end, packages_of}
+use Rattle.wit_link.specs.Groups.{ArePushed, IsGroupsCause, files_end, packages_of}
+use Rattle.wit_sorting.specs.Sorting.{AreSorted, Handed, IsSortCause}
 use Rattle.wit_link.specs.Pushed.{HasWorld}
+use Rattle.wit_unite.specs.TurnCause.{IsExportizeCause, IsImportizeCause, imports_at}
+use Rattle.wit_unite.specs.Turned.{Turn, exportized, importized, turned}
 use Rattle.wit_resolve_graph.specs.State.{State}
 use Rattle.wit_resolve_graph.specs.declared.command.Command.{Command}
 use Rattle.wit_resolve_graph.specs.declared.command.Command.TheVariants.{AddFeature, SetAllFeatures, PushGroups, Merge, Importize, Exportize, Semver}
@@ -68,7 +76,35 @@ pub record RefusesGroups (old : State) (main : UnresolvedPackageGroup) (deps : L
 abbrev pub IsAbsent : State → PackageName → List ℕ → Type 0
 IsAbsent state home name = (w : ℕ) → HasWorld state.graph home name w → ⊥
 
--- what merging, turning and semver merging do isn't defined yet: no such answer is one of a run so far
+-- a turn of the world of a name in a package of a name is done: nothing speaks against it, and the graph is
+-- turned, all else as it was
+pub record Turns (old : State) (home : PackageName) (world : List ℕ) (turn : ℕ → World → Turn) (Speaks : ℕ → ResolveErrorKind → Type 0) (new : State) : Type 0 where
+  pub w : ℕ
+  pub there : HasWorld old.graph home world w
+  pub accepted : (error : ResolveErrorKind) → Speaks w error → ⊥
+  pub is_turned : new ≡ record old { graph = turned old.graph w (turn w) }
+
+-- a turn is refused, and nothing has changed
+pub record RefusesTurn (old : State) (home : PackageName) (world : List ℕ) (Speaks : ℕ → ResolveErrorKind → Type 0) (error : ResolveErrorKind) (new : State) : Type 0 where
+  pub w : ℕ
+  pub there : HasWorld old.graph home world w
+  pub cause : (error ≡ OutOfMemory) ⊎ Speaks w error
+  pub same : new ≡ old
+
+-- what names a key is listed; without a list all are
+abbrev pub is_listed_key : Graph → Option (List (List ℕ)) → WorldKey → Bool
+is_listed_key g None k = true
+is_listed_key g (Some keys) k = list_any (bytes_eq (key_text g.packages g.interfaces k)) keys
+
+-- so of each of some entries
+abbrev pub listed_answers : Graph → Option (List (List ℕ)) → List Entry → List Bool
+listed_answers g keys entries = map (λ (e : Entry). is_listed_key g keys e.0) entries
+
+-- and of the imports of world w
+abbrev pub answers_at : State → Option (List (List ℕ)) → ℕ → List Bool
+answers_at state keys w = listed_answers state.graph keys (imports_at state.graph w)
+
+-- what merging and semver merging do isn't defined yet: no such answer is one of a run so far
 abbrev pub Waits : Type 0
 Waits = ⊥
 
@@ -92,12 +128,13 @@ Step old (Merge other) (Merged remap) new = Waits
 Step old (Merge other) (Refused error) new = Waits
 Step old (Merge other) _ new = ⊥
 Step old (Importize home world out) NoWorld new = IsAbsent old home world × (new ≡ old)
-Step old (Importize home world out) Done new = Waits
-Step old (Importize home world out) (Refused error) new = Waits
+Step old (Importize home world out) Done new = Turns old home world (λ w. importized out) (λ w. IsImportizeCause old.graph w out) new
+Step old (Importize home world out) (Refused error) new = RefusesTurn old home world (λ w. IsImportizeCause old.graph w out) error new
 Step old (Importize home world out) _ new = ⊥
 Step old (Exportize home world out keys) NoWorld new = IsAbsent old home world × (new ≡ old)
-Step old (Exportize home world out keys) Done new = Waits
-Step old (Exportize home world out keys) (Refused error) new = Waits
+Step old (Exportize home world out keys) Done new =
+    Turns old home world (λ w. exportized (answers_at old keys w) out) (λ w. IsExportizeCause old.graph w (answers_at old keys w) out) new
+Step old (Exportize home world out keys) (Refused error) new = RefusesTurn old home world (λ w. IsExportizeCause old.graph w (answers_at old keys w) out) error new
 Step old (Exportize home world out keys) _ new = ⊥
 Step old (Semver home world) NoWorld new = IsAbsent old home world × (new ≡ old)
 Step old (Semver home world) Done new = Waits

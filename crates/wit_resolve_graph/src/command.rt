@@ -5,7 +5,7 @@ use wit_items::{Items, PackageId, PackageName, Text, UnresolvedPackageGroup};
 use wit_link::Remap;
 
 /// A change of a `Resolve`.
-#[derive(Debug, Drop)]
+#[derive(Drop)]
 pub enum Command {
     /// Turns a feature on.
     AddFeature(Text),
@@ -39,7 +39,7 @@ pub enum Command {
 }
 
 /// The answer to a command.
-#[derive(Debug, Drop)]
+#[derive(Drop)]
 pub enum Reply {
     Done,
     /// The id of the main group's main package.

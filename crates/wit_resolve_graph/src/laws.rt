@@ -2,7 +2,7 @@
 ghost use Rattle.wit_resolve_graph.specs.Examples.{ExamplesOfRuns, ExamplesOfSelection};
 ghost use Rattle.wit_resolve_graph.specs.RunLaws.{RunsKeep};
 
-/// What was there before a run is there after it, with the same ids and names.
+/// What was there before a run is there after it, with the same ids.
 pub fn runs_keep()
     ensures { RunsKeep }
 {}

@@ -7,6 +7,7 @@ pub mod laws;
 pub mod resolve;
 mod running;
 mod select;
+mod turning;
 
 pub use crate::command::{Command, Reply};
 pub use crate::resolve::Resolve;
@@ -15,3 +16,4 @@ pub use wit_graph::{
     Cause, Features, Graph, Package, ResolveError, ResolveErrorKind, ResolveResult,
 };
 pub use wit_link::Remap;
+pub use wit_valid::is_valid;

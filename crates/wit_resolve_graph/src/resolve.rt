@@ -1,32 +1,36 @@
 //! A graph of packages with its features and its sources.
-ghost use Rattle.std.specs.Prelude.{◌≡◌, ◌⊎◌, ◌↔◌, ◌≤◌, ◌+◌, ◌^◌, [], ◌∷◌, Ok, Err, IfErr, IfOk, OnErr, OnOk, IsTrue, string_bytes};
+ghost use Rattle.std.specs.Prelude.{◌≡◌, ◌⊎◌, ◌↔◌, ◌<◌, ◌≤◌, ◌+◌, ◌^◌, [], ◌∷◌, Bool, Ok, Err, IfErr, IfOk, IfSome, List, OnErr, OnOk, IsTrue, length, string_bytes};
 ghost use Rattle.std.specs.Option.{option_copied, option_map};
 ghost use Rattle.wit_graph.specs.IdText.{id_text, interface_id_at, key_text};
 ghost use Rattle.wit_graph.specs.Valid.{IsValid};
 ghost use Rattle.wit_graph.specs.declared.error_kind.ResolveErrorKind.{ResolveErrorKind};
 ghost use Rattle.wit_graph.specs.declared.error_kind.ResolveErrorKind.TheVariants.{OffsetOverflow, OutOfMemory};
 ghost use Rattle.wit_items.specs.Shape.{IsGroupShaped, IsShaped};
-ghost use Rattle.wit_items.specs.SourceMap.{with_sources};
+ghost use Rattle.wit_sources.specs.SourceMap.{with_sources};
 ghost use Rattle.wit_link.specs.Cause.{IsAccepted, IsCause};
 ghost use Rattle.wit_link.specs.Groups.{IsGroupsCause};
 ghost use Rattle.wit_link.specs.Supported.{IsSupported, IsSupportedGroup};
 ghost use Rattle.wit_resolve_graph.specs.Selection.{IsSaid, selected_world};
 ghost use Rattle.wit_resolve_graph.specs.State.{new_state};
 ghost use Rattle.wit_resolve_graph.specs.Step.{PushesGroups, RefusesGroups};
+ghost use Rattle.wit_unite.specs.TurnCause.{AreAnswers, Exportizes, IsExportizeCause, IsImportizeCause, RefusesExportize, imports_at};
+ghost use Rattle.wit_unite.specs.Turned.{exportized, importized, turned};
 
 use crate::select::select_world;
 use std::alloc::{AllocError, Global};
+use std::fmt;
 use std::marker::Model;
 use wit_graph::{Features, Graph, Package, ResolveErrorKind, ResolveResult};
 use wit_items::{
     Interface, InterfaceId, Items, PackageId, PackageName, SourceMap, Table, TryClone, TypeDef,
-    UnresolvedPackage, UnresolvedPackageGroup, World, WorldId, WorldKey,
+    UnresolvedPackage, UnresolvedPackageGroup, World, WorldId, WorldItem, WorldKey,
 };
 use wit_link::append;
+use wit_unite::{exportize, exportize_answered, importize};
+use wit_valid::is_valid;
 use wit_values::try_clone_three;
 
 /// Packages whose names are resolved: a valid graph, the features that are on, and the sources.
-#[derive(Debug, Drop)]
 pub struct Resolve {
     graph: Graph,
     features: Features,
@@ -62,6 +66,15 @@ impl Resolve {
         ensures valid { IsValid self.now.graph }
     {
         &self.graph
+    }
+
+    /// Whether the graph is valid: see `is_valid`. It is true of every `Resolve`, or there is no memory
+    /// to tell.
+    pub fn assert_valid(&self, alloc: Global) -> ResolveResult<bool>
+        ensures valid { IfOk result (λ valid. IsTrue valid) }
+        ensures err { IfErr result (λ kind. kind ≡ OutOfMemory) }
+    {
+        is_valid(alloc, self.graph())
     }
 
     pub fn types(&self) -> &[TypeDef]
@@ -243,6 +256,64 @@ impl Resolve {
     }
 }
 
+impl Resolve {
+    /// Turns a world into one that imports what it exported: see `wit_unite::importize`. The world is of
+    /// this graph. After a refusal nothing has changed.
+    pub fn importize(
+        &mut self,
+        alloc: Global,
+        world: WorldId,
+        out: Option<String>,
+    ) -> ResolveResult<()>
+        requires { world < length self.old.graph.worlds }
+        ensures ok { OnOk result (self.new ≡ record self.old { graph = turned self.old.graph world (importized (option_map string_bytes out)) }) }
+        ensures err { OnErr result (self.new ≡ self.old) }
+        ensures cause { IfErr result (λ kind. (kind ≡ OutOfMemory) ⊎ IsImportizeCause self.old.graph world (option_map string_bytes out) kind) }
+        ensures refuses { (kind : ResolveErrorKind) → IsImportizeCause self.old.graph world (option_map string_bytes out) kind → OnOk result ⊥ }
+    {
+        importize(alloc, &mut self.graph, world, out)
+    }
+
+    /// Turns a world into one that exports what it imported where the filter answers true, all without
+    /// one: see `wit_unite::exportize`. The world is of this graph. After a refusal nothing has changed.
+    pub fn exportize<F: Fn(&WorldKey, &WorldItem) -> bool + Drop>(
+        &mut self,
+        alloc: Global,
+        world: WorldId,
+        out: Option<String>,
+        filter: Option<F>,
+    ) -> ResolveResult<()>
+        requires world { world < length self.old.graph.worlds }
+        requires filter { IfSome filter (λ f. F.IsAlwaysCallable f) }
+        ensures ok { OnOk result (Exportizes F.Fn filter self.old.graph world (option_map string_bytes out) self.new.graph) }
+        ensures features { self.new.features ≡ self.old.features }
+        ensures source_map { self.new.source_map ≡ self.old.source_map }
+        ensures err { OnErr result (self.new ≡ self.old) }
+        ensures cause { IfErr result (λ kind. (kind ≡ OutOfMemory) ⊎ RefusesExportize F.Fn filter self.old.graph world (option_map string_bytes out) kind) }
+        ensures refuses { ((answers : List Bool) → AreAnswers F.Fn filter (imports_at self.old.graph world) answers → (kind : ResolveErrorKind) × IsExportizeCause self.old.graph world answers (option_map string_bytes out) kind) → OnOk result ⊥ }
+    {
+        exportize(alloc, &mut self.graph, world, out, filter)
+    }
+
+    /// As `exportize`, with the answers of a filter: one for each import, in order.
+    pub(crate) fn exportize_answered(
+        &mut self,
+        alloc: Global,
+        world: WorldId,
+        out: Option<String>,
+        answers: &Items<bool>,
+    ) -> ResolveResult<()>
+        requires world { world < length self.old.graph.worlds }
+        requires answers { length answers.now ≡ length (imports_at self.old.graph world) }
+        ensures ok { OnOk result (self.new ≡ record self.old { graph = turned self.old.graph world (exportized answers.now (option_map string_bytes out)) }) }
+        ensures err { OnErr result (self.new ≡ self.old) }
+        ensures cause { IfErr result (λ kind. (kind ≡ OutOfMemory) ⊎ IsExportizeCause self.old.graph world answers.now (option_map string_bytes out) kind) }
+        ensures refuses { (kind : ResolveErrorKind) → IsExportizeCause self.old.graph world answers.now (option_map string_bytes out) kind → OnOk result ⊥ }
+    {
+        exportize_answered(alloc, &mut self.graph, world, out, answers)
+    }
+}
+
 /// Whether a push is refused since a position would pass 4294967295.
 fn is_offset_overflow(pushed: &ResolveResult<PackageId>) -> bool
     ensures { IsTrue result ↔ (pushed.now ≡ Err OffsetOverflow) }
@@ -250,6 +321,31 @@ fn is_offset_overflow(pushed: &ResolveResult<PackageId>) -> bool
     match pushed {
         Ok(_) => false,
         Err(refusal) => matches!(refusal.kind(), ResolveErrorKind::OffsetOverflow),
+    }
+}
+
+/// Its packages, by name, and its features. What the packages hold is asked of the graph.
+impl fmt::Debug for Resolve {
+    fn fmt<W: fmt::Write>(&self, f: &mut fmt::Formatter<W>) -> fmt::Result {
+        f.debug_struct("Resolve")
+            .field("packages", &self.graph.packages)
+            .field("features", &self.features)
+            .finish_non_exhaustive()
+    }
+}
+
+/// As the derived one: each field is let go. A call of it costs the check less than a derived one,
+/// which is checked again wherever a value is let go.
+impl Drop for Resolve {
+    fn drop(self) {
+        let Resolve {
+            graph,
+            features,
+            source_map,
+        } = self;
+        drop(graph);
+        drop(features);
+        drop(source_map);
     }
 }
 

@@ -7,6 +7,7 @@ ghost use Rattle.wit_resolve_graph.specs.Supported.{IsSupported};
 
 use crate::command::{Command, Reply};
 use crate::resolve::Resolve;
+use crate::turning::{exportize, importize};
 use std::alloc::Global;
 use wit_graph::ResolveResult;
 
@@ -14,7 +15,7 @@ use wit_graph::ResolveResult;
 /// is none, nothing has changed.
 ///
 /// So far a command is `PushGroups` with the main group alone, nothing nested in it, and a package that
-/// `Resolve::push` takes.
+/// `Resolve::push` takes, or a turn of a world.
 pub fn run(
     alloc: Global,
     resolve: &mut Resolve,
@@ -43,6 +44,17 @@ fn step(alloc: Global, resolve: &mut Resolve, command: Command) -> Reply
             Ok(id) => Reply::Pushed(id),
             Err(refusal) => Reply::Refused(refusal),
         },
+        Command::Importize {
+            package,
+            world,
+            out,
+        } => importize(alloc, resolve, package, world, out),
+        Command::Exportize {
+            package,
+            world,
+            out,
+            keys,
+        } => exportize(alloc, resolve, package, world, out, keys),
         _ => unreachable!(),
     }
 }

@@ -1,13 +1,9 @@
-pub mod Ink
 pub mod Known
 pub mod Pieces
-pub mod Arguments
-pub mod Keys
 pub mod Scripts
 pub mod Answered
-pub mod ReadScripts
 pub mod Told
-pub mod SoFar
-pub mod FitLines
-pub mod Forms
-pub mod ReadWhole
+pub mod Pushed
+pub mod Staged
+pub mod Stays
+pub mod ToldOnce

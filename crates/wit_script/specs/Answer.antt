@@ -1,5 +1,5 @@
--- What the commands of a script answer.
-use Rattle.std.specs.Prelude.{◌≡◌, ◌⊎◌, ℕ, List, [], ◌∷◌, ◌++◌, Option, Result, Ok, Err, slice_get, option_and_then, codes, MatchOption, String, string_bytes}
+-- What the commands of a script answer. Between `other` and `merge` commands work on a second graph.
+use Rattle.std.specs.Prelude.{◌≡◌, ◌⊎◌, ℕ, true, List, [], ◌∷◌, ◌++◌, Option, None, Some, Result, Ok, Err, slice_get, option_and_then, codes, MatchOption, String, string_bytes}
 use Rattle.std.specs.declared.alloc.Global.{Global}
 use Rattle.std.specs.Fmt.{decimal}
 use Rattle.std.specs.List.{flat_map}
@@ -15,16 +15,18 @@ use Rattle.wit_graph.specs.declared.graph.Package.{Package}
 use Rattle.wit_items.specs.PackageName.{package_name_text}
 use Rattle.wit_items.specs.PackageOrder.{same_package}
 use Rattle.wit_items.specs.declared.package_name.PackageName.{PackageName}
-use Rattle.wit_items.specs.declared.unresolved.UnresolvedPackageGroup.{UnresolvedPackageGroup}
+use Rattle.wit_lines.specs.declared.request.Request.{Request}
+use Rattle.wit_lines.specs.declared.request.Request.TheVariants as request
 use Rattle.wit_resolve_graph.specs.Selection.{IsSelection}
-use Rattle.wit_resolve_graph.specs.State.{State}
+use Rattle.wit_resolve_graph.specs.State.{State, new_state}
 use Rattle.wit_resolve_graph.specs.declared.command.Command.{Command}
-use Rattle.wit_resolve_graph.specs.declared.command.Command.TheVariants.{PushGroups}
+use Rattle.wit_resolve_graph.specs.declared.command.Command.TheVariants.{AddFeature, SetAllFeatures, PushGroups, Merge, Importize, Exportize, Semver}
 use Rattle.wit_resolve_graph.specs.declared.command.Reply.{Reply}
 use Rattle.wit_resolve_graph.specs.declared.command.Reply.TheVariants as reply
 use Rattle.wit_script.specs.World.{world_id_at, world_text_at}
-use Rattle.wit_script.specs.declared.reader.ScriptCommand.{ScriptCommand}
-use Rattle.wit_script.specs.declared.reader.ScriptCommand.TheVariants as asks
+use Rattle.wit_script.specs.declared.answer.Stage.{Stage}
+use Rattle.wit_script.specs.declared.ready.ScriptCommand.{ScriptCommand}
+use Rattle.wit_script.specs.declared.ready.ScriptCommand.TheVariants as asks
 
 -- `refused N TEXT`, N being the number of the refusal
 abbrev pub refusal_text : ResolveErrorKind → List ℕ
@@ -55,12 +57,58 @@ Runs = State → List Command → List Reply → State → Type 0
 abbrev pub Chooses : Type 1
 Chooses = Graph → ℕ → Option (List ℕ) → Result ℕ ResolveErrorKind → Type 0
 
--- a group that is pushed by a run of one command: its replies are told, or the refusal of the run itself, which is want of
--- memory, after which all is as before
-abbrev pub IsPushed : Runs → State → UnresolvedPackageGroup → List ℕ → State → Type 0
-IsPushed runs before group text after =
-    ((replies : List Reply) × runs before (PushGroups group [] ∷ []) replies after × (text ≡ flat_map (reply_text after.graph) replies))
+-- a graph, and no other
+abbrev pub alone : State → Stage
+alone state = record { first = state; second = None }
+
+-- the graph on which commands work
+abbrev pub active_of : State → Option State → State
+active_of first None = first
+active_of first (Some second) = second
+
+abbrev pub active : Stage → State
+active stage = active_of stage.first stage.second
+
+-- the stage after that graph has become another
+abbrev pub with_active_of : State → Option State → State → Stage
+with_active_of first None new = alone new
+with_active_of first (Some second) new = record { first = first; second = Some new }
+
+abbrev pub with_active : Stage → State → Stage
+with_active stage new = with_active_of stage.first stage.second new
+
+-- the line of a reply, where a command that is carried out may answer nothing
+abbrev pub quiet_text : Graph → Reply → List ℕ
+quiet_text g reply.Done = []
+quiet_text g (reply.Pushed id) = reply_text g (reply.Pushed id)
+quiet_text g (reply.Merged remap) = reply_text g (reply.Merged remap)
+quiet_text g reply.NoWorld = reply_text g reply.NoWorld
+quiet_text g (reply.Refused kind) = reply_text g (reply.Refused kind)
+
+-- a run of one command: its replies are told, or the refusal of the run itself, which is want of memory, after
+-- which all is as before
+abbrev pub IsAnswered : Runs → (Graph → Reply → List ℕ) → State → Command → List ℕ → State → Type 0
+IsAnswered runs told before command text after =
+    ((replies : List Reply) × runs before (command ∷ []) replies after × (text ≡ flat_map (told after.graph) replies))
     ⊎ ((after ≡ before) × (text ≡ refusal_text OutOfMemory))
+
+-- the same on the graph on which commands work
+abbrev pub Works : Runs → (Graph → Reply → List ℕ) → Stage → Command → List ℕ → Stage → Type 0
+Works runs told before command text after = (new : State) × IsAnswered runs told (active before) command text new × (after ≡ with_active before new)
+
+-- `merge`: the second graph goes into the first, and is no longer there
+abbrev pub IsMerged : Runs → Stage → Option State → List ℕ → Stage → Type 0
+IsMerged runs before None text after = ⊥
+IsMerged runs before (Some second) text after = (new : State) × IsAnswered runs reply_text before.first (Merge second) text new × (after ≡ alone new)
+
+-- `other`: a second graph, which is empty
+abbrev pub IsOpened : Stage → Option State → List ℕ → Stage → Type 0
+IsOpened before None text after = (text ≡ []) × (after ≡ record { first = before.first; second = Some new_state })
+IsOpened before (Some second) text after = ⊥
+
+-- `tracks`: no state has a rule of tracks yet, so that no answer to it is defined
+abbrev pub WaitsForTracks : Type 0
+WaitsForTracks = ⊥
 
 -- the package of this name
 abbrev pub package_named : Graph → PackageName → Option ℕ
@@ -97,17 +145,29 @@ abbrev pub IsSelected : Chooses → Graph → PackageName → Option (List ℕ) 
 IsSelected chooses g owner said text =
     MatchOption (package_named g owner) (text ≡ codes "no package\n") (λ id. IsChoiceTold chooses g id said text)
 
--- the answer to a command, and the state after it
-abbrev pub Answers : Runs → Chooses → State → ScriptCommand → List ℕ → State → Type 0
-Answers runs chooses before (asks.Push group) text after = IsPushed runs before group text after
-Answers runs chooses before (asks.Print owner world) text after = (after ≡ before) × IsPrinted before.graph owner world text
-Answers runs chooses before (asks.Select owner said) text after = (after ≡ before) × IsSelected chooses before.graph owner said text
+-- the answer to a command that hands in no packages, and the stage after it
+abbrev pub Replies : Runs → Chooses → Stage → Request → List ℕ → Stage → Type 0
+Replies runs chooses before (request.Feature name) text after = Works runs quiet_text before (AddFeature name) text after
+Replies runs chooses before request.AllFeatures text after = Works runs quiet_text before (SetAllFeatures true) text after
+Replies runs chooses before (request.Tracks rule) text after = WaitsForTracks
+Replies runs chooses before request.Other text after = IsOpened before before.second text after
+Replies runs chooses before request.Merge text after = IsMerged runs before before.second text after
+Replies runs chooses before (request.Importize owner world out) text after = Works runs reply_text before (Importize owner world out) text after
+Replies runs chooses before (request.Exportize owner world out keys) text after = Works runs reply_text before (Exportize owner world out keys) text after
+Replies runs chooses before (request.Semver owner world) text after = Works runs reply_text before (Semver owner world) text after
+Replies runs chooses before (request.Print owner world) text after = (after ≡ before) × IsPrinted (active before).graph owner world text
+Replies runs chooses before (request.Select owner said) text after = (after ≡ before) × IsSelected chooses (active before).graph owner said text
+
+-- the answer to a command, and the stage after it
+abbrev pub Answers : Runs → Chooses → Stage → ScriptCommand → List ℕ → Stage → Type 0
+Answers runs chooses before (asks.Push main deps) text after = Works runs reply_text before (PushGroups main deps) text after
+Answers runs chooses before (asks.Request asked) text after = Replies runs chooses before asked text after
 
 -- the answers to commands, one after another
-abbrev pub AnswersAll : Runs → Chooses → State → List ScriptCommand → List ℕ → State → Type 0
+abbrev pub AnswersAll : Runs → Chooses → Stage → List ScriptCommand → List ℕ → Stage → Type 0
 AnswersAll runs chooses before [] text after = (text ≡ []) × (after ≡ before)
 AnswersAll runs chooses before (command ∷ commands) text after =
-    (between : State) × (first : List ℕ) × (rest : List ℕ)
+    (between : Stage) × (first : List ℕ) × (rest : List ℕ)
     × Answers runs chooses before command first between × AnswersAll runs chooses between commands rest after × (text ≡ first ++ rest)
 
 -- what `select_world` chooses, or says, or want of memory

@@ -4,10 +4,10 @@ use Rattle.std.specs.Fmt.{decimal}
 use Rattle.std.specs.Str.{IsUtf8}
 use Rattle.wit_resolve_graph.specs.State.{new_state}
 use Rattle.wit_resolve_graph.specs.Step.{Run}
-use Rattle.wit_script.specs.Answer.{Runs, Chooses, IsChoice}
-use Rattle.wit_script.specs.AnyAnswer.{Stage, alone, AllAnswers}
-use Rattle.wit_script.specs.AnyScript.{AnyCommand}
-use Rattle.wit_script.specs.Understood.{IsUnderstood, IsNotUnderstood}
+use Rattle.wit_script.specs.Answer.{AnswersAll, Chooses, IsChoice, Runs, alone}
+use Rattle.wit_script.specs.Script.{IsNotUnderstood, IsUnderstood}
+use Rattle.wit_script.specs.declared.answer.Stage.{Stage}
+use Rattle.wit_script.specs.declared.ready.ScriptCommand.{ScriptCommand}
 
 -- the line that answers a script which isn't understood
 abbrev pub not_understood_text : ℕ → List ℕ
@@ -16,10 +16,10 @@ not_understood_text number = codes "line " ++ (decimal number ++ codes ": not un
 -- what a script prints, which is text: the answers to its commands on an empty graph
 pub record PrintsAnswers (runs : Runs) (chooses : Chooses) (input text : List ℕ) : Type 0 where
   pub utf8 : IsUtf8 input
-  pub commands : List AnyCommand
+  pub commands : List ScriptCommand
   pub understood : IsUnderstood input commands
   pub after : Stage
-  pub answered : AllAnswers runs chooses (alone new_state) commands text after
+  pub answered : AnswersAll runs chooses (alone new_state) commands text after
 
 -- what a script prints that isn't understood: the one line
 pub record PrintsLine (input text : List ℕ) : Type 0 where

@@ -1,137 +1,176 @@
--- A script as the reader reads it, line by line: of the lines that are accepted so far what they make, and at which line it
--- stops. That this is what the relation of all lines says is proved.
-use Rattle.std.specs.Prelude.{◌≡◌, ◌⊎◌, ℕ, ◌+◌, List, [], ◌∷◌, ◌++◌, length, take, nat_le, Option, Some, None, IsSome, is_some, slice_get, option_and_then, Result, Ok, Err, if◌then◌else◌}
-use Rattle.std.specs.List.{AllByRecursion}
+-- A script, line by line: what the lines make, which scripts are understood, what they ask, and which line of another is
+-- the first that isn't understood.
+use Rattle.std.specs.Prelude.{◌≡◌, ◌⊎◌, ◌||◌, ℕ, ◌+◌, ◌<◌, Bool, true, false, List, [], ◌∷◌, ◌++◌, length, take, Option, Some, None, IsTrue, is_some, option_and_then, Result, Ok, Err, if◌then◌else◌}
 use Rattle.std.specs.Option.{option_map, option_to_list}
-use Rattle.wit_items.specs.Shape.{IsGroupShaped}
 use Rattle.wit_items.specs.declared.package_name.PackageName.{PackageName}
-use Rattle.wit_script.specs.Line.{lines_of, last_said_of}
-use Rattle.wit_script.specs.Package.{longest_file, begun, with_line, group_of}
-use Rattle.wit_script.specs.Said.{said_of}
-use Rattle.wit_script.specs.declared.fault.LineFault.{LineFault}
-use Rattle.wit_script.specs.declared.fault.LineFault.TheVariants as line_fault
+use Rattle.wit_items.specs.declared.stability.Stability.{Stability}
+use Rattle.wit_items.specs.declared.unresolved.UnresolvedPackageGroup.{UnresolvedPackageGroup}
+use Rattle.wit_drafts.specs.Draft.{begun, grouped}
+use Rattle.wit_drafts.specs.Lines.{with_line}
+use Rattle.wit_drafts.specs.Mention.{Mention, mentions_of}
+use Rattle.wit_drafts.specs.declared.draft.Draft.{Draft}
+use Rattle.wit_lines.specs.Line.{ink_end_of, ink_start_of, last_said_of, lines_of}
+use Rattle.wit_lines.specs.Signature.{each_of}
+use Rattle.wit_lines.specs.Statement.{said_of}
+use Rattle.wit_lines.specs.declared.fault.LineFault.{LineFault}
+use Rattle.wit_lines.specs.declared.fault.LineFault.TheVariants as line_fault
+use Rattle.wit_lines.specs.declared.package_line.PackageLine.{PackageLine}
+use Rattle.wit_lines.specs.declared.request.Request.{Request}
+use Rattle.wit_lines.specs.declared.request.Request.TheVariants as request
+use Rattle.wit_lines.specs.declared.statement.Statement.{Statement}
+use Rattle.wit_lines.specs.declared.statement.Statement.TheVariants as says
+use Rattle.wit_script.specs.Ready.{AreReady, is_accepted_so_far}
 use Rattle.wit_script.specs.declared.fault.ReadFault.{ReadFault}
 use Rattle.wit_script.specs.declared.fault.ReadFault.TheVariants as read_fault
-use Rattle.wit_script.specs.declared.package.OpenPackage.{OpenPackage}
 use Rattle.wit_script.specs.declared.reader.Reading.{Reading}
-use Rattle.wit_script.specs.declared.reader.ScriptCommand.{ScriptCommand}
-use Rattle.wit_script.specs.declared.reader.ScriptCommand.TheVariants as asks
-use Rattle.wit_script.specs.declared.statement.Statement.{Statement}
-use Rattle.wit_script.specs.declared.statement.Statement.TheVariants as says
+use Rattle.wit_script.specs.declared.ready.ScriptCommand.{ScriptCommand}
+use Rattle.wit_script.specs.declared.ready.ScriptCommand.TheVariants as asks
 
 -- no line is read
 abbrev pub new_reading : Reading
-new_reading = record { commands = []; finished = []; current = None }
+new_reading = record { commands = []; finished = []; current = None; other = false }
 
 -- a package that begins; the one before it, if there is one, gets no more lines
-abbrev pub with_begun : Reading → OpenPackage → Reading
+abbrev pub with_begun : Reading → Draft → Reading
 with_begun r p = record r { finished = r.finished ++ option_to_list r.current; current = Some p }
 
--- `package PKG`
-abbrev pub with_package : Reading → PackageName → List ℕ → Option Reading
-with_package r name line = option_map (with_begun r) (begun name line)
+-- what an accepted line mentions of other packages, and the lines after it, where it is a line of the package
+abbrev pub mentions_by : Bool → ℕ → List ℕ → (ℕ → List Mention) → Statement → List Mention
+mentions_by false at line after said = []
+mentions_by true at line after (says.Package name) = []
+mentions_by true at line after (says.Line said gate) = mentions_of said gate (Some (at + ink_start_of line, at + ink_end_of line)) ++ after (at + length line + 1)
+mentions_by true at line after says.Push = []
+mentions_by true at line after (says.Request asked) = []
+
+abbrev pub mentions_with : (Statement → Bool) → ℕ → List ℕ → (ℕ → List Mention) → Option (Option Statement) → List Mention
+mentions_with accepts at line after None = []
+mentions_with accepts at line after (Some None) = after at
+mentions_with accepts at line after (Some (Some said)) = mentions_by (accepts said) at line after said
+
+-- what lines mention up to the end of the package, or to the first that isn't accepted, where its file has so many bytes
+-- before them
+abbrev pub mentions_ahead : (Statement → Bool) → ℕ → List (List ℕ) → List Mention
+mentions_ahead accepts at [] = []
+mentions_ahead accepts at (line ∷ lines) = mentions_with accepts at line (λ after. mentions_ahead accepts after lines) (said_of line)
+
+-- `package PKG`, with what the lines ahead mention
+abbrev pub with_package : (Statement → Bool) → Reading → PackageName → List ℕ → List (List ℕ) → Option Reading
+with_package accepts r name line ahead = option_map (with_begun r) (begun name line (mentions_ahead accepts (length line + 1) ahead))
 
 -- a line of the package that gets the lines
-abbrev pub with_package_line_in : Reading → Option OpenPackage → Option Reading
-with_package_line_in r next = option_map (λ p. record r { current = Some p }) next
+abbrev pub with_current : Reading → Draft → Reading
+with_current r p = record r { current = Some p }
 
--- one package, pushed. Its file fits into a source map, as each of its lines did
-abbrev pub with_pushed : Reading → List OpenPackage → OpenPackage → Option Reading
-with_pushed r [] p =
-    if nat_le (length p.contents) longest_file
-    then Some (record r { commands = r.commands ++ asks.Push (group_of p) ∷ []; current = None })
-    else None
-with_pushed r (before ∷ others) p = None
+abbrev pub with_package_line : Reading → PackageLine → Stability → List ℕ → Option Reading
+with_package_line r said gate line = option_and_then (λ p. option_map (with_current r) (with_line p said gate line)) r.current
 
--- `push`, after exactly one package
+-- one more command
+abbrev pub with_command : Reading → ScriptCommand → Reading
+with_command r command = record r { commands = r.commands ++ command ∷ [] }
+
+-- groups that are pushed, the first being the main one; no package waits then
+abbrev pub with_groups : Reading → List UnresolvedPackageGroup → Option Reading
+with_groups r [] = None
+with_groups r (main ∷ deps) = Some (record (with_command r (asks.Push main deps)) { finished = []; current = None })
+
+-- `push`, after a package or several, whose files fit into source maps
 abbrev pub with_push : Reading → Option Reading
-with_push r = option_and_then (with_pushed r r.finished) r.current
+with_push r = option_and_then (λ p. option_and_then (with_groups r) (each_of grouped (r.finished ++ p ∷ []))) r.current
 
--- another command, where no package waits for its `push`
-abbrev pub with_command : Reading → ScriptCommand → Option Reading
-with_command r command = if is_some r.current then None else Some (record r { commands = r.commands ++ command ∷ [] })
+-- another command; `other` opens another graph where none is open, `merge` closes it
+abbrev pub with_asked : Reading → Request → Bool → Option Reading
+with_asked r request.Other true = None
+with_asked r request.Other false = Some (record (with_command r (asks.Request request.Other)) { other = true })
+with_asked r request.Merge true = Some (record (with_command r (asks.Request request.Merge)) { other = false })
+with_asked r request.Merge false = None
+with_asked r asked other = Some (with_command r (asks.Request asked))
 
--- what a line says, added
-abbrev pub with_statement : Reading → Statement → List ℕ → Option Reading
-with_statement r (says.Package name) line = with_package r name line
-with_statement r (says.Line said) line = option_and_then (λ p. with_package_line_in r (with_line p said line)) r.current
-with_statement r says.Push line = with_push r
-with_statement r (says.Print owner world) line = with_command r (asks.Print owner world)
-with_statement r (says.Select owner text) line = with_command r (asks.Select owner text)
+-- the same, where no package waits for its `push`
+abbrev pub with_request : Reading → Request → Option Reading
+with_request r asked = if is_some r.current then None else with_asked r asked r.other
 
--- what a line says, where it is understood, added: nothing for a line that says nothing
-abbrev pub after_said : Reading → List ℕ → Option (Option Statement) → Option Reading
-after_said r line None = None
-after_said r line (Some None) = Some r
-after_said r line (Some (Some said)) = with_statement r said line
+-- what a line says, before the lines ahead, added
+abbrev pub with_statement : (Statement → Bool) → Reading → Statement → List ℕ → List (List ℕ) → Option Reading
+with_statement accepts r (says.Package name) line ahead = with_package accepts r name line ahead
+with_statement accepts r (says.Line said gate) line ahead = with_package_line r said gate line
+with_statement accepts r says.Push line ahead = with_push r
+with_statement accepts r (says.Request asked) line ahead = with_request r asked
 
--- a line, added
-abbrev pub after_line : Reading → List ℕ → Option Reading
-after_line r line = after_said r line (said_of line)
+-- what a line says, where it is understood and accepted, added: nothing for a line that says nothing
+abbrev pub after_said : (Statement → Bool) → Reading → List ℕ → List (List ℕ) → Option (Option Statement) → Option Reading
+after_said accepts r line ahead None = None
+after_said accepts r line ahead (Some None) = Some r
+after_said accepts r line ahead (Some (Some said)) = if accepts said then with_statement accepts r said line ahead else None
+
+-- a line, before the lines ahead, added
+abbrev pub after_line : (Statement → Bool) → Reading → List ℕ → List (List ℕ) → Option Reading
+after_line accepts r line ahead = after_said accepts r line ahead (said_of line)
 
 -- lines, one after another
-abbrev pub after_lines : Reading → List (List ℕ) → Option Reading
-after_lines r [] = Some r
-after_lines r (line ∷ lines) = option_and_then (λ next. after_lines next lines) (after_line r line)
+abbrev pub after_lines : (Statement → Bool) → Reading → List (List ℕ) → Option Reading
+after_lines accepts r [] = Some r
+after_lines accepts r (line ∷ lines) = option_and_then (λ next. after_lines accepts next lines) (after_line accepts r line lines)
 
--- a package that is pushed has its shape
-abbrev pub IsShapedCommand : ScriptCommand → Type 0
-IsShapedCommand (asks.Push group) = IsGroupShaped group
-IsShapedCommand (asks.Print owner world) = Unit {0}
-IsShapedCommand (asks.Select owner text) = Unit {0}
+-- what lines say from the first on, where those are accepted that are so far
+abbrev pub reading_of : List (List ℕ) → Option Reading
+reading_of lines = after_lines is_accepted_so_far new_reading lines
 
-abbrev pub AreShaped : List ScriptCommand → Type 0
-AreShaped commands = AllByRecursion IsShapedCommand commands
-
--- no reading comes out, or one that pushes a package without its shape
+-- no reading comes out, or one with a command that isn't ready
 abbrev pub IsBad : Option Reading → Type 0
 IsBad None = Unit {0}
-IsBad (Some next) = ¬ AreShaped next.commands
+IsBad (Some next) = ¬ AreReady next.commands
 
--- the script is read and asks this: each line is read after those before it, each package that is pushed has its shape, and
--- none waits for its `push`
-pub record IsReadAs (text : List ℕ) (commands : List ScriptCommand) : Type 0 where
+-- the script is understood and asks this: each line is understood after those before it, the packages that are pushed have
+-- their shape, all commands are accepted, no package waits for its `push`, and no `other` for its `merge`
+pub record IsUnderstood (text : List ℕ) (commands : List ScriptCommand) : Type 0 where
   pub reading : Reading
-  pub read : after_lines new_reading (lines_of text) ≡ Some reading
+  pub read : reading_of (lines_of text) ≡ Some reading
   pub asked : reading.commands ≡ commands
-  pub shaped : AreShaped commands
+  pub ready : AreReady commands
   pub ended : reading.current ≡ None
+  pub closed : reading.other ≡ false
 
--- of these lines this one, counted from 1, isn't read, and those before it are
-pub record IsBadLine (start : Reading) (lines : List (List ℕ)) (number : ℕ) : Type 0 where
+-- of these lines this one, counted from 1, isn't understood, and those before it are
+pub record IsBadLine (lines : List (List ℕ)) (number : ℕ) : Type 0 where
   pub before : ℕ
   pub reading : Reading
-  pub line : List ℕ
-  pub read : after_lines start (take before lines) ≡ Some reading
-  pub shaped : AreShaped reading.commands
-  pub at : slice_get lines before ≡ Some line
-  pub bad : IsBad (after_line reading line)
+  pub read : reading_of (take before lines) ≡ Some reading
+  pub ready : AreReady reading.commands
+  pub there : before < length lines
+  pub bad : IsBad (reading_of (take (before + 1) lines))
   pub counted : number ≡ before + 1
 
--- all lines are read, but a package waits for its `push`; this is the last line that says something
-pub record IsUnended (lines : List (List ℕ)) (number : ℕ) : Type 0 where
+-- all lines are understood, but a package waits for its `push` or an `other` for its `merge`; this is the last line that
+-- says something
+pub record IsLeftOpen (lines : List (List ℕ)) (number : ℕ) : Type 0 where
   pub reading : Reading
-  pub read : after_lines new_reading lines ≡ Some reading
-  pub shaped : AreShaped reading.commands
-  pub waits : IsSome reading.current
+  pub read : reading_of lines ≡ Some reading
+  pub ready : AreReady reading.commands
+  pub waits : IsTrue (is_some reading.current || reading.other)
   pub counted : number ≡ last_said_of lines
 
--- the script isn't read, and this line is named
-abbrev pub IsStoppedAt : List ℕ → ℕ → Type 0
-IsStoppedAt text number = IsBadLine new_reading (lines_of text) number ⊎ IsUnended (lines_of text) number
+-- the script isn't understood, and this line is named
+abbrev pub IsNotUnderstood : List ℕ → ℕ → Type 0
+IsNotUnderstood text number = IsBadLine (lines_of text) number ⊎ IsLeftOpen (lines_of text) number
 
 -- why lines aren't added
-abbrev pub HasLineFault : Reading → List (List ℕ) → ReadFault → Type 0
-HasLineFault start lines (read_fault.NotUnderstood number) = IsBadLine start lines number
-HasLineFault start lines read_fault.OutOfMemory = Unit {0}
+abbrev pub HasLineFault : List (List ℕ) → ReadFault → Type 0
+HasLineFault lines (read_fault.NotUnderstood number) = IsBadLine lines number
+HasLineFault lines read_fault.OutOfMemory = Unit {0}
 
 -- why a script isn't read
-abbrev pub StopsAt : List ℕ → ReadFault → Type 0
-StopsAt text (read_fault.NotUnderstood number) = IsStoppedAt text number
-StopsAt text read_fault.OutOfMemory = Unit {0}
+abbrev pub HasReadFault : List ℕ → ReadFault → Type 0
+HasReadFault text (read_fault.NotUnderstood number) = IsNotUnderstood text number
+HasReadFault text read_fault.OutOfMemory = Unit {0}
 
--- a reading that goes on with packages of their shape, or ends at a bad line
+-- a state that is reached where there is one
+abbrev pub Leads : {A : Type 0} → Option Reading → Result A LineFault → Reading → Type 0
+Leads expected (Ok done) new = expected ≡ Some new
+Leads expected (Err line_fault.NotUnderstood) new = expected ≡ None
+Leads expected (Err line_fault.OutOfMemory) new = Unit {0}
+
+-- a reading that goes on with commands that are ready, or ends at a bad line
 abbrev pub GoesOn : {A : Type 0} → Option Reading → Result A LineFault → Reading → Type 0
-GoesOn expected (Ok done) new = (expected ≡ Some new) × AreShaped new.commands
+GoesOn expected (Ok done) new = (expected ≡ Some new) × AreReady new.commands
 GoesOn expected (Err line_fault.NotUnderstood) new = IsBad expected
 GoesOn expected (Err line_fault.OutOfMemory) new = Unit {0}

@@ -1,7 +1,12 @@
--- Which calls of a writer fail.
-use Rattle.std.specs.Prelude.{ℕ, Bool, true, Result, Ok, Err, ◌==◌, ◌&&◌, not}
+-- Which calls of a writer fail, and what is written where one does.
+use Rattle.std.specs.Prelude.{ℕ, Bool, true, List, take, Option, Result, Ok, Err, ◌==◌, ◌&&◌, not}
+use Rattle.std.specs.Io.KnownBytes.{Appends}
 
 -- a write that answers an error, or takes none of some bytes
 abbrev pub write_fails : {E : Type 0} → Result ℕ E → ℕ → Bool
 write_fails (Ok n) len = (n == 0) && not (len == 0)
 write_fails (Err e) len = true
+
+-- known bytes stay at the front and grow by a beginning of a text
+abbrev pub AppendsBeginning : Option (List ℕ) → Option (List ℕ) → List ℕ → Type 0
+AppendsBeginning old new text = (count : ℕ) × Appends old new (take count text)

@@ -1,53 +1,100 @@
 //! The answers to the commands of a script.
-ghost use Rattle.std.specs.Prelude.{◌≡◌, ℕ, Ok, Err, IfErr, IfOk, string_bytes};
+ghost use Rattle.std.specs.Prelude.{◌≡◌, ℕ, Ok, Err, IfErr, IfOk, IsTrue, string_bytes};
 ghost use Rattle.std.specs.List.{flat_map};
 ghost use Rattle.wit_resolve_graph.specs.State.{State, new_state};
 ghost use Rattle.wit_resolve_graph.specs.Step.{Run};
-ghost use Rattle.wit_script.specs.Answer.{IsChoice, Answers, AnswersAll, IsPushed, IsPrinted, IsSelected, IsTold, refusal_text, selected_text, pushed_text, reply_text, world_named};
+ghost use Rattle.wit_resolve_graph.specs.Supported.{IsSupported};
+ghost use Rattle.wit_script.specs.Answer.{IsAnswered, IsChoice, Answers, AnswersAll, IsPrinted, IsSelected, IsTold, Replies, Works, active, alone, refusal_text, selected_text, pushed_text, reply_text, world_named};
+ghost use Rattle.wit_script.specs.Ready.{is_taken};
+ghost use Rattle.wit_script.specs.declared.answer.Stage.{Stage};
 
 use crate::printer::{print_world, world_id};
-use crate::reader::ScriptCommand;
-use crate::ready::ReadyGroup;
+use crate::ready::{ReadyCommand, ScriptCommand};
 use std::alloc::{AllocError, Global};
 use wit_items::{Items, PackageId, PackageName, Text, WorldId};
+use wit_lines::Request;
 use wit_resolve_graph::{Command, Reply, Resolve, ResolveError, ResolveResult, run};
 
+/// The graph of a script, and the second one between `other` and `merge`.
+#[derive(Drop)]
+pub struct Stage {
+    pub first: Resolve,
+    pub second: Option<Resolve>,
+}
+
+impl Stage {
+    /// An empty graph, and no other.
+    fn new(alloc: Global) -> Stage
+        ensures { result ≡ alone new_state }
+    {
+        Stage {
+            first: Resolve::new(alloc),
+            second: None,
+        }
+    }
+
+    /// The graph on which commands work.
+    fn active(&self) -> &Resolve
+        ensures { result.now ≡ active self.now }
+    {
+        match &self.second {
+            Some(second) => second,
+            None => &self.first,
+        }
+    }
+
+    /// Carries out a command on that graph, and tells its reply.
+    fn work(&mut self, alloc: Global, command: Command) -> Result<String, AllocError>
+        requires { IsSupported command }
+        ensures { IfOk result (λ text. Works Run reply_text self.old command (string_bytes text) self.new) }
+    {
+        match &mut self.second {
+            Some(second) => answered(alloc, second, command),
+            None => answered(alloc, &mut self.first, command),
+        }
+    }
+}
+
 /// The answers to commands on an empty graph, in order.
-pub fn answers_to(alloc: Global, commands: Items<ScriptCommand>) -> Result<String, AllocError>
-    ensures { IfOk result (λ text. (after : State) × AnswersAll Run IsChoice new_state commands (string_bytes text) after) }
+pub fn answers_to(alloc: Global, commands: Items<ReadyCommand>) -> Result<String, AllocError>
+    ensures { IfOk result (λ text. (after : Stage) × AnswersAll Run IsChoice (alone new_state) commands (string_bytes text) after) }
 {
-    let mut resolve = Resolve::new(alloc);
+    let mut stage = Stage::new(alloc);
     let mut answers = String::new(alloc);
     for command in commands.into_vec() {
-        let answer = answer_to(alloc, &mut resolve, command)?;
+        let answer = answer_to(alloc, &mut stage, command)?;
         answers.push_str(&answer)?;
     }
     Ok(answers)
 }
 
 /// The answer to a command.
-fn answer_to(
-    alloc: Global,
-    resolve: &mut Resolve,
-    command: ScriptCommand,
-) -> Result<String, AllocError>
-    ensures { IfOk result (λ text. Answers Run IsChoice resolve.old command (string_bytes text) resolve.new) }
+fn answer_to(alloc: Global, stage: &mut Stage, command: ReadyCommand) -> Result<String, AllocError>
+    ensures { IfOk result (λ text. Answers Run IsChoice stage.old command (string_bytes text) stage.new) }
 {
-    match command {
-        ScriptCommand::Push(group) => push(alloc, resolve, group),
-        ScriptCommand::Print { package, world } => print(alloc, resolve, &package, &world),
-        ScriptCommand::Select { package, text } => select(alloc, resolve, &package, &text),
+    match command.into_command() {
+        ScriptCommand::Push { main, deps } => stage.work(alloc, Command::PushGroups { main, deps }),
+        ScriptCommand::Request(request) => reply_to(alloc, stage, request),
     }
 }
 
-/// Adds a package: `pushed PKG`, or a refusal.
-fn push(alloc: Global, resolve: &mut Resolve, group: ReadyGroup) -> Result<String, AllocError>
-    ensures { IfOk result (λ text. IsPushed Run resolve.old group (string_bytes text) resolve.new) }
+/// The answer to a command that hands in no packages.
+fn reply_to(alloc: Global, stage: &Stage, request: Request) -> Result<String, AllocError>
+    requires { IsTrue (is_taken request) }
+    ensures { IfOk result (λ text. Replies Run IsChoice stage.now request (string_bytes text) stage.now) }
 {
-    let command = Command::PushGroups {
-        main: group.into_group(),
-        deps: Items::new(alloc),
-    };
+    match request {
+        Request::Print { package, world } => print(alloc, stage.active(), &package, &world),
+        Request::Select { package, text } => select(alloc, stage.active(), &package, &text),
+        _ => unreachable!(),
+    }
+}
+
+/// The reply to a command, or the refusal of the run itself.
+fn answered(alloc: Global, resolve: &mut Resolve, command: Command) -> Result<String, AllocError>
+    requires { IsSupported command }
+    ensures { IfOk result (λ text. IsAnswered Run reply_text resolve.old command (string_bytes text) resolve.new) }
+{
     let commands = vec![in alloc; command]?;
     match run(alloc, resolve, commands) {
         Ok(replies) => replies_text(alloc, resolve, &replies),

@@ -1,25 +1,7 @@
-//! Why a line, a script or a run of a script comes to nothing.
+//! Why a script or a run of a script comes to nothing.
 ghost use Rattle.std.specs.Prelude.{◌≡◌};
 
 use std::alloc::AllocError;
-
-/// Why a line adds nothing to what was read.
-#[derive(Clone, Copy, Debug, PartialEq, Eq)]
-pub enum LineFault {
-    /// The line has no meaning where it stands.
-    NotUnderstood,
-    OutOfMemory,
-}
-
-impl From<AllocError> for LineFault {
-    ghost use Rattle.wit_script.specs.declared.fault.LineFault.TheVariants as line_fault;
-
-    ghost from_gives = { λ _ fault. fault ≡ line_fault.OutOfMemory };
-
-    fn from(_error: AllocError) -> LineFault {
-        LineFault::OutOfMemory
-    }
-}
 
 /// Why a script can't be read.
 #[derive(Clone, Copy, Debug, PartialEq, Eq)]

@@ -1,13 +1,8 @@
-//! Examples of the definition of scripts: the function has no body, and its contract is what is proved.
-ghost use Rattle.wit_script.specs.LaterExamples.{ExamplesOfLaterLines};
-ghost use Rattle.wit_script.specs.ScriptExamples.{ExamplesOfScripts};
+//! Laws of the definition of scripts: the functions have no body, and their contracts are what is proved.
+ghost use Rattle.wit_script.specs.Told.{AreToldOnce};
 
-/// Scripts and what they ask, and scripts that aren't understood.
-pub fn examples_of_scripts()
-    ensures { ExamplesOfScripts }
-{}
-
-/// Lines that aren't accepted yet, what they say and what they would make.
-pub fn examples_of_later_lines()
-    ensures { ExamplesOfLaterLines }
+/// Of any script exactly one thing can be said: that it is understood, that one line is the first that isn't,
+/// or that it is left open after one line.
+pub fn scripts_are_told_once()
+    ensures { AreToldOnce }
 {}

@@ -1,45 +1,38 @@
 //! From the text of a script to its commands.
-ghost use Rattle.std.specs.Prelude.{◌≡◌, map, Some, IfOk, IfErr, OnOk, not};
-ghost use Rattle.wit_script.specs.Line.{is_silent, last_said_of};
-ghost use Rattle.wit_script.specs.Reading.{IsRead, Leads};
-ghost use Rattle.wit_script.specs.Fit.{IsFit};
-ghost use Rattle.wit_script.specs.Said.{said_of};
-ghost use Rattle.wit_script.specs.Script.{new_reading, with_statement, with_package, with_push, with_command, after_line, after_lines, GoesOn, IsShapedCommand, AreShaped, IsReadAs, HasLineFault, StopsAt};
-ghost use Rattle.wit_script.specs.Understood.{IsUnderstood, HasReadFault, command_of};
+ghost use Rattle.std.specs.Prelude.{◌≡◌, ◌↔◌, ◌||◌, [], is_some, true, map, Some, IfOk, IfErr, IsTrue, OnOk, not};
+ghost use Rattle.wit_lines.specs.Line.{is_silent, last_said_of};
+ghost use Rattle.wit_script.specs.Ready.{AreReady, IsReady, is_accepted_so_far, is_taken};
+ghost use Rattle.wit_script.specs.declared.ready.ScriptCommand.TheVariants.{Push};
+ghost use Rattle.wit_script.specs.Script.{GoesOn, HasLineFault, HasReadFault, IsUnderstood, Leads, after_line, new_reading, reading_of, with_command, with_package, with_package_line, with_push, with_request, with_statement};
 
-use crate::fault::{LineFault, ReadFault};
-use crate::line::{is_comment, lines, tokens};
-use crate::package::OpenPackage;
-use crate::ready::ReadyGroup;
-use crate::statement::{Statement, read_statement};
-use std::alloc::Global;
-use wit_items::{Items, MapFault, PackageName, Text};
-
-/// What a script asks.
-#[derive(Drop)]
-pub enum ScriptCommand {
-    /// Add a package to the graph.
-    Push(ReadyGroup),
-    /// Show a world.
-    Print {
-        package: PackageName,
-        world: Text,
-    },
-    /// Choose a world.
-    Select {
-        package: PackageName,
-        text: Option<Text>,
-    },
-}
+use crate::fault::ReadFault;
+use crate::ready::{ReadyCommand, ScriptCommand, is_accepted};
+use std::alloc::{AllocError, Global};
+use wit_drafts::Draft;
+use wit_items::{Items, PackageName, Stability, UnresolvedPackageGroup};
+use wit_lines::{LineFault, PackageLine, Request, Statement, lines, read_line};
+use wit_link::is_supported_group;
 
 /// What the lines so far say.
 #[derive(Drop)]
 pub struct Reading {
-    pub commands: Items<ScriptCommand>,
+    pub commands: Items<ReadyCommand>,
     /// The packages since the last command that are followed by another.
-    pub finished: Items<OpenPackage>,
+    pub finished: Items<Draft>,
     /// The package that gets the lines.
-    pub current: Option<OpenPackage>,
+    pub current: Option<Draft>,
+    /// Whether an `other` waits for its `merge`.
+    pub other: bool,
+}
+
+/// Whether a group has the shape that a graph takes, and can be added so far.
+fn can_push(alloc: Global, main: &UnresolvedPackageGroup) -> Result<bool, AllocError>
+    ensures { IfOk result (λ can. IsTrue can ↔ IsReady (Push main.now [])) }
+{
+    if !main.is_shaped(alloc)? {
+        return Ok(false);
+    }
+    Ok(is_supported_group(main))
 }
 
 impl Reading {
@@ -51,49 +44,65 @@ impl Reading {
             commands: Items::new(alloc),
             finished: Items::new(alloc),
             current: None,
+            other: false,
         }
+    }
+
+    /// Whether a package waits for its `push`, or an `other` for its `merge`.
+    fn waits(&self) -> bool
+        ensures { result ≡ (is_some self.now.current || self.now.other) }
+    {
+        self.current.is_some() || self.other
     }
 
     /// Adds what a line says.
     fn add(&mut self, alloc: Global, said: Statement, line: &str) -> Result<(), LineFault>
-        requires shaped { AreShaped self.old.commands }
-        requires fit { IsFit self.old }
-        ensures { GoesOn (with_statement self.old said line.now) result self.new }
+        requires ready { AreReady self.old.commands }
+        requires accepted { is_accepted_so_far said ≡ true }
+        ensures { GoesOn (with_statement is_accepted_so_far self.old said line.now []) result self.new }
     {
         match said {
             Statement::Package(name) => self.add_package(alloc, name, line),
-            Statement::Line(said) => match &mut self.current {
-                Some(package) => package.add(alloc, said, line),
-                None => Err(LineFault::NotUnderstood),
-            },
+            Statement::Line { said, gate } => self.add_package_line(alloc, said, gate, line),
             Statement::Push => self.add_push(alloc),
-            Statement::Print { package, world } => self.add_command(ScriptCommand::Print {
-                package,
-                world,
-            }),
-            Statement::Select { package, text } => self.add_command(ScriptCommand::Select {
-                package,
-                text,
-            }),
+            Statement::Request(request) => self.add_request(request),
         }
     }
 
     /// Begins a package.
     fn add_package(&mut self, alloc: Global, name: PackageName, line: &str) -> Result<(), LineFault>
-        ensures next { Leads (with_package self.old name line.now) result self.new }
+        ensures next { Leads (with_package is_accepted_so_far self.old name line.now []) result self.new }
         ensures commands { self.new.commands ≡ self.old.commands }
     {
-        let package = OpenPackage::new(alloc, name, line)?;
+        let package = Draft::begin(alloc, name, line)?;
         if let Some(before) = self.current.replace(package) {
             self.finished.push(before)?;
         }
         Ok(())
     }
 
-    /// Ends the packages, of which there is one, and adds the command that pushes it.
+    /// Adds a line to the package that gets the lines.
+    fn add_package_line(
+        &mut self,
+        alloc: Global,
+        said: PackageLine,
+        gate: Stability,
+        line: &str,
+    ) -> Result<(), LineFault>
+        ensures next { Leads (with_package_line self.old said gate line.now) result self.new }
+        ensures commands { self.new.commands ≡ self.old.commands }
+    {
+        let Some(package) = self.current.take() else {
+            return Err(LineFault::NotUnderstood);
+        };
+        let package = package.with_line(alloc, said, gate, line)?;
+        self.current = Some(package);
+        Ok(())
+    }
+
+    /// Ends the packages, of which there is one so far, and adds the command that pushes it.
     fn add_push(&mut self, alloc: Global) -> Result<(), LineFault>
-        requires shaped { AreShaped self.old.commands }
-        requires fit { IsFit self.old }
+        requires { AreReady self.old.commands }
         ensures { GoesOn (with_push self.old) result self.new }
     {
         let Some(package) = self.current.take() else {
@@ -102,73 +111,64 @@ impl Reading {
         if !self.finished.is_empty() {
             return Err(LineFault::NotUnderstood);
         }
-        let group = match package.into_group(alloc) {
-            Ok(group) => group,
-            Err(MapFault::OffsetOverflow) => return Err(LineFault::NotUnderstood),
-            Err(MapFault::OutOfMemory) => return Err(LineFault::OutOfMemory),
-        };
-        if !group.is_shaped(alloc)? {
+        let main = package.into_group(alloc)?;
+        self.add_group(alloc, main)
+    }
+
+    /// Adds the command that pushes a group, where it can be pushed.
+    fn add_group(&mut self, alloc: Global, main: UnresolvedPackageGroup) -> Result<(), LineFault>
+        requires { AreReady self.old.commands }
+        ensures { GoesOn (Some (with_command self.old (Push main []))) result self.new }
+    {
+        if !can_push(alloc, &main)? {
             return Err(LineFault::NotUnderstood);
         }
+        let deps = Items::new(alloc);
         self.commands
-            .push(ScriptCommand::Push(ReadyGroup::new(group)))?;
+            .push(ReadyCommand::new(ScriptCommand::Push { main, deps }))?;
         Ok(())
     }
 
-    /// Adds a command where no package waits for its `push`.
-    fn add_command(&mut self, command: ScriptCommand) -> Result<(), LineFault>
-        requires shaped { AreShaped self.old.commands }
-        requires command { IsShapedCommand command }
-        ensures { GoesOn (with_command self.old command) result self.new }
+    /// Adds another command where no package waits for its `push`.
+    fn add_request(&mut self, request: Request) -> Result<(), LineFault>
+        requires ready { AreReady self.old.commands }
+        requires taken { is_taken request ≡ true }
+        ensures { GoesOn (with_request self.old request) result self.new }
     {
         if self.current.is_some() {
             return Err(LineFault::NotUnderstood);
         }
-        self.commands.push(command)?;
+        self.commands
+            .push(ReadyCommand::new(ScriptCommand::Request(request)))?;
         Ok(())
-    }
-}
-
-/// What a line says, or None for a line without tokens or a comment.
-fn read_line(alloc: Global, line: &str) -> Result<Option<Statement>, LineFault>
-    ensures { IsRead (said_of line.now) result }
-{
-    let tokens = tokens(alloc, line)?;
-    match tokens.first() {
-        None => Ok(None),
-        Some(token) => {
-            if is_comment(token) {
-                return Ok(None);
-            }
-            Ok(Some(read_statement(alloc, &tokens)?))
-        }
     }
 }
 
 /// Adds a line, and tells whether it says anything.
 fn add_line(alloc: Global, reading: &mut Reading, line: &str) -> Result<bool, LineFault>
-    requires shaped { AreShaped reading.old.commands }
-    requires fit { IsFit reading.old }
-    ensures next { GoesOn (after_line reading.old line.now) result reading.new }
+    requires { AreReady reading.old.commands }
+    ensures next { GoesOn (after_line is_accepted_so_far reading.old line.now []) result reading.new }
     ensures told { IfOk result (λ said. said ≡ not (is_silent line.now)) }
 {
     match read_line(alloc, line)? {
         None => Ok(false),
         Some(said) => {
+            if !is_accepted(&said) {
+                return Err(LineFault::NotUnderstood);
+            }
             reading.add(alloc, said, line)?;
             Ok(true)
         }
     }
 }
 
-/// Adds lines, and answers how many there are up to the last that says something.
+/// Adds the lines of a script, and answers how many there are up to the last that says something.
 fn add_lines(alloc: Global, reading: &mut Reading, lines: &[&str]) -> Result<usize, ReadFault>
-    requires shaped { AreShaped reading.old.commands }
-    requires fit { IsFit reading.old }
-    ensures read { OnOk result (after_lines reading.old (map (λ line. line.now) lines.now) ≡ Some reading.new) }
-    ensures shaped { OnOk result (AreShaped reading.new.commands) }
+    requires { reading.old ≡ new_reading }
+    ensures read { OnOk result (reading_of (map (λ line. line.now) lines.now) ≡ Some reading.new) }
+    ensures ready { OnOk result (AreReady reading.new.commands) }
     ensures last { IfOk result (λ last. last ≡ last_said_of (map (λ line. line.now) lines.now)) }
-    ensures fault { IfErr result (λ fault. HasLineFault reading.old (map (λ line. line.now) lines.now) fault) }
+    ensures fault { IfErr result (λ fault. HasLineFault (map (λ line. line.now) lines.now) fault) }
 {
     let mut last = 0;
     for (index, line) in lines.iter().enumerate() {
@@ -186,27 +186,19 @@ fn add_lines(alloc: Global, reading: &mut Reading, lines: &[&str]) -> Result<usi
     Ok(last)
 }
 
-/// The commands that the lines of a script ask, or the number of the line at which reading stops.
-fn read_commands(alloc: Global, text: &str) -> Result<Items<ScriptCommand>, ReadFault>
-    ensures ok { IfOk result (λ commands. IsReadAs text.now commands) }
-    ensures fault { IfErr result (λ fault. StopsAt text.now fault) }
+/// The commands of a script, or the number of its first line that isn't understood.
+///
+/// Where all lines are understood but packages wait for their `push`, or an `other` for its `merge`, the
+/// last line that says something is named.
+pub fn read_script(alloc: Global, text: &str) -> Result<Items<ReadyCommand>, ReadFault>
+    ensures ok { IfOk result (λ commands. IsUnderstood text.now commands) }
+    ensures fault { IfErr result (λ fault. HasReadFault text.now fault) }
 {
     let lines = lines(alloc, text)?;
     let mut reading = Reading::new(alloc);
     let last = add_lines(alloc, &mut reading, &lines)?;
-    if reading.current.is_some() {
+    if reading.waits() {
         return Err(ReadFault::NotUnderstood { line: last });
     }
     Ok(reading.commands)
-}
-
-/// The commands of a script, or the number of its first line that isn't understood.
-///
-/// Where all lines are understood but packages wait for their `push`, the last line that says
-/// something is named.
-pub fn read_script(alloc: Global, text: &str) -> Result<Items<ScriptCommand>, ReadFault>
-    ensures ok { IfOk result (λ commands. IsUnderstood text.now (map command_of commands)) }
-    ensures fault { IfErr result (λ fault. HasReadFault text.now fault) }
-{
-    read_commands(alloc, text)
 }

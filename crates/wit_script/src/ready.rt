@@ -1,48 +1,94 @@
-//! Groups that may be pushed.
+//! What a script asks, and that it may be asked so far.
+ghost use Rattle.std.specs.Prelude.{◌≡◌};
+ghost use Rattle.wit_script.specs.Ready.{is_accepted_so_far, is_line_taken, is_own, is_taken};
+
 use std::marker::Model;
-use wit_items::UnresolvedPackageGroup;
+use wit_items::{Items, ParsedUsePath, UnresolvedPackageGroup};
+use wit_lines::{PackageLine, Request, Statement};
 
-/// A group of the shape that a graph takes.
+/// A command of a script.
 #[derive(Drop)]
-pub struct ReadyGroup {
-    group: UnresolvedPackageGroup,
+pub enum ScriptCommand {
+    /// Add packages to the graph, the first of them the main one.
+    Push {
+        main: UnresolvedPackageGroup,
+        deps: Items<UnresolvedPackageGroup>,
+    },
+    /// Do something else.
+    Request(Request),
 }
 
-impl Model for ReadyGroup {
-    ghost use Rattle.wit_items.specs.declared.unresolved.UnresolvedPackageGroup.{UnresolvedPackageGroup};
-    ghost use Rattle.wit_script.specs.Ready.{IsReady};
-
-    ghost Value = { UnresolvedPackageGroup };
-
-    ghost view = { λ ready. ready.group };
-
-    ghost invariant = { λ ready. IsReady ready.group };
+/// Whether a command that hands in no package is carried out so far.
+fn is_taken(request: &Request) -> bool
+    ensures { result ≡ is_taken request.now }
+{
+    matches!(request, Request::Print { .. } | Request::Select { .. })
 }
 
-impl ReadyGroup {
-    ghost use Rattle.std.specs.Prelude.{◌≡◌};
+/// Whether a path names something of the same package.
+fn is_own(path: &ParsedUsePath) -> bool
+    ensures { result ≡ is_own path.now }
+{
+    matches!(path, ParsedUsePath::Name(_))
+}
+
+/// Whether a line of a package is read so far: it names nothing of other packages.
+fn is_line_taken(line: &PackageLine) -> bool
+    ensures { result ≡ is_line_taken line.now }
+{
+    match line {
+        PackageLine::Use { path, .. } => is_own(path),
+        PackageLine::Import { path, .. } => is_own(path),
+        PackageLine::Export { path, .. } => is_own(path),
+        PackageLine::Include { path, .. } => is_own(path),
+        _ => true,
+    }
+}
+
+/// Whether what a line says is accepted so far.
+pub fn is_accepted(said: &Statement) -> bool
+    ensures { result ≡ is_accepted_so_far said.now }
+{
+    match said {
+        Statement::Line { said, .. } => is_line_taken(said),
+        Statement::Request(request) => is_taken(request),
+        Statement::Package(_) | Statement::Push => true,
+    }
+}
+
+/// A command whose packages have the shape that a graph takes, and that is taken so far.
+#[derive(Drop)]
+pub struct ReadyCommand {
+    command: ScriptCommand,
+}
+
+impl Model for ReadyCommand {
+    ghost use Rattle.wit_script.specs.Ready.{IsReady};
+    ghost use Rattle.wit_script.specs.declared.ready.ScriptCommand.{ScriptCommand};
+
+    ghost Value = { ScriptCommand };
+
+    ghost view = { λ ready. ready.command };
+
+    ghost invariant = { λ ready. IsReady ready.command };
+}
+
+impl ReadyCommand {
     ghost use Rattle.wit_script.specs.Ready.{IsReady};
 
-    /// A group that is known to be ready.
-    pub fn new(group: UnresolvedPackageGroup) -> ReadyGroup
-        requires { IsReady group }
-        ensures { result ≡ group }
+    /// A command that is known to be ready.
+    pub fn new(command: ScriptCommand) -> ReadyCommand
+        requires { IsReady command }
+        ensures { result ≡ command }
     {
-        ReadyGroup { group }
+        ReadyCommand { command }
     }
 
-    /// The group, to look at.
-    pub fn group(&self) -> &UnresolvedPackageGroup
-        ensures { result.now ≡ self.now }
-    {
-        &self.group
-    }
-
-    /// The group that it keeps.
-    pub fn into_group(self) -> UnresolvedPackageGroup
+    /// The command that it keeps.
+    pub fn into_command(self) -> ScriptCommand
         ensures same { result ≡ self }
         ensures ready { IsReady result }
     {
-        self.group
+        self.command
     }
 }

@@ -1,8 +1,9 @@
 //! From the bytes of a script to its answers.
-ghost use Rattle.std.specs.Prelude.{◌≡◌, [], List, ℕ, true, IfOk, IfSome, OnOk, IsErrOf, string_bytes};
+ghost use Rattle.std.specs.Prelude.{◌≡◌, ◌⊎◌, [], Bool, List, ℕ, true, IfErr, IfOk, IfSome, OnOk, IsErrOf, string_bytes};
 ghost use Rattle.std.specs.Str.{IsUtf8};
 ghost use Rattle.std.specs.Io.KnownBytes.{Appends};
 ghost use Rattle.wit_script.specs.Prints.{PrintsByRun};
+ghost use Rattle.wit_script.specs.Watched.{AppendsBeginning};
 
 use crate::answer::answers_to;
 use crate::fault::{ReadFault, ScriptFault};
@@ -15,8 +16,8 @@ use std::io::{Read, Write};
 /// Reads a script to the end of the reader, runs it, and writes its answers. A script that isn't
 /// understood is answered by one line and not run, and the answer is then false.
 ///
-/// The clauses speak of readers and writers that tell their bytes. After a fault some of the answers may
-/// have been written.
+/// The clauses speak of readers and writers that tell their bytes. Where the writer fails, a beginning of
+/// what was to be written is; after any other fault nothing is.
 pub fn execute<R: Read, W: Write>(
     alloc: Global,
     reader: &mut Watched<R>,
@@ -24,6 +25,9 @@ pub fn execute<R: Read, W: Write>(
 ) -> Result<bool, ScriptFault>
     ensures ok { IfOk result (λ understood. IfSome (R.remaining reader.old.inner) (λ input.
         (text : List ℕ) × PrintsByRun input understood text × Appends (W.contents writer.old.inner) (W.contents writer.new.inner) text)) }
+    ensures cut { IsErrOf result ScriptFault.Write → IfSome (R.remaining reader.old.inner) (λ input.
+        (understood : Bool) × (text : List ℕ) × PrintsByRun input understood text × AppendsBeginning (W.contents writer.old.inner) (W.contents writer.new.inner) text) }
+    ensures untouched { IfErr result (λ fault. (fault ≡ ScriptFault.Write) ⊎ (writer.new ≡ writer.old)) }
     ensures end { OnOk result (IfSome (R.remaining reader.new.inner) (λ rest. rest ≡ [])) }
     ensures read { IsErrOf result ScriptFault.Read → reader.new.failed ≡ true }
     ensures write { IsErrOf result ScriptFault.Write → writer.new.failed ≡ true }

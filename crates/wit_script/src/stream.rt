@@ -1,6 +1,7 @@
 //! All bytes of a reader, and bytes to a writer.
-ghost use Rattle.std.specs.Prelude.{◌≡◌, [], true, IfSome, OnOk, IfErr, IfOk, IsErrOf};
+ghost use Rattle.std.specs.Prelude.{◌≡◌, [], true, IfSome, OnOk, OnErr, IfErr, IfOk, IsErrOf};
 ghost use Rattle.std.specs.Io.KnownBytes.{Appends};
+ghost use Rattle.wit_script.specs.Watched.{AppendsBeginning};
 
 use crate::fault::ScriptFault;
 use crate::watched::Watched;
@@ -27,10 +28,12 @@ pub fn read_all<R: Read>(alloc: Global, reader: &mut Watched<R>) -> Result<Vec<u
     Err(ScriptFault::OutOfMemory)
 }
 
-/// Writes all bytes of a text, and has the writer pass them on.
+/// Writes all bytes of a text, and has the writer pass them on. After a fault a beginning of the text may
+/// be written.
 pub fn write_all<W: Write>(writer: &mut Watched<W>, text: &str) -> Result<(), ScriptFault>
     ensures ok { OnOk result (Appends (W.contents writer.old.inner) (W.contents writer.new.inner) text.now) }
     ensures err { IfErr result (λ e. (e ≡ ScriptFault.Write) × (writer.new.failed ≡ true)) }
+    ensures cut { OnErr result (AppendsBeginning (W.contents writer.old.inner) (W.contents writer.new.inner) text.now) }
 {
     let bytes = text.as_bytes();
     let mut at = 0;

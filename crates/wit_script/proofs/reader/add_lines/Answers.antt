@@ -1,6 +1,5 @@
 use Rattle.std.proofs.Common.{◌≡◌, ◌∙◌, ◌+◌, sym, map, take, List, [], Some, ℕ, Bor}
-use Rattle.wit_script.specs.Script.{after_lines}
-use Rattle.wit_script.proofs.FitLines.{fit-lines}
+use Rattle.wit_script.specs.Script.{reading_of}
 use Rattle.wit_script.proofs.Scripts.{bad-line, read-next, last-silent, last-said}
 use Rattle.wit_script.proofs.reader.add_lines.Goals as goal
 use Rattle.wit_script.proofs.reader.add_lines.Goals.{then-says_something, else-says_something}
@@ -12,19 +11,18 @@ none = record { ref_ptr = (0, 0); now = [] }
 pub returns-in-Err-NotUnderstood-clause-fault : goal.returns-in-Err-NotUnderstood-clause-fault
 unfolding none
 returns-in-Err-NotUnderstood-clause-fault c =
-    bad-line c.args.lines.now c.loop-index.index none c.args.reading.now c.loop-index.reading c.loop-index-test.true c.loop-index.invariant.read c.loop-index.invariant.shaped
+    bad-line c.args.lines.now c.loop-index.index none c.loop-index.reading c.loop-index-test.true c.loop-index.invariant.read c.loop-index.invariant.ready
     (rw c.in-Err-NotUnderstood.field-0-is at c.in-Err-NotUnderstood.ensures.next)
 
 pub loop-index-preserved : goal.loop-index-preserved
 unfolding none
 loop-index-preserved c =
-    let read : after_lines c.args.reading.now (map (λ (x : Bor (List ℕ)). x.now) (take (c.loop-index.index + 1) c.args.lines.now)) ≡ Some c.add_line.new.reading =
-    read-next c.args.lines.now c.loop-index.index none c.args.reading.now c.loop-index.reading c.add_line.new.reading
+    let read : reading_of (map (λ (x : Bor (List ℕ)). x.now) (take (c.loop-index.index + 1) c.args.lines.now)) ≡ Some c.add_line.new.reading =
+    read-next c.args.lines.now c.loop-index.index none c.loop-index.reading c.add_line.new.reading
     c.loop-index-test.true c.loop-index.invariant.read c.in-Ok.ensures.next.0 in
     record {
       read = read;
-      shaped = c.in-Ok.ensures.next.1;
-      fit = fit-lines (map (λ (x : Bor (List ℕ)). x.now) (take (c.loop-index.index + 1) c.args.lines.now)) c.args.reading.now c.add_line.new.reading c.requires.fit read;
+      ready = c.in-Ok.ensures.next.1;
       last = elim c.if-says_something.branch [
         | then-says_something w ↦
             rw w.last-is (last-said c.args.lines.now c.loop-index.index none c.loop-index-test.true (sym w.if-says_something.true ∙ c.in-Ok.ensures.told))

@@ -1,9 +1,6 @@
-use Rattle.std.proofs.Common.{rules, ◌≡◌, List, ℕ, string_bytes, subst, map}
+use Rattle.std.proofs.Common.{rules, ◌≡◌, List, ℕ, subst}
 use Rattle.std.specs.Str.{IsUtf8}
-use Rattle.wit_resolve_graph.specs.Step.{Run}
-use Rattle.wit_script.specs.Answer.{IsChoice}
-use Rattle.wit_script.specs.Understood.{IsNotUnderstood, IsUnderstood, command_of}
-use Rattle.wit_script.proofs.Answered.{prints_answers}
+use Rattle.wit_script.specs.Script.{IsNotUnderstood, IsUnderstood}
 use Rattle.wit_script.proofs.script.printed.Goals as goal
 
 pub returns-in_ok-answers_to-in-Ok-read_script-clause-ok :
@@ -11,9 +8,13 @@ pub returns-in_ok-answers_to-in-Ok-read_script-clause-ok :
 returns-in_ok-answers_to-in-Ok-read_script-clause-ok c =
     let same : c.in-Ok.script.now ≡ c.args.input.now = search rules in
     let utf8 : IsUtf8 c.args.input.now = search rules in
-    prints_answers Run IsChoice c.args.input.now (string_bytes c.in_ok-answers_to-in-Ok-read_script.field-0) c.in-Ok-read_script.commands utf8
-    (subst (λ (text : List ℕ). IsUnderstood text (map command_of c.in-Ok-read_script.commands)) same c.in-Ok-read_script.ensures.ok)
-    c.in_ok-answers_to-in-Ok-read_script.ensures
+    record {
+      utf8 = utf8;
+      commands = c.in-Ok-read_script.commands;
+      understood = subst (λ (text : List ℕ). IsUnderstood text c.in-Ok-read_script.commands) same c.in-Ok-read_script.ensures.ok;
+      after = c.in_ok-answers_to-in-Ok-read_script.ensures.0;
+      answered = c.in_ok-answers_to-in-Ok-read_script.ensures.1;
+    }
 
 pub returns-in_ok-format-in-Err-NotUnderstood-clause-ok :
     goal.returns-in_ok-format-in-Err-NotUnderstood-clause-ok

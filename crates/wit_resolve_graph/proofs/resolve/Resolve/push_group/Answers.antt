@@ -1,6 +1,6 @@
 use Rattle.std.proofs.Common.{◌≡◌, ◌∙◌, ap, sym, length}
 use Rattle.std.proofs.lemmas.Bool.{false≢true}
-use Rattle.wit_items.specs.SourceMap.{Sources, with_sources}
+use Rattle.wit_sources.specs.SourceMap.{Sources, with_sources}
 use Rattle.wit_resolve_graph.specs.State.{State}
 use Rattle.wit_resolve_graph.proofs.OnePackage.{laid_out_before, step_must_refuse, step_pushes, step_refuses, step_takes_back}
 use Rattle.wit_resolve_graph.proofs.resolve.Resolve.push_group.Goals as goal

@@ -1,0 +1,4 @@
+pub mod Keys
+pub mod Steps
+pub mod Wrapped
+pub mod Entries

@@ -1,0 +1,11 @@
+//! Packages as the lines of a script make them, one line after another.
+#![tactic(auto)]
+
+pub mod adding;
+pub mod draft;
+pub mod lines;
+pub mod making;
+pub mod naming;
+pub mod role;
+
+pub use crate::draft::{Draft, Foreign, Scope, Standing};

@@ -1,0 +1,9 @@
+pub mod IsRead
+pub mod Line
+pub mod Token
+pub mod Gate
+pub mod Signature
+pub mod TypeText
+pub mod PackageLine
+pub mod Request
+pub mod Statement

@@ -1,0 +1,21 @@
+//! The lines of a script for a resolve graph: their tokens, and what each of them says.
+#![tactic(auto)]
+
+pub mod fault;
+pub mod gate;
+pub mod line;
+pub mod package_line;
+pub mod request;
+pub mod signature;
+pub mod statement;
+pub mod token;
+pub mod type_text;
+
+pub use crate::fault::LineFault;
+pub use crate::line::{ink, is_comment, lines, tokens};
+pub use crate::package_line::PackageLine;
+pub use crate::request::{Request, TrackRule};
+pub use crate::signature::{Signature, TypedName};
+pub use crate::statement::{Statement, read_line};
+pub use crate::token::{after_prefix, primitive};
+pub use crate::type_text::{TypeText, Wrap, Written};

@@ -1,0 +1,7 @@
+use Rattle.wit_resolve_graph.proofs.resolve.Resolve.importize.Goals as goal
+
+pub returns-clause-cause : goal.returns-clause-cause
+returns-clause-cause c = rw (← c.self.view_is) c.importize.ensures.cause
+
+pub returns-clause-refuses : goal.returns-clause-refuses
+returns-clause-refuses c = rw (← c.self.view_is) c.importize.ensures.refuses

@@ -1,5 +1,0 @@
-use Rattle.wit_script.proofs.Told.{pushed_lacks}
-use Rattle.wit_script.proofs.answer.push.Goals as goal
-
-pub returns-in-Err : goal.returns-in-Err
-returns-in-Err c = pushed_lacks c.args.resolve.now c.run.new.resolve c.args.group c.in-Err.refusal c.refused.result c.in-Err.ensures.cause c.in-Err.ensures.err c.refused.ensures

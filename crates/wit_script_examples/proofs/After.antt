@@ -1,0 +1,14 @@
+-- What is read of small texts.
+use Rattle.std.proofs.Common.{ℕ, List, Option, Some, None}
+use Rattle.wit_lines.specs.Line.{lines_of}
+use Rattle.wit_script.specs.Script.{new_reading, reading_of}
+use Rattle.wit_script.specs.declared.reader.Reading.{Reading}
+
+-- a reading, or an empty one
+abbrev pub or_nothing : Option Reading → Reading
+or_nothing None = new_reading
+or_nothing (Some reading) = reading
+
+-- what the lines of a text say
+abbrev pub after : List ℕ → Reading
+after text = or_nothing (reading_of (lines_of text))

@@ -1,0 +1,21 @@
+use Rattle.std.proofs.Common.{refl, inl, inr, codes, lit<}
+use Rattle.wit_items.specs.UsePath.{is_kebab_name, use_path_of}
+use Rattle.wit_script.specs.Script.{new_reading}
+use Rattle.wit_script_examples.proofs.After.{after}
+use Rattle.wit_script_examples.proofs.examples.examples_of_scripts.Goals as goal
+
+pub returns : goal.returns
+unfolding use_path_of is_kebab_name
+returns c = record {
+  first_package = refl;
+  spaces = refl;
+  nothing = record { reading = new_reading; read = refl; asked = refl; ready = tt; ended = refl; closed = refl };
+  comments = record { reading = new_reading; read = refl; asked = refl; ready = tt; ended = refl; closed = refl };
+  push_alone = inl (record { before = 1; reading = new_reading; read = refl; ready = tt; there = lit< tt; bad = tt; counted = refl });
+  name_twice = inl (record { before = 2; reading = after (codes "package a:b\ninterface i"); read = refl; ready = tt; there = lit< tt; bad = tt; counted = refl });
+  name_later = inl (record { before = 2; reading = after (codes "package a:b\nworld w"); read = refl; ready = tt; there = lit< tt; bad = tt; counted = refl });
+  among_lines = inl (record { before = 1; reading = after (codes "package a:b"); read = refl; ready = tt; there = lit< tt; bad = tt; counted = refl });
+  unended = inr (record { reading = after (codes "package a:b\ninterface i"); read = refl; ready = tt; waits = refl; counted = refl });
+  foreign_name = inl (record { before = 2; reading = after (codes "package a:b\nworld w"); read = refl; ready = tt; there = lit< tt; bad = tt; counted = refl });
+  feature_line = inl (record { before = 0; reading = new_reading; read = refl; ready = tt; there = lit< tt; bad = tt; counted = refl });
+}

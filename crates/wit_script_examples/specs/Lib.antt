@@ -1,0 +1,3 @@
+pub mod LineExamples
+pub mod PackageExamples
+pub mod ScriptExamples
