@@ -1,10 +1,25 @@
-//! Readers and writers that fail at one of their calls, or take little at a time.
-use crate::first_path::{FIRST_RUN, Row};
+//! Readers and writers that fail at one of their calls, or take little at a time, and input that is no text.
 use std::alloc::{AllocError, Global};
 use std::io;
 use std::io::{ErrorKind, Read, Write};
-use std::test::Fail;
+use std::process::Abort;
 use wit_script::{ScriptFault, Watched, execute};
+
+const SCRIPT: &str = "package foo:bar\n\
+    interface a\n\
+    type t u32\n\
+    interface b\n\
+    use a t\n\
+    world w\n\
+    import b\n\
+    push\n\
+    print foo:bar w\n";
+
+/// What the script prints.
+const PRINTED: &str = "pushed foo:bar\n\
+    world foo:bar/w\n\
+    \x20 import foo:bar/a\n\
+    \x20 import foo:bar/b\n";
 
 /// How many bytes a call gives or takes at most.
 const BYTES_A_CALL: usize = 5;
@@ -64,14 +79,15 @@ impl Write for FailingWriter {
 
 /// The answer to a script, where the reader and the writer fail after so many calls, and what the
 /// writer has taken.
-fn run_failing(
+fn run(
+    rt: &impl Abort,
     alloc: Global,
-    row: &Row,
+    script: &[u8],
     reads: usize,
     writes: usize,
-) -> Result<(Result<bool, ScriptFault>, String), Fail> {
+) -> (Result<bool, ScriptFault>, String) {
     let mut reader = Watched::new(FailingReader {
-        rest: row.script.as_bytes(),
+        rest: script,
         calls_left: reads,
     });
     let mut writer = Watched::new(FailingWriter {
@@ -79,34 +95,39 @@ fn run_failing(
         calls_left: writes,
     });
     let answer = execute(alloc, &mut reader, &mut writer);
-    Ok((answer, String::from_utf8(writer.into_inner().taken)?))
+    let taken = writer.into_inner().taken;
+    (answer, String::from_utf8(taken).expect(rt, "a text"))
 }
 
 #[test]
-fn a_read_that_fails_is_told(rt: HostRuntime) -> Result<(), Fail> {
-    let row = FIRST_RUN;
-    let calls = row.script.len().div_ceil(BYTES_A_CALL) + 1;
+fn a_read_that_fails_is_told(rt: HostRuntime) {
+    let calls = SCRIPT.len().div_ceil(BYTES_A_CALL) + 1;
     for reads in 0..calls {
-        let (answer, text) = run_failing(rt.alloc(), &row, reads, MANY_CALLS)?;
+        let (answer, text) = run(&rt, rt.alloc(), SCRIPT.as_bytes(), reads, MANY_CALLS);
         assert_eq!(rt; answer, Err(ScriptFault::Read), "{reads}");
         assert_eq!(rt; text.as_str(), "", "{reads}");
     }
-    let (answer, text) = run_failing(rt.alloc(), &row, calls, MANY_CALLS)?;
+    let (answer, text) = run(&rt, rt.alloc(), SCRIPT.as_bytes(), calls, MANY_CALLS);
     assert_eq!(rt; answer, Ok(true));
-    assert_eq!(rt; text.as_str(), row.prints);
-    Ok(())
+    assert_eq!(rt; text.as_str(), PRINTED);
 }
 
 #[test]
-fn a_write_that_fails_is_told(rt: HostRuntime) -> Result<(), Fail> {
-    let row = FIRST_RUN;
-    let calls = row.prints.len().div_ceil(BYTES_A_CALL) + 1;
+fn a_write_that_fails_is_told(rt: HostRuntime) {
+    let calls = PRINTED.len().div_ceil(BYTES_A_CALL) + 1;
     for writes in 0..calls {
-        let (answer, _) = run_failing(rt.alloc(), &row, MANY_CALLS, writes)?;
+        let (answer, text) = run(&rt, rt.alloc(), SCRIPT.as_bytes(), MANY_CALLS, writes);
         assert_eq!(rt; answer, Err(ScriptFault::Write), "{writes}");
+        assert!(rt; PRINTED.starts_with(text.as_str()), "{writes}");
     }
-    let (answer, text) = run_failing(rt.alloc(), &row, MANY_CALLS, calls)?;
+    let (answer, text) = run(&rt, rt.alloc(), SCRIPT.as_bytes(), MANY_CALLS, calls);
     assert_eq!(rt; answer, Ok(true));
-    assert_eq!(rt; text.as_str(), row.prints);
-    Ok(())
+    assert_eq!(rt; text.as_str(), PRINTED);
+}
+
+#[test]
+fn input_that_is_no_text_prints_nothing(rt: HostRuntime) {
+    let (answer, text) = run(&rt, rt.alloc(), b"push\xff", MANY_CALLS, MANY_CALLS);
+    assert_eq!(rt; answer, Err(ScriptFault::NotUtf8));
+    assert_eq!(rt; text.as_str(), "");
 }

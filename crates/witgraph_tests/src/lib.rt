@@ -1,19 +1,10 @@
-//! Tests that cross crates: whole scripts and what they print, and packages that are built in place.
+//! Tests of what no clause says of whole scripts and of a `Resolve`: that calls succeed where memory is ample,
+//! and readers and writers that fail. What a script shows is a case of `witgraph_cases`.
 #![tactic(auto)]
 
 #[cfg(test)]
 mod failing_streams;
 #[cfg(test)]
-mod files;
+mod resolve;
 #[cfg(test)]
-mod first_path;
-#[cfg(test)]
-mod linking;
-#[cfg(test)]
-mod pushing;
-#[cfg(test)]
-mod reading;
-#[cfg(test)]
-mod sample;
-#[cfg(test)]
-mod shape;
+mod turning;

@@ -1,0 +1,167 @@
+//! Parts of packages, as tests need them.
+use indexmap::IndexMap;
+use std::alloc::Global;
+use std::process::Abort;
+use wit_items::{
+    Docs, Function, FunctionKind, Interface, InterfaceId, Items, Names, PackageId, PackageName,
+    Param, Span, Stability, Table, Text, Type_, TypeDef, TypeDefKind, TypeId, TypeOwner, World,
+    WorldInclude, WorldItem, WorldKey,
+};
+
+pub fn string(rt: &impl Abort, alloc: Global, text: &str) -> String {
+    String::from_str(alloc, text).expect(rt, "memory")
+}
+
+pub fn text(rt: &impl Abort, alloc: Global, text: &str) -> Text {
+    Text::try_from_str(alloc, text).expect(rt, "memory")
+}
+
+/// The text, or nothing where it is empty.
+fn text_or_none(rt: &impl Abort, alloc: Global, kept: &str) -> Option<Text> {
+    match kept {
+        "" => None,
+        _ => Some(text(rt, alloc, kept)),
+    }
+}
+
+/// A list of one.
+pub fn one<T: Drop>(rt: &impl Abort, alloc: Global, item: T) -> Items<T> {
+    let mut items = Items::new(alloc);
+    items.push(item).expect(rt, "memory");
+    items
+}
+
+pub fn package_name(rt: &impl Abort, alloc: Global, namespace: &str, name: &str) -> PackageName {
+    let namespace = text(rt, alloc, namespace);
+    PackageName::new(namespace, text(rt, alloc, name), None)
+}
+
+/// The type at a place.
+pub fn type_at(index: usize) -> Type_ {
+    Type_::Id(TypeId::from_index(index))
+}
+
+/// The owner that is the interface at a place.
+pub fn interface_owner(index: usize) -> TypeOwner {
+    TypeOwner::Interface(InterfaceId::from_index(index))
+}
+
+/// A type, with a name where it isn't empty.
+pub fn type_def(
+    rt: &impl Abort,
+    alloc: Global,
+    name: &str,
+    kind: TypeDefKind,
+    owner: TypeOwner,
+) -> TypeDef {
+    TypeDef {
+        name: text_or_none(rt, alloc, name),
+        kind,
+        owner,
+        docs: Docs::none(),
+        stability: Stability::Unknown,
+        span: Span::unknown(),
+        external_id: None,
+    }
+}
+
+/// A function with one parameter and no result.
+pub fn function(
+    rt: &impl Abort,
+    alloc: Global,
+    name: &str,
+    kind: FunctionKind,
+    parameter: Type_,
+) -> Function {
+    let param = Param {
+        name: text(rt, alloc, "p"),
+        ty: parameter,
+        span: Span::unknown(),
+    };
+    let params = one(rt, alloc, param);
+    Function {
+        name: text(rt, alloc, name),
+        kind,
+        params,
+        result_: None,
+        docs: Docs::none(),
+        stability: Stability::Unknown,
+        span: Span::unknown(),
+        external_id: None,
+    }
+}
+
+/// Types under names.
+pub fn listed_types(rt: &impl Abort, alloc: Global, types: &[(&str, usize)]) -> Names<TypeId> {
+    let mut listed = IndexMap::new(alloc);
+    for (name, index) in types {
+        listed
+            .insert(string(rt, alloc, name), TypeId::from_index(*index))
+            .expect(rt, "memory");
+    }
+    Names::from_map(listed)
+}
+
+/// An interface, with a name where it isn't empty.
+pub fn interface(
+    rt: &impl Abort,
+    alloc: Global,
+    name: &str,
+    types: &[(&str, usize)],
+    functions: Names<Function>,
+    package: Option<PackageId>,
+) -> Interface {
+    let name = text_or_none(rt, alloc, name);
+    let types = listed_types(rt, alloc, types);
+    Interface {
+        name,
+        types,
+        functions,
+        docs: Docs::none(),
+        stability: Stability::Unknown,
+        package,
+        span: Span::unknown(),
+    }
+}
+
+pub fn world(
+    rt: &impl Abort,
+    alloc: Global,
+    name: &str,
+    imports: Table<WorldKey, WorldItem>,
+    exports: Table<WorldKey, WorldItem>,
+    includes: Items<WorldInclude>,
+) -> World {
+    let name = text(rt, alloc, name);
+    World {
+        name,
+        imports,
+        exports,
+        docs: Docs::none(),
+        stability: Stability::Unknown,
+        package: None,
+        includes,
+        span: Span::unknown(),
+    }
+}
+
+/// The entry of an interface without docs and gates.
+pub fn interface_item(index: usize) -> WorldItem {
+    WorldItem::Interface {
+        id: InterfaceId::from_index(index),
+        stability: Stability::Unknown,
+        docs: Docs::none(),
+        span: Span::new(5, 6),
+        external_id: None,
+    }
+}
+
+/// The key of an interface that isn't labelled.
+pub fn interface_key(index: usize) -> WorldKey {
+    WorldKey::Interface(InterfaceId::from_index(index))
+}
+
+/// The key that is a label.
+pub fn label(rt: &impl Abort, alloc: Global, name: &str) -> WorldKey {
+    WorldKey::Name(text(rt, alloc, name))
+}

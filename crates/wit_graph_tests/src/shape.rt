@@ -1,0 +1,580 @@
+//! A shaped package, and for each rule of the shape packages that break it.
+use crate::fixtures::{
+    function, interface, interface_item, interface_key, interface_owner, label, one, package_name,
+    string, text, type_at, type_def, world,
+};
+use indexmap::IndexMap;
+use std::alloc::Global;
+use std::process::Abort;
+use wit_items::{
+    AstItem, Docs, Field, Function, FunctionKind, Handle, Interface, InterfaceId, Items, Names,
+    PackageId, PackageName, SourceMap, Span, Stability, Table, Type_, TypeDef, TypeDefKind, TypeId,
+    TypeOwner, UnresolvedPackage, UnresolvedPackageGroup, World, WorldId, WorldInclude, WorldItem,
+    WorldKey,
+};
+
+/// What is changed of a shaped package.
+#[derive(Clone, Copy, Debug, PartialEq, Eq)]
+pub enum Change {
+    Nothing,
+    InterfaceNamedAsForeign,
+    WorldNamedAsForeign,
+    SpanOfPackageMissing,
+    ForeignTwice,
+    GateMissing,
+    ForeignFunction,
+    ForeignNamedOtherwise,
+    ForeignWorldHoldsEntry,
+    SpanOfTypeMissing,
+    UnknownLater,
+    RequiredKnown,
+    PackageSaid,
+    RefersToItself,
+    RefersLater,
+    NotListed,
+    ListedOtherwise,
+    ListedTwice,
+    NameWithoutOwner,
+    OwnerWithoutName,
+    FunctionUnderOtherName,
+    InterfacesOfOneName,
+    WorldsOfOneName,
+    AliasOfUnnamed,
+    AliasIntoUnnamedInterface,
+    UnnamedAlias,
+    UnnamedResource,
+    PartOfOther,
+    ParameterOfOther,
+    ParameterOfOtherInWorld,
+    UsesItself,
+    KeyOfOther,
+    KeyOfUnnamed,
+    LabelOfOtherFunction,
+    LabelOfNothing,
+    TypeExported,
+    UnnamedInTwoPlaces,
+    IncludesItself,
+    IncludesLater,
+    NamespaceNotKebab,
+    NameNotKebab,
+    InterfaceNotKebab,
+    WorldNotKebab,
+}
+
+/// Changes that leave the shape: only names of things that aren't foreign have to differ.
+const KEEPS: [Change; 3] = [
+    Change::Nothing,
+    Change::InterfaceNamedAsForeign,
+    Change::WorldNamedAsForeign,
+];
+
+/// Changes that break a rule, in the order of the rules.
+const BREAKS: [Change; 40] = [
+    Change::SpanOfPackageMissing,
+    Change::ForeignTwice,
+    Change::GateMissing,
+    Change::ForeignFunction,
+    Change::ForeignNamedOtherwise,
+    Change::ForeignWorldHoldsEntry,
+    Change::SpanOfTypeMissing,
+    Change::UnknownLater,
+    Change::RequiredKnown,
+    Change::PackageSaid,
+    Change::RefersToItself,
+    Change::RefersLater,
+    Change::NotListed,
+    Change::ListedOtherwise,
+    Change::ListedTwice,
+    Change::NameWithoutOwner,
+    Change::OwnerWithoutName,
+    Change::FunctionUnderOtherName,
+    Change::InterfacesOfOneName,
+    Change::WorldsOfOneName,
+    Change::AliasOfUnnamed,
+    Change::AliasIntoUnnamedInterface,
+    Change::UnnamedAlias,
+    Change::UnnamedResource,
+    Change::PartOfOther,
+    Change::ParameterOfOther,
+    Change::ParameterOfOtherInWorld,
+    Change::UsesItself,
+    Change::KeyOfOther,
+    Change::KeyOfUnnamed,
+    Change::LabelOfOtherFunction,
+    Change::LabelOfNothing,
+    Change::TypeExported,
+    Change::UnnamedInTwoPlaces,
+    Change::IncludesItself,
+    Change::IncludesLater,
+    Change::NamespaceNotKebab,
+    Change::NameNotKebab,
+    Change::InterfaceNotKebab,
+    Change::WorldNotKebab,
+];
+
+/// Whether the package with this change is shaped.
+fn is_shaped(rt: &impl Abort, alloc: Global, change: Change) -> bool {
+    let package = package(rt, alloc, change);
+    package.is_shaped(alloc).expect(rt, "memory")
+}
+
+/// Whether the group of a main and a nested package is shaped.
+fn is_group_shaped(rt: &impl Abort, alloc: Global, main: Change, nested: Change) -> bool {
+    let group = group(rt, alloc, main, nested);
+    group.is_shaped(alloc).expect(rt, "memory")
+}
+
+#[test]
+fn each_rule_is_asked(rt: HostRuntime) {
+    for change in KEEPS {
+        assert_eq!(rt; is_shaped(&rt, rt.alloc(), change), true, "{change:?}");
+    }
+    for change in BREAKS {
+        assert_eq!(rt; is_shaped(&rt, rt.alloc(), change), false, "{change:?}");
+    }
+}
+
+#[test]
+fn each_package_of_a_group_is_asked(rt: HostRuntime) {
+    for (main, nested, wanted) in [
+        (Change::Nothing, Change::Nothing, true),
+        (Change::NotListed, Change::Nothing, false),
+        (Change::Nothing, Change::NotListed, false),
+    ] {
+        let shaped = is_group_shaped(&rt, rt.alloc(), main, nested);
+        assert_eq!(rt; shaped, wanted, "{main:?} {nested:?}");
+    }
+}
+
+/// A package with this change, and another with that.
+pub fn group(
+    rt: &impl Abort,
+    alloc: Global,
+    main: Change,
+    nested: Change,
+) -> UnresolvedPackageGroup {
+    let main = package(rt, alloc, main);
+    let nested = package(rt, alloc, nested);
+    let nested = one(rt, alloc, nested);
+    UnresolvedPackageGroup {
+        main,
+        nested,
+        source_map: SourceMap::new(alloc),
+    }
+}
+
+/// Package `a:b`, which names interface `e` and world `v` of package `c:d`.
+pub fn package(rt: &impl Abort, alloc: Global, change: Change) -> UnresolvedPackage {
+    let required = if change == Change::RequiredKnown {
+        2
+    } else {
+        0
+    };
+    let namespace = if change == Change::NamespaceNotKebab {
+        "a-"
+    } else {
+        "a"
+    };
+    let name = if change == Change::NameNotKebab {
+        "1b"
+    } else {
+        "b"
+    };
+    let mut foreign_dep_spans = spans(rt, alloc, change != Change::SpanOfPackageMissing);
+    if change == Change::ForeignTwice {
+        foreign_dep_spans.push(Span::unknown()).expect(rt, "memory");
+    }
+    let required = (TypeId::from_index(required), Span::unknown());
+    let required_resource_types = one(rt, alloc, required);
+    let types = types(rt, alloc, change);
+    let interfaces = interfaces(rt, alloc, change);
+    let worlds = worlds(rt, alloc, change);
+    let foreign_deps = foreign_deps(rt, alloc, change);
+    let unknown_type_spans = spans(rt, alloc, change != Change::SpanOfTypeMissing);
+    let name = package_name(rt, alloc, namespace, name);
+    UnresolvedPackage {
+        name,
+        package_name_span: Span::unknown(),
+        docs: Docs::none(),
+        worlds,
+        interfaces,
+        types,
+        foreign_deps,
+        foreign_dep_spans,
+        unknown_type_spans,
+        required_resource_types,
+    }
+}
+
+/// One span, or none.
+fn spans(rt: &impl Abort, alloc: Global, is_there: bool) -> Items<Span> {
+    if !is_there {
+        return Items::new(alloc);
+    }
+    one(rt, alloc, Span::unknown())
+}
+
+fn foreign_deps(
+    rt: &impl Abort,
+    alloc: Global,
+    change: Change,
+) -> Table<PackageName, Names<(AstItem, Items<Stability>)>> {
+    let mut named = IndexMap::new(alloc);
+    let gates = gates(rt, alloc, change != Change::GateMissing);
+    let item = AstItem::Interface(InterfaceId::from_index(0));
+    named
+        .insert(string(rt, alloc, "e"), (item, gates))
+        .expect(rt, "memory");
+    let gates = self::gates(rt, alloc, true);
+    let item = AstItem::World(WorldId::from_index(0));
+    named
+        .insert(string(rt, alloc, "v"), (item, gates))
+        .expect(rt, "memory");
+    let mut deps = IndexMap::new(alloc);
+    deps.insert(package_name(rt, alloc, "c", "d"), Names::from_map(named))
+        .expect(rt, "memory");
+    if change == Change::ForeignTwice {
+        let mut named = IndexMap::new(alloc);
+        let item = AstItem::Interface(InterfaceId::from_index(0));
+        named
+            .insert(string(rt, alloc, "e"), (item, self::gates(rt, alloc, true)))
+            .expect(rt, "memory");
+        deps.insert(package_name(rt, alloc, "c", "e"), Names::from_map(named))
+            .expect(rt, "memory");
+    }
+    Table::from_map(deps)
+}
+
+/// One gate, or none.
+fn gates(rt: &impl Abort, alloc: Global, is_there: bool) -> Items<Stability> {
+    if !is_there {
+        return Items::new(alloc);
+    }
+    one(rt, alloc, Stability::Unknown)
+}
+
+/// `t` of `e`; `u`, `r`, a handle of `r` and a record with it in `a`; `z` in `b`; `k` in the interface
+/// without a name; `y` in world `w`.
+fn types(rt: &impl Abort, alloc: Global, change: Change) -> Items<TypeDef> {
+    let aliased = if change == Change::RefersLater { 4 } else { 0 };
+    let mut types = Items::new(alloc);
+    types
+        .push(type_def(rt, alloc, "t", TypeDefKind::Unknown, interface_owner(0)))
+        .expect(rt, "memory");
+    types
+        .push(type_def(
+            rt,
+            alloc,
+            "u",
+            TypeDefKind::Type_(type_at(aliased)),
+            interface_owner(1),
+        ))
+        .expect(rt, "memory");
+    types
+        .push(type_def(rt, alloc, "r", TypeDefKind::Resource, interface_owner(1)))
+        .expect(rt, "memory");
+    let name = if change == Change::NameWithoutOwner {
+        "q"
+    } else {
+        ""
+    };
+    types
+        .push(type_def(rt, alloc, name, handle(change), TypeOwner::None))
+        .expect(rt, "memory");
+    types
+        .push(type_def(rt, alloc, "rec", record(rt, alloc), interface_owner(1)))
+        .expect(rt, "memory");
+    let aliased = if change == Change::AliasOfUnnamed {
+        3
+    } else {
+        4
+    };
+    types
+        .push(type_def(
+            rt,
+            alloc,
+            "z",
+            TypeDefKind::Type_(type_at(aliased)),
+            interface_owner(2),
+        ))
+        .expect(rt, "memory");
+    let kind = match change {
+        Change::UnknownLater => TypeDefKind::Unknown,
+        _ => TypeDefKind::Type_(Type_::U32),
+    };
+    let name = if change == Change::OwnerWithoutName {
+        ""
+    } else {
+        "k"
+    };
+    types
+        .push(type_def(rt, alloc, name, kind, interface_owner(3)))
+        .expect(rt, "memory");
+    let aliased = if change == Change::AliasIntoUnnamedInterface {
+        6
+    } else {
+        5
+    };
+    let owner = TypeOwner::World(WorldId::from_index(1));
+    types
+        .push(type_def(rt, alloc, "y", TypeDefKind::Type_(type_at(aliased)), owner))
+        .expect(rt, "memory");
+    if change == Change::UsesItself {
+        types
+            .push(type_def(
+                rt,
+                alloc,
+                "back",
+                TypeDefKind::Type_(type_at(5)),
+                interface_owner(1),
+            ))
+            .expect(rt, "memory");
+    }
+    types
+}
+
+fn handle(change: Change) -> TypeDefKind {
+    match change {
+        Change::UnnamedAlias => TypeDefKind::Type_(type_at(2)),
+        Change::UnnamedResource => TypeDefKind::Resource,
+        Change::RefersToItself => TypeDefKind::List(type_at(3)),
+        Change::PartOfOther => TypeDefKind::Handle(Handle::Own(TypeId::from_index(0))),
+        _ => TypeDefKind::Handle(Handle::Own(TypeId::from_index(2))),
+    }
+}
+
+fn record(rt: &impl Abort, alloc: Global) -> TypeDefKind {
+    let field = Field {
+        name: text(rt, alloc, "x"),
+        ty: type_at(3),
+        docs: Docs::none(),
+        span: Span::unknown(),
+    };
+    let fields = one(rt, alloc, field);
+    TypeDefKind::Record { fields }
+}
+
+/// The foreign interface `e`, then `a`, `b` and one without a name.
+fn interfaces(rt: &impl Abort, alloc: Global, change: Change) -> Items<Interface> {
+    let mut interfaces = Items::new(alloc);
+    let name = if change == Change::ForeignNamedOtherwise {
+        "f"
+    } else {
+        "e"
+    };
+    let functions = match change {
+        Change::ForeignFunction => functions(rt, alloc, Change::Nothing),
+        _ => Names::new(alloc),
+    };
+    interfaces
+        .push(interface(rt, alloc, name, &[("t", 0)], functions, None))
+        .expect(rt, "memory");
+    interfaces
+        .push(interface_a(rt, alloc, change))
+        .expect(rt, "memory");
+    let name = match change {
+        Change::InterfacesOfOneName => "a",
+        Change::InterfaceNamedAsForeign => "e",
+        Change::InterfaceNotKebab => "b--b",
+        _ => "b",
+    };
+    let mut other = interface(rt, alloc, name, &[("z", 5)], Names::new(alloc), None);
+    if change == Change::PackageSaid {
+        other.package = Some(PackageId::from_index(0));
+    }
+    interfaces.push(other).expect(rt, "memory");
+    interfaces
+        .push(interface(rt, alloc, "", &[("k", 6)], Names::new(alloc), None))
+        .expect(rt, "memory");
+    interfaces
+}
+
+fn interface_a(rt: &impl Abort, alloc: Global, change: Change) -> Interface {
+    let functions = functions(rt, alloc, change);
+    let types: &[(&str, usize)] = match change {
+        Change::NotListed => &[("u", 1), ("r", 2)],
+        Change::ListedOtherwise => &[("u", 1), ("r", 2), ("rek", 4)],
+        Change::ListedTwice => &[("u", 1), ("r", 2), ("rec", 4), ("rek", 4)],
+        Change::UsesItself => &[("u", 1), ("r", 2), ("rec", 4), ("back", 8)],
+        _ => &[("u", 1), ("r", 2), ("rec", 4)],
+    };
+    interface(rt, alloc, "a", types, functions, None)
+}
+
+fn functions(rt: &impl Abort, alloc: Global, change: Change) -> Names<Function> {
+    let mut functions = IndexMap::new(alloc);
+    let key = if change == Change::FunctionUnderOtherName {
+        "ff"
+    } else {
+        "f"
+    };
+    let parameter = if change == Change::ParameterOfOther {
+        5
+    } else {
+        4
+    };
+    let first = function(
+        rt,
+        alloc,
+        "f",
+        FunctionKind::Freestanding,
+        type_at(parameter),
+    );
+    functions
+        .insert(string(rt, alloc, key), first)
+        .expect(rt, "memory");
+    let kind = FunctionKind::Method(TypeId::from_index(2));
+    let second = function(rt, alloc, "[method]r.m", kind, Type_::U32);
+    functions
+        .insert(string(rt, alloc, "[method]r.m"), second)
+        .expect(rt, "memory");
+    Names::from_map(functions)
+}
+
+/// The foreign world `v`, then `w`, which includes it, and `x`, which includes `w`.
+fn worlds(rt: &impl Abort, alloc: Global, change: Change) -> Items<World> {
+    let mut worlds = Items::new(alloc);
+    let mut entries = IndexMap::new(alloc);
+    if change == Change::ForeignWorldHoldsEntry {
+        entries
+            .insert(interface_key(1), interface_item(1))
+            .expect(rt, "memory");
+    }
+    let empty = Table::new(alloc);
+    worlds
+        .push(world(
+            rt,
+            alloc,
+            "v",
+            Table::from_map(entries),
+            empty,
+            Items::new(alloc),
+        ))
+        .expect(rt, "memory");
+    worlds.push(world_w(rt, alloc, change)).expect(rt, "memory");
+    let name = match change {
+        Change::WorldsOfOneName => "w",
+        Change::WorldNamedAsForeign => "v",
+        Change::WorldNotKebab => "X_",
+        _ => "x",
+    };
+    let includes = includes(rt, alloc, 1);
+    worlds
+        .push(world(
+            rt,
+            alloc,
+            name,
+            Table::new(alloc),
+            Table::new(alloc),
+            includes,
+        ))
+        .expect(rt, "memory");
+    worlds
+}
+
+fn world_w(rt: &impl Abort, alloc: Global, change: Change) -> World {
+    let included = match change {
+        Change::IncludesItself => 1,
+        Change::IncludesLater => 2,
+        _ => 0,
+    };
+    let imports = imports(rt, alloc, change);
+    let exports = exports(rt, alloc, change);
+    world(
+        rt,
+        alloc,
+        "w",
+        imports,
+        exports,
+        includes(rt, alloc, included),
+    )
+}
+
+fn includes(rt: &impl Abort, alloc: Global, world: usize) -> Items<WorldInclude> {
+    let include = WorldInclude {
+        stability: Stability::Unknown,
+        id: WorldId::from_index(world),
+        names: Items::new(alloc),
+        span: Span::unknown(),
+    };
+    one(rt, alloc, include)
+}
+
+/// Interface `a`, type `y`, function `g`, and the interface without a name under `in-place`.
+fn imports(rt: &impl Abort, alloc: Global, change: Change) -> Table<WorldKey, WorldItem> {
+    let mut imports = IndexMap::new(alloc);
+    let (named, held) = match change {
+        Change::KeyOfOther => (1, 2),
+        Change::KeyOfUnnamed => (3, 3),
+        _ => (1, 1),
+    };
+    imports
+        .insert(interface_key(named), interface_item(held))
+        .expect(rt, "memory");
+    let item = WorldItem::Type_ {
+        id: TypeId::from_index(7),
+        span: Span::unknown(),
+    };
+    imports
+        .insert(label(rt, alloc, "y"), item)
+        .expect(rt, "memory");
+    let name = if change == Change::LabelOfOtherFunction {
+        "gg"
+    } else {
+        "g"
+    };
+    let parameter = if change == Change::ParameterOfOtherInWorld {
+        5
+    } else {
+        7
+    };
+    let item = function(
+        rt,
+        alloc,
+        name,
+        FunctionKind::Freestanding,
+        type_at(parameter),
+    );
+    imports
+        .insert(label(rt, alloc, "g"), WorldItem::Function(item))
+        .expect(rt, "memory");
+    let held = match change {
+        Change::LabelOfNothing => 4,
+        Change::KeyOfUnnamed => 1,
+        _ => 3,
+    };
+    imports
+        .insert(label(rt, alloc, "in-place"), interface_item(held))
+        .expect(rt, "memory");
+    Table::from_map(imports)
+}
+
+/// Interface `b`, function `h`, and interface `a` under `again`.
+fn exports(rt: &impl Abort, alloc: Global, change: Change) -> Table<WorldKey, WorldItem> {
+    let mut exports = IndexMap::new(alloc);
+    exports
+        .insert(interface_key(2), interface_item(2))
+        .expect(rt, "memory");
+    let item = function(rt, alloc, "h", FunctionKind::Freestanding, Type_::U32);
+    exports
+        .insert(label(rt, alloc, "h"), WorldItem::Function(item))
+        .expect(rt, "memory");
+    let held = if change == Change::UnnamedInTwoPlaces {
+        3
+    } else {
+        1
+    };
+    exports
+        .insert(label(rt, alloc, "again"), interface_item(held))
+        .expect(rt, "memory");
+    if change == Change::TypeExported {
+        let item = WorldItem::Type_ {
+            id: TypeId::from_index(7),
+            span: Span::unknown(),
+        };
+        exports
+            .insert(label(rt, alloc, "y"), item)
+            .expect(rt, "memory");
+    }
+    Table::from_map(exports)
+}
