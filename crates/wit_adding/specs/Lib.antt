@@ -1,13 +1,15 @@
+pub mod Adding
 pub mod Addition
-pub mod Cause
 pub mod Behind
 pub mod Carried
+pub mod Cause
 pub mod CauseText
 pub mod ClosedCut
 pub mod Found
 pub mod Gates
 pub mod Include
 pub mod Lookup
+pub mod Passed
 pub mod Pushed
 pub mod RankFacts
 pub mod Ranks

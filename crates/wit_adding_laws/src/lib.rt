@@ -1,0 +1,2 @@
+//! Laws of adding: a valid graph to which a package is added stays valid.
+#![tactic(auto)]
