@@ -4,7 +4,7 @@ use Rattle.std.specs.Vec.Iter.{into_iter_items}
 use Rattle.wit_graph.specs.declared.error_kind.ResolveErrorKind.{ResolveErrorKind}
 use Rattle.wit_graph.specs.declared.error_kind.ResolveErrorKind.TheVariants.{OutOfMemory}
 use Rattle.wit_graph.specs.declared.graph.Graph.{Graph}
-use Rattle.wit_finishing.specs.Finished.{CanFinish, IsFinishCause, StopsAt, with_all_finished}
+use Rattle.wit_finishing.specs.Finished.{CanFinish, IsFinishCause, StopsAt, with_all_finished, with_finished}
 use Rattle.wit_finishing.proofs.Causes.{can_finish_more, finished_more, stop_cause, stopped}
 use Rattle.wit_finishing.proofs.finishing.finish_worlds.Goals as goal
 
@@ -16,7 +16,7 @@ pub loop-world-preserved : goal.loop-world-preserved
 loop-world-preserved c = record {
   graph =
       c.in_ok-finish_world.ensures.ok
-      ∙ (ap (λ (g : Graph). record g { worlds = _ }) c.loop-world.invariant.graph ∙ finished_more c.args.graph.now c.loop-world.yielded c.in-Some.world);
+      ∙ (ap (λ (g : Graph). with_finished g c.in-Some.world) c.loop-world.invariant.graph ∙ finished_more c.args.graph.now c.loop-world.yielded c.in-Some.world);
   uses = search rules;
   fine =
       can_finish_more c.args.graph.now c.loop-world.yielded c.in-Some.world c.loop-world.invariant.fine
