@@ -1,6 +1,6 @@
 -- The uses of interfaces and the references of types behind which a package is put are acyclic, whatever becomes of
 -- its worlds: a new interface uses old ones and those that its old one used, and so does a new type refer.
-use Rattle.std.proofs.Common.{◌≡◌, ◌∙◌, inl, inr, ℕ, zero, suc, ◌<◌, ◌≤◌, true, false, List, ◌++◌, map, length, Option, Some, option_map, slice_get, refl, sym, ap, subst, arith, Contains}
+use Rattle.std.proofs.Common.{◌≡◌, ◌∙◌, inl, inr, ℕ, zero, suc, ◌<◌, ◌≤◌, true, false, List, ◌++◌, map, length, Some, option_map, slice_get, sym, ap, subst, arith, Contains}
 use Rattle.std.proofs.lemmas.Bool.{cases_Bool, false≢true, ltb-true}
 use Rattle.std.proofs.lemmas.List.{length-append, length-map}
 use Rattle.std.proofs.lemmas.Option.{slice_get_within}
@@ -12,7 +12,6 @@ use Rattle.wit_items.specs.Shape.{IsShaped}
 use Rattle.wit_items.specs.Uses.{alias_target, interface_uses, type_interface_dep, uses_of}
 use Rattle.wit_items.specs.declared.interface.Interface.{Interface}
 use Rattle.wit_items.specs.declared.types.TypeDef.{TypeDef}
-use Rattle.wit_items.specs.declared.types.TypeOwner.{TypeOwner}
 use Rattle.wit_items.specs.declared.types.TypeOwner.TheVariants as owner
 use Rattle.wit_graph.proofs.Filters.{Contains-filter}
 use Rattle.wit_graph.specs.Valid.{IsValid}

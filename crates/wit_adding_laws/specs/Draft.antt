@@ -1,16 +1,14 @@
 -- The graph on its way: the new types and interfaces, and of each world its types alone. Its things come of the
 -- sources of the addition and these stand in it, so that the theory of growth tells of its types and interfaces
 -- before any world is elaborated.
-use Rattle.std.proofs.Common.{◌≡◌, ◌≢◌, ◌∙◌, inl, inr, ℕ, zero, suc, ◌+◌, ◌<◌, Bool, true, false, List, [], ◌∷◌, ◌++◌, map, filter, length, Some, slice_get, refl, sym, ap, subst, arith, Contains}
+use Rattle.std.proofs.Common.{◌≡◌, ◌∙◌, inl, inr, ℕ, Bool, true, false, List, [], ◌++◌, map, filter, Some, slice_get, refl, sym, ap, subst, Contains}
 use Rattle.std.specs.List.{enumerate_from, flat_map}
-use Rattle.std.proofs.lemmas.List.{length-map}
 use Rattle.std.proofs.lemmas.List.Elements.{Contains-append_left}
-use Rattle.wit_values.specs.Lists.{slice_get-append}
 use Rattle.wit_values.specs.Table.{HasDistinctKeys}
 use Rattle.wit_relations.specs.MemberFacts.{Contains-cons_cases, Contains-flat_map, Contains-flat_map_cases, Contains-here, Contains-nil}
 use Rattle.wit_items.specs.Each.{Each}
 use Rattle.wit_items.specs.Entries.{Entry, IsImport}
-use Rattle.wit_items.specs.Ownership.{listed_type, world_types}
+use Rattle.wit_items.specs.Ownership.{listed_type}
 use Rattle.wit_items.specs.declared.interface.Interface.{Interface}
 use Rattle.wit_items.specs.declared.types.TypeDef.{TypeDef}
 use Rattle.wit_items.specs.declared.world.World.{World}
@@ -25,8 +23,7 @@ use Rattle.wit_growth.specs.Cut.{cut_world, kept_whole}
 use Rattle.wit_growth.specs.CutIsGood.{distinct_kept}
 use Rattle.wit_growth.specs.Image.{Maps, entry_image, identity, key_image, world_image}
 use Rattle.wit_growth.specs.ImagesCome.{entry_image_comes}
-use Rattle.wit_growth.specs.ListFacts.{Contains-map, at_map, at_new, contained_at, from_map, old_or_new, place_of}
-use Rattle.wit_growth.specs.PackagesAcyclic.{length-numbered, numbered_from, numbered_into}
+use Rattle.wit_growth.specs.ListFacts.{Contains-map, contained_at, from_map, place_of}
 use Rattle.wit_growth.specs.Sources.{Source, WorldStands}
 use Rattle.wit_adding.specs.Addition.{Addition, addition_maps, own_worlds}
 

@@ -1,5 +1,5 @@
 -- The draft of an addition: the sources stand in it, and its things come of them.
-use Rattle.std.proofs.Common.{◌≡◌, ◌∙◌, inl, inr, ℕ, zero, suc, ◌+◌, true, List, ◌++◌, map, length, None, Some, slice_get, refl, sym, ap, subst, arith, Contains}
+use Rattle.std.proofs.Common.{◌≡◌, ◌∙◌, inl, inr, ℕ, zero, suc, ◌+◌, true, List, ◌++◌, map, length, None, Some, slice_get, refl, ap, subst, arith, Contains}
 use Rattle.std.specs.List.{enumerate_from}
 use Rattle.std.proofs.lemmas.Bool.{lt-ltb}
 use Rattle.std.proofs.lemmas.List.{length-map}
@@ -16,14 +16,14 @@ use Rattle.wit_items.specs.declared.world.World.{World}
 use Rattle.wit_graph.specs.Valid.{IsValid}
 use Rattle.wit_graph.specs.declared.graph.Graph.{Graph}
 use Rattle.wit_growth.specs.Covered.{IsCovered, WorldComes}
-use Rattle.wit_growth.specs.Cut.{StaysIn, cut_interface, cut_world, graph_source, kept_whole}
+use Rattle.wit_growth.specs.Cut.{StaysIn, cut_interface, cut_world, kept_whole}
 use Rattle.wit_growth.specs.CutIsGood.{distinct_kept}
 use Rattle.wit_growth.specs.GraphSource.{graph_stands}
 use Rattle.wit_growth.specs.Image.{identity, world_image}
 use Rattle.wit_growth.specs.Kept.{everything}
 use Rattle.wit_growth.specs.ListFacts.{at_map, at_new, from_map, old_or_new, some_at}
 use Rattle.wit_growth.specs.PackagesAcyclic.{length-numbered, numbered_from, numbered_into}
-use Rattle.wit_growth.specs.Sources.{Carries, InterfaceStands, Stands, WorldStands}
+use Rattle.wit_growth.specs.Sources.{Carries, InterfaceStands, WorldStands}
 use Rattle.wit_adding.specs.Addition.{Addition, addition_maps, own_world, own_worlds, part, world_place}
 use Rattle.wit_adding.specs.Carried.{package_source}
 use Rattle.wit_adding.specs.RankFacts.{taken_places-at}

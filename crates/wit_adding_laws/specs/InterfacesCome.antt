@@ -1,5 +1,5 @@
 -- Each interface behind which a package is put comes of the graph or of the package.
-use Rattle.std.proofs.Common.{◌≡◌, ◌∙◌, inl, inr, ℕ, ◌+◌, true, List, map, length, Some, slice_get, refl, sym, subst}
+use Rattle.std.proofs.Common.{◌≡◌, inl, inr, ℕ, ◌+◌, true, List, map, length, Some, slice_get, refl, sym, subst}
 use Rattle.std.proofs.lemmas.Bool.{lt-ltb}
 use Rattle.std.proofs.lemmas.Option.{slice_get_within}
 use Rattle.wit_items.specs.Each.{Each, EachAt}

@@ -1,12 +1,12 @@
 -- The names of packages when a package is added that wasn't there: a new name for the new package.
-use Rattle.std.proofs.Common.{◌≡◌, ◌∙◌, ◌⊎◌, inl, inr, ℕ, ◌+◌, zero, suc, Bool, true, false, List, [], ◌∷◌, ◌++◌, length, Option, None, Some, cond, is_some, slice_get, refl, sym, ap, subst, arith, Contains}
+use Rattle.std.proofs.Common.{◌≡◌, ◌∙◌, ◌⊎◌, inl, inr, ℕ, zero, suc, Bool, true, false, List, [], ◌∷◌, ◌++◌, length, Some, cond, is_some, slice_get, refl, sym, ap, subst, arith, Contains}
 use Rattle.std.specs.Map.{lookup}
 use Rattle.std.proofs.lemmas.Bool.{false≢true}
 use Rattle.std.proofs.lemmas.List.Elements.{Contains-append_left, Contains-push}
 use Rattle.wit_values.specs.Lists.{slice_get-push}
 use Rattle.wit_values.specs.Table.{HasDistinctKeys}
 use Rattle.wit_relations.specs.MemberFacts.{Contains-cons_cases, Contains-nil}
-use Rattle.wit_items.specs.Each.{EachAt, SomeAt}
+use Rattle.wit_items.specs.Each.{SomeAt}
 use Rattle.wit_items.specs.PackageNameFacts.{own_name}
 use Rattle.wit_items.specs.PackageOrder.{same_package}
 use Rattle.wit_items.specs.declared.package_name.PackageName.{PackageName}

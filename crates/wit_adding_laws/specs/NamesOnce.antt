@@ -1,6 +1,6 @@
 -- The names of the package's own interfaces differ, so its table has each once.
-use Rattle.std.proofs.Common.{◌≡◌, ◌∙◌, ◌⊎◌, inl, inr, ℕ, ◌+◌, ◌<◌, ◌≤◌, zero, suc, true, false, List, [], ◌∷◌, ◌++◌, ◌-◌, drop, get_or, take, filter_map, length, Option, None, Some, option_map, slice_get, refl, sym, ap, subst, arith, Contains}
-use Rattle.std.specs.List.{AllByRecursion, IsDistinct, cons_option, flat_map}
+use Rattle.std.proofs.Common.{◌≡◌, ◌∙◌, ℕ, ◌+◌, ◌≤◌, zero, suc, true, false, List, [], ◌∷◌, ◌++◌, ◌-◌, drop, get_or, take, filter_map, length, Option, None, Some, option_map, slice_get, refl, sym, ap, subst, arith, Contains}
+use Rattle.std.specs.List.{IsDistinct, cons_option, flat_map}
 use Rattle.std.specs.Option.{option_to_list}
 use Rattle.std.specs.Str.{bytes_eq}
 use Rattle.std.proofs.lemmas.Bool.{false≢true, ltb-false}

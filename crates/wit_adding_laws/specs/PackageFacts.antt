@@ -1,18 +1,18 @@
 -- Which package depends on which, when a package is added: what was there depends on what it did, and the new
 -- package on old ones alone, so none depends on itself.
-use Rattle.std.proofs.Common.{◌≡◌, ◌∙◌, ◌⊎◌, inl, inr, ℕ, ◌+◌, ◌<◌, ◌≤◌, ◌==◌, zero, suc, Bool, true, false, List, [], ◌∷◌, ◌++◌, map, length, Option, None, Some, IsSome, IsSomeAnd, option_and_then, slice_get, refl, sym, ap, subst, arith, Contains, if◌then◌else◌}
-use Rattle.std.proofs.lemmas.List.{length-append, length-map}
-use Rattle.std.proofs.lemmas.List.Elements.{All-contains, Contains-append_cases}
+use Rattle.std.proofs.Common.{◌≡◌, ◌∙◌, ◌⊎◌, inl, inr, ℕ, ◌<◌, ◌≤◌, ◌==◌, Bool, true, false, List, [], ◌∷◌, map, length, Option, None, Some, IsSome, IsSomeAnd, option_and_then, slice_get, refl, sym, ap, subst, arith, Contains, if◌then◌else◌}
+use Rattle.std.proofs.lemmas.List.{length-append}
+use Rattle.std.proofs.lemmas.List.Elements.{Contains-append_cases}
 use Rattle.std.proofs.lemmas.Option.{slice_get_within}
 use Rattle.std.specs.List.{flat_map}
 use Rattle.std.specs.Option.{option_map_or}
 use Rattle.wit_relations.specs.MemberFacts.{Contains-flat_map_cases}
-use Rattle.wit_relations.specs.Relation.{IsAcyclic, direct}
-use Rattle.wit_items.specs.Each.{Each, SomeAt}
+use Rattle.wit_relations.specs.Relation.{IsAcyclic}
+use Rattle.wit_items.specs.Each.{SomeAt}
 use Rattle.wit_items.specs.Entries.{Entry, IsExport, IsImport}
-use Rattle.wit_items.specs.Ownership.{IsListed, IsNamed}
+use Rattle.wit_items.specs.Ownership.{IsListed}
 use Rattle.wit_items.specs.Shape.{IsShaped}
-use Rattle.wit_items.specs.Uses.{alias_target, interface_uses, other_owner, type_interface_dep, uses_of}
+use Rattle.wit_items.specs.Uses.{alias_target, interface_uses, other_owner, type_interface_dep}
 use Rattle.wit_items.specs.declared.interface.Interface.{Interface}
 use Rattle.wit_items.specs.declared.types.TypeDef.{TypeDef}
 use Rattle.wit_items.specs.declared.types.TypeOwner.{TypeOwner}
@@ -23,14 +23,14 @@ use Rattle.wit_items.specs.declared.world.WorldItem.TheVariants as item
 use Rattle.wit_items.specs.declared.world.WorldKey.{WorldKey}
 use Rattle.wit_items.specs.declared.world.WorldKey.TheVariants as key
 use Rattle.wit_graph.specs.Relations.{entry_interface, entry_interfaces, other_package, package_interfaces, package_needs, package_uses, world_interfaces}
-use Rattle.wit_graph.specs.Valid.{IsInterfaceOf, IsValid, IsWorldOf}
+use Rattle.wit_graph.specs.Valid.{IsValid}
 use Rattle.wit_graph.specs.declared.graph.Graph.{Graph}
 use Rattle.wit_graph.specs.declared.graph.Package.{Package}
 use Rattle.wit_growth.specs.DependencyFacts.{filter_map_from, filter_map_into, needs_from, needs_into}
 use Rattle.wit_growth.specs.GoodTypes.{IsAliased, from_if}
 use Rattle.wit_growth.specs.Growth.{PackagesGrow}
 use Rattle.wit_growth.specs.Image.{interface_image}
-use Rattle.wit_growth.specs.ListFacts.{at_below, found_at, from_map, get_at, in_row, old_or_new, place_of}
+use Rattle.wit_growth.specs.ListFacts.{at_below, found_at, from_map, get_at, old_or_new, place_of}
 use Rattle.wit_growth.specs.PackagesAcyclic.{packages_acyclic, there_is}
 use Rattle.wit_adding.specs.Addition.{Addition, addition_maps, own_interfaces}
 use Rattle.wit_adding.specs.Behind.{IsBehind}

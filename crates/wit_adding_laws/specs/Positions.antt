@@ -1,5 +1,5 @@
 -- What a value position of the package names takes part, so that the `own`s that are made are of types that do.
-use Rattle.std.proofs.Common.{◌≡◌, ℕ, ◌&&◌, Bool, true, false, List, [], ◌++◌, ◌⊎◌, inl, inr, nat_eq, Some, slice_get, refl, sym, subst, Contains}
+use Rattle.std.proofs.Common.{◌≡◌, ℕ, ◌&&◌, Bool, true, false, List, ◌++◌, inl, inr, nat_eq, refl, sym, subst, Contains}
 use Rattle.std.specs.List.{flat_map, list_any}
 use Rattle.std.specs.Option.{option_to_list}
 use Rattle.std.proofs.lemmas.List.Elements.{Contains-append_cases, Contains-append_right}

@@ -1,7 +1,7 @@
 -- The tables of packages when a package is added: what was there stays, and the new package's table holds its named
 -- interfaces. What concerns the new worlds is a premise.
 use Rattle.std.proofs.Common.{◌≡◌, ◌∙◌, inl, inr, ℕ, ◌+◌, zero, suc, List, [], ◌∷◌, ◌++◌, map, length, option_map, Option, None, Some, IsSomeAnd, IfSome, slice_get, refl, sym, ap, subst, arith, Contains}
-use Rattle.wit_values.specs.Lists.{slice_get-append, slice_get-push}
+use Rattle.wit_values.specs.Lists.{slice_get-push}
 use Rattle.wit_values.specs.Table.{HasDistinctKeys}
 use Rattle.wit_items.specs.Each.{Each, EachAt, SomeAt}
 use Rattle.wit_items.specs.Shape.{IsShaped}

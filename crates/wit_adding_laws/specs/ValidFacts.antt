@@ -13,7 +13,6 @@ use Rattle.wit_growth.specs.Kept.{everything}
 use Rattle.wit_growth.specs.OperationFacts.{IsValid-of_addition}
 use Rattle.wit_growth.specs.Sources.{WorldStands}
 use Rattle.wit_values.specs.Table.{HasDistinctKeys}
-use Rattle.wit_values.specs.Lists.{slice_get-append}
 use Rattle.wit_adding.specs.Addition.{Addition, addition_maps, part, world_place}
 use Rattle.wit_adding.specs.Behind.{IsBehind}
 use Rattle.wit_adding.specs.Carried.{package_source}
