@@ -1,6 +1,6 @@
 -- What takes part of a package stands among the types and interfaces of the graph behind which it is put: types,
 -- values and interfaces.
-use Rattle.std.proofs.Common.{◌≡◌, ◌∙◌, ◌≢◌, ℕ, zero, suc, ◌+◌, ◌<◌, ◌&&◌, ◌||◌, Bool, true, false, not, List, [], ◌∷◌, ◌++◌, ◌⊎◌, inl, inr, map, filter, length, cond, nat_eq, Option, None, Some, option_and_then, option_map, IsSome, slice_get, refl, sym, ap, subst, arith, Contains, if◌then◌else◌}
+use Rattle.std.proofs.Common.{◌≡◌, ◌∙◌, ℕ, zero, suc, ◌+◌, ◌<◌, ◌&&◌, ◌||◌, Bool, true, false, not, List, [], ◌∷◌, ◌++◌, ◌⊎◌, inl, inr, map, filter, length, cond, nat_eq, Option, None, Some, option_and_then, option_map, IsSome, slice_get, refl, sym, ap, subst, arith, Contains, if◌then◌else◌}
 use Rattle.std.specs.List.{enumerate_from, flat_map, list_any, range_with_len}
 use Rattle.std.specs.Map.{lookup}
 use Rattle.std.specs.Option.{option_map_or, option_to_list}
@@ -13,9 +13,8 @@ use Rattle.std.proofs.lemmas.Slice.Eq.{bytes_eq-Decides}
 use Rattle.wit_values.specs.Lists.{slice_get-append}
 use Rattle.wit_relations.specs.Relation.{direct}
 use Rattle.wit_relations.specs.Walks.{walk, walk_within}
-use Rattle.wit_items.specs.Each.{Each, SomeAt}
-use Rattle.wit_items.specs.Ownership.{IsPlain, IsTypeOf}
-use Rattle.wit_items.specs.Reference.{referred}
+use Rattle.wit_items.specs.Each.{SomeAt}
+use Rattle.wit_items.specs.Ownership.{IsPlain}
 use Rattle.wit_items.specs.Shape.{IsShaped}
 use Rattle.wit_items.specs.Uses.{alias_target}
 use Rattle.wit_items.specs.declared.interface.Interface.{Interface}
@@ -26,16 +25,14 @@ use Rattle.wit_items.specs.declared.types.TypeDefKind.TheVariants as kind
 use Rattle.wit_items.specs.declared.types.TypeOwner.{TypeOwner}
 use Rattle.wit_items.specs.declared.types.TypeOwner.TheVariants as owner
 use Rattle.wit_graph.specs.Valid.{IsValid}
-use Rattle.wit_graph.specs.declared.graph.Graph.{Graph}
 use Rattle.wit_growth.specs.CarriedImages.{image_stands}
 use Rattle.wit_graph.proofs.Filters.{Contains-filter}
-use Rattle.wit_growth.specs.Cut.{cut_interface, cut_source}
+use Rattle.wit_growth.specs.Cut.{cut_interface}
 use Rattle.wit_growth.specs.ImagesCome.{interface_image_stands}
-use Rattle.wit_growth.specs.Image.{Maps, interface_image, name_image, owner_image, type_image}
-use Rattle.wit_growth.specs.ListFacts.{SomeAt-old, at_map, at_new, contained_at, found_at, from_map, place_of, same_at, some_at}
-use Rattle.wit_growth.specs.Referred.{RefersUnder}
+use Rattle.wit_growth.specs.Image.{interface_image, name_image, owner_image, type_image}
+use Rattle.wit_growth.specs.ListFacts.{at_map, at_new, found_at, place_of, some_at}
 use Rattle.wit_growth.specs.ReferredFacts.{plain_image}
-use Rattle.wit_growth.specs.Sources.{InterfaceStands, IsOwnOf, Source, Stands, alias_rows}
+use Rattle.wit_growth.specs.Sources.{InterfaceStands, IsOwnOf, Stands, alias_rows}
 use Rattle.wit_adding.specs.Addition.{Addition, added_owns, addition_maps, needs_own, own_interface, own_interfaces, own_type, own_types, part, positions, plain_maps, plain_types, type_place, interface_place, value_place}
 use Rattle.wit_adding.specs.Carried.{package_source}
 use Rattle.wit_adding.specs.Gates.{interface_is_active, is_foreign_interface, type_is_active}
