@@ -1,13 +1,12 @@
 -- An interface without a name stands in one place behind a graph when a package is added, as it did in the graph
 -- and in the package.
-use Rattle.std.proofs.Common.{◌≡◌, ◌∙◌, ◌⊎◌, inl, inr, ℕ, zero, suc, ◌<◌, ◌≤◌, ◌+◌, ◌&&◌, Bool, true, false, not, is_some, List, [], ◌∷◌, map, length, Option, None, Some, IsSome, slice_get, refl, sym, ap, subst, arith, Contains}
+use Rattle.std.proofs.Common.{◌≡◌, ◌∙◌, ◌⊎◌, inl, inr, ℕ, zero, suc, ◌<◌, ◌≤◌, ◌&&◌, Bool, true, false, not, is_some, List, [], ◌∷◌, map, length, Option, Some, IsSome, slice_get, refl, sym, ap, subst, arith, Contains}
 use Rattle.std.specs.Option.{option_map_or}
 use Rattle.std.proofs.lemmas.Bool.{cases_Bool, ltb-true}
 use Rattle.std.proofs.lemmas.Option.{slice_get_within}
 use Rattle.wit_values.specs.Table.{HasDistinctKeys}
 use Rattle.wit_relations.specs.Relation.{IsAcyclic}
-use Rattle.wit_items.specs.Each.{SomeAt}
-use Rattle.wit_items.specs.Entries.{Entry, IsExport, IsImport, StandOnce, is_unnamed, item_interface}
+use Rattle.wit_items.specs.Entries.{Entry, IsImport, StandOnce, is_unnamed, item_interface}
 use Rattle.wit_items.specs.Ownership.{IsNamed}
 use Rattle.wit_items.specs.Shape.{IsShaped}
 use Rattle.wit_items.specs.Uses.{uses_of}
@@ -22,27 +21,26 @@ use Rattle.wit_graph.specs.Elaborated.{settled_item}
 use Rattle.wit_graph.specs.Valid.{IsValid}
 use Rattle.wit_graph.specs.declared.graph.Graph.{Graph}
 use Rattle.wit_growth.specs.Covered.{IsCovered}
-use Rattle.wit_growth.specs.Cut.{ItemIsKept, cut_interface, cut_world, kept_whole}
+use Rattle.wit_growth.specs.Cut.{ItemIsKept, cut_interface, kept_whole}
 use Rattle.wit_growth.specs.GoodIsValid.{good_things}
 use Rattle.wit_growth.specs.GoodWorlds.{same_one}
 use Rattle.wit_growth.specs.Image.{item_image, key_image}
 use Rattle.wit_growth.specs.Kept.{everything}
-use Rattle.wit_growth.specs.ListFacts.{contained_at, found_at, from_map, get_at, place_of, same_at, some_at}
+use Rattle.wit_growth.specs.ListFacts.{contained_at, found_at, get_at, place_of, same_at, some_at}
 use Rattle.wit_growth.specs.OnePlace.{HasOnePlace, Holds, Origin, StayApart, entries_of}
 use Rattle.wit_growth.specs.OnePlaceCarried.{HasOnePlace-of_covered, named_not}
 use Rattle.wit_growth.specs.OnePlaceFacts.{StandOnce-from_places}
 use Rattle.wit_growth.specs.OnePlaceFrom.{HasOnePlace-from_once, cut_has_one_place}
 use Rattle.wit_growth.specs.Sources.{Carries, InterfaceStands, Source}
-use Rattle.wit_adding.specs.Addition.{Addition, addition_maps, interface_place, own_interface, part}
+use Rattle.wit_adding.specs.Addition.{Addition, addition_maps, interface_place, part}
 use Rattle.wit_adding.specs.Behind.{IsBehind}
 use Rattle.wit_adding.specs.Carried.{package_source}
 use Rattle.wit_adding.specs.Gates.{interface_is_active, is_foreign_interface}
-use Rattle.wit_adding.specs.Ranks.{rank}
 use Rattle.wit_adding.specs.Reasons.{HasImage}
 use Rattle.wit_adding.specs.Standing.{foreign_interface_goes, own_interface_goes}
 use Rattle.wit_adding_laws.specs.CoveredWorlds.{exported_named, used_named}
 use Rattle.wit_adding_laws.specs.InterfacesApart.{active_there, interfaces_apart}
-use Rattle.wit_adding_laws.specs.ListedWorlds.{TakesPart, cut, export_from, export_takes, import_from, import_takes, listed_own}
+use Rattle.wit_adding_laws.specs.ListedWorlds.{TakesPart, export_from, export_takes, import_from, import_takes, listed_own}
 use Rattle.wit_adding_laws.specs.Parts.{parts_of}
 use Rattle.wit_adding_laws.specs.PartsStand.{interface_stands, old_interface_at}
 use Rattle.wit_adding_laws.specs.SourcesGood.{sources, sources_good}
