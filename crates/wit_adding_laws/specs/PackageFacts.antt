@@ -1,0 +1,249 @@
+-- Which package depends on which, when a package is added: what was there depends on what it did, and the new
+-- package on old ones alone, so none depends on itself.
+use Rattle.std.proofs.Common.{◌≡◌, ◌∙◌, ◌⊎◌, inl, inr, ℕ, ◌<◌, ◌≤◌, ◌==◌, Bool, true, false, List, [], ◌∷◌, map, length, Option, None, Some, IsSome, IsSomeAnd, option_and_then, slice_get, refl, sym, ap, subst, arith, Contains, if◌then◌else◌}
+use Rattle.std.proofs.lemmas.List.{length-append}
+use Rattle.std.proofs.lemmas.List.Elements.{Contains-append_cases}
+use Rattle.std.proofs.lemmas.Option.{slice_get_within}
+use Rattle.std.specs.List.{flat_map}
+use Rattle.std.specs.Option.{option_map_or}
+use Rattle.wit_relations.specs.MemberFacts.{Contains-flat_map_cases}
+use Rattle.wit_relations.specs.Relation.{IsAcyclic}
+use Rattle.wit_items.specs.Each.{SomeAt}
+use Rattle.wit_items.specs.Entries.{Entry, IsExport, IsImport}
+use Rattle.wit_items.specs.Ownership.{IsListed}
+use Rattle.wit_items.specs.Shape.{IsShaped}
+use Rattle.wit_items.specs.Uses.{alias_target, interface_uses, other_owner, type_interface_dep}
+use Rattle.wit_items.specs.declared.interface.Interface.{Interface}
+use Rattle.wit_items.specs.declared.types.TypeDef.{TypeDef}
+use Rattle.wit_items.specs.declared.types.TypeOwner.{TypeOwner}
+use Rattle.wit_items.specs.declared.types.TypeOwner.TheVariants as owner
+use Rattle.wit_items.specs.declared.world.World.{World}
+use Rattle.wit_items.specs.declared.world.WorldItem.{WorldItem}
+use Rattle.wit_items.specs.declared.world.WorldItem.TheVariants as item
+use Rattle.wit_items.specs.declared.world.WorldKey.{WorldKey}
+use Rattle.wit_items.specs.declared.world.WorldKey.TheVariants as key
+use Rattle.wit_graph.specs.Relations.{entry_interface, entry_interfaces, other_package, package_interfaces, package_needs, package_uses, world_interfaces}
+use Rattle.wit_graph.specs.Valid.{IsValid}
+use Rattle.wit_graph.specs.declared.graph.Graph.{Graph}
+use Rattle.wit_graph.specs.declared.graph.Package.{Package}
+use Rattle.wit_growth.specs.DependencyFacts.{filter_map_from, filter_map_into, needs_from, needs_into}
+use Rattle.wit_growth.specs.GoodTypes.{IsAliased, from_if}
+use Rattle.wit_growth.specs.Growth.{PackagesGrow}
+use Rattle.wit_growth.specs.Image.{interface_image}
+use Rattle.wit_growth.specs.ListFacts.{at_below, found_at, from_map, get_at, old_or_new, place_of}
+use Rattle.wit_growth.specs.PackagesAcyclic.{packages_acyclic, there_is}
+use Rattle.wit_adding.specs.Addition.{Addition, addition_maps, own_interfaces}
+use Rattle.wit_adding.specs.Behind.{IsBehind}
+use Rattle.wit_adding.specs.Pushed.{new_package}
+use Rattle.wit_adding.specs.Reasons.{HasImage}
+use Rattle.wit_adding_laws.specs.PartsStand.{old_interface_at}
+use Rattle.wit_adding_laws.specs.AcyclicFacts.{kept_interfaces, kept_types}
+use Rattle.wit_adding_laws.specs.Parts.{parts_of}
+
+-- ---- what a graph's packages name is there
+
+-- the other owner is an interface
+other_is : (a b : TypeOwner) (j : ℕ) → other_owner a b ≡ Some j → b ≡ owner.Interface j
+other_is (owner.Interface i) (owner.Interface k) j is = by (i == k) is
+  where
+    by : (c : Bool) → (if c then None else Some k) ≡ Some j → owner.Interface k ≡ owner.Interface j
+    by true h = cc
+    by false h = let same : k ≡ j = cc in ap owner.Interface same
+other_is (owner.World w) (owner.Interface k) j is = let same : k ≡ j = cc in ap owner.Interface same
+other_is owner.None (owner.Interface k) j is = let same : k ≡ j = cc in ap owner.Interface same
+other_is (owner.Interface i) (owner.World v) j is = cc
+other_is (owner.World w) (owner.World v) j is = cc
+other_is owner.None (owner.World v) j is = cc
+other_is (owner.Interface i) owner.None j is = cc
+other_is (owner.World w) owner.None j is = cc
+other_is owner.None owner.None j is = cc
+
+-- an owner that lists something is there
+owner_there : (interfaces : List Interface) (worlds : List World) (t : ℕ) (name : Option (List ℕ)) (i : ℕ) → IsListed interfaces worlds t name (owner.Interface i) → i < length interfaces
+owner_there interfaces worlds t None i listed = absurd listed
+owner_there interfaces worlds t (Some name) i listed =
+    let found = found_at (λ (interface : Interface). Contains interface.types (name, t)) interfaces i listed in
+    slice_get_within interfaces i found.0 found.1
+
+module _ (g : Graph) (valid : IsValid g) where
+  -- what a type needs is there
+  dep_there : (t i : ℕ) → type_interface_dep g.types t ≡ Some i → i < length g.interfaces
+  dep_there t i is =
+      let needs = needs_from g.types t i is in
+      let by : needs.named.owner ≡ owner.Interface i = other_is needs.alias.owner needs.named.owner i needs.other in
+      owner_there g.interfaces g.worlds needs.target needs.named.name i
+      (subst (λ (o : TypeOwner). IsListed g.interfaces g.worlds needs.target needs.named.name o) by (valid.well_formed.owners.listed needs.target needs.named needs.target_there))
+
+  export_there : (k : WorldKey) (held : WorldItem) (i : ℕ) → IsExport g.interfaces k held → entry_interface g.types held ≡ Some i → i < length g.interfaces
+  export_there (key.Interface f) (item.Interface id stability docs span external_id) i is names =
+      let found = found_at (λ (interface : Interface). IsSome interface.name) g.interfaces f is.1 in
+      let within = slice_get_within g.interfaces f found.0 found.1 in
+      let here = is.0 in
+      let same : id ≡ i = cc in
+      omega arith
+  export_there (key.Interface f) (item.Function fn) i is names = cc
+  export_there (key.Interface f) (item.Type_ t span) i is names = absurd is
+  export_there (key.Name name) (item.Interface id stability docs span external_id) i is names = let same : id ≡ i = cc in subst (λ (x : ℕ). x < length g.interfaces) same is
+  export_there (key.Name name) (item.Function fn) i is names = cc
+  export_there (key.Name name) (item.Type_ t span) i is names = absurd is
+
+  import_there : (w : ℕ) (k : WorldKey) (held : WorldItem) (i : ℕ) → IsImport g.interfaces g.types w k held → entry_interface g.types held ≡ Some i → i < length g.interfaces
+  import_there w (key.Name name) (item.Type_ t span) i is names = dep_there t i names
+  import_there w (key.Interface f) (item.Type_ t span) i is names = absurd is
+  import_there w (key.Name name) (item.Interface id stability docs span external_id) i is names = export_there (key.Name name) (item.Interface id stability docs span external_id) i is names
+  import_there w (key.Interface f) (item.Interface id stability docs span external_id) i is names = export_there (key.Interface f) (item.Interface id stability docs span external_id) i is names
+  import_there w (key.Name name) (item.Function fn) i is names = cc
+  import_there w (key.Interface f) (item.Function fn) i is names = cc
+
+  world_names_there : (w : ℕ) (world : World) (i : ℕ) → slice_get g.worlds w ≡ Some world → Contains (world_interfaces g.types world) i → i < length g.interfaces
+  world_names_there w world i at has =
+      elim (Contains-append_cases (entry_interfaces g.types world.imports) (entry_interfaces g.types world.exports) i has) [
+        | inl among ↦
+            let from = filter_map_from (λ (e : Entry). entry_interface g.types e.1) world.imports i among in
+            let place = place_of world.imports from.0 from.1 in
+            import_there w from.0.0 from.0.1 i (valid.well_formed.worlds.imports w world at place.0 from.0 place.1) from.2
+        | inr among ↦
+            let from = filter_map_from (λ (e : Entry). entry_interface g.types e.1) world.exports i among in
+            let place = place_of world.exports from.0 from.1 in
+            export_there from.0.0 from.0.1 i (valid.well_formed.worlds.exports w world at place.0 from.0 place.1) from.2
+      ]
+
+  -- so is what a package names
+  package_names_there : (home : Package) (i : ℕ) → Contains (package_interfaces g.types g.interfaces g.worlds home) i → i < length g.interfaces
+  package_names_there home i has =
+      let by_interfaces = λ (e : List ℕ × ℕ). option_map_or (interface_uses g.types) (slice_get g.interfaces e.1) [] in
+      let by_worlds = λ (e : List ℕ × ℕ). option_map_or (world_interfaces g.types) (slice_get g.worlds e.1) [] in
+      elim (Contains-append_cases (flat_map by_interfaces home.interfaces) (flat_map by_worlds home.worlds) i has) [
+        | inl among ↦
+            let e = Contains-flat_map_cases by_interfaces home.interfaces i among in
+            let used = there_is (interface_uses g.types) (slice_get g.interfaces e.0.1) i e.1.1 in
+            let from = filter_map_from (λ (e : List ℕ × ℕ). type_interface_dep g.types e.1) used.0.types i used.2 in
+            dep_there from.0.1 i from.2
+        | inr among ↦
+            let e = Contains-flat_map_cases by_worlds home.worlds i among in
+            let held = there_is (world_interfaces g.types) (slice_get g.worlds e.0.1) i e.1.1 in
+            world_names_there e.0.1 held.0 i held.1 held.2
+      ]
+
+-- ---- growth
+
+-- the package of an interface that is another one is what the interface says
+other_from : (interfaces : List Interface) (p i q : ℕ) → other_package interfaces p i ≡ Some q → (interface : Interface) × (slice_get interfaces i ≡ Some interface) × (interface.package ≡ Some q) × (q ≡ p → ⊥)
+other_from interfaces p i q is = by (slice_get interfaces i) refl is
+  where
+    unless : (b : Bool) (r : ℕ) → (r == p) ≡ b → (if b then None else Some r) ≡ Some q → (r ≡ q) × (q ≡ p → ⊥)
+    unless true r test h = cc
+    unless false r test h = let same : r ≡ q = cc in (same, λ is. differs r p test (same ∙ is))
+      where
+        differs : (r p : ℕ) → (r == p) ≡ false → r ≡ p → ⊥
+        differs r p test same = grind (arith, test, same)
+
+    within : (o : Option ℕ) (interface : Interface) → slice_get interfaces i ≡ Some interface → interface.package ≡ o → option_and_then (λ q. if q == p then None else Some q) o ≡ Some q
+        → (interface : Interface) × (slice_get interfaces i ≡ Some interface) × (interface.package ≡ Some q) × (q ≡ p → ⊥)
+    within None interface at of h = cc
+    within (Some r) interface at of h = let both = unless (r == p) r refl h in (interface, at, of ∙ ap Some both.0, both.1)
+
+    by : (o : Option Interface) → slice_get interfaces i ≡ o → option_and_then (λ (interface : Interface). option_and_then (λ q. if q == p then None else Some q) interface.package) o ≡ Some q
+        → (interface : Interface) × (slice_get interfaces i ≡ Some interface) × (interface.package ≡ Some q) × (q ≡ p → ⊥)
+    by None at h = cc
+    by (Some interface) at h = within interface.package interface at refl h
+
+-- a package that is there is in range
+some_package : (packages : List Package) (o : Option ℕ) (q : ℕ) (P : ℕ → Package → Type 0) → IsSomeAnd o (λ p. SomeAt packages p (P p)) → o ≡ Some q → q < length packages
+some_package packages None q P holds is = absurd holds
+some_package packages (Some p) q P holds is =
+    let same : p ≡ q = cc in
+    let found = found_at (P p) packages p holds in
+    subst (λ (x : ℕ). x < length packages) same (slice_get_within packages p found.0 found.1)
+
+module _ (a : Addition) (valid : IsValid a.graph) (shaped : IsShaped a.handed) (image : HasImage a) (new : Graph) (are : IsBehind a new) where
+  -- what an old type needs, it needed
+  dep_stays : (t i : ℕ) → t < length a.graph.types → type_interface_dep new.types t ≡ Some i → type_interface_dep a.graph.types t ≡ Some i
+  dep_stays t i within is =
+      let parts = parts_of a new are in
+      let needs = needs_from new.types t i is in
+      let alias = kept_types a valid shaped image new.types new.interfaces parts t needs.alias within needs.there in
+      let target = from_if (IsAliased a.graph.types a.graph.interfaces needs.alias.owner) (alias_target needs.alias.kind) needs.target (valid.well_formed.references.aliases t needs.alias alias) needs.names in
+      let found = found_at (λ (named : TypeDef). IsSome named.name × ((named.owner ≡ needs.alias.owner) ⊎ _)) a.graph.types needs.target target in
+      let named = kept_types a valid shaped image new.types new.interfaces parts needs.target needs.named (slice_get_within a.graph.types needs.target found.0 found.1) needs.target_there in
+      needs_into a.graph.types t i (record { alias = needs.alias; there = alias; target = needs.target; names = needs.names; named = needs.named; target_there = named; other = needs.other })
+
+  uses_stay : (f : ℕ) (interface : Interface) (j : ℕ) → slice_get a.graph.interfaces f ≡ Some interface → Contains (interface_uses new.types interface) j → Contains (interface_uses a.graph.types interface) j
+  uses_stay f interface j at has =
+      let from = filter_map_from (λ (e : List ℕ × ℕ). type_interface_dep new.types e.1) interface.types j has in
+      let place = place_of interface.types from.0 from.1 in
+      let own = found_at (λ (def : TypeDef). (def.name ≡ Some from.0.0) × (def.owner ≡ owner.Interface f)) a.graph.types from.0.1 (valid.well_formed.owners.own_types f interface at place.0 from.0 place.1) in
+      filter_map_into (λ (e : List ℕ × ℕ). type_interface_dep a.graph.types e.1) interface.types from.0 j from.1 (dep_stays from.0.1 j (slice_get_within a.graph.types from.0.1 own.0 own.1) from.2)
+
+  imported_type : (w : ℕ) (k : WorldKey) (held : WorldItem) (t : ℕ) (span : _) → IsImport a.graph.interfaces a.graph.types w k held → held ≡ item.Type_ t span → t < length a.graph.types
+  imported_type w (key.Name name) (item.Type_ u s) t span is same =
+      let here : u ≡ t = cc in
+      let found = found_at (λ (def : TypeDef). (def.name ≡ Some name) × (def.owner ≡ owner.World w)) a.graph.types u is in
+      subst (λ (x : ℕ). x < length a.graph.types) here (slice_get_within a.graph.types u found.0 found.1)
+  imported_type w (key.Interface f) (item.Type_ u s) t span is same = absurd is
+  imported_type w k (item.Interface id stability docs s external_id) t span is same = cc
+  imported_type w k (item.Function fn) t span is same = cc
+
+  exported_type : (k : WorldKey) (held : WorldItem) (t : ℕ) (span : _) → IsExport a.graph.interfaces k held → held ≡ item.Type_ t span → ⊥
+  exported_type (key.Name name) (item.Type_ u s) t span is same = is
+  exported_type (key.Interface f) (item.Type_ u s) t span is same = is
+  exported_type k (item.Interface id stability docs s external_id) t span is same = cc
+  exported_type k (item.Function fn) t span is same = cc
+
+  -- an interface is of a package that was there, or of the new one
+  package_of : (i q : ℕ) (interface : Interface) → slice_get new.interfaces i ≡ Some interface → interface.package ≡ Some q → (q < length a.graph.packages) ⊎ (q ≡ length a.graph.packages)
+  package_of i q interface on is =
+      elim (old_or_new a.graph.interfaces (map (interface_image (addition_maps a)) (own_interfaces a)) i interface (subst (λ (l : List Interface). slice_get l i ≡ Some interface) are.interfaces_are on)) [
+        | inl old ↦ inl (some_package a.graph.packages interface.package q _ (valid.well_formed.tables.interfaces_listed i interface old) is)
+        | inr later ↦
+            let from = from_map (interface_image (addition_maps a)) (own_interfaces a) later.0 interface later.2 in
+            let same : Some (length a.graph.packages) ≡ Some q = ap (λ (x : Interface). x.package) from.2 ∙ is in
+            inr (inside (length a.graph.packages) q same)
+      ]
+    where
+      inside : (x y : ℕ) → Some x ≡ Some y → y ≡ x
+      inside x y h = cc
+
+  packages_grow : PackagesGrow a.graph new
+  packages_grow = record {
+    longer = longer;
+    kept = λ p home before at. at_below a.graph.packages (new_package a ∷ []) p home before (subst (λ (l : List Package). slice_get l p ≡ Some home) are.packages_are at);
+    interfaces = λ p home e interface at has there.
+        let place = place_of home.interfaces e has in
+        let found = found_at (λ (x : Interface). (x.name ≡ Some e.0) × (x.package ≡ Some p)) a.graph.interfaces e.1 (valid.well_formed.tables.interface_tables p home at place.0 e place.1) in
+        kept_interfaces a valid shaped image new.types new.interfaces (parts_of a new are) e.1 interface (slice_get_within a.graph.interfaces e.1 found.0 found.1) there;
+    worlds = λ p home e world at has there.
+        let place = place_of home.worlds e has in
+        let found = found_at (λ (x : World). (x.name ≡ e.0) × (x.package ≡ Some p)) a.graph.worlds e.1 (valid.well_formed.tables.world_tables p home at place.0 e place.1) in
+        at_below a.graph.worlds are.done e.1 world (slice_get_within a.graph.worlds e.1 found.0 found.1) (subst (λ (l : List World). slice_get l e.1 ≡ Some world) are.worlds_are there);
+    uses = uses_stay;
+    imports = λ w world i at e has t span is needs.
+        let place = place_of world.imports e has in
+        dep_stays t i (imported_type w e.0 e.1 t span (valid.well_formed.worlds.imports w world at place.0 e place.1) is) needs;
+    exports = λ w world i at e has t span is needs.
+        let place = place_of world.exports e has in
+        absurd (exported_type e.0 e.1 t span (valid.well_formed.worlds.exports w world at place.0 e place.1) is);
+    others = λ p q home i at has is.
+        let there = get_at a.graph.interfaces i (package_names_there a.graph valid home i has) in
+        let here = old_interface_at a valid shaped image new.types new.interfaces (parts_of a new are) i there.0 there.1 in
+        ap (λ (o : Option Interface). option_and_then (λ (interface : Interface). option_and_then (λ q. if q == p then None else Some q) interface.package) o) (there.1 ∙ sym here) ∙ is;
+    new = λ p q home past at has. newest p q home past at has;
+  }
+    where
+      longer : length a.graph.packages ≤ length new.packages
+      longer = let long = ap length are.packages_are in omega (arith, long, length-append a.graph.packages (new_package a ∷ []))
+
+      newest : (p q : ℕ) (home : Package) → length a.graph.packages ≤ p → slice_get new.packages p ≡ Some home → Contains (package_needs new.types new.interfaces new.worlds p home) q → q < length a.graph.packages
+      newest p q home past at has =
+          let from = filter_map_from (other_package new.interfaces p) (package_interfaces new.types new.interfaces new.worlds home) q has in
+          let other = other_from new.interfaces p from.0 q from.2 in
+          let long = ap length are.packages_are in
+          let within = slice_get_within new.packages p home at in
+          elim (package_of from.0 q other.0 other.1 other.2) [
+            | inl old ↦ old
+            | inr newer ↦ absurd (other.3 (omega (arith, newer, long, within, past, length-append a.graph.packages (new_package a ∷ []))))
+          ]
+
+  -- no package depends on itself
+  pub added_packages_acyclic : IsAcyclic (package_uses new.types new.interfaces new.worlds new.packages)
+  added_packages_acyclic = packages_acyclic a.graph new packages_grow valid.no_cycles.packages

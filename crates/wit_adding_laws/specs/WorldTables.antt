@@ -1,0 +1,148 @@
+-- Worlds in the tables of their packages, when a package is added: those that were there stay in theirs, and the
+-- new package has its own in its table, each under its name.
+use Rattle.std.proofs.Common.{◌≡◌, ◌∙◌, inl, inr, ℕ, zero, suc, ◌+◌, ◌-◌, ◌&&◌, Bool, true, false, not, List, [], ◌∷◌, drop, length, Option, None, Some, IsSomeAnd, slice_get, refl, sym, ap, subst, arith, Contains}
+use Rattle.std.specs.List.{IsDistinct}
+use Rattle.std.specs.Str.{bytes_eq}
+use Rattle.std.specs.Cmp.Lexicographic.{nat_list_eq_equiv}
+use Rattle.std.proofs.lemmas.Bool.{cases_lt, false≢true, lt-ltb}
+use Rattle.wit_values.specs.Lists.{AllByRecursion-at, slice_get-append, slice_get-push}
+use Rattle.wit_values.specs.Table.{HasDistinctKeys}
+use Rattle.wit_items.specs.Each.{Each, EachAt, SomeAt}
+use Rattle.wit_items.specs.Foreign.{foreign_worlds}
+use Rattle.wit_items.specs.Shape.{IsShaped, world_names}
+use Rattle.wit_items.specs.declared.world.World.{World}
+use Rattle.wit_graph.specs.Valid.{IsValid, IsWorldInTable, IsWorldOf}
+use Rattle.wit_graph.specs.declared.graph.Graph.{Graph}
+use Rattle.wit_graph.specs.declared.graph.Package.{Package}
+use Rattle.wit_growth.specs.ListFacts.{at_map, contained_at, found_at, from_map, some_at}
+use Rattle.wit_adding.specs.Addition.{Addition, own_world, world_place}
+use Rattle.wit_adding.specs.Behind.{IsBehind}
+use Rattle.wit_adding.specs.Gates.{is_foreign_world, world_is_active}
+use Rattle.wit_adding.specs.Pushed.{new_package}
+use Rattle.wit_adding.specs.RankFacts.{taken_places-at, taken_places-from}
+use Rattle.wit_adding.specs.Ranks.{rank, taken_places}
+use Rattle.wit_adding_laws.specs.ListedWorlds.{TakesPart}
+use Rattle.wit_adding_laws.specs.WorldFacts.{IsDone, done_at, old_world_at, world_from}
+
+-- ---- lists
+
+-- a place behind those that are left out
+at_drop : {X : Type 0} (xs : List X) (n i k : ℕ) (x : X) → k ≡ n + i → slice_get xs k ≡ Some x → slice_get (drop n xs) i ≡ Some x
+at_drop [] n i k x place at = cc
+at_drop (y ∷ ys) zero i k x place at = let same : k ≡ i = omega arith in subst (λ (j : ℕ). slice_get (y ∷ ys) j ≡ Some x) same at
+at_drop (y ∷ ys) (suc n) i zero x place at = absurd (omega arith)
+at_drop (y ∷ ys) (suc n) i (suc k) x place at = at_drop ys n i k x (omega arith) at
+
+-- texts that differ stand at one place each
+place_once : (xs : List (List ℕ)) (i j : ℕ) (x y : List ℕ) → IsDistinct bytes_eq xs → slice_get xs i ≡ Some x → slice_get xs j ≡ Some y → x ≡ y → i ≡ j
+unfolding IsDistinct
+place_once [] i j x y once first second same = cc
+place_once (z ∷ xs) zero zero x y once first second same = refl
+place_once (z ∷ xs) zero (suc j) x y once first second same =
+    let other : bytes_eq z y ≡ false = AllByRecursion-at (λ t. bytes_eq z t ≡ false) xs j y once.0 second in
+    let one : z ≡ x = cc in
+    absurd (false≢true (sym other ∙ subst (λ (t : List ℕ). bytes_eq z t ≡ true) (one ∙ same) (nat_list_eq_equiv.refl z)))
+place_once (z ∷ xs) (suc i) zero x y once first second same =
+    let other : bytes_eq z x ≡ false = AllByRecursion-at (λ t. bytes_eq z t ≡ false) xs i x once.0 first in
+    let one : z ≡ y = cc in
+    absurd (false≢true (sym other ∙ subst (λ (t : List ℕ). bytes_eq z t ≡ true) (one ∙ sym same) (nat_list_eq_equiv.refl z)))
+place_once (z ∷ xs) (suc i) (suc j) x y once first second same = ap suc (place_once xs i j x y once.1 first second same)
+
+some_and : (P Q : ℕ → Type 0) (o : Option ℕ) → ((p : ℕ) → P p → Q p) → IsSomeAnd o P → IsSomeAnd o Q
+some_and P Q None weaker h = absurd h
+some_and P Q (Some p) weaker h = weaker p h
+
+-- ---- the new package
+
+module _ (a : Addition) (shaped : IsShaped a.handed) where
+  -- an entry of its table of worlds is of a world that takes part
+  pub table_from : (i : ℕ) (e : List ℕ × ℕ) → slice_get (new_package a).worlds i ≡ Some e → (w : ℕ) × (whole : World) × TakesPart a w whole × (e.0 ≡ whole.name) × (e.1 ≡ world_place a w) × (i ≡ rank (own_world a) w)
+  table_from i e at =
+      let from = from_map (λ (d : ℕ × World). let r : List ℕ × ℕ = (d.1.name, world_place a d.0) in r) (taken_places (own_world a) a.handed.worlds) i e at in
+      let is = taken_places-from (own_world a) a.handed.worlds i from.0 from.1 in
+      (from.0.0, from.0.1, record { there = is.0; takes = is.1 }, ap (λ (r : List ℕ × ℕ). r.0) (sym from.2), ap (λ (r : List ℕ × ℕ). r.1) (sym from.2), is.2)
+
+  -- and each such world stands in it
+  pub table_has : (w : ℕ) (whole : World) → TakesPart a w whole → Contains (new_package a).worlds (whole.name, world_place a w)
+  table_has w whole of =
+      contained_at (new_package a).worlds (rank (own_world a) w) (whole.name, world_place a w)
+      (at_map (λ (d : ℕ × World). let r : List ℕ × ℕ = (d.1.name, world_place a d.0) in r) (taken_places (own_world a) a.handed.worlds) (rank (own_world a) w) (w, whole)
+      (taken_places-at (own_world a) a.handed.worlds w whole of.there of.takes))
+
+  -- a world that takes part stands behind those of other packages
+  name_there : (w : ℕ) (whole : World) → TakesPart a w whole
+      → (i : ℕ) × (w ≡ length (foreign_worlds a.handed.foreign_deps) + i) × (slice_get (world_names (length (foreign_worlds a.handed.foreign_deps)) a.handed.worlds) i ≡ Some whole.name)
+  name_there w whole of =
+      let n = length (foreign_worlds a.handed.foreign_deps) in
+      elim (cases_lt w n) [
+        | inl below ↦ absurd (never (is_foreign_world a.handed w) (world_is_active a.features a.handed w) (lt-ltb w n below) of.takes)
+        | inr past ↦ behind n (w - n) (omega arith)
+      ]
+    where
+      never : (b c : Bool) → b ≡ true → not b && c ≡ true → ⊥
+      never true c h k = cc
+      never false c h k = cc
+
+      behind : (n i : ℕ) → w ≡ n + i → (i : ℕ) × (w ≡ n + i) × (slice_get (world_names n a.handed.worlds) i ≡ Some whole.name)
+      behind n i place = (i, place, at_map (λ (world : World). world.name) (drop n a.handed.worlds) i whole (at_drop a.handed.worlds n i w whole place of.there))
+
+  -- no name stands in it twice
+  pub new_worlds_distinct : HasDistinctKeys (new_package a).worlds
+  new_worlds_distinct i j e f first second same =
+      let x = table_from i e first in
+      let y = table_from j f second in
+      let u = name_there x.0 x.1 x.2 in
+      let v = name_there y.0 y.1 y.2 in
+      let index = place_once (world_names (length (foreign_worlds a.handed.foreign_deps)) a.handed.worlds) u.0 v.0 x.1.name y.1.name shaped.names.worlds_differ u.2 v.2 (sym x.3 ∙ same ∙ y.3) in
+      let p = u.1 in
+      let q = v.1 in
+      let place : x.0 ≡ y.0 = omega arith in
+      x.5 ∙ ap (rank (own_world a)) place ∙ sym y.5
+
+-- ---- tables
+
+module _ (a : Addition) (valid : IsValid a.graph) (shaped : IsShaped a.handed) (new : Graph) (are : IsBehind a new) where
+  home_at : slice_get new.packages (length a.graph.packages) ≡ Some (new_package a)
+  home_at = subst (λ (packages : List Package). slice_get packages (length a.graph.packages) ≡ Some (new_package a)) (sym are.packages_are) (slice_get-push a.graph.packages (new_package a))
+
+  old_home_at : (p : ℕ) (home : Package) → slice_get a.graph.packages p ≡ Some home → slice_get new.packages p ≡ Some home
+  old_home_at p home at =
+      subst (λ (packages : List Package). slice_get packages p ≡ Some home) (sym are.packages_are) (slice_get-append a.graph.packages (new_package a ∷ []) p home at)
+
+  -- a new world has the name that it had, and is of the new package
+  done_is : (w' : ℕ) (world : World) (w : ℕ) (whole : World) → IsDone a new w' world w whole → (world.name ≡ whole.name) × (world.package ≡ Some (length a.graph.packages))
+  done_is w' world w whole is = (ap (λ (x : World). x.name) is.elaborated.world_is, ap (λ (x : World). x.package) is.elaborated.world_is)
+
+  -- each world stands in the table of its package
+  pub worlds_in_tables : EachAt (IsWorldInTable new.packages) new.worlds
+  worlds_in_tables w' world at =
+      elim (world_from a new are w' world at) [
+        | inl old ↦
+            some_and (λ p. SomeAt a.graph.packages p (λ (home : Package). Contains home.worlds (world.name, w'))) (λ p. SomeAt new.packages p (λ (home : Package). Contains home.worlds (world.name, w'))) world.package
+            (λ p h.
+            let found = found_at (λ (home : Package). Contains home.worlds (world.name, w')) a.graph.packages p h in
+            some_at (λ (home : Package). Contains home.worlds (world.name, w')) new.packages p found.0 (old_home_at p found.0 found.1) found.2)
+            (valid.well_formed.tables.worlds_listed w' world old)
+        | inr made ↦
+            let is = done_is w' world made.0 made.1 made.2 in
+            let has : Contains (new_package a).worlds (world.name, w') =
+            subst (λ (name : List ℕ). Contains (new_package a).worlds (name, w')) (sym is.0)
+            (subst (λ (v : ℕ). Contains (new_package a).worlds (made.1.name, v)) (sym made.2.place) (table_has a shaped made.0 made.1 made.2.of)) in
+            subst (λ (o : Option ℕ). IsSomeAnd o (λ p. SomeAt new.packages p (λ (home : Package). Contains home.worlds (world.name, w')))) (sym is.1)
+            (some_at (λ (home : Package). Contains home.worlds (world.name, w')) new.packages (length a.graph.packages) (new_package a) home_at has)
+      ]
+
+  -- the tables that were there hold worlds of their packages still
+  pub old_tables : EachAt (λ p (home : Package). Each (λ (e : List ℕ × ℕ). IsWorldOf new.worlds p e.0 e.1) home.worlds) a.graph.packages
+  old_tables p home at i e on =
+      let found = found_at (λ (world : World). (world.name ≡ e.0) × (world.package ≡ Some p)) a.graph.worlds e.1 (valid.well_formed.tables.world_tables p home at i e on) in
+      some_at (λ (world : World). (world.name ≡ e.0) × (world.package ≡ Some p)) new.worlds e.1 found.0 (old_world_at a new are e.1 found.0 found.1) found.2
+
+  -- and that of the new package holds its own
+  pub new_table : Each (λ (e : List ℕ × ℕ). IsWorldOf new.worlds (length a.graph.packages) e.0 e.1) (new_package a).worlds
+  new_table i e on =
+      let from = table_from a shaped i e on in
+      let done = done_at a new are from.0 from.1 from.2 in
+      let is = done_is (world_place a from.0) done.0 from.0 from.1 done.2 in
+      subst (λ (v : ℕ). IsWorldOf new.worlds (length a.graph.packages) e.0 v) (sym from.4)
+      (some_at (λ (world : World). (world.name ≡ e.0) × (world.package ≡ Some (length a.graph.packages))) new.worlds (world_place a from.0) done.0 done.1 (is.0 ∙ sym from.3, is.1))
