@@ -77,10 +77,13 @@ list_is : (world : World) (word : List ℕ) (entries : List Entry) → LabelsAre
 list_is world word entries fine (inl is) = subst (λ (l : List Entry). ListIsFine l) (sym is.1) fine.imports
 list_is world word entries fine (inr is) = subst (λ (l : List Entry). ListIsFine l) (sym is.1) fine.exports
 
+none : (g : Graph) (world : World) → LabelsAreFine world → (HasConflict (graph_uses g) (placed world.exports) → ⊥) → (kind : ResolveErrorKind) → IsFinishCause g world kind → ⊥
+none g world fine no_conflict _ (conflict_4 name is) = no_conflict is.conflict
+none g world fine no_conflict _ (not_strongly_unique_17 word n m is) = (list_is world word is.entries fine is.list).unique n m is.clash
+none g world fine no_conflict _ (no_getter_18 word label f is) = is.absent ((list_is world word is.entries fine is.list).getters (key.Name label, item.Function f) label is.setter.0 is.setter.1)
+
 pub can_finish : (g : Graph) (world : World) → LabelsAreFine world → (HasConflict (graph_uses g) (placed world.exports) → ⊥) → CanFinish g world
-can_finish g world fine no_conflict _ (conflict_4 name is) = no_conflict is.conflict
-can_finish g world fine no_conflict _ (not_strongly_unique_17 word n m is) = (list_is world word is.entries fine is.list).unique n m is.clash
-can_finish g world fine no_conflict _ (no_getter_18 word label f is) = is.absent ((list_is world word is.entries fine is.list).getters (key.Name label, item.Function f) label is.setter.0 is.setter.1)
+can_finish g world fine no_conflict = record { no_cause = none g world fine no_conflict; no_conflict = no_conflict }
 
 -- ---- reasons don't look at the worlds of a graph
 
@@ -103,7 +106,7 @@ finished_more g worlds world =
 
 pub can_finish_more : (g : Graph) (worlds : List World) (world : World) → AllByRecursion (CanFinish g) worlds → CanFinish (with_all_finished g worlds) world → AllByRecursion (CanFinish g) (worlds ++ world ∷ [])
 can_finish_more g worlds world fine more =
-    AllByRecursion-push (CanFinish g) worlds world fine (λ kind is. more kind (cause_behind g (g.worlds ++ map (finished_world g) worlds) world kind is))
+    AllByRecursion-push (CanFinish g) worlds world fine (record { no_cause = λ kind is. more.no_cause kind (cause_behind g (g.worlds ++ map (finished_world g) worlds) world kind is); no_conflict = more.no_conflict })
 
 -- the worlds before the one that can't be finished are the first ones
 pub stopped : (g : Graph) (worlds before after : List World) (world : World) → before ++ world ∷ after ≡ worlds → (g' : Graph) → g' ≡ with_all_finished g before → (k : ℕ) × (g' ≡ with_all_finished g (take k worlds))

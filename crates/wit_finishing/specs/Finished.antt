@@ -59,8 +59,9 @@ pub data IsFinishCause (g : Graph) (world : World) : ResolveErrorKind → Type 0
       → IsFinishCause g world (Semantic f.span (getter_text word label world.name (getter_label label)) cause.NoGetter)
 
 -- nothing speaks against finishing the world
-abbrev pub CanFinish : Graph → World → Type 0
-CanFinish g world = (kind : ResolveErrorKind) → IsFinishCause g world kind → ⊥
+pub record CanFinish (g : Graph) (world : World) : Type 0 where
+  pub no_cause : (kind : ResolveErrorKind) → IsFinishCause g world kind → ⊥
+  pub no_conflict : HasConflict (graph_uses g) (placed world.exports) → ⊥
 
 -- ---- several worlds
 

@@ -20,17 +20,30 @@ use Rattle.wit_items.specs.declared.world.World.{World}
 use Rattle.wit_items.specs.declared.world.WorldInclude.{WorldInclude}
 use Rattle.wit_items.specs.declared.world.WorldItem.{WorldItem}
 use Rattle.wit_items.specs.declared.world.WorldItem.TheVariants as item
-use Rattle.wit_link.specs.Cause.{PassesTheEnd}
 use Rattle.wit_link.specs.Fits.{EntriesFit, Fits, FunctionFits, InterfaceFits, ItemFits, KindFits, PackageFits, TypeFits, WorldFits}
 use Rattle.wit_adding.specs.Gates.{Place}
 use Rattle.wit_adding.specs.Spans.{function_spans, interface_spans, item_spans, kind_spans, package_spans, type_spans, world_spans}
-use Rattle.wit_link.proofs.NoEarlyCause.{each_contained}
-use Rattle.wit_link.proofs.OwnerPlaces.{Each-map, at_map}
-use Rattle.wit_link.proofs.PushedLists.{Each-head, Each-left, Each-right, Each-tail}
+use Rattle.wit_values.specs.Lists.{slice_get-append}
+use Rattle.wit_growth.specs.ListFacts.{Each-map, at_map, place_of}
+use Rattle.wit_adding.specs.Addition.{Addition}
+use Rattle.wit_adding.specs.Reasons.{PassesTheEnd}
 
 -- ---- what holds of each element
 
 module _ {X : Type 0} (P : X → Type 0) where
+  Each-head : (x : X) (xs : List X) → Each P (x ∷ xs) → P x
+  Each-head x xs all = all zero x refl
+
+  Each-tail : (x : X) (xs : List X) → Each P (x ∷ xs) → Each P xs
+  Each-tail x xs all i y at = all (suc i) y at
+
+  Each-left : (xs ys : List X) → Each P (xs ++ ys) → Each P xs
+  Each-left xs ys all i x at = all i x (slice_get-append xs ys i x at)
+
+  Each-right : (xs ys : List X) → Each P (xs ++ ys) → Each P ys
+  Each-right [] ys all = all
+  Each-right (x ∷ xs) ys all = Each-right xs ys (Each-tail x (xs ++ ys) all)
+
   Each-cons : (x : X) (xs : List X) → P x → Each P xs → Each P (x ∷ xs)
   Each-cons x xs here rest zero y at = let same : x ≡ y = cc in subst P same here
   Each-cons x xs here rest (suc i) y at = rest i y at
@@ -251,31 +264,29 @@ module _ (offset : ℕ) where
         | inr above ↦ inr (range.0, range.1, (0, omega arith, refl), above)
       ]
 
-  fits_or_passes : offset < 2 ^ 32 → (u : UnresolvedPackage) → PackageFits offset u ⊎ PassesTheEnd u offset
+  -- a package fits, or some span of it passes the end
+  fits_or_passes : offset < 2 ^ 32 → (u : UnresolvedPackage) → PackageFits offset u ⊎ SomePasses (package_spans u)
   fits_or_passes small u =
       elim (fit_or_pass small (package_spans u)) [
         | inl all ↦ inl (package_fits u all)
         | inr passes ↦ inr passes
       ]
 
-  never_both : (u : UnresolvedPackage) → PackageFits offset u → PassesTheEnd u offset → ⊥
+  never_both : (u : UnresolvedPackage) → PackageFits offset u → SomePasses (package_spans u) → ⊥
   never_both u fits passes =
-      let below : Fits offset (Some (passes.0, passes.1)) = each_contained (Fits offset) (package_spans u) (Some (passes.0, passes.1)) (all_package u fits) passes.2 in
+      let place = place_of (package_spans u) (Some (passes.0, passes.1)) passes.2 in
+      let below : Fits offset (Some (passes.0, passes.1)) = all_package u fits place.0 (Some (passes.0, passes.1)) place.1 in
       let above : 2 ^ 32 ≤ passes.1 + offset = passes.3 in
       omega (arith, below, above)
 
 -- where a package doesn't fit, a span of it passes the end
-pub passes-of_not_fitting : (offset : ℕ) (u : UnresolvedPackage) → offset < 2 ^ 32 → (PackageFits offset u → ⊥) → PassesTheEnd u offset
-passes-of_not_fitting offset u small fits_not =
-    elim (fits_or_passes offset small u) [
+pub passes-of_not_fitting : (a : Addition) → a.offset < 2 ^ 32 → (PackageFits a.offset a.handed → ⊥) → PassesTheEnd a
+passes-of_not_fitting a small fits_not =
+    elim (fits_or_passes a.offset small a.handed) [
       | inl fits ↦ absurd (fits_not fits)
-      | inr passes ↦ passes
+      | inr passes ↦ record { from = passes.0; to = passes.1; known = passes.2; past = passes.3 }
     ]
 
--- a package fits exactly where no span of it passes the end
-pub fits-exact : (offset : ℕ) (u : UnresolvedPackage) → offset < 2 ^ 32 → PackageFits offset u ↔ (PassesTheEnd u offset → ⊥)
-fits-exact offset u small = (never_both offset u, λ (passes_not : PassesTheEnd u offset → ⊥). decide passes_not (fits_or_passes offset small u))
-  where
-    decide : (PassesTheEnd u offset → ⊥) → PackageFits offset u ⊎ PassesTheEnd u offset → PackageFits offset u
-    decide passes_not (inl fits) = fits
-    decide passes_not (inr passes) = absurd (passes_not passes)
+-- where it fits, none does
+pub fitting_passes_not : (a : Addition) → PackageFits a.offset a.handed → PassesTheEnd a → ⊥
+fitting_passes_not a fits passes = never_both a.offset a.handed fits (passes.from, passes.to, passes.known, passes.past)

@@ -8,7 +8,8 @@ use Rattle.wit_graph.specs.declared.error_kind.ResolveErrorKind.{ResolveErrorKin
 use Rattle.wit_graph.specs.declared.error_kind.ResolveErrorKind.TheVariants.{OffsetOverflow}
 use Rattle.wit_graph.specs.declared.features.Features.{Features}
 use Rattle.wit_graph.specs.declared.graph.Graph.{Graph}
-use Rattle.wit_link.specs.Cause.{IsAccepted, IsCause}
+use Rattle.wit_adding.specs.Cause.{IsCause}
+use Rattle.wit_link.specs.Appending.{IsAdded, addition}
 use Rattle.wit_sorting.specs.Sorting.{AreSorted, Handed, IsSortCause}
 
 -- the packages of groups, the nested ones of a group before its main one, where the files of the first
@@ -20,7 +21,7 @@ packages_of at (group ∷ groups) = map (λ (u : UnresolvedPackage). (u, at)) (g
 -- packages accepted one after another take the graph g to new and get these ids
 abbrev pub ArePushed : Features → Graph → List Handed → Graph → List ℕ → Type 0
 ArePushed features g [] new [] = new ≡ g
-ArePushed features g (p ∷ ps) new (id ∷ ids) = (mid : Graph) × IsAccepted features g p.0 p.1 mid id × ArePushed features mid ps new ids
+ArePushed features g (p ∷ ps) new (id ∷ ids) = (mid : Graph) × IsAdded (addition features g p.0 p.1) mid id × ArePushed features mid ps new ids
 ArePushed features g [] new (id ∷ ids) = ⊥
 ArePushed features g (p ∷ ps) new [] = ⊥
 
@@ -38,7 +39,7 @@ pub record IsPushCause (features : Features) (g : Graph) (handed : List Handed) 
   pub sortable : (e : ResolveErrorKind) → IsSortCause handed e → ⊥
   pub sorted : AreSorted handed order (before ++ p ∷ after)
   pub pushed : ArePushed features g before mid ids
-  pub cause : IsCause features mid p.0 p.1 error
+  pub cause : IsCause (addition features mid p.0 p.1) error
 
 -- where the files of groups end that begin at this position
 abbrev pub files_end : ℕ → List UnresolvedPackageGroup → ℕ

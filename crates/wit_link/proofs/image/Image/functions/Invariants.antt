@@ -1,7 +1,0 @@
-use Rattle.std.proofs.Common.{◌≡◌, map, take}
-use Rattle.wit_link.specs.Images.{image_places, placed_named}
-use Rattle.wit_link.proofs.image.Image.functions.Given as goal
-
--- the images so far
-abbrev pub invariant-loop-index : goal.invariant-loop-index
-invariant-loop-index l = l.images ≡ map (placed_named (image_places l.self)) (take l.index l.functions)

@@ -1,0 +1,19 @@
+-- What adding a package to a graph has to make of it.
+-- Source: `append` of wit-parser 0.263.0.
+use Rattle.std.specs.Prelude.{◌≡◌, ℕ, length}
+use Rattle.wit_items.specs.declared.unresolved.UnresolvedPackage.{UnresolvedPackage}
+use Rattle.wit_graph.specs.declared.features.Features.{Features}
+use Rattle.wit_graph.specs.declared.graph.Graph.{Graph}
+use Rattle.wit_adding.specs.Addition.{Addition}
+use Rattle.wit_adding.specs.Cause.{IsAccepted}
+use Rattle.wit_adding.specs.Pushed.{pushed}
+
+-- the addition of a package to a graph, under features, its spans moved by an offset
+abbrev pub addition : Features → Graph → UnresolvedPackage → ℕ → Addition
+addition features g u offset = record { features = features; graph = g; handed = u; offset = offset }
+
+-- the package is added: nothing speaks against it, the graph is what comes of it, and its id is the next one
+pub record IsAdded (a : Addition) (new : Graph) (id : ℕ) : Type 0 where
+  pub accepted : IsAccepted a
+  pub graph_is : new ≡ pushed a
+  pub id_is : id ≡ length a.graph.packages
