@@ -25,11 +25,12 @@ use Rattle.wit_adding.specs.Addition.{Addition, active, addition_maps, interface
 use Rattle.wit_adding.specs.Behind.{with_placed}
 use Rattle.wit_adding.specs.ClosedCut.{closed_part}
 use Rattle.wit_adding.specs.Gates.{interface_is_active}
-use Rattle.wit_adding.specs.RankFacts.{taken_places-at, taken_places-from}
+use Rattle.wit_adding.specs.RankFacts.{taken_places-at}
 use Rattle.wit_adding.specs.Ranks.{rank, taken_places}
 use Rattle.wit_adding.specs.Reasons.{HasImage}
 use Rattle.wit_adding_laws.specs.InterfacesApart.{KeyTakesPart, keys_apart}
 use Rattle.wit_adding_laws.specs.NamedAliases.{aliases_named, interface_within, named_goes}
+use Rattle.wit_adding_laws.specs.OwnThings.{own_world_from}
 use Rattle.wit_adding_laws.specs.Parts.{HasParts}
 use Rattle.wit_adding_laws.specs.PartsStand.{type_stands}
 use Rattle.wit_adding_laws.specs.PlacedFacts.{placed_distinct, placed_in}
@@ -49,19 +50,7 @@ pub record TakesPart (a : Addition) (w : ℕ) (whole : World) : Type 0 where
   pub there : slice_get a.handed.worlds w ≡ Some whole
   pub takes : own_world a w ≡ true
 
--- what stands among the worlds that take part is such a world, at its rank
-pub own_world_from : (a : Addition) (k : ℕ) (e : ℕ × World) → slice_get (own_worlds a) k ≡ Some e
-    → (whole : World) × TakesPart a e.0 whole × (e.1 ≡ cut a whole) × (k ≡ rank (own_world a) e.0)
-own_world_from a k e at =
-    let from = from_map (λ (d : ℕ × World). let r : ℕ × World = (d.0, cut_world (active a) d.1) in r) (taken_places (own_world a) a.handed.worlds) k e at in
-    let is = taken_places-from (own_world a) a.handed.worlds k from.0 from.1 in
-    let same : from.0.0 ≡ e.0 = ap (λ (d : ℕ × World). d.0) from.2 in (
-      from.0.1,
-      record { there = ap (slice_get a.handed.worlds) (sym same) ∙ is.0; takes = ap (own_world a) (sym same) ∙ is.1 },
-      ap (λ (d : ℕ × World). d.1) (sym from.2),
-      is.2 ∙ ap (rank (own_world a)) same,
-    )
-
+-- among the worlds that take part it stands at its rank
 pub own_world_at : (a : Addition) (w : ℕ) (whole : World) → TakesPart a w whole → slice_get (own_worlds a) (rank (own_world a) w) ≡ Some (w, cut a whole)
 own_world_at a w whole of =
     at_pair (taken_places (own_world a) a.handed.worlds) (rank (own_world a) w) (taken_places-at (own_world a) a.handed.worlds w whole of.there of.takes)
@@ -188,5 +177,5 @@ module _ (a : Addition) (valid : IsValid a.graph) (shaped : IsShaped a.handed) (
       → IsListed types (length interfaces) (with_placed (world_image (addition_maps a) e.0 e.1)).imports (with_placed (world_image (addition_maps a) e.0 e.1)).exports
   listed_worlds k e at =
       let is = own_world_from a k e at in
-      subst (λ (world : World). IsListed types (length interfaces) (with_placed (world_image (addition_maps a) e.0 world)).imports (with_placed (world_image (addition_maps a) e.0 world)).exports) (sym is.2)
-      (is_listed e.0 is.0 is.1)
+      subst (λ (world : World). IsListed types (length interfaces) (with_placed (world_image (addition_maps a) e.0 world)).imports (with_placed (world_image (addition_maps a) e.0 world)).exports) is.is
+      (is_listed e.0 is.world (record { there = is.there; takes = is.own }))

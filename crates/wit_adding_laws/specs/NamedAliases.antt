@@ -1,5 +1,5 @@
 -- What aliases behind a graph name, when a package is put there: what they may.
-use Rattle.std.proofs.Common.{◌≡◌, ◌∙◌, ℕ, ◌<◌, ◌&&◌, Bool, true, false, not, List, ◌++◌, ◌⊎◌, inl, inr, map, filter, length, Option, None, Some, option_map, IsSome, slice_get, refl, sym, ap, subst}
+use Rattle.std.proofs.Common.{◌≡◌, ◌∙◌, ℕ, ◌<◌, true, List, ◌++◌, ◌⊎◌, inl, inr, map, filter, length, Option, None, Some, option_map, IsSome, slice_get, refl, sym, ap, subst}
 use Rattle.std.specs.List.{range_with_len}
 use Rattle.std.proofs.lemmas.Option.{slice_get_within}
 use Rattle.wit_items.specs.Each.{Each}
@@ -18,16 +18,14 @@ use Rattle.wit_growth.specs.Image.{name_image, owner_image, type_image}
 use Rattle.wit_growth.specs.ListFacts.{found_at, from_map, old_or_new, place_of, some_at}
 use Rattle.wit_growth.specs.ReferredFacts.{alias_image}
 use Rattle.wit_growth.specs.Sources.{InterfaceStands, Stands}
-use Rattle.wit_adding.specs.Addition.{Addition, added_owns, addition_maps, interface_place, needs_own, own_type, own_types, part, type_place}
+use Rattle.wit_adding.specs.Addition.{Addition, added_owns, addition_maps, interface_place, needs_own, own_types, part, type_place}
 use Rattle.wit_adding.specs.Carried.{package_source}
 use Rattle.wit_adding.specs.ClosedCut.{closed_part, references_kept}
 use Rattle.wit_adding.specs.Gates.{interface_is_active, type_is_active}
-use Rattle.wit_adding.specs.Lookup.{is_foreign_type}
-use Rattle.wit_adding.specs.RankFacts.{taken_places-from}
-use Rattle.wit_adding.specs.Ranks.{taken_places}
 use Rattle.wit_adding.specs.Reasons.{HasImage}
 use Rattle.wit_adding.specs.Resources.{own_of}
 use Rattle.wit_adding_laws.specs.InterfacesApart.{active_there}
+use Rattle.wit_adding_laws.specs.OwnThings.{own_type_from}
 use Rattle.wit_adding_laws.specs.Parts.{HasParts}
 use Rattle.wit_adding_laws.specs.PartsStand.{interface_stands, old_interface_at, old_type_at, type_stands}
 
@@ -90,17 +88,6 @@ module _ (a : Addition) (valid : IsValid a.graph) (shaped : IsShaped a.handed) (
       has_name f None new is some = cc
       has_name f (Some name) new is some = subst (λ (o : Option (List ℕ)). IsSome o) (sym is) refl
 
-  -- where an own type stood
-  own_from : (i : ℕ) (def : TypeDef) → slice_get (own_types a) i ≡ Some def → (t : ℕ) × (slice_get a.handed.types t ≡ Some def) × (type_is_active a.features a.handed.types t ≡ true)
-  own_from i def at =
-      let e = from_map (λ (e : ℕ × TypeDef). e.1) (taken_places (own_type a) a.handed.types) i def at in
-      let is = taken_places-from (own_type a) a.handed.types i e.0 e.1 in
-      (e.0.0, is.0 ∙ ap (λ (d : TypeDef). Some d) e.2, second (is_foreign_type a.handed e.0.0) (type_is_active a.features a.handed.types e.0.0) is.1)
-    where
-      second : (b c : Bool) → not b && c ≡ true → c ≡ true
-      second true c h = cc
-      second false c h = h
-
   image_aliases : (t : ℕ) (def : TypeDef) → slice_get a.handed.types t ≡ Some def → type_is_active a.features a.handed.types t ≡ true → AliasesNamed types interfaces (type_image (addition_maps a) def)
   image_aliases t def at active =
       if_some (IsAliased types interfaces (owner_image (addition_maps a) def.owner)) (alias_target (type_image (addition_maps a) def).kind) (λ t' is.
@@ -123,8 +110,8 @@ module _ (a : Addition) (valid : IsValid a.graph) (shaped : IsShaped a.handed) (
         | inr new ↦ elim (old_or_new (map (type_image (addition_maps a)) (own_types a)) (added_owns a) new.0 def new.2) [
           | inl mine ↦
               let from = from_map (type_image (addition_maps a)) (own_types a) new.0 def mine in
-              let is = own_from new.0 from.0 from.1 in
-              subst (AliasesNamed types interfaces) from.2 (image_aliases is.0 from.0 is.1 is.2)
+              let is = own_type_from a new.0 from.0 from.1 in
+              subst (AliasesNamed types interfaces) from.2 (image_aliases is.t from.0 is.there is.active)
           | inr made ↦
               let from = from_map (λ (t : ℕ). own_of (type_place a t)) (filter (needs_own a) (range_with_len 0 (length a.handed.types))) made.0 def made.2 in
               subst (AliasesNamed types interfaces) from.2 tt

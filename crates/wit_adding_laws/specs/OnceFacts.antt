@@ -1,6 +1,6 @@
 -- An interface without a name stands in one place behind a graph when a package is added, as it did in the graph
 -- and in the package.
-use Rattle.std.proofs.Common.{◌≡◌, ◌∙◌, ◌⊎◌, inl, inr, ℕ, zero, suc, ◌<◌, ◌≤◌, ◌&&◌, Bool, true, false, not, is_some, List, [], ◌∷◌, map, length, Option, Some, IsSome, slice_get, refl, sym, ap, subst, arith, Contains}
+use Rattle.std.proofs.Common.{◌≡◌, ◌∙◌, ◌⊎◌, inl, inr, ℕ, zero, suc, ◌<◌, ◌≤◌, Bool, true, false, not, is_some, List, [], ◌∷◌, map, length, Option, Some, IsSome, slice_get, refl, sym, ap, subst, arith, Contains}
 use Rattle.std.specs.Option.{option_map_or}
 use Rattle.std.proofs.lemmas.Bool.{cases_Bool, ltb-true}
 use Rattle.std.proofs.lemmas.Option.{slice_get_within}
@@ -42,7 +42,7 @@ use Rattle.wit_adding_laws.specs.CoveredWorlds.{exported_named, used_named}
 use Rattle.wit_adding_laws.specs.InterfacesApart.{active_there, interfaces_apart}
 use Rattle.wit_adding_laws.specs.ListedWorlds.{TakesPart, export_from, export_takes, import_from, import_takes, listed_own}
 use Rattle.wit_adding_laws.specs.Parts.{parts_of}
-use Rattle.wit_adding_laws.specs.PartsStand.{interface_stands, old_interface_at}
+use Rattle.wit_adding_laws.specs.PartsStand.{interface_stands, old_interface_at, own_of_both}
 use Rattle.wit_adding_laws.specs.SourcesGood.{sources, sources_good}
 use Rattle.wit_adding_laws.specs.WorldFacts.{IsDone, WorldLaws, in_order, world_from}
 
@@ -112,13 +112,9 @@ module _ (laws : WorldLaws) (a : Addition) (valid : IsValid a.graph) (shaped : I
         let same = unnamed_same a.handed.interfaces a.graph.interfaces f (interface_place a f) there.0 found.0 there.1 found.1 found.2.1 in
         absurd (named_not a.graph.interfaces (interface_place a f) (some_at (λ (interface : Interface). IsSome interface.name) a.graph.interfaces (interface_place a f) found.0 found.1 found.2.0) (same ∙ unnamed))
     | inr own ↦
-        let place = own_interface_goes a f (both (is_foreign_interface a.handed f) (interface_is_active a.features a.handed f) own active) in
+        let place = own_interface_goes a f (own_of_both (is_foreign_interface a.handed f) (interface_is_active a.features a.handed f) own active) in
         omega arith
   ]
-    where
-      both : (b c : Bool) → b ≡ false → c ≡ true → not b && c ≡ true
-      both true c h k = cc
-      both false c h k = k
 
   -- one that stands in the new graph has a name there if it has one in the package
   unnamed_goes : (f : ℕ) → interface_is_active a.features a.handed f ≡ true → is_unnamed new.interfaces (interface_place a f) ≡ is_unnamed a.handed.interfaces f

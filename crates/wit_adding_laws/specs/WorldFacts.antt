@@ -1,6 +1,6 @@
 -- What worlds stand behind a graph when a package is added: those that were there, and those of the package that
 -- take part, elaborated. The latter list their types still, so they stand.
-use Rattle.std.proofs.Common.{◌≡◌, ◌⊎◌, inl, inr, ℕ, true, List, [], map, length, Option, Some, slice_get, refl, sym, ap, subst, arith, Contains}
+use Rattle.std.proofs.Common.{◌≡◌, ◌∙◌, ◌⊎◌, inl, inr, ℕ, true, List, [], map, length, Option, Some, slice_get, refl, sym, ap, subst, arith, Contains}
 use Rattle.std.proofs.lemmas.List.{length-map}
 use Rattle.std.proofs.lemmas.Option.{slice_get_within}
 use Rattle.wit_values.specs.Lists.{slice_get-append}
@@ -35,7 +35,8 @@ use Rattle.wit_adding.specs.Carried.{package_source}
 use Rattle.wit_adding.specs.Ranks.{rank}
 use Rattle.wit_adding.specs.Reasons.{HasImage}
 use Rattle.wit_adding.specs.Standing.{own_world_goes}
-use Rattle.wit_adding_laws.specs.ListedWorlds.{TakesPart, cut, imports_apart, is_listed, listed_own, own_world_at, own_world_from}
+use Rattle.wit_adding_laws.specs.ListedWorlds.{TakesPart, cut, imports_apart, is_listed, listed_own, own_world_at}
+use Rattle.wit_adding_laws.specs.OwnThings.{own_world_from}
 use Rattle.wit_adding_laws.specs.Parts.{parts_of}
 use Rattle.wit_adding_laws.specs.PlacedFacts.{placed_into}
 
@@ -83,18 +84,15 @@ module _ (a : Addition) (new : Graph) (are : IsBehind a new) where
             let is = own_world_from a behind.0 e.0 e.1 in
             let finished = found_at (λ (world : World). _) are.done behind.0 (are.finished behind.0 e.0 e.1) in
             let same = same_at are.done behind.0 behind.0 finished.0 world refl finished.1 behind.2 in
-            let goes = own_world_goes a e.0.0 is.1.takes in
-            let place = behind.1 in
-            let ranked = is.3 in
             inr (
               e.0.0,
-              is.0,
+              is.world,
               record {
-                of = is.1;
-                place = omega arith;
+                of = record { there = is.there; takes = is.own };
+                place = behind.1 ∙ sym is.place;
                 elaborated =
-                    subst (λ (world : World). Elaborated new.types (uses_of new.types new.interfaces) (listed_own a e.0.0 is.0) world) same
-                    (subst (λ (held : World). Elaborated new.types (uses_of new.types new.interfaces) (with_placed (world_image (addition_maps a) e.0.0 held)) finished.0) is.2 finished.2);
+                    subst (λ (world : World). Elaborated new.types (uses_of new.types new.interfaces) (listed_own a e.0.0 is.world) world) same
+                    (subst (λ (held : World). Elaborated new.types (uses_of new.types new.interfaces) (with_placed (world_image (addition_maps a) e.0.0 held)) finished.0) (sym is.is) finished.2);
               },
             )
       ]

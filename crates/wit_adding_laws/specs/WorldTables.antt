@@ -1,6 +1,6 @@
 -- Worlds in the tables of their packages, when a package is added: those that were there stay in theirs, and the
 -- new package has its own in its table, each under its name.
-use Rattle.std.proofs.Common.{◌≡◌, ◌∙◌, inl, inr, ℕ, zero, suc, ◌+◌, ◌-◌, ◌&&◌, Bool, true, false, not, List, [], ◌∷◌, drop, length, Option, None, Some, IsSomeAnd, slice_get, refl, sym, ap, subst, arith, Contains}
+use Rattle.std.proofs.Common.{◌≡◌, ◌∙◌, inl, inr, ℕ, zero, suc, ◌+◌, ◌-◌, true, false, List, [], ◌∷◌, drop, length, Option, None, Some, IsSomeAnd, slice_get, refl, sym, ap, subst, arith, Contains}
 use Rattle.std.specs.List.{IsDistinct}
 use Rattle.std.specs.Str.{bytes_eq}
 use Rattle.std.specs.Cmp.Lexicographic.{nat_list_eq_equiv}
@@ -22,7 +22,8 @@ use Rattle.wit_adding.specs.Pushed.{new_package}
 use Rattle.wit_adding.specs.RankFacts.{taken_places-at, taken_places-from}
 use Rattle.wit_adding.specs.Ranks.{rank, taken_places}
 use Rattle.wit_adding_laws.specs.ListedWorlds.{TakesPart}
-use Rattle.wit_adding_laws.specs.WorldFacts.{IsDone, done_at, old_world_at, world_from}
+use Rattle.wit_adding_laws.specs.OwnThings.{own_part}
+use Rattle.wit_adding_laws.specs.WorldFacts.{IsDone, done_at, world_from}
 
 -- ---- lists
 
@@ -75,14 +76,10 @@ module _ (a : Addition) (shaped : IsShaped a.handed) where
   name_there w whole of =
       let n = length (foreign_worlds a.handed.foreign_deps) in
       elim (cases_lt w n) [
-        | inl below ↦ absurd (never (is_foreign_world a.handed w) (world_is_active a.features a.handed w) (lt-ltb w n below) of.takes)
+        | inl below ↦ absurd (false≢true (sym (own_part (is_foreign_world a.handed w) (world_is_active a.features a.handed w) of.takes).0 ∙ lt-ltb w n below))
         | inr past ↦ behind n (w - n) (omega arith)
       ]
     where
-      never : (b c : Bool) → b ≡ true → not b && c ≡ true → ⊥
-      never true c h k = cc
-      never false c h k = cc
-
       behind : (n i : ℕ) → w ≡ n + i → (i : ℕ) × (w ≡ n + i) × (slice_get (world_names n a.handed.worlds) i ≡ Some whole.name)
       behind n i place = (i, place, at_map (λ (world : World). world.name) (drop n a.handed.worlds) i whole (at_drop a.handed.worlds n i w whole place of.there))
 
@@ -132,13 +129,7 @@ module _ (a : Addition) (valid : IsValid a.graph) (shaped : IsShaped a.handed) (
             (some_at (λ (home : Package). Contains home.worlds (world.name, w')) new.packages (length a.graph.packages) (new_package a) home_at has)
       ]
 
-  -- the tables that were there hold worlds of their packages still
-  pub old_tables : EachAt (λ p (home : Package). Each (λ (e : List ℕ × ℕ). IsWorldOf new.worlds p e.0 e.1) home.worlds) a.graph.packages
-  old_tables p home at i e on =
-      let found = found_at (λ (world : World). (world.name ≡ e.0) × (world.package ≡ Some p)) a.graph.worlds e.1 (valid.well_formed.tables.world_tables p home at i e on) in
-      some_at (λ (world : World). (world.name ≡ e.0) × (world.package ≡ Some p)) new.worlds e.1 found.0 (old_world_at a new are e.1 found.0 found.1) found.2
-
-  -- and that of the new package holds its own
+  -- the table of the new package holds its own worlds
   pub new_table : Each (λ (e : List ℕ × ℕ). IsWorldOf new.worlds (length a.graph.packages) e.0 e.1) (new_package a).worlds
   new_table i e on =
       let from = table_from a shaped i e on in
