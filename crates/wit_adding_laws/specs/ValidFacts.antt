@@ -1,9 +1,7 @@
 -- A valid graph to which a package is added is valid: what is shown of its types, interfaces, worlds and packages,
 -- joined.
-use Rattle.std.specs.Prelude.{◌≡◌, ℕ, zero, suc}
-use Rattle.wit_relations.specs.Relation.{IsAcyclic}
+use Rattle.std.specs.Prelude.{ℕ, zero, suc}
 use Rattle.wit_items.specs.Shape.{IsShaped}
-use Rattle.wit_items.specs.Uses.{uses_of}
 use Rattle.wit_graph.specs.Valid.{HasNoCycles, IsValid}
 use Rattle.wit_graph.specs.declared.graph.Graph.{Graph}
 use Rattle.wit_growth.specs.Covered.{IsCovered}
