@@ -25,7 +25,6 @@ use Rattle.wit_growth.specs.ListFacts.{at_map, at_new, from_map, old_or_new, som
 use Rattle.wit_growth.specs.PackagesAcyclic.{length-numbered, numbered_from, numbered_into}
 use Rattle.wit_growth.specs.Sources.{Carries, InterfaceStands, WorldStands}
 use Rattle.wit_adding.specs.Addition.{Addition, addition_maps, own_world, own_worlds, part, world_place}
-use Rattle.wit_adding.specs.Carried.{package_source}
 use Rattle.wit_adding.specs.RankFacts.{taken_places-at}
 use Rattle.wit_adding.specs.Ranks.{rank, taken_places}
 use Rattle.wit_adding.specs.Reasons.{HasImage}
@@ -35,7 +34,7 @@ use Rattle.wit_adding_laws.specs.InterfacesCome.{interfaces_come}
 use Rattle.wit_adding_laws.specs.OwnThings.{own_world_from}
 use Rattle.wit_adding_laws.specs.Parts.{HasParts}
 use Rattle.wit_adding_laws.specs.PartsStand.{interface_stands, old_interface_at, old_type_at, type_stands, values_stand_there}
-use Rattle.wit_adding_laws.specs.SourcesGood.{sources, sources_good}
+use Rattle.wit_adding_laws.specs.SourcesGood.{package_source, sources, sources_good}
 use Rattle.wit_adding_laws.specs.TypesCome.{types_come}
 
 module _ (a : Addition) (valid : IsValid a.graph) (shaped : IsShaped a.handed) (image : HasImage a) where

@@ -1,11 +1,10 @@
--- The names of the package's own interfaces differ, so its table has each once.
-use Rattle.std.proofs.Common.{◌≡◌, ◌∙◌, ℕ, ◌+◌, ◌≤◌, zero, suc, true, false, List, [], ◌∷◌, ◌++◌, ◌-◌, drop, get_or, take, filter_map, length, Option, None, Some, option_map, slice_get, refl, sym, ap, subst, arith, Contains}
+-- Names that differ stand at one place each, so the table of the package's own interfaces has each once.
+use Rattle.std.proofs.Common.{◌≡◌, ◌∙◌, ℕ, ◌+◌, ◌≤◌, zero, suc, true, false, List, [], ◌∷◌, ◌++◌, ◌-◌, drop, take, filter_map, length, Option, None, Some, option_map, slice_get, refl, sym, ap, subst, arith, Contains}
 use Rattle.std.specs.List.{IsDistinct, cons_option, flat_map}
 use Rattle.std.specs.Option.{option_to_list}
 use Rattle.std.specs.Str.{bytes_eq}
+use Rattle.std.specs.Cmp.Lexicographic.{nat_list_eq_equiv}
 use Rattle.std.proofs.lemmas.Bool.{false≢true, ltb-false}
-use Rattle.std.proofs.lemmas.List.{get_or-drop, length-drop}
-use Rattle.std.proofs.lemmas.Option.{get_or_from_slice_get, slice_get_read, slice_get_within}
 use Rattle.std.proofs.lemmas.Slice.Eq.{bytes_eq-Decides}
 use Rattle.wit_values.specs.Lists.{AllByRecursion-at}
 use Rattle.wit_values.specs.Table.{HasDistinctKeys}
@@ -23,12 +22,27 @@ use Rattle.wit_adding_laws.specs.OwnThings.{own_part}
 
 -- ---- lists
 
--- what stands behind what is left out
-slice_get-drop : {X : Type 0} (count : ℕ) (xs : List X) (i j : ℕ) (x : X) → j ≡ count + i → slice_get xs j ≡ Some x → slice_get (drop count xs) i ≡ Some x
-slice_get-drop count xs i j x place at =
-    let within = slice_get_within xs j x at in
-    slice_get_read (drop count xs) (length (drop count xs)) i x refl (omega (arith, within, place, length-drop count xs))
-    (sym (get_or-drop count xs i x ∙ ap (λ (n : ℕ). get_or xs n x) (sym place) ∙ get_or_from_slice_get xs j x x at))
+-- a place behind those that are left out
+pub at_drop : {X : Type 0} (xs : List X) (n i k : ℕ) (x : X) → k ≡ n + i → slice_get xs k ≡ Some x → slice_get (drop n xs) i ≡ Some x
+at_drop [] n i k x place at = cc
+at_drop (y ∷ ys) zero i k x place at = let same : k ≡ i = omega arith in subst (λ (j : ℕ). slice_get (y ∷ ys) j ≡ Some x) same at
+at_drop (y ∷ ys) (suc n) i zero x place at = absurd (omega arith)
+at_drop (y ∷ ys) (suc n) i (suc k) x place at = at_drop ys n i k x (omega arith) at
+
+-- texts that differ stand at one place each
+pub place_once : (xs : List (List ℕ)) (i j : ℕ) (x y : List ℕ) → IsDistinct bytes_eq xs → slice_get xs i ≡ Some x → slice_get xs j ≡ Some y → x ≡ y → i ≡ j
+unfolding IsDistinct
+place_once [] i j x y once first second same = cc
+place_once (z ∷ xs) zero zero x y once first second same = refl
+place_once (z ∷ xs) zero (suc j) x y once first second same =
+    let other : bytes_eq z y ≡ false = AllByRecursion-at (λ t. bytes_eq z t ≡ false) xs j y once.0 second in
+    let one : z ≡ x = cc in
+    absurd (false≢true (sym other ∙ subst (λ (t : List ℕ). bytes_eq z t ≡ true) (one ∙ same) (nat_list_eq_equiv.refl z)))
+place_once (z ∷ xs) (suc i) zero x y once first second same =
+    let other : bytes_eq z x ≡ false = AllByRecursion-at (λ t. bytes_eq z t ≡ false) xs i x once.0 first in
+    let one : z ≡ y = cc in
+    absurd (false≢true (sym other ∙ subst (λ (t : List ℕ). bytes_eq z t ≡ true) (one ∙ sym same) (nat_list_eq_equiv.refl z)))
+place_once (z ∷ xs) (suc i) (suc j) x y once first second same = ap suc (place_once xs i j x y once.1 first second same)
 
 module _ {X Y : Type 0} where
   -- what comes of an element stands behind what comes of those before it
@@ -123,8 +137,8 @@ module _ (a : Addition) (shaped : IsShaped a.handed) where
       let low_too = behind_foreign two.f two.own in
       let rest = drop count a.handed.interfaces in
       let equal : one.f - count ≡ two.f - count = named_once (λ (x : Interface). x.name) rest shaped.names.interfaces_differ (one.f - count) (two.f - count) one.interface two.interface e.0
-      (slice_get-drop count a.handed.interfaces (one.f - count) one.f one.interface (omega arith) one.there)
-      (slice_get-drop count a.handed.interfaces (two.f - count) two.f two.interface (omega arith) two.there) one.name (two.name ∙ ap Some (sym same)) in
+      (at_drop a.handed.interfaces count (one.f - count) one.f one.interface (omega arith) one.there)
+      (at_drop a.handed.interfaces count (two.f - count) two.f two.interface (omega arith) two.there) one.name (two.name ∙ ap Some (sym same)) in
       let f : one.f ≡ two.f = omega arith in
       one.at
       ∙ ap (λ (f : ℕ). length (filter_map (λ (e : ℕ × Interface). option_map (λ (name : List ℕ). let r : List ℕ × ℕ = (name, interface_place a e.0) in r) e.1.name) (take (rank (own_interface a) f) (taken_places (own_interface a) a.handed.interfaces)))) f

@@ -34,7 +34,6 @@ use Rattle.wit_growth.specs.OnePlaceFrom.{HasOnePlace-from_once, cut_has_one_pla
 use Rattle.wit_growth.specs.Sources.{Carries, InterfaceStands, Source}
 use Rattle.wit_adding.specs.Addition.{Addition, addition_maps, interface_place, part}
 use Rattle.wit_adding.specs.Behind.{IsBehind}
-use Rattle.wit_adding.specs.Carried.{package_source}
 use Rattle.wit_adding.specs.Gates.{interface_is_active, is_foreign_interface}
 use Rattle.wit_adding.specs.Reasons.{HasImage}
 use Rattle.wit_adding.specs.Standing.{foreign_interface_goes, own_interface_goes}
@@ -43,7 +42,7 @@ use Rattle.wit_adding_laws.specs.InterfacesApart.{active_there, interfaces_apart
 use Rattle.wit_adding_laws.specs.ListedWorlds.{TakesPart, export_from, export_takes, import_from, import_takes, listed_own}
 use Rattle.wit_adding_laws.specs.Parts.{parts_of}
 use Rattle.wit_adding_laws.specs.PartsStand.{interface_stands, old_interface_at, own_of_both}
-use Rattle.wit_adding_laws.specs.SourcesGood.{sources, sources_good}
+use Rattle.wit_adding_laws.specs.SourcesGood.{package_source, sources, sources_good}
 use Rattle.wit_adding_laws.specs.WorldFacts.{IsDone, WorldLaws, in_order, world_from}
 
 -- ---- interfaces without names

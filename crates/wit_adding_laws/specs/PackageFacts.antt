@@ -1,6 +1,6 @@
 -- Which package depends on which, when a package is added: what was there depends on what it did, and the new
 -- package on old ones alone, so none depends on itself.
-use Rattle.std.proofs.Common.{◌≡◌, ◌∙◌, ◌⊎◌, inl, inr, ℕ, ◌<◌, ◌≤◌, ◌==◌, Bool, true, false, List, [], ◌∷◌, map, length, Option, None, Some, IsSome, IsSomeAnd, option_and_then, slice_get, refl, sym, ap, subst, arith, Contains, if◌then◌else◌}
+use Rattle.std.proofs.Common.{◌≡◌, ◌∙◌, ◌⊎◌, inl, inr, ℕ, ◌<◌, ◌≤◌, ◌==◌, Bool, true, false, List, [], ◌∷◌, ◌++◌, map, length, Option, None, Some, IsSome, IsSomeAnd, option_and_then, slice_get, refl, sym, ap, subst, arith, Contains, if◌then◌else◌}
 use Rattle.std.proofs.lemmas.List.{length-append}
 use Rattle.std.proofs.lemmas.List.Elements.{Contains-append_cases}
 use Rattle.std.proofs.lemmas.Option.{slice_get_within}
@@ -10,69 +10,43 @@ use Rattle.wit_relations.specs.MemberFacts.{Contains-flat_map_cases}
 use Rattle.wit_relations.specs.Relation.{IsAcyclic}
 use Rattle.wit_items.specs.Each.{SomeAt}
 use Rattle.wit_items.specs.Entries.{Entry, IsExport, IsImport}
-use Rattle.wit_items.specs.Ownership.{IsListed}
 use Rattle.wit_items.specs.Shape.{IsShaped}
-use Rattle.wit_items.specs.Uses.{alias_target, interface_uses, other_owner, type_interface_dep}
+use Rattle.wit_items.specs.Uses.{interface_uses, type_interface_dep}
 use Rattle.wit_items.specs.declared.interface.Interface.{Interface}
 use Rattle.wit_items.specs.declared.types.TypeDef.{TypeDef}
-use Rattle.wit_items.specs.declared.types.TypeOwner.{TypeOwner}
 use Rattle.wit_items.specs.declared.types.TypeOwner.TheVariants as owner
 use Rattle.wit_items.specs.declared.world.World.{World}
 use Rattle.wit_items.specs.declared.world.WorldItem.{WorldItem}
 use Rattle.wit_items.specs.declared.world.WorldItem.TheVariants as item
 use Rattle.wit_items.specs.declared.world.WorldKey.{WorldKey}
 use Rattle.wit_items.specs.declared.world.WorldKey.TheVariants as key
+use Rattle.wit_graph.specs.ListedFacts.{dep_is_named}
 use Rattle.wit_graph.specs.Relations.{entry_interface, entry_interfaces, other_package, package_interfaces, package_needs, package_uses, world_interfaces}
 use Rattle.wit_graph.specs.Valid.{IsValid}
 use Rattle.wit_graph.specs.declared.graph.Graph.{Graph}
 use Rattle.wit_graph.specs.declared.graph.Package.{Package}
-use Rattle.wit_growth.specs.DependencyFacts.{filter_map_from, filter_map_into, needs_from, needs_into}
-use Rattle.wit_growth.specs.GoodTypes.{IsAliased, from_if}
+use Rattle.wit_growth.specs.DependencyFacts.{filter_map_from}
 use Rattle.wit_growth.specs.Growth.{PackagesGrow}
-use Rattle.wit_growth.specs.Image.{interface_image}
+use Rattle.wit_growth.specs.Image.{interface_image, type_image}
 use Rattle.wit_growth.specs.ListFacts.{at_below, found_at, from_map, get_at, old_or_new, place_of}
 use Rattle.wit_growth.specs.PackagesAcyclic.{packages_acyclic, there_is}
-use Rattle.wit_adding.specs.Addition.{Addition, addition_maps, own_interfaces}
+use Rattle.wit_adding.specs.Addition.{Addition, added_owns, addition_maps, own_interfaces, own_types}
 use Rattle.wit_adding.specs.Behind.{IsBehind}
 use Rattle.wit_adding.specs.Pushed.{new_package}
 use Rattle.wit_adding.specs.Reasons.{HasImage}
 use Rattle.wit_adding_laws.specs.PartsStand.{old_interface_at}
-use Rattle.wit_adding_laws.specs.AcyclicFacts.{kept_interfaces, kept_types}
+use Rattle.wit_adding_laws.specs.AcyclicFacts.{kept_interfaces}
 use Rattle.wit_adding_laws.specs.Parts.{parts_of}
+use Rattle.wit_adding_laws.specs.UsesStay.{interface_stays, type_stays}
 
 -- ---- what a graph's packages name is there
-
--- the other owner is an interface
-other_is : (a b : TypeOwner) (j : ℕ) → other_owner a b ≡ Some j → b ≡ owner.Interface j
-other_is (owner.Interface i) (owner.Interface k) j is = by (i == k) is
-  where
-    by : (c : Bool) → (if c then None else Some k) ≡ Some j → owner.Interface k ≡ owner.Interface j
-    by true h = cc
-    by false h = let same : k ≡ j = cc in ap owner.Interface same
-other_is (owner.World w) (owner.Interface k) j is = let same : k ≡ j = cc in ap owner.Interface same
-other_is owner.None (owner.Interface k) j is = let same : k ≡ j = cc in ap owner.Interface same
-other_is (owner.Interface i) (owner.World v) j is = cc
-other_is (owner.World w) (owner.World v) j is = cc
-other_is owner.None (owner.World v) j is = cc
-other_is (owner.Interface i) owner.None j is = cc
-other_is (owner.World w) owner.None j is = cc
-other_is owner.None owner.None j is = cc
-
--- an owner that lists something is there
-owner_there : (interfaces : List Interface) (worlds : List World) (t : ℕ) (name : Option (List ℕ)) (i : ℕ) → IsListed interfaces worlds t name (owner.Interface i) → i < length interfaces
-owner_there interfaces worlds t None i listed = absurd listed
-owner_there interfaces worlds t (Some name) i listed =
-    let found = found_at (λ (interface : Interface). Contains interface.types (name, t)) interfaces i listed in
-    slice_get_within interfaces i found.0 found.1
 
 module _ (g : Graph) (valid : IsValid g) where
   -- what a type needs is there
   dep_there : (t i : ℕ) → type_interface_dep g.types t ≡ Some i → i < length g.interfaces
   dep_there t i is =
-      let needs = needs_from g.types t i is in
-      let by : needs.named.owner ≡ owner.Interface i = other_is needs.alias.owner needs.named.owner i needs.other in
-      owner_there g.interfaces g.worlds needs.target needs.named.name i
-      (subst (λ (o : TypeOwner). IsListed g.interfaces g.worlds needs.target needs.named.name o) by (valid.well_formed.owners.listed needs.target needs.named needs.target_there))
+      let found = found_at (λ (interface : Interface). IsSome interface.name) g.interfaces i (dep_is_named g.types g.interfaces t i valid.well_formed.references.aliases is) in
+      slice_get_within g.interfaces i found.0 found.1
 
   export_there : (k : WorldKey) (held : WorldItem) (i : ℕ) → IsExport g.interfaces k held → entry_interface g.types held ≡ Some i → i < length g.interfaces
   export_there (key.Interface f) (item.Interface id stability docs span external_id) i is names =
@@ -160,20 +134,14 @@ module _ (a : Addition) (valid : IsValid a.graph) (shaped : IsShaped a.handed) (
   -- what an old type needs, it needed
   dep_stays : (t i : ℕ) → t < length a.graph.types → type_interface_dep new.types t ≡ Some i → type_interface_dep a.graph.types t ≡ Some i
   dep_stays t i within is =
-      let parts = parts_of a new are in
-      let needs = needs_from new.types t i is in
-      let alias = kept_types a valid shaped image new.types new.interfaces parts t needs.alias within needs.there in
-      let target = from_if (IsAliased a.graph.types a.graph.interfaces needs.alias.owner) (alias_target needs.alias.kind) needs.target (valid.well_formed.references.aliases t needs.alias alias) needs.names in
-      let found = found_at (λ (named : TypeDef). IsSome named.name × ((named.owner ≡ needs.alias.owner) ⊎ _)) a.graph.types needs.target target in
-      let named = kept_types a valid shaped image new.types new.interfaces parts needs.target needs.named (slice_get_within a.graph.types needs.target found.0 found.1) needs.target_there in
-      needs_into a.graph.types t i (record { alias = needs.alias; there = alias; target = needs.target; names = needs.names; named = needs.named; target_there = named; other = needs.other })
+      let def = get_at a.graph.types t within in
+      sym (type_stays a.graph valid (map (type_image (addition_maps a)) (own_types a) ++ added_owns a) t def.0 def.1) ∙ ap (λ (types : List TypeDef). type_interface_dep types t) (sym are.types_are) ∙ is
 
+  -- and so for an old interface
   uses_stay : (f : ℕ) (interface : Interface) (j : ℕ) → slice_get a.graph.interfaces f ≡ Some interface → Contains (interface_uses new.types interface) j → Contains (interface_uses a.graph.types interface) j
   uses_stay f interface j at has =
-      let from = filter_map_from (λ (e : List ℕ × ℕ). type_interface_dep new.types e.1) interface.types j has in
-      let place = place_of interface.types from.0 from.1 in
-      let own = found_at (λ (def : TypeDef). (def.name ≡ Some from.0.0) × (def.owner ≡ owner.Interface f)) a.graph.types from.0.1 (valid.well_formed.owners.own_types f interface at place.0 from.0 place.1) in
-      filter_map_into (λ (e : List ℕ × ℕ). type_interface_dep a.graph.types e.1) interface.types from.0 j from.1 (dep_stays from.0.1 j (slice_get_within a.graph.types from.0.1 own.0 own.1) from.2)
+      subst (λ (uses : List ℕ). Contains uses j) (interface_stays a.graph valid (map (type_image (addition_maps a)) (own_types a) ++ added_owns a) f interface at)
+      (subst (λ (types : List TypeDef). Contains (interface_uses types interface) j) are.types_are has)
 
   imported_type : (w : ℕ) (k : WorldKey) (held : WorldItem) (t : ℕ) (span : _) → IsImport a.graph.interfaces a.graph.types w k held → held ≡ item.Type_ t span → t < length a.graph.types
   imported_type w (key.Name name) (item.Type_ u s) t span is same =

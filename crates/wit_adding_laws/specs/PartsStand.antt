@@ -34,7 +34,6 @@ use Rattle.wit_growth.specs.ListFacts.{at_map, at_new, found_at, place_of, some_
 use Rattle.wit_growth.specs.ReferredFacts.{plain_image}
 use Rattle.wit_growth.specs.Sources.{InterfaceStands, IsOwnOf, Stands, alias_rows}
 use Rattle.wit_adding.specs.Addition.{Addition, added_owns, addition_maps, needs_own, own_interface, own_interfaces, own_type, own_types, part, positions, plain_maps, plain_types, type_place, interface_place, value_place}
-use Rattle.wit_adding.specs.Carried.{package_source}
 use Rattle.wit_adding.specs.Gates.{interface_is_active, is_foreign_interface, type_is_active}
 use Rattle.wit_adding.specs.Lookup.{is_foreign_type, listed_type}
 use Rattle.wit_adding.specs.RankFacts.{taken-at, taken_places-at}
@@ -43,6 +42,7 @@ use Rattle.wit_adding.specs.Reasons.{HasImage}
 use Rattle.wit_adding.specs.Resources.{is_resource, is_resource_kind, leads_to_resource, own_of}
 use Rattle.wit_adding.specs.Standing.{ForeignType, foreign_interface_goes, foreign_type, listed_is, own_interface_goes, own_type_goes}
 use Rattle.wit_adding_laws.specs.Parts.{HasParts}
+use Rattle.wit_adding_laws.specs.SourcesGood.{package_source}
 
 -- ---- what is its own, and what is foreign
 

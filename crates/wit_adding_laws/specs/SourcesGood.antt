@@ -2,6 +2,7 @@
 use Rattle.std.specs.Prelude.{ℕ, zero, suc}
 use Rattle.wit_items.specs.Shape.{IsShaped}
 use Rattle.wit_graph.specs.Valid.{IsValid}
+use Rattle.wit_growth.specs.Cut.{cut_source}
 use Rattle.wit_growth.specs.CutIsGood.{cut_is_good}
 use Rattle.wit_growth.specs.GoodIsValid.{good_things}
 use Rattle.wit_growth.specs.GraphSource.{mapped_is_good}
@@ -17,6 +18,11 @@ use Rattle.wit_adding.specs.Reasons.{HasImage}
 abbrev pub sources : Addition → ℕ → Source
 sources a = add_sources (part a) a.graph a.handed (addition_maps a)
 
+-- the package as a source
+abbrev pub package_source : Addition → Source
+package_source a = cut_source (part a) a.handed.types a.handed.interfaces a.handed.worlds (addition_maps a)
+
+-- both are good
 pub sources_good : (a : Addition) → IsValid a.graph → IsShaped a.handed → HasImage a → (k : ℕ) → IsGoodSource (sources a k)
 sources_good a valid shaped image zero = mapped_is_good a.graph (good_things a.graph valid) valid.no_cycles.types identity
 sources_good a valid shaped image (suc k) =

@@ -13,7 +13,6 @@ use Rattle.wit_growth.specs.OperationFacts.{IsValid-of_addition}
 use Rattle.wit_growth.specs.Sources.{Carries}
 use Rattle.wit_adding.specs.Addition.{Addition, addition_maps, part}
 use Rattle.wit_adding.specs.Behind.{IsBehind}
-use Rattle.wit_adding.specs.Carried.{package_source}
 use Rattle.wit_adding.specs.ClosedCut.{closed_part}
 use Rattle.wit_adding.specs.Reasons.{HasImage, HasPackage}
 use Rattle.wit_adding_laws.specs.AcyclicFacts.{added_types_acyclic, added_uses_acyclic}
@@ -25,7 +24,7 @@ use Rattle.wit_adding_laws.specs.NameFacts.{added_names}
 use Rattle.wit_adding_laws.specs.OnceFacts.{stand_once}
 use Rattle.wit_adding_laws.specs.PackageFacts.{added_packages_acyclic}
 use Rattle.wit_adding_laws.specs.Parts.{parts_of}
-use Rattle.wit_adding_laws.specs.SourcesGood.{sources}
+use Rattle.wit_adding_laws.specs.SourcesGood.{package_source, sources}
 use Rattle.wit_adding_laws.specs.TableFacts.{good_tables}
 use Rattle.wit_adding_laws.specs.TypesCome.{types_come}
 use Rattle.wit_adding_laws.specs.WorldFacts.{WorldLaws, old_world_at, worlds_stand}

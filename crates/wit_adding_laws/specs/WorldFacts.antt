@@ -31,7 +31,6 @@ use Rattle.wit_growth.specs.ListFacts.{Contains-map, at_new, found_at, from_map,
 use Rattle.wit_growth.specs.Sources.{WorldStands}
 use Rattle.wit_adding.specs.Addition.{Addition, addition_maps, own_world, own_worlds, part, type_place, world_place}
 use Rattle.wit_adding.specs.Behind.{IsBehind, with_placed}
-use Rattle.wit_adding.specs.Carried.{package_source}
 use Rattle.wit_adding.specs.Ranks.{rank}
 use Rattle.wit_adding.specs.Reasons.{HasImage}
 use Rattle.wit_adding.specs.Standing.{own_world_goes}
@@ -39,6 +38,7 @@ use Rattle.wit_adding_laws.specs.ListedWorlds.{TakesPart, cut, imports_apart, is
 use Rattle.wit_adding_laws.specs.OwnThings.{own_world_from}
 use Rattle.wit_adding_laws.specs.Parts.{parts_of}
 use Rattle.wit_adding_laws.specs.PlacedFacts.{placed_into}
+use Rattle.wit_adding_laws.specs.SourcesGood.{package_source}
 
 -- the laws of elaboration that are used, as their contracts give them
 pub record WorldLaws : Type 0 where

@@ -1,11 +1,8 @@
 -- Worlds in the tables of their packages, when a package is added: those that were there stay in theirs, and the
 -- new package has its own in its table, each under its name.
-use Rattle.std.proofs.Common.{◌≡◌, ◌∙◌, inl, inr, ℕ, zero, suc, ◌+◌, ◌-◌, true, false, List, [], ◌∷◌, drop, length, Option, None, Some, IsSomeAnd, slice_get, refl, sym, ap, subst, arith, Contains}
-use Rattle.std.specs.List.{IsDistinct}
-use Rattle.std.specs.Str.{bytes_eq}
-use Rattle.std.specs.Cmp.Lexicographic.{nat_list_eq_equiv}
+use Rattle.std.proofs.Common.{◌≡◌, ◌∙◌, inl, inr, ℕ, ◌+◌, ◌-◌, List, [], ◌∷◌, drop, length, Option, None, Some, IsSomeAnd, slice_get, sym, ap, subst, arith, Contains}
 use Rattle.std.proofs.lemmas.Bool.{cases_lt, false≢true, lt-ltb}
-use Rattle.wit_values.specs.Lists.{AllByRecursion-at, slice_get-append, slice_get-push}
+use Rattle.wit_values.specs.Lists.{slice_get-append, slice_get-push}
 use Rattle.wit_values.specs.Table.{HasDistinctKeys}
 use Rattle.wit_items.specs.Each.{Each, EachAt, SomeAt}
 use Rattle.wit_items.specs.Foreign.{foreign_worlds}
@@ -22,32 +19,11 @@ use Rattle.wit_adding.specs.Pushed.{new_package}
 use Rattle.wit_adding.specs.RankFacts.{taken_places-at, taken_places-from}
 use Rattle.wit_adding.specs.Ranks.{rank, taken_places}
 use Rattle.wit_adding_laws.specs.ListedWorlds.{TakesPart}
+use Rattle.wit_adding_laws.specs.NamesOnce.{at_drop, place_once}
 use Rattle.wit_adding_laws.specs.OwnThings.{own_part}
 use Rattle.wit_adding_laws.specs.WorldFacts.{IsDone, done_at, world_from}
 
 -- ---- lists
-
--- a place behind those that are left out
-at_drop : {X : Type 0} (xs : List X) (n i k : ℕ) (x : X) → k ≡ n + i → slice_get xs k ≡ Some x → slice_get (drop n xs) i ≡ Some x
-at_drop [] n i k x place at = cc
-at_drop (y ∷ ys) zero i k x place at = let same : k ≡ i = omega arith in subst (λ (j : ℕ). slice_get (y ∷ ys) j ≡ Some x) same at
-at_drop (y ∷ ys) (suc n) i zero x place at = absurd (omega arith)
-at_drop (y ∷ ys) (suc n) i (suc k) x place at = at_drop ys n i k x (omega arith) at
-
--- texts that differ stand at one place each
-place_once : (xs : List (List ℕ)) (i j : ℕ) (x y : List ℕ) → IsDistinct bytes_eq xs → slice_get xs i ≡ Some x → slice_get xs j ≡ Some y → x ≡ y → i ≡ j
-unfolding IsDistinct
-place_once [] i j x y once first second same = cc
-place_once (z ∷ xs) zero zero x y once first second same = refl
-place_once (z ∷ xs) zero (suc j) x y once first second same =
-    let other : bytes_eq z y ≡ false = AllByRecursion-at (λ t. bytes_eq z t ≡ false) xs j y once.0 second in
-    let one : z ≡ x = cc in
-    absurd (false≢true (sym other ∙ subst (λ (t : List ℕ). bytes_eq z t ≡ true) (one ∙ same) (nat_list_eq_equiv.refl z)))
-place_once (z ∷ xs) (suc i) zero x y once first second same =
-    let other : bytes_eq z x ≡ false = AllByRecursion-at (λ t. bytes_eq z t ≡ false) xs i x once.0 first in
-    let one : z ≡ y = cc in
-    absurd (false≢true (sym other ∙ subst (λ (t : List ℕ). bytes_eq z t ≡ true) (one ∙ sym same) (nat_list_eq_equiv.refl z)))
-place_once (z ∷ xs) (suc i) (suc j) x y once first second same = ap suc (place_once xs i j x y once.1 first second same)
 
 some_and : (P Q : ℕ → Type 0) (o : Option ℕ) → ((p : ℕ) → P p → Q p) → IsSomeAnd o P → IsSomeAnd o Q
 some_and P Q None weaker h = absurd h
