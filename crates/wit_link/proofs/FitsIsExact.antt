@@ -50,7 +50,7 @@ module _ {X : Type 0} (P : X → Type 0) where
 
   Each-append : (xs ys : List X) → Each P xs → Each P ys → Each P (xs ++ ys)
   Each-append [] ys first second = second
-  Each-append (x ∷ xs) ys first second = Each-cons x (xs ++ ys) (Each-head P x xs first) (Each-append xs ys (Each-tail P x xs first) second)
+  Each-append (x ∷ xs) ys first second = Each-cons x (xs ++ ys) (Each-head x xs first) (Each-append xs ys (Each-tail x xs first) second)
 
 module _ {X Y : Type 0} (P : X → Type 0) (Q : Y → Type 0) where
   Each-unmapped : (f : Y → X) (ys : List Y) → ((y : Y) → P (f y) → Q y) → Each P (map f ys) → Each Q ys

@@ -17,13 +17,13 @@ use Rattle.wit_adding.specs.Behind.{IsBehind, with_placed}
 use Rattle.wit_adding.specs.Gates.{include_is_active}
 use Rattle.wit_adding.specs.Include.{Begun, lists_of}
 use Rattle.wit_adding.specs.Pushed.{begun, begun_with, finished, pushed, with_include, with_parts, with_world, with_worlds}
-use Rattle.wit_adding_laws.specs.ListedWorlds.{own_world_from}
+use Rattle.wit_adding_laws.specs.OwnThings.{own_world_from}
 use Rattle.wit_finishing.specs.Finished.{CanFinish, finished_world, with_all_finished, with_finished}
 use Rattle.wit_link.specs.Supported.{IncludesNothing, IsSupported}
 
 -- what stands among the first so many stands in the whole list
 in_whole : {X : Type 0} (xs : List X) (n i : ℕ) (x : X) → slice_get (take n xs) i ≡ Some x → slice_get xs i ≡ Some x
-in_whole xs n i x at =
+in_whole {X = X} xs n i x at =
     subst (λ (ys : List X). slice_get ys i ≡ Some x) (take-append-drop n xs) (slice_get-append (take n xs) (drop n xs) i x at)
 
 -- and what stands early enough stands among them
@@ -65,7 +65,7 @@ module _ (a : Addition) where
 
   -- worlds that include nothing are finished one after another
   pub all_finished : (g : Graph) (es : List (ℕ × World)) → AllByRecursion (λ (e : ℕ × World). IncludesNothing e.1) es → fold (with_world a) g es ≡ with_all_finished g (map image_of es)
-  all_finished g [] none = ap (λ (ws : List World). let r : Graph = record g { worlds = ws } in r) (sym (append-nil {l = g.worlds}))
+  all_finished g [] none = ap (λ (ws : List World). let r : Graph = record g { worlds = ws } in r) (sym (append-nil g.worlds))
   all_finished g (e ∷ es) none =
       ap (λ (next : Graph). fold (with_world a) next es) (world_is_finished g e none.0)
       ∙ (all_finished (with_finished g (image_of e)) es none.1 ∙ finished_first g (image_of e) (map image_of es))
@@ -75,11 +75,11 @@ module _ (a : Addition) where
     pub own_includes : (k : ℕ) (e : ℕ × World) → slice_get (own_worlds a) k ≡ Some e → IncludesNothing e.1
     own_includes k e at =
         let from = own_world_from a k e at in
-        ap (λ (world : World). world.includes) from.2 ∙ supported e.0 from.0 from.1.there
+        ap (λ (world : World). world.includes) (sym from.is) ∙ supported e.0 from.world from.there
 
     each_own : (es : List (ℕ × World)) → ((k : ℕ) (e : ℕ × World) → slice_get es k ≡ Some e → IncludesNothing e.1) → AllByRecursion (λ (e : ℕ × World). IncludesNothing e.1) es
     each_own [] none = tt
-    each_own (e ∷ es) none = (none 0 e refl, each_own es (λ k d at. none (1 + k) d at))
+    each_own (e ∷ es) none = (none zero e refl, each_own es (λ k d at. none (suc k) d at))
 
     -- the first so many worlds
     pub with_worlds_are : (k : ℕ) → with_worlds a k ≡ with_all_finished (with_parts a) (first_images k)

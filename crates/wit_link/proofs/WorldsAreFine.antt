@@ -7,6 +7,7 @@ use Rattle.wit_values.specs.Lists.{AllByRecursion-at}
 use Rattle.wit_items.specs.Entries.{Entry}
 use Rattle.wit_items.specs.declared.function.Function.{Function}
 use Rattle.wit_items.specs.declared.world.World.{World}
+use Rattle.wit_items.specs.declared.world.WorldInclude.{WorldInclude}
 use Rattle.wit_items.specs.declared.world.WorldItem.TheVariants as item
 use Rattle.wit_items.specs.declared.world.WorldKey.{WorldKey}
 use Rattle.wit_items.specs.declared.world.WorldKey.TheVariants as key
@@ -33,7 +34,7 @@ use Rattle.wit_link.proofs.Stages.{begun_is, first_images, in_first, none_active
 -- a span that is moved by nothing
 moved_nowhere : (span : Place) → moved_by 0 span ≡ span
 moved_nowhere None = refl
-moved_nowhere (Some range) = refl
+moved_nowhere (Some (from, to)) = let first : from + 0 ≡ from = omega arith in let last : to + 0 ≡ to = omega arith in cc
 
 module _ (a : Addition) (supported : IsSupported a.handed) where
   -- ---- no include
@@ -41,10 +42,10 @@ module _ (a : Addition) (supported : IsSupported a.handed) where
   no_include : (k j : ℕ) → AtInclude a k j → ⊥
   no_include k j at =
       let none = own_includes a supported k (at.at.place, at.at.world) at.at.is in
-      nothing (subst (λ (l : List _). slice_get l j ≡ Some at.include) (none_active a at.at.world none) at.is)
+      nothing j at.include (subst (λ (l : List WorldInclude). slice_get l j ≡ Some at.include) (none_active a at.at.world none) at.is)
     where
-      nothing : {X : Type 0} {j : ℕ} {x : X} → slice_get [] j ≡ Some x → ⊥
-      nothing h = cc
+      nothing : (j : ℕ) (include : WorldInclude) → slice_get [] j ≡ Some include → ⊥
+      nothing j include h = cc
 
   pub includes_are_fine : (k j : ℕ) → IncludeIsFine a k j
   includes_are_fine k j = record {

@@ -1,17 +1,29 @@
 //! Which packages and groups can be added so far.
 ghost use Rattle.std.specs.Prelude.{◌↔◌, IsTrue};
-ghost use Rattle.wit_link.specs.Supported.{IsSupported, IsSupportedGroup};
+ghost use Rattle.wit_items.specs.Each.{Each};
+ghost use Rattle.wit_link.specs.Supported.{IncludesNothing, IsSupported, IsSupportedGroup};
 
-use wit_items::{UnresolvedPackage, UnresolvedPackageGroup};
+use wit_items::{UnresolvedPackage, UnresolvedPackageGroup, World};
 
 /// Whether a package can be added so far: no world of it includes another.
 pub fn is_supported(unresolved: &UnresolvedPackage) -> bool
     ensures { IsTrue result ↔ IsSupported unresolved.now }
 {
-    unresolved
-        .worlds
-        .iter()
-        .all(|world| world.includes.is_empty())
+    include_nothing(unresolved.worlds.as_slice())
+}
+
+/// Whether no world of these includes another.
+fn include_nothing(worlds: &[World]) -> bool
+    ensures { IsTrue result ↔ Each IncludesNothing worlds.now }
+{
+    worlds.iter().all(|world| includes_nothing(world))
+}
+
+/// Whether a world includes no other.
+fn includes_nothing(world: &World) -> bool
+    ensures { IsTrue result ↔ IncludesNothing world.now }
+{
+    world.includes.is_empty()
 }
 
 /// Whether a group can be added so far: it is one such package.

@@ -1,0 +1,9 @@
+use Rattle.std.proofs.Common.{ℕ}
+use Rattle.wit_items.specs.EachFacts.{EachBelow}
+use Rattle.wit_link.specs.Fits.{RequiredFits}
+use Rattle.wit_adding.specs.Gates.{Place}
+use Rattle.wit_link.proofs.fits.required_fit.Given as goal
+
+-- the first ones fit
+abbrev pub invariant-loop-item : goal.invariant-loop-item
+invariant-loop-item l = EachBelow l.item-index (λ _ (r : ℕ × Place). RequiredFits l.offset r) l.required
