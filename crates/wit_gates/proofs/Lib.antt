@@ -1,0 +1,5 @@
+pub mod ForeignNotes
+pub mod Flags
+pub mod Ready
+pub mod AskedNotes
+pub mod VersionsMet
