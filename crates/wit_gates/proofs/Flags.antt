@@ -77,8 +77,8 @@ module _ (features : Features) (id : AstItem → List ℕ) where
   are-joined xs ys old mid new first second = (
     second.0 ∙ first.0,
     λ i flag at.
-    let p = is_marked features id i in
-    second.1 i (flag || list_any p xs) (first.1 i flag at) ∙ ap Some (or-assoc flag (list_any p xs) (list_any p ys) ∙ ap (λ (b : Bool). flag || b) (sym (list_any-append p xs ys))),
+        let p = is_marked features id i in
+        second.1 i (flag || list_any p xs) (first.1 i flag at) ∙ ap Some (or-assoc flag (list_any p xs) (list_any p ys) ∙ ap (λ (b : Bool). flag || b) (sym (list_any-append p xs ys))),
   )
 
 pub is-none : (features : Features) (activity : Activity) → IsMarked features [] activity activity
@@ -199,14 +199,14 @@ unmarked features id deps i none = marked-named features id deps i ∙ ap (some_
 matches : {X : Type 0} (stability : X → Stability) (features : Features) (id : AstItem → List ℕ) (deps : ForeignItems) (things : List X) (i : ℕ) (b : Bool)
     → nat_lt i (length (named_ids id deps)) ≡ b → Each (λ k. k < length (named_ids id deps)) (named_ids id deps)
     → ((not b && option_map_or (λ (x : X). is_active features (stability x)) (slice_get things i) false) || list_any (is_marked features id i) (foreign_items deps))
-      ≡ some_active features (if b then notes_of_foreign id deps i else option_map_or (λ (x : X). stability x ∷ []) (slice_get things i) [])
+    ≡ some_active features (if b then notes_of_foreign id deps i else option_map_or (λ (x : X). stability x ∷ []) (slice_get things i) [])
 matches stability features id deps things i true is first = marked-named features id deps i
 matches {X} stability features id deps things i false is first =
     let beyond : length (named_ids id deps) ≤ i = ltb-false i (length (named_ids id deps)) is in
     let none : list_any (is_marked features id i) (foreign_items deps) ≡ false = unmarked features id deps i (λ has.
-      let place = place_of (named_ids id deps) i has in
-      let below : i < length (named_ids id deps) = first place.0 i place.1 in
-      absurd (omega arith)) in
+    let place = place_of (named_ids id deps) i has in
+    let below : i < length (named_ids id deps) = first place.0 i place.1 in
+    absurd (omega arith)) in
     ap (λ (m : Bool). option_map_or (λ (x : X). is_active features (stability x)) (slice_get things i) false || m) none ∙ own (slice_get things i)
   where
     own : (o : Option X) → (option_map_or (λ (x : X). is_active features (stability x)) o false || false) ≡ some_active features (option_map_or (λ (x : X). stability x ∷ []) o [])
@@ -235,11 +235,11 @@ pub activity-is : (features : Features) (u : UnresolvedPackage) (old new : Activ
 activity-is features u old new shaped is marked =
     let types = marked.types ∙ ap (λ (a : Activity). a.types) is in
     let interfaces = all-flags features interface_id u.foreign_deps (own_interface_flag features u) (interface_is_active features u) (length u.interfaces) old.interfaces new.interfaces
-      (λ i. matches (λ (interface : Interface). interface.stability) features interface_id u.foreign_deps u.interfaces i (is_foreign_interface u i) refl shaped.foreign.interfaces.first)
-      (ap (λ (a : Activity). a.interfaces) is) marked.interfaces in
+    (λ i. matches (λ (interface : Interface). interface.stability) features interface_id u.foreign_deps u.interfaces i (is_foreign_interface u i) refl shaped.foreign.interfaces.first)
+    (ap (λ (a : Activity). a.interfaces) is) marked.interfaces in
     let worlds = all-flags features world_id u.foreign_deps (own_world_flag features u) (world_is_active features u) (length u.worlds) old.worlds new.worlds
-      (λ w. matches (λ (world : World). world.stability) features world_id u.foreign_deps u.worlds w (is_foreign_world u w) refl shaped.foreign.worlds.first)
-      (ap (λ (a : Activity). a.worlds) is) marked.worlds in
+    (λ w. matches (λ (world : World). world.stability) features world_id u.foreign_deps u.worlds w (is_foreign_world u w) refl shaped.foreign.worlds.first)
+    (ap (λ (a : Activity). a.worlds) is) marked.worlds in
     λ i. record { types = types i; interfaces = interfaces i; worlds = worlds i }
 
 -- ---- what flags there are

@@ -1,16 +1,16 @@
 -- The notes that are asked, and that the package meets.
-use Rattle.std.proofs.Common.{◌≡◌, ◌≢◌, ◌∙◌, ◌<◌, ◌≤◌, ℕ, zero, suc, ◌+◌, Bool, true, false, if◌then◌else◌, List, [], ◌∷◌, ◌⊎◌, inl, inr, length, take, Option, None, Some, slice_get, refl, sym, ap, subst, arith, Contains}
+use Rattle.std.proofs.Common.{◌≡◌, ◌≢◌, ◌∙◌, ◌<◌, ◌≤◌, ℕ, zero, suc, ◌+◌, Bool, true, false, if◌then◌else◌, List, [], ◌∷◌, ◌⊎◌, inl, inr, length, take, Option, None, Some, slice_get, is_lt, refl, sym, ap, subst, arith, Contains}
 use Rattle.std.specs.Prelude.{nat_eq, nat_lt}
 use Rattle.std.proofs.lemmas.Bool.{cases_lt, le-ltb, lt-ltb}
 use Rattle.std.proofs.lemmas.Option.{slice_get_within}
 use Rattle.std.specs.List.{IsDistinct, position_or_len}
 use Rattle.std.specs.Option.{option_map_or}
-use Rattle.std.specs.declared.cmp.Ordering.TheVariants.{Less}
+use Rattle.std.specs.declared.cmp.Ordering.{Ordering}
+use Rattle.std.specs.declared.cmp.Ordering.TheVariants.{Less, Equal, Greater}
 use Rattle.wit_values.specs.Version.{Parts, version_cmp}
 use Rattle.wit_relations.specs.MemberFacts.{Contains-cons_cases, Contains-flat_map, Contains-flat_map_cases, Contains-here, Contains-nil}
 use Rattle.wit_sources.specs.Span.{moved_by}
 use Rattle.wit_items.specs.Each.{Each, EachAt}
-use Rattle.wit_items.specs.EachFacts.{EachBelow, all, more}
 use Rattle.wit_items.specs.Entries.{Entry}
 use Rattle.wit_items.specs.Foreign.{AreFirst, ForeignItem, ForeignItems, IsBare, IsBareInterface, IsBareWorld, foreign_interfaces, foreign_worlds, interface_id, world_id}
 use Rattle.wit_items.specs.Stability.{IsStable}
@@ -39,16 +39,12 @@ use Rattle.wit_gates.specs.declared.checker.Checker.{Checker}
 use Rattle.wit_gates.proofs.AskedNotes.{take_member}
 use Rattle.wit_gates.proofs.ForeignNotes.{named_ids, named_ids-items, note_from, notes_alone}
 
--- ---- steps of loops
-
--- one more of which P holds, and all
-pub one_more : {X : Type 0} {P : ℕ → X → Type 0} {xs : List X} {n : ℕ} → EachBelow n P xs → (x : X) → slice_get xs n ≡ Some x → P n x → EachBelow (n + 1) P xs
-one_more below x at here = more below x at (λ _. here, λ _. refl) refl
-
-pub all_of : {X : Type 0} {P : ℕ → X → Type 0} {xs : List X} {n : ℕ} → EachBelow n P xs → length xs ≤ n → EachAt P xs
-all_of below reached = (all below reached).0 refl
-
 -- ---- refusals
+
+less-from : (o : Ordering) → is_lt o ≡ true → o ≡ Less
+less-from Less is = refl
+less-from Equal is = cc
+less-from Greater is = cc
 
 -- the package has no version
 pub told-lacking : (checker : Checker) (since : Parts) (deprecated : Option Parts) (place : Place) (kind : ResolveErrorKind) → Asks checker (Stable since deprecated) place
@@ -67,7 +63,7 @@ told-lacking checker since deprecated place kind asked none is =
 
 -- its version is below another
 pub told-unreleased : (checker : Checker) (since : Parts) (deprecated : Option Parts) (version : Parts) (place : Place) (kind : ResolveErrorKind) → Asks checker (Stable since deprecated) place
-    → checker.adding.handed.now.name.version ≡ Some version → version_cmp version since ≡ Less
+    → checker.adding.handed.now.name.version ≡ Some version → is_lt (version_cmp version since) ≡ true
     → kind ≡ Semantic (moved_by checker.adding.offset place) (gate_unreleased_text since checker.adding.handed.now.name version) cause.GateUnreleased → MayRefuse checker kind
 told-unreleased checker since deprecated version place kind asked some below is =
     inr (subst (IsCause (seen checker)) (sym is) (gate_unreleased_10 (moved_by checker.adding.offset place) (gate_unreleased_text since checker.adding.handed.now.name version) (record {
@@ -77,7 +73,7 @@ told-unreleased checker since deprecated version place kind asked some below is 
       place = place;
       asked = asked;
       has_version = some;
-      below = below;
+      below = less-from (version_cmp version since) below;
       span_is = refl;
       message_is = refl;
     })))
@@ -85,15 +81,15 @@ told-unreleased checker since deprecated version place kind asked some below is 
 -- ---- notes of foreign things
 
 -- what an item names is named
-named : (id : AstItem → List ℕ) (deps : ForeignItems) (item : ForeignItem) (i : ℕ) → Contains (foreign_items deps) item → Contains (id item.1.0) i → Contains (named_ids id deps) i
-named id deps item i among names =
+is-named : (id : AstItem → List ℕ) (deps : ForeignItems) (item : ForeignItem) (i : ℕ) → Contains (foreign_items deps) item → Contains (id item.1.0) i → Contains (named_ids id deps) i
+is-named id deps item i among names =
     subst (λ (l : List ℕ). Contains l i) (sym (named_ids-items id deps)) (Contains-flat_map (λ (n : ForeignItem). id n.1.0) (foreign_items deps) item i among names)
 
 -- the notes of a foreign thing are those of its item
 notes_named : (id : AstItem → List ℕ) (deps : ForeignItems) (count : ℕ) (item : ForeignItem) (i : ℕ) (own : List Stability) → AreFirst (named_ids id deps) count
     → Contains (foreign_items deps) item → Contains (id item.1.0) i → (if nat_lt i (length (named_ids id deps)) then notes_of_foreign id deps i else own) ≡ item.1.1
 notes_named id deps count item i own are_first among names =
-    let place = place_of (named_ids id deps) i (named id deps item i among names) in
+    let place = place_of (named_ids id deps) i (is-named id deps item i among names) in
     ap (λ (b : Bool). if b then notes_of_foreign id deps i else own) (lt-ltb i (length (named_ids id deps)) (are_first.first place.0 i place.1))
     ∙ notes_alone id deps item i are_first.once among names
 
@@ -107,7 +103,7 @@ asks-item checker ready name (named.Interface id) notes place among is_at k note
     let found = found_at (λ (x : Interface). place ≡ x.span) u.interfaces id is_at in
     let whole : interface_notes u id ≡ notes =
     notes_named interface_id u.foreign_deps (length u.interfaces) (name, (named.Interface id, notes)) id (option_map_or (λ (x : Interface). x.stability ∷ []) (slice_get u.interfaces id) [])
-      ready.shaped.foreign.interfaces among (Contains-here id []) in
+    ready.shaped.foreign.interfaces among (Contains-here id []) in
     subst (IsAsked features u note) (sym found.2)
     (of_interface id found.0 note found.1 (subst (λ (l : List Stability). Contains (asked_notes features l) note) (sym whole) (contained_at (asked_notes features notes) k note at)))
 asks-item checker ready name (named.World id) notes place among is_at k note at =
@@ -116,7 +112,7 @@ asks-item checker ready name (named.World id) notes place among is_at k note at 
     let found = found_at (λ (x : World). place ≡ x.span) u.worlds id is_at in
     let whole : world_notes u id ≡ notes =
     notes_named world_id u.foreign_deps (length u.worlds) (name, (named.World id, notes)) id (option_map_or (λ (x : World). x.stability ∷ []) (slice_get u.worlds id) [])
-      ready.shaped.foreign.worlds among (Contains-here id []) in
+    ready.shaped.foreign.worlds among (Contains-here id []) in
     subst (IsAsked features u note) (sym found.2)
     (of_world id found.0 note found.1 (subst (λ (l : List Stability). Contains (asked_notes features l) note) (sym whole) (contained_at (asked_notes features notes) k note at)))
 
@@ -189,8 +185,8 @@ own-interface-asked checker i interface at own =
     let u = checker.adding.handed.now in
     let notes : interface_notes u i ≡ interface.stability ∷ [] =
     ap (λ (b : Bool). if b then notes_of_foreign interface_id u.foreign_deps i else option_map_or (λ (x : Interface). x.stability ∷ []) (slice_get u.interfaces i) [])
-      (le-ltb i (length (foreign_interfaces u.foreign_deps)) own)
-      ∙ ap (λ (o : Option Interface). option_map_or (λ (x : Interface). x.stability ∷ []) o []) at in
+    (le-ltb i (length (foreign_interfaces u.foreign_deps)) own)
+    ∙ ap (λ (o : Option Interface). option_map_or (λ (x : Interface). x.stability ∷ []) o []) at in
     of_interface i interface interface.stability at (subst (λ (l : List Stability). Contains (asked_notes features l) interface.stability) (sym notes) (first-asked features interface.stability))
 
 pub own-world-asked : (checker : Checker) (w : ℕ) (world : World) → slice_get checker.adding.handed.now.worlds w ≡ Some world
@@ -200,8 +196,8 @@ own-world-asked checker w world at own =
     let u = checker.adding.handed.now in
     let notes : world_notes u w ≡ world.stability ∷ [] =
     ap (λ (b : Bool). if b then notes_of_foreign world_id u.foreign_deps w else option_map_or (λ (x : World). x.stability ∷ []) (slice_get u.worlds w) [])
-      (le-ltb w (length (foreign_worlds u.foreign_deps)) own)
-      ∙ ap (λ (o : Option World). option_map_or (λ (x : World). x.stability ∷ []) o []) at in
+    (le-ltb w (length (foreign_worlds u.foreign_deps)) own)
+    ∙ ap (λ (o : Option World). option_map_or (λ (x : World). x.stability ∷ []) o []) at in
     of_world w world world.stability at (subst (λ (l : List Stability). Contains (asked_notes features l) world.stability) (sym notes) (first-asked features world.stability))
 
 -- ---- all notes of a package
@@ -252,6 +248,6 @@ pub gates-met : (checker : Checker) → IsReady checker → AreMet checker → G
 gates-met checker ready met = record {
   version = λ span message lacks. unmet checker lacks.note lacks.stable lacks.no_version (all-met checker ready met lacks.note lacks.place lacks.asked);
   released = λ span message below.
-    let reached : HasReached checker.adding.handed.now.name.version below.since = all-met checker ready met (Stable below.since below.deprecated) below.place below.asked in
-    subst (λ (v : Option Parts). HasReached v below.since) below.has_version reached below.below;
+      let reached : HasReached checker.adding.handed.now.name.version below.since = all-met checker ready met (Stable below.since below.deprecated) below.place below.asked in
+      subst (λ (v : Option Parts). HasReached v below.since) below.has_version reached below.below;
 }

@@ -64,7 +64,9 @@ impl<'a> Checker<'a> {
     fn excluded_message(&self, word: &str) -> Result<String, AllocError>
         ensures { IfOk result (λ message. string_bytes message ≡ excluded_text word.now) }
     {
-        format!(in self.alloc; "found a reference to a {word} which is excluded due to its feature not being activated")
+        format!(in self.alloc;
+            "found a reference to a {word} which is excluded due to its feature not being activated"
+        )
     }
 
     /// Something refers to what is left out.
@@ -81,7 +83,9 @@ impl<'a> Checker<'a> {
     {
         let word = needed.word();
         let excluded = self.excluded_message(word)?;
-        let message = format!(in self.alloc; "{excluded}; this type is not gated by a feature but its {word} is")?;
+        let message = format!(in self.alloc;
+            "{excluded}; this type is not gated by a feature but its {word} is"
+        )?;
         self.semantic(span, message, Cause::ExcludedOwner)
     }
 
@@ -150,7 +154,7 @@ impl<'a> Checker<'a> {
     {
         match &def.kind {
             TypeDefKind::Record { fields } => self.look_at_fields(fields),
-            kind => self.look_at_ids(&referred(self.alloc, kind)?, def.span),
+            _ => self.look_at_ids(&referred(self.alloc, &def.kind)?, def.span),
         }
     }
 
@@ -254,10 +258,7 @@ impl<'a> Checker<'a> {
         if !self.is_active(&function.stability) {
             return Ok(());
         }
-        self.look_at_ids(
-            &function_references(self.alloc, function)?,
-            function.span,
-        )
+        self.look_at_ids(&function_references(self.alloc, function)?, function.span)
     }
 
     /// What worlds that take part need.

@@ -22,11 +22,7 @@ pub fn activity(alloc: Global, adding: &Adding<'_>) -> Result<Activity, AllocErr
     ensures { IfOk result (λ activity. activity ≡ activity_of (addition_of adding.now)) }
 {
     let mut activity = own_activity(alloc, adding.features, adding.handed)?;
-    mark_packages(
-        adding.features,
-        &adding.handed.foreign_deps,
-        &mut activity,
-    );
+    mark_packages(adding.features, &adding.handed.foreign_deps, &mut activity);
     Ok(activity)
 }
 

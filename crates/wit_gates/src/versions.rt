@@ -34,11 +34,7 @@ use wit_items::{
 
 /// Refuses a `@since` that is asked and that the package doesn't meet: it has no version (9), or one that is
 /// below (10).
-pub fn check_versions(
-    alloc: Global,
-    adding: &Adding<'_>,
-    activity: &Activity,
-) -> ResolveResult<()>
+pub fn check_versions(alloc: Global, adding: &Adding<'_>, activity: &Activity) -> ResolveResult<()>
     requires shaped { IsShaped adding.now.handed.now }
     requires activity { activity.now ≡ activity_of (addition_of adding.now) }
     ensures met { OnOk result (GatesAreMet (addition_of adding.now)) }
@@ -63,7 +59,9 @@ impl<'a> Checker<'a> {
         ensures { IfOk result (λ e. e ≡ Semantic (moved_by self.now.adding.offset span) (gate_without_version_text self.now.adding.handed.now.name) cause.GateWithoutVersion) }
     {
         let name = &self.adding.handed.name;
-        let message = format!(in self.alloc; "package [{name}] contains a feature gate with a version specifier, so it must have a version")?;
+        let message = format!(in self.alloc;
+            "package [{name}] contains a feature gate with a version specifier, so it must have a version"
+        )?;
         self.semantic(span, message, Cause::GateWithoutVersion)
     }
 
@@ -77,7 +75,9 @@ impl<'a> Checker<'a> {
         ensures { IfOk result (λ e. e ≡ Semantic (moved_by self.now.adding.offset span) (gate_unreleased_text since.now self.now.adding.handed.now.name version.now) cause.GateUnreleased) }
     {
         let name = &self.adding.handed.name;
-        let message = format!(in self.alloc; "feature gate cannot reference unreleased version {since} of package [{name}] (current version {version})")?;
+        let message = format!(in self.alloc;
+            "feature gate cannot reference unreleased version {since} of package [{name}] (current version {version})"
+        )?;
         self.semantic(span, message, Cause::GateUnreleased)
     }
 
@@ -277,7 +277,9 @@ impl<'a> Checker<'a> {
     {
         match item {
             WorldItem::Interface {
-                stability, span, ..
+                stability,
+                span,
+                ..
             } => self.check_note(stability, *span),
             WorldItem::Function(function) => self.check_note(&function.stability, function.span),
             WorldItem::Type_ { .. } => Ok(()),

@@ -1,6 +1,7 @@
 use Rattle.std.proofs.Common.{◌≡◌, ◌∙◌, ◌<◌, ◌≤◌, [], ◌∷◌, List, Option, ap, sym, subst, length, arith, Contains}
 use Rattle.wit_items.specs.Foreign.{foreign_interfaces}
-use Rattle.wit_gates.proofs.VersionsMet.{all_of, one_more, own-interface-asked}
+use Rattle.wit_gates.proofs.Steps.{all_of, one_more}
+use Rattle.wit_gates.proofs.VersionsMet.{own-interface-asked}
 use Rattle.wit_gates.proofs.checker.Checker.check_interfaces.Goals as goal
 
 pub check_note-requires : goal.check_note-requires

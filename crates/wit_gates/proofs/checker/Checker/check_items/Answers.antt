@@ -1,6 +1,7 @@
 use Rattle.std.proofs.Common.{arith}
 use Rattle.wit_gates.specs.GateSteps.{IsThere}
-use Rattle.wit_gates.proofs.VersionsMet.{all_of, asks-foreign, foreign-there, one_more}
+use Rattle.wit_gates.proofs.Steps.{all_of, one_more}
+use Rattle.wit_gates.proofs.VersionsMet.{asks-foreign, foreign-there}
 use Rattle.wit_gates.proofs.checker.Checker.check_items.Goals as goal
 
 pub span_of-requires : goal.span_of-requires

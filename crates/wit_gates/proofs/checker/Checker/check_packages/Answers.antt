@@ -1,5 +1,6 @@
 use Rattle.std.proofs.Common.{List, arith}
-use Rattle.wit_gates.proofs.VersionsMet.{all_of, items-named, one_more}
+use Rattle.wit_gates.proofs.Steps.{all_of, one_more}
+use Rattle.wit_gates.proofs.VersionsMet.{items-named}
 use Rattle.wit_gates.specs.GateSteps.{MeetsForeign}
 use Rattle.wit_items.specs.Foreign.{ForeignItem}
 use Rattle.wit_items.specs.declared.package_name.PackageName.{PackageName}

@@ -1,6 +1,7 @@
 use Rattle.std.proofs.Common.{◌≡◌, ◌∙◌, ◌<◌, ◌≤◌, [], ◌∷◌, List, Option, ap, sym, subst, length, arith, Contains}
 use Rattle.wit_items.specs.Foreign.{foreign_worlds}
-use Rattle.wit_gates.proofs.VersionsMet.{all_of, one_more, own-world-asked}
+use Rattle.wit_gates.proofs.Steps.{all_of, one_more}
+use Rattle.wit_gates.proofs.VersionsMet.{own-world-asked}
 use Rattle.wit_gates.proofs.checker.Checker.check_worlds.Goals as goal
 
 pub check_note-requires : goal.check_note-requires
