@@ -1,2 +1,11 @@
 //! What a package that is added names of other packages, found in the graph, and where its own things go.
 #![tactic(auto)]
+
+mod foreign;
+pub mod lookup;
+mod next;
+mod packages;
+mod refusal;
+mod types;
+
+pub use crate::lookup::places;

@@ -1,0 +1,82 @@
+-- What stands in the lists that the steps hand on.
+use Rattle.std.proofs.Common.{◌≡◌, ◌∙◌, ◌<◌, ℕ, Bool, true, false, not, is_some, List, map, length, Option, Some, None, slice_get, refl, sym, ap, subst, arith}
+use Rattle.std.specs.List.{range_with_len}
+use Rattle.std.proofs.lemmas.Option.{slice_get_within}
+use Rattle.wit_items.specs.Foreign.{ForeignItem, IsBareInterface, IsBareWorld}
+use Rattle.wit_items.specs.Shape.{IsShaped}
+use Rattle.wit_items.specs.declared.package_name.PackageName.{PackageName}
+use Rattle.wit_items.specs.declared.unresolved.AstItem.TheVariants as item
+use Rattle.wit_growth.specs.ListFacts.{found_at, place_of}
+use Rattle.wit_adding.specs.Addition.{Addition}
+use Rattle.wit_adding.specs.Adding.{activity_of}
+use Rattle.wit_adding.specs.Found.{named_at}
+use Rattle.wit_adding.specs.Gates.{interface_is_active, type_is_active, world_is_active}
+use Rattle.wit_adding.specs.declared.adding.Activity.{Activity}
+use Rattle.wit_lookup.specs.Finding.{IsAsked, Named, found_among, interface_among, world_among}
+use Rattle.wit_lookup.specs.declared.foreign.Found.{Found}
+use Rattle.wit_lookup.proofs.Ranges.{at-range, length-range}
+
+inside : {X : Type 0} (f : ℕ → X) (n i : ℕ) (xs : List X) → xs ≡ map f (range_with_len 0 n) → i < n → i < length xs
+inside f n i xs is below = let long = ap length is ∙ length-range f n in omega arith
+
+stands : {X : Type 0} (f : ℕ → X) (n i : ℕ) (xs : List X) (x : X) → xs ≡ map f (range_with_len 0 n) → slice_get xs i ≡ Some x → x ≡ f i
+stands {X} f n i xs x is at = at-range f n i x (subst (λ (l : List X). slice_get l i ≡ Some x) is at)
+
+module _ (a : Addition) (activity : Activity) (is : activity ≡ activity_of a) where
+  pub interface-inside : (i : ℕ) → i < length a.handed.interfaces → i < length activity.interfaces
+  interface-inside i below = inside (interface_is_active a.features a.handed) (length a.handed.interfaces) i activity.interfaces (ap (λ (x : Activity). x.interfaces) is) below
+
+  pub interface-flag : (i : ℕ) (b : Bool) → slice_get activity.interfaces i ≡ Some b → b ≡ interface_is_active a.features a.handed i
+  interface-flag i b at = stands (interface_is_active a.features a.handed) (length a.handed.interfaces) i activity.interfaces b (ap (λ (x : Activity). x.interfaces) is) at
+
+  pub world-inside : (w : ℕ) → w < length a.handed.worlds → w < length activity.worlds
+  world-inside w below = inside (world_is_active a.features a.handed) (length a.handed.worlds) w activity.worlds (ap (λ (x : Activity). x.worlds) is) below
+
+  pub world-flag : (w : ℕ) (b : Bool) → slice_get activity.worlds w ≡ Some b → b ≡ world_is_active a.features a.handed w
+  world-flag w b at = stands (world_is_active a.features a.handed) (length a.handed.worlds) w activity.worlds b (ap (λ (x : Activity). x.worlds) is) at
+
+  pub type-inside : (t : ℕ) → t < length a.handed.types → t < length activity.types
+  type-inside t below = inside (type_is_active a.features a.handed.types) (length a.handed.types) t activity.types (ap (λ (x : Activity). x.types) is) below
+
+  pub type-flag : (t : ℕ) (b : Bool) → slice_get activity.types t ≡ Some b → b ≡ type_is_active a.features a.handed.types t
+  type-flag t b at = stands (type_is_active a.features a.handed.types) (length a.handed.types) t activity.types b (ap (λ (x : Activity). x.types) is) at
+
+module _ (a : Addition) (named : List Named) (found : Found) (is : found ≡ found_among a named) where
+  pub found_interface-inside : (i : ℕ) → i < length a.handed.interfaces → i < length found.interfaces
+  found_interface-inside i below = inside (interface_among a named) (length a.handed.interfaces) i found.interfaces (ap (λ (x : Found). x.interfaces) is) below
+
+  pub found_interface-at : (i : ℕ) (o : Option ℕ) → slice_get found.interfaces i ≡ Some o → o ≡ interface_among a named i
+  found_interface-at i o at = stands (interface_among a named) (length a.handed.interfaces) i found.interfaces o (ap (λ (x : Found). x.interfaces) is) at
+
+  pub found_world-inside : (w : ℕ) → w < length a.handed.worlds → w < length found.worlds
+  found_world-inside w below = inside (world_among a named) (length a.handed.worlds) w found.worlds (ap (λ (x : Found). x.worlds) is) below
+
+  pub found_world-at : (w : ℕ) (o : Option ℕ) → slice_get found.worlds w ≡ Some o → o ≡ world_among a named w
+  found_world-at w o at = stands (world_among a named) (length a.handed.worlds) w found.worlds o (ap (λ (x : Found). x.worlds) is) at
+
+-- what is named is there
+module _ (a : Addition) (shaped : IsShaped a.handed) where
+  pub asked_interface-inside : (name : PackageName) (home : Option ℕ) (requested : List ℕ) (i : ℕ) → IsAsked a name home requested (item.Interface i) → i < length a.handed.interfaces
+  asked_interface-inside name home requested i asked =
+      let there = named_at a.handed.foreign_deps (asked.at, name, (requested, (item.Interface i, asked.notes))) asked.names in
+      let at = place_of there.0 (requested, (item.Interface i, asked.notes)) there.2 in
+      let bare = shaped.foreign.bare asked.at (name, there.0) there.1 at.0 (requested, (item.Interface i, asked.notes)) at.1 in
+      let one = found_at (IsBareInterface requested) a.handed.interfaces i bare.0 in
+      slice_get_within a.handed.interfaces i one.0 one.1
+
+  pub asked_world-inside : (name : PackageName) (home : Option ℕ) (requested : List ℕ) (w : ℕ) → IsAsked a name home requested (item.World w) → w < length a.handed.worlds
+  asked_world-inside name home requested w asked =
+      let there = named_at a.handed.foreign_deps (asked.at, name, (requested, (item.World w, asked.notes))) asked.names in
+      let at = place_of there.0 (requested, (item.World w, asked.notes)) there.2 in
+      let bare = shaped.foreign.bare asked.at (name, there.0) there.1 at.0 (requested, (item.World w, asked.notes)) at.1 in
+      let one = found_at (IsBareWorld requested) a.handed.worlds w bare.0 in
+      slice_get_within a.handed.worlds w one.0 one.1
+
+-- what a test of an option tells
+pub none_from_test : {X : Type 0} (o : Option X) (b : Bool) → is_some o ≡ not b → b ≡ true → o ≡ None
+none_from_test None b is on = refl
+none_from_test (Some x) b is on = let same : true ≡ not true = is ∙ ap not on in cc
+
+pub some_from_test : {X : Type 0} (o : Option X) (b : Bool) → is_some o ≡ not b → b ≡ false → o ≡ None → ⊥
+some_from_test None b is off none = let same : false ≡ not false = is ∙ ap not off in cc
+some_from_test (Some x) b is off none = cc

@@ -1,0 +1,41 @@
+//! Where the things of a package go that is added to a graph.
+ghost use Rattle.std.specs.Prelude.{◌≡◌, ◌⊎◌, IfErr, IfOk, OnOk};
+ghost use Rattle.wit_graph.specs.declared.error_kind.ResolveErrorKind.TheVariants.{OutOfMemory};
+ghost use Rattle.wit_items.specs.Shape.{IsShaped};
+ghost use Rattle.wit_adding.specs.Adding.{activity_of, addition_of, places_of};
+ghost use Rattle.wit_adding.specs.Cause.{IsCause};
+ghost use Rattle.wit_adding.specs.Passed.{IsAllFound};
+
+use crate::foreign::find_foreign;
+use crate::next::{interface_places, world_places};
+use crate::types::type_places;
+use std::alloc::Global;
+use wit_adding::{Activity, Adding, Places};
+use wit_graph::ResolveResult;
+
+/// Where the things of a package go: what is named of other packages to what the graph has under that name,
+/// its own to the next ids.
+///
+/// Refused where a package isn't there (1), or, of what takes part, a world (2), an interface (3) or a type (13)
+/// of another package. The caller has seen that no span passes the last position.
+pub fn places(
+    alloc: Global,
+    adding: &Adding<'_>,
+    activity: &Activity,
+) -> ResolveResult<Places>
+    requires shaped { IsShaped adding.now.handed.now }
+    requires activity { activity.now ≡ activity_of (addition_of adding.now) }
+    ensures places { IfOk result (λ places. places ≡ places_of (addition_of adding.now)) }
+    ensures found { OnOk result (IsAllFound (addition_of adding.now)) }
+    ensures cause { IfErr result (λ kind. (kind ≡ OutOfMemory) ⊎ IsCause (addition_of adding.now) kind) }
+{
+    let found = find_foreign(alloc, adding, activity)?;
+    let types = type_places(alloc, adding, activity, &found)?;
+    let interfaces = interface_places(alloc, adding, activity, &found)?;
+    let worlds = world_places(alloc, adding, activity, &found)?;
+    Ok(Places {
+        types,
+        interfaces,
+        worlds,
+    })
+}
