@@ -5,26 +5,15 @@ use Rattle.wit_graph.specs.declared.error_kind.ResolveErrorKind.{ResolveErrorKin
 use Rattle.wit_values.specs.Lists.{AllByRecursion-at}
 use Rattle.wit_adding.specs.Addition.{Addition}
 use Rattle.wit_adding.specs.Cause.{IsAccepted, IsCause, borrow_in_result_15, conflict_4, duplicate_5, excluded_11, excluded_owner_12, gate_unreleased_10, gate_without_version_9, interface_not_found_3, mismatch_8, no_getter_18, not_a_resource_14, not_strongly_unique_17, offset_overflow_27, package_not_found_1, rename_unmatched_16, shadowing_7, type_not_defined_13, world_not_found_2}
-use Rattle.wit_adding.specs.Passed.{GatesAreMet, HasResources, IsAllFound, NeedsNothingExcluded, ReturnsNoBorrow}
 use Rattle.wit_adding.specs.Pushed.{with_parts}
-use Rattle.wit_adding.specs.Reasons.{HasPackage, PassesTheEnd}
 use Rattle.wit_adding.specs.WorldReasons.{WorldIsFine}
 use Rattle.wit_finishing.specs.Finished.{CanFinish}
+use Rattle.wit_link.specs.Checked.{IsChecked, IsNew}
 use Rattle.wit_link.specs.Supported.{IsSupported}
 use Rattle.wit_link.proofs.Stages.{image_of, images}
 use Rattle.wit_link.proofs.WorldsAreFine.{image_at, includes_are_fine, world_is_fine}
 
--- what the steps of an addition have seen before it touches the graph
-pub record IsChecked (a : Addition) : Type 0 where
-  pub absent : HasPackage a.graph a.handed.name → ⊥
-  pub fits : PassesTheEnd a → ⊥
-  pub met : GatesAreMet a
-  pub needs : NeedsNothingExcluded a
-  pub found : IsAllFound a
-  pub resources : HasResources a
-  pub no_borrow : ReturnsNoBorrow a
-
-module _ (a : Addition) (supported : IsSupported a.handed) (checked : IsChecked a) (fine : AllByRecursion (CanFinish (with_parts a)) (images a)) where
+module _ (a : Addition) (supported : IsSupported a.handed) (is_new : IsNew a) (checked : IsChecked a) (fine : AllByRecursion (CanFinish (with_parts a)) (images a)) where
   each_world : (k : ℕ) → WorldIsFine a k
   each_world k = world_is_fine a supported k (λ at. AllByRecursion-at (CanFinish (with_parts a)) (images a) k (image_of a (at.place, at.world)) fine (image_at a supported k at))
 
@@ -33,7 +22,7 @@ module _ (a : Addition) (supported : IsSupported a.handed) (checked : IsChecked 
   is_accepted _ (world_not_found_2 span requested home is) = checked.found.worlds span requested home is
   is_accepted _ (interface_not_found_3 span requested home is) = checked.found.interfaces span requested home is
   is_accepted _ (conflict_4 k span name reached is) = (each_world k).exports span name is
-  is_accepted _ (duplicate_5 name span1 span2 is) = checked.absent is.there
+  is_accepted _ (duplicate_5 name span1 span2 is) = is_new.absent is.there
   is_accepted _ (shadowing_7 k j span word name reached is) = (includes_are_fine a supported k j).unshadowed span word name is
   is_accepted _ (mismatch_8 k j span from into reached is) = (includes_are_fine a supported k j).agrees span from into is
   is_accepted _ (gate_without_version_9 span message is) = checked.met.version span message is
@@ -46,4 +35,4 @@ module _ (a : Addition) (supported : IsSupported a.handed) (checked : IsChecked 
   is_accepted _ (rename_unmatched_16 k j span message reached is) = (includes_are_fine a supported k j).renames span message is
   is_accepted _ (not_strongly_unique_17 k span message reached is) = (each_world k).labels span message is
   is_accepted _ (no_getter_18 k span message reached is) = (each_world k).setters span message is
-  is_accepted _ (offset_overflow_27 is) = checked.fits is
+  is_accepted _ (offset_overflow_27 is) = is_new.fits is

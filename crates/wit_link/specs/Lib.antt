@@ -1,4 +1,5 @@
 pub mod Appending
+pub mod Checked
 pub mod Fits
 pub mod Groups
 pub mod Supported
