@@ -1,0 +1,26 @@
+-- Where the things of a package go, as maps.
+use Rattle.std.specs.Prelude.{ℕ, List, Option, None, Some, slice_get, unwrap_or}
+use Rattle.wit_growth.specs.Image.{Maps}
+use Rattle.wit_placing.specs.declared.mover.Mover.{Mover}
+
+-- the id that is there, or else the old one
+abbrev pub id_or : ℕ → Option (Option ℕ) → ℕ
+id_or old None = old
+id_or old (Some None) = old
+id_or old (Some (Some new)) = new
+
+-- where an id goes by a list of places: one that goes nowhere stays
+abbrev pub goes : List (Option ℕ) → ℕ → ℕ
+goes places id = id_or id (slice_get places id)
+
+-- the maps that a mover stands for
+abbrev pub maps_of : Mover → Maps
+maps_of m = record {
+  types = goes m.places.now.types;
+  values = λ t. unwrap_or (slice_get m.values.now t) t;
+  interfaces = goes m.places.now.interfaces;
+  worlds = goes m.places.now.worlds;
+  home = λ p. Some m.«package»;
+  labels = λ w name. name;
+  offset = m.offset;
+}

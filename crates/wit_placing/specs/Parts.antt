@@ -1,0 +1,38 @@
+-- What of a package takes part, and what of that is its own.
+use Rattle.std.specs.Prelude.{ℕ, Bool, false, List, Option, None, Some, nat_le, slice_get, unwrap_or}
+use Rattle.wit_items.specs.declared.world.WorldItem.{WorldItem}
+use Rattle.wit_items.specs.declared.world.WorldItem.TheVariants as item
+use Rattle.wit_graph.specs.declared.features.Features.{Features}
+use Rattle.wit_growth.specs.Kept.{Kept}
+use Rattle.wit_adding.specs.Gates.{function_is_active, is_active}
+use Rattle.wit_placing.specs.declared.part.Part.{Part}
+
+-- the flag at a place
+abbrev pub flag : List Bool → ℕ → Bool
+flag flags i = unwrap_or (slice_get flags i) false
+
+-- an entry of a world that takes part, where it is told of types which do
+abbrev pub has_item : Features → (ℕ → Bool) → WorldItem → Bool
+has_item features types (item.Interface id stability docs span external_id) = is_active features stability
+has_item features types (item.Function function) = function_is_active features function
+has_item features types (item.Type_ id span) = types id
+
+-- what takes part
+abbrev pub kept_of : Part → Kept
+kept_of part = record {
+  types = flag part.activity.now.types;
+  interfaces = flag part.activity.now.interfaces;
+  worlds = flag part.activity.now.worlds;
+  functions = function_is_active part.features.now;
+  items = has_item part.features.now (flag part.activity.now.types);
+}
+
+-- an id that isn't below the first one
+abbrev pub is_from : ℕ → Option (Option ℕ) → Bool
+is_from first None = false
+is_from first (Some None) = false
+is_from first (Some (Some id)) = nat_le first id
+
+-- what stands at a place goes to an id that isn't there yet
+abbrev pub is_new : ℕ → List (Option ℕ) → ℕ → Bool
+is_new first places i = is_from first (slice_get places i)

@@ -1,0 +1,167 @@
+//! Types, at their places.
+ghost use Rattle.std.specs.Prelude.{◌≡◌};
+ghost use Rattle.wit_growth.specs.Image.{target_image};
+ghost use Rattle.wit_placing.specs.Movers.{maps_of};
+
+use crate::mover::Mover;
+use crate::place::Place;
+use wit_items::{Case, EnumCase, Field, Flag, Handle, Type_, TypeDef, TypeDefKind, TypeOwner};
+
+/// A type at a value position.
+impl Place for Type_ {
+    ghost use Rattle.wit_growth.specs.Image.{value_image};
+
+    ghost fits = { λ _ _. Unit {0} };
+
+    ghost placed = { value_image };
+
+    fn place(&mut self, mover: &Mover<'_>) {
+        if let Type_::Id(id) = self {
+            *id = mover.value_id(*id);
+        }
+    }
+}
+
+/// A type that an alias names.
+fn place_target(ty: &mut Type_, mover: &Mover<'_>)
+    ensures { ty.new ≡ target_image (maps_of mover.now) ty.old }
+{
+    if let Type_::Id(id) = ty {
+        id.place(mover);
+    }
+}
+
+impl Place for Field {
+    ghost use Rattle.wit_growth.specs.Image.{field_image};
+    ghost use Rattle.wit_placing.specs.Fits.{Fits};
+
+    ghost fits = { λ offset f. Fits offset f.span };
+
+    ghost placed = { field_image };
+
+    fn place(&mut self, mover: &Mover<'_>) {
+        self.ty.place(mover);
+        self.span = mover.span(self.span);
+    }
+}
+
+impl Place for Case {
+    ghost use Rattle.wit_growth.specs.Image.{case_image};
+    ghost use Rattle.wit_placing.specs.Fits.{Fits};
+
+    ghost fits = { λ offset c. Fits offset c.span };
+
+    ghost placed = { case_image };
+
+    fn place(&mut self, mover: &Mover<'_>) {
+        self.ty.place(mover);
+        self.span = mover.span(self.span);
+    }
+}
+
+impl Place for Flag {
+    ghost use Rattle.wit_growth.specs.Image.{flag_image};
+    ghost use Rattle.wit_placing.specs.Fits.{Fits};
+
+    ghost fits = { λ offset f. Fits offset f.span };
+
+    ghost placed = { flag_image };
+
+    fn place(&mut self, mover: &Mover<'_>) {
+        self.span = mover.span(self.span);
+    }
+}
+
+impl Place for EnumCase {
+    ghost use Rattle.wit_growth.specs.Image.{enum_case_image};
+    ghost use Rattle.wit_placing.specs.Fits.{Fits};
+
+    ghost fits = { λ offset c. Fits offset c.span };
+
+    ghost placed = { enum_case_image };
+
+    fn place(&mut self, mover: &Mover<'_>) {
+        self.span = mover.span(self.span);
+    }
+}
+
+impl Place for Handle {
+    ghost use Rattle.wit_growth.specs.Image.{handle_image};
+
+    ghost fits = { λ _ _. Unit {0} };
+
+    ghost placed = { handle_image };
+
+    fn place(&mut self, mover: &Mover<'_>) {
+        match self {
+            Handle::Own(id) => id.place(mover),
+            Handle::Borrow(id) => id.place(mover),
+        }
+    }
+}
+
+impl Place for TypeOwner {
+    ghost use Rattle.wit_growth.specs.Image.{owner_image};
+
+    ghost fits = { λ _ _. Unit {0} };
+
+    ghost placed = { owner_image };
+
+    fn place(&mut self, mover: &Mover<'_>) {
+        match self {
+            TypeOwner::World(id) => *id = mover.world_id(*id),
+            TypeOwner::Interface(id) => *id = mover.interface_id(*id),
+            TypeOwner::None => {}
+        }
+    }
+}
+
+impl Place for TypeDefKind {
+    ghost use Rattle.wit_growth.specs.Image.{kind_image};
+    ghost use Rattle.wit_placing.specs.Fits.{KindFits};
+
+    ghost fits = { KindFits };
+
+    ghost placed = { kind_image };
+
+    fn place(&mut self, mover: &Mover<'_>) {
+        match self {
+            TypeDefKind::Record { fields } => fields.place(mover),
+            TypeDefKind::Flags { flags } => flags.place(mover),
+            TypeDefKind::Tuple { types } => types.place(mover),
+            TypeDefKind::Variant { cases } => cases.place(mover),
+            TypeDefKind::Enum { cases } => cases.place(mover),
+            TypeDefKind::Handle(handle) => handle.place(mover),
+            TypeDefKind::Result_ { ok, err } => {
+                ok.place(mover);
+                err.place(mover);
+            }
+            TypeDefKind::Map(key, value) => {
+                key.place(mover);
+                value.place(mover);
+            }
+            TypeDefKind::Option(ty) => ty.place(mover),
+            TypeDefKind::List(ty) => ty.place(mover),
+            TypeDefKind::FixedLengthList(ty, _) => ty.place(mover),
+            TypeDefKind::Future(ty) => ty.place(mover),
+            TypeDefKind::Stream(ty) => ty.place(mover),
+            TypeDefKind::Type_(ty) => place_target(ty, mover),
+            TypeDefKind::Resource | TypeDefKind::Unknown => {}
+        }
+    }
+}
+
+impl Place for TypeDef {
+    ghost use Rattle.wit_growth.specs.Image.{type_image};
+    ghost use Rattle.wit_placing.specs.Fits.{TypeFits};
+
+    ghost fits = { TypeFits };
+
+    ghost placed = { type_image };
+
+    fn place(&mut self, mover: &Mover<'_>) {
+        self.kind.place(mover);
+        self.owner.place(mover);
+        self.span = mover.span(self.span);
+    }
+}
