@@ -1,4 +1,5 @@
 mod Added
 mod FitsIsExact
+mod OneAfterAnother
 mod Stages
 mod WorldsAreFine

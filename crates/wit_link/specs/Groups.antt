@@ -1,5 +1,5 @@
--- Groups of packages that are handed in together: what adding them makes of a graph, and why none of them is
--- added.
+-- Groups of packages that are handed in together: their order, what adding them makes of a graph, and why none of them
+-- is added.
 -- Source: `sort_unresolved_packages` and `visit` of wit-parser 0.263.0.
 use Rattle.std.specs.Prelude.{◌≡◌, ◌⊎◌, ◌≤◌, ◌^◌, ℕ, ◌+◌, List, [], ◌∷◌, ◌++◌, map}
 use Rattle.wit_items.specs.declared.unresolved.UnresolvedPackage.{UnresolvedPackage}
@@ -8,9 +8,8 @@ use Rattle.wit_graph.specs.declared.error_kind.ResolveErrorKind.{ResolveErrorKin
 use Rattle.wit_graph.specs.declared.error_kind.ResolveErrorKind.TheVariants.{OffsetOverflow}
 use Rattle.wit_graph.specs.declared.features.Features.{Features}
 use Rattle.wit_graph.specs.declared.graph.Graph.{Graph}
-use Rattle.wit_adding.specs.Cause.{IsCause}
-use Rattle.wit_link.specs.Appending.{IsAdded, addition}
 use Rattle.wit_sorting.specs.Sorting.{AreSorted, Handed, IsSortCause}
+use Rattle.wit_link.specs.Several.{IsOneRefused}
 
 -- the packages of groups, the nested ones of a group before its main one, where the files of the first
 -- group begin at this position and those of the others follow
@@ -18,28 +17,16 @@ abbrev pub packages_of : ℕ → List UnresolvedPackageGroup → List Handed
 packages_of at [] = []
 packages_of at (group ∷ groups) = map (λ (u : UnresolvedPackage). (u, at)) (group.nested ++ group.main ∷ []) ++ packages_of (at + group.source_map.end) groups
 
--- packages accepted one after another take the graph g to new and get these ids
-abbrev pub ArePushed : Features → Graph → List Handed → Graph → List ℕ → Type 0
-ArePushed features g [] new [] = new ≡ g
-ArePushed features g (p ∷ ps) new (id ∷ ids) = (mid : Graph) × IsAdded (addition features g p.0 p.1) mid id × ArePushed features mid ps new ids
-ArePushed features g [] new (id ∷ ids) = ⊥
-ArePushed features g (p ∷ ps) new [] = ⊥
-
 -- ---- refusals
 
 -- adding handed packages has a reason to be refused with this error: they can be sorted, and one of them
 -- can't be added to what those before it make of the graph
 pub record IsPushCause (features : Features) (g : Graph) (handed : List Handed) (error : ResolveErrorKind) : Type 0 where
-  pub order : List ℕ
-  pub before : List Handed
-  pub p : Handed
-  pub after : List Handed
-  pub mid : Graph
-  pub ids : List ℕ
   pub sortable : (e : ResolveErrorKind) → IsSortCause handed e → ⊥
-  pub sorted : AreSorted handed order (before ++ p ∷ after)
-  pub pushed : ArePushed features g before mid ids
-  pub cause : IsCause (addition features mid p.0 p.1) error
+  pub order : List ℕ
+  pub sorted : List Handed
+  pub are_sorted : AreSorted handed order sorted
+  pub refused : IsOneRefused features g sorted error
 
 -- where the files of groups end that begin at this position
 abbrev pub files_end : ℕ → List UnresolvedPackageGroup → ℕ

@@ -17,7 +17,7 @@ use Rattle.wit_graph.specs.declared.error_kind.ResolveErrorKind.TheVariants.{Off
 use Rattle.wit_graph.specs.declared.features.Features.{Features}
 use Rattle.wit_link.specs.Groups.{ArePushed, IsGroupsCause, files_end, packages_of}
 use Rattle.wit_sorting.specs.Sorting.{AreSorted, Handed, IsSortCause}
-use Rattle.wit_link.specs.Pushed.{HasWorld}
+use Rattle.wit_resolve_graph.specs.Named.{HasWorld}
 use Rattle.wit_unite.specs.TurnCause.{IsExportizeCause, IsImportizeCause, imports_at}
 use Rattle.wit_unite.specs.Turned.{Turn, exportized, importized, turned}
 use Rattle.wit_resolve_graph.specs.State.{State}

@@ -7,7 +7,7 @@ ghost use Rattle.std.specs.Str.{bytes_eq};
 ghost use Rattle.wit_graph.specs.Valid.{IsValid};
 ghost use Rattle.wit_graph.specs.declared.error_kind.ResolveErrorKind.{ResolveErrorKind};
 ghost use Rattle.wit_graph.specs.declared.error_kind.ResolveErrorKind.TheVariants.{OutOfMemory};
-ghost use Rattle.wit_link.specs.Pushed.{HasWorld};
+ghost use Rattle.wit_resolve_graph.specs.Named.{HasWorld};
 ghost use Rattle.wit_resolve_graph.specs.Step.{Step, answers_at, is_listed_key, listed_answers};
 ghost use Rattle.wit_resolve_graph.specs.declared.command.Command.TheVariants as command;
 ghost use Rattle.wit_unite.specs.TurnCause.{IsExportizeCause};

@@ -1,6 +1,6 @@
 use Rattle.std.proofs.Common.{ℕ, List, refl, sym, subst}
 use Rattle.wit_graph.specs.declared.graph.Graph.{Graph}
-use Rattle.wit_link.specs.Pushed.{HasWorld}
+use Rattle.wit_resolve_graph.specs.Named.{HasWorld}
 use Rattle.wit_resolve_graph.proofs.NamedWorlds.{world_within}
 use Rattle.wit_resolve_graph.proofs.turning.exportize.Goals as goal
 

@@ -1,0 +1,36 @@
+use Rattle.std.proofs.Common.{rules, ◌≡◌, ◌∙◌, ◌⊎◌, ◌++◌, ◌∷◌, [], ℕ, List, IfErr, IfOk, IsErrAnd, OnOk, Result, Ok, Err, inl, inr, subst, sym, ap}
+use Rattle.std.proofs.lemmas.List.{append_assoc}
+use Rattle.std.specs.Vec.Iter.{into_iter_items}
+use Rattle.wit_graph.specs.declared.error_kind.ResolveErrorKind.{ResolveErrorKind}
+use Rattle.wit_graph.specs.declared.error_kind.ResolveErrorKind.TheVariants.{OutOfMemory}
+use Rattle.wit_placing.specs.GrownFacts.{Grown-then}
+use Rattle.wit_link.specs.Several.{ArePushed, IsOneRefused}
+use Rattle.wit_link.proofs.OneAfterAnother.{pushed_more, refused_here}
+use Rattle.wit_link.proofs.several.append_each.Goals as goal
+
+told_err : {T E : Type 0} {P Q : E → Type 0} (r : Result T E) → IsErrAnd r P → ((e : E) → P e → Q e) → IfErr r Q
+told_err (Ok v) is gives = tt
+told_err (Err e) is gives = gives e is
+
+pub loop-package-preserved : goal.loop-package-preserved
+loop-package-preserved c =
+    let are : c.loop-package.yielded ++ c.in-Some.package ∷ into_iter_items c.next.new.self ≡ c.args.packages = search rules in
+    record {
+      pushed =
+          subst (λ (ids : List ℕ). ArePushed c.args.features.now c.args.graph.now (c.loop-package.yielded ++ c.in-Some.package ∷ []) c.append.new.graph ids) (sym c.in_ok-push.ensures.ok)
+          (pushed_more c.args.features.now c.args.graph.now c.loop-package.yielded c.loop-package.graph c.loop-package.ids c.in-Some.package c.append.new.graph c.in_ok-append.field-0 c.loop-package.invariant.pushed c.in_ok-append.ensures.ok);
+      valid = c.append.ensures.valid;
+      grown = Grown-then c.args.graph.now c.loop-package.graph c.append.new.graph c.loop-package.invariant.grown c.append.ensures.grown;
+      left = search rules;
+      all = append_assoc c.loop-package.yielded (c.in-Some.package ∷ []) (into_iter_items c.next.new.self) ∙ are;
+    }
+
+pub returns-in_err-append-clause-cause : goal.returns-in_err-append-clause-cause
+returns-in_err-append-clause-cause c =
+    let are : c.loop-package.yielded ++ c.in-Some.package ∷ into_iter_items c.next.new.self ≡ c.args.packages = search rules in
+    told_err c.from_residual.result c.from_residual.ensures.1
+    (λ e is.
+    let same : e ≡ c.in_err-append.field-0.0 = is in
+    subst (λ (x : ResolveErrorKind). (x ≡ OutOfMemory) ⊎ IsOneRefused c.args.features.now c.args.graph.now c.args.packages x) (sym same)
+    (refused_here c.args.features.now c.args.graph.now c.args.packages c.loop-package.yielded (into_iter_items c.next.new.self) c.in-Some.package c.loop-package.graph c.loop-package.ids are c.loop-package.invariant.pushed c.in_err-append.field-0.0
+    c.in_err-append.ensures.cause))

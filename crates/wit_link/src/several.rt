@@ -1,0 +1,62 @@
+//! Adding packages one after another, all or none.
+ghost use Rattle.std.specs.Prelude.{◌≡◌, ◌⊎◌, IfErr, IfOk, OnErr, OnOk};
+ghost use Rattle.std.specs.List.{AllByRecursion};
+ghost use Rattle.wit_graph.specs.Valid.{IsValid};
+ghost use Rattle.wit_graph.specs.declared.error_kind.ResolveErrorKind.{ResolveErrorKind};
+ghost use Rattle.wit_graph.specs.declared.error_kind.ResolveErrorKind.TheVariants.{OutOfMemory};
+ghost use Rattle.wit_link.specs.Several.{ArePushed, IsOneRefused};
+ghost use Rattle.wit_link.specs.Supported.{CanAppend};
+ghost use Rattle.wit_placing.specs.Grown.{Grown};
+
+use crate::adding::append;
+use std::alloc::Global;
+use wit_graph::{Features, Graph, ResolveResult};
+use wit_items::{Items, PackageId, UnresolvedPackage};
+use wit_placing::Mark;
+
+/// Adds packages to a graph, one after another, each with its spans moved by its offset, and answers their ids.
+///
+/// Refused where one of them is, as `append` says; the graph is then as before.
+pub fn append_all(
+    alloc: Global,
+    graph: &mut Graph,
+    features: &Features,
+    packages: Items<(UnresolvedPackage, u32)>,
+) -> ResolveResult<Items<PackageId>>
+    requires packages { AllByRecursion CanAppend packages }
+    requires valid { IsValid graph.old }
+    ensures ok { IfOk result (λ ids. ArePushed features.now graph.old packages graph.new ids) }
+    ensures valid { IsValid graph.new }
+    ensures err { OnErr result (graph.new ≡ graph.old) }
+    ensures cause { IfErr result (λ kind. (kind ≡ OutOfMemory) ⊎ IsOneRefused features.now graph.old packages kind) }
+    ensures refuses { (kind : ResolveErrorKind) → IsOneRefused features.now graph.old packages kind → OnOk result ⊥ }
+{
+    let mark = Mark::of(graph);
+    let added = append_each(alloc, graph, features, packages);
+    if added.is_err() {
+        mark.cut(graph);
+    }
+    added
+}
+
+/// The same, where after a refusal the packages before the refused one stay.
+fn append_each(
+    alloc: Global,
+    graph: &mut Graph,
+    features: &Features,
+    packages: Items<(UnresolvedPackage, u32)>,
+) -> ResolveResult<Items<PackageId>>
+    requires packages { AllByRecursion CanAppend packages }
+    requires valid { IsValid graph.old }
+    ensures ok { IfOk result (λ ids. ArePushed features.now graph.old packages graph.new ids) }
+    ensures valid { IsValid graph.new }
+    ensures grown { Grown graph.old graph.new }
+    ensures cause { IfErr result (λ kind. (kind ≡ OutOfMemory) ⊎ IsOneRefused features.now graph.old packages kind) }
+{
+    let mut ids = Items::new(alloc);
+    for package in packages.into_vec() {
+        let (package, offset) = package;
+        ids.push(append(alloc, graph, features, package, offset)?)?;
+    }
+    Ok(ids)
+}
