@@ -32,3 +32,8 @@ module _ {X Y : Type 0} (f : X → Y) where
   pub mapped-next : (done : List Y) (left rest : List X) (whole : List Y) (x : X) (y : Y) → y ≡ f x → done ++ map f left ≡ whole → left ≡ x ∷ rest → (done ++ y ∷ []) ++ map f rest ≡ whole
   mapped-next done left rest whole x y made all first =
       append_assoc done (y ∷ []) (map f rest) ∙ (ap (λ (z : Y). done ++ z ∷ map f rest) made ∙ (ap (λ (l : List X). done ++ map f l) (sym first) ∙ all))
+
+-- a function of the second parts
+pub map-pairs : {A X Y : Type 0} (f : X → Y) (es : List (A × X)) → map (λ (e : A × X). f e.1) es ≡ map f (map (λ (e : A × X). e.1) es)
+map-pairs f [] = refl
+map-pairs {A} {X} f (e ∷ es) = ap (λ l. f e.1 ∷ l) (map-pairs {A = A} f es)

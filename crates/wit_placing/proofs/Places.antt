@@ -49,8 +49,8 @@ goes-is f n none = λ j i. each i j
         (λ past. ap (id_or i) (value_past f n i past) ∙ sym (ap (λ (o : Option ℕ). unwrap_or o i) (none i past)))
 
 -- values of ids, where further ones stay
-pub values-are : (f : ℕ → ℕ) (n : ℕ) → ((i : ℕ) → n ≤ i → f i ≡ i) → (λ i. unwrap_or (slice_get (map f (range_with_len 0 n)) i) i) ≡ f
-values-are f n stay = λ j i. each i j
+pub values-are : (f : ℕ → ℕ) (n : ℕ) → ((i : ℕ) → n ≤ i → f i ≡ i) → f ≡ (λ i. unwrap_or (slice_get (map f (range_with_len 0 n)) i) i)
+values-are f n stay = λ j i. sym (each i) j
   where
     each : (i : ℕ) → unwrap_or (slice_get (map f (range_with_len 0 n)) i) i ≡ f i
     each i = in_or_past f n i (unwrap_or (slice_get (map f (range_with_len 0 n)) i) i ≡ f i)

@@ -5,3 +5,4 @@ pub mod Movers
 pub mod Parts
 pub mod Worlds
 pub mod Tables
+pub mod Added

@@ -1,6 +1,7 @@
 -- Where the things of a package go, as maps.
 use Rattle.std.specs.Prelude.{ℕ, List, Option, None, Some, slice_get, unwrap_or}
 use Rattle.wit_growth.specs.Image.{Maps}
+use Rattle.wit_adding.specs.declared.adding.Places.{Places}
 use Rattle.wit_placing.specs.declared.mover.Mover.{Mover}
 
 -- the id that is there, or else the old one
@@ -13,14 +14,18 @@ id_or old (Some (Some new)) = new
 abbrev pub goes : List (Option ℕ) → ℕ → ℕ
 goes places id = id_or id (slice_get places id)
 
+-- the maps by such lists
+abbrev pub maps_with : Places → List ℕ → ℕ → ℕ → Maps
+maps_with places values home offset = record {
+  types = goes places.types;
+  values = λ t. unwrap_or (slice_get values t) t;
+  interfaces = goes places.interfaces;
+  worlds = goes places.worlds;
+  home = λ p. Some home;
+  labels = λ w name. name;
+  offset = offset;
+}
+
 -- the maps that a mover stands for
 abbrev pub maps_of : Mover → Maps
-maps_of m = record {
-  types = goes m.places.now.types;
-  values = λ t. unwrap_or (slice_get m.values.now t) t;
-  interfaces = goes m.places.now.interfaces;
-  worlds = goes m.places.now.worlds;
-  home = λ p. Some m.«package»;
-  labels = λ w name. name;
-  offset = m.offset;
-}
+maps_of m = maps_with m.places.now m.values.now m.«package» m.offset

@@ -5,6 +5,7 @@ use Rattle.wit_items.specs.declared.world.WorldItem.TheVariants as item
 use Rattle.wit_graph.specs.declared.features.Features.{Features}
 use Rattle.wit_growth.specs.Kept.{Kept}
 use Rattle.wit_adding.specs.Gates.{function_is_active, is_active}
+use Rattle.wit_adding.specs.declared.adding.Activity.{Activity}
 use Rattle.wit_placing.specs.declared.part.Part.{Part}
 
 -- the flag at a place
@@ -18,14 +19,17 @@ has_item features types (item.Function function) = function_is_active features f
 has_item features types (item.Type_ id span) = types id
 
 -- what takes part
-abbrev pub kept_of : Part → Kept
-kept_of part = record {
-  types = flag part.activity.now.types;
-  interfaces = flag part.activity.now.interfaces;
-  worlds = flag part.activity.now.worlds;
-  functions = function_is_active part.features.now;
-  items = has_item part.features.now (flag part.activity.now.types);
+abbrev pub kept_with : Features → Activity → Kept
+kept_with features activity = record {
+  types = flag activity.types;
+  interfaces = flag activity.interfaces;
+  worlds = flag activity.worlds;
+  functions = function_is_active features;
+  items = has_item features (flag activity.types);
 }
+
+abbrev pub kept_of : Part → Kept
+kept_of part = kept_with part.features.now part.activity.now
 
 -- an id that isn't below the first one
 abbrev pub is_from : ℕ → Option (Option ℕ) → Bool

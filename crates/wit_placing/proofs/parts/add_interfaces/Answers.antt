@@ -1,0 +1,41 @@
+use Rattle.std.proofs.Common.{◌≡◌, ◌∙◌, ◌++◌, ◌∷◌, [], ℕ, List, map, length, refl, ap, sym, subst}
+use Rattle.std.specs.List.{IsDistinct, enumerate_from}
+use Rattle.std.specs.Map.{keys_of}
+use Rattle.std.specs.Str.{bytes_eq}
+use Rattle.wit_items.specs.Each.{Each}
+use Rattle.wit_items.specs.declared.interface.Interface.{Interface}
+use Rattle.wit_growth.specs.Cut.{cut_interface}
+use Rattle.wit_growth.specs.Image.{interface_image}
+use Rattle.wit_adding.specs.Ranks.{taken_places}
+use Rattle.wit_placing.specs.Fits.{InterfaceFits}
+use Rattle.wit_placing.specs.Movers.{maps_of}
+use Rattle.wit_placing.specs.Parts.{is_new, kept_of}
+use Rattle.wit_placing.specs.Tables.{interfaces_at}
+use Rattle.wit_placing.proofs.Kept.{Each-enumerated, Each-filter, map-pairs}
+use Rattle.wit_placing.proofs.parts.add_interfaces.Goals as goal
+
+pub interface_table-requires : goal.interface_table-requires
+interface_table-requires c =
+    rw (c.as_slice.ensures, c.in_ok-own.ensures, c.from_index-first.ensures, c.len.ensures, c.as_slice-places.ensures) c.requires.names
+
+pub placed_interfaces-requires : goal.placed_interfaces-requires
+placed_interfaces-requires c =
+    subst (λ (es : List (ℕ × Interface)). Each (λ (e : ℕ × Interface). InterfaceFits c.args.mover.now.offset e.1) es) (sym c.in_ok-own.ensures)
+    (Each-filter (λ (e : ℕ × Interface). InterfaceFits c.args.mover.now.offset e.1) _ (enumerate_from 0 c.args.interfaces) (Each-enumerated (InterfaceFits c.args.mover.now.offset) 0 c.args.interfaces c.requires.fits))
+
+-- images of cut interfaces, one after another
+joined : {X Y Z : Type 0} (f : Y → Z) (g : X → Y) (xs : List X) → map (λ (x : X). f (g x)) xs ≡ map f (map g xs)
+joined f g [] = refl
+joined f g (x ∷ xs) = ap (λ l. f (g x) ∷ l) (joined f g xs)
+
+pub returns-clause-ok : goal.returns-clause-ok
+returns-clause-ok c =
+    let f = interface_image (maps_of c.args.mover.now) in
+    let cut = cut_interface (kept_of c.args.part.now) in
+    let own = taken_places (is_new (length c.args.graph.now.interfaces) c.args.mover.now.places.now.interfaces) c.args.interfaces in
+    rw (c.in_ok-append.ensures.ok, c.in_ok-placed.ensures, c.in_ok-own.ensures, c.from_index-first.ensures, c.len.ensures, c.as_slice-places.ensures)
+    (rw (map-pairs (λ (i : Interface). f (cut i)) own, joined f cut (map (λ (e : ℕ × Interface). e.1) own)) refl)
+
+pub returns-clause-table : goal.returns-clause-table
+returns-clause-table c =
+    rw (c.in_ok-table.ensures, c.as_slice.ensures, c.in_ok-own.ensures, c.from_index-first.ensures, c.len.ensures, c.as_slice-places.ensures) refl
