@@ -1,20 +1,17 @@
 -- What is referred to, and isn't left out.
-use Rattle.std.proofs.Common.{◌≡◌, ◌≢◌, ◌∙◌, ℕ, Bool, true, false, List, [], ◌∷◌, ◌⊎◌, inl, inr, map, Option, Some, None, slice_get, refl, sym, ap, subst, Contains}
+use Rattle.std.proofs.Common.{◌≡◌, ◌≢◌, ◌∙◌, ℕ, true, false, List, [], ◌∷◌, inl, inr, map, Some, slice_get, refl, sym, subst, Contains}
 use Rattle.std.proofs.lemmas.Bool.{false≢true}
-use Rattle.std.specs.List.{flat_map}
 use Rattle.wit_relations.specs.MemberFacts.{Contains-flat_map, Contains-flat_map_cases}
 use Rattle.wit_sources.specs.Span.{moved_by}
 use Rattle.wit_items.specs.Each.{Each, EachAt}
 use Rattle.wit_items.specs.Entries.{Entry}
 use Rattle.wit_items.specs.Reference.{function_references, named_type, referred}
 use Rattle.wit_items.specs.declared.function.Function.{Function}
-use Rattle.wit_items.specs.declared.interface.Interface.{Interface}
 use Rattle.wit_items.specs.declared.types.Field.{Field}
 use Rattle.wit_items.specs.declared.types.TypeDef.{TypeDef}
 use Rattle.wit_items.specs.declared.types.TypeDefKind.{TypeDefKind}
 use Rattle.wit_items.specs.declared.types.TypeDefKind.TheVariants as kind
 use Rattle.wit_items.specs.declared.world.World.{World}
-use Rattle.wit_items.specs.declared.world.WorldInclude.{WorldInclude}
 use Rattle.wit_items.specs.declared.world.WorldItem.{WorldItem}
 use Rattle.wit_items.specs.declared.world.WorldItem.TheVariants as item
 use Rattle.wit_items.specs.declared.world.WorldKey.{WorldKey}
@@ -25,11 +22,11 @@ use Rattle.wit_growth.specs.ListFacts.{Contains-map, Contains-map_cases, contain
 use Rattle.wit_adding.specs.Addition.{Addition}
 use Rattle.wit_adding.specs.Cause.{IsCause, excluded_11, excluded_owner_12}
 use Rattle.wit_adding.specs.CauseText.{excluded_owner_text, excluded_text}
-use Rattle.wit_adding.specs.Gates.{HasEntry, Place, interface_is_active, type_is_active, world_is_active}
+use Rattle.wit_adding.specs.Gates.{HasEntry, Place, world_is_active}
 use Rattle.wit_adding.specs.Passed.{NeedsNothingExcluded}
-use Rattle.wit_adding.specs.Reasons.{AType, AWorld, AnInterface, HasExcludedOwner, IsActiveFunction, IsExcluded, RefersTo, RefersToExcluded, Thing, kind_references, of_entry, of_foreign_type, of_function, of_include, of_interface, of_type, of_world, owner_thing, word_of}
+use Rattle.wit_adding.specs.Reasons.{AType, AWorld, AnInterface, IsActiveFunction, IsExcluded, Thing, kind_references, of_entry, of_foreign_type, of_function, of_include, of_interface, of_type, of_world, owner_thing, word_of}
 use Rattle.wit_gates.specs.GateSteps.{MayRefuse, seen}
-use Rattle.wit_gates.specs.ReferenceSteps.{FieldStays, FunctionStays, FunctionsStay, IncludeStays, IsReferred, IsTakenType, ItemStays, KindRefers, KindStays, PartsStay, RefersByItem, RefersInField, Stays, TypesStay, takes_part}
+use Rattle.wit_gates.specs.ReferenceSteps.{FieldStays, FunctionsStay, IsReferred, IsTakenType, ItemStays, KindRefers, KindStays, PartsStay, RefersByItem, RefersInField, Stays, TypesStay, takes_part}
 use Rattle.wit_gates.specs.declared.checker.Checker.{Checker}
 
 -- ---- what takes part is not left out

@@ -1,5 +1,5 @@
 -- The notes that are asked, and that the package meets.
-use Rattle.std.proofs.Common.{◌≡◌, ◌≢◌, ◌∙◌, ◌<◌, ◌≤◌, ℕ, zero, suc, ◌+◌, Bool, true, false, if◌then◌else◌, List, [], ◌∷◌, ◌⊎◌, inl, inr, length, take, Option, None, Some, slice_get, is_lt, refl, sym, ap, subst, arith, Contains}
+use Rattle.std.proofs.Common.{◌≡◌, ◌∙◌, ◌≤◌, ℕ, suc, Bool, true, if◌then◌else◌, List, [], ◌∷◌, inl, inr, length, take, Option, None, Some, slice_get, is_lt, refl, sym, ap, subst, Contains}
 use Rattle.std.specs.Prelude.{nat_eq, nat_lt}
 use Rattle.std.proofs.lemmas.Bool.{cases_lt, le-ltb, lt-ltb}
 use Rattle.std.proofs.lemmas.Option.{slice_get_within}
@@ -14,7 +14,6 @@ use Rattle.wit_items.specs.Each.{Each, EachAt}
 use Rattle.wit_items.specs.Entries.{Entry}
 use Rattle.wit_items.specs.Foreign.{AreFirst, ForeignItem, ForeignItems, IsBare, IsBareInterface, IsBareWorld, foreign_interfaces, foreign_worlds, interface_id, world_id}
 use Rattle.wit_items.specs.Stability.{IsStable}
-use Rattle.wit_items.specs.declared.function.Function.{Function}
 use Rattle.wit_items.specs.declared.interface.Interface.{Interface}
 use Rattle.wit_items.specs.declared.package_name.PackageName.{PackageName}
 use Rattle.wit_items.specs.declared.stability.Stability.{Stability}
@@ -23,7 +22,6 @@ use Rattle.wit_items.specs.declared.types.TypeDef.{TypeDef}
 use Rattle.wit_items.specs.declared.unresolved.AstItem.{AstItem}
 use Rattle.wit_items.specs.declared.unresolved.AstItem.TheVariants as named
 use Rattle.wit_items.specs.declared.world.World.{World}
-use Rattle.wit_items.specs.declared.world.WorldInclude.{WorldInclude}
 use Rattle.wit_graph.specs.declared.cause.Cause.TheVariants as cause
 use Rattle.wit_graph.specs.declared.error_kind.ResolveErrorKind.{ResolveErrorKind}
 use Rattle.wit_graph.specs.declared.error_kind.ResolveErrorKind.TheVariants.{Semantic}
@@ -31,9 +29,8 @@ use Rattle.wit_graph.specs.declared.features.Features.{Features}
 use Rattle.wit_growth.specs.ListFacts.{contained_at, found_at, place_of}
 use Rattle.wit_adding.specs.Cause.{IsCause, gate_unreleased_10, gate_without_version_9}
 use Rattle.wit_adding.specs.CauseText.{gate_unreleased_text, gate_without_version_text}
-use Rattle.wit_adding.specs.Gates.{HasEntry, HasNote, IsAsked, Place, asked_notes, foreign_items, interface_is_active, interface_notes, is_active, notes_of_foreign, of_entry, of_function, of_include, of_interface, of_type, of_world, world_is_active, world_notes}
+use Rattle.wit_adding.specs.Gates.{IsAsked, Place, asked_notes, foreign_items, interface_notes, is_active, notes_of_foreign, of_entry, of_function, of_include, of_interface, of_type, of_world, world_notes}
 use Rattle.wit_adding.specs.Passed.{GatesAreMet}
-use Rattle.wit_adding.specs.Reasons.{IsUnreleased, LacksVersion}
 use Rattle.wit_gates.specs.GateSteps.{Asks, HasReached, IsAt, IsMet, IsReady, IsThere, MayRefuse, MeetsForeign, MeetsFunctions, MeetsItem, MeetsParts, seen}
 use Rattle.wit_gates.specs.declared.checker.Checker.{Checker}
 use Rattle.wit_gates.proofs.AskedNotes.{take_member}

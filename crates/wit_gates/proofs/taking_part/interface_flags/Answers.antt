@@ -1,4 +1,4 @@
-use Rattle.std.proofs.Common.{◌≡◌, ◌∙◌, ◌<◌, ◌≤◌, ap, sym, length, arith}
+use Rattle.std.proofs.Common.{◌≡◌, ◌∙◌, ap, sym, length, arith}
 use Rattle.std.proofs.lemmas.Bool.{lt-leb}
 use Rattle.wit_items.specs.Foreign.{foreign_interfaces}
 use Rattle.wit_items.specs.declared.interface.Interface.{Interface}

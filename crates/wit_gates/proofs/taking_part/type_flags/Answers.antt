@@ -1,4 +1,4 @@
-use Rattle.std.proofs.Common.{◌≡◌, ◌∙◌, ap, sym, Option, false}
+use Rattle.std.proofs.Common.{◌∙◌, ap, sym, Option, false}
 use Rattle.std.specs.Option.{option_map_or}
 use Rattle.wit_items.specs.declared.types.TypeDef.{TypeDef}
 use Rattle.wit_adding.specs.Gates.{is_active, type_is_active}

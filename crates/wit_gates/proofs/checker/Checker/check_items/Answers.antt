@@ -1,5 +1,4 @@
 use Rattle.std.proofs.Common.{arith}
-use Rattle.wit_gates.specs.GateSteps.{IsThere}
 use Rattle.wit_gates.proofs.Steps.{all_of, one_more}
 use Rattle.wit_gates.proofs.VersionsMet.{asks-foreign, foreign-there}
 use Rattle.wit_gates.proofs.checker.Checker.check_items.Goals as goal

@@ -1,4 +1,4 @@
-use Rattle.std.proofs.Common.{◌≡◌, ◌∙◌, ◌<◌, ◌≤◌, [], ◌∷◌, List, Option, ap, sym, subst, length, arith, Contains}
+use Rattle.std.proofs.Common.{◌≡◌, ◌∙◌, ap, length, arith}
 use Rattle.wit_items.specs.Foreign.{foreign_worlds}
 use Rattle.wit_gates.proofs.Steps.{all_of, one_more}
 use Rattle.wit_gates.proofs.VersionsMet.{own-world-asked}

@@ -1,6 +1,6 @@
 use Rattle.std.proofs.Common.{◌∙◌, sym}
 use Rattle.wit_gates.specs.ReferenceSteps.{thing_of}
-use Rattle.wit_gates.proofs.ReferencesStay.{not-left-out, told-excluded}
+use Rattle.wit_gates.proofs.ReferencesStay.{told-excluded}
 use Rattle.wit_gates.proofs.checker.Checker.look_at.Goals as goal
 
 pub returns-clause-cause : goal.returns-clause-cause
