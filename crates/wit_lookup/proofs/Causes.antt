@@ -25,9 +25,9 @@ use Rattle.wit_adding.specs.Cause.{IsCause, interface_not_found_3, package_not_f
 use Rattle.wit_adding.specs.CauseText.{type_not_defined_text}
 use Rattle.wit_adding.specs.Found.{named_into}
 use Rattle.wit_adding.specs.Gates.{Place, interface_is_active, type_is_active, world_is_active}
-use Rattle.wit_adding.specs.Lookup.{find_interface, find_package, find_world, found_interface, is_foreign_type, listed_type, named_items}
-use Rattle.wit_adding.specs.Reasons.{LacksPackage, LacksType, known_packages}
-use Rattle.wit_lookup.specs.Finding.{ArePackagesThere, AreTypesThere, IsAsked, IsHome, IsTypeThere, interface_in, world_in}
+use Rattle.wit_adding.specs.Lookup.{found_interface, is_foreign_type, listed_type, named_items}
+use Rattle.wit_adding.specs.Reasons.{known_packages}
+use Rattle.wit_lookup.specs.Finding.{ArePackagesThere, AreTypesThere, IsNamed, IsHome, IsTypeThere, interface_in, world_in}
 
 not_there : {X : Type 0} (o : Option X) → o ≡ None → is_some o ≡ true → ⊥
 not_there None none some = cc
@@ -51,36 +51,36 @@ package_missing a at name items s there some none other span =
     })
 
 -- 3
-pub interface_missing : (a : Addition) (name : PackageName) (home : Option ℕ) (requested : List ℕ) (i : ℕ) (interface : Interface) → IsAsked a name home requested (item.Interface i)
+pub interface_missing : (a : Addition) (name : PackageName) (home : Option ℕ) (requested : List ℕ) (i : ℕ) (interface : Interface) → IsNamed a name home requested (item.Interface i)
     → interface_is_active a.features a.handed i ≡ true → interface_in a.graph home requested ≡ None → slice_get a.handed.interfaces i ≡ Some interface
     → IsCause a (InterfaceNotFound (moved_by a.offset interface.span) requested name)
-interface_missing a name home requested i interface asked active none at =
+interface_missing a name home requested i interface named active none at =
     interface_not_found_3 (moved_by a.offset interface.span) requested name
     (record {
-      at = asked.at;
+      at = named.at;
       i = i;
-      notes = asked.notes;
-      names = asked.names;
+      notes = named.notes;
+      names = named.names;
       active = active;
-      has_package = asked.has_package;
-      absent = ap (λ (h : Option ℕ). interface_in a.graph h requested) (sym asked.home_is) ∙ none;
+      has_package = named.has_package;
+      absent = ap (λ (h : Option ℕ). interface_in a.graph h requested) (sym named.home_is) ∙ none;
       span_is = some_at (λ (x : Interface). moved_by a.offset interface.span ≡ moved_by a.offset x.span) a.handed.interfaces i interface at refl;
     })
 
 -- 2
-pub world_missing : (a : Addition) (name : PackageName) (home : Option ℕ) (requested : List ℕ) (w : ℕ) (world : World) → IsAsked a name home requested (item.World w)
+pub world_missing : (a : Addition) (name : PackageName) (home : Option ℕ) (requested : List ℕ) (w : ℕ) (world : World) → IsNamed a name home requested (item.World w)
     → world_is_active a.features a.handed w ≡ true → world_in a.graph home requested ≡ None → slice_get a.handed.worlds w ≡ Some world
     → IsCause a (WorldNotFound (moved_by a.offset world.span) requested name)
-world_missing a name home requested w world asked active none at =
+world_missing a name home requested w world named active none at =
     world_not_found_2 (moved_by a.offset world.span) requested name
     (record {
-      at = asked.at;
+      at = named.at;
       w = w;
-      notes = asked.notes;
-      names = asked.names;
+      notes = named.notes;
+      names = named.names;
       active = active;
-      has_package = asked.has_package;
-      absent = ap (λ (h : Option ℕ). world_in a.graph h requested) (sym asked.home_is) ∙ none;
+      has_package = named.has_package;
+      absent = ap (λ (h : Option ℕ). world_in a.graph h requested) (sym named.home_is) ∙ none;
       span_is = some_at (λ (x : World). moved_by a.offset world.span ≡ moved_by a.offset x.span) a.handed.worlds w world at refl;
     })
 
@@ -164,10 +164,10 @@ no_home a place name items there other none empty = record {
   there = λ some. absurd (some (nil_from_length items empty));
 }
 
--- an item that is named is asked
-pub asked : (a : Addition) (place : ℕ) (name : PackageName) (items : List ForeignItem) (home : Option ℕ) (index : ℕ) (requested : List ℕ) (what : AstItem × List Stability) (it : AstItem)
-    → IsHome a place name items home → slice_get items index ≡ Some (requested, what) → what.0 ≡ it → IsAsked a name home requested it
-asked a place name items home index requested what it is at kind =
+-- an item of a package that is there
+pub is_named : (a : Addition) (place : ℕ) (name : PackageName) (items : List ForeignItem) (home : Option ℕ) (index : ℕ) (requested : List ℕ) (what : AstItem × List Stability) (it : AstItem)
+    → IsHome a place name items home → slice_get items index ≡ Some (requested, what) → what.0 ≡ it → IsNamed a name home requested it
+is_named a place name items home index requested what it is at kind =
     let has : Contains items (requested, what) = contained_at items index (requested, what) at in
     record {
       at = place;

@@ -1,8 +1,8 @@
 -- What stands in the lists that the steps hand on.
-use Rattle.std.proofs.Common.{◌≡◌, ◌∙◌, ◌<◌, ℕ, Bool, true, false, not, is_some, List, map, length, Option, Some, None, slice_get, refl, sym, ap, subst, arith}
+use Rattle.std.proofs.Common.{◌≡◌, ◌∙◌, ◌<◌, ℕ, Bool, true, false, not, is_some, List, map, length, Option, Some, None, slice_get, refl, ap, subst, arith}
 use Rattle.std.specs.List.{range_with_len}
 use Rattle.std.proofs.lemmas.Option.{slice_get_within}
-use Rattle.wit_items.specs.Foreign.{ForeignItem, IsBareInterface, IsBareWorld}
+use Rattle.wit_items.specs.Foreign.{IsBareInterface, IsBareWorld}
 use Rattle.wit_items.specs.Shape.{IsShaped}
 use Rattle.wit_items.specs.declared.package_name.PackageName.{PackageName}
 use Rattle.wit_items.specs.declared.unresolved.AstItem.TheVariants as item
@@ -12,7 +12,7 @@ use Rattle.wit_adding.specs.Adding.{activity_of}
 use Rattle.wit_adding.specs.Found.{named_at}
 use Rattle.wit_adding.specs.Gates.{interface_is_active, type_is_active, world_is_active}
 use Rattle.wit_adding.specs.declared.adding.Activity.{Activity}
-use Rattle.wit_lookup.specs.Finding.{IsAsked, Named, found_among, interface_among, world_among}
+use Rattle.wit_lookup.specs.Finding.{IsNamed, Named, found_among, interface_among, world_among}
 use Rattle.wit_lookup.specs.declared.foreign.Found.{Found}
 use Rattle.wit_lookup.proofs.Ranges.{at-range, length-range}
 
@@ -56,19 +56,19 @@ module _ (a : Addition) (named : List Named) (found : Found) (is : found ≡ fou
 
 -- what is named is there
 module _ (a : Addition) (shaped : IsShaped a.handed) where
-  pub asked_interface-inside : (name : PackageName) (home : Option ℕ) (requested : List ℕ) (i : ℕ) → IsAsked a name home requested (item.Interface i) → i < length a.handed.interfaces
-  asked_interface-inside name home requested i asked =
-      let there = named_at a.handed.foreign_deps (asked.at, name, (requested, (item.Interface i, asked.notes))) asked.names in
-      let at = place_of there.0 (requested, (item.Interface i, asked.notes)) there.2 in
-      let bare = shaped.foreign.bare asked.at (name, there.0) there.1 at.0 (requested, (item.Interface i, asked.notes)) at.1 in
+  pub named_interface-inside : (name : PackageName) (home : Option ℕ) (requested : List ℕ) (i : ℕ) → IsNamed a name home requested (item.Interface i) → i < length a.handed.interfaces
+  named_interface-inside name home requested i named =
+      let there = named_at a.handed.foreign_deps (named.at, name, (requested, (item.Interface i, named.notes))) named.names in
+      let at = place_of there.0 (requested, (item.Interface i, named.notes)) there.2 in
+      let bare = shaped.foreign.bare named.at (name, there.0) there.1 at.0 (requested, (item.Interface i, named.notes)) at.1 in
       let one = found_at (IsBareInterface requested) a.handed.interfaces i bare.0 in
       slice_get_within a.handed.interfaces i one.0 one.1
 
-  pub asked_world-inside : (name : PackageName) (home : Option ℕ) (requested : List ℕ) (w : ℕ) → IsAsked a name home requested (item.World w) → w < length a.handed.worlds
-  asked_world-inside name home requested w asked =
-      let there = named_at a.handed.foreign_deps (asked.at, name, (requested, (item.World w, asked.notes))) asked.names in
-      let at = place_of there.0 (requested, (item.World w, asked.notes)) there.2 in
-      let bare = shaped.foreign.bare asked.at (name, there.0) there.1 at.0 (requested, (item.World w, asked.notes)) at.1 in
+  pub named_world-inside : (name : PackageName) (home : Option ℕ) (requested : List ℕ) (w : ℕ) → IsNamed a name home requested (item.World w) → w < length a.handed.worlds
+  named_world-inside name home requested w named =
+      let there = named_at a.handed.foreign_deps (named.at, name, (requested, (item.World w, named.notes))) named.names in
+      let at = place_of there.0 (requested, (item.World w, named.notes)) there.2 in
+      let bare = shaped.foreign.bare named.at (name, there.0) there.1 at.0 (requested, (item.World w, named.notes)) at.1 in
       let one = found_at (IsBareWorld requested) a.handed.worlds w bare.0 in
       slice_get_within a.handed.worlds w one.0 one.1
 

@@ -1,8 +1,8 @@
 -- Where things go, and which take the next ids.
-use Rattle.std.proofs.Common.{◌≡◌, ◌∙◌, ◌+◌, ◌<◌, ◌&&◌, ℕ, suc, Bool, true, false, not, List, [], ◌∷◌, ◌⊎◌, inl, inr, length, nat_eq, Option, None, Some, is_none, slice_get, refl, sym, ap, subst, arith, add-one, Contains, if◌then◌else◌}
-use Rattle.std.specs.List.{find, flat_map, list_any}
+use Rattle.std.proofs.Common.{◌≡◌, ◌∙◌, ◌+◌, ◌<◌, ◌&&◌, ℕ, Bool, true, false, not, List, [], ◌∷◌, inl, inr, length, nat_eq, Option, None, Some, refl, sym, ap, subst, arith, add-one, Contains, if◌then◌else◌}
+use Rattle.std.specs.List.{flat_map, list_any}
 use Rattle.std.specs.Prelude.{option_and_then}
-use Rattle.std.proofs.lemmas.Bool.{cases_Bool, false≢true, lt-ltb, ltb-true}
+use Rattle.std.proofs.lemmas.Bool.{false≢true, lt-ltb, ltb-true}
 use Rattle.wit_relations.specs.FreshFacts.{any_from_contains, contains_from_any}
 use Rattle.wit_relations.specs.MemberFacts.{Contains-cons_cases, Contains-flat_map, Contains-flat_map_cases, Contains-nil}
 use Rattle.wit_items.specs.Foreign.{AreFirst, ForeignItem, foreign_interfaces, foreign_worlds, interface_id, world_id}
@@ -12,7 +12,7 @@ use Rattle.wit_items.specs.declared.unresolved.AstItem.{AstItem}
 use Rattle.wit_items.specs.declared.unresolved.AstItem.TheVariants as item
 use Rattle.wit_growth.specs.ListFacts.{place_of}
 use Rattle.wit_adding.specs.Addition.{Addition, own_interface, own_type, own_world, taken_interface, taken_type, taken_world}
-use Rattle.wit_adding.specs.Found.{find-passes, find-some, interface_of, named_into}
+use Rattle.wit_adding.specs.Found.{find-passes, find-some, interface_of}
 use Rattle.wit_adding.specs.Gates.{interface_is_active, is_foreign_interface, is_foreign_world, type_is_active, world_is_active}
 use Rattle.wit_adding.specs.ClosedCut.{member_of_first}
 use Rattle.wit_adding.specs.Lookup.{find_interface, find_world, found_interface, found_type, found_world, is_foreign_type, named_items, naming}
@@ -124,9 +124,9 @@ module _ (a : Addition) (shaped : IsShaped a.handed) (there : AreThere a (named_
       → (place ≡ taken_interface a i) × (new ≡ length a.graph.interfaces + rank (own_interface a) (i + 1))
   interface_step i active found next new place active_is found_is next_is place_is new_is = (
     place_is ∙ ap (λ (b : Bool). goes b found next) active_is ∙ ap (λ (o : Option ℕ). goes (interface_is_active a.features a.handed i) o next) found_is
-    ∙ ap (goes (interface_is_active a.features a.handed i) (found_interface a.graph a.handed i)) next_is ∙ interface_goes i,
+        ∙ ap (goes (interface_is_active a.features a.handed i) (found_interface a.graph a.handed i)) next_is ∙ interface_goes i,
     next_id (own_interface a) (length a.graph.interfaces) i (takes_next active found) new
-    (ap (λ (b : Bool). takes_next b found) active_is ∙ ap (λ (o : Option ℕ). takes_next (interface_is_active a.features a.handed i) o) found_is ∙ interface_takes i) (new_is ∙ ap (after (takes_next active found)) next_is),
+        (ap (λ (b : Bool). takes_next b found) active_is ∙ ap (λ (o : Option ℕ). takes_next (interface_is_active a.features a.handed i) o) found_is ∙ interface_takes i) (new_is ∙ ap (after (takes_next active found)) next_is),
   )
 
   pub world_step : (w : ℕ) (active : Bool) (found : Option ℕ) (next new : ℕ) (place : Option ℕ) → active ≡ world_is_active a.features a.handed w → found ≡ found_world a.graph a.handed w
@@ -134,9 +134,9 @@ module _ (a : Addition) (shaped : IsShaped a.handed) (there : AreThere a (named_
       → (place ≡ taken_world a w) × (new ≡ length a.graph.worlds + rank (own_world a) (w + 1))
   world_step w active found next new place active_is found_is next_is place_is new_is = (
     place_is ∙ ap (λ (b : Bool). goes b found next) active_is ∙ ap (λ (o : Option ℕ). goes (world_is_active a.features a.handed w) o next) found_is
-    ∙ ap (goes (world_is_active a.features a.handed w) (found_world a.graph a.handed w)) next_is ∙ world_goes w,
+        ∙ ap (goes (world_is_active a.features a.handed w) (found_world a.graph a.handed w)) next_is ∙ world_goes w,
     next_id (own_world a) (length a.graph.worlds) w (takes_next active found) new
-    (ap (λ (b : Bool). takes_next b found) active_is ∙ ap (λ (o : Option ℕ). takes_next (world_is_active a.features a.handed w) o) found_is ∙ world_takes w) (new_is ∙ ap (after (takes_next active found)) next_is),
+        (ap (λ (b : Bool). takes_next b found) active_is ∙ ap (λ (o : Option ℕ). takes_next (world_is_active a.features a.handed w) o) found_is ∙ world_takes w) (new_is ∙ ap (after (takes_next active found)) next_is),
   )
 
 -- ---- types
@@ -152,15 +152,11 @@ type_takes false false own = refl
 type_takes true true own = absurd (own refl refl)
 type_takes true false own = refl
 
--- a type of another package that takes part goes where it is found, and takes no id
+-- a type of another package that takes part goes where it is found
 pub foreign_type_goes : (a : Addition) (t : ℕ) → type_is_active a.features a.handed.types t ≡ true → is_foreign_type a.handed t ≡ true → found_type a.graph a.handed t ≡ taken_type a t
 foreign_type_goes a t active foreign =
     sym (ap (λ (b : Bool). if b then (if is_foreign_type a.handed t then found_type a.graph a.handed t else Some (length a.graph.types + rank (own_type a) t)) else None) active
     ∙ ap (λ (b : Bool). if b then found_type a.graph a.handed t else Some (length a.graph.types + rank (own_type a) t)) foreign)
-
-pub foreign_type_takes : (a : Addition) (t next : ℕ) → is_foreign_type a.handed t ≡ true → next ≡ length a.graph.types + rank (own_type a) t → next ≡ length a.graph.types + rank (own_type a) (t + 1)
-foreign_type_takes a t next foreign is =
-    next_id (own_type a) (length a.graph.types) t false next (sym (ap (λ (b : Bool). not b && type_is_active a.features a.handed.types t) foreign)) is
 
 -- any other type goes nowhere, or to the next id
 pub own_type_step : (a : Addition) (t : ℕ) (active : Bool) (next new : ℕ) (place : Option ℕ) → active ≡ type_is_active a.features a.handed.types t
@@ -168,7 +164,7 @@ pub own_type_step : (a : Addition) (t : ℕ) (active : Bool) (next new : ℕ) (p
     → (place ≡ taken_type a t) × (new ≡ length a.graph.types + rank (own_type a) (t + 1))
 own_type_step a t active next new place active_is own next_is place_is new_is = (
   place_is ∙ ap (λ (b : Bool). goes b None next) active_is ∙ ap (goes (type_is_active a.features a.handed.types t) None) next_is
-  ∙ type_goes (type_is_active a.features a.handed.types t) (is_foreign_type a.handed t) (found_type a.graph a.handed t) (length a.graph.types + rank (own_type a) t) own,
+      ∙ type_goes (type_is_active a.features a.handed.types t) (is_foreign_type a.handed t) (found_type a.graph a.handed t) (length a.graph.types + rank (own_type a) t) own,
   next_id (own_type a) (length a.graph.types) t (takes_next active None) new (ap (λ (b : Bool). takes_next b None) active_is ∙ type_takes (type_is_active a.features a.handed.types t) (is_foreign_type a.handed t) own)
-  (new_is ∙ ap (after (takes_next active None)) next_is),
+      (new_is ∙ ap (after (takes_next active None)) next_is),
 )

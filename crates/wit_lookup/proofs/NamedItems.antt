@@ -1,6 +1,6 @@
 -- What is named of other packages, item by item.
-use Rattle.std.proofs.Common.{◌≡◌, ◌∙◌, ℕ, zero, suc, ◌+◌, ◌<◌, List, [], ◌∷◌, ◌++◌, map, length, take, drop, nat_eq, Some, slice_get, refl, sym, ap, subst, append_assoc, arith, Contains}
-use Rattle.std.specs.List.{IsDistinct, enumerate_from, flat_map}
+use Rattle.std.proofs.Common.{◌≡◌, ◌∙◌, ℕ, zero, suc, ◌+◌, ◌<◌, List, [], ◌∷◌, ◌++◌, map, length, take, drop, Some, slice_get, refl, sym, ap, append_assoc, arith}
+use Rattle.std.specs.List.{enumerate_from, flat_map}
 use Rattle.std.proofs.lemmas.Grind.{flat_map-append}
 use Rattle.std.proofs.lemmas.List.{take_all}
 use Rattle.std.proofs.lemmas.List.FromFn.{length-enumerate_from}
@@ -54,12 +54,11 @@ module _ (deps : ForeignItems) (place : ℕ) (name : PackageName) (items : List 
       let first = split_at all place e (enumerated deps 0 place place (name, items) (omega arith) there) in
       let second = split_at items index it at in
       let outer : named_items deps ≡ named_before deps place ++ (map m items ++ behind) = ap (flat_map named_of) first ∙ flat_map-append named_of (take place all) (e ∷ drop (suc place) all) in
-      let inner : map m items ≡ map m (take index items) ++ m it ∷ map m (drop (suc index) items) = ap (map m) second ∙ map-append' m (take index items) (it ∷ drop (suc index) items) in
-      (
+      let inner : map m items ≡ map m (take index items) ++ m it ∷ map m (drop (suc index) items) = ap (map m) second ∙ map-append' m (take index items) (it ∷ drop (suc index) items) in (
         map m (drop (suc index) items) ++ behind,
         outer ∙ ap (λ (l : List Named). named_before deps place ++ (l ++ behind)) inner
-        ∙ ap (λ (l : List Named). named_before deps place ++ l) (append_assoc (map m (take index items)) (m it ∷ map m (drop (suc index) items)) behind)
-        ∙ sym (append_assoc (named_before deps place) (map m (take index items)) (m it ∷ (map m (drop (suc index) items) ++ behind))),
+            ∙ ap (λ (l : List Named). named_before deps place ++ l) (append_assoc (map m (take index items)) (m it ∷ map m (drop (suc index) items)) behind)
+            ∙ sym (append_assoc (named_before deps place) (map m (take index items)) (m it ∷ (map m (drop (suc index) items) ++ behind))),
       )
     where
       map-append' : (f : ForeignItem → Named) (xs ys : List ForeignItem) → map f (xs ++ ys) ≡ map f xs ++ map f ys

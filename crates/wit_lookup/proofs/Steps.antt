@@ -1,5 +1,5 @@
 -- One more item that is found.
-use Rattle.std.proofs.Common.{◌≡◌, ◌∙◌, ◌<◌, ℕ, true, List, [], ◌∷◌, ◌++◌, ◌⊎◌, inl, inr, map, length, nat_eq, Option, None, Some, slice_get, slice_set, refl, sym, ap, subst, Contains}
+use Rattle.std.proofs.Common.{◌≡◌, ◌∙◌, ◌<◌, ℕ, true, List, [], ◌∷◌, ◌++◌, inl, inr, map, length, nat_eq, Option, None, slice_set, sym, ap, subst, Contains}
 use Rattle.std.specs.List.{IsDistinct, find, flat_map, range_with_len}
 use Rattle.std.specs.Prelude.{option_and_then}
 use Rattle.std.proofs.lemmas.List.Elements.{Contains-append_cases}

@@ -1,5 +1,5 @@
 -- A type of another package, found or missing.
-use Rattle.std.proofs.Common.{◌≡◌, ◌∙◌, ◌<◌, ◌+◌, ℕ, true, List, length, Option, None, Some, slice_get, sym, ap, subst, arith}
+use Rattle.std.proofs.Common.{◌≡◌, ◌∙◌, ◌<◌, ℕ, true, List, length, Option, None, Some, slice_get, sym, ap, subst, arith}
 use Rattle.std.specs.Prelude.{option_and_then}
 use Rattle.wit_items.specs.Foreign.{IsForeignType, foreign_interfaces}
 use Rattle.wit_items.specs.Shape.{IsShaped}

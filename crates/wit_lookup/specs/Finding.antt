@@ -47,7 +47,7 @@ abbrev pub ArePackagesThere : Addition → ℕ → Type 0
 ArePackagesThere a n = (span : Place) (requested : PackageName) (known : List PackageName) (lacks : LacksPackage a span requested known) → lacks.at < n → ⊥
 
 -- this item is named of a package that is there
-pub record IsAsked (a : Addition) (name : PackageName) (home : Option ℕ) (requested : List ℕ) (it : AstItem) : Type 0 where
+pub record IsNamed (a : Addition) (name : PackageName) (home : Option ℕ) (requested : List ℕ) (it : AstItem) : Type 0 where
   pub at : ℕ
   pub notes : List Stability
   pub names : Contains (named_items a.handed.foreign_deps) (at, name, (requested, (it, notes)))

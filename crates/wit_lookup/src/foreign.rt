@@ -8,7 +8,7 @@ ghost use Rattle.wit_adding.specs.Adding.{activity_of, addition_of};
 ghost use Rattle.wit_adding.specs.Cause.{IsCause};
 ghost use Rattle.wit_adding.specs.Gates.{interface_is_active, world_is_active};
 ghost use Rattle.wit_adding.specs.Lookup.{named_items};
-ghost use Rattle.wit_lookup.specs.Finding.{ArePackagesThere, AreThere, IsAsked, found_among, interface_in, named_before, world_in};
+ghost use Rattle.wit_lookup.specs.Finding.{ArePackagesThere, AreThere, IsNamed, found_among, interface_in, named_before, world_in};
 
 use crate::packages::{Home, find_home};
 use crate::refusal::{interface_not_found, world_not_found};
@@ -106,7 +106,7 @@ fn find_interface(
 ) -> ResolveResult<Option<InterfaceId>>
     requires shaped { IsShaped adding.now.handed.now }
     requires activity { activity.now ≡ activity_of (addition_of adding.now) }
-    requires asked { IsAsked (addition_of adding.now) home.now.name.now home.now.id requested.now (item.Interface id) }
+    requires named { IsNamed (addition_of adding.now) home.now.name.now home.now.id requested.now (item.Interface id) }
     ensures found { IfOk result (λ there. there ≡ interface_in adding.now.graph.now home.now.id requested.now) }
     ensures there { IfOk result (λ there. interface_is_active adding.now.features.now adding.now.handed.now id ≡ true → there ≢ None) }
     ensures cause { IfErr result (λ kind. (kind ≡ OutOfMemory) ⊎ IsCause (addition_of adding.now) kind) }
@@ -130,7 +130,7 @@ fn find_world(
 ) -> ResolveResult<Option<WorldId>>
     requires shaped { IsShaped adding.now.handed.now }
     requires activity { activity.now ≡ activity_of (addition_of adding.now) }
-    requires asked { IsAsked (addition_of adding.now) home.now.name.now home.now.id requested.now (item.World id) }
+    requires named { IsNamed (addition_of adding.now) home.now.name.now home.now.id requested.now (item.World id) }
     ensures found { IfOk result (λ there. there ≡ world_in adding.now.graph.now home.now.id requested.now) }
     ensures there { IfOk result (λ there. world_is_active adding.now.features.now adding.now.handed.now id ≡ true → there ≢ None) }
     ensures cause { IfErr result (λ kind. (kind ≡ OutOfMemory) ⊎ IsCause (addition_of adding.now) kind) }

@@ -18,11 +18,7 @@ use wit_graph::ResolveResult;
 ///
 /// Refused where a package isn't there (1), or, of what takes part, a world (2), an interface (3) or a type (13)
 /// of another package. The caller has seen that no span passes the last position.
-pub fn places(
-    alloc: Global,
-    adding: &Adding<'_>,
-    activity: &Activity,
-) -> ResolveResult<Places>
+pub fn places(alloc: Global, adding: &Adding<'_>, activity: &Activity) -> ResolveResult<Places>
     requires shaped { IsShaped adding.now.handed.now }
     requires activity { activity.now ≡ activity_of (addition_of adding.now) }
     ensures places { IfOk result (λ places. places ≡ places_of (addition_of adding.now)) }

@@ -1,4 +1,5 @@
-//! Where the interfaces and worlds of a package go.
+//! Where the interfaces and worlds of a package go. All that is of other packages and takes part has been found,
+//! so what takes part and isn't found is the package's own.
 ghost use Rattle.std.specs.Prelude.{◌≡◌, IfOk, OnOk, length, map};
 ghost use Rattle.std.specs.List.{range_with_len};
 ghost use Rattle.wit_items.specs.Shape.{IsShaped};
@@ -13,7 +14,8 @@ use std::alloc::{AllocError, Global};
 use wit_adding::{Activity, Adding};
 use wit_items::{Id, InterfaceId, Items, WorldId};
 
-/// Where the interfaces go: what takes part goes to what is found of it, or, its own, to the next ids.
+/// Where the interfaces go: what takes part goes to what is found of it, or, if it is the package's own, to the
+/// next id.
 pub(crate) fn interface_places(
     alloc: Global,
     adding: &Adding<'_>,
@@ -69,8 +71,11 @@ pub(crate) fn next_place<S>(
     ensures place { IfOk result (λ place. place ≡ goes active found next.old) }
     ensures next { OnOk result (next.new ≡ after (takes_next active found) next.old) }
 {
-    if !active || found.is_some() {
-        return Ok(if active { found } else { None });
+    if !active {
+        return Ok(None);
+    }
+    if found.is_some() {
+        return Ok(found);
     }
     let id = Id::from_index(*next);
     *next = next.checked_add(1).ok_or(AllocError)?;

@@ -19,8 +19,9 @@ use wit_adding::{Activity, Adding};
 use wit_graph::{Graph, ResolveResult};
 use wit_items::{InterfaceId, Items, Text, TypeId, TypeOwner};
 
-/// Where the types go: what takes part goes to what is found of it, or, its own, to the next ids. Refused where
-/// a type of another package that takes part, as its interface does, isn't in that interface (13).
+/// Where the types go: what takes part goes to what is found of it, or, if it is the package's own, to the next
+/// id. Refused where a type of another package that takes part, as its interface does, isn't in that interface
+/// (13).
 pub(crate) fn type_places(
     alloc: Global,
     adding: &Adding<'_>,

@@ -1,4 +1,4 @@
-use Rattle.std.proofs.Common.{◌≡◌, ◌∙◌, None, Option, ℕ, ap, arith, map, refl, subst}
+use Rattle.std.proofs.Common.{◌∙◌, None, Option, ℕ, ap, arith, map, refl, subst}
 use Rattle.std.specs.List.{range_with_len}
 use Rattle.wit_adding.specs.Adding.{addition_of}
 use Rattle.wit_lookup.specs.Finding.{AreThere, found_among}
@@ -11,8 +11,8 @@ loop-place-init c =
     let a = addition_of c.args.adding.now in
     record {
       found = nothing-found a c.in_ok-interfaces.interfaces c.in_ok-worlds.worlds
-      (c.in_ok-interfaces.ensures ∙ ap (λ (n : ℕ). map (λ (i : ℕ). let o : Option ℕ = None in o) (range_with_len 0 n)) c.len.ensures)
-      (c.in_ok-worlds.ensures ∙ ap (λ (n : ℕ). map (λ (i : ℕ). let o : Option ℕ = None in o) (range_with_len 0 n)) c.len-2.ensures) (record { interfaces = c.in_ok-interfaces.interfaces; worlds = c.in_ok-worlds.worlds }) refl refl;
+          (c.in_ok-interfaces.ensures ∙ ap (λ (n : ℕ). map (λ (i : ℕ). let o : Option ℕ = None in o) (range_with_len 0 n)) c.len.ensures)
+          (c.in_ok-worlds.ensures ∙ ap (λ (n : ℕ). map (λ (i : ℕ). let o : Option ℕ = None in o) (range_with_len 0 n)) c.len-2.ensures) (record { interfaces = c.in_ok-interfaces.interfaces; worlds = c.in_ok-worlds.worlds }) refl refl;
       there = nothing-there a;
       packages = λ span requested known lacks below. absurd (omega (arith, below));
     }

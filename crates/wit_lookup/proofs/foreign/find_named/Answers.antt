@@ -1,17 +1,17 @@
-use Rattle.std.proofs.Common.{◌≡◌, ◌∙◌, ◌+◌, ap, arith, subst, sym}
+use Rattle.std.proofs.Common.{◌∙◌, ap, arith, subst}
 use Rattle.wit_adding.specs.Adding.{addition_of}
 use Rattle.wit_lookup.specs.Finding.{AreThere, found_among}
 use Rattle.wit_lookup.specs.declared.foreign.Found.{Found}
-use Rattle.wit_lookup.proofs.Causes.{asked, packages-next}
-use Rattle.wit_lookup.proofs.Flags.{asked_interface-inside, asked_world-inside, found_interface-inside, found_world-inside}
+use Rattle.wit_lookup.proofs.Causes.{is_named, packages-next}
+use Rattle.wit_lookup.proofs.Flags.{named_interface-inside, named_world-inside, found_interface-inside, found_world-inside}
 use Rattle.wit_lookup.proofs.NamedItems.{named_until, until-all}
 use Rattle.wit_lookup.proofs.ItemSteps.{interface_step, world_step}
 use Rattle.wit_lookup.proofs.foreign.find_named.Goals as goal
 use Rattle.wit_lookup.proofs.foreign.find_named.Goals.{in-Interface+in_ok-there-in-Interface, in-World+in_ok-there-in-World}
 
-pub find_interface-requires-clause-asked : goal.find_interface-requires-clause-asked
-find_interface-requires-clause-asked c =
-    asked (addition_of c.args.adding.now) c.args.place c.in_ok-home.home.name.now c.in_ok-home.home.items.now c.in_ok-home.home.id c.loop-index.index c.entry_at.result.0.now c.entry_at.result.1.now _ c.in_ok-home.ensures.home
+pub find_interface-requires-clause-named : goal.find_interface-requires-clause-named
+find_interface-requires-clause-named c =
+    is_named (addition_of c.args.adding.now) c.args.place c.in_ok-home.home.name.now c.in_ok-home.home.items.now c.in_ok-home.home.id c.loop-index.index c.entry_at.result.0.now c.entry_at.result.1.now _ c.in_ok-home.ensures.home
     c.entry_at.ensures c.in-Interface.is
 
 pub set-requires : goal.set-requires
@@ -20,13 +20,13 @@ set-requires c =
     rw c.index.ensures
     (found_interface-inside a (named_until c.args.adding.now.handed.now.foreign_deps c.args.place c.in_ok-home.home.name.now c.in_ok-home.home.items.now c.loop-index.index) c.loop-index.found c.loop-index.invariant.found
     c.in-Interface.id
-    (asked_interface-inside a c.requires.shaped c.in_ok-home.home.name.now c.in_ok-home.home.id c.entry_at.result.0.now c.in-Interface.id
-    (asked a c.args.place c.in_ok-home.home.name.now c.in_ok-home.home.items.now c.in_ok-home.home.id c.loop-index.index c.entry_at.result.0.now c.entry_at.result.1.now _ c.in_ok-home.ensures.home c.entry_at.ensures
+    (named_interface-inside a c.requires.shaped c.in_ok-home.home.name.now c.in_ok-home.home.id c.entry_at.result.0.now c.in-Interface.id
+    (is_named a c.args.place c.in_ok-home.home.name.now c.in_ok-home.home.items.now c.in_ok-home.home.id c.loop-index.index c.entry_at.result.0.now c.entry_at.result.1.now _ c.in_ok-home.ensures.home c.entry_at.ensures
     c.in-Interface.is)))
 
-pub find_world-requires-clause-asked : goal.find_world-requires-clause-asked
-find_world-requires-clause-asked c =
-    asked (addition_of c.args.adding.now) c.args.place c.in_ok-home.home.name.now c.in_ok-home.home.items.now c.in_ok-home.home.id c.loop-index.index c.entry_at.result.0.now c.entry_at.result.1.now _ c.in_ok-home.ensures.home
+pub find_world-requires-clause-named : goal.find_world-requires-clause-named
+find_world-requires-clause-named c =
+    is_named (addition_of c.args.adding.now) c.args.place c.in_ok-home.home.name.now c.in_ok-home.home.items.now c.in_ok-home.home.id c.loop-index.index c.entry_at.result.0.now c.entry_at.result.1.now _ c.in_ok-home.ensures.home
     c.entry_at.ensures c.in-World.is
 
 pub set-requires-in-World : goal.set-requires-in-World
@@ -35,8 +35,8 @@ set-requires-in-World c =
     rw c.index-in-World.ensures
     (found_world-inside a (named_until c.args.adding.now.handed.now.foreign_deps c.args.place c.in_ok-home.home.name.now c.in_ok-home.home.items.now c.loop-index.index) c.loop-index.found c.loop-index.invariant.found
     c.in-World.id
-    (asked_world-inside a c.requires.shaped c.in_ok-home.home.name.now c.in_ok-home.home.id c.entry_at.result.0.now c.in-World.id
-    (asked a c.args.place c.in_ok-home.home.name.now c.in_ok-home.home.items.now c.in_ok-home.home.id c.loop-index.index c.entry_at.result.0.now c.entry_at.result.1.now _ c.in_ok-home.ensures.home c.entry_at.ensures
+    (named_world-inside a c.requires.shaped c.in_ok-home.home.name.now c.in_ok-home.home.id c.entry_at.result.0.now c.in-World.id
+    (is_named a c.args.place c.in_ok-home.home.name.now c.in_ok-home.home.items.now c.in_ok-home.home.id c.loop-index.index c.entry_at.result.0.now c.entry_at.result.1.now _ c.in_ok-home.ensures.home c.entry_at.ensures
     c.in-World.is)))
 
 pub loop-index-preserved : goal.loop-index-preserved

@@ -3,7 +3,7 @@ use Rattle.std.proofs.lemmas.Bool.{false≢true}
 use Rattle.wit_adding.specs.Adding.{addition_of}
 use Rattle.wit_adding.specs.Gates.{world_is_active}
 use Rattle.wit_lookup.proofs.Causes.{world_missing}
-use Rattle.wit_lookup.proofs.Flags.{asked_world-inside, world-flag, world-inside, none_from_test, some_from_test}
+use Rattle.wit_lookup.proofs.Flags.{named_world-inside, world-flag, world-inside, none_from_test, some_from_test}
 use Rattle.wit_lookup.proofs.foreign.find_world.Goals as goal
 use Rattle.wit_lookup.proofs.foreign.find_world.Goals.{else-is_none-via-else-is_none, else-is_none-via-then-is_none+else-at}
 
@@ -11,12 +11,12 @@ pub at-requires : goal.at-requires
 at-requires c =
     let a = addition_of c.args.adding.now in
     rw c.index.ensures
-    (world-inside a c.args.activity.now c.requires.activity c.args.id (asked_world-inside a c.requires.shaped c.args.home.now.name.now c.args.home.now.id c.args.requested.now c.args.id c.requires.asked))
+    (world-inside a c.args.activity.now c.requires.activity c.args.id (named_world-inside a c.requires.shaped c.args.home.now.name.now c.args.home.now.id c.args.requested.now c.args.id c.requires.named))
 
 pub at-requires-then-at : goal.at-requires-then-at
 at-requires-then-at c =
     let a = addition_of c.args.adding.now in
-    rw c.index-then-at.ensures (asked_world-inside a c.requires.shaped c.args.home.now.name.now c.args.home.now.id c.args.requested.now c.args.id c.requires.asked)
+    rw c.index-then-at.ensures (named_world-inside a c.requires.shaped c.args.home.now.name.now c.args.home.now.id c.args.requested.now c.args.id c.requires.named)
 
 pub returns-then-at-clause-cause : goal.returns-then-at-clause-cause
 returns-then-at-clause-cause c =
@@ -25,7 +25,7 @@ returns-then-at-clause-cause c =
     ap (world_is_active c.args.adding.now.features.now c.args.adding.now.handed.now) (sym c.index.ensures) ∙ sym (world-flag a c.args.activity.now c.requires.activity c.index.result c.at.result.now c.at.ensures)
     ∙ c.if-at.true in
     rw c.in_ok-world_not_found.ensures
-    (inr (world_missing a c.args.home.now.name.now c.args.home.now.id c.args.requested.now c.args.id c.at-then-at.result.now c.requires.asked active
+    (inr (world_missing a c.args.home.now.name.now c.args.home.now.id c.args.requested.now c.args.id c.at-then-at.result.now c.requires.named active
     (sym c.world_of-there.ensures ∙ none_from_test c.world_of-there.result c.is_none.result c.is_none.ensures c.if-is_none.true)
     (ap (slice_get c.args.adding.now.handed.now.worlds) (sym c.index-then-at.ensures) ∙ c.at-then-at.ensures)))
 

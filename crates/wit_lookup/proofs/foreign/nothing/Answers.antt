@@ -1,4 +1,4 @@
-use Rattle.std.proofs.Common.{◌≡◌, ◌∙◌, ◌++◌, ◌∷◌, [], None, ap, sym}
+use Rattle.std.proofs.Common.{◌∙◌, ◌++◌, ◌∷◌, [], None, ap, sym}
 use Rattle.wit_lookup.proofs.Ranges.{range-next}
 use Rattle.wit_lookup.proofs.foreign.nothing.Goals as goal
 

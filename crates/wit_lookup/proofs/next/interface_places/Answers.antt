@@ -1,4 +1,4 @@
-use Rattle.std.proofs.Common.{◌≡◌, ◌∙◌, ◌<◌, ◌++◌, ◌∷◌, [], List, Option, ℕ, ap, arith, length, map, sym}
+use Rattle.std.proofs.Common.{◌∙◌, ◌++◌, ◌∷◌, [], List, Option, ℕ, ap, arith, map, sym}
 use Rattle.std.specs.List.{range_with_len}
 use Rattle.wit_adding.specs.Addition.{taken_interface}
 use Rattle.wit_adding.specs.Adding.{addition_of}
@@ -24,6 +24,6 @@ loop-i-preserved c =
     c.in_ok-next_place.ensures.next in
     record {
       places = c.in_ok-push.ensures.ok ∙ ap (λ (l : List (Option ℕ)). l ++ c.in_ok-next_place.field-0 ∷ []) c.loop-i.invariant.places
-      ∙ ap (λ (p : Option ℕ). map (taken_interface a) (range_with_len 0 c.loop-i.i) ++ p ∷ []) step.0 ∙ sym (range-next (taken_interface a) c.loop-i.i);
+          ∙ ap (λ (p : Option ℕ). map (taken_interface a) (range_with_len 0 c.loop-i.i) ++ p ∷ []) step.0 ∙ sym (range-next (taken_interface a) c.loop-i.i);
       next = step.1;
     }

@@ -1,4 +1,4 @@
-use Rattle.std.proofs.Common.{◌≡◌, ◌∙◌, ◌<◌, ◌++◌, ◌∷◌, [], List, Option, ℕ, ap, arith, length, map, sym}
+use Rattle.std.proofs.Common.{◌∙◌, ◌++◌, ◌∷◌, [], List, Option, ℕ, ap, arith, map, sym}
 use Rattle.std.specs.List.{range_with_len}
 use Rattle.wit_adding.specs.Addition.{taken_world}
 use Rattle.wit_adding.specs.Adding.{addition_of}
@@ -24,6 +24,6 @@ loop-w-preserved c =
     c.in_ok-next_place.ensures.next in
     record {
       places = c.in_ok-push.ensures.ok ∙ ap (λ (l : List (Option ℕ)). l ++ c.in_ok-next_place.field-0 ∷ []) c.loop-w.invariant.places
-      ∙ ap (λ (p : Option ℕ). map (taken_world a) (range_with_len 0 c.loop-w.w) ++ p ∷ []) step.0 ∙ sym (range-next (taken_world a) c.loop-w.w);
+          ∙ ap (λ (p : Option ℕ). map (taken_world a) (range_with_len 0 c.loop-w.w) ++ p ∷ []) step.0 ∙ sym (range-next (taken_world a) c.loop-w.w);
       next = step.1;
     }

@@ -1,4 +1,4 @@
-use Rattle.std.proofs.Common.{◌≡◌, ◌∙◌, ap, inr, length, sym}
+use Rattle.std.proofs.Common.{◌∙◌, ap, inr, length, sym}
 use Rattle.std.proofs.lemmas.Bool.{false≢true}
 use Rattle.wit_adding.specs.Adding.{addition_of}
 use Rattle.wit_lookup.proofs.Causes.{found_home, no_home, own_home, package_missing}

@@ -1,8 +1,7 @@
-use Rattle.std.proofs.Common.{◌≡◌, ◌∙◌, ◌++◌, ◌∷◌, [], List, Option, ℕ, ap, arith, map, sym}
+use Rattle.std.proofs.Common.{◌∙◌, ◌++◌, ◌∷◌, [], List, Option, ℕ, ap, arith, map, sym}
 use Rattle.std.specs.List.{range_with_len}
 use Rattle.wit_adding.specs.Addition.{taken_type}
 use Rattle.wit_adding.specs.Adding.{addition_of}
-use Rattle.wit_lookup.specs.Finding.{AreTypesThere}
 use Rattle.wit_lookup.proofs.Causes.{types-next}
 use Rattle.wit_lookup.proofs.Ranges.{range-next}
 use Rattle.wit_lookup.proofs.types.type_places.Goals as goal
@@ -12,7 +11,7 @@ loop-t-preserved c =
     let a = addition_of c.args.adding.now in
     record {
       places = c.in_ok-push.ensures.ok ∙ ap (λ (l : List (Option ℕ)). l ++ c.in_ok-type_place.field-0 ∷ []) c.loop-t.invariant.places
-      ∙ ap (λ (p : Option ℕ). map (taken_type a) (range_with_len 0 c.loop-t.t) ++ p ∷ []) c.in_ok-type_place.ensures.place ∙ sym (range-next (taken_type a) c.loop-t.t);
+          ∙ ap (λ (p : Option ℕ). map (taken_type a) (range_with_len 0 c.loop-t.t) ++ p ∷ []) c.in_ok-type_place.ensures.place ∙ sym (range-next (taken_type a) c.loop-t.t);
       next = c.in_ok-type_place.ensures.next;
       there = types-next a c.loop-t.t c.loop-t.invariant.there c.in_ok-type_place.ensures.there;
     }
