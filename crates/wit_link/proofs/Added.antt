@@ -9,8 +9,8 @@ use Rattle.wit_adding.specs.Pushed.{with_parts}
 use Rattle.wit_adding.specs.WorldReasons.{WorldIsFine}
 use Rattle.wit_finishing.specs.Finished.{CanFinish}
 use Rattle.wit_link.specs.Checked.{IsChecked, IsNew}
+use Rattle.wit_link.specs.Images.{image_of, images}
 use Rattle.wit_link.specs.Supported.{IsSupported}
-use Rattle.wit_link.proofs.Stages.{image_of, images}
 use Rattle.wit_link.proofs.WorldsAreFine.{image_at, includes_are_fine, world_is_fine}
 
 module _ (a : Addition) (supported : IsSupported a.handed) (is_new : IsNew a) (checked : IsChecked a) (fine : AllByRecursion (CanFinish (with_parts a)) (images a)) where

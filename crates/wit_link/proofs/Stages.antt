@@ -19,6 +19,7 @@ use Rattle.wit_adding.specs.Include.{Begun, lists_of}
 use Rattle.wit_adding.specs.Pushed.{begun, begun_with, finished, pushed, with_include, with_parts, with_world, with_worlds}
 use Rattle.wit_adding_laws.specs.OwnThings.{own_world_from}
 use Rattle.wit_finishing.specs.Finished.{CanFinish, finished_world, with_all_finished, with_finished}
+use Rattle.wit_link.specs.Images.{image_of, images}
 use Rattle.wit_link.specs.Supported.{IncludesNothing, IsSupported}
 
 -- what stands among the first so many stands in the whole list
@@ -34,17 +35,9 @@ in_first (z ∷ zs) (suc n) zero x before at = at
 in_first (z ∷ zs) (suc n) (suc i) x before at = in_first zs n i x (omega arith) at
 
 module _ (a : Addition) where
-  -- a world of the package as it is put behind the graph, before it is finished
-  abbrev pub image_of : ℕ × World → World
-  image_of e = world_image (addition_maps a) e.0 e.1
-
-  -- all of them
-  abbrev pub images : List World
-  images = map image_of (own_worlds a)
-
   -- the first so many
   abbrev pub first_images : ℕ → List World
-  first_images k = map image_of (take k (own_worlds a))
+  first_images k = map (image_of a) (take k (own_worlds a))
 
   -- no include of such a world takes part
   pub none_active : (world : World) → IncludesNothing world → active_includes a world ≡ []
@@ -55,7 +48,7 @@ module _ (a : Addition) where
   begun_is w world g none = ap (λ (includes : List WorldInclude). begun_with a w world includes g) (none_active world none)
 
   -- and finished
-  world_is_finished : (g : Graph) (e : ℕ × World) → IncludesNothing e.1 → with_world a g e ≡ with_finished g (image_of e)
+  world_is_finished : (g : Graph) (e : ℕ × World) → IncludesNothing e.1 → with_world a g e ≡ with_finished g (image_of a e)
   world_is_finished g e none = ap (λ (b : Begun). let r : Graph = record b.graph { worlds = b.graph.worlds ++ finished a e.0 e.1 b ∷ [] } in r) (begun_is e.0 e.1 g none)
 
   -- a finished world more in front
@@ -64,11 +57,11 @@ module _ (a : Addition) where
       ap (λ (ws : List World). let r : Graph = record g { worlds = ws } in r) (append_assoc g.worlds (finished_world g world ∷ []) (map (finished_world g) worlds))
 
   -- worlds that include nothing are finished one after another
-  pub all_finished : (g : Graph) (es : List (ℕ × World)) → AllByRecursion (λ (e : ℕ × World). IncludesNothing e.1) es → fold (with_world a) g es ≡ with_all_finished g (map image_of es)
+  pub all_finished : (g : Graph) (es : List (ℕ × World)) → AllByRecursion (λ (e : ℕ × World). IncludesNothing e.1) es → fold (with_world a) g es ≡ with_all_finished g (map (image_of a) es)
   all_finished g [] none = ap (λ (ws : List World). let r : Graph = record g { worlds = ws } in r) (sym (append-nil g.worlds))
   all_finished g (e ∷ es) none =
       ap (λ (next : Graph). fold (with_world a) next es) (world_is_finished g e none.0)
-      ∙ (all_finished (with_finished g (image_of e)) es none.1 ∙ finished_first g (image_of e) (map image_of es))
+      ∙ (all_finished (with_finished g (image_of a e)) es none.1 ∙ finished_first g (image_of a e) (map (image_of a) es))
 
   module _ (supported : IsSupported a.handed) where
     -- what takes part of a world includes nothing either
@@ -86,25 +79,25 @@ module _ (a : Addition) where
     with_worlds_are k = all_finished (with_parts a) (take k (own_worlds a)) (each_own (take k (own_worlds a)) (λ i e at. own_includes i e (in_whole (own_worlds a) k i e at)))
 
     -- all worlds
-    pub pushed_is : pushed a ≡ with_all_finished (with_parts a) images
+    pub pushed_is : pushed a ≡ with_all_finished (with_parts a) (images a)
     pushed_is = all_finished (with_parts a) (own_worlds a) (each_own (own_worlds a) own_includes)
 
     -- so what comes of the graph stands behind it
-    pub pushed_is_behind : AllByRecursion (CanFinish (with_parts a)) images → IsBehind a (with_all_finished (with_parts a) images)
+    pub pushed_is_behind : AllByRecursion (CanFinish (with_parts a)) (images a) → IsBehind a (with_all_finished (with_parts a) (images a))
     pushed_is_behind fine = record {
       types_are = refl;
       interfaces_are = refl;
       packages_are = refl;
       names_are = refl;
-      done = map (finished_world (with_parts a)) images;
+      done = map (finished_world (with_parts a)) (images a);
       worlds_are = refl;
-      count = length-map images (finished_world (with_parts a)) ∙ length-map (own_worlds a) image_of;
+      count = length-map (images a) (finished_world (with_parts a)) ∙ length-map (own_worlds a) (image_of a);
       finished = λ k e at.
-          let there = at_map image_of (own_worlds a) k e at in
-          some_at (λ (world : World). Elaborated (with_parts a).types (uses_of (with_parts a).types (with_parts a).interfaces) (with_placed (image_of e)) world) (map (finished_world (with_parts a)) images) k (finished_world (with_parts a) (image_of e))
-          (at_map (finished_world (with_parts a)) images k (image_of e) there)
+          let there = at_map (image_of a) (own_worlds a) k e at in
+          some_at (λ (world : World). Elaborated (with_parts a).types (uses_of (with_parts a).types (with_parts a).interfaces) (with_placed (image_of a e)) world) (map (finished_world (with_parts a)) (images a)) k (finished_world (with_parts a) (image_of a e))
+          (at_map (finished_world (with_parts a)) (images a) k (image_of a e) there)
           (record {
-            no_conflict = (AllByRecursion-at (CanFinish (with_parts a)) images k (image_of e) fine there).no_conflict;
+            no_conflict = (AllByRecursion-at (CanFinish (with_parts a)) (images a) k (image_of a e) fine there).no_conflict;
             world_is = refl;
           });
     }

@@ -28,8 +28,9 @@ use Rattle.wit_adding.specs.Pushed.{begun, with_parts, with_worlds}
 use Rattle.wit_adding.specs.Reasons.{HasImage}
 use Rattle.wit_adding.specs.WorldReasons.{AreTooAlike, AtInclude, AtWorld, HaveLists, IncludeIsFine, IsInConflict, IsListCalled, LacksGetter, WorldIsFine, made, written}
 use Rattle.wit_finishing.specs.Finished.{CanFinish, IsFinishCause, LabelsClash, SetterIsAlone, StopsAt, with_all_finished, conflict_4 as finish_conflict_4, no_getter_18 as finish_no_getter_18, not_strongly_unique_17 as finish_not_strongly_unique_17}
+use Rattle.wit_link.specs.Images.{image_of, images}
 use Rattle.wit_link.specs.Supported.{IsSupported}
-use Rattle.wit_link.proofs.Stages.{begun_is, first_images, in_first, none_active, image_of, images, own_includes, with_worlds_are}
+use Rattle.wit_link.proofs.Stages.{begun_is, first_images, in_first, none_active, own_includes, with_worlds_are}
 
 -- a span that is moved by nothing
 moved_nowhere : (span : Place) → moved_by 0 span ≡ span

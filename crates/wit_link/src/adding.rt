@@ -1,18 +1,40 @@
 //! Adding a package to a graph.
-ghost use Rattle.std.specs.Prelude.{◌≡◌, ◌⊎◌, IfErr, IfOk, OnErr, OnOk};
+ghost use Rattle.std.specs.Prelude.{◌≡◌, ◌⊎◌, IfErr, IfOk, OnErr, OnOk, map};
+ghost use Rattle.wit_adding.specs.Adding.{activity_of, places_of, values_of};
 ghost use Rattle.wit_adding.specs.Cause.{IsCause};
 ghost use Rattle.wit_graph.specs.Valid.{IsValid};
 ghost use Rattle.wit_graph.specs.declared.error_kind.ResolveErrorKind.{ResolveErrorKind};
 ghost use Rattle.wit_graph.specs.declared.error_kind.ResolveErrorKind.TheVariants.{OutOfMemory};
 ghost use Rattle.wit_items.specs.Shape.{IsShaped};
 ghost use Rattle.wit_link.specs.Appending.{IsAdded, addition};
+ghost use Rattle.wit_link.specs.Checked.{IsChecked, IsNew};
+ghost use Rattle.wit_link.specs.Fits.{IsNameTaken};
 ghost use Rattle.wit_link.specs.Supported.{IsSupported};
+ghost use Rattle.wit_adding.specs.Pushed.{with_parts};
+ghost use Rattle.wit_link.specs.Images.{images};
 ghost use Rattle.wit_placing.specs.Grown.{Grown};
+ghost use Rattle.wit_placing.specs.declared.worlds.PlacedWorld.{PlacedWorld};
 
-use std::alloc::Global;
+use crate::checking::{Checked, check};
+use crate::fits::spans_fit;
+use std::alloc::{AllocError, Global};
+use wit_adding::Adding;
+use wit_adding_laws::laws::additions_stay_valid;
+use wit_finishing::finish_worlds;
 use wit_graph::{Features, Graph, ResolveError, ResolveErrorKind, ResolveResult};
-use wit_items::{PackageId, UnresolvedPackage};
+use wit_items::{Items, PackageId, Span, UnresolvedPackage, World};
+use wit_placing::{Mark, Part, PlacedWorld, add_parts};
 
+/// Adds a package to a graph under features, its spans moved by an offset, and answers its id.
+///
+/// So far it takes packages whose worlds include no other. Refused with a written reason: where a package of that
+/// name is there (5), where what is named of other packages isn't there (1, 2, 3, 13) or is no resource (14), where a
+/// gate can't be met (9, 10), where what takes part needs what is left out (11, 12), where a result holds a borrow
+/// (15), where labels are too alike (17) or a setter has no getter (18), where what exports need from outside is
+/// exported (4), where a span would pass 4294967295 (27), and for memory (28). After a refusal the graph is as
+/// before.
+///
+/// Source: `append` of wit-parser 0.263.0.
 pub fn append(
     alloc: Global,
     graph: &mut Graph,
@@ -30,6 +52,113 @@ pub fn append(
     ensures cause { IfErr result (λ kind. (kind ≡ OutOfMemory) ⊎ IsCause (addition features.now graph.old «package» span_offset) kind) }
     ensures refuses { (kind : ResolveErrorKind) → IsCause (addition features.now graph.old «package» span_offset) kind → OnOk result ⊥ }
 {
-    drop(package);
-    Err(ResolveError::from(ResolveErrorKind::OutOfMemory))
+    if graph.package_names.contains_key(&package.name) {
+        return Err(name_taken(package, span_offset));
+    }
+    if !spans_fit(&package, span_offset) {
+        return Err(ResolveError::from(ResolveErrorKind::OffsetOverflow));
+    }
+    let checked = check(
+        alloc,
+        &Adding {
+            graph,
+            features,
+            handed: &package,
+            offset: span_offset,
+        },
+    )?;
+    let mark = Mark::of(graph);
+    let added = add_checked(alloc, graph, features, checked, package, span_offset);
+    if added.is_err() {
+        mark.cut(graph);
+    }
+    added
+}
+
+/// The refusal of a package whose name is there.
+fn name_taken(package: UnresolvedPackage, span_offset: u32) -> ResolveError
+    ensures { IsNameTaken span_offset «package» result }
+{
+    match package.package_name_span.moved(span_offset) {
+        Some(span1) => ResolveError::from(ResolveErrorKind::DuplicatePackage {
+            name: package.into_name(),
+            span1,
+            span2: Span::unknown(),
+        }),
+        None => ResolveError::from(ResolveErrorKind::OffsetOverflow),
+    }
+}
+
+/// Adds a package of which all has been looked at but its worlds. After a refusal the graph may have grown at its
+/// ends.
+fn add_checked(
+    alloc: Global,
+    graph: &mut Graph,
+    features: &Features,
+    checked: Checked,
+    package: UnresolvedPackage,
+    span_offset: u32,
+) -> ResolveResult<PackageId>
+    requires shaped { IsShaped «package» }
+    requires supported { IsSupported «package» }
+    requires valid { IsValid graph.old }
+    requires new { IsNew (addition features.now graph.old «package» span_offset) }
+    requires checked { IsChecked (addition features.now graph.old «package» span_offset) }
+    requires activity { checked.activity ≡ activity_of (addition features.now graph.old «package» span_offset) }
+    requires places { checked.places ≡ places_of (addition features.now graph.old «package» span_offset) }
+    requires values { checked.values ≡ values_of (addition features.now graph.old «package» span_offset) }
+    ensures ok { IfOk result (λ id. IsAdded (addition features.now graph.old «package» span_offset) graph.new id) }
+    ensures valid { OnOk result (IsValid graph.new) }
+    ensures grown { Grown graph.old graph.new }
+    ensures cause { IfErr result (λ kind. (kind ≡ OutOfMemory) ⊎ IsCause (addition features.now graph.old «package» span_offset) kind) }
+{
+    additions_stay_valid();
+    let id = PackageId::from_index(graph.packages.len());
+    let worlds = add_placed(alloc, graph, features, checked, package, span_offset)?;
+    finish_worlds(alloc, graph, worlds)?;
+    Ok(id)
+}
+
+/// Adds the types and interfaces of a package at their places, and the package, and answers its worlds at theirs.
+fn add_placed(
+    alloc: Global,
+    graph: &mut Graph,
+    features: &Features,
+    checked: Checked,
+    package: UnresolvedPackage,
+    span_offset: u32,
+) -> Result<Items<World>, AllocError>
+    requires shaped { IsShaped «package» }
+    requires valid { IsValid graph.old }
+    requires new { IsNew (addition features.now graph.old «package» span_offset) }
+    requires checked { IsChecked (addition features.now graph.old «package» span_offset) }
+    requires activity { checked.activity ≡ activity_of (addition features.now graph.old «package» span_offset) }
+    requires places { checked.places ≡ places_of (addition features.now graph.old «package» span_offset) }
+    requires values { checked.values ≡ values_of (addition features.now graph.old «package» span_offset) }
+    ensures ok { OnOk result (graph.new ≡ with_parts (addition features.now graph.old «package» span_offset)) }
+    ensures worlds { IfOk result (λ worlds. worlds ≡ images (addition features.now graph.old «package» span_offset)) }
+    ensures grown { Grown graph.old graph.new }
+{
+    let Checked {
+        activity,
+        places,
+        values,
+    } = checked;
+    let part = Part {
+        features,
+        activity: &activity,
+    };
+    let placed = add_parts(alloc, graph, &part, &places, values, package, span_offset)?;
+    worlds_of(alloc, placed)
+}
+
+/// The worlds alone.
+fn worlds_of(alloc: Global, placed: Items<PlacedWorld>) -> Result<Items<World>, AllocError>
+    ensures { IfOk result (λ worlds. worlds ≡ map (λ (p : PlacedWorld). p.world) placed) }
+{
+    let mut worlds = Items::new(alloc);
+    for placed in placed.into_vec() {
+        worlds.push(placed.world)?;
+    }
+    Ok(worlds)
 }

@@ -2,6 +2,7 @@
 #![tactic(auto)]
 
 pub mod adding;
+mod checking;
 mod fits;
 pub mod remap;
 pub mod several;

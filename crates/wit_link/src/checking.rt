@@ -1,0 +1,66 @@
+//! What is looked at of a package before the graph is touched.
+ghost use Rattle.std.specs.Prelude.{◌≡◌, ◌⊎◌, IfErr, IfOk, OnOk};
+ghost use Rattle.wit_adding.specs.Adding.{activity_of, addition_of, places_of, values_of};
+ghost use Rattle.wit_adding.specs.Cause.{IsCause};
+ghost use Rattle.wit_adding.specs.Passed.{has_image};
+ghost use Rattle.wit_adding.specs.Reasons.{PassesTheEnd};
+ghost use Rattle.wit_graph.specs.Valid.{IsValid};
+ghost use Rattle.wit_graph.specs.declared.error_kind.ResolveErrorKind.TheVariants.{OutOfMemory};
+ghost use Rattle.wit_items.specs.Shape.{IsShaped};
+ghost use Rattle.wit_link.specs.Checked.{IsChecked};
+
+use std::alloc::Global;
+use wit_adding::{Activity, Adding, Places, Values};
+use wit_gates::{activity, check_references, check_versions};
+use wit_graph::ResolveResult;
+use wit_lookup::places;
+use wit_resources::{check_resources, check_results, values};
+
+/// What takes part of a package, and where its things go.
+pub(crate) struct Checked {
+    pub(crate) activity: Activity,
+    pub(crate) places: Places,
+    pub(crate) values: Values,
+}
+
+/// As the derived one: each field is let go. A call of it costs the check less than a derived one,
+/// which is checked again wherever a value is let go.
+impl Drop for Checked {
+    fn drop(self) {
+        let Checked {
+            activity,
+            places,
+            values,
+        } = self;
+        drop(activity);
+        drop(places);
+        drop(values);
+    }
+}
+
+/// Refuses a package for what it and the graph tell before any world is looked at (1 to 3 and 9 to 15), else answers
+/// where its things go.
+#[tactic(auto, using(has_image))]
+pub(crate) fn check(alloc: Global, adding: &Adding<'_>) -> ResolveResult<Checked>
+    requires shaped { IsShaped adding.now.handed.now }
+    requires valid { IsValid adding.now.graph.now }
+    requires fits { PassesTheEnd (addition_of adding.now) → ⊥ }
+    ensures checked { OnOk result (IsChecked (addition_of adding.now)) }
+    ensures activity { IfOk result (λ checked. checked.activity ≡ activity_of (addition_of adding.now)) }
+    ensures places { IfOk result (λ checked. checked.places ≡ places_of (addition_of adding.now)) }
+    ensures values { IfOk result (λ checked. checked.values ≡ values_of (addition_of adding.now)) }
+    ensures cause { IfErr result (λ kind. (kind ≡ OutOfMemory) ⊎ IsCause (addition_of adding.now) kind) }
+{
+    let activity = activity(alloc, adding)?;
+    check_versions(alloc, adding, &activity)?;
+    check_references(alloc, adding, &activity)?;
+    let places = places(alloc, adding, &activity)?;
+    check_resources(alloc, adding, &places)?;
+    check_results(alloc, adding, &activity, &places)?;
+    let values = values(alloc, adding, &activity, &places)?;
+    Ok(Checked {
+        activity,
+        places,
+        values,
+    })
+}
