@@ -1,4 +1,5 @@
 mod Added
+mod Checks
 mod FitsIsExact
 mod OneAfterAnother
 mod Stages

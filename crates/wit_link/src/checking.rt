@@ -2,7 +2,6 @@
 ghost use Rattle.std.specs.Prelude.{◌≡◌, ◌⊎◌, IfErr, IfOk, OnOk};
 ghost use Rattle.wit_adding.specs.Adding.{activity_of, addition_of, places_of, values_of};
 ghost use Rattle.wit_adding.specs.Cause.{IsCause};
-ghost use Rattle.wit_adding.specs.Passed.{has_image};
 ghost use Rattle.wit_adding.specs.Reasons.{PassesTheEnd};
 ghost use Rattle.wit_graph.specs.Valid.{IsValid};
 ghost use Rattle.wit_graph.specs.declared.error_kind.ResolveErrorKind.TheVariants.{OutOfMemory};
@@ -17,30 +16,16 @@ use wit_lookup::places;
 use wit_resources::{check_resources, check_results, values};
 
 /// What takes part of a package, and where its things go.
+#[derive(Drop)]
 pub(crate) struct Checked {
     pub(crate) activity: Activity,
     pub(crate) places: Places,
     pub(crate) values: Values,
 }
 
-/// As the derived one: each field is let go. A call of it costs the check less than a derived one,
-/// which is checked again wherever a value is let go.
-impl Drop for Checked {
-    fn drop(self) {
-        let Checked {
-            activity,
-            places,
-            values,
-        } = self;
-        drop(activity);
-        drop(places);
-        drop(values);
-    }
-}
-
 /// Refuses a package for what it and the graph tell before any world is looked at (1 to 3 and 9 to 15), else answers
 /// where its things go.
-#[tactic(auto, using(has_image))]
+#[tactic(auto, using(crate::proofs::Checks::passed_image))]
 pub(crate) fn check(alloc: Global, adding: &Adding<'_>) -> ResolveResult<Checked>
     requires shaped { IsShaped adding.now.handed.now }
     requires valid { IsValid adding.now.graph.now }

@@ -1,0 +1,8 @@
+-- What is looked at before the graph is touched.
+use Rattle.wit_adding.specs.Addition.{Addition}
+use Rattle.wit_adding.specs.Passed.{GatesAreMet, IsAllFound, NeedsNothingExcluded, has_image}
+use Rattle.wit_adding.specs.Reasons.{HasImage}
+
+-- a package that passed the first looks has an image
+pub passed_image : (a : Addition) → GatesAreMet a → NeedsNothingExcluded a → IsAllFound a → HasImage a
+passed_image = has_image
