@@ -1,0 +1,13 @@
+mod ActiveOnes
+mod Flags
+mod Inserting
+mod Leads
+mod MayHold
+mod Needing
+mod Positions
+mod Ranges
+mod Reading
+mod Rows
+mod Searching
+mod Tells
+mod Where

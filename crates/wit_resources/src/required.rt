@@ -1,0 +1,57 @@
+//! Types that have to be resources.
+ghost use Rattle.std.specs.Prelude.{◌≡◌, ◌⊎◌, Contains, IfErr, OnOk};
+ghost use Rattle.wit_items.specs.Shape.{IsShaped};
+ghost use Rattle.wit_graph.specs.Valid.{IsValid};
+ghost use Rattle.wit_graph.specs.declared.error_kind.ResolveErrorKind.TheVariants.{OutOfMemory};
+ghost use Rattle.wit_adding.specs.Adding.{addition_of, places_of};
+ghost use Rattle.wit_adding.specs.Cause.{IsCause};
+ghost use Rattle.wit_adding.specs.Passed.{HasResources};
+ghost use Rattle.wit_resources.specs.Leading.{LeadsWhereFound};
+
+use crate::leading::leads_to_resource;
+use crate::refusal::not_a_resource;
+use std::alloc::Global;
+use wit_adding::{Adding, Places};
+use wit_graph::ResolveResult;
+use wit_items::{Span, TypeId};
+
+/// Refuses a type that has to be a resource and doesn't lead to one.
+///
+/// It takes a step for each such type, and for each alias on the way to what it names in the graph.
+pub fn check_resources(alloc: Global, adding: &Adding<'_>, places: &Places) -> ResolveResult<()>
+    requires shaped { IsShaped adding.now.handed.now }
+    requires valid { IsValid adding.now.graph.now }
+    requires places { places.now ≡ places_of (addition_of adding.now) }
+    ensures resources { OnOk result (HasResources (addition_of adding.now)) }
+    ensures cause { IfErr result (λ kind. (kind ≡ OutOfMemory) ⊎ IsCause (addition_of adding.now) kind) }
+{
+    for index in 0..adding.handed.required_resource_types.len() {
+        let (id, span) = *adding.handed.required_resource_types.at(index);
+        check_required(alloc, adding, places, id, span)?;
+    }
+    Ok(())
+}
+
+/// Refuses one type, where it is found in the graph and doesn't lead to a resource there.
+fn check_required(
+    alloc: Global,
+    adding: &Adding<'_>,
+    places: &Places,
+    id: TypeId,
+    span: Span,
+) -> ResolveResult<()>
+    requires shaped { IsShaped adding.now.handed.now }
+    requires valid { IsValid adding.now.graph.now }
+    requires places { places.now ≡ places_of (addition_of adding.now) }
+    requires required { Contains adding.now.handed.now.required_resource_types (id, span) }
+    ensures ok { OnOk result (LeadsWhereFound (addition_of adding.now) id) }
+    ensures cause { IfErr result (λ kind. (kind ≡ OutOfMemory) ⊎ IsCause (addition_of adding.now) kind) }
+{
+    let Some(found) = *places.types.at(id.index()) else {
+        return Ok(());
+    };
+    if leads_to_resource(adding.graph.types.as_slice(), found) {
+        return Ok(());
+    }
+    Err(not_a_resource(alloc, span, adding.offset)?)
+}
