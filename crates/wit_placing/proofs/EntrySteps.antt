@@ -1,5 +1,5 @@
 -- Entries of worlds that take their places one after another.
-use Rattle.std.proofs.Common.{◌≡◌, ◌∙◌, ℕ, zero, suc, List, [], ◌∷◌, ◌++◌, map, length, slice_get, Some, None, refl, ap, sym, subst, append_assoc}
+use Rattle.std.proofs.Common.{◌≡◌, ◌∙◌, ℕ, zero, suc, List, [], ◌∷◌, ◌++◌, map, slice_get, None, refl, ap, sym, subst, append_assoc}
 use Rattle.std.proofs.lemmas.List.{append-nil}
 use Rattle.std.specs.List.{IsDistinct}
 use Rattle.std.specs.Map.{keys_of, lookup}
@@ -10,7 +10,7 @@ use Rattle.wit_items.specs.declared.world.WorldItem.{WorldItem}
 use Rattle.wit_items.specs.declared.world.WorldItem.TheVariants as item
 use Rattle.wit_items.specs.declared.world.WorldKey.{WorldKey}
 use Rattle.wit_items.specs.declared.world.WorldKey.TheVariants as key
-use Rattle.wit_growth.specs.Image.{Maps, entry_image, item_image, key_image}
+use Rattle.wit_growth.specs.Image.{entry_image, item_image, key_image}
 use Rattle.wit_placing.specs.Fits.{EntriesFit, ItemFits}
 use Rattle.wit_placing.specs.Movers.{maps_of}
 use Rattle.wit_placing.specs.declared.mover.Mover.{Mover}

@@ -1,5 +1,5 @@
 -- A list of which the first elements are done, one more at a time.
-use Rattle.std.proofs.Common.{◌≡◌, ℕ, ◌+◌, zero, suc, List, [], ◌∷◌, ◌++◌, ◌∙◌, length, map, Some, ◌<◌, arith, slice_get, slice_set, refl, ap, sym, subst, add-one, String, string_bytes}
+use Rattle.std.proofs.Common.{◌≡◌, ℕ, ◌+◌, zero, suc, List, [], ◌∷◌, ◌∙◌, length, map, Some, slice_get, slice_set, refl, ap, sym, subst, add-one, String, string_bytes}
 use Rattle.std.specs.declared.alloc.Global.{Global}
 use Rattle.indexmap.specs.IndexMap.{set_value_at}
 use Rattle.wit_values.specs.Names.{named}

@@ -1,5 +1,5 @@
 -- No two interfaces of a package that take part go to one interface, so keys that differ go to keys that differ.
-use Rattle.std.proofs.Common.{◌≡◌, ◌∙◌, ◌≢◌, ℕ, ◌+◌, ◌<◌, ◌&&◌, if◌then◌else◌, Bool, true, false, not, List, length, nat_eq, Option, None, Some, option_and_then, IsSome, slice_get, refl, sym, ap, subst, inl, inr, arith, Contains}
+use Rattle.std.proofs.Common.{◌≡◌, ◌∙◌, ℕ, ◌<◌, ◌&&◌, if◌then◌else◌, Bool, true, false, not, List, length, nat_eq, Option, None, Some, option_and_then, IsSome, slice_get, refl, sym, ap, subst, inl, inr, arith, Contains}
 use Rattle.std.specs.List.{list_any}
 use Rattle.std.specs.Map.{lookup}
 use Rattle.std.specs.Str.{bytes_eq}
@@ -7,14 +7,12 @@ use Rattle.std.proofs.lemmas.Bool.{cases_Bool}
 use Rattle.std.proofs.lemmas.Map.Views.{Contains-from_lookup}
 use Rattle.std.proofs.lemmas.Option.{slice_get_within}
 use Rattle.std.proofs.lemmas.Slice.Eq.{bytes_eq-Decides}
-use Rattle.wit_items.specs.Each.{SomeAt}
 use Rattle.wit_items.specs.Foreign.{ForeignItem, interface_id}
 use Rattle.wit_items.specs.PackageNameFacts.{same_name}
 use Rattle.wit_items.specs.PackageOrder.{same_package}
 use Rattle.wit_items.specs.Shape.{IsShaped}
 use Rattle.wit_items.specs.declared.interface.Interface.{Interface}
 use Rattle.wit_items.specs.declared.package_name.PackageName.{PackageName}
-use Rattle.wit_items.specs.declared.unresolved.AstItem.{AstItem}
 use Rattle.wit_items.specs.declared.unresolved.AstItem.TheVariants as named
 use Rattle.wit_items.specs.declared.world.WorldKey.{WorldKey}
 use Rattle.wit_items.specs.declared.world.WorldKey.TheVariants as key
@@ -22,14 +20,13 @@ use Rattle.wit_graph.specs.Valid.{IsValid}
 use Rattle.wit_graph.specs.declared.graph.Graph.{Graph}
 use Rattle.wit_graph.specs.declared.graph.Package.{Package}
 use Rattle.wit_growth.specs.Image.{key_image}
-use Rattle.wit_growth.specs.ListFacts.{found_at, get_at, place_of, same_at, some_at}
+use Rattle.wit_growth.specs.ListFacts.{found_at, get_at, place_of, same_at}
 use Rattle.wit_adding.specs.Addition.{Addition, addition_maps, interface_place, own_interface}
 use Rattle.wit_adding.specs.ClosedCut.{closed_part}
 use Rattle.wit_adding.specs.Found.{find-passes, interface_found, interface_of, named_at}
 use Rattle.wit_adding.specs.Gates.{interface_is_active, is_foreign_interface}
 use Rattle.wit_adding.specs.Lookup.{find_interface, find_package, found_interface, named_items, naming}
 use Rattle.wit_adding.specs.RankFacts.{rank-injective}
-use Rattle.wit_adding.specs.Ranks.{rank}
 use Rattle.wit_adding.specs.Reasons.{HasImage}
 use Rattle.wit_adding.specs.Standing.{foreign_interface_goes, own_interface_goes}
 

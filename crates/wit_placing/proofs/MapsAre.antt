@@ -1,15 +1,11 @@
 -- The places and values of an addition stand for its maps, and its activity for what is active.
-use Rattle.std.proofs.Common.{◌≡◌, ◌∙◌, ℕ, ◌+◌, ◌≤◌, Bool, true, false, List, map, length, Option, None, Some, unwrap_or, slice_get, refl, sym, ap, subst, if◌then◌else◌}
-use Rattle.std.specs.List.{range_with_len}
+use Rattle.std.proofs.Common.{◌≡◌, ◌∙◌, ℕ, ◌+◌, ◌≤◌, Bool, true, false, length, Option, None, Some, unwrap_or, slice_get, refl, sym, ap, if◌then◌else◌}
 use Rattle.std.proofs.lemmas.Bool.{false_from_ne_true, false≢true}
 use Rattle.wit_items.specs.Shape.{IsShaped}
 use Rattle.wit_items.specs.declared.world.WorldItem.{WorldItem}
 use Rattle.wit_items.specs.declared.world.WorldItem.TheVariants as item
-use Rattle.wit_graph.specs.declared.features.Features.{Features}
-use Rattle.wit_growth.specs.Image.{Maps}
-use Rattle.wit_growth.specs.Kept.{Kept}
 use Rattle.wit_adding.specs.Adding.{activity_of, places_of, values_of}
-use Rattle.wit_adding.specs.Addition.{Addition, active, addition_maps, interface_place, needs_own, own_type, own_types, taken_interface, taken_type, taken_world, type_place, value_place, world_place}
+use Rattle.wit_adding.specs.Addition.{Addition, active, addition_maps, interface_place, needs_own, own_types, taken_interface, taken_type, taken_world, type_place, value_place, world_place}
 use Rattle.wit_adding.specs.Gates.{function_is_active, interface_is_active, item_is_active, type_is_active, world_is_active}
 use Rattle.wit_adding.specs.Ranks.{rank}
 use Rattle.wit_adding.specs.Reasons.{HasImage}

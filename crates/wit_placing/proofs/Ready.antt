@@ -1,5 +1,5 @@
 -- The parts of an addition can be moved to the ends of its graph, and are then what the addition says.
-use Rattle.std.proofs.Common.{◌≡◌, ◌∙◌, ℕ, ◌<◌, ◌^◌, ◌&&◌, Bool, true, false, not, List, [], ◌∷◌, ◌++◌, map, length, None, Some, slice_get, drop, filter, filter_map, refl, sym, ap, subst}
+use Rattle.std.proofs.Common.{◌≡◌, ◌∙◌, ℕ, ◌<◌, ◌^◌, ◌&&◌, Bool, not, List, [], ◌∷◌, ◌++◌, map, length, None, Some, slice_get, drop, filter, refl, sym, ap, subst}
 use Rattle.std.specs.List.{IsDistinct}
 use Rattle.std.specs.Map.{keys_of, lookup}
 use Rattle.std.specs.Str.{bytes_eq}
@@ -17,9 +17,9 @@ use Rattle.wit_graph.specs.declared.graph.Graph.{Graph}
 use Rattle.wit_growth.specs.Cut.{cut_interface, cut_world}
 use Rattle.wit_growth.specs.Image.{Maps, interface_image, type_image, world_image}
 use Rattle.wit_growth.specs.Kept.{Kept}
-use Rattle.wit_adding.specs.Adding.{activity_of, places_of, values_of}
+use Rattle.wit_adding.specs.Adding.{places_of}
 use Rattle.wit_adding.specs.Addition.{Addition, active, added_owns, addition_maps, own_interface, own_type, own_world}
-use Rattle.wit_adding.specs.Gates.{include_is_active, interface_is_active, is_foreign_interface, is_foreign_world, world_is_active}
+use Rattle.wit_adding.specs.Gates.{include_is_active, interface_is_active, world_is_active}
 use Rattle.wit_adding.specs.Pushed.{with_parts}
 use Rattle.wit_adding.specs.RankFacts.{taken_places-from}
 use Rattle.wit_adding.specs.Ranks.{taken, taken_places}

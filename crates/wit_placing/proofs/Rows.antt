@@ -1,5 +1,5 @@
 -- Tables that are filled in the order of a list.
-use Rattle.std.proofs.Common.{◌≡◌, ◌∙◌, ℕ, ◌+◌, zero, suc, List, [], ◌∷◌, ◌++◌, map, take, drop, filter_map, slice_get, Option, Some, None, refl, ap, sym, subst, length, get_or, ◌<◌, arith}
+use Rattle.std.proofs.Common.{◌≡◌, ◌∙◌, ℕ, zero, suc, List, [], ◌∷◌, ◌++◌, map, take, filter_map, slice_get, Option, Some, None, refl, ap, sym, subst, length, get_or, ◌<◌, arith}
 use Rattle.std.specs.Cmp.Lexicographic.{nat_list_eq_equiv}
 use Rattle.std.specs.List.{IsDistinct, cons_option}
 use Rattle.std.specs.Map.{keys_of, lookup}

@@ -1,11 +1,10 @@
 -- What goes to a new id is what is the package's own and takes part.
-use Rattle.std.proofs.Common.{◌≡◌, ◌∙◌, ℕ, zero, suc, ◌+◌, ◌<◌, ◌≤◌, ◌&&◌, Bool, true, false, not, List, [], ◌∷◌, length, nat_lt, Option, None, Some, option_and_then, slice_get, refl, sym, ap, subst, inl, inr, arith, if◌then◌else◌}
+use Rattle.std.proofs.Common.{◌≡◌, ◌∙◌, ℕ, zero, suc, ◌+◌, ◌<◌, ◌≤◌, ◌&&◌, Bool, true, false, not, List, [], ◌∷◌, length, Option, None, Some, option_and_then, slice_get, refl, ap, arith, if◌then◌else◌}
 use Rattle.std.specs.Prelude.{nat_le}
-use Rattle.std.specs.List.{list_any}
 use Rattle.std.specs.Map.{lookup}
 use Rattle.std.specs.Option.{option_map_or}
 use Rattle.std.specs.Str.{bytes_eq}
-use Rattle.std.proofs.lemmas.Bool.{and_right, cases_Bool, false_from_ne_true, le-leb, leb-true, ltb-true}
+use Rattle.std.proofs.lemmas.Bool.{and_right, false_from_ne_true, le-leb, leb-true, ltb-true}
 use Rattle.std.proofs.lemmas.Map.Views.{Contains-from_lookup}
 use Rattle.std.proofs.lemmas.Option.{slice_get_within}
 use Rattle.std.proofs.lemmas.Slice.Eq.{bytes_eq-Decides}
@@ -17,12 +16,11 @@ use Rattle.wit_items.specs.declared.types.TypeDef.{TypeDef}
 use Rattle.wit_items.specs.declared.types.TypeOwner.TheVariants as owner
 use Rattle.wit_items.specs.declared.world.World.{World}
 use Rattle.wit_graph.specs.Valid.{IsValid}
-use Rattle.wit_graph.specs.declared.graph.Graph.{Graph}
 use Rattle.wit_graph.specs.declared.graph.Package.{Package}
 use Rattle.wit_growth.specs.ListFacts.{found_at, place_of}
 use Rattle.wit_adding.specs.Adding.{places_of}
 use Rattle.wit_adding.specs.Addition.{Addition, own_interface, own_type, own_world, taken_interface, taken_type, taken_world}
-use Rattle.wit_adding.specs.ClosedCut.{closed_part, there_where}
+use Rattle.wit_adding.specs.ClosedCut.{closed_part}
 use Rattle.wit_adding.specs.Gates.{interface_is_active, is_active, is_foreign_interface, is_foreign_world, notes_of_foreign, some_active, type_is_active, world_is_active}
 use Rattle.wit_adding.specs.Lookup.{find_interface, find_package, find_world, found_interface, found_type, found_world, is_foreign_type, listed_type, naming, owning_interface}
 use Rattle.wit_adding.specs.Ranks.{rank}

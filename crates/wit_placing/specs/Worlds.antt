@@ -1,5 +1,5 @@
 -- Worlds of a package, at their places.
-use Rattle.std.specs.Prelude.{ℕ, List, map, filter}
+use Rattle.std.specs.Prelude.{ℕ, map, filter}
 use Rattle.std.specs.List.{IsDistinct}
 use Rattle.std.specs.Map.{keys_of}
 use Rattle.wit_items.specs.Entries.{Entry}

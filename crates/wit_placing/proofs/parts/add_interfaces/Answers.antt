@@ -1,7 +1,5 @@
-use Rattle.std.proofs.Common.{◌≡◌, ◌∙◌, ◌++◌, ◌∷◌, [], ℕ, List, map, length, refl, ap, sym, subst}
-use Rattle.std.specs.List.{IsDistinct, enumerate_from}
-use Rattle.std.specs.Map.{keys_of}
-use Rattle.std.specs.Str.{bytes_eq}
+use Rattle.std.proofs.Common.{◌≡◌, ◌∷◌, [], ℕ, List, map, length, refl, ap, sym, subst}
+use Rattle.std.specs.List.{enumerate_from}
 use Rattle.wit_items.specs.Each.{Each}
 use Rattle.wit_items.specs.declared.interface.Interface.{Interface}
 use Rattle.wit_growth.specs.Cut.{cut_interface}
@@ -10,7 +8,6 @@ use Rattle.wit_adding.specs.Ranks.{taken_places}
 use Rattle.wit_placing.specs.Fits.{InterfaceFits}
 use Rattle.wit_placing.specs.Movers.{maps_of}
 use Rattle.wit_placing.specs.Parts.{is_new, kept_of}
-use Rattle.wit_placing.specs.Tables.{interfaces_at}
 use Rattle.wit_placing.proofs.Kept.{Each-enumerated, Each-filter, map-pairs}
 use Rattle.wit_placing.proofs.parts.add_interfaces.Goals as goal
 

@@ -1,14 +1,9 @@
-use Rattle.std.proofs.Common.{◌≡◌, ◌∙◌, ◌<◌, ◌^◌, ℕ, List, IfOk, OnOk, length, map, refl, ap, subst, arith}
-use Rattle.wit_items.specs.declared.types.TypeDef.{TypeDef}
+use Rattle.std.proofs.Common.{◌≡◌, ◌∙◌, ◌<◌, ◌^◌, List, IfOk, OnOk, length, map, refl, ap, subst, arith}
 use Rattle.wit_graph.specs.declared.graph.Graph.{Graph}
-use Rattle.wit_growth.specs.Image.{Maps}
-use Rattle.wit_growth.specs.Kept.{Kept}
 use Rattle.wit_adding.specs.Adding.{places_of, values_of}
-use Rattle.wit_adding.specs.Addition.{Addition, active, addition_maps}
+use Rattle.wit_adding.specs.Addition.{active, addition_maps}
 use Rattle.wit_adding.specs.Pushed.{with_parts}
 use Rattle.wit_adding.specs.Ranks.{taken_places}
-use Rattle.wit_adding.specs.declared.adding.Activity.{Activity}
-use Rattle.wit_adding.specs.declared.adding.Places.{Places}
 use Rattle.wit_adding.specs.declared.adding.Values.{Values}
 use Rattle.wit_placing.specs.Added.{added_worlds, addition, moved_parts}
 use Rattle.wit_placing.specs.Movers.{maps_with}

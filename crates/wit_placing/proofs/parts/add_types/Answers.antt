@@ -1,4 +1,4 @@
-use Rattle.std.proofs.Common.{◌≡◌, ◌∙◌, ◌++◌, ◌∷◌, [], ℕ, List, map, length, refl, ap, sym, subst}
+use Rattle.std.proofs.Common.{ℕ, List, length, refl, sym, subst}
 use Rattle.std.specs.List.{enumerate_from}
 use Rattle.wit_items.specs.Each.{Each}
 use Rattle.wit_items.specs.declared.types.TypeDef.{TypeDef}

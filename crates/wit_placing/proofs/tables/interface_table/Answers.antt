@@ -1,4 +1,4 @@
-use Rattle.std.proofs.Common.{◌≡◌, ◌∙◌, ℕ, List, Some, slice_get, ap, sym, arith}
+use Rattle.std.proofs.Common.{◌≡◌, ℕ, List, Some, slice_get, ap, sym, arith}
 use Rattle.std.specs.Option.{option_map}
 use Rattle.wit_values.specs.Lists.{filter_map-next_none, filter_map-next_some}
 use Rattle.wit_placing.specs.Movers.{maps_of}

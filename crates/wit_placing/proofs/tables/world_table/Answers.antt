@@ -1,4 +1,4 @@
-use Rattle.std.proofs.Common.{◌≡◌, ◌∙◌, ℕ, List, Some, slice_get, ap, sym, arith}
+use Rattle.std.proofs.Common.{sym, arith}
 use Rattle.wit_values.specs.Lists.{map-next}
 use Rattle.wit_placing.specs.Movers.{maps_of}
 use Rattle.wit_placing.specs.Tables.{world_at}

@@ -1,4 +1,4 @@
-use Rattle.std.proofs.Common.{◌≡◌, ◌∙◌, List, filter, map, ap, sym, subst, refl}
+use Rattle.std.proofs.Common.{◌∙◌, List, filter, map, ap, sym, subst, refl}
 use Rattle.std.specs.List.{IsDistinct}
 use Rattle.std.specs.Map.{keys_of}
 use Rattle.wit_items.specs.Entries.{Entry}

@@ -1,4 +1,4 @@
-use Rattle.std.proofs.Common.{rules, ◌≡◌, ◌∙◌, ap, filter}
+use Rattle.std.proofs.Common.{rules, ◌∙◌, ap, filter}
 use Rattle.indexmap.proofs.CallerLemmas.{filter-RetainsPairs}
 use Rattle.wit_items.specs.Entries.{Entry}
 use Rattle.wit_placing.specs.Parts.{kept_of}

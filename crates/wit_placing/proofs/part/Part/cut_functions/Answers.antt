@@ -1,4 +1,4 @@
-use Rattle.std.proofs.Common.{rules, ◌≡◌, ◌∙◌, ap, filter, ℕ, List, String}
+use Rattle.std.proofs.Common.{rules, ◌∙◌, ap, filter, ℕ, List, String}
 use Rattle.std.specs.declared.alloc.Global.{Global}
 use Rattle.indexmap.proofs.CallerLemmas.{filter-RetainsPairs}
 use Rattle.wit_values.specs.Names.{named}

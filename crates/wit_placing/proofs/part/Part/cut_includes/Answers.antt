@@ -1,4 +1,4 @@
-use Rattle.std.proofs.Common.{rules, ◌≡◌, ◌∙◌, ap, filter}
+use Rattle.std.proofs.Common.{rules, ◌∙◌, ap, filter}
 use Rattle.std.proofs.lemmas.Fn.{filter_same}
 use Rattle.wit_adding.specs.Gates.{include_is_active}
 use Rattle.wit_placing.proofs.part.Part.cut_includes.Goals as goal

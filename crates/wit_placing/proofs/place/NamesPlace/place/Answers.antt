@@ -1,4 +1,4 @@
-use Rattle.std.proofs.Common.{◌≡◌, ◌∙◌, ℕ, List, String, length, map, ap, arith, subst, sym, slice_get, Some, string_bytes}
+use Rattle.std.proofs.Common.{◌≡◌, ◌∙◌, ℕ, List, String, length, map, ap, arith, subst, slice_get, Some, string_bytes}
 use Rattle.std.specs.declared.alloc.Global.{Global}
 use Rattle.wit_values.specs.Names.{named}
 use Rattle.wit_placing.specs.Movers.{maps_of}
