@@ -1,17 +1,41 @@
 -- An addition that passes each of its steps is accepted, and what comes of it is valid.
-use Rattle.std.proofs.Common.{◌≡◌, ◌∙◌, ◌⊎◌, inl, inr, ℕ, List, Some, length, refl, sym, subst, is_some}
+use Rattle.std.proofs.Common.{◌≡◌, ◌≢◌, ◌∙◌, ◌⊎◌, inl, inr, ℕ, ◌+◌, ◌<◌, ◌^◌, zero, suc, true, false, List, [], ◌∷◌, Option, None, Some, length, map, slice_get, refl, sym, ap, subst, is_some}
 use Rattle.std.specs.List.{AllByRecursion}
+use Rattle.std.specs.Map.{lookup}
+use Rattle.wit_items.specs.PackageOrder.{same_package}
+use Rattle.wit_items.specs.Shape.{IsShaped}
+use Rattle.wit_items.specs.declared.world.World.{World}
+use Rattle.wit_relations.specs.Relation.{IsAcyclic}
+use Rattle.wit_graph.specs.Elaboration.{graph_uses}
+use Rattle.wit_graph.specs.Listed.{IsListed}
+use Rattle.wit_graph.specs.Valid.{IsValid}
+use Rattle.wit_graph.specs.declared.graph.Graph.{Graph}
 use Rattle.wit_graph.specs.declared.error_kind.ResolveErrorKind.{ResolveErrorKind}
+use Rattle.wit_graph.specs.declared.error_kind.ResolveErrorKind.TheVariants.{OffsetOverflow, OutOfMemory}
+use Rattle.wit_growth.specs.ListFacts.{from_map}
+use Rattle.wit_labels.specs.Setters.{placed}
 use Rattle.wit_values.specs.Lists.{AllByRecursion-at}
-use Rattle.wit_adding.specs.Addition.{Addition}
+use Rattle.wit_adding.specs.Addition.{Addition, own_worlds}
 use Rattle.wit_adding.specs.Cause.{IsAccepted, IsCause, borrow_in_result_15, conflict_4, duplicate_5, excluded_11, excluded_owner_12, gate_unreleased_10, gate_without_version_9, interface_not_found_3, mismatch_8, no_getter_18, not_a_resource_14, not_strongly_unique_17, offset_overflow_27, package_not_found_1, rename_unmatched_16, shadowing_7, type_not_defined_13, world_not_found_2}
 use Rattle.wit_adding.specs.Pushed.{with_parts}
 use Rattle.wit_adding.specs.WorldReasons.{WorldIsFine}
-use Rattle.wit_finishing.specs.Finished.{CanFinish}
+use Rattle.wit_adding.specs.Passed.{has_image}
+use Rattle.wit_adding.specs.Reasons.{HasImage, HasPackage, PassesTheEnd}
+use Rattle.wit_adding_laws.specs.AcyclicFacts.{added_uses_acyclic}
+use Rattle.wit_adding_laws.specs.AddingLaws.{AdditionsStayValid}
+use Rattle.wit_adding_laws.specs.ListedWorlds.{listed_worlds}
+use Rattle.wit_adding_laws.specs.Parts.{HasParts}
+use Rattle.wit_finishing.specs.Finished.{CanFinish, StopsAt, with_all_finished}
+use Rattle.wit_placing.specs.Added.{added_world}
+use Rattle.wit_placing.specs.declared.worlds.PlacedWorld.{PlacedWorld}
+use Rattle.wit_link.specs.Appending.{IsAdded}
 use Rattle.wit_link.specs.Checked.{IsChecked, IsNew}
+use Rattle.wit_link.specs.Fits.{IsNameTaken, PackageFits}
 use Rattle.wit_link.specs.Images.{image_of, images}
 use Rattle.wit_link.specs.Supported.{IsSupported}
-use Rattle.wit_link.proofs.WorldsAreFine.{image_at, includes_are_fine, world_is_fine}
+use Rattle.wit_link.proofs.WorldsAreFine.{image_at, includes_are_fine, stop_is_cause, world_is_fine}
+use Rattle.wit_link.proofs.FitsIsExact.{fitting_passes_not, passes-of_not_fitting}
+use Rattle.wit_link.proofs.Stages.{pushed_is, pushed_is_behind}
 
 module _ (a : Addition) (supported : IsSupported a.handed) (is_new : IsNew a) (checked : IsChecked a) (fine : AllByRecursion (CanFinish (with_parts a)) (images a)) where
   each_world : (k : ℕ) → WorldIsFine a k
@@ -36,3 +60,73 @@ module _ (a : Addition) (supported : IsSupported a.handed) (is_new : IsNew a) (c
   is_accepted _ (not_strongly_unique_17 k span message reached is) = (each_world k).labels span message is
   is_accepted _ (no_getter_18 k span message reached is) = (each_world k).setters span message is
   is_accepted _ (offset_overflow_27 is) = is_new.fits is
+
+  -- and it is added
+  pub is_added : IsAdded a (with_all_finished (with_parts a) (images a)) (length a.graph.packages)
+  is_added = record { accepted = is_accepted; graph_is = sym (pushed_is a supported); id_is = refl }
+
+-- ---- refusals before anything else is looked at
+
+-- that the name is there
+pub taken : (a : Addition) → a.offset < 2 ^ 32 → HasPackage a.graph a.handed.name → (error : ResolveErrorKind) → IsNameTaken a.offset a.handed error → (error ≡ OutOfMemory) ⊎ IsCause a error
+taken a small there error (inl is) =
+    inr (subst (IsCause a) (sym is) (duplicate_5 a.handed.name _ None (record { there = there; name_is = refl; span1_is = refl; span2_is = refl })))
+taken a small there error (inr far) = inr (subst (IsCause a) (sym far.0) (offset_overflow_27 (passes-of_not_fitting a small (λ fits. far.1 fits.name))))
+
+-- that a span is too far
+pub too_far : (a : Addition) → a.offset < 2 ^ 32 → (PackageFits a.offset a.handed → ⊥) → IsCause a OffsetOverflow
+too_far a small fits_not = offset_overflow_27 (passes-of_not_fitting a small fits_not)
+
+not_there : (o : Option ℕ) → is_some o ≡ false → is_some o ≡ true → ⊥
+not_there None none some = cc
+not_there (Some p) none some = cc
+
+none_of : (o : Option ℕ) → (is_some o ≡ true → ⊥) → o ≡ None
+none_of None h = refl
+none_of (Some p) h = absurd (h refl)
+
+-- a package that isn't there and fits is new
+pub is_new : (a : Addition) → is_some (lookup (same_package a.handed.name) a.graph.package_names) ≡ false → PackageFits a.offset a.handed → IsNew a
+is_new a none fits = record { absent = not_there (lookup (same_package a.handed.name) a.graph.package_names) none; fits = fitting_passes_not a fits }
+
+pub name_is_new : (a : Addition) → IsNew a → lookup (same_package a.handed.name) a.graph.package_names ≡ None
+name_is_new a is = none_of (lookup (same_package a.handed.name) a.graph.package_names) is.absent
+
+pub checked_image : (a : Addition) → IsChecked a → HasImage a
+checked_image a checked = has_image a checked.met checked.needs checked.found
+
+-- ---- the worlds at their places
+
+map_twice : {X Y Z : Type 0} (f : Y → Z) (g : X → Y) (xs : List X) → map f (map g xs) ≡ map (λ x. f (g x)) xs
+map_twice f g [] = refl
+map_twice f g (x ∷ xs) = ap (λ l. f (g x) ∷ l) (map_twice f g xs)
+
+pub placed_images : (a : Addition) → map (λ (p : PlacedWorld). p.world) (map (added_world a) (own_worlds a)) ≡ images a
+placed_images a = map_twice (λ (p : PlacedWorld). p.world) (added_world a) (own_worlds a)
+
+each_of : {X : Type 0} (P : X → Type 0) (xs : List X) → ((k : ℕ) (x : X) → slice_get xs k ≡ Some x → P x) → AllByRecursion P xs
+each_of P [] each = tt
+each_of P (x ∷ xs) each = (each zero x refl, each_of P xs (λ k y at. each (suc k) y at))
+
+module _ (a : Addition) (valid : IsValid a.graph) (shaped : IsShaped a.handed) (image : HasImage a) where
+  parts : HasParts a (with_parts a).types (with_parts a).interfaces
+  parts = record { types_are = refl; interfaces_are = refl }
+
+  pub uses_are_acyclic : IsAcyclic (graph_uses (with_parts a))
+  uses_are_acyclic = added_uses_acyclic a valid shaped image (with_parts a).types (with_parts a).interfaces parts
+
+  pub images_are_listed : AllByRecursion (λ (world : World). IsListed (with_parts a).types (length (with_parts a).interfaces) (placed world.imports) (placed world.exports)) (images a)
+  images_are_listed =
+      each_of (λ (world : World). IsListed (with_parts a).types (length (with_parts a).interfaces) (placed world.imports) (placed world.exports)) (images a) (λ k world at.
+      let from = from_map (image_of a) (own_worlds a) k world at in
+      subst (λ (w : World). IsListed (with_parts a).types (length (with_parts a).interfaces) (placed w.imports) (placed w.exports)) from.2
+      (listed_worlds a valid shaped image (with_parts a).types (with_parts a).interfaces parts k from.0 from.1))
+
+  -- what comes of the graph is valid
+  pub stays_valid : AdditionsStayValid → IsSupported a.handed → IsNew a → AllByRecursion (CanFinish (with_parts a)) (images a) → IsValid (with_all_finished (with_parts a) (images a))
+  stays_valid law supported new fine = law a (with_all_finished (with_parts a) (images a)) valid shaped image new.absent (pushed_is_behind a supported fine)
+
+  -- why a world can't be finished is a reason
+  pub stopping_cause : IsSupported a.handed → (kind : ResolveErrorKind) → (kind ≡ OutOfMemory) ⊎ ((k : ℕ) × StopsAt (with_parts a) (images a) kind k) → (kind ≡ OutOfMemory) ⊎ IsCause a kind
+  stopping_cause supported kind (inl memory) = inl memory
+  stopping_cause supported kind (inr stops) = inr (stop_is_cause a supported image kind stops.0 stops.1)

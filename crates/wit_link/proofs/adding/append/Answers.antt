@@ -1,0 +1,37 @@
+use Rattle.std.proofs.Common.{rules, ◌≡◌, ◌∙◌, ◌⊎◌, ℕ, inl, inr, true, false, subst, sym, IfOk, OnOk, Result, Ok, Err}
+use Rattle.wit_graph.specs.declared.error_kind.ResolveErrorKind.{ResolveErrorKind}
+use Rattle.wit_adding.specs.Cause.{IsCause}
+use Rattle.wit_adding.specs.Addition.{Addition}
+use Rattle.wit_graph.specs.declared.graph.Graph.{Graph}
+use Rattle.wit_link.specs.Appending.{IsAdded, addition}
+use Rattle.wit_link.specs.Fits.{PackageFits}
+use Rattle.wit_link.proofs.Added.{is_new, taken, too_far}
+use Rattle.wit_link.proofs.adding.append.Goals as goal
+
+pub returns-then-contains_key-clause-cause : goal.returns-then-contains_key-clause-cause
+returns-then-contains_key-clause-cause c =
+    taken (addition c.args.features.now c.args.graph.now c.args.package c.args.span_offset) c.ranges.span_offset.fits (sym c.contains_key.ensures ∙ c.if-contains_key.true) c.name_taken.result c.name_taken.ensures
+
+pub returns-then-not-spans_fit-clause-cause : goal.returns-then-not-spans_fit-clause-cause
+returns-then-not-spans_fit-clause-cause c =
+    let a = addition c.args.features.now c.args.graph.now c.args.package c.args.span_offset in
+    let not_fitting : PackageFits c.args.span_offset c.args.package → ⊥ = λ fits. let yes : c.spans_fit.result ≡ true = c.spans_fit.ensures.1 fits in let fails : c.spans_fit.result ≡ false = c.if-not-spans_fit.true in cc in
+    inr (subst (IsCause a) (sym c.from.ensures) (too_far a c.ranges.span_offset.fits not_fitting))
+
+pub check-requires-clause-fits : goal.check-requires-clause-fits
+check-requires-clause-fits c =
+    (is_new (addition c.args.features.now c.args.graph.now c.args.package c.args.span_offset) (sym c.contains_key.ensures ∙ c.if-contains_key.false) (c.spans_fit.ensures.0 c.if-not-spans_fit.false)).fits
+
+pub add_checked-added-requires-clause-new : goal.add_checked-added-requires-clause-new
+add_checked-added-requires-clause-new c =
+    is_new (addition c.args.features.now c.args.graph.now c.args.package c.args.span_offset) (sym c.contains_key.ensures ∙ c.if-contains_key.false) (c.spans_fit.ensures.0 c.if-not-spans_fit.false)
+
+-- what is accepted has no reason to be refused
+accepted_not : {E : Type 0} (a : Addition) (new : Graph) (r : Result ℕ E) → IfOk r (λ id. IsAdded a new id) → (kind : ResolveErrorKind) → IsCause a kind → OnOk r ⊥
+accepted_not a new (Ok id) added kind cause = added.accepted kind cause
+accepted_not a new (Err e) added kind cause = tt
+
+pub returns-else-is_err-clause-refuses : goal.returns-else-is_err-clause-refuses
+returns-else-is_err-clause-refuses c =
+    λ kind cause.
+    accepted_not (addition c.args.features.now c.args.graph.now c.args.package c.args.span_offset) c.add_checked-added.new.graph c.add_checked-added.result c.add_checked-added.ensures.ok kind cause
