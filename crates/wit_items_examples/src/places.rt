@@ -1,4 +1,5 @@
-//! Examples of places in source texts.
+//! Examples of places in source texts, and that each is in one file.
+ghost use Rattle.wit_items_examples.specs.OneFile.{HaveNoneInCommon};
 ghost use Rattle.wit_items_examples.specs.Places.{ExamplesOfHighlights, ExamplesOfPlaces};
 
 /// Where spans begin, by files, lines and columns.
@@ -9,4 +10,9 @@ pub fn examples_of_places()
 /// What stands under spans.
 pub fn examples_of_highlights()
     ensures { ExamplesOfHighlights }
+{}
+
+/// The files of a source map have no position in common.
+pub fn positions_are_of_one_file()
+    ensures { HaveNoneInCommon }
 {}
