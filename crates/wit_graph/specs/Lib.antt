@@ -15,5 +15,6 @@ pub mod Listed
 pub mod ListedFacts
 pub mod Questions
 pub mod Relations
+pub mod Rendered
 pub mod Samples
 pub mod Valid

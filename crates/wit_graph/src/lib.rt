@@ -15,6 +15,7 @@ mod imports;
 pub mod laws;
 mod marks;
 pub mod questions;
+pub mod rendering;
 pub mod role;
 
 pub use crate::cause::Cause;
@@ -25,3 +26,4 @@ pub use crate::error::{ResolveError, ResolveResult};
 pub use crate::error_kind::ResolveErrorKind;
 pub use crate::features::Features;
 pub use crate::graph::{Graph, Package};
+pub use crate::rendering::render_text;

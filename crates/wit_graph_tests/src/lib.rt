@@ -18,6 +18,8 @@ mod labels;
 #[cfg(test)]
 mod names;
 #[cfg(test)]
+mod places;
+#[cfg(test)]
 mod shape;
 #[cfg(test)]
 mod values;

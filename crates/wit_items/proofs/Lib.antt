@@ -5,4 +5,5 @@ pub mod UsePathGrammar
 pub mod VersionErrors
 pub mod Owners
 pub mod Shown
+pub mod Tracks
 pub mod Unnamed

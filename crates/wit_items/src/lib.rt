@@ -11,6 +11,7 @@ pub mod package_name;
 pub mod reference;
 pub mod shape;
 pub mod stability;
+mod track;
 pub mod types;
 pub mod unresolved;
 pub mod use_path;

@@ -1,2 +1,3 @@
 mod ShapeMisses
 mod Shaped
+pub mod OneFilePlaces

@@ -1,1 +1,3 @@
+pub mod OneFile
+pub mod Places
 pub mod Shape

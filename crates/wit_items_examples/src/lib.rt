@@ -2,4 +2,5 @@
 //! proved. They stand beside the crates, so that none waits for them.
 #![tactic(auto)]
 
+pub mod places;
 pub mod shape;

@@ -1,5 +1,6 @@
 //! A law of runs, and examples of the definitions: the contract of each function is what is proved.
 ghost use Rattle.wit_resolve_graph.specs.Examples.{ExamplesOfRuns, ExamplesOfSelection};
+ghost use Rattle.wit_resolve_graph.specs.SourcesExamples.{ExamplesOfSources};
 ghost use Rattle.wit_resolve_graph.specs.RunLaws.{RunsKeep};
 
 /// What was there before a run is there after it, with the same ids.
@@ -18,3 +19,8 @@ pub fn examples_of_runs()
 {
     wit_link::laws::examples_of_pushes();
 }
+
+/// Of a source that can't be read after one that is there.
+pub fn examples_of_sources()
+    ensures { ExamplesOfSources }
+{}

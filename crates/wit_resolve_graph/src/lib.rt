@@ -4,16 +4,20 @@
 
 pub mod command;
 pub mod laws;
+mod push_source;
 pub mod resolve;
 mod running;
 mod select;
+pub mod sources;
 mod turning;
 
 pub use crate::command::{Command, Reply};
 pub use crate::resolve::Resolve;
 pub use crate::running::run;
+pub use crate::sources::{ParseFault, SourceFault};
 pub use wit_graph::{
     Cause, Features, Graph, Package, ResolveError, ResolveErrorKind, ResolveResult,
 };
 pub use wit_link::Remap;
+pub use wit_package_sources::{PackageSourceNames, PackageSources};
 pub use wit_valid::is_valid;

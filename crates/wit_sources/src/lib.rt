@@ -1,6 +1,7 @@
 //! Places in source texts: spans, and the files of a source map in one row of positions.
 #![tactic(auto)]
 
+mod lines;
 pub mod source_map;
 pub mod span;
 

@@ -11,6 +11,8 @@ use std::marker::Model;
 use std::{fmt, slice};
 use wit_values::{Text, TryClone, try_clone_two};
 
+mod rendering;
+
 /// Why a source map takes no further file.
 #[derive(Clone, Copy, Debug, PartialEq, Eq)]
 pub enum MapFault {

@@ -7,4 +7,6 @@ mod failing_streams;
 #[cfg(test)]
 mod resolve;
 #[cfg(test)]
+mod sources;
+#[cfg(test)]
 mod turning;

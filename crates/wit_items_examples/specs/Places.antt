@@ -1,0 +1,71 @@
+-- Places in source texts as they are told, and texts that show them.
+use Rattle.std.specs.Prelude.{◌≡◌, ◌≢◌, ℕ, List, [], ◌∷◌, ◌++◌, replicate, Some, None, codes}
+use Rattle.wit_sources.specs.Lines.{dashes}
+use Rattle.wit_sources.specs.Shown.{highlighted, highlighted_in, location_of}
+use Rattle.wit_sources.specs.declared.source_map.SourceFile.{SourceFile}
+
+-- a file of two lines, of 24 bytes
+abbrev pub first : SourceFile
+first = record { path = codes "m.wit"; contents = codes "package a:b;\nworld w {}\n"; start = 0 }
+
+-- a file of 13 bytes that begins where the first one ends
+abbrev pub second : SourceFile
+second = record { path = codes "n.wit"; contents = codes "package c:d;\n"; start = 25 }
+
+-- the first file in a map with a base
+abbrev pub based : SourceFile
+based = record first { start = 100 }
+
+-- a letter of two bytes, a space, the letter again, and a line feed
+abbrev pub wide_text : List ℕ
+wide_text = 195 ∷ 169 ∷ 32 ∷ 195 ∷ 169 ∷ 10 ∷ []
+
+abbrev pub wide : SourceFile
+wide = record { path = codes "u.wit"; contents = wide_text; start = 0 }
+
+-- a file of one line of so many bytes
+abbrev pub line_of : ℕ → SourceFile
+line_of n = record { path = codes "l.wit"; contents = replicate n 120; start = 0 }
+
+-- where spans begin
+pub record ExamplesOfPlaces : Type 0 where
+  pub beginning : location_of (first ∷ second ∷ []) (Some (0, 7)) ≡ codes "m.wit:1:1"
+  pub second_line : location_of (first ∷ []) (Some (13, 18)) ≡ codes "m.wit:2:1"
+  pub within_a_line : location_of (first ∷ []) (Some (19, 20)) ≡ codes "m.wit:2:7"
+  pub at_a_line_feed : location_of (first ∷ []) (Some (12, 13)) ≡ codes "m.wit:1:13"
+  pub end_of_a_file : location_of (first ∷ second ∷ []) (Some (24, 24)) ≡ codes "m.wit:3:1"
+  pub next_file : location_of (first ∷ second ∷ []) (Some (25, 32)) ≡ codes "n.wit:1:1"
+  pub end_of_all : location_of (first ∷ second ∷ []) (Some (38, 38)) ≡ codes "n.wit:2:1"
+  pub past_all : location_of (first ∷ second ∷ []) (Some (39, 39)) ≡ codes "<unknown>"
+  pub unknown : location_of (first ∷ second ∷ []) None ≡ codes "<unknown>"
+  pub with_base : location_of (based ∷ []) (Some (113, 118)) ≡ codes "m.wit:2:1"
+  pub before_base : location_of (based ∷ []) (Some (99, 113)) ≡ codes "<unknown>"
+  pub after_a_wide_character : location_of (wide ∷ []) (Some (2, 3)) ≡ codes "u.wit:1:2"
+  pub in_a_wide_character : location_of (wide ∷ []) (Some (4, 5)) ≡ codes "u.wit:1:4"
+  -- near misses: bytes for characters, the end of a file in the next one, lines from 0, a line feed that ends nothing
+  pub not_bytes : location_of (wide ∷ []) (Some (2, 3)) ≢ codes "u.wit:1:3"
+  pub not_the_next_file : location_of (first ∷ second ∷ []) (Some (24, 24)) ≢ codes "n.wit:1:1"
+  pub not_from_zero : location_of (first ∷ []) (Some (13, 18)) ≢ codes "m.wit:1:0"
+  pub not_one_line : location_of (first ∷ []) (Some (13, 18)) ≢ codes "m.wit:1:14"
+
+-- what stands under spans, and lines that are too long
+pub record ExamplesOfHighlights : Type 0 where
+  pub told : highlighted (first ∷ []) (Some (13, 18)) (codes "bad") ≡ Some (codes "bad\n     --> m.wit:2:1\n      |\n    2 | world w {}\n      | ^----")
+  pub later : highlighted (first ∷ second ∷ []) (Some (33, 36)) (codes "bad") ≡ Some (codes "bad\n     --> n.wit:1:9\n      |\n    1 | package c:d;\n      |         ^--")
+  pub end_of_a_file : highlighted (first ∷ []) (Some (24, 24)) (codes "bad") ≡ Some (codes "bad\n     --> m.wit:3:1\n      |\n    3 | \n      | ^")
+  pub in_no_file : highlighted (first ∷ []) (Some (25, 26)) (codes "bad") ≡ None
+  pub unknown : highlighted (first ∷ []) None (codes "bad") ≡ None
+  pub three_characters : dashes wide_text 0 5 ≡ 2
+  pub one_character : dashes wide_text 0 2 ≡ 0
+  pub empty : dashes wide_text 3 3 ≡ 0
+  pub cut_at_its_end : dashes wide_text 0 4 ≡ 0
+  pub cut_at_its_beginning : dashes wide_text 1 5 ≡ 0
+  pub with_a_line_feed : dashes wide_text 0 6 ≡ 0
+  pub past_the_file : dashes wide_text 3 7 ≡ 0
+  pub too_long : highlighted (line_of 501 ∷ []) (Some (1, 3)) (codes "bad") ≡ Some (codes "l.wit:1:2: bad")
+  pub just_shown : highlighted (line_of 500 ∷ []) (Some (1, 3)) (codes "bad")
+      ≡ Some (codes "bad\n     --> l.wit:1:2\n      |\n    1 | " ++ (replicate 500 120 ++ codes "\n      |  ^-"))
+  -- near misses: the mark a place too far, a dash too many, dashes for bytes
+  pub not_further : highlighted_in first (Some (13, 18)) (codes "bad") ≢ codes "bad\n     --> m.wit:2:1\n      |\n    2 | world w {}\n      |  ^----"
+  pub not_longer : highlighted_in first (Some (13, 18)) (codes "bad") ≢ codes "bad\n     --> m.wit:2:1\n      |\n    2 | world w {}\n      | ^-----"
+  pub not_bytes : dashes wide_text 0 5 ≢ 4

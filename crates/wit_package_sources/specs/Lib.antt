@@ -1,0 +1,3 @@
+pub mod Names
+pub mod NamesExamples
+pub mod Seen

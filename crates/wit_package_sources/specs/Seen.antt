@@ -1,0 +1,12 @@
+-- How all names are gone through. What they come to is `each_once` (specs/Names).
+use Rattle.std.specs.Prelude.{ℕ, List, [], ◌∷◌, ◌++◌, fold, if◌then◌else◌}
+use Rattle.std.specs.List.{list_any}
+use Rattle.std.specs.Str.{bytes_eq}
+
+-- the names with one more, where it isn't among them
+abbrev pub with_name : List (List ℕ) → List ℕ → List (List ℕ)
+with_name seen name = if list_any (bytes_eq name) seen then seen else seen ++ name ∷ []
+
+-- the names with others, one after another
+abbrev pub with_all : List (List ℕ) → List (List ℕ) → List (List ℕ)
+with_all seen names = fold with_name seen names

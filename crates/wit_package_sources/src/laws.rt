@@ -1,0 +1,7 @@
+//! Examples of the names of sources.
+ghost use Rattle.wit_package_sources.specs.NamesExamples.{ExamplesOfNames};
+
+/// The names of the sources of two packages.
+pub fn examples_of_names()
+    ensures { ExamplesOfNames }
+{}

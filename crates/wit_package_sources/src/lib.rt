@@ -1,0 +1,8 @@
+//! Which sources the packages of a graph come from.
+#![tactic(auto)]
+
+pub mod laws;
+mod names;
+pub mod package_sources;
+
+pub use crate::package_sources::{PackageSourceNames, PackageSources};

@@ -1,0 +1,87 @@
+//! Sources that are parsed and pushed in one call.
+ghost use Rattle.std.specs.Prelude.{◌≡◌, ◌≤◌, ◌<◌, ◌^◌, ◌⊎◌, [], ◌∷◌, Ok, Err, IfErr, IfOk, OnOk};
+ghost use Rattle.wit_graph.specs.declared.error_kind.ResolveErrorKind.{ResolveErrorKind};
+ghost use Rattle.wit_items.specs.Shape.{IsGroupShaped};
+ghost use Rattle.wit_items.specs.declared.unresolved.UnresolvedPackageGroup.{UnresolvedPackageGroup};
+ghost use Rattle.wit_link.specs.Groups.{IsGroupsCause};
+ghost use Rattle.wit_link.specs.Supported.{IsSupportedGroup};
+ghost use Rattle.wit_resolve_graph.specs.Sources.{IsNotPlaced, IsPlaced, MayParse, PushesSource, RefusesSource};
+ghost use Rattle.wit_resolve_graph.specs.declared.sources.ParseFault.TheVariants as parse;
+ghost use Rattle.wit_resolve_graph.specs.Sources.{only_file};
+ghost use Rattle.wit_sources.specs.SourceMap.{end_after};
+
+use crate::resolve::Resolve;
+use crate::sources::{ParseFault, SourceFault};
+use std::alloc::Global;
+use wit_graph::{ResolveError, ResolveErrorKind};
+use wit_items::{MapFault, PackageId, SourceMap, Span, Text, UnresolvedPackageGroup};
+
+impl Resolve {
+    /// Adds what a parse makes of one file, as `push_group` does, and answers the main package's id. The
+    /// parse is given the source map of this file.
+    ///
+    /// So far the parse answers groups of one package that names nothing of others. Refused as
+    /// `push_group`, where the file would pass 4294967295 (27), and for memory, also where the parse
+    /// wants it (28). Where the parse can't read the text, its files go to the end of the sources and
+    /// its span is moved with them; where they don't fit it is 27, and nothing has changed.
+    pub fn push_source<F: FnOnce(SourceMap) -> Result<UnresolvedPackageGroup, ParseFault> + Drop>(
+        &mut self,
+        alloc: Global,
+        path: &str,
+        contents: &str,
+        parse: F,
+    ) -> Result<PackageId, SourceFault>
+        requires callable { F.IsAlwaysCallable parse }
+        requires shaped { (group : UnresolvedPackageGroup) → MayParse F.FnOnce parse path.now contents.now (Ok group) → IsGroupShaped group }
+        requires supported { (group : UnresolvedPackageGroup) → MayParse F.FnOnce parse path.now contents.now (Ok group) → IsSupportedGroup group }
+        ensures ok { IfOk result (λ id. PushesSource F.FnOnce parse self.old path.now contents.now id self.new) }
+        ensures err { IfErr result (λ fault. RefusesSource F.FnOnce parse self.old path.now contents.now fault self.new) }
+        ensures refuses { ((group : UnresolvedPackageGroup) → MayParse F.FnOnce parse path.now contents.now (Ok group) → (kind : ResolveErrorKind) × IsGroupsCause self.old.features self.old.graph self.old.source_map.end (group ∷ []) kind) → OnOk result ⊥ }
+    {
+        let source_map = only_file(alloc, path, contents)?;
+        match parse(source_map) {
+            Ok(group) => Ok(self.push_group(alloc, group)?),
+            Err(
+                ParseFault::Text {
+                    source_map,
+                    span,
+                    message,
+                },
+            ) => Err(self.place_fault(alloc, source_map, span, message)),
+            Err(ParseFault::OutOfMemory) => Err(SourceFault::Resolve(ResolveError::from(
+                ResolveErrorKind::OutOfMemory,
+            ))),
+        }
+    }
+
+    /// What is told of a text that can't be read, whose files go to the end of the sources.
+    fn place_fault(
+        &mut self,
+        alloc: Global,
+        source_map: SourceMap,
+        span: Span,
+        message: Text,
+    ) -> SourceFault
+        ensures { IsPlaced self.old source_map span message result self.new ⊎ IsNotPlaced self.old source_map span result self.new }
+    {
+        let Some(span) = span.moved(self.source_map().end()) else {
+            return SourceFault::from(MapFault::OffsetOverflow);
+        };
+        match self.push_source_map(alloc, source_map) {
+            Ok(_) => SourceFault::Parse { span, message },
+            Err(refusal) => SourceFault::Resolve(refusal),
+        }
+    }
+}
+
+/// The source map of one file.
+fn only_file(alloc: Global, path: &str, contents: &str) -> Result<SourceMap, MapFault>
+    ensures ok { IfOk result (λ map. map ≡ only_file path.now contents.now) }
+    ensures fits { OnOk result (end_after 0 contents.now < 2 ^ 32) }
+    ensures overflow { result ≡ Err MapFault.OffsetOverflow → 2 ^ 32 ≤ end_after 0 contents.now }
+{
+    let contents = String::from_str(alloc, contents)?;
+    let mut map = SourceMap::new(alloc);
+    map.push_str(alloc, path, contents)?;
+    Ok(map)
+}

@@ -1,0 +1,104 @@
+//! Lines and columns of a text.
+ghost use Rattle.std.specs.Prelude.{◌≡◌, ◌≤◌, ◌<◌, ◌-◌, length, not, slice_index, count_by};
+ghost use Rattle.std.specs.Fmt.{is_char_start};
+ghost use Rattle.std.specs.List.{position_or_len, suffix_len};
+ghost use Rattle.wit_sources.specs.Lines.{column, dashes, is_cut_whole, is_line_feed, line_number, line_text};
+
+/// The number of the line in which a position of a text stands, from 1.
+pub(crate) fn line_number(text: &str, offset: usize) -> usize
+    requires { offset ≤ length text.now }
+    ensures { result ≡ line_number text.now offset }
+{
+    let before = &text.as_bytes()[..offset];
+    before.iter().filter(|byte| **byte == b'\n').count() + 1
+}
+
+/// The column at which a position of a text stands in its line, from 1.
+pub(crate) fn column(text: &str, offset: usize) -> usize
+    requires { offset ≤ length text.now }
+    ensures { result ≡ column text.now offset }
+{
+    let before = &text.as_bytes()[..offset];
+    let start = last_line_start(before);
+    count_chars(&before[start..]) + 1
+}
+
+/// The line in which a position of a text stands.
+pub(crate) fn line_at(text: &str, offset: usize) -> &str
+    requires { offset ≤ length text.now }
+    ensures { result.now ≡ line_text text.now offset }
+{
+    let (before, after) = text.as_bytes().split_at(offset);
+    let start = last_line_start(before);
+    let end = offset + first_line_end(after);
+    &text[start..end]
+}
+
+/// How many characters follow the first one between two positions of a text. None where they are
+/// past its end or in a character, or where the line ends between them.
+pub(crate) fn dashes(text: &str, start: usize, end: usize) -> usize
+    requires { start ≤ end }
+    ensures { result ≡ dashes text.now start end }
+{
+    let bytes = text.as_bytes();
+    if !is_cut_whole(bytes, start) || !is_cut_whole(bytes, end) {
+        return 0;
+    }
+    let shown = &bytes[start..end];
+    if shown.contains(&b'\n') {
+        return 0;
+    }
+    count_chars(shown).saturating_sub(1)
+}
+
+/// How many characters begin in a part of a text.
+fn count_chars(bytes: &[u8]) -> usize
+    ensures value { result ≡ count_by is_char_start bytes.now }
+    ensures within { result ≤ length bytes.now }
+{
+    bytes.iter().filter(|byte| is_char_start(**byte)).count()
+}
+
+/// Whether a byte is the first of a character.
+fn is_char_start(byte: u8) -> bool
+    ensures { result ≡ is_char_start byte }
+{
+    byte < 0x80 || byte >= 0xC0
+}
+
+/// Whether a position is in a text or at its end, and in no character.
+fn is_cut_whole(bytes: &[u8], position: usize) -> bool
+    ensures { result ≡ is_cut_whole bytes.now position }
+{
+    match bytes.get(position) {
+        Some(byte) => is_char_start(*byte),
+        None => position == bytes.len(),
+    }
+}
+
+/// Where the last line of a text begins: after its last line feed.
+fn last_line_start(bytes: &[u8]) -> usize
+    ensures value { result ≡ length bytes.now - suffix_len (λ b. not (is_line_feed b)) bytes.now }
+    ensures within { result ≤ length bytes.now }
+    ensures begins { 0 < result → slice_index bytes.now (result - 1) ≡ 10 }
+{
+    let mut start = bytes.len();
+    while start > 0 && bytes[start - 1] != b'\n' {
+        start -= 1;
+    }
+    start
+}
+
+/// Where the first line of a text ends: at its first line feed.
+fn first_line_end(bytes: &[u8]) -> usize
+    ensures value { result ≡ position_or_len is_line_feed bytes.now }
+    ensures within { result ≤ length bytes.now }
+    ensures ends { result < length bytes.now → slice_index bytes.now result ≡ 10 }
+{
+    for (index, byte) in bytes.iter().enumerate() {
+        if *byte == b'\n' {
+            return index;
+        }
+    }
+    bytes.len()
+}

@@ -1,0 +1,167 @@
+//! Places of a source map as they are told, and the text that shows one.
+ghost use Rattle.std.specs.Prelude.{◌≡◌, Some, IfOk, IfSome, replicate, string_bytes};
+ghost use Rattle.std.specs.Option.{option_copied, option_map};
+ghost use Rattle.wit_sources.specs.Lines.{column, line_number};
+ghost use Rattle.wit_sources.specs.Shown.{IsIn, file_of, has_position, highlighted, highlighted_in, in_four, location_of, offset_in, place_text};
+ghost use Rattle.wit_sources.specs.Span.{start_of};
+
+use super::{SourceFile, SourceMap};
+use crate::lines::{column, dashes, line_at, line_number};
+use crate::span::Span;
+use std::alloc::{AllocError, Global};
+use std::fmt;
+
+/// The longest line that is shown, in bytes.
+const LONGEST_LINE: usize = 500;
+
+impl SourceMap {
+    /// Where a span begins: `path:line:column`, both numbers from 1, or `<unknown>` where the span is
+    /// unknown or in no file. Lines end at line feeds, columns count characters.
+    pub fn render_location(&self, alloc: Global, span: Span) -> Result<String, AllocError>
+        ensures { IfOk result (λ text. string_bytes text ≡ location_of self.now.files span) }
+    {
+        match self.file_of(span) {
+            Some(file) => {
+                let location = file.location(span);
+                format!(in alloc; "{location}")
+            }
+            None => String::from_str(alloc, "<unknown>"),
+        }
+    }
+
+    /// A text with the line in which a span begins, the span underlined in it. None where the span is
+    /// unknown or in no file. A line of more than 500 bytes isn't shown.
+    pub fn highlight_span(
+        &self,
+        alloc: Global,
+        span: Span,
+        text: &str,
+    ) -> Result<Option<String>, AllocError>
+        ensures { IfOk result (λ shown. option_map string_bytes shown ≡ highlighted self.now.files span text.now) }
+    {
+        match self.file_of(span) {
+            Some(file) => Ok(Some(file.highlighted(alloc, span, text)?)),
+            None => Ok(None),
+        }
+    }
+
+    /// The file in which a span begins.
+    fn file_of(&self, span: Span) -> Option<&SourceFile>
+        ensures file { option_copied result ≡ file_of self.now.files span }
+        ensures inside { IfSome result (λ file. IsIn file.now span) }
+    {
+        if !span.is_known() {
+            return None;
+        }
+        let position = span.start();
+        self.files.iter().find(|file| file.has_position(position))
+    }
+}
+
+impl SourceFile {
+    /// Whether a position is in this file or at the end of its text.
+    fn has_position(&self, position: u32) -> bool
+        ensures { result ≡ has_position position self.now }
+    {
+        match position.checked_sub(self.start) {
+            Some(offset) => offset as usize <= self.contents.len(),
+            None => false,
+        }
+    }
+
+    /// Where a span that begins in this file begins.
+    fn location(&self, span: Span) -> Location<'_>
+        requires { IsIn self.now span }
+        ensures path { result.path.now ≡ self.now.path }
+        ensures line { result.line ≡ line_number self.now.contents (offset_in self.now (start_of span)) }
+        ensures column { result.column ≡ column self.now.contents (offset_in self.now (start_of span)) }
+    {
+        let contents = self.contents.as_str();
+        let offset = (span.start() - self.start) as usize;
+        Location {
+            path: self.path.as_str(),
+            line: line_number(contents, offset),
+            column: column(contents, offset),
+        }
+    }
+
+    /// A text with the line in which a span of this file begins.
+    fn highlighted(&self, alloc: Global, span: Span, text: &str) -> Result<String, AllocError>
+        requires { IsIn self.now span }
+        ensures { IfOk result (λ shown. string_bytes shown ≡ highlighted_in self.now span text.now) }
+    {
+        let location = self.location(span);
+        let contents = self.contents.as_str();
+        let offset = (span.start() - self.start) as usize;
+        let line = line_at(contents, offset);
+        if line.len() > LONGEST_LINE {
+            return format!(in alloc; "{location}: {text}");
+        }
+        let number = InFour(location.line);
+        let spaces = Spaces(location.column - 1);
+        let dashes = Dashes(dashes(contents, offset, (span.end() - self.start) as usize));
+        format!(in alloc;
+            "{text}\n     --> {location}\n      |\n {number} | {line}\n      | {spaces}^{dashes}"
+        )
+    }
+}
+
+/// A place in a file.
+#[derive(Drop)]
+struct Location<'a> {
+    path: &'a str,
+    line: usize,
+    column: usize,
+}
+
+impl<'a> fmt::Display for Location<'a> {
+    ghost output = { λ l. Some (place_text l.path.now l.line l.column) };
+
+    fn fmt<W: fmt::Write>(&self, f: &mut fmt::Formatter<W>) -> fmt::Result {
+        let (path, line, column) = (self.path, self.line, self.column);
+        write!(f, "{path}:{line}:{column}")
+    }
+}
+
+/// So many spaces.
+#[derive(Drop)]
+struct Spaces(usize);
+
+impl fmt::Display for Spaces {
+    ghost output = { λ s. Some (replicate s.0 32) };
+
+    fn fmt<W: fmt::Write>(&self, f: &mut fmt::Formatter<W>) -> fmt::Result {
+        for _i in 0..self.0 {
+            write!(f, " ")?;
+        }
+        Ok(())
+    }
+}
+
+/// So many dashes.
+#[derive(Drop)]
+struct Dashes(usize);
+
+impl fmt::Display for Dashes {
+    ghost output = { λ s. Some (replicate s.0 45) };
+
+    fn fmt<W: fmt::Write>(&self, f: &mut fmt::Formatter<W>) -> fmt::Result {
+        for _i in 0..self.0 {
+            write!(f, "-")?;
+        }
+        Ok(())
+    }
+}
+
+/// A number in four places.
+#[derive(Drop)]
+struct InFour(usize);
+
+impl fmt::Display for InFour {
+    ghost output = { λ n. Some (in_four n.0) };
+
+    fn fmt<W: fmt::Write>(&self, f: &mut fmt::Formatter<W>) -> fmt::Result {
+        let number = self.0;
+        write!(f, "{number:4}")
+    }
+}

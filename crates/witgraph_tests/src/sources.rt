@@ -1,0 +1,265 @@
+//! Sources that are pushed by a parse which is handed in, how their faults are told, and sources of packages.
+ghost use Rattle.std.specs.Prelude.{IfOk, IsErr};
+ghost use Rattle.wit_items.specs.Shape.{IsGroupShaped};
+ghost use Rattle.wit_link.specs.Supported.{IsSupportedGroup};
+ghost use Rattle.wit_package_sources.specs.Names.{ArePlaced};
+
+use std::alloc::{AllocError, Global};
+use std::collections::BTreeMap;
+use std::process::Abort;
+use wit_items::{
+    Docs, Function, FunctionKind, Interface, Items, Names, PackageId, PackageName, SourceMap, Span,
+    Stability, Table, Text, TryClone, UnresolvedPackage, UnresolvedPackageGroup,
+};
+use wit_link::is_supported_group;
+use wit_resolve_graph::{PackageSources, ParseFault, Resolve, SourceFault};
+
+fn text(rt: &impl Abort, alloc: Global, text: &str) -> Text {
+    Text::try_from_str(alloc, text).expect(rt, "memory")
+}
+
+/// What a parse answers that can't read its text from 13 to 18.
+fn unreadable(
+    rt: &impl Abort,
+    alloc: Global,
+    source_map: SourceMap,
+) -> Result<UnresolvedPackageGroup, ParseFault>
+    ensures { IsErr result }
+{
+    Err(ParseFault::Text {
+        source_map,
+        span: Span::new(13, 18),
+        message: text(rt, alloc, "bad"),
+    })
+}
+
+/// Where the text of a file can't be read, and how it is told.
+fn fault(rt: &impl Abort, alloc: Global, resolve: &mut Resolve) -> (u32, u32, String) {
+    let contents = "package a:b;\nworld w {}\n";
+    let parse = |source_map: SourceMap| unreadable(rt, alloc, source_map);
+    let Err(fault) = resolve.push_source(alloc, "m.wit", contents, parse) else {
+        panic!(rt; "a package");
+    };
+    let shown = resolve.render_error(alloc, &fault).expect(rt, "memory");
+    match fault {
+        SourceFault::Parse { span, .. } => (span.start(), span.end(), shown),
+        SourceFault::Resolve(_) => (0, 0, shown),
+    }
+}
+
+/// What comes of two such files.
+fn faults(rt: &impl Abort, alloc: Global) -> [(u32, u32, String); 2] {
+    let mut resolve = Resolve::new(alloc);
+    let first = fault(rt, alloc, &mut resolve);
+    let second = fault(rt, alloc, &mut resolve);
+    [first, second]
+}
+
+#[test]
+fn faults_stand_in_the_files_that_follow(rt: HostRuntime) {
+    let [
+        (start, end, shown),
+        (second_start, second_end, second_shown),
+    ] = faults(&rt, rt.alloc());
+    let lines = "bad\n     --> m.wit:2:1\n      |\n    2 | world w {}\n      | ^----";
+    assert_eq!(rt; (start, end), (13, 18));
+    assert_eq!(rt; shown.as_str(), lines);
+    assert_eq!(rt; (second_start, second_end), (38, 43));
+    assert_eq!(rt; second_shown.as_str(), lines);
+}
+
+/// An interface with a function, at their places in the file.
+fn interface(rt: &impl Abort, alloc: Global) -> Interface {
+    let function = Function {
+        name: text(rt, alloc, "second-func"),
+        kind: FunctionKind::Freestanding,
+        params: Items::new(alloc),
+        result_: None,
+        docs: Docs::none(),
+        stability: Stability::Unknown,
+        span: Span::new(51, 62),
+        external_id: None,
+    };
+    let name = String::from_str(alloc, "second-func").expect(rt, "memory");
+    let mut functions = Names::new(alloc);
+    functions.push(name, function).expect(rt, "memory");
+    Interface {
+        name: Some(text(rt, alloc, "second-iface")),
+        types: Names::new(alloc),
+        functions,
+        docs: Docs::none(),
+        stability: Stability::Unknown,
+        package: None,
+        span: Span::new(32, 44),
+    }
+}
+
+/// The package of the file.
+fn package(rt: &impl Abort, alloc: Global) -> UnresolvedPackage {
+    let mut interfaces = Items::new(alloc);
+    interfaces.push(interface(rt, alloc)).expect(rt, "memory");
+    let name = PackageName::new(text(rt, alloc, "test"), text(rt, alloc, "second"), None);
+    UnresolvedPackage {
+        name,
+        package_name_span: Span::new(8, 19),
+        docs: Docs::none(),
+        worlds: Items::new(alloc),
+        interfaces,
+        types: Items::new(alloc),
+        foreign_deps: Table::new(alloc),
+        foreign_dep_spans: Items::new(alloc),
+        unknown_type_spans: Items::new(alloc),
+        required_resource_types: Items::new(alloc),
+    }
+}
+
+/// What a parse of the file answers.
+fn parsed(
+    rt: &impl Abort,
+    alloc: Global,
+    source_map: SourceMap,
+) -> Result<UnresolvedPackageGroup, ParseFault>
+    ensures shaped { IfOk result (λ group. IsGroupShaped group) }
+    ensures supported { IfOk result (λ group. IsSupportedGroup group) }
+{
+    let group = UnresolvedPackageGroup {
+        main: package(rt, alloc),
+        nested: Items::new(alloc),
+        source_map,
+    };
+    if group.is_shaped(alloc).expect(rt, "memory") && is_supported_group(&group) {
+        return Ok(group);
+    }
+    Err(ParseFault::OutOfMemory)
+}
+
+const FIRST: &str = "package test:first;\n\ninterface first-iface {\n    first-func: func();\n}\n";
+
+const SECOND: &str =
+    "package test:second;\n\ninterface second-iface {\n    second-func: func();\n}\n";
+
+/// The spans of the interface and of its function, where they are there.
+fn spans(resolve: &Resolve) -> Option<[Span; 2]> {
+    let interface = resolve.interfaces().first()?;
+    let function = interface.functions.get("second-func")?;
+    Some([interface.span, function.span])
+}
+
+/// A file before which nothing stands.
+fn file(rt: &impl Abort, alloc: Global, path: &str, contents: &str) -> SourceMap {
+    let mut map = SourceMap::new(alloc);
+    let contents = String::from_str(alloc, contents).expect(rt, "memory");
+    map.push_str(alloc, path, contents).expect(rt, "memory");
+    map
+}
+
+/// The package of the second file after the first one.
+fn second_package(rt: &impl Abort, alloc: Global) -> Resolve {
+    let mut resolve = Resolve::new(alloc);
+    let first = file(rt, alloc, "first.wit", FIRST);
+    resolve.push_source_map(alloc, first).expect(rt, "memory");
+    let parse = |source_map: SourceMap| parsed(rt, alloc, source_map);
+    resolve
+        .push_source(alloc, "second.wit", SECOND, parse)
+        .expect(rt, "a package");
+    resolve
+}
+
+/// Where the interface and its function stand.
+fn places(rt: &impl Abort, alloc: Global) -> [(u32, u32, String); 2] {
+    let resolve = second_package(rt, alloc);
+    let [interface, function] = spans(&resolve).expect(rt, "an interface");
+    let first = resolve
+        .render_location(alloc, interface)
+        .expect(rt, "memory");
+    let second = resolve
+        .render_location(alloc, function)
+        .expect(rt, "memory");
+    [
+        (interface.start(), interface.end(), first),
+        (function.start(), function.end(), second),
+    ]
+}
+
+#[test]
+fn spans_move_with_their_file(rt: HostRuntime) {
+    let [
+        (start, end, place),
+        (second_start, second_end, second_place),
+    ] = places(&rt, rt.alloc());
+    assert_eq!(rt; (start, end), (104, 116));
+    assert_eq!(rt; place.as_str(), "second.wit:3:11");
+    assert_eq!(rt; (second_start, second_end), (123, 134));
+    assert_eq!(rt; second_place.as_str(), "second.wit:4:5");
+}
+
+/// The files of these paths.
+fn files(rt: &impl Abort, alloc: Global, paths: [&str; 2]) -> SourceMap {
+    let mut map = SourceMap::new(alloc);
+    for path in paths {
+        map.push_str(alloc, path, String::new(alloc))
+            .expect(rt, "memory");
+    }
+    map
+}
+
+/// The first place for package 0, and the second for package 1.
+fn two_places(alloc: Global) -> Result<BTreeMap<PackageId, usize>, AllocError>
+    ensures { IfOk result (λ places. ArePlaced places.entries 2) }
+{
+    let mut places = BTreeMap::new(alloc);
+    places.insert(PackageId::from_index(0), 0)?;
+    places.insert(PackageId::from_index(1), 1)?;
+    Ok(places)
+}
+
+/// Files a and b of package 0, and b and c of package 1.
+fn two_packages(rt: &impl Abort, alloc: Global) -> PackageSources {
+    let first = files(rt, alloc, ["a", "b"]);
+    let second = files(rt, alloc, ["b", "c"]);
+    let maps = vec![in alloc; first, second].expect(rt, "memory");
+    let places = two_places(alloc).expect(rt, "memory");
+    PackageSources::from_source_maps(alloc, maps, places).expect(rt, "memory")
+}
+
+/// All names, those of package 1, and those of package 2.
+fn names(rt: &impl Abort, alloc: Global, sources: &PackageSources) -> String {
+    let mut shown = String::new(alloc);
+    for name in sources.source_names(alloc).expect(rt, "memory") {
+        shown.push_str(name).expect(rt, "memory");
+    }
+    for id in [1, 2] {
+        match sources.package_source_names(PackageId::from_index(id)) {
+            Some(names) => {
+                shown.push_str(" of 1: ").expect(rt, "memory");
+                for name in names {
+                    shown.push_str(name).expect(rt, "memory");
+                }
+            }
+            None => shown.push_str(", none").expect(rt, "memory"),
+        }
+    }
+    shown
+}
+
+#[test]
+fn packages_have_their_sources(rt: HostRuntime) {
+    let sources = two_packages(&rt, rt.alloc());
+    let copy = sources.try_clone().expect(&rt, "memory");
+    assert_eq!(rt;
+        names(&rt, rt.alloc(), &copy).as_str(),
+        "abc of 1: bc, none"
+    );
+}
+
+#[test]
+fn one_source_is_of_one_package(rt: HostRuntime) {
+    let package = PackageId::from_index(1);
+    let sources = PackageSources::from_single_source(rt.alloc(), package, "m").expect(
+        &rt, "memory",
+    );
+    assert_eq!(rt;
+        names(&rt, rt.alloc(), &sources).as_str(),
+        "m of 1: m, none"
+    );
+}
