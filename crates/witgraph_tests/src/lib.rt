@@ -3,8 +3,16 @@
 #![tactic(auto)]
 
 #[cfg(test)]
+mod core_names;
+#[cfg(test)]
 mod failing_streams;
 #[cfg(test)]
+mod fixtures;
+#[cfg(test)]
+mod questions;
+#[cfg(test)]
 mod resolve;
+#[cfg(test)]
+mod selecting;
 #[cfg(test)]
 mod turning;
