@@ -12,7 +12,13 @@ pub fn resolve_of(rt: &impl Abort, alloc: Global, script: &str) -> Resolve {
     for ready in commands.into_vec() {
         push(rt, alloc, &mut resolve, ready.into_command());
     }
+    assert_valid(rt, alloc, &resolve);
     resolve
+}
+
+/// Ends the test where the graph isn't valid, which its type rules out.
+pub fn assert_valid(rt: &impl Abort, alloc: Global, resolve: &Resolve) {
+    assert!(rt; resolve.assert_valid(alloc).expect(rt, "memory"));
 }
 
 /// Pushes a package that is alone in its group.
