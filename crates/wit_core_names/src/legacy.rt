@@ -1,7 +1,7 @@
 //! The names before those of the build targets.
-ghost use Rattle.std.specs.Prelude.{◌≡◌, ◌++◌, IfErr, IfOk, string_bytes};
+ghost use Rattle.std.specs.Prelude.{◌≡◌, ◌∷◌, ◌++◌, IfErr, IfOk, string_bytes};
 ghost use Rattle.std.specs.Option.{option_copied};
-ghost use Rattle.wit_core_names.specs.Names.{export_name, exported_prefix, import_names, legacy_key, legacy_module};
+ghost use Rattle.wit_core_names.specs.Names.{async_prefix, export_name, exported_prefix, import_names, legacy_key, legacy_module, place_text};
 ghost use Rattle.wit_graph.specs.declared.error_kind.ResolveErrorKind.TheVariants.{OutOfMemory};
 ghost use Rattle.wit_items.specs.Reference.{type_references};
 ghost use Rattle.wit_items.specs.declared.abi.ManglingAndAbi.TheVariants.{Legacy};
@@ -15,7 +15,7 @@ use crate::parts::{
 };
 use std::alloc::Global;
 use wit_graph::{Graph, ResolveResult};
-use wit_items::{LiftLowerAbi, WorldKey};
+use wit_items::{Function, LiftLowerAbi, TypeId, WorldKey};
 
 /// The module of what is imported from an interface, or from nowhere else.
 fn legacy_module(
@@ -82,16 +82,9 @@ pub(crate) fn legacy_import(
             async_,
         } => {
             let module = module_of(alloc, graph, interface, *exported)?;
-            let place = place_text(alloc, graph, func, *ty)?;
-            let (lowered, word, name) = (
-                async_prefix(*async_),
-                future_word(*intrinsic),
-                &func.name,
-            );
-            Ok((
-                module,
-                format!(in alloc; "{lowered}[future-{word}-{place}]{name}")?,
-            ))
+            let word = future_word(*intrinsic);
+            let field = value_field(alloc, graph, func, *ty, *async_, "future", word)?;
+            Ok((module, field))
         }
         WasmImport::StreamIntrinsic {
             interface,
@@ -102,18 +95,30 @@ pub(crate) fn legacy_import(
             async_,
         } => {
             let module = module_of(alloc, graph, interface, *exported)?;
-            let place = place_text(alloc, graph, func, *ty)?;
-            let (lowered, word, name) = (
-                async_prefix(*async_),
-                stream_word(*intrinsic),
-                &func.name,
-            );
-            Ok((
-                module,
-                format!(in alloc; "{lowered}[stream-{word}-{place}]{name}")?,
-            ))
+            let word = stream_word(*intrinsic);
+            let field = value_field(alloc, graph, func, *ty, *async_, "stream", word)?;
+            Ok((module, field))
         }
     }
+}
+
+/// The field of what is done with a future or a stream of a function, by the words for both.
+fn value_field(
+    alloc: Global,
+    graph: &Graph,
+    function: &Function,
+    ty: Option<TypeId>,
+    async_: bool,
+    noun: &str,
+    word: &str,
+) -> ResolveResult<String>
+    requires { IsAcyclic (type_references graph.now.types) }
+    ensures text { IfOk result (λ text. string_bytes text ≡ async_prefix async_ ++ (91 ∷ (noun.now ++ (45 ∷ (word.now ++ (45 ∷ (place_text graph.now.types function.now ty ++ (93 ∷ function.now.name)))))))) }
+    ensures err { IfErr result (λ e. e ≡ OutOfMemory) }
+{
+    let place = place_text(alloc, graph, function, ty)?;
+    let (lowered, name) = (async_prefix(async_), &function.name);
+    Ok(format!(in alloc; "{lowered}[{noun}-{word}-{place}]{name}")?)
 }
 
 /// The module of what may serve an export.

@@ -84,12 +84,6 @@ fn standard_resource(
     ensures err { IfErr result (λ e. e ≡ OutOfMemory) }
 {
     let name = resource_name(graph, resource);
-    if intrinsic == ResourceIntrinsic::ImportedDrop {
-        let module = standard_module(alloc, graph, interface)?;
-        return Ok((module, format!(in alloc; "{name}_drop")?));
-    }
-    let key = standard_key(alloc, graph, interface)?;
-    let module = format!(in alloc; "cm32p2|_ex_{key}")?;
     let field = match intrinsic {
         ResourceIntrinsic::ImportedDrop | ResourceIntrinsic::ExportedDrop => {
             format!(in alloc; "{name}_drop")?
@@ -97,7 +91,11 @@ fn standard_resource(
         ResourceIntrinsic::ExportedNew => format!(in alloc; "{name}_new")?,
         ResourceIntrinsic::ExportedRep => format!(in alloc; "{name}_rep")?,
     };
-    Ok((module, field))
+    if intrinsic == ResourceIntrinsic::ImportedDrop {
+        return Ok((standard_module(alloc, graph, interface)?, field));
+    }
+    let key = standard_key(alloc, graph, interface)?;
+    Ok((format!(in alloc; "cm32p2|_ex_{key}")?, field))
 }
 
 /// The name of an export.

@@ -1,5 +1,5 @@
-//! Tests of what no clause says of the crates up to `wit_graph`: that calls succeed where memory is ample, and
-//! values worked outside.
+//! Tests of what no clause says of the crates up to `wit_graph` and of those beside it: that calls succeed
+//! where memory is ample, and values worked outside.
 //!
 //! A test costs the proof little as long as it keeps to one form: what owns memory lives in one helper, which
 //! takes `.expect(rt, "memory")` for `?` and answers numbers or a text; the test compares.
@@ -7,6 +7,8 @@
 
 #[cfg(test)]
 mod copies;
+#[cfg(test)]
+mod core_names;
 #[cfg(test)]
 mod elaboration;
 #[cfg(test)]
@@ -21,6 +23,8 @@ mod names;
 mod places;
 #[cfg(test)]
 mod shape;
+#[cfg(test)]
+mod validity;
 #[cfg(test)]
 mod values;
 #[cfg(test)]

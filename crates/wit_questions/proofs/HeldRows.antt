@@ -1,5 +1,5 @@
 -- The rows of what values hold are among those of what types refer to.
-use Rattle.std.proofs.Common.{◌≡◌, ℕ, ◌<◌, ◌∙◌, ◌⊎◌, inl, inr, zero, suc, List, [], ◌∷◌, map, length, ap, refl, subst, sym, Contains, All, arith}
+use Rattle.std.proofs.Common.{◌≡◌, ℕ, ◌<◌, ◌⊎◌, inl, inr, zero, suc, List, [], ◌∷◌, length, ap, refl, subst, sym, Contains, All, arith}
 use Rattle.wit_relations.specs.MemberFacts.{Contains-nil}
 use Rattle.wit_relations.specs.Relation.{direct, IsAcyclic, IsPath}
 use Rattle.wit_items.specs.Reference.{referred, type_references}

@@ -1,10 +1,10 @@
 //! Canonical names: with the text of the track in the place of the version.
 ghost use Rattle.std.specs.Prelude.{◌≡◌, IfErr, IfOk, Some, string_bytes};
 ghost use Rattle.std.specs.Option.{option_map};
-ghost use Rattle.wit_graph.specs.Questions.{canonical_id_text, canonical_id_text_in, canonical_interface_id_at, canonical_key_text, track_part};
+ghost use Rattle.wit_graph.specs.Questions.{canonical_id_text, canonical_id_text_in, canonical_interface_id_at, canonical_key_text, track_part, version_suffix_of};
 ghost use Rattle.wit_graph.specs.declared.error_kind.ResolveErrorKind.TheVariants.{OutOfMemory};
-ghost use Rattle.wit_items.specs.Track.{track_text};
 
+use crate::track::{Track, track_suffix};
 use std::alloc::{AllocError, Global};
 use std::fmt;
 use wit_graph::{Graph, ResolveResult};
@@ -68,6 +68,32 @@ pub fn name_canonicalized_world_key(
     }
 }
 
+/// What the canonical id text of an interface leaves out of the version of its package: what remains of
+/// the version's text after that of its track. None where there is no version or nothing remains, or
+/// the interface has no package or isn't there.
+pub fn version_suffix_of(
+    alloc: Global,
+    graph: &Graph,
+    id: InterfaceId,
+) -> ResolveResult<Option<String>>
+    ensures text { IfOk result (λ text. option_map string_bytes text ≡ version_suffix_of graph.now.packages graph.now.interfaces id) }
+    ensures err { IfErr result (λ e. e ≡ OutOfMemory) }
+{
+    let Some(interface) = graph.interfaces.get(id.index()) else {
+        return Ok(None);
+    };
+    let Some(package) = interface.package else {
+        return Ok(None);
+    };
+    let Some(package) = graph.packages.get(package.index()) else {
+        return Ok(None);
+    };
+    let Some(version) = &package.name.version else {
+        return Ok(None);
+    };
+    Ok(track_suffix(alloc, version)?)
+}
+
 /// `namespace:package/name`, and `@track` where the package has a version.
 fn canonical_id_in(alloc: Global, package: &PackageName, name: &str) -> Result<String, AllocError>
     ensures { IfOk result (λ text. string_bytes text ≡ canonical_id_text_in «package».now name.now) }
@@ -93,28 +119,5 @@ impl<'a> fmt::Display for TrackPart<'a> {
             }
             None => Ok(()),
         }
-    }
-}
-
-/// The text of a version's track.
-#[derive(Drop)]
-struct Track<'a>(&'a Version);
-
-impl<'a> fmt::Display for Track<'a> {
-    ghost output = { λ s. Some (track_text s.0.now) };
-
-    fn fmt<W: fmt::Write>(&self, f: &mut fmt::Formatter<W>) -> fmt::Result {
-        let (major, minor, patch) = (self.0.major(), self.0.minor(), self.0.patch());
-        let pre = self.0.pre();
-        if !pre.is_empty() {
-            return write!(f, "{major}.{minor}.{patch}-{pre}");
-        }
-        if major != 0 {
-            return write!(f, "{major}");
-        }
-        if minor != 0 {
-            return write!(f, "0.{minor}");
-        }
-        write!(f, "0.0.{patch}")
     }
 }

@@ -1,9 +1,11 @@
 //! What is asked of the entries of a world.
-ghost use Rattle.std.specs.Prelude.{◌≡◌};
+ghost use Rattle.std.specs.Prelude.{◌≡◌, IfErr, IfOk, string_bytes};
 ghost use Rattle.std.specs.Option.{option_map};
 ghost use Rattle.wit_graph.specs.Questions.{external_id_value, implements_interface, named_interface};
+ghost use Rattle.wit_graph.specs.declared.error_kind.ResolveErrorKind.TheVariants.{OutOfMemory};
 
-use wit_graph::Graph;
+use std::alloc::Global;
+use wit_graph::{Graph, ResolveResult};
 use wit_items::{InterfaceId, Text, WorldItem, WorldKey};
 
 /// The interface with a name that stands under a label.
@@ -34,5 +36,20 @@ pub fn external_id_of<'a>(graph: &'a Graph, item: &'a WorldItem) -> Option<&'a T
         WorldItem::Interface { external_id, .. } => external_id.as_ref(),
         WorldItem::Function(function) => function.external_id.as_ref(),
         WorldItem::Type_ { id, .. } => graph.types.get(id.index())?.external_id.as_ref(),
+    }
+}
+
+/// The external id of an entry: its own, or that of its function or type.
+pub fn external_id_value(
+    alloc: Global,
+    graph: &Graph,
+    item: &WorldItem,
+) -> ResolveResult<Option<String>>
+    ensures text { IfOk result (λ text. option_map string_bytes text ≡ external_id_value graph.now.types item.now) }
+    ensures err { IfErr result (λ e. e ≡ OutOfMemory) }
+{
+    match external_id_of(graph, item) {
+        Some(id) => Ok(Some(String::from_str(alloc, id.as_str())?)),
+        None => Ok(None),
     }
 }

@@ -9,12 +9,15 @@ pub mod held;
 pub mod interface_deps;
 mod next;
 pub mod package_deps;
+mod track;
 mod world_deps;
 
 pub use crate::canonical::{
-    canonicalized_id_of, canonicalized_id_of_name, name_canonicalized_world_key,
+    canonicalized_id_of, canonicalized_id_of_name, name_canonicalized_world_key, version_suffix_of,
 };
-pub use crate::entries::{external_id_of, implements_interface, named_interface};
+pub use crate::entries::{
+    external_id_of, external_id_value, implements_interface, named_interface,
+};
 pub use crate::futures::find_futures_and_streams;
 pub use crate::held::{all_bits_valid, held_rows};
 pub use crate::interface_deps::{InterfaceDirectDeps, interface_direct_deps};

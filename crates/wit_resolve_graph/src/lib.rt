@@ -3,8 +3,10 @@
 #![tactic(auto)]
 
 pub mod command;
+mod core_names;
 pub mod laws;
 mod push_source;
+mod questions;
 pub mod resolve;
 mod running;
 mod select;
@@ -15,9 +17,14 @@ pub use crate::command::{Command, Reply};
 pub use crate::resolve::Resolve;
 pub use crate::running::run;
 pub use crate::sources::{ParseFault, SourceFault};
+pub use wit_core_names::{
+    FutureIntrinsic, ResourceIntrinsic, StreamIntrinsic, WasmExport, WasmExportKind, WasmImport,
+};
 pub use wit_graph::{
     Cause, Features, Graph, Package, ResolveError, ResolveErrorKind, ResolveResult,
 };
+pub use wit_items::{LiftLowerAbi, ManglingAndAbi};
 pub use wit_link::Remap;
 pub use wit_package_sources::{PackageSourceNames, PackageSources};
+pub use wit_questions::{InterfaceDirectDeps, PackageDirectDeps};
 pub use wit_valid::is_valid;

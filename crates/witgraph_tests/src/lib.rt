@@ -3,9 +3,17 @@
 #![tactic(auto)]
 
 #[cfg(test)]
+mod core_names;
+#[cfg(test)]
 mod failing_streams;
 #[cfg(test)]
+mod fixtures;
+#[cfg(test)]
+mod questions;
+#[cfg(test)]
 mod resolve;
+#[cfg(test)]
+mod selecting;
 #[cfg(test)]
 mod sources;
 #[cfg(test)]

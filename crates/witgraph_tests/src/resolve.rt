@@ -1,5 +1,6 @@
 //! The calls of a `Resolve` that no script makes, each once with ample memory. The package is read from a
 //! script.
+use crate::fixtures::{assert_valid, resolve_of};
 use std::alloc::Global;
 use std::process::Abort;
 use wit_graph::ResolveResult;
@@ -66,6 +67,7 @@ fn pushes(rt: &impl Abort, alloc: Global) -> [Result<usize, u32>; 3] {
     let passed = push(rt, alloc, &mut resolve, 4294967295);
     let taken = push(rt, alloc, &mut resolve, 7);
     let again = push(rt, alloc, &mut resolve, 0);
+    assert_valid(rt, alloc, &resolve);
     [passed, taken, again]
 }
 
@@ -79,6 +81,7 @@ fn pushed_groups(rt: &impl Abort, alloc: Global) -> ([Result<usize, u32>; 2], u3
     let mut resolve = Resolve::new(alloc);
     let pushed = push_group(rt, alloc, &mut resolve);
     let again = push_group(rt, alloc, &mut resolve);
+    assert_valid(rt, alloc, &resolve);
     ([pushed, again], resolve.source_map().end())
 }
 
@@ -110,9 +113,10 @@ fn files_stand_at_the_end(rt: HostRuntime) {
 
 /// A `Resolve` with the package, copied.
 fn resolve(rt: &impl Abort, alloc: Global) -> Resolve {
-    let mut resolve = Resolve::new(alloc);
-    assert_eq!(rt; push(rt, alloc, &mut resolve, 0), Ok(0));
-    resolve.try_clone().expect(rt, "memory")
+    let resolve = resolve_of(rt, alloc, SCRIPT);
+    let copy = resolve.try_clone().expect(rt, "memory");
+    assert_valid(rt, alloc, &copy);
+    copy
 }
 
 /// The id texts of interface `b` and of world `w`, and the name of a key.

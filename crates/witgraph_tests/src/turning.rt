@@ -2,13 +2,13 @@
 //! package is read from a script.
 ghost use Rattle.std.specs.Prelude.{◌<◌, length};
 
+use crate::fixtures::{assert_valid, resolve_of};
 use std::alloc::Global;
 use std::cell::Cell;
 use std::process::Abort;
 use wit_items::{WorldId, WorldItem, WorldKey};
-use wit_link::is_supported;
 use wit_resolve_graph::{Resolve, ResolveResult};
-use wit_script::{ScriptCommand, print_world, read_script};
+use wit_script::print_world;
 
 /// Interface `c` uses `b` and `a`, `b` uses `a`; world `w` imports them, `v` nothing.
 const SCRIPT: &str = "package foo:bar\n\
@@ -23,22 +23,6 @@ const SCRIPT: &str = "package foo:bar\n\
     import c\n\
     world v\n\
     push\n";
-
-/// A `Resolve` with the package.
-fn resolve(rt: &impl Abort, alloc: Global) -> Resolve {
-    let mut commands = read_script(alloc, SCRIPT).expect(rt, "a script");
-    let ready = commands.pop().expect(rt, "a command");
-    let ScriptCommand::Push { main, deps } = ready.into_command() else {
-        panic!(rt; "no push");
-    };
-    drop(deps);
-    let package = main.main;
-    assert!(rt; package.is_shaped(alloc).expect(rt, "memory"));
-    assert!(rt; is_supported(&package));
-    let mut resolve = Resolve::new(alloc);
-    let _id = resolve.push(alloc, package, 0).expect(rt, "memory");
-    resolve
-}
 
 /// World `w`.
 fn world(rt: &impl Abort, resolve: &Resolve) -> WorldId
@@ -77,14 +61,16 @@ fn exportize(
 
 /// What was asked, and the world as it prints: after the turn, and after it is turned back.
 fn turned(rt: &impl Abort, alloc: Global, moved: &[usize]) -> (usize, String, String) {
-    let mut resolve = resolve(rt, alloc);
+    let mut resolve = resolve_of(rt, alloc, SCRIPT);
     let asked = Cell::new(0);
     exportize(rt, alloc, &mut resolve, moved, "x", &asked).expect(rt, "a turn");
     let id = world(rt, &resolve);
     let exported = print_world(alloc, &resolve, id).expect(rt, "memory");
+    assert_valid(rt, alloc, &resolve);
     resolve.importize(alloc, id, None).expect(rt, "a turn");
     let id = world(rt, &resolve);
     let imported = print_world(alloc, &resolve, id).expect(rt, "memory");
+    assert_valid(rt, alloc, &resolve);
     (asked.get(), exported, imported)
 }
 
@@ -104,7 +90,7 @@ fn the_filter_is_asked_once_for_each_import(rt: HostRuntime) {
 
 /// The number of the refusal, and whether all is shown as before.
 fn refused(rt: &impl Abort, alloc: Global, moved: &[usize], out: &str) -> (u32, bool) {
-    let mut resolve = resolve(rt, alloc);
+    let mut resolve = resolve_of(rt, alloc, SCRIPT);
     let before = format!(in alloc; "{resolve:?}").expect(rt, "memory");
     let asked = Cell::new(0);
     let number = match exportize(rt, alloc, &mut resolve, moved, out, &asked) {
@@ -112,6 +98,7 @@ fn refused(rt: &impl Abort, alloc: Global, moved: &[usize], out: &str) -> (u32, 
         Err(refusal) => refusal.number(),
     };
     let after = format!(in alloc; "{resolve:?}").expect(rt, "memory");
+    assert_valid(rt, alloc, &resolve);
     (number, before == after)
 }
 

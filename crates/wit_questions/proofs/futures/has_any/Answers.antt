@@ -1,4 +1,4 @@
-use Rattle.std.proofs.Common.{◌∙◌, ◌<◌, ◌≡◌, ℕ, true, sym, subst, below_more, arith, Contains}
+use Rattle.std.proofs.Common.{◌∙◌, ◌<◌, ℕ, sym, subst, below_more, arith, Contains}
 use Rattle.std.proofs.lemmas.Bool.{false≢true}
 use Rattle.std.proofs.lemmas.List.{get_or_default}
 use Rattle.wit_questions.proofs.futures.has_any.Goals as goal

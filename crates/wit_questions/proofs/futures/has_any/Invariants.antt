@@ -1,4 +1,4 @@
-use Rattle.std.proofs.Common.{◌≡◌, ◌<◌, ℕ, get_or, Contains}
+use Rattle.std.proofs.Common.{◌<◌, ℕ, get_or, Contains}
 use Rattle.wit_questions.proofs.futures.has_any.Given as goal
 
 -- none of the first ones is

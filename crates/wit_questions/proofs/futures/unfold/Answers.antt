@@ -1,4 +1,4 @@
-use Rattle.std.proofs.Common.{◌∙◌, ◌≡◌, ◌<◌, ◌++◌, ◌∷◌, [], List, ℕ, Contains, ap, sym, subst, filter, length, nat_eq, reverse}
+use Rattle.std.proofs.Common.{◌∙◌, ◌≡◌, ◌++◌, ◌∷◌, [], List, ℕ, Contains, ap, sym, subst, filter, nat_eq, reverse}
 use Rattle.std.specs.List.{list_any}
 use Rattle.std.proofs.lemmas.List.Elements.{Contains-push}
 use Rattle.wit_graph.specs.Questions.{is_future}

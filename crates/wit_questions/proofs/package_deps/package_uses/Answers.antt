@@ -1,4 +1,4 @@
-use Rattle.std.proofs.Common.{◌∙◌, ◌≡◌, ◌<◌, ◌++◌, ◌∷◌, [], List, ℕ, ap, sym, length, take, get_or, arith}
+use Rattle.std.proofs.Common.{◌∙◌, ◌<◌, ◌++◌, ◌∷◌, [], List, ℕ, ap, sym, length, arith}
 use Rattle.std.proofs.lemmas.List.{take_all, take_more}
 use Rattle.wit_relations.specs.Relation.{direct}
 use Rattle.wit_graph.specs.Relations.{package_uses}

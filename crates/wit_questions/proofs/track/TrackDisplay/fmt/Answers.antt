@@ -2,7 +2,7 @@ use Rattle.std.proofs.Common.{◌≡◌, ◌∙◌, ◌∷◌, ℕ, List, true, 
 use Rattle.std.specs.Prelude.{decimal}
 use Rattle.std.specs.Fmt.{HasWritten}
 use Rattle.wit_questions.proofs.Tracks.{not_false, track_of_patch}
-use Rattle.wit_questions.proofs.canonical.TrackDisplay.fmt.Goals as goal
+use Rattle.wit_questions.proofs.track.TrackDisplay.fmt.Goals as goal
 
 pub returns-clause-writes : goal.returns-clause-writes
 returns-clause-writes g c = λ plain ok.
