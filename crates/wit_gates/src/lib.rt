@@ -1,3 +1,14 @@
 //! Feature gates: what takes part of a package that is added, and whether anything that does needs what is left
 //! out.
 #![tactic(auto)]
+
+mod checker;
+mod foreign;
+mod needs;
+pub mod references;
+pub mod taking_part;
+pub mod versions;
+
+pub use crate::references::check_references;
+pub use crate::taking_part::activity;
+pub use crate::versions::check_versions;

@@ -1,0 +1,8 @@
+use Rattle.wit_items.specs.EachFacts.{EachBelow}
+use Rattle.wit_items.specs.Entries.{Entry}
+use Rattle.wit_gates.specs.GateSteps.{MeetsItem}
+use Rattle.wit_gates.proofs.checker.Checker.check_entries.Given as goal
+
+-- the first ones are met
+abbrev pub invariant-loop-index : goal.invariant-loop-index
+invariant-loop-index l = EachBelow l.index (λ _ (e : Entry). MeetsItem l.self e.1) l.entries

@@ -1,0 +1,85 @@
+//! The interfaces and the worlds that a package names of other packages.
+ghost use Rattle.std.specs.Prelude.{◌≡◌, ◌++◌, IfOk, OnOk};
+ghost use Rattle.std.specs.List.{flat_map};
+ghost use Rattle.wit_items.specs.Foreign.{ForeignItem, foreign_interfaces, foreign_worlds, interface_id, world_id};
+
+use std::alloc::{AllocError, Global};
+use wit_items::{AstItem, Items, Names, PackageName, Stability, Table};
+
+/// The interfaces that are named of other packages.
+pub(crate) fn foreign_interfaces(
+    alloc: Global,
+    deps: &Table<PackageName, Names<(AstItem, Items<Stability>)>>,
+) -> Result<Items<usize>, AllocError>
+    ensures { IfOk result (λ ids. ids ≡ foreign_interfaces deps.now) }
+{
+    let mut ids = Items::new(alloc);
+    for index in 0..deps.len() {
+        let (_, named) = deps.entry_at(index);
+        push_interfaces(&mut ids, named)?;
+    }
+    Ok(ids)
+}
+
+/// Adds those of one package.
+fn push_interfaces(
+    ids: &mut Items<usize>,
+    named: &Names<(AstItem, Items<Stability>)>,
+) -> Result<(), AllocError>
+    ensures { OnOk result (ids.new ≡ ids.old ++ flat_map (λ (e : ForeignItem). interface_id e.1.0) named.now) }
+{
+    for index in 0..named.len() {
+        let (_, (item, _)) = named.entry_at(index);
+        push_interface(ids, *item)?;
+    }
+    Ok(())
+}
+
+/// Adds the interface that an item is.
+fn push_interface(ids: &mut Items<usize>, item: AstItem) -> Result<(), AllocError>
+    ensures { OnOk result (ids.new ≡ ids.old ++ interface_id item) }
+{
+    match item {
+        AstItem::Interface(id) => ids.push(id.index()),
+        AstItem::World(_) => Ok(()),
+    }
+}
+
+/// The worlds that are named of other packages.
+pub(crate) fn foreign_worlds(
+    alloc: Global,
+    deps: &Table<PackageName, Names<(AstItem, Items<Stability>)>>,
+) -> Result<Items<usize>, AllocError>
+    ensures { IfOk result (λ ids. ids ≡ foreign_worlds deps.now) }
+{
+    let mut ids = Items::new(alloc);
+    for index in 0..deps.len() {
+        let (_, named) = deps.entry_at(index);
+        push_worlds(&mut ids, named)?;
+    }
+    Ok(ids)
+}
+
+/// Adds those of one package.
+fn push_worlds(
+    ids: &mut Items<usize>,
+    named: &Names<(AstItem, Items<Stability>)>,
+) -> Result<(), AllocError>
+    ensures { OnOk result (ids.new ≡ ids.old ++ flat_map (λ (e : ForeignItem). world_id e.1.0) named.now) }
+{
+    for index in 0..named.len() {
+        let (_, (item, _)) = named.entry_at(index);
+        push_world(ids, *item)?;
+    }
+    Ok(())
+}
+
+/// Adds the world that an item is.
+fn push_world(ids: &mut Items<usize>, item: AstItem) -> Result<(), AllocError>
+    ensures { OnOk result (ids.new ≡ ids.old ++ world_id item) }
+{
+    match item {
+        AstItem::World(id) => ids.push(id.index()),
+        AstItem::Interface(_) => Ok(()),
+    }
+}
