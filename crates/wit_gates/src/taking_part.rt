@@ -64,6 +64,7 @@ fn own_activity(
     })
 }
 
+/// A flag for each type: whether its note lets it take part, whatever its owner's does.
 fn type_flags(
     alloc: Global,
     features: &Features,
@@ -78,6 +79,7 @@ fn type_flags(
     Ok(flags)
 }
 
+/// A flag for each interface: whether it is the package's own and its note lets it take part.
 fn interface_flags(
     alloc: Global,
     features: &Features,
@@ -94,6 +96,7 @@ fn interface_flags(
     Ok(flags)
 }
 
+/// A flag for each world: the same.
 fn world_flags(
     alloc: Global,
     features: &Features,
