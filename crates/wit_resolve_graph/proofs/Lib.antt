@@ -1,7 +1,6 @@
 mod EmptyGraph
 mod NamedWorlds
 mod OnePackage
-mod RunExamples
 mod Runs
 mod RunsKeep
 mod Selected

@@ -1,15 +1,18 @@
 -- A group of one package that names nothing of others: nothing speaks against its order, and adding the
 -- group is adding the package.
-use Rattle.std.proofs.Common.{◌≡◌, ◌∙◌, ◌⊎◌, ℕ, ◌+◌, ◌<◌, ◌≤◌, ◌^◌, zero, suc, List, [], ◌∷◌, ◌++◌, length, take, map, slice_get, Some, Result, Ok, Err, IfOk, IfErr, OnErr, refl, ap, sym, subst, inl, inr, Contains, arith}
+use Rattle.std.proofs.Common.{Bool, true, false, cond, Option, None, ◌≡◌, ◌∙◌, ◌⊎◌, ℕ, ◌+◌, ◌<◌, ◌≤◌, ◌^◌, zero, suc, List, [], ◌∷◌, ◌++◌, length, take, map, slice_get, Some, Result, Ok, Err, IfOk, IfErr, OnErr, refl, ap, sym, subst, inl, inr, Contains, arith}
 use Rattle.std.proofs.lemmas.List.Elements.{All-cons, All-head, All-nil}
 use Rattle.std.proofs.lemmas.List.Sorted.{All-permutation, length_permutation}
 use Rattle.std.specs.Prelude.{IsPermutation, IsSortedByKey, position}
-use Rattle.std.specs.List.{AllZip, filter_map, flat_map}
+use Rattle.std.proofs.lemmas.Bool.{cases_Bool, false≢true}
+use Rattle.std.specs.List.{AllZip, cons_option, filter_map, flat_map}
+use Rattle.std.specs.Map.{lookup}
 use Rattle.std.specs.Option.{option_cmp}
 use Rattle.wit_relations.specs.Relation.{direct}
 use Rattle.wit_relations.specs.Walks.{first_of_each, walk, walk_within}
 use Rattle.wit_items.specs.Each.{SomeAt}
 use Rattle.wit_items.specs.Foreign.{ForeignItem}
+use Rattle.wit_items.specs.PackageNameFacts.{own_name, same_name}
 use Rattle.wit_items.specs.PackageOrder.{package_cmp, same_package}
 use Rattle.wit_sources.specs.SourceMap.{AreLaidOut, Sources, moved_file, with_sources}
 use Rattle.wit_items.specs.declared.package_name.PackageName.{PackageName}
@@ -19,9 +22,11 @@ use Rattle.wit_graph.specs.declared.error_kind.ResolveErrorKind.{ResolveErrorKin
 use Rattle.wit_graph.specs.declared.error_kind.ResolveErrorKind.TheVariants.{DuplicatePackage, PackageCycle, OffsetOverflow, OutOfMemory}
 use Rattle.wit_graph.specs.declared.features.Features.{Features}
 use Rattle.wit_graph.specs.declared.graph.Graph.{Graph}
-use Rattle.wit_link.specs.Cause.{IsAccepted, IsCause}
+use Rattle.wit_adding.specs.Cause.{IsCause}
+use Rattle.wit_link.specs.Appending.{IsAdded, addition}
 use Rattle.wit_adding.specs.Gates.{Place}
-use Rattle.wit_link.specs.Groups.{ArePushed, FilesPassTheEnd, IsGroupsCause, IsPushCause, packages_of}
+use Rattle.wit_link.specs.Groups.{FilesPassTheEnd, IsGroupsCause, IsPushCause, packages_of}
+use Rattle.wit_link.specs.Several.{ArePushed}
 use Rattle.wit_sorting.specs.Sorting.{AreSorted, Handed, IsGroupOrder, IsHandedTwice, IsOnHandedCycle, IsSortCause, handed_uses, names_of}
 use Rattle.wit_link.specs.Supported.{IsSupportedGroup}
 use Rattle.wit_resolve_graph.specs.State.{State}
@@ -47,9 +52,27 @@ only_one (b ∷ c ∷ before) p after x same = cc
 abbrev one : UnresolvedPackage → ℕ → List Handed
 one u at = (u, at) ∷ []
 
-module _ (u : UnresolvedPackage) (at : ℕ) (alone : u.foreign_deps ≡ []) where
+-- a package of another name isn't this one
+not_turned : (a b : PackageName) → same_package a b ≡ false → same_package b a ≡ false
+not_turned a b other = elim (cases_Bool (same_package b a)) [
+  | inl same ↦ absurd (false≢true (sym other ∙ subst (λ (x : PackageName). same_package a x ≡ true) (sym (same_name b a same)) (own_name a)))
+  | inr differs ↦ differs
+]
+
+-- what names no package of a name has no use of it
+names_none : (name : PackageName) (deps : List (PackageName × List ForeignItem)) → lookup (same_package name) deps ≡ None
+    → filter_map (λ (e : PackageName × List ForeignItem). position (same_package e.0) (name ∷ [])) deps ≡ []
+names_none name [] none = refl
+names_none name (e ∷ deps) none = by (same_package name e.0) refl none
+  where
+    by : (b : Bool) → same_package name e.0 ≡ b → cond b (Some e.1) (lookup (same_package name) deps) ≡ None → filter_map (λ (e : PackageName × List ForeignItem). position (same_package e.0) (name ∷ [])) (e ∷ deps) ≡ []
+    by true is h = cc
+    by false is h =
+        ap (λ (b : Bool). cons_option (cond b (Some zero) None) (filter_map (λ (e : PackageName × List ForeignItem). position (same_package e.0) (name ∷ [])) deps)) (not_turned name e.0 is) ∙ names_none name deps h
+
+module _ (u : UnresolvedPackage) (at : ℕ) (alone : lookup (same_package u.name) u.foreign_deps ≡ None) where
   uses_nothing : handed_uses (one u at) ≡ [] ∷ []
-  uses_nothing = ap (λ (deps : List (PackageName × List ForeignItem)). filter_map (λ (e : PackageName × List ForeignItem). position (same_package e.0) (u.name ∷ [])) deps ∷ []) alone
+  uses_nothing = ap (λ (l : List ℕ). l ∷ []) (names_none u.name u.foreign_deps alone)
 
   no_use : (user used : ℕ) → Contains (direct (handed_uses (one u at)) user) used → ⊥
   no_use user used inside = by user (subst (λ (uses : List (List ℕ)). Contains (direct uses user) used) uses_nothing inside)
@@ -109,24 +132,29 @@ module _ (u : UnresolvedPackage) (at : ℕ) (alone : u.foreign_deps ≡ []) wher
   none_before features g mid (b ∷ before) ids same pushed = cc
 
   -- its addition is refused for what speaks against the package
-  pub package_cause : (features : Features) (g : Graph) (error : ResolveErrorKind) → IsPushCause features g (one u at) error → IsCause features g u at error
+  pub package_cause : (features : Features) (g : Graph) (error : ResolveErrorKind) → IsPushCause features g (one u at) error → IsCause (addition features g u at) error
   package_cause features g error c =
-      let around : (c.before ≡ []) × (c.p ≡ (u, at)) = only_one c.before c.p c.after (u, at) (sorted_is c.order (c.before ++ c.p ∷ c.after) c.sorted) in
-      let start : c.mid ≡ g = none_before features g c.mid c.before c.ids around.0 c.pushed in
-      subst (λ (p : Handed). IsCause features g p.0 p.1 error) around.1 (subst (λ (m : Graph). IsCause features m c.p.0 c.p.1 error) start c.cause)
+      let r = c.refused in
+      let around : (r.before ≡ []) × (r.p ≡ (u, at)) = only_one r.before r.p r.after (u, at) (sym r.packages_are ∙ sorted_is c.order c.sorted c.are_sorted) in
+      let start : r.mid ≡ g = none_before features g r.mid r.before r.ids around.0 r.pushed in
+      subst (λ (p : Handed). IsCause (addition features g p.0 p.1) error) around.1 (subst (λ (m : Graph). IsCause (addition features m r.p.0 r.p.1) error) start r.cause)
 
-  pub push_cause : (features : Features) (g : Graph) (error : ResolveErrorKind) → IsCause features g u at error → IsPushCause features g (one u at) error
+  pub push_cause : (features : Features) (g : Graph) (error : ResolveErrorKind) → IsCause (addition features g u at) error → IsPushCause features g (one u at) error
   push_cause features g error c = record {
-    order = 0 ∷ [];
-    before = [];
-    p = (u, at);
-    after = [];
-    mid = g;
-    ids = [];
     sortable = sortable;
-    sorted = sorted;
-    pushed = refl;
-    cause = c;
+    order = 0 ∷ [];
+    sorted = one u at;
+    are_sorted = sorted;
+    refused = record {
+      before = [];
+      p = (u, at);
+      after = [];
+      packages_are = refl;
+      mid = g;
+      ids = [];
+      pushed = refl;
+      cause = c;
+    };
   }
 
 -- ---- a group
@@ -134,9 +162,9 @@ module _ (u : UnresolvedPackage) (at : ℕ) (alone : u.foreign_deps ≡ []) wher
 packages_are : (group : UnresolvedPackageGroup) (at : ℕ) → group.nested ≡ [] → packages_of at (group ∷ []) ≡ one group.main at
 packages_are group at single = ap (λ (nested : List UnresolvedPackage). map (λ (u : UnresolvedPackage). (u, at)) (nested ++ group.main ∷ []) ++ []) single
 
-module _ (group : UnresolvedPackageGroup) (single : group.nested ≡ []) (alone : group.main.foreign_deps ≡ []) where
+module _ (group : UnresolvedPackageGroup) (single : group.nested ≡ []) (alone : lookup (same_package group.main.name) group.main.foreign_deps ≡ None) where
   -- a package that speaks against itself speaks against its group
-  pub group_cause : (features : Features) (g : Graph) (at : ℕ) (error : ResolveErrorKind) → IsCause features g group.main at error → IsGroupsCause features g at (group ∷ []) error
+  pub group_cause : (features : Features) (g : Graph) (at : ℕ) (error : ResolveErrorKind) → IsCause (addition features g group.main at) error → IsGroupsCause features g at (group ∷ []) error
   group_cause features g at error c =
       inr (inl (subst (λ (handed : List Handed). IsPushCause features g handed error) (sym (packages_are group at single)) (push_cause group.main at alone features g error c)))
 
@@ -146,7 +174,7 @@ module _ (group : UnresolvedPackageGroup) (single : group.nested ≡ []) (alone 
 
   -- what speaks against a group speaks against its package or is the end of its files
   pub group_caused : (features : Features) (g : Graph) (at : ℕ) (error : ResolveErrorKind) → IsGroupsCause features g at (group ∷ []) error
-      → IsCause features g group.main at error ⊎ (2 ^ 32 ≤ at + group.source_map.end)
+      → IsCause (addition features g group.main at) error ⊎ (2 ^ 32 ≤ at + group.source_map.end)
   group_caused features g at error (inl c) =
       absurd (sortable group.main at alone error (subst (λ (handed : List Handed). IsSortCause handed error) (packages_are group at single) c))
   group_caused features g at error (inr (inl c)) =
@@ -154,7 +182,7 @@ module _ (group : UnresolvedPackageGroup) (single : group.nested ≡ []) (alone 
   group_caused features g at error (inr (inr far)) = inr (passes at error far)
 
   -- a group is added where its package is
-  pub pushes : (old new : State) (id : ℕ) → old.source_map.end + group.source_map.end < 2 ^ 32 → IsAccepted old.features old.graph group.main old.source_map.end new.graph id
+  pub pushes : (old new : State) (id : ℕ) → old.source_map.end + group.source_map.end < 2 ^ 32 → IsAdded (addition old.features old.graph group.main old.source_map.end) new.graph id
       → new.features ≡ old.features → new.source_map ≡ with_sources old.source_map group.source_map → PushesGroups old group [] id new
   pushes old new id fits accepted features files = record {
     order = 0 ∷ [];
@@ -215,23 +243,23 @@ module _ (old mid : State) (group : UnresolvedPackageGroup) (supported : IsSuppo
   files_are = ap (λ (s : State). s.source_map) grown
 
   -- a cause with the files is one without
-  cause_before : (kind : ResolveErrorKind) → IsCause mid.features mid.graph group.main offset kind → IsCause old.features old.graph group.main old.source_map.end kind
+  cause_before : (kind : ResolveErrorKind) → IsCause (addition mid.features mid.graph group.main offset) kind → IsCause (addition old.features old.graph group.main old.source_map.end) kind
   cause_before kind c = rw (grown, begins) at c
 
-  groups_cause : (kind : ResolveErrorKind) → (kind ≡ OutOfMemory) ⊎ IsCause mid.features mid.graph group.main offset kind
+  groups_cause : (kind : ResolveErrorKind) → (kind ≡ OutOfMemory) ⊎ IsCause (addition mid.features mid.graph group.main offset) kind
       → (kind ≡ OutOfMemory) ⊎ IsGroupsCause old.features old.graph old.source_map.end (group ∷ []) kind
   groups_cause kind (inl memory) = inl memory
-  groups_cause kind (inr c) = inr (group_cause group supported.no_nested supported.main.alone.no_deps old.features old.graph old.source_map.end kind (cause_before kind c))
+  groups_cause kind (inr c) = inr (group_cause group supported.no_nested supported.names_others old.features old.graph old.source_map.end kind (cause_before kind c))
 
   pub step_pushes : (new : State) (r : Result ℕ ResolveErrorKind) → (2 ^ 32 ≤ old.source_map.end + group.source_map.end → ⊥)
-      → IfOk r (λ id. IsAccepted mid.features mid.graph group.main offset new.graph id)
+      → IfOk r (λ id. IsAdded (addition mid.features mid.graph group.main offset) new.graph id)
       → new.features ≡ mid.features → new.source_map ≡ mid.source_map → IfOk r (λ id. PushesGroups old group [] id new)
   step_pushes new (Ok id) fits accepted features files =
-      pushes group supported.no_nested supported.main.alone.no_deps old new id (omega (arith, fits)) (rw (grown, begins) at accepted) (features ∙ features_are) (files ∙ files_are)
+      pushes group supported.no_nested supported.names_others old new id (omega (arith, fits)) (rw (grown, begins) at accepted) (features ∙ features_are) (files ∙ files_are)
   step_pushes new (Err kind) fits accepted features files = tt
 
   pub step_refuses : (new : State) (r : Result ℕ ResolveErrorKind) → (r ≡ Err OffsetOverflow → ⊥) → OnErr r (new ≡ mid)
-      → IfErr r (λ kind. (kind ≡ OutOfMemory) ⊎ IsCause mid.features mid.graph group.main offset kind) → IfErr r (λ kind. RefusesGroups old group [] kind new)
+      → IfErr r (λ kind. (kind ≡ OutOfMemory) ⊎ IsCause (addition mid.features mid.graph group.main offset) kind) → IfErr r (λ kind. RefusesGroups old group [] kind new)
   step_refuses new (Ok id) other same cause = tt
   step_refuses new (Err kind) other same cause = record {
     cause = groups_cause kind cause;
@@ -241,7 +269,7 @@ module _ (old mid : State) (group : UnresolvedPackageGroup) (supported : IsSuppo
   }
 
   pub step_takes_back : (pushed new : State) (r : Result ℕ ResolveErrorKind) (now : Sources) (n end : ℕ) → n ≡ length old.source_map.files → end ≡ old.source_map.end → now ≡ pushed.source_map → r ≡ Err OffsetOverflow → OnErr r (pushed ≡ mid)
-      → IfErr r (λ kind. (kind ≡ OutOfMemory) ⊎ IsCause mid.features mid.graph group.main offset kind)
+      → IfErr r (λ kind. (kind ≡ OutOfMemory) ⊎ IsCause (addition mid.features mid.graph group.main offset) kind)
       → new.graph ≡ pushed.graph → new.features ≡ pushed.features → new.source_map ≡ record { files = take n now.files; end = end }
       → IfErr r (λ kind. RefusesGroups old group [] kind new)
   step_takes_back pushed new (Ok id) now n end long ends files_now far same cause graph features files = tt
@@ -257,9 +285,9 @@ module _ (old mid : State) (group : UnresolvedPackageGroup) (supported : IsSuppo
         files = files_stay kind old.source_map (group ∷ []) new.source_map (inr overflow) restored;
       }
 
-  pub step_must_refuse : (P : Type 0) → (2 ^ 32 ≤ old.source_map.end + group.source_map.end → ⊥) → ((kind : ResolveErrorKind) → IsCause mid.features mid.graph group.main offset kind → P)
+  pub step_must_refuse : (P : Type 0) → (2 ^ 32 ≤ old.source_map.end + group.source_map.end → ⊥) → ((kind : ResolveErrorKind) → IsCause (addition mid.features mid.graph group.main offset) kind → P)
       → (kind : ResolveErrorKind) → IsGroupsCause old.features old.graph old.source_map.end (group ∷ []) kind → P
-  step_must_refuse P fits refuses kind c = elim (group_caused group supported.no_nested supported.main.alone.no_deps old.features old.graph old.source_map.end kind c) [
+  step_must_refuse P fits refuses kind c = elim (group_caused group supported.no_nested supported.names_others old.features old.graph old.source_map.end kind c) [
     | inl of_package ↦ refuses kind (rw (grown, begins) of_package)
     | inr far ↦ absurd (fits far)
   ]

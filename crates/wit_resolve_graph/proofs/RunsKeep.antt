@@ -1,18 +1,22 @@
 -- A run keeps what was there.
-use Rattle.std.proofs.Common.{◌≡◌, ◌∙◌, inl, inr, ℕ, List, [], ◌∷◌, ◌++◌, Option, None, Some, slice_get, slice_set, append_assoc, refl, ap, subst, sym}
+use Rattle.std.proofs.Common.{◌≡◌, ◌∙◌, inl, inr, ℕ, List, [], ◌∷◌, ◌++◌, Option, None, Some, fold, length, slice_get, slice_set, append_assoc, refl, ap, subst, sym}
 use Rattle.std.specs.Option.{option_map_or}
 use Rattle.std.proofs.lemmas.List.{append-nil}
 use Rattle.wit_values.specs.Lists.{kept-cases, slice_get-append, slice_get-set}
 use Rattle.wit_items.specs.Each.{SomeAt}
-use Rattle.wit_items.specs.declared.unresolved.UnresolvedPackage.{UnresolvedPackage}
 use Rattle.wit_graph.specs.declared.features.Features.{Features}
 use Rattle.wit_items.specs.declared.world.World.{World}
+use Rattle.wit_items.specs.declared.world.WorldInclude.{WorldInclude}
 use Rattle.wit_graph.specs.declared.graph.Graph.{Graph}
 use Rattle.wit_graph.specs.declared.graph.Package.{Package}
 use Rattle.wit_growth.specs.ListFacts.{found_at, same_at, some_at}
-use Rattle.wit_link.specs.Groups.{ArePushed}
 use Rattle.wit_sorting.specs.Sorting.{Handed}
-use Rattle.wit_link.specs.Pushed.{Pushed}
+use Rattle.wit_adding.specs.Addition.{Addition, active_includes, addition_maps, own_worlds, world_place}
+use Rattle.wit_adding.specs.Include.{Begun, lists_of, with_copies, with_world_included}
+use Rattle.wit_adding.specs.Pushed.{begun, finished, new_package, pushed, with_include, with_parts, with_world}
+use Rattle.wit_growth.specs.Image.{Maps, world_image}
+use Rattle.wit_link.specs.Appending.{addition}
+use Rattle.wit_link.specs.Several.{ArePushed}
 use Rattle.wit_resolve_graph.specs.RunLaws.{Keeps, RunsKeep}
 use Rattle.wit_resolve_graph.specs.State.{State}
 use Rattle.wit_resolve_graph.specs.Step.{Step, answers_at}
@@ -59,22 +63,65 @@ keeps_on g h k first second = record {
   names = more_again g.package_names h.package_names k.package_names first.names second.names;
 }
 
--- an addition keeps it
-keeps_pushed : (features : Features) (g : Graph) (u : UnresolvedPackage) (offset : ℕ) (new : Graph) (p : ℕ) → Pushed features g u offset new p → Keeps g new
-keeps_pushed features g u offset new p pushed = record {
-  types = (pushed.built.more_types, pushed.built.types_are);
-  interfaces = (pushed.built.images ++ pushed.built.copies, pushed.built.interfaces_are);
-  worlds = λ w world at.
-      some_at (SameHome world) new.worlds w world (subst (λ (ws : List World). slice_get ws w ≡ Some world) (sym pushed.built.worlds_are) (slice_get-append g.worlds pushed.built.finished w world at)) refl;
-  packages = λ i home at.
-      some_at (SamePackage home) new.packages i home (subst (λ (ps : List Package). slice_get ps i ≡ Some home) (sym pushed.built.packages_are) (slice_get-append g.packages _ i home at)) (refl, refl);
-  names = (_, pushed.built.names_are);
+-- with other worlds behind
+keeps_with_worlds : (g : Graph) (worlds : List World) → Keeps g (record g { worlds = g.worlds ++ worlds })
+keeps_with_worlds g worlds = record {
+  types = nothing_more g.types;
+  interfaces = nothing_more g.interfaces;
+  worlds = λ w world at. some_at (SameHome world) (g.worlds ++ worlds) w world (slice_get-append g.worlds worlds w world at) refl;
+  packages = (keeps_all g).packages;
+  names = nothing_more g.package_names;
 }
+
+-- the copies of an include keep it
+keeps_copies : (g : Graph) (from : ℕ) (world : World) (m : Maps) → Keeps g (with_copies g from world m)
+keeps_copies g from world m = record {
+  types = (_, refl);
+  interfaces = (_, refl);
+  worlds = (keeps_all g).worlds;
+  packages = (keeps_all g).packages;
+  names = nothing_more g.package_names;
+}
+
+module _ (a : Addition) where
+  keeps_include : (into : ℕ) (b : Begun) (include : WorldInclude) → Keeps b.graph (with_include a into b include).graph
+  keeps_include into b include = by (slice_get b.graph.worlds (world_place a include.id))
+    where
+      by : (o : Option World) → Keeps b.graph (option_map_or (λ (world : World). with_world_included (length a.graph.packages) into include.names (world_place a include.id) world b) o b).graph
+      by None = keeps_all b.graph
+      by (Some world) = keeps_copies b.graph (world_place a include.id) world _
+
+  keeps_includes : (into : ℕ) (includes : List WorldInclude) (b : Begun) → Keeps b.graph (fold (with_include a into) b includes).graph
+  keeps_includes into [] b = keeps_all b.graph
+  keeps_includes into (include ∷ includes) b =
+      keeps_on b.graph (with_include a into b include).graph (fold (with_include a into) (with_include a into b include) includes).graph (keeps_include into b include) (keeps_includes into includes (with_include a into b include))
+
+  keeps_world : (g : Graph) (e : ℕ × World) → Keeps g (with_world a g e)
+  keeps_world g e =
+      let b = begun a e.0 e.1 g in
+      keeps_on g b.graph (with_world a g e) (keeps_includes (length g.worlds) (active_includes a e.1) (record { graph = g; lists = lists_of (world_image (addition_maps a) e.0 e.1) })) (keeps_with_worlds b.graph (finished a e.0 e.1 b ∷ []))
+
+  keeps_worlds : (es : List (ℕ × World)) (g : Graph) → Keeps g (fold (with_world a) g es)
+  keeps_worlds [] g = keeps_all g
+  keeps_worlds (e ∷ es) g = keeps_on g (with_world a g e) (fold (with_world a) (with_world a g e) es) (keeps_world g e) (keeps_worlds es (with_world a g e))
+
+  -- an addition keeps it
+  keeps_pushed : Keeps a.graph (pushed a)
+  keeps_pushed = keeps_on a.graph (with_parts a) (pushed a) parts (keeps_worlds (own_worlds a) (with_parts a))
+    where
+      parts : Keeps a.graph (with_parts a)
+      parts = record {
+        types = (_, refl);
+        interfaces = (_, refl);
+        worlds = (keeps_all a.graph).worlds;
+        packages = λ p home at. some_at (SamePackage home) (a.graph.packages ++ new_package a ∷ []) p home (slice_get-append a.graph.packages (new_package a ∷ []) p home at) (refl, refl);
+        names = (_, refl);
+      }
 
 keeps_pushes : (features : Features) (g : Graph) (ps : List Handed) (new : Graph) (ids : List ℕ) → ArePushed features g ps new ids → Keeps g new
 keeps_pushes features g [] new [] same = subst (Keeps g) (sym same) (keeps_all g)
 keeps_pushes features g (p ∷ ps) new (id ∷ ids) pushed =
-    keeps_on g pushed.0 new (keeps_pushed features g p.0 p.1 pushed.0 id pushed.1.pushed) (keeps_pushes features pushed.0 ps new ids pushed.2)
+    keeps_on g pushed.0 new (subst (Keeps g) (sym pushed.1.graph_is) (keeps_pushed (addition features g p.0 p.1))) (keeps_pushes features pushed.0 ps new ids pushed.2)
 keeps_pushes features g [] new (id ∷ ids) pushed = absurd pushed
 keeps_pushes features g (p ∷ ps) new [] pushed = absurd pushed
 

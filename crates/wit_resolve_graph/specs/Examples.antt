@@ -3,8 +3,8 @@ use Rattle.std.specs.Prelude.{◌≡◌, ℕ, true, List, [], ◌∷◌, Some, N
 use Rattle.wit_items.specs.declared.package_name.PackageName.{PackageName}
 use Rattle.wit_items.specs.declared.world.World.{World}
 use Rattle.wit_items.specs.declared.unresolved.UnresolvedPackageGroup.{UnresolvedPackageGroup}
-use Rattle.wit_graph.specs.Samples.{entry_of, foo_bar, no_docs, sample, world_of}
-use Rattle.wit_link.specs.PushExamples.{first_package}
+use Rattle.wit_graph.specs.Samples.{foo_bar, no_docs, world_of}
+use Rattle.wit_items.specs.declared.unresolved.UnresolvedPackage.{UnresolvedPackage}
 use Rattle.wit_graph.specs.declared.graph.Graph.{Graph}
 use Rattle.wit_graph.specs.declared.graph.Package.{Package}
 use Rattle.wit_resolve_graph.specs.Selection.{selected_world}
@@ -60,7 +60,22 @@ pub record ExamplesOfSelection : Type 0 where
 abbrev pub with_f : State
 with_f = record new_state { features = record { names = codes "f" ∷ []; all = true } }
 
--- a group of the first package, with one file
+-- a package of nothing
+abbrev pub first_package : UnresolvedPackage
+first_package = record {
+  name = foo_bar;
+  package_name_span = None;
+  docs = no_docs;
+  worlds = [];
+  interfaces = [];
+  types = [];
+  foreign_deps = [];
+  foreign_dep_spans = [];
+  unknown_type_spans = [];
+  required_resource_types = [];
+}
+
+-- a group of it, with one file
 abbrev pub first_group : UnresolvedPackageGroup
 first_group = record {
   main = first_package;
@@ -68,16 +83,24 @@ first_group = record {
   source_map = record { files = record { path = codes "f"; contents = codes "package x"; start = 0 } ∷ []; end = 10 };
 }
 
+-- a graph with the package alone
+abbrev pub with_foo_bar : Graph
+with_foo_bar = record {
+  types = [];
+  interfaces = [];
+  worlds = [];
+  packages = record { name = foo_bar; docs = no_docs; interfaces = []; worlds = [] } ∷ [];
+  package_names = (foo_bar, 0) ∷ [];
+}
+
 -- the state after it
 abbrev pub with_first : State
-with_first = record new_state { graph = sample (entry_of 0 ∷ entry_of 1 ∷ []) []; source_map = first_group.source_map }
+with_first = record new_state { graph = with_foo_bar; source_map = first_group.source_map }
 
 -- runs, and what no run is
 pub record ExamplesOfRuns : Type 0 where
   pub empty : Run new_state [] [] new_state
   pub features : Run new_state (AddFeature (codes "f") ∷ AddFeature (codes "f") ∷ SetAllFeatures true ∷ []) (Done ∷ Done ∷ Done ∷ []) with_f
-  -- one group of one package, whose file has 9 bytes
-  pub push : Run new_state (PushGroups first_group [] ∷ []) (Pushed 0 ∷ []) with_first
   pub push_without_files : Run new_state (PushGroups first_group [] ∷ []) (Pushed 0 ∷ []) (record with_first { source_map = new_state.source_map }) → ⊥
   pub push_done : Run new_state (PushGroups first_group [] ∷ []) (Done ∷ []) with_first → ⊥
   pub no_world : Run new_state (Semver foo_bar (codes "w") ∷ []) (NoWorld ∷ []) new_state

@@ -15,7 +15,8 @@ use Rattle.wit_graph.specs.IdText.{key_text}
 use Rattle.wit_graph.specs.declared.error_kind.ResolveErrorKind.{ResolveErrorKind}
 use Rattle.wit_graph.specs.declared.error_kind.ResolveErrorKind.TheVariants.{OffsetOverflow, OutOfMemory}
 use Rattle.wit_graph.specs.declared.features.Features.{Features}
-use Rattle.wit_link.specs.Groups.{ArePushed, IsGroupsCause, files_end, packages_of}
+use Rattle.wit_link.specs.Groups.{IsGroupsCause, files_end, packages_of}
+use Rattle.wit_link.specs.Several.{ArePushed}
 use Rattle.wit_sorting.specs.Sorting.{AreSorted, Handed, IsSortCause}
 use Rattle.wit_resolve_graph.specs.Named.{HasWorld}
 use Rattle.wit_unite.specs.TurnCause.{IsExportizeCause, IsImportizeCause, imports_at}

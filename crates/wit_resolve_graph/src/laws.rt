@@ -16,9 +16,7 @@ pub fn examples_of_selection()
 /// Short runs, and what no run does.
 pub fn examples_of_runs()
     ensures { ExamplesOfRuns }
-{
-    wit_link::laws::examples_of_pushes();
-}
+{}
 
 /// Of a source that can't be read after one that is there.
 pub fn examples_of_sources()

@@ -7,7 +7,8 @@ ghost use Rattle.wit_graph.specs.declared.error_kind.ResolveErrorKind.{ResolveEr
 ghost use Rattle.wit_graph.specs.declared.error_kind.ResolveErrorKind.TheVariants.{OffsetOverflow, OutOfMemory};
 ghost use Rattle.wit_items.specs.Shape.{IsGroupShaped, IsShaped};
 ghost use Rattle.wit_sources.specs.SourceMap.{with_sources};
-ghost use Rattle.wit_link.specs.Cause.{IsAccepted, IsCause};
+ghost use Rattle.wit_adding.specs.Cause.{IsCause};
+ghost use Rattle.wit_link.specs.Appending.{IsAdded, addition};
 ghost use Rattle.wit_link.specs.Groups.{IsGroupsCause};
 ghost use Rattle.wit_link.specs.Supported.{IsSupported, IsSupportedGroup};
 ghost use Rattle.wit_resolve_graph.specs.Selection.{IsSaid, selected_world};
@@ -153,12 +154,12 @@ impl Resolve {
     ) -> ResolveResult<PackageId>
         requires shaped { IsShaped «package» }
         requires supported { IsSupported «package» }
-        ensures ok { IfOk result (λ id. IsAccepted self.old.features self.old.graph «package» span_offset self.new.graph id) }
+        ensures ok { IfOk result (λ id. IsAdded (addition self.old.features self.old.graph «package» span_offset) self.new.graph id) }
         ensures features { self.new.features ≡ self.old.features }
         ensures source_map { self.new.source_map ≡ self.old.source_map }
         ensures err { OnErr result (self.new ≡ self.old) }
-        ensures cause { IfErr result (λ kind. (kind ≡ OutOfMemory) ⊎ IsCause self.old.features self.old.graph «package» span_offset kind) }
-        ensures refuses { (kind : ResolveErrorKind) → IsCause self.old.features self.old.graph «package» span_offset kind → OnOk result ⊥ }
+        ensures cause { IfErr result (λ kind. (kind ≡ OutOfMemory) ⊎ IsCause (addition self.old.features self.old.graph «package» span_offset) kind) }
+        ensures refuses { (kind : ResolveErrorKind) → IsCause (addition self.old.features self.old.graph «package» span_offset) kind → OnOk result ⊥ }
     {
         append(alloc, &mut self.graph, &self.features, package, span_offset)
     }

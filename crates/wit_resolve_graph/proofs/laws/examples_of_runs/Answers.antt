@@ -1,7 +1,6 @@
 use Rattle.std.proofs.Common.{◌≡◌, ◌∙◌, refl, ap, arith}
 use Rattle.std.proofs.lemmas.Bool.{false≢true}
 use Rattle.wit_sources.specs.SourceMap.{Sources}
-use Rattle.wit_resolve_graph.proofs.RunExamples.{push_state}
 use Rattle.wit_resolve_graph.proofs.laws.examples_of_runs.Goals as goal
 use Rattle.wit_resolve_graph.specs.State.{State}
 
@@ -9,7 +8,6 @@ pub returns : goal.returns
 returns c = record {
   empty = refl;
   features = (_, refl, (_, refl, (_, refl, refl)));
-  push = (_, push_state c.examples_of_pushes.ensures.accepted, refl);
   push_without_files = λ run. let end : 0 ≡ 10 = ap (λ (s : State). s.source_map.end) run.2 ∙ ap (λ (f : Sources). f.end) run.1.files in absurd (omega (arith, end));
   push_done = λ run. run.1;
   no_world = (_, (λ w there. absurd (omega (arith, there.1.1)), refl), refl);
