@@ -1,6 +1,6 @@
 -- Which lines of a script are accepted so far, by kind of line. Later work widens `is_accepted_so_far` and `CanPush`, and at
 -- last removes them.
-use Rattle.std.specs.Prelude.{◌≡◌, ℕ, Bool, true, false, List, [], IsTrue}
+use Rattle.std.specs.Prelude.{◌≡◌, Bool, true, false, List, [], IsTrue}
 use Rattle.std.specs.List.{AllByRecursion}
 use Rattle.wit_items.specs.Shape.{IsGroupShaped}
 use Rattle.wit_items.specs.declared.unresolved.UnresolvedPackageGroup.{UnresolvedPackageGroup}
