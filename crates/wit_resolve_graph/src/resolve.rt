@@ -13,7 +13,7 @@ ghost use Rattle.wit_link.specs.Groups.{IsGroupsCause};
 ghost use Rattle.wit_link.specs.Supported.{IsSupported, IsSupportedGroup};
 ghost use Rattle.wit_resolve_graph.specs.Selection.{IsSaid, selected_world};
 ghost use Rattle.wit_resolve_graph.specs.State.{new_state};
-ghost use Rattle.wit_resolve_graph.specs.Step.{PushesGroups, RefusesGroups};
+ghost use Rattle.wit_resolve_graph.specs.Step.{PushesGroups, RefusesGroups, with_feature};
 ghost use Rattle.wit_unite.specs.TurnCause.{AreAnswers, Exportizes, IsExportizeCause, IsImportizeCause, RefusesExportize, imports_at};
 ghost use Rattle.wit_unite.specs.Turned.{exportized, importized, turned};
 
@@ -125,6 +125,25 @@ impl Resolve {
         ensures { result.now ≡ self.now.source_map }
     {
         &self.source_map
+    }
+}
+
+impl Resolve {
+    /// Turns a feature on. One that is on stays so. Refused for memory (28); nothing has changed then.
+    pub fn add_feature(&mut self, alloc: Global, name: &str) -> ResolveResult<()>
+        ensures ok { OnOk result (self.new ≡ record self.old { features = with_feature self.old.features name.now }) }
+        ensures err { OnErr result (self.new ≡ self.old) }
+        ensures cause { IfErr result (λ kind. kind ≡ OutOfMemory) }
+    {
+        self.features.names.insert(alloc, name)?;
+        Ok(())
+    }
+
+    /// Turns all features on, named or not, or leaves those that are named. It takes no memory.
+    pub fn set_all_features(&mut self, all: bool)
+        ensures { self.new ≡ record self.old { features = record self.old.features { all = all } } }
+    {
+        self.features.all = all;
     }
 }
 

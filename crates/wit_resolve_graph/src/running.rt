@@ -4,18 +4,20 @@ ghost use Rattle.std.specs.List.{AllByRecursion};
 ghost use Rattle.wit_graph.specs.declared.error_kind.ResolveErrorKind.TheVariants.{OutOfMemory};
 ghost use Rattle.wit_resolve_graph.specs.Step.{Run, Step};
 ghost use Rattle.wit_resolve_graph.specs.Supported.{IsSupported};
+ghost use Rattle.wit_resolve_graph.specs.declared.command.Command.TheVariants.{AddFeature};
 
 use crate::command::{Command, Reply};
 use crate::resolve::Resolve;
 use crate::turning::{exportize, importize};
 use std::alloc::Global;
 use wit_graph::ResolveResult;
+use wit_items::Text;
 
 /// Runs commands in order, and answers a reply to each. Room for all replies is made first; where there
 /// is none, nothing has changed.
 ///
-/// So far a command is `PushGroups` with the main group alone, nothing nested in it, and a package that
-/// `Resolve::push` takes, or a turn of a world.
+/// So far a command turns features on or a world, or is `PushGroups` with the main group alone, nothing
+/// nested in it, and a package that `Resolve::push` takes.
 pub fn run(
     alloc: Global,
     resolve: &mut Resolve,
@@ -40,6 +42,11 @@ fn step(alloc: Global, resolve: &mut Resolve, command: Command) -> Reply
     ensures { Step resolve.old command result resolve.new }
 {
     match command {
+        Command::AddFeature(name) => add_feature(alloc, resolve, name),
+        Command::SetAllFeatures(all) => {
+            resolve.set_all_features(all);
+            Reply::Done
+        }
         Command::PushGroups { main, deps } => match resolve.push_groups(alloc, main, deps) {
             Ok(id) => Reply::Pushed(id),
             Err(refusal) => Reply::Refused(refusal),
@@ -56,5 +63,15 @@ fn step(alloc: Global, resolve: &mut Resolve, command: Command) -> Reply
             keys,
         } => exportize(alloc, resolve, package, world, out, keys),
         _ => unreachable!(),
+    }
+}
+
+/// The reply to `AddFeature`.
+fn add_feature(alloc: Global, resolve: &mut Resolve, name: Text) -> Reply
+    ensures { Step resolve.old (AddFeature name) result resolve.new }
+{
+    match resolve.add_feature(alloc, name.as_str()) {
+        Ok(()) => Reply::Done,
+        Err(refusal) => Reply::Refused(refusal),
     }
 }

@@ -91,13 +91,13 @@ push-fails r p last none is =
 
 -- a command that is taken so far opens and closes no other graph
 pub taken-asked : (r : Reading) (asked : Request) (other : Bool) → is_taken asked ≡ true → with_asked r asked other ≡ Some (with_command r (asks.Request asked))
-taken-asked r (request.Feature name) other taken = cc
-taken-asked r request.AllFeatures other taken = cc
+taken-asked r (request.Feature name) other taken = refl
+taken-asked r request.AllFeatures other taken = refl
 taken-asked r (request.Tracks rule) other taken = cc
 taken-asked r request.Other other taken = cc
 taken-asked r request.Merge other taken = cc
-taken-asked r (request.Importize owner world out) other taken = cc
-taken-asked r (request.Exportize owner world out keys) other taken = cc
+taken-asked r (request.Importize owner world out) other taken = refl
+taken-asked r (request.Exportize owner world out keys) other taken = refl
 taken-asked r (request.Semver owner world) other taken = cc
 taken-asked r (request.Print owner world) other taken = refl
 taken-asked r (request.Select owner text) other taken = refl

@@ -2,35 +2,37 @@
 use Rattle.std.proofs.Common.{◌≡◌, ℕ, List, Option, None, Some, Result, Ok, Err, String, string_bytes, ap, sym, subst, ◌∙◌}
 use Rattle.std.specs.Prelude.{IfOk}
 use Rattle.std.specs.declared.alloc.Global.{Global}
+use Rattle.wit_graph.specs.declared.graph.Graph.{Graph}
 use Rattle.wit_resolve_graph.specs.State.{State}
 use Rattle.wit_resolve_graph.specs.Step.{Run}
 use Rattle.wit_resolve_graph.specs.declared.command.Command.{Command}
-use Rattle.wit_script.specs.Answer.{IsAnswered, Works, active_of, reply_text, with_active_of}
+use Rattle.wit_resolve_graph.specs.declared.command.Reply.{Reply}
+use Rattle.wit_script.specs.Answer.{IsAnswered, Works, active_of, with_active_of}
 use Rattle.wit_script.specs.declared.answer.Stage.{Stage}
 
-module _ {E : Type 0} (stage : Stage) (command : Command) (told : Result (String Global) E) where
+module _ {E : Type 0} (line : Graph → Reply → List ℕ) (stage : Stage) (command : Command) (told : Result (String Global) E) where
   -- on the second graph
-  pub works-second : (second new : State) → stage.second ≡ Some second → IfOk told (λ text. IsAnswered Run reply_text second command (string_bytes text) new)
-      → IfOk told (λ text. Works Run reply_text stage command (string_bytes text) (record stage { second = Some new }))
+  pub works-second : (second new : State) → stage.second ≡ Some second → IfOk told (λ text. IsAnswered Run line second command (string_bytes text) new)
+      → IfOk told (λ text. Works Run line stage command (string_bytes text) (record stage { second = Some new }))
   works-second second new open_graph answered = at told answered where
-    at : (r : Result (String Global) E) → IfOk r (λ text. IsAnswered Run reply_text second command (string_bytes text) new)
-        → IfOk r (λ text. Works Run reply_text stage command (string_bytes text) (record stage { second = Some new }))
+    at : (r : Result (String Global) E) → IfOk r (λ text. IsAnswered Run line second command (string_bytes text) new)
+        → IfOk r (λ text. Works Run line stage command (string_bytes text) (record stage { second = Some new }))
     at (Ok text) answered = (
       new,
-      subst (λ (s : State). IsAnswered Run reply_text s command (string_bytes text) new) (sym (ap (active_of stage.first) open_graph)) answered,
+      subst (λ (s : State). IsAnswered Run line s command (string_bytes text) new) (sym (ap (active_of stage.first) open_graph)) answered,
       sym (ap (λ (o : Option State). with_active_of stage.first o new) open_graph),
     )
     at (Err e) answered = tt
 
   -- on the only graph
-  pub works-first : (new : State) → stage.second ≡ None → IfOk told (λ text. IsAnswered Run reply_text stage.first command (string_bytes text) new)
-      → IfOk told (λ text. Works Run reply_text stage command (string_bytes text) (record stage { first = new }))
+  pub works-first : (new : State) → stage.second ≡ None → IfOk told (λ text. IsAnswered Run line stage.first command (string_bytes text) new)
+      → IfOk told (λ text. Works Run line stage command (string_bytes text) (record stage { first = new }))
   works-first new closed answered = at told answered where
-    at : (r : Result (String Global) E) → IfOk r (λ text. IsAnswered Run reply_text stage.first command (string_bytes text) new)
-        → IfOk r (λ text. Works Run reply_text stage command (string_bytes text) (record stage { first = new }))
+    at : (r : Result (String Global) E) → IfOk r (λ text. IsAnswered Run line stage.first command (string_bytes text) new)
+        → IfOk r (λ text. Works Run line stage command (string_bytes text) (record stage { first = new }))
     at (Ok text) answered = (
       new,
-      subst (λ (s : State). IsAnswered Run reply_text s command (string_bytes text) new) (sym (ap (active_of stage.first) closed)) answered,
+      subst (λ (s : State). IsAnswered Run line s command (string_bytes text) new) (sym (ap (active_of stage.first) closed)) answered,
       ap (λ (o : Option State). let made : Stage = record { first = new; second = o } in made) closed ∙ sym (ap (λ (o : Option State). with_active_of stage.first o new) closed),
     )
     at (Err e) answered = tt

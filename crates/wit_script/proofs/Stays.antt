@@ -15,7 +15,7 @@ use Rattle.wit_lines.specs.declared.statement.Statement.{Statement}
 use Rattle.wit_lines.specs.declared.statement.Statement.TheVariants as says
 use Rattle.wit_script.proofs.Scripts.{after_lines-more}
 use Rattle.wit_script.specs.Ready.{AreReady, is_accepted_so_far}
-use Rattle.wit_script.specs.Script.{IsBad, IsBadLine, after_line, after_said, new_reading, reading_of, with_asked, with_begun, with_command, with_current, with_groups, with_statement}
+use Rattle.wit_script.specs.Script.{IsBad, IsBadLine, after_line, after_said, new_reading, reading_of, with_asked, with_begun, with_current, with_groups, with_statement}
 use Rattle.wit_script.specs.declared.reader.Reading.{Reading}
 use Rattle.wit_script.specs.declared.ready.ScriptCommand.{ScriptCommand}
 use Rattle.wit_script.specs.declared.ready.ScriptCommand.TheVariants as asks

@@ -9,7 +9,8 @@ use Rattle.wit_items.specs.declared.package_name.PackageName.{PackageName}
 use Rattle.wit_resolve_graph.specs.State.{State}
 use Rattle.wit_resolve_graph.specs.Step.{Run}
 use Rattle.wit_resolve_graph.specs.declared.command.Command.{Command}
-use Rattle.wit_script.specs.Answer.{IsAnswered, IsChoice, IsPrinted, IsSelected, IsTold, package_named, refusal_text, reply_text, selected_text, world_named}
+use Rattle.wit_resolve_graph.specs.declared.command.Reply.{Reply}
+use Rattle.wit_script.specs.Answer.{IsAnswered, IsChoice, IsPrinted, IsSelected, IsTold, package_named, refusal_text, selected_text, world_named}
 use Rattle.wit_script.specs.World.{world_text_at}
 
 -- a world that is there
@@ -30,7 +31,7 @@ selected_some g owner text id (Err kind) (Ok line) there shown refused said = rw
 selected_some g owner text id answer (Err e) there shown refused said = tt
 
 -- a run that lacks memory for its replies
-pub answered_lacks : {E : Type 0} (before after : State) (command : Command) (kind : ResolveErrorKind) (told : Result (String Global) E)
-    → kind ≡ OutOfMemory → after ≡ before → IfOk told (λ text. string_bytes text ≡ refusal_text kind) → IfOk told (λ text. IsAnswered Run reply_text before command (string_bytes text) after)
-answered_lacks before after command kind (Ok text) lacks same said = inr (same, said ∙ ap refusal_text lacks)
-answered_lacks before after command kind (Err e) lacks same said = tt
+pub answered_lacks : {E : Type 0} (line : Graph → Reply → List ℕ) (before after : State) (command : Command) (kind : ResolveErrorKind) (told : Result (String Global) E)
+    → kind ≡ OutOfMemory → after ≡ before → IfOk told (λ text. string_bytes text ≡ refusal_text kind) → IfOk told (λ text. IsAnswered Run line before command (string_bytes text) after)
+answered_lacks line before after command kind (Ok text) lacks same said = inr (same, said ∙ ap refusal_text lacks)
+answered_lacks line before after command kind (Err e) lacks same said = tt

@@ -25,6 +25,8 @@ use Rattle.wit_resolve_graph.specs.declared.command.Reply.{Reply}
 use Rattle.wit_resolve_graph.specs.declared.command.Reply.TheVariants as reply
 use Rattle.wit_script.specs.World.{world_id_at, world_text_at}
 use Rattle.wit_script.specs.declared.answer.Stage.{Stage}
+use Rattle.wit_script.specs.declared.answer.Telling.{Telling}
+use Rattle.wit_script.specs.declared.answer.Telling.TheVariants.{Aloud, Quietly}
 use Rattle.wit_script.specs.declared.ready.ScriptCommand.{ScriptCommand}
 use Rattle.wit_script.specs.declared.ready.ScriptCommand.TheVariants as asks
 
@@ -84,6 +86,11 @@ quiet_text g (reply.Pushed id) = reply_text g (reply.Pushed id)
 quiet_text g (reply.Merged remap) = reply_text g (reply.Merged remap)
 quiet_text g reply.NoWorld = reply_text g reply.NoWorld
 quiet_text g (reply.Refused kind) = reply_text g (reply.Refused kind)
+
+-- the line of a reply that is told so
+abbrev pub line_of : Telling → Graph → Reply → List ℕ
+line_of Aloud = reply_text
+line_of Quietly = quiet_text
 
 -- a run of one command: its replies are told, or the refusal of the run itself, which is want of memory, after
 -- which all is as before

@@ -1,6 +1,6 @@
 -- Which lines of a script are accepted so far, by kind of line. Later work widens `is_accepted_so_far` and `CanPush`, and at
 -- last removes them.
-use Rattle.std.specs.Prelude.{◌≡◌, ℕ, Bool, true, false, List, [], IsTrue}
+use Rattle.std.specs.Prelude.{◌≡◌, Bool, true, false, List, [], IsTrue}
 use Rattle.std.specs.List.{AllByRecursion}
 use Rattle.wit_items.specs.Shape.{IsGroupShaped}
 use Rattle.wit_items.specs.declared.unresolved.UnresolvedPackageGroup.{UnresolvedPackageGroup}
@@ -18,13 +18,13 @@ use Rattle.wit_script.specs.declared.ready.ScriptCommand.TheVariants as asks
 
 -- a command that hands in no packages is carried out so far
 abbrev pub is_taken : Request → Bool
-is_taken (request.Feature name) = false
-is_taken request.AllFeatures = false
+is_taken (request.Feature name) = true
+is_taken request.AllFeatures = true
 is_taken (request.Tracks rule) = false
 is_taken request.Other = false
 is_taken request.Merge = false
-is_taken (request.Importize owner world out) = false
-is_taken (request.Exportize owner world out keys) = false
+is_taken (request.Importize owner world out) = true
+is_taken (request.Exportize owner world out keys) = true
 is_taken (request.Semver owner world) = false
 is_taken (request.Print owner world) = true
 is_taken (request.Select owner text) = true

@@ -4,7 +4,7 @@ ghost use Rattle.std.specs.List.{flat_map};
 ghost use Rattle.wit_resolve_graph.specs.State.{State, new_state};
 ghost use Rattle.wit_resolve_graph.specs.Step.{Run};
 ghost use Rattle.wit_resolve_graph.specs.Supported.{IsSupported};
-ghost use Rattle.wit_script.specs.Answer.{IsAnswered, IsChoice, Answers, AnswersAll, IsPrinted, IsSelected, IsTold, Replies, Works, active, alone, refusal_text, selected_text, pushed_text, reply_text, world_named};
+ghost use Rattle.wit_script.specs.Answer.{IsAnswered, IsChoice, Answers, AnswersAll, IsPrinted, IsSelected, IsTold, Replies, Works, active, alone, line_of, refusal_text, selected_text, pushed_text, quiet_text, reply_text, world_named};
 ghost use Rattle.wit_script.specs.Ready.{is_taken};
 ghost use Rattle.wit_script.specs.declared.answer.Stage.{Stage};
 
@@ -20,6 +20,15 @@ use wit_resolve_graph::{Command, Reply, Resolve, ResolveError, ResolveResult, ru
 pub struct Stage {
     pub first: Resolve,
     pub second: Option<Resolve>,
+}
+
+/// How a reply is told.
+#[derive(Clone, Copy)]
+enum Telling {
+    /// With a line, whatever it is.
+    Aloud,
+    /// With nothing where the command is carried out.
+    Quietly,
 }
 
 impl Stage {
@@ -44,13 +53,18 @@ impl Stage {
     }
 
     /// Carries out a command on that graph, and tells its reply.
-    fn work(&mut self, alloc: Global, command: Command) -> Result<String, AllocError>
+    fn work(
+        &mut self,
+        alloc: Global,
+        command: Command,
+        telling: Telling,
+    ) -> Result<String, AllocError>
         requires { IsSupported command }
-        ensures { IfOk result (λ text. Works Run reply_text self.old command (string_bytes text) self.new) }
+        ensures { IfOk result (λ text. Works Run (line_of telling) self.old command (string_bytes text) self.new) }
     {
         match &mut self.second {
-            Some(second) => answered(alloc, second, command),
-            None => answered(alloc, &mut self.first, command),
+            Some(second) => answered(alloc, second, command, telling),
+            None => answered(alloc, &mut self.first, command, telling),
         }
     }
 }
@@ -73,17 +87,49 @@ fn answer_to(alloc: Global, stage: &mut Stage, command: ReadyCommand) -> Result<
     ensures { IfOk result (λ text. Answers Run IsChoice stage.old command (string_bytes text) stage.new) }
 {
     match command.into_command() {
-        ScriptCommand::Push { main, deps } => stage.work(alloc, Command::PushGroups { main, deps }),
+        ScriptCommand::Push { main, deps } => {
+            stage.work(alloc, Command::PushGroups { main, deps }, Telling::Aloud)
+        }
         ScriptCommand::Request(request) => reply_to(alloc, stage, request),
     }
 }
 
 /// The answer to a command that hands in no packages.
-fn reply_to(alloc: Global, stage: &Stage, request: Request) -> Result<String, AllocError>
+fn reply_to(alloc: Global, stage: &mut Stage, request: Request) -> Result<String, AllocError>
     requires { IsTrue (is_taken request) }
-    ensures { IfOk result (λ text. Replies Run IsChoice stage.now request (string_bytes text) stage.now) }
+    ensures { IfOk result (λ text. Replies Run IsChoice stage.old request (string_bytes text) stage.new) }
 {
     match request {
+        Request::Feature(name) => stage.work(alloc, Command::AddFeature(name), Telling::Quietly),
+        Request::AllFeatures => {
+            stage.work(alloc, Command::SetAllFeatures(true), Telling::Quietly)
+        }
+        Request::Importize {
+            package,
+            world,
+            out,
+        } => {
+            let command = Command::Importize {
+                package,
+                world,
+                out,
+            };
+            stage.work(alloc, command, Telling::Aloud)
+        }
+        Request::Exportize {
+            package,
+            world,
+            out,
+            keys,
+        } => {
+            let command = Command::Exportize {
+                package,
+                world,
+                out,
+                keys,
+            };
+            stage.work(alloc, command, Telling::Aloud)
+        }
         Request::Print { package, world } => print(alloc, stage.active(), &package, &world),
         Request::Select { package, text } => select(alloc, stage.active(), &package, &text),
         _ => unreachable!(),
@@ -91,24 +137,37 @@ fn reply_to(alloc: Global, stage: &Stage, request: Request) -> Result<String, Al
 }
 
 /// The reply to a command, or the refusal of the run itself.
-fn answered(alloc: Global, resolve: &mut Resolve, command: Command) -> Result<String, AllocError>
+fn answered(
+    alloc: Global,
+    resolve: &mut Resolve,
+    command: Command,
+    telling: Telling,
+) -> Result<String, AllocError>
     requires { IsSupported command }
-    ensures { IfOk result (λ text. IsAnswered Run reply_text resolve.old command (string_bytes text) resolve.new) }
+    ensures { IfOk result (λ text. IsAnswered Run (line_of telling) resolve.old command (string_bytes text) resolve.new) }
 {
     let commands = vec![in alloc; command]?;
     match run(alloc, resolve, commands) {
-        Ok(replies) => replies_text(alloc, resolve, &replies),
+        Ok(replies) => replies_text(alloc, resolve, &replies, telling),
         Err(refusal) => refused(alloc, &refusal),
     }
 }
 
 /// A line for each reply.
-fn replies_text(alloc: Global, resolve: &Resolve, replies: &[Reply]) -> Result<String, AllocError>
-    ensures { IfOk result (λ text. string_bytes text ≡ flat_map (reply_text resolve.now.graph) replies.now) }
+fn replies_text(
+    alloc: Global,
+    resolve: &Resolve,
+    replies: &[Reply],
+    telling: Telling,
+) -> Result<String, AllocError>
+    ensures { IfOk result (λ text. string_bytes text ≡ flat_map (line_of telling resolve.now.graph) replies.now) }
 {
     let mut text = String::new(alloc);
     for reply in replies {
-        let line = reply_text(alloc, resolve, reply)?;
+        let line = match telling {
+            Telling::Aloud => reply_text(alloc, resolve, reply)?,
+            Telling::Quietly => quiet_text(alloc, resolve, reply)?,
+        };
         text.push_str(&line)?;
     }
     Ok(text)
@@ -124,6 +183,16 @@ fn reply_text(alloc: Global, resolve: &Resolve, reply: &Reply) -> Result<String,
         Reply::Merged(_) => String::from_str(alloc, "merged\n"),
         Reply::NoWorld => String::from_str(alloc, "no world\n"),
         Reply::Refused(refusal) => refused(alloc, refusal),
+    }
+}
+
+/// The line of a reply, where a command that is carried out answers nothing.
+fn quiet_text(alloc: Global, resolve: &Resolve, reply: &Reply) -> Result<String, AllocError>
+    ensures { IfOk result (λ text. string_bytes text ≡ quiet_text resolve.now.graph reply.now) }
+{
+    match reply {
+        Reply::Done => Ok(String::new(alloc)),
+        _ => reply_text(alloc, resolve, reply),
     }
 }
 

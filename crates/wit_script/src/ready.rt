@@ -22,7 +22,10 @@ pub enum ScriptCommand {
 fn is_taken(request: &Request) -> bool
     ensures { result ≡ is_taken request.now }
 {
-    matches!(request, Request::Print { .. } | Request::Select { .. })
+    match request {
+        Request::Tracks(_) | Request::Other | Request::Merge | Request::Semver { .. } => false,
+        _ => true,
+    }
 }
 
 /// Whether a path names something of the same package.

@@ -62,6 +62,14 @@ Asks text commands = reading_of (lines_of text) ≡ Some (record { commands = co
 pub record ExamplesOfScripts : Type 0 where
   pub first_package : Asks (first_package ++ codes "push\nprint foo:bar w\nselect foo:bar")
       (asks.Push first_group [] ∷ asks.Request (request.Print foo_bar (codes "w")) ∷ asks.Request (request.Select foo_bar None) ∷ [])
+  pub features : Asks (codes "feature f\nall-features\n") (asks.Request (request.Feature (codes "f")) ∷ asks.Request request.AllFeatures ∷ [])
+  -- `-` is no name for `exportize` alone, and no key asks for no filter
+  pub turns : Asks (codes "exportize foo:bar w - k\nexportize foo:bar w x\nimportize foo:bar w -\nimportize foo:bar w")
+      (asks.Request (request.Exportize foo_bar (codes "w") None (Some (codes "k" ∷ [])))
+      ∷ asks.Request (request.Exportize foo_bar (codes "w") (Some (codes "x")) None)
+      ∷ asks.Request (request.Importize foo_bar (codes "w") (Some (codes "-")))
+      ∷ asks.Request (request.Importize foo_bar (codes "w") None)
+      ∷ [])
   pub spaces : Asks (codes "  select   foo:bar  w ") (asks.Request (request.Select foo_bar (Some (codes "w"))) ∷ [])
   pub nothing : IsUnderstood [] []
   pub comments : IsUnderstood (codes "# only\n\n   \n") []
@@ -75,6 +83,6 @@ pub record ExamplesOfScripts : Type 0 where
   pub among_lines : IsNotUnderstood (codes "package a:b\nprint a:b w\npush\n") 2
   -- nothing pushes the package
   pub unended : IsNotUnderstood (codes "package a:b\ninterface i\n\n# end\n") 2
-  -- not accepted so far: a foreign name, a feature
+  -- not accepted so far: a foreign name, another graph
   pub foreign_name : IsNotUnderstood (codes "package a:b\nworld w\nimport c:d/e\n") 3
-  pub feature_line : IsNotUnderstood (codes "feature f\n") 1
+  pub other_line : IsNotUnderstood (codes "feature f\nother\nmerge\n") 2

@@ -8,6 +8,8 @@ pub returns : goal.returns
 unfolding use_path_of is_kebab_name
 returns c = record {
   first_package = refl;
+  features = refl;
+  turns = refl;
   spaces = refl;
   nothing = record { reading = new_reading; read = refl; asked = refl; ready = tt; ended = refl; closed = refl };
   comments = record { reading = new_reading; read = refl; asked = refl; ready = tt; ended = refl; closed = refl };
@@ -17,5 +19,5 @@ returns c = record {
   among_lines = inl (record { before = 1; reading = after (codes "package a:b"); read = refl; ready = tt; there = lit< tt; bad = tt; counted = refl });
   unended = inr (record { reading = after (codes "package a:b\ninterface i"); read = refl; ready = tt; waits = refl; counted = refl });
   foreign_name = inl (record { before = 2; reading = after (codes "package a:b\nworld w"); read = refl; ready = tt; there = lit< tt; bad = tt; counted = refl });
-  feature_line = inl (record { before = 0; reading = new_reading; read = refl; ready = tt; there = lit< tt; bad = tt; counted = refl });
+  other_line = inl (record { before = 1; reading = after (codes "feature f"); read = refl; ready = (refl, tt); there = lit< tt; bad = tt; counted = refl });
 }

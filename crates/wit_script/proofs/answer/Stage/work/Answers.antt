@@ -1,13 +1,14 @@
 use Rattle.std.proofs.Common.{◌≡◌, Some, None, rules}
 use Rattle.wit_script.proofs.Staged.{works-first, works-second}
+use Rattle.wit_script.specs.Answer.{line_of}
 use Rattle.wit_script.proofs.answer.Stage.work.Goals as goal
 
 pub returns-in-Some : goal.returns-in-Some
 returns-in-Some c =
     let there : c.args.self.now.second ≡ Some c.in-Some.second = search rules in
-    works-second c.args.self.now c.args.command c.answered.result c.in-Some.second c.answered.new.resolve there c.answered.ensures
+    works-second (line_of c.args.telling) c.args.self.now c.args.command c.answered.result c.in-Some.second c.answered.new.resolve there c.answered.ensures
 
 pub returns-in-None : goal.returns-in-None
 returns-in-None c =
     let closed : c.args.self.now.second ≡ None = search rules in
-    works-first c.args.self.now c.args.command c.answered-in-None.result c.answered-in-None.new.resolve closed c.answered-in-None.ensures
+    works-first (line_of c.args.telling) c.args.self.now c.args.command c.answered-in-None.result c.answered-in-None.new.resolve closed c.answered-in-None.ensures
