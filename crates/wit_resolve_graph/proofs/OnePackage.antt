@@ -59,16 +59,23 @@ not_turned a b other = elim (cases_Bool (same_package b a)) [
   | inr differs ↦ differs
 ]
 
+-- what doesn't pass isn't found
+not_found : (p : PackageName → Bool) (x : PackageName) → p x ≡ false → position p (x ∷ []) ≡ None
+not_found p x h = rw h refl
+
+-- one name more
+one_none : (name : PackageName) (e : PackageName × List ForeignItem) (deps : List (PackageName × List ForeignItem)) (b : Bool) → same_package name e.0 ≡ b → cond b (Some e.1) (lookup (same_package name) deps) ≡ None
+    → (lookup (same_package name) deps ≡ None → filter_map (λ (e : PackageName × List ForeignItem). position (same_package e.0) (name ∷ [])) deps ≡ [])
+    → filter_map (λ (e : PackageName × List ForeignItem). position (same_package e.0) (name ∷ [])) (e ∷ deps) ≡ []
+one_none name e deps true is h rest = cc
+one_none name e deps false is h rest =
+    ap (λ (o : Option ℕ). cons_option o (filter_map (λ (e : PackageName × List ForeignItem). position (same_package e.0) (name ∷ [])) deps)) (not_found (same_package e.0) name (not_turned name e.0 is)) ∙ rest h
+
 -- what names no package of a name has no use of it
 names_none : (name : PackageName) (deps : List (PackageName × List ForeignItem)) → lookup (same_package name) deps ≡ None
     → filter_map (λ (e : PackageName × List ForeignItem). position (same_package e.0) (name ∷ [])) deps ≡ []
 names_none name [] none = refl
-names_none name (e ∷ deps) none = by (same_package name e.0) refl none
-  where
-    by : (b : Bool) → same_package name e.0 ≡ b → cond b (Some e.1) (lookup (same_package name) deps) ≡ None → filter_map (λ (e : PackageName × List ForeignItem). position (same_package e.0) (name ∷ [])) (e ∷ deps) ≡ []
-    by true is h = cc
-    by false is h =
-        ap (λ (b : Bool). cons_option (cond b (Some zero) None) (filter_map (λ (e : PackageName × List ForeignItem). position (same_package e.0) (name ∷ [])) deps)) (not_turned name e.0 is) ∙ names_none name deps h
+names_none name (e ∷ deps) none = one_none name e deps (same_package name e.0) refl none (λ rest. names_none name deps rest)
 
 module _ (u : UnresolvedPackage) (at : ℕ) (alone : lookup (same_package u.name) u.foreign_deps ≡ None) where
   uses_nothing : handed_uses (one u at) ≡ [] ∷ []
