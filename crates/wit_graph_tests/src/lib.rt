@@ -1,5 +1,5 @@
-//! Tests of what no clause says of the crates up to `wit_graph`: that calls succeed where memory is ample, and
-//! values worked outside.
+//! Tests of what no clause says of the crates up to `wit_graph`, and of turns of worlds: that calls succeed where
+//! memory is ample, and values worked outside.
 //!
 //! A test costs the proof little as long as it keeps to one form: what owns memory lives in one helper, which
 //! takes `.expect(rt, "memory")` for `?` and answers numbers or a text; the test compares.
@@ -18,7 +18,11 @@ mod labels;
 #[cfg(test)]
 mod names;
 #[cfg(test)]
+mod same;
+#[cfg(test)]
 mod shape;
+#[cfg(test)]
+mod turning;
 #[cfg(test)]
 mod values;
 #[cfg(test)]
