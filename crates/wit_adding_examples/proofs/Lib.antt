@@ -1,0 +1,12 @@
+mod Accepted
+mod AtWorlds
+mod Brought
+mod Computed
+mod GateCauses
+mod HasImage
+mod Matching
+mod Names
+mod Orders
+mod Tests
+mod WorldCauses
+mod WorldTests
