@@ -8,5 +8,6 @@ mod Matching
 mod Names
 mod Orders
 mod Tests
+mod WorkedGraphs
 mod WorldCauses
 mod WorldTests

@@ -4,6 +4,7 @@ ghost use Rattle.wit_adding_examples.specs.IncludedWorlds.{ExamplesOfIncludedWor
 ghost use Rattle.wit_adding_examples.specs.Includes.{ExamplesOfIncluded, ExamplesOfIncludes};
 ghost use Rattle.wit_adding_examples.specs.Pushes.{ExamplesOfPushes, ExamplesOfSpans};
 ghost use Rattle.wit_adding_examples.specs.Values.{ExamplesOfValues};
+ghost use Rattle.wit_adding_examples.specs.Worked.{ExamplesOfWorked};
 
 /// Notes that are active, and notes that are asked.
 pub fn examples_of_gates()
@@ -38,4 +39,9 @@ pub fn examples_of_included()
 /// Whole graphs to which a world has come that includes another.
 pub fn examples_of_included_worlds()
     ensures { ExamplesOfIncludedWorlds }
+{}
+
+/// Worked packages, and the whole graphs that they make.
+pub fn examples_of_worked()
+    ensures { ExamplesOfWorked }
 {}
