@@ -26,7 +26,7 @@ use Rattle.wit_adding_examples.proofs.AtWorlds.{all_fine, at_of, include_same, o
 use Rattle.wit_adding_examples.proofs.HasImage.{image}
 use Rattle.wit_adding_examples.proofs.Matching.{of_alike, of_conflict, of_getter, of_mismatch, of_shadowing}
 use Rattle.wit_adding_examples.proofs.Tests.{none_in, only_one}
-use Rattle.wit_adding_examples.proofs.WorldCauses.{first_reached, include_reached, other_feature, which}
+use Rattle.wit_adding_examples.proofs.WorldCauses.{first_reached, include_reached, label_same, other_feature, which}
 use Rattle.wit_adding_examples.proofs.WorldTests.{Passes, all_differ, conflict_of, fine, getters_there, has_getters, list_passes, no_clash, one_list, unshadowed}
 use Rattle.wit_adding_examples.specs.Packages.{adding, exporting_c, gate_f, gate_g, gated_entry, including_lists, no_features, since_one, three, three_exporting}
 use Rattle.wit_adding_examples.specs.WorldCauses.{ExamplesOfIncludedCauses, both_export, both_import}
@@ -134,9 +134,6 @@ closed (j, (x, d, exported, used, outside, reaches), is_exported) =
           let a : 0 ≡ d = only_one 0 d (subst (λ (i : ℕ). Contains (direct uses i) d) (sym of_b) used) in
           a_outside j (only_a d j reaches.0 a reaches.1) is_exported
     ]
-
-label_same : (a b : List ℕ) → key.Name a ≡ key.Name b → a ≡ b
-label_same a b same = cc
 
 -- ---- labels with what comes
 
@@ -257,7 +254,7 @@ included_causes = record {
   });
   not_alike = λ span message c.
       let found = of_alike (imports (codes "ab") (codes "ac")) span message c in
-      of_first (imports (codes "ab") (codes "ac")) (λ k. refl) (λ (k : ℕ). AreTooAlike (imports (codes "ab") (codes "ac")) k span message) (λ k x. at_of _ k x.world x.lists x.moves x.have) (not_alike span message) found.0 found.1;
+      of_first (imports (codes "ab") (codes "ac")) (λ k. refl) (λ (k : ℕ). AreTooAlike (imports (codes "ab") (codes "ac")) k span message) (λ k x. at_of _ k x.world x.lists x.moves x.have) (not_alike span message) found.0 found.2;
   no_getter = reason.no_getter_18 0 _ _ (first_reached (imports (codes "f") (codes "[set]p"))) (record {
     world = _;
     lists = _;

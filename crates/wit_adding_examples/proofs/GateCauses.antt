@@ -1,5 +1,6 @@
 -- The examples of gates, results and places.
-use Rattle.std.proofs.Common.{◌≡◌, ℕ, zero, suc, List, [], ◌∷◌, Some, None, refl, ap, sym, subst, inl, inr, lit<, lit≤, Contains, arith}
+use Rattle.std.proofs.Common.{◌≡◌, ℕ, zero, suc, true, List, [], ◌∷◌, Some, None, refl, ap, sym, subst, inl, inr, lit<, lit≤, Contains, arith}
+use Rattle.std.proofs.lemmas.Bool.{false≢true}
 use Rattle.std.specs.Fmt.{digits}
 use Rattle.std.specs.Prelude.{codes}
 use Rattle.wit_relations.specs.Relation.{IsPath}
@@ -16,14 +17,14 @@ use Rattle.wit_graph.specs.Questions.{held_rows}
 use Rattle.wit_graph.specs.Samples.{foo_bar, function_of, no_docs}
 use Rattle.wit_adding.specs.Addition.{Addition}
 use Rattle.wit_adding.specs.Cause as reason
-use Rattle.wit_adding.specs.Gates.{Place}
+use Rattle.wit_adding.specs.Gates.{Place, function_is_active}
 use Rattle.wit_adding.specs.Gates as asked
-use Rattle.wit_adding.specs.Reasons.{AnInterface, HasImage, IsActiveFunction, IsBorrow, MayHoldBorrow, PassesTheEnd, ReturnsBorrow}
+use Rattle.wit_adding.specs.Reasons.{AType, AWorld, AnInterface, HasImage, IsActiveFunction, IsBorrow, MayHoldBorrow, PassesTheEnd, ReturnsBorrow}
 use Rattle.wit_adding.specs.Reasons as part
 use Rattle.wit_adding_examples.proofs.HasImage.{image}
 use Rattle.wit_adding_examples.proofs.Matching.{no_memory, of_borrow, of_excluded, of_excluded_owner, of_overflow, of_unreleased, of_version}
 use Rattle.wit_adding_examples.proofs.Tests.{none_in, none_some, only_one}
-use Rattle.wit_adding_examples.specs.Causes.{ExamplesOfCauses}
+use Rattle.wit_adding_examples.specs.Causes.{ExamplesOfCauses, returning_under}
 use Rattle.wit_adding_examples.specs.Packages.{adding, adding_at, bare, feature_f, gate_f, gated, gated_owner, loose_interface, no_features, returning, since_one}
 
 -- ---- packages with an image
@@ -77,6 +78,19 @@ own_result span message c =
     let result : 2 ≡ c.t = only_one _ _ (subst (λ (f : Function). Contains (named_option f.result_) c.t) (sym (returned c.f c.active)) c.result_is) in
     holds_none (subst (MayHoldBorrow returning_own) (sym result) c.holds)
 
+-- ---- a function that is left out
+
+abbrev returning_off : Addition
+returning_off = adding no_features empty_graph (returning_under gate_f)
+
+function_off : (f : Function) → IsActiveFunction returning_off f → ⊥
+function_off f (part.of_interface zero interface name _ at active inside on) =
+    let same : record (loose_interface (codes "i") ((codes "r", 0) ∷ []) Unknown) { functions = (codes "f", record (function_of (codes "f") [] (Some (type.Id 1))) { stability = gate_f }) ∷ [] } ≡ interface = cc in
+    let is : record (function_of (codes "f") [] (Some (type.Id 1))) { stability = gate_f } ≡ f = ap (λ (e : List ℕ × Function). e.1) (only_one _ _ (subst (λ (x : Interface). Contains x.functions (name, f)) (sym same) inside)) in
+    false≢true (subst (λ (g : Function). function_is_active no_features g ≡ true) (sym is) on)
+function_off f (part.of_interface (suc i) interface name _ at active inside on) = cc
+function_off f (part.of_world w world k _ at active has on) = cc
+
 -- ---- a place that just fits
 
 abbrev at_the_end : Addition
@@ -129,6 +143,22 @@ causes = record {
     span_is = refl;
     message_is = refl;
   });
+  excluded_field = reason.excluded_11 _ _ (record {
+    thing = AType 0;
+    place = Some (60, 63);
+    refers = part.of_type 1 _ 0 (Some (60, 63)) refl refl (0, lit< tt, refl);
+    excluded = refl;
+    span_is = refl;
+    message_is = refl;
+  });
+  excluded_world = reason.excluded_11 _ _ (record {
+    thing = AWorld 0;
+    place = Some (50, 60);
+    refers = part.of_include 1 _ _ refl refl (0, lit< tt, refl) refl;
+    excluded = refl;
+    span_is = refl;
+    message_is = refl;
+  });
   no_reference = λ span message c. gated_off_image.references span message (of_excluded gated_off span message c);
   excluded_owner = reason.excluded_owner_12 _ _ (record {
     t = 0;
@@ -161,6 +191,16 @@ causes = record {
     span_is = refl;
     message_is = refl;
   });
+  borrow_behind = reason.borrow_in_result_15 _ _ (record {
+    f = _;
+    t = 0;
+    active = part.of_interface 1 _ _ _ refl refl (0, lit< tt, refl) refl;
+    result_is = (0, lit< tt, refl);
+    holds = inr (0, 0, ([], refl), refl, refl, (2, (2 ∷ [], ((0, lit< tt, refl), refl)), (3, refl)));
+    span_is = refl;
+    message_is = refl;
+  });
+  function_off = λ span message c. let found = of_borrow returning_off span message c in function_off found.f found.active;
   own_result = λ span message c. own_result span message (of_borrow returning_own span message c);
   too_far = reason.offset_overflow_27 (record { from = 8; to = 13; known = (0, lit< tt, refl); past = lit≤ tt });
   just_fits = λ c. just_fits (of_overflow at_the_end c);

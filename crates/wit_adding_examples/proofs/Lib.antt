@@ -4,6 +4,7 @@ mod Brought
 mod Computed
 mod GateCauses
 mod HasImage
+mod LaterWorlds
 mod Matching
 mod Names
 mod Orders

@@ -57,8 +57,8 @@ module _ (a : Addition) where
   pub of_rename : (span : Place) (message : List ℕ) → IsCause a (Semantic span message cause.RenameUnmatched) → (k : ℕ) × (j : ℕ) × RenamesNothing a k j span message
   of_rename _ _ (reason.rename_unmatched_16 k j span message reached c) = (k, j, c)
 
-  pub of_alike : (span : Place) (message : List ℕ) → IsCause a (Semantic span message cause.NotStronglyUnique) → (k : ℕ) × AreTooAlike a k span message
-  of_alike _ _ (reason.not_strongly_unique_17 k span message reached c) = (k, c)
+  pub of_alike : (span : Place) (message : List ℕ) → IsCause a (Semantic span message cause.NotStronglyUnique) → (k : ℕ) × reason.IsReached a k × AreTooAlike a k span message
+  of_alike _ _ (reason.not_strongly_unique_17 k span message reached c) = (k, reached, c)
 
   pub of_getter : (span : Place) (message : List ℕ) → IsCause a (Semantic span message cause.NoGetter) → (k : ℕ) × LacksGetter a k span message
   of_getter _ _ (reason.no_getter_18 k span message reached c) = (k, c)

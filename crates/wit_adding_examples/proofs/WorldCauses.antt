@@ -125,7 +125,7 @@ same_gate span brings has c =
 
 -- ---- renamings
 
-label_same : (a b : List ℕ) → key.Name a ≡ key.Name b → a ≡ b
+pub label_same : (a b : List ℕ) → key.Name a ≡ key.Name b → a ≡ b
 label_same a b same = cc
 
 -- the renaming of x is of no label of w
@@ -273,7 +273,7 @@ world_causes = record {
   });
   not_alike = λ span message c.
       let found = of_alike (two_labels (codes "ab") (codes "ac")) span message c in
-      of_first (two_labels (codes "ab") (codes "ac")) (λ k. refl) (λ (k : ℕ). AreTooAlike (two_labels (codes "ab") (codes "ac")) k span message) (λ k x. at_of _ k x.world x.lists x.moves x.have) (not_alike span message) found.0 found.1;
+      of_first (two_labels (codes "ab") (codes "ac")) (λ k. refl) (λ (k : ℕ). AreTooAlike (two_labels (codes "ab") (codes "ac")) k span message) (λ k x. at_of _ k x.world x.lists x.moves x.have) (not_alike span message) found.0 found.2;
   no_getter = reason.no_getter_18 0 _ _ (first_reached (importing (function_entry (codes "[set]p") ∷ []))) (record {
     world = _;
     lists = _;

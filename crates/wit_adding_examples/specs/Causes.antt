@@ -2,20 +2,24 @@
 -- reason, whatever is told.
 use Rattle.std.specs.Prelude.{◌≡◌, ℕ, List, [], ◌∷◌, Some, None, codes}
 use Rattle.wit_items.specs.declared.package_name.PackageName.{PackageName}
+use Rattle.wit_items.specs.declared.stability.Stability.{Stability}
 use Rattle.wit_items.specs.declared.stability.Stability.TheVariants.{Unknown, Stable}
+use Rattle.wit_items.specs.declared.types.Handle.TheVariants as handle
+use Rattle.wit_items.specs.declared.types.TypeDefKind.TheVariants as kind
 use Rattle.wit_items.specs.declared.types.Type_.TheVariants as type
 use Rattle.wit_items.specs.declared.unresolved.UnresolvedPackage.{UnresolvedPackage}
 use Rattle.wit_graph.specs.Examples.{empty_graph}
-use Rattle.wit_graph.specs.Samples.{foo_bar, sample}
+use Rattle.wit_graph.specs.Samples.{foo_bar, function_of, interface_of, sample, type_in, unnamed}
 use Rattle.wit_graph.specs.declared.cause.Cause.TheVariants as cause
 use Rattle.wit_graph.specs.declared.error_kind.ResolveErrorKind.{ResolveErrorKind}
 use Rattle.wit_graph.specs.declared.error_kind.ResolveErrorKind.TheVariants.{PackageNotFound, WorldNotFound, InterfaceNotFound, DuplicatePackage, Semantic, OffsetOverflow, OutOfMemory}
+use Rattle.wit_graph.specs.declared.graph.Graph.{Graph}
 use Rattle.wit_adding.specs.Addition.{Addition}
 use Rattle.wit_adding.specs.Cause.{IsCause}
 use Rattle.wit_adding.specs.Gates.{Place}
 use Rattle.wit_adding.specs.Lookup.{found_interface, found_type, found_world}
-use Rattle.wit_adding_examples.specs.Packages.{adding, adding_at, all_features, bare, dep_name, feature_f, gate_f, gate_g, gated, gated_import, gated_owner, including_package, naming, naming_type, no_features, returning, since_one, since_package, three, with_world}
-use Rattle.wit_adding_examples.specs.Values.{with_resource}
+use Rattle.wit_adding_examples.specs.Packages.{adding, adding_at, all_features, bare, dep_name, feature_f, gate_f, gate_g, gated, gated_import, gated_owner, include_with, including_package, loose_interface, loose_world, naming, naming_type, no_features, returning, since_one, since_package, three, with_world}
+use Rattle.wit_adding_examples.specs.Values.{field_of, with_resource}
 
 -- a package of the name foo:bar that names interface a and world w of foo:bar
 abbrev pub naming_itself : UnresolvedPackage
@@ -28,6 +32,36 @@ finding = adding all_features (with_world gate_g (codes "f")) (including_package
 -- the error that a package has a `@since`, and no version
 abbrev pub no_version_of : List ℕ → ResolveErrorKind
 no_version_of message = Semantic None message cause.GateWithoutVersion
+
+-- a package with a record whose field, at 60 to 63, is of a type under a gate
+abbrev pub gated_field : UnresolvedPackage
+gated_field = record (bare foo_bar) {
+  interfaces = loose_interface (codes "i") ((codes "t", 0) ∷ (codes "x", 1) ∷ []) Unknown ∷ [];
+  types = record (type_in 0 (codes "t") (kind.Type_ type.U32)) { stability = gate_f } ∷ type_in 0 (codes "x") (kind.Record (record (field_of (type.Id 0)) { span = Some (60, 63) } ∷ [])) ∷ [];
+}
+
+-- a package with a world that includes one under a gate
+abbrev pub gated_include : UnresolvedPackage
+gated_include = record (bare foo_bar) { worlds = record (loose_world (codes "v") [] [] []) { stability = gate_f } ∷ loose_world (codes "w") [] [] (include_with [] ∷ []) ∷ [] }
+
+-- a package with a function under a gate that returns a borrow
+abbrev pub returning_under : Stability → UnresolvedPackage
+returning_under note = record (returning (type.Id 1)) {
+  interfaces = record (loose_interface (codes "i") ((codes "r", 0) ∷ []) Unknown) { functions = (codes "f", record (function_of (codes "f") [] (Some (type.Id 1))) { stability = note }) ∷ [] } ∷ [];
+}
+
+-- foo:bar, whose type t is a list of borrows, and a package with a function that returns it
+abbrev pub with_borrow : Graph
+with_borrow = record (sample [] []) {
+  types = type_in 0 (codes "t") (kind.List (type.Id 2)) ∷ type_in 1 (codes "t") (kind.Type_ (type.Id 0)) ∷ unnamed (kind.Handle (handle.Borrow 3)) ∷ type_in 0 (codes "r") kind.Resource ∷ [];
+  interfaces = interface_of (Some (codes "a")) ((codes "t", 0) ∷ (codes "r", 3) ∷ []) ∷ interface_of (Some (codes "b")) ((codes "t", 1) ∷ []) ∷ [];
+}
+
+abbrev pub returning_foreign : UnresolvedPackage
+returning_foreign = record (naming_type (codes "t")) {
+  interfaces = loose_interface (codes "a") ((codes "t", 0) ∷ []) Unknown ∷ record (loose_interface (codes "i") [] Unknown) { functions = (codes "f", function_of (codes "f") [] (Some (type.Id 0))) ∷ [] } ∷ [];
+  required_resource_types = [];
+}
 
 -- 1, 2, 3, 5, 13, 14: what is there, and what isn't
 pub record ExamplesOfNames : Type 0 where
@@ -72,6 +106,10 @@ pub record ExamplesOfCauses : Type 0 where
   -- 11
   pub excluded : IsCause (adding no_features empty_graph (gated_import gate_f))
       (Semantic None (codes "found a reference to a interface which is excluded due to its feature not being activated") cause.Excluded)
+  pub excluded_field : IsCause (adding no_features empty_graph gated_field)
+      (Semantic (Some (60, 63)) (codes "found a reference to a type which is excluded due to its feature not being activated") cause.Excluded)
+  pub excluded_world : IsCause (adding no_features empty_graph gated_include)
+      (Semantic (Some (50, 60)) (codes "found a reference to a world which is excluded due to its feature not being activated") cause.Excluded)
   pub no_reference : (span : Place) (message : List ℕ) → IsCause (adding no_features empty_graph (gated None gate_f)) (Semantic span message cause.Excluded) → ⊥
   -- 12
   pub excluded_owner : IsCause (adding no_features empty_graph (gated_owner gate_f))
@@ -82,6 +120,9 @@ pub record ExamplesOfCauses : Type 0 where
       (Semantic None (codes "function `f` returns a type which contains a `borrow<T>` which is not supported") cause.BorrowInResult)
   pub borrow_in_list : IsCause (adding no_features empty_graph (returning (type.Id 3)))
       (Semantic None (codes "function `f` returns a type which contains a `borrow<T>` which is not supported") cause.BorrowInResult)
+  pub borrow_behind : IsCause (adding no_features with_borrow returning_foreign)
+      (Semantic None (codes "function `f` returns a type which contains a `borrow<T>` which is not supported") cause.BorrowInResult)
+  pub function_off : (span : Place) (message : List ℕ) → IsCause (adding no_features empty_graph (returning_under gate_f)) (Semantic span message cause.BorrowInResult) → ⊥
   pub own_result : (span : Place) (message : List ℕ) → IsCause (adding no_features empty_graph (returning (type.Id 2))) (Semantic span message cause.BorrowInResult) → ⊥
   -- 27: a name that ends at 13, moved to end past the last position, and just at it
   pub too_far : IsCause (adding_at 4294967283 no_features empty_graph (bare foo_bar)) OffsetOverflow

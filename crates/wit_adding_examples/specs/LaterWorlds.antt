@@ -1,7 +1,6 @@
 -- Which world of a package is told of, and what is told of a package without an image.
-use Rattle.std.specs.Prelude.{ℕ, List, [], ◌∷◌, ◌++◌, Some, None, codes}
+use Rattle.std.specs.Prelude.{ℕ, List, [], ◌∷◌, Some, None, codes}
 use Rattle.wit_items.specs.Entries.{Entry}
-use Rattle.wit_items.specs.declared.stability.Stability.{Stability}
 use Rattle.wit_items.specs.declared.stability.Stability.TheVariants.{Unknown}
 use Rattle.wit_items.specs.declared.world.WorldInclude.{WorldInclude}
 use Rattle.wit_graph.specs.Examples.{empty_graph}
@@ -13,7 +12,7 @@ use Rattle.wit_labels.specs.Examples.{function_entry}
 use Rattle.wit_adding.specs.Addition.{Addition}
 use Rattle.wit_adding.specs.Cause.{IsCause}
 use Rattle.wit_adding.specs.Gates.{Place}
-use Rattle.wit_adding_examples.specs.Packages.{adding, all_features, gate_f, gate_g, gated_entry, include_with, including_lists, loose_interface, loose_world, no_features, since_one, with_lists}
+use Rattle.wit_adding_examples.specs.Packages.{adding, all_features, gate_f, gate_g, gated_entry, including_lists, loose_interface, loose_world, no_features, since_one, with_lists}
 use Rattle.wit_adding_examples.specs.Worked.{package_of}
 
 -- an include of world w of the package
