@@ -17,7 +17,7 @@ use Rattle.wit_graph.specs.Elaborated.{import_steps, import_steps_within}
 use Rattle.wit_graph.specs.declared.graph.Graph.{Graph}
 use Rattle.wit_adding.specs.Addition.{function_positions}
 use Rattle.wit_adding.specs.Include.{Lists}
-use Rattle.wit_adding_examples.proofs.Accepted.{accepted}
+use Rattle.wit_adding_examples.proofs.Accepted.{accepted, including_accepted}
 use Rattle.wit_adding_examples.proofs.Tests.{only_one}
 use Rattle.wit_adding_examples.specs.Gates.{ExamplesOfGates}
 use Rattle.wit_adding_examples.specs.IncludedWorlds.{ExamplesOfIncludedWorlds}
@@ -82,6 +82,7 @@ values = record {
   part_becomes_own = refl;
   types = refl;
   interfaces = refl;
+  foreign_value = refl;
   apart = λ same. let is : 4 ≡ 2 = same in absurd (omega (arith, is));
 }
 
@@ -160,6 +161,7 @@ pub included_worlds : ExamplesOfIncludedWorlds
 unfolding walk walk_within import_steps import_steps_within
 included_worlds = record {
   once = refl;
+  accepted = including_accepted;
   twice = refl;
   in_two = refl;
   shared = λ same. let count : 7 ≡ 4 = ap (λ (g : Graph). length g.types) same in absurd (omega (arith, count));

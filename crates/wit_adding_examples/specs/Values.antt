@@ -43,7 +43,14 @@ holding = record (bare main_name) {
   unknown_type_spans = Some (30, 31) ∷ [];
 }
 
--- it is added to that graph
+-- a package with a function that takes a t of foo:bar/a
+abbrev pub taking_foreign : UnresolvedPackage
+taking_foreign = record holding {
+  interfaces = loose_interface (codes "a") ((codes "t", 0) ∷ []) Unknown ∷ record (loose_interface (codes "i") [] Unknown) { functions = (codes "f", function_of (codes "f") (type.Id 0 ∷ []) None) ∷ [] } ∷ [];
+  types = type_in 0 (codes "t") kind.Unknown ∷ [];
+}
+
+-- the first is added to that graph
 abbrev pub add_holding : Addition
 add_holding = adding no_features with_resource holding
 
@@ -75,5 +82,8 @@ pub record ExamplesOfValues : Type 0 where
   pub interfaces : (pushed add_holding).interfaces
       ≡ interface_of (Some (codes "a")) ((codes "t", 0) ∷ []) ∷ interface_of (Some (codes "b")) ((codes "t", 1) ∷ [])
       ∷ record (interface_of (Some (codes "i")) ((codes "s", 2) ∷ (codes "p", 3) ∷ [])) { «package» = Some 1; functions = (codes "f", function_of (codes "f") (type.Id 4 ∷ []) (Some (type.Id 3))) ∷ [] } ∷ []
+  -- a value of the foreign t itself is an `own` of that of foo:bar
+  pub foreign_value : (pushed (adding no_features with_resource taking_foreign)).types
+      ≡ type_in 0 (codes "t") kind.Resource ∷ type_in 1 (codes "t") (kind.Type_ (type.Id 0)) ∷ unnamed (kind.Handle (handle.Own 0)) ∷ []
   -- the value isn't the alias itself
   pub apart : value_place add_holding 1 ≡ type_place add_holding 1 → ⊥

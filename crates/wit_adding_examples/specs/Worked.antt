@@ -82,6 +82,11 @@ abbrev pub derives : UnresolvedPackage
 derives = package_of (resource_of_world (codes "r") 0 ∷ []) []
     (loose_world (codes "base") (members (codes "r") 0) [] [] ∷ loose_world (codes "derived") [] [] (include_with (named_as (codes "r") (codes "r2") ∷ []) ∷ []) ∷ [])
 
+-- a world w that includes v under the gate f
+abbrev pub includes_f : UnresolvedPackage
+includes_f = package_of [] []
+    (loose_world (codes "v") (function_entry (codes "f") ∷ []) [] [] ∷ loose_world (codes "w") [] [] (record (include_with []) { stability = gate_f } ∷ []) ∷ [])
+
 -- ---- a package of which a part takes part
 
 -- a number of interface i, and one of world w, under a gate
@@ -120,6 +125,9 @@ pub record ExamplesOfWorked : Type 0 where
   pub getter_comes : (made no_features (package_of [] [] (loose_world (codes "v") (function_entry (codes "[get]p") ∷ []) [] []
       ∷ loose_world (codes "w") (function_entry (codes "[set]p") ∷ []) [] (include_with [] ∷ []) ∷ []))).worlds
       ≡ world_of (codes "v") (function_entry (codes "[get]p") ∷ []) [] ∷ world_of (codes "w") (function_entry (codes "[get]p") ∷ function_entry (codes "[set]p") ∷ []) [] ∷ []
+  -- an include under a gate brings what it brings where the feature is on
+  pub include_off : (made no_features includes_f).worlds ≡ world_of (codes "v") (function_entry (codes "f") ∷ []) [] ∷ world_of (codes "w") [] [] ∷ []
+  pub include_on : (made feature_f includes_f).worlds ≡ world_of (codes "v") (function_entry (codes "f") ∷ []) [] ∷ world_of (codes "w") (function_entry (codes "f") ∷ []) [] ∷ []
   -- what is off is left out, and the rest takes the next ids
   pub half : made no_features half_gated ≡ graph_of (type_in 0 (codes "u") (kind.Type_ type.U8) ∷ [])
       (record (interface_of (Some (codes "i")) ((codes "u", 0) ∷ [])) { functions = (codes "g", function_of (codes "g") (type.Id 0 ∷ []) None) ∷ [] } ∷ [])
