@@ -50,13 +50,14 @@ returning_under note = record (returning (type.Id 1)) {
   interfaces = record (loose_interface (codes "i") ((codes "r", 0) ∷ []) Unknown) { functions = (codes "f", record (function_of (codes "f") [] (Some (type.Id 1))) { stability = note }) ∷ [] } ∷ [];
 }
 
--- foo:bar, whose type t is a list of borrows, and a package with a function that returns it
+-- foo:bar, whose type t is a list of borrows
 abbrev pub with_borrow : Graph
 with_borrow = record (sample [] []) {
   types = type_in 0 (codes "t") (kind.List (type.Id 2)) ∷ type_in 1 (codes "t") (kind.Type_ (type.Id 0)) ∷ unnamed (kind.Handle (handle.Borrow 3)) ∷ type_in 0 (codes "r") kind.Resource ∷ [];
   interfaces = interface_of (Some (codes "a")) ((codes "t", 0) ∷ (codes "r", 3) ∷ []) ∷ interface_of (Some (codes "b")) ((codes "t", 1) ∷ []) ∷ [];
 }
 
+-- a package with a function that returns t of foo:bar
 abbrev pub returning_foreign : UnresolvedPackage
 returning_foreign = record (naming_type (codes "t")) {
   interfaces = loose_interface (codes "a") ((codes "t", 0) ∷ []) Unknown ∷ record (loose_interface (codes "i") [] Unknown) { functions = (codes "f", function_of (codes "f") [] (Some (type.Id 0))) ∷ [] } ∷ [];

@@ -23,21 +23,24 @@ use Rattle.wit_adding_examples.specs.Packages.{adding, bare, include_with, loose
 
 -- ---- the included world
 
--- a type entry, and a function entry with a parameter and a result
+-- a type entry
 abbrev pub type_entry : List ℕ → ℕ → Entry
 type_entry label t = (key.Name label, item.Type_ t None)
 
+-- a function entry with a parameter, and with a result where one is named
 abbrev pub function_entry_of : List ℕ → ℕ → Option ℕ → Entry
 function_entry_of label t None = (key.Name label, item.Function (function_of label (type.Id t ∷ []) None))
 function_entry_of label t (Some r) = (key.Name label, item.Function (function_of label (type.Id t ∷ []) (Some (type.Id r))))
 
--- the number t of world w under a label; a list of type t; the byte u of interface i; a list of bytes
+-- the number of world w under a label
 abbrev pub number_of : List ℕ → ℕ → TypeDef
 number_of label w = type_of (Some label) (kind.Type_ type.U32) (owner.World w)
 
+-- a list of type t
 abbrev pub list_of : ℕ → TypeDef
 list_of t = unnamed (kind.List (type.Id t))
 
+-- the byte u of interface i
 abbrev pub byte_of : ℕ → TypeDef
 byte_of i = type_in i (codes "u") (kind.Type_ type.U8)
 

@@ -40,7 +40,7 @@ w_is_alike = Semantic None (codes "import `AB` in world `w` conflicts with impor
 abbrev pub alike_unversioned : Addition
 alike_unversioned = adding no_features empty_graph (record (with_lists alike_entries []) { interfaces = loose_interface (codes "i") [] since_one ∷ [] })
 
--- so a world that includes another, of foo:bar
+-- such a package whose world includes another, of foo:bar
 abbrev pub including_unversioned : Addition
 including_unversioned =
     adding no_features (sample [] []) (record (including_lists alike_entries []) { interfaces = loose_interface (codes "a") [] Unknown ∷ loose_interface (codes "i") [] since_one ∷ [] })

@@ -28,10 +28,11 @@ two_alone = (bare main_name, 0) ∷ (bare dep_name, 20) ∷ []
 abbrev pub dep_on_main : List Handed
 dep_on_main = (naming dep_name main_name Unknown, 0) ∷ (bare main_name, 20) ∷ []
 
--- one package, and the same twice, the second time with its spans moved so far
+-- one package
 abbrev pub one_alone : List Handed
 one_alone = (bare foo_bar, 16) ∷ []
 
+-- the package twice, the second time with its spans moved so far
 abbrev pub twice_at : ℕ → List Handed
 twice_at offset = (bare foo_bar, 0) ∷ (bare foo_bar, offset) ∷ []
 

@@ -186,7 +186,7 @@ since_package = record (including_package []) { interfaces = loose_interface (co
 
 -- ---- worlds that export
 
--- foo:bar with a; b, which uses a; and c, which uses b; and worlds w of these exports
+-- foo:bar with a; b, which uses a; and c, which uses b; and these worlds
 abbrev pub three_with : List World → List (List ℕ × ℕ) → Graph
 three_with worlds table = record {
   types = type_in 0 (codes "t") (kind.Type_ type.U32) ∷ type_in 1 (codes "t") (kind.Type_ (type.Id 0)) ∷ type_in 2 (codes "t") (kind.Type_ (type.Id 1)) ∷ [];
@@ -196,10 +196,11 @@ three_with worlds table = record {
   package_names = (foo_bar, 0) ∷ [];
 }
 
--- the same without a world, and with a world w that exports one of the three
+-- the same without a world
 abbrev pub three : Graph
 three = three_with [] []
 
+-- the three, and a world w that exports one of them
 abbrev pub three_exporting : ℕ → Graph
 three_exporting i = three_with (world_of (codes "w") [] (entry_of i ∷ []) ∷ []) ((codes "w", 0) ∷ [])
 

@@ -50,7 +50,7 @@ taking_foreign = record holding {
   types = type_in 0 (codes "t") kind.Unknown ∷ [];
 }
 
--- the first is added to that graph
+-- the package that holds a p is added to that graph
 abbrev pub add_holding : Addition
 add_holding = adding no_features with_resource holding
 

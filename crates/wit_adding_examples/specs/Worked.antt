@@ -24,10 +24,11 @@ use Rattle.wit_adding_examples.specs.IncludedWorlds.{type_entry}
 use Rattle.wit_adding_examples.specs.Packages.{adding, adding_at, bare, feature_f, gate_f, gated_entry, include_with, loose_interface, loose_world, no_features}
 use Rattle.wit_adding_examples.specs.Values.{field_of}
 
--- foo:bar with these types, interfaces and worlds, handed in, and what comes of it where all of them take part
+-- foo:bar with these types, interfaces and worlds, handed in
 abbrev pub package_of : List TypeDef → List Interface → List World → UnresolvedPackage
 package_of types interfaces worlds = record (bare foo_bar) { types = types; interfaces = interfaces; worlds = worlds }
 
+-- the graph of foo:bar alone with these
 abbrev pub graph_of : List TypeDef → List Interface → List World → List (List ℕ × ℕ) → List (List ℕ × ℕ) → Graph
 graph_of types interfaces worlds table world_table = record {
   types = types;
@@ -37,7 +38,7 @@ graph_of types interfaces worlds table world_table = record {
   package_names = (foo_bar, 0) ∷ [];
 }
 
--- it is added to the empty graph
+-- what adding a package makes of the empty graph
 abbrev pub made : Features → UnresolvedPackage → Graph
 made features u = pushed (adding features empty_graph u)
 
@@ -49,12 +50,14 @@ three_types =
     type_in 0 (codes "t") (kind.Type_ type.U32) ∷ type_in 1 (codes "t") (kind.Type_ (type.Id 0)) ∷ type_in 2 (codes "t") (kind.Type_ (type.Id 0))
     ∷ type_in 2 (codes "t2") (kind.Type_ (type.Id 1)) ∷ []
 
+-- foo:bar with the three, and a world w that exports c
 abbrev pub exports_c : UnresolvedPackage
 exports_c = package_of three_types
     (loose_interface (codes "a") ((codes "t", 0) ∷ []) Unknown ∷ loose_interface (codes "b") ((codes "t", 1) ∷ []) Unknown
     ∷ loose_interface (codes "c") ((codes "t", 2) ∷ (codes "t2", 3) ∷ []) Unknown ∷ [])
     (loose_world (codes "w") [] (entry_of 2 ∷ []) [] ∷ [])
 
+-- the three interfaces as they are in the graph
 abbrev pub three_interfaces : List Interface
 three_interfaces =
     interface_of (Some (codes "a")) ((codes "t", 0) ∷ []) ∷ interface_of (Some (codes "b")) ((codes "t", 1) ∷ [])
@@ -89,10 +92,11 @@ includes_f = package_of [] []
 
 -- ---- a package of which a part takes part
 
--- a number of interface i, and one of world w, under a gate
+-- the number t of interface 0 under the gate f
 abbrev pub gated_type : TypeDef
 gated_type = record (type_in 0 (codes "t") (kind.Type_ type.U32)) { stability = gate_f }
 
+-- the number k of world 0 under the gate f
 abbrev pub gated_world_type : TypeDef
 gated_world_type = record (type_of (Some (codes "k")) (kind.Type_ type.U32) (owner.World 0)) { stability = gate_f }
 
@@ -107,6 +111,7 @@ half_gated = package_of (gated_type ∷ type_in 0 (codes "u") (kind.Type_ type.U
 
 -- ---- a resource, and a record of another name of it
 
+-- interface i has a resource r, another name s of it, and a record x with a field of s
 abbrev pub holds_own : UnresolvedPackage
 holds_own = package_of (type_in 0 (codes "r") kind.Resource ∷ type_in 0 (codes "s") (kind.Type_ (type.Id 0)) ∷ type_in 0 (codes "x") (kind.Record (field_of (type.Id 1) ∷ [])) ∷ [])
     (loose_interface (codes "i") ((codes "r", 0) ∷ (codes "s", 1) ∷ (codes "x", 2) ∷ []) Unknown ∷ []) []

@@ -13,7 +13,7 @@ use Rattle.wit_adding.specs.Cause.{IsCause}
 use Rattle.wit_adding.specs.Gates.{Place}
 use Rattle.wit_adding_examples.specs.Packages.{adding, all_features, exporting_c, exporting_with, gate_f, gate_g, gated_entry, including_lists, including_package, no_features, since_one, since_package, three, three_exporting, with_lists, with_world}
 
--- a world that imports functions under these labels
+-- a package whose world has these imports, and the empty graph
 abbrev pub importing : List Entry → Addition
 importing entries = adding no_features empty_graph (with_lists entries [])
 
@@ -47,7 +47,7 @@ pub record ExamplesOfWorldCauses : Type 0 where
 
 -- ---- what holds of exports, and of what an include has brought
 
--- foo:bar, whose world w imports functions under these labels, and a world d that does so and includes w
+-- foo:bar, whose world w has the one imports, and a package whose world d has the others and includes w
 abbrev pub both_import : List Entry → List Entry → Addition
 both_import old new = adding no_features (sample old []) (including_lists new [])
 
