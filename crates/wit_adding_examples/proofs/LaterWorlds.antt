@@ -1,0 +1,225 @@
+-- The examples of worlds one after another, and of packages without an image.
+use Rattle.std.proofs.Common.{◌≡◌, ℕ, ◌<◌, zero, suc, true, List, [], ◌∷◌, Some, None, slice_get, refl, subst, inl, lit<, Contains, arith}
+use Rattle.std.specs.Map.{keys_of}
+use Rattle.std.specs.Prelude.{codes}
+use Rattle.wit_values.specs.Lists.{differ}
+use Rattle.wit_relations.specs.Walks.{walk, walk_within}
+use Rattle.wit_items.specs.Entries.{Entry}
+use Rattle.wit_items.specs.declared.world.World.{World}
+use Rattle.wit_items.specs.declared.world.WorldInclude.{WorldInclude}
+use Rattle.wit_items.specs.declared.world.WorldKey.TheVariants as key
+use Rattle.wit_graph.specs.Elaborated.{import_steps, import_steps_within}
+use Rattle.wit_graph.specs.Imported.{exported_interfaces}
+use Rattle.wit_graph.specs.Samples.{no_docs}
+use Rattle.wit_labels.specs.Examples.{function_entry}
+use Rattle.wit_labels.specs.Setters.{placed}
+use Rattle.wit_adding.specs.Addition.{Addition, active_includes}
+use Rattle.wit_adding.specs.Cause.{IncludeIsReached, IsReached}
+use Rattle.wit_adding.specs.Cause as reason
+use Rattle.wit_adding.specs.Gates.{Place}
+use Rattle.wit_adding.specs.Gates as asked
+use Rattle.wit_adding.specs.Include.{Lists}
+use Rattle.wit_adding.specs.Pushed.{begun, with_worlds}
+use Rattle.wit_adding.specs.Reasons.{HasImage, LacksVersion}
+use Rattle.wit_adding.specs.WorldReasons.{AreTooAlike, AtInclude, AtWorld, HaveLists, IncludeIsFine, LacksGetter, Mismatches, WorldIsFine}
+use Rattle.wit_adding.specs.WorldReasons as world_reason
+use Rattle.wit_adding_examples.proofs.AtWorlds.{at_of, fine_without, no_include, of_first, world_same}
+use Rattle.wit_adding_examples.proofs.HasImage.{image}
+use Rattle.wit_adding_examples.proofs.Matching.{of_alike}
+use Rattle.wit_adding_examples.proofs.Tests.{none_in, only_one}
+use Rattle.wit_adding_examples.proofs.WorldCauses.{first_reached, label_same, other_feature}
+use Rattle.wit_adding_examples.proofs.WorldTests.{all_differ, conflict_of, fine, getters_there, has_getters, list_passes, no_clash}
+use Rattle.wit_adding_examples.specs.LaterWorlds.{ExamplesOfLaterWorlds, alike_unversioned, before_alike, include_of, including_unversioned, two_gates}
+use Rattle.wit_adding_examples.specs.Packages.{gate_f, gate_g, since_one}
+
+-- ---- a world with which nothing is wrong
+
+-- it includes and exports nothing, and its labels pass
+record IsPlain (a : Addition) (k : ℕ) (y : AtWorld a k) : Type 0 where
+  no_includes : (j : ℕ) → slice_get (active_includes a y.world) j ≡ None
+  import_labels : all_differ (keys_of (begun a y.place y.world (with_worlds a k)).lists.imports) ≡ true
+  export_labels : all_differ (keys_of (begun a y.place y.world (with_worlds a k)).lists.exports) ≡ true
+  written_labels : (all_differ (keys_of y.world.imports) ≡ true) × (all_differ (keys_of y.world.exports) ≡ true)
+  import_getters : getters_there (begun a y.place y.world (with_worlds a k)).lists.imports ≡ true
+  export_getters : getters_there (begun a y.place y.world (with_worlds a k)).lists.exports ≡ true
+  written_getters : (getters_there y.world.imports ≡ true) × (getters_there y.world.exports ≡ true)
+  no_exports : exported_interfaces (placed (begun a y.place y.world (with_worlds a k)).lists.exports) ≡ []
+
+plain_is_fine : (a : Addition) (k : ℕ) (y : AtWorld a k) → IsPlain a k y → WorldIsFine a k
+plain_is_fine a k y p = record {
+  includes = λ j. fine_without a k j (no_include a k y j (p.no_includes j));
+  labels = λ span message c.
+      no_clash (keys_of c.entries) c.clash.0 c.clash.1 c.n c.m c.clash.2 c.clash.3 c.clash.4 c.clash.5
+      (list_passes a k y (λ (es : List Entry). all_differ (keys_of es)) p.import_labels p.export_labels (λ none. p.written_labels) c.world c.lists c.moves c.have c.word c.entries c.list);
+  setters = λ span message c.
+      has_getters c.entries c.label c.f c.setter.0 c.setter.1 c.no_getter
+      (list_passes a k y getters_there p.import_getters p.export_getters (λ none. p.written_getters) c.world c.lists c.moves c.have c.word c.entries c.list);
+  exports = λ span name c.
+      let found = conflict_of a k y span name c in
+      none_in found.1.0 (subst (λ (is : List ℕ). Contains is found.1.0) p.no_exports found.1.2);
+}
+
+-- ---- the third world, and its second include
+
+abbrev first_gate : AtWorld two_gates 0
+first_gate = record { place = 0; world = _; is = refl }
+
+abbrev second_gate : AtWorld two_gates 1
+second_gate = record { place = 1; world = _; is = refl }
+
+abbrev includes_both : AtWorld two_gates 2
+includes_both = record { place = 2; world = _; is = refl }
+
+abbrev first_include : AtInclude two_gates 2 0
+first_include = record { at = includes_both; include = include_of 0; is = refl; before = _; before_is = refl; old = _; old_is = refl }
+
+abbrev second_include : AtInclude two_gates 2 1
+second_include = record { at = includes_both; include = include_of 1; is = refl; before = _; before_is = refl; old = _; old_is = refl }
+
+fine_before : (i : ℕ) → i < 2 → WorldIsFine two_gates i
+fine_before zero below = plain_is_fine two_gates 0 first_gate (record {
+  no_includes = λ j. refl;
+  import_labels = refl;
+  export_labels = refl;
+  written_labels = (refl, refl);
+  import_getters = refl;
+  export_getters = refl;
+  written_getters = (refl, refl);
+  no_exports = refl;
+})
+fine_before (suc zero) below = plain_is_fine two_gates 1 second_gate (record {
+  no_includes = λ j. refl;
+  import_labels = refl;
+  export_labels = refl;
+  written_labels = (refl, refl);
+  import_getters = refl;
+  export_getters = refl;
+  written_getters = (refl, refl);
+  no_exports = refl;
+})
+fine_before (suc (suc i)) below = absurd (omega (arith, below))
+
+include_fine : (i : ℕ) → i < 1 → IncludeIsFine two_gates 2 i
+unfolding walk walk_within import_steps import_steps_within
+include_fine zero below = fine two_gates 2 0 first_include (record { import_labels = refl; export_labels = refl; import_keys = refl; export_keys = refl; names = refl })
+include_fine (suc i) below = absurd (omega (arith, below))
+
+gates_image : HasImage two_gates
+gates_image = image two_gates (record { packages = refl; items = refl; types = refl; interfaces = refl; worlds = refl })
+
+mismatch : Mismatches two_gates 2 1 (Some (50, 60)) gate_g gate_f
+unfolding walk walk_within import_steps import_steps_within
+mismatch = record {
+  at = second_include;
+  word = codes "import";
+  current = _;
+  brought = _;
+  i = 0;
+  list = (inl (refl, refl), inl (refl, refl));
+  there = (no_docs, None, None, (0, lit< tt, refl));
+  comes = (no_docs, None, None, (0, lit< tt, refl));
+  apart = record { from_known = λ same. cc; into_known = λ same. cc; differ = other_feature };
+  counts = refl;
+  span_is = refl;
+}
+
+-- ---- labels of a world behind another
+
+abbrev empty_first : AtWorld (before_alike []) 0
+empty_first = record { place = 0; world = _; is = refl }
+
+nothing_before : (i : ℕ) → i < 1 → WorldIsFine (before_alike []) i
+nothing_before zero below = plain_is_fine (before_alike []) 0 empty_first (record {
+  no_includes = λ j. refl;
+  import_labels = refl;
+  export_labels = refl;
+  written_labels = (refl, refl);
+  import_getters = refl;
+  export_getters = refl;
+  written_getters = (refl, refl);
+  no_exports = refl;
+})
+nothing_before (suc i) below = absurd (omega (arith, below))
+
+abbrev setter_first : Addition
+setter_first = before_alike (function_entry (codes "[set]p") ∷ [])
+
+abbrev setter_world : AtWorld setter_first 0
+setter_world = record { place = 0; world = _; is = refl }
+
+lacks_getter : LacksGetter setter_first 0 None (codes "import `[set]p` in world `v` has no corresponding getter `[get]p`")
+lacks_getter = record {
+  world = _;
+  lists = _;
+  moves = 0;
+  have = world_reason.written setter_world refl;
+  word = codes "import";
+  entries = _;
+  list = inl (refl, refl);
+  label = codes "[set]p";
+  f = _;
+  setter = ((0, lit< tt, refl), (refl, refl));
+  no_getter = λ has. differ (codes "[set]p") (codes "[get]p") refl (label_same _ _ (only_one (key.Name (codes "[set]p")) (key.Name (codes "[get]p")) has));
+  span_is = refl;
+  message_is = refl;
+}
+
+first_told : (span : Place) (message : List ℕ) (k : ℕ) → IsReached setter_first k → AreTooAlike setter_first k span message → ⊥
+first_told span message zero reached c =
+    let passes : all_differ (keys_of c.entries) ≡ true = list_passes setter_first 0 setter_world (λ (es : List Entry). all_differ (keys_of es)) refl refl (λ none. (refl, refl)) c.world c.lists c.moves c.have c.word c.entries c.list in
+    no_clash (keys_of c.entries) c.clash.0 c.clash.1 c.n c.m c.clash.2 c.clash.3 c.clash.4 c.clash.5 passes
+first_told span message (suc k) reached c =
+    let below : 0 < suc k = omega arith in
+    (reached 0 below).setters None (codes "import `[set]p` in world `v` has no corresponding getter `[get]p`") lacks_getter
+
+-- ---- no image
+
+lacks_version : LacksVersion including_unversioned None (codes "package [foo:main] contains a feature gate with a version specifier, so it must have a version")
+lacks_version = record { note = since_one; place = None; asked = asked.of_interface 1 _ _ refl (0, lit< tt, refl); stable = tt; no_version = refl; span_is = refl; message_is = refl }
+
+abbrev unmade_world : AtWorld including_unversioned 0
+unmade_world = record { place = 1; world = _; is = refl }
+
+some_includes : (include : WorldInclude) → include ∷ [] ≡ [] → ⊥
+some_includes include none = cc
+
+no_lists : (world : World) (lists : Lists) (moves : ℕ) → HaveLists including_unversioned 0 world lists moves → ⊥
+no_lists _ _ _ (world_reason.made at has fine) = has.version None (codes "package [foo:main] contains a feature gate with a version specifier, so it must have a version") lacks_version
+no_lists _ _ _ (world_reason.written at none) = some_includes (include_of 0) (subst (λ (w : World). w.includes ≡ []) (world_same including_unversioned 0 at unmade_world).1 none)
+
+pub later_worlds : ExamplesOfLaterWorlds
+later_worlds = record {
+  second_include = reason.mismatch_8 2 1 _ _ _ (record { has_image = gates_image; worlds = fine_before; includes = include_fine }) mismatch;
+  second_world = reason.not_strongly_unique_17 1 _ _ nothing_before (record {
+    world = _;
+    lists = _;
+    moves = 0;
+    have = world_reason.written (record { place = 1; world = _; is = refl }) refl;
+    word = codes "import";
+    entries = _;
+    list = inl (refl, refl);
+    n = codes "AB";
+    m = codes "ab";
+    clash = (0, 1, lit< tt, refl, refl, refl);
+    span_is = refl;
+    message_is = refl;
+  });
+  first_told = λ span message c. let found = of_alike setter_first span message c in first_told span message found.0 found.1 found.2;
+  unversioned = reason.not_strongly_unique_17 0 _ _ (first_reached alike_unversioned) (record {
+    world = _;
+    lists = _;
+    moves = 0;
+    have = world_reason.written (record { place = 0; world = _; is = refl }) refl;
+    word = codes "import";
+    entries = _;
+    list = inl (refl, refl);
+    n = codes "AB";
+    m = codes "ab";
+    clash = (0, 1, lit< tt, refl, refl, refl);
+    span_is = refl;
+    message_is = refl;
+  });
+  including = λ span message c.
+      let found = of_alike including_unversioned span message c in
+      of_first including_unversioned (λ k. refl) (λ (k : ℕ). AreTooAlike including_unversioned k span message) (λ k x. at_of _ k x.world x.lists x.moves x.have) (λ x. no_lists x.world x.lists x.moves x.have) found.0 found.2;
+}

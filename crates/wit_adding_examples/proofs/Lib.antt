@@ -1,0 +1,14 @@
+mod Accepted
+mod AtWorlds
+mod Brought
+mod Computed
+mod GateCauses
+mod HasImage
+mod LaterWorlds
+mod Matching
+mod Names
+mod Orders
+mod Tests
+mod WorkedGraphs
+mod WorldCauses
+mod WorldTests

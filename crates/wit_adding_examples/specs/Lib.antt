@@ -1,0 +1,11 @@
+pub mod Causes
+pub mod Gates
+pub mod IncludedWorlds
+pub mod Includes
+pub mod LaterWorlds
+pub mod Orders
+pub mod Packages
+pub mod Pushes
+pub mod Values
+pub mod Worked
+pub mod WorldCauses
