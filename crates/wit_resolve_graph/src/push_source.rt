@@ -20,7 +20,7 @@ impl Resolve {
     /// Adds what a parse makes of one file, as `push_group` does, and answers the main package's id. The
     /// parse is given the source map of this file.
     ///
-    /// So far the parse answers groups of one package that names nothing of others. Refused as
+    /// So far the parse answers groups that `push_group` takes. Refused as
     /// `push_group`, where the file would pass 4294967295 (27), and for memory, also where the parse
     /// wants it (28). Where the parse can't read the text, its files go to the end of the sources and
     /// its span is moved with them; where they don't fit it is 27, and nothing has changed.

@@ -162,9 +162,8 @@ impl Resolve {
 
     /// Adds a package, its spans moved by an offset, and answers its id.
     ///
-    /// So far the package names nothing of other packages and has no resources, gates, includes, labels
-    /// or exports. Refused where a package of that name is there (5), where a span would pass 4294967295 (27), and
-    /// for memory (28); nothing has changed then.
+    /// So far no world of the package includes another. Refused as `wit_link::append` says (1 to 5, 9 to 15, 17, 18,
+    /// 27), and for memory (28); nothing has changed then.
     pub fn push(
         &mut self,
         alloc: Global,
@@ -186,7 +185,8 @@ impl Resolve {
     /// Adds the main package of a group and puts the group's files at the end of the source map, and
     /// answers the package's id.
     ///
-    /// So far nothing is nested in the group. Refused as `push`; the packages are as before then. The
+    /// So far nothing is nested in the group, and its package names nothing of itself, and no world of it includes
+    /// another. Refused as `push`; the packages are as before then. The
     /// files are at the end of the source map after a refusal, but after 27 nowhere, and after 28
     /// there or not.
     pub fn push_group(
