@@ -1,5 +1,6 @@
 pub mod Adding
 pub mod Addition
+pub mod ApartFacts
 pub mod Behind
 pub mod Cause
 pub mod CauseText
@@ -8,7 +9,9 @@ pub mod Found
 pub mod Gates
 pub mod Include
 pub mod Lookup
+pub mod OwnThingFacts
 pub mod Passed
+pub mod PositionFacts
 pub mod Pushed
 pub mod RankFacts
 pub mod Ranks
