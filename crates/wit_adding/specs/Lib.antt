@@ -5,6 +5,7 @@ pub mod Behind
 pub mod Cause
 pub mod CauseText
 pub mod ClosedCut
+pub mod FlagFacts
 pub mod Found
 pub mod Gates
 pub mod Include
@@ -13,6 +14,7 @@ pub mod OwnThingFacts
 pub mod Passed
 pub mod PositionFacts
 pub mod Pushed
+pub mod RangeFacts
 pub mod RankFacts
 pub mod Ranks
 pub mod Reasons
