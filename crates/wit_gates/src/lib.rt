@@ -3,7 +3,6 @@
 #![tactic(auto)]
 
 mod checker;
-mod foreign;
 mod needs;
 pub mod references;
 pub mod taking_part;
