@@ -25,13 +25,13 @@ use Rattle.wit_growth.specs.ListFacts.{at_map, at_new, from_map, old_or_new, som
 use Rattle.wit_growth.specs.PackagesAcyclic.{length-numbered, numbered_from, numbered_into}
 use Rattle.wit_growth.specs.Sources.{Carries, InterfaceStands, WorldStands}
 use Rattle.wit_adding.specs.Addition.{Addition, addition_maps, own_world, own_worlds, part, world_place}
+use Rattle.wit_adding.specs.OwnThingFacts.{own_world_from}
 use Rattle.wit_adding.specs.RankFacts.{taken_places-at}
 use Rattle.wit_adding.specs.Ranks.{rank, taken_places}
 use Rattle.wit_adding.specs.Reasons.{HasImage}
 use Rattle.wit_adding.specs.Standing.{own_world_goes}
 use Rattle.wit_adding_laws.specs.Draft.{draft, new_drafts, old_drafts, typed_comes, typed_stands, types_alone}
 use Rattle.wit_adding_laws.specs.InterfacesCome.{interfaces_come}
-use Rattle.wit_adding_laws.specs.OwnThings.{own_world_from}
 use Rattle.wit_adding_laws.specs.Parts.{HasParts}
 use Rattle.wit_adding_laws.specs.PartsStand.{interface_stands, old_interface_at, old_type_at, type_stands, values_stand_there}
 use Rattle.wit_adding_laws.specs.SourcesGood.{package_source, sources, sources_good}

@@ -33,15 +33,16 @@ use Rattle.wit_growth.specs.OnePlaceFacts.{StandOnce-from_places}
 use Rattle.wit_growth.specs.OnePlaceFrom.{HasOnePlace-from_once, cut_has_one_place}
 use Rattle.wit_growth.specs.Sources.{Carries, InterfaceStands, Source}
 use Rattle.wit_adding.specs.Addition.{Addition, addition_maps, interface_place, part}
+use Rattle.wit_adding.specs.ApartFacts.{active_there, interfaces_apart}
 use Rattle.wit_adding.specs.Behind.{IsBehind}
 use Rattle.wit_adding.specs.Gates.{interface_is_active, is_foreign_interface}
+use Rattle.wit_adding.specs.OwnThingFacts.{own_of_both}
 use Rattle.wit_adding.specs.Reasons.{HasImage}
 use Rattle.wit_adding.specs.Standing.{foreign_interface_goes, own_interface_goes}
 use Rattle.wit_adding_laws.specs.CoveredWorlds.{exported_named, used_named}
-use Rattle.wit_adding_laws.specs.InterfacesApart.{active_there, interfaces_apart}
 use Rattle.wit_adding_laws.specs.ListedWorlds.{TakesPart, export_from, export_takes, import_from, import_takes, listed_own}
 use Rattle.wit_adding_laws.specs.Parts.{parts_of}
-use Rattle.wit_adding_laws.specs.PartsStand.{interface_stands, old_interface_at, own_of_both}
+use Rattle.wit_adding_laws.specs.PartsStand.{interface_stands, old_interface_at}
 use Rattle.wit_adding_laws.specs.SourcesGood.{package_source, sources, sources_good}
 use Rattle.wit_adding_laws.specs.WorldFacts.{IsDone, WorldLaws, in_order, world_from}
 

@@ -20,12 +20,12 @@ use Rattle.wit_growth.specs.ListFacts.{SomeAt-old, contained_at, found_at, from_
 use Rattle.wit_growth.specs.Theory.{HasGoodTables}
 use Rattle.wit_adding.specs.Addition.{Addition, addition_maps, interface_place, own_interface, own_interfaces, part}
 use Rattle.wit_adding.specs.Behind.{IsBehind}
+use Rattle.wit_adding.specs.OwnThingFacts.{own_interface_from}
 use Rattle.wit_adding.specs.Pushed.{new_package}
 use Rattle.wit_adding.specs.RankFacts.{taken_places-at}
 use Rattle.wit_adding.specs.Ranks.{rank, taken_places}
 use Rattle.wit_adding.specs.Reasons.{HasImage}
 use Rattle.wit_adding_laws.specs.NamesOnce.{distinct_interfaces, table_entry}
-use Rattle.wit_adding_laws.specs.OwnThings.{own_interface_from}
 use Rattle.wit_adding_laws.specs.Parts.{parts_of}
 use Rattle.wit_adding_laws.specs.PartsStand.{old_interface_at, own_interface_at}
 

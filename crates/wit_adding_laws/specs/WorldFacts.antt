@@ -31,11 +31,11 @@ use Rattle.wit_growth.specs.ListFacts.{Contains-map, at_new, found_at, from_map,
 use Rattle.wit_growth.specs.Sources.{WorldStands}
 use Rattle.wit_adding.specs.Addition.{Addition, addition_maps, own_world, own_worlds, part, type_place, world_place}
 use Rattle.wit_adding.specs.Behind.{IsBehind, with_placed}
+use Rattle.wit_adding.specs.OwnThingFacts.{own_world_from}
 use Rattle.wit_adding.specs.Ranks.{rank}
 use Rattle.wit_adding.specs.Reasons.{HasImage}
 use Rattle.wit_adding.specs.Standing.{own_world_goes}
 use Rattle.wit_adding_laws.specs.ListedWorlds.{TakesPart, cut, imports_apart, is_listed, listed_own, own_world_at}
-use Rattle.wit_adding_laws.specs.OwnThings.{own_world_from}
 use Rattle.wit_adding_laws.specs.Parts.{parts_of}
 use Rattle.wit_adding_laws.specs.PlacedFacts.{placed_into}
 use Rattle.wit_adding_laws.specs.SourcesGood.{package_source}

@@ -15,12 +15,12 @@ use Rattle.wit_growth.specs.ListFacts.{at_map, contained_at, found_at, from_map,
 use Rattle.wit_adding.specs.Addition.{Addition, own_world, world_place}
 use Rattle.wit_adding.specs.Behind.{IsBehind}
 use Rattle.wit_adding.specs.Gates.{is_foreign_world, world_is_active}
+use Rattle.wit_adding.specs.OwnThingFacts.{own_part}
 use Rattle.wit_adding.specs.Pushed.{new_package}
 use Rattle.wit_adding.specs.RankFacts.{taken_places-at, taken_places-from}
 use Rattle.wit_adding.specs.Ranks.{rank, taken_places}
 use Rattle.wit_adding_laws.specs.ListedWorlds.{TakesPart}
 use Rattle.wit_adding_laws.specs.NamesOnce.{at_drop, place_once}
-use Rattle.wit_adding_laws.specs.OwnThings.{own_part}
 use Rattle.wit_adding_laws.specs.WorldFacts.{IsDone, done_at, world_from}
 
 -- ---- lists

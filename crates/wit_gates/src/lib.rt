@@ -3,7 +3,6 @@
 #![tactic(auto)]
 
 mod checker;
-mod foreign;
 pub mod messages;
 mod needs;
 pub mod references;

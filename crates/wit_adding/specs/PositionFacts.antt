@@ -24,9 +24,9 @@ use Rattle.wit_growth.specs.ListFacts.{place_of}
 use Rattle.wit_adding.specs.Addition.{Addition, function_positions, needs_own, own_interfaces, own_types, own_worlds, part, plain_types, positions, type_place}
 use Rattle.wit_adding.specs.ClosedCut.{closed_part, references_kept}
 use Rattle.wit_adding.specs.Gates.{type_is_active}
+use Rattle.wit_adding.specs.OwnThingFacts.{own_interface_from, own_type_from, own_world_from}
 use Rattle.wit_adding.specs.Reasons.{HasImage}
 use Rattle.wit_adding.specs.Resources.{leads_to_resource, signature_positions, value_positions}
-use Rattle.wit_placing.proofs.OwnThings.{own_interface_from, own_type_from, own_world_from}
 
 -- a value position of a kind is a reference of it
 position_referred : (k : TypeDefKind) (t : ℕ) → Contains (value_positions k) t → Contains (referred k) t

@@ -1,5 +1,5 @@
 -- No two interfaces of a package that take part go to one interface, so keys that differ go to keys that differ.
-use Rattle.std.proofs.Common.{◌≡◌, ◌∙◌, ℕ, ◌<◌, ◌&&◌, if◌then◌else◌, Bool, true, false, not, List, length, nat_eq, Option, None, Some, option_and_then, IsSome, slice_get, refl, sym, ap, subst, inl, inr, arith, Contains}
+use Rattle.std.proofs.Common.{◌≡◌, ◌∙◌, ℕ, ◌<◌, if◌then◌else◌, Bool, true, false, List, length, nat_eq, Option, None, Some, option_and_then, IsSome, slice_get, refl, sym, ap, subst, inl, inr, arith, Contains}
 use Rattle.std.specs.List.{list_any}
 use Rattle.std.specs.Map.{lookup}
 use Rattle.std.specs.Str.{bytes_eq}
@@ -26,6 +26,7 @@ use Rattle.wit_adding.specs.ClosedCut.{closed_part}
 use Rattle.wit_adding.specs.Found.{find-passes, interface_found, interface_of, named_at}
 use Rattle.wit_adding.specs.Gates.{interface_is_active, is_foreign_interface}
 use Rattle.wit_adding.specs.Lookup.{find_interface, find_package, found_interface, named_items, naming}
+use Rattle.wit_adding.specs.OwnThingFacts.{own_of_both}
 use Rattle.wit_adding.specs.RankFacts.{rank-injective}
 use Rattle.wit_adding.specs.Reasons.{HasImage}
 use Rattle.wit_adding.specs.Standing.{foreign_interface_goes, own_interface_goes}
@@ -126,11 +127,7 @@ module _ (a : Addition) (valid : IsValid a.graph) (shaped : IsShaped a.handed) (
       cc
 
   own_both : (f : ℕ) → is_foreign_interface a.handed f ≡ false → interface_is_active a.features a.handed f ≡ true → own_interface a f ≡ true
-  own_both f own active = both (is_foreign_interface a.handed f) (interface_is_active a.features a.handed f) own active
-    where
-      both : (b c : Bool) → b ≡ false → c ≡ true → not b && c ≡ true
-      both true c h k = cc
-      both false c h k = k
+  own_both f own active = own_of_both (is_foreign_interface a.handed f) (interface_is_active a.features a.handed f) own active
 
   -- what takes part goes apart
   pub interfaces_apart : (f g : ℕ) → interface_is_active a.features a.handed f ≡ true → interface_is_active a.features a.handed g ≡ true → interface_place a f ≡ interface_place a g → f ≡ g

@@ -17,6 +17,10 @@ pub own_part : (foreign active : Bool) → not foreign && active ≡ true → (f
 own_part true active h = cc
 own_part false active h = (refl, h)
 
+pub own_of_both : (foreign active : Bool) → foreign ≡ false → active ≡ true → not foreign && active ≡ true
+own_of_both true active h k = cc
+own_of_both false active h k = k
+
 -- what stands among the types that are added first
 pub record OwnType (a : Addition) (i : ℕ) (def : TypeDef) : Type 0 where
   pub t : ℕ
