@@ -263,7 +263,7 @@ module _ (g : Graph) (stands : StandsSoFar g) (from : ℕ) (old : World) where
           | inr among ↦ let place = place_of old.exports e among in let is = good.exports place.0 e place.1 in (import_from_export g.interfaces g.types from e.0 e.1 is.is, is.own)
         ]
 
-    in_rows : (t : ℕ) → t < length g.types → t < length (type_references g.types)
+    pub in_rows : (t : ℕ) → t < length g.types → t < length (type_references g.types)
     in_rows t within = omega (arith, within, length-map g.types (λ (d : TypeDef). referred d.kind))
 
     -- what they name, and all that it refers to
