@@ -1,8 +1,10 @@
 pub mod CopiedPart
 pub mod Copies
+pub mod CopiesCarried
 pub mod IncludedWorld
 pub mod JoinedFacts
 pub mod KeysApart
 pub mod Mentioned
 pub mod OnItsWay
+pub mod Remains
 pub mod Truth
