@@ -1,6 +1,7 @@
 pub mod CopiedPart
 pub mod Copies
 pub mod CopiesCarried
+pub mod IncludedCovered
 pub mod IncludedWorld
 pub mod JoinedFacts
 pub mod KeysApart
