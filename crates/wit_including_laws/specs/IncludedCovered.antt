@@ -40,7 +40,7 @@ use Rattle.wit_including_laws.specs.Truth.{or_left}
 
 -- ---- stabilities that are joined
 
-new_interface : (other : Bool) (k : WorldKey) (held : WorldItem) → item_interface (new_item other k held) ≡ item_interface held
+pub new_interface : (other : Bool) (k : WorldKey) (held : WorldItem) → item_interface (new_item other k held) ≡ item_interface held
 new_interface true (key.Interface f) (item.Interface i (Stable since deprecated) docs span external_id) = refl
 new_interface true (key.Interface f) (item.Interface i Unknown docs span external_id) = refl
 new_interface true (key.Interface f) (item.Interface i (Unstable feature deprecated) docs span external_id) = refl
@@ -67,7 +67,7 @@ new_comes s w (item.Interface i stability docs span external_id) held other k co
 new_comes s w (item.Function f) held other k comes = (comes.0, ap (new_item other k) comes.1 ∙ new_function other k comes.0, comes.2, comes.3)
 new_comes s w (item.Type_ t span) held other k comes = (comes.0, ap (new_item other k) comes.1 ∙ new_type other k (s.maps.types t) comes.0)
 
-joined_one : (other : Bool) (from held : WorldItem) → item_interface (joined_item other from held) ≡ item_interface held
+pub joined_one : (other : Bool) (from held : WorldItem) → item_interface (joined_item other from held) ≡ item_interface held
 joined_one other (item.Interface i stability docs span external_id) (item.Interface j stability' docs' span' external_id') = refl
 joined_one other (item.Interface i stability docs span external_id) (item.Function f) = refl
 joined_one other (item.Interface i stability docs span external_id) (item.Type_ t span') = refl

@@ -1,7 +1,9 @@
 pub mod CopiedPart
 pub mod Copies
 pub mod CopiesCarried
+pub mod IncludedAcyclic
 pub mod IncludedCovered
+pub mod IncludedOnce
 pub mod IncludedWorld
 pub mod JoinedFacts
 pub mod KeysApart
