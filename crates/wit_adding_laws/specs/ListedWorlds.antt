@@ -33,7 +33,7 @@ use Rattle.wit_adding_laws.specs.NamedAliases.{aliases_named, interface_within, 
 use Rattle.wit_adding_laws.specs.OwnThings.{own_world_from}
 use Rattle.wit_adding_laws.specs.Parts.{HasParts}
 use Rattle.wit_adding_laws.specs.PartsStand.{type_stands}
-use Rattle.wit_adding_laws.specs.PlacedFacts.{placed_distinct, placed_in}
+use Rattle.wit_including_laws.specs.PlacedFacts.{placed_distinct, placed_in}
 
 -- ---- which worlds
 

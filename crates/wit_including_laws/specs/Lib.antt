@@ -1,6 +1,8 @@
+pub mod CanonicalStays
 pub mod CopiedPart
 pub mod Copies
 pub mod CopiesCarried
+pub mod FinishedStands
 pub mod IncludedAcyclic
 pub mod IncludedCovered
 pub mod IncludedOnce
@@ -9,5 +11,8 @@ pub mod JoinedFacts
 pub mod KeysApart
 pub mod Mentioned
 pub mod OnItsWay
+pub mod PlacedFacts
+pub mod PlacedWorlds
 pub mod Remains
 pub mod Truth
+pub mod WorldLaws
