@@ -21,7 +21,7 @@ use Rattle.wit_growth.specs.CarriedImages.{image_carried}
 use Rattle.wit_growth.specs.Covered.{EntryComes, InterfaceComes, IsCovered, IsNoType, IsOwnMade, ItemComes, TypeComes, WorldComes}
 use Rattle.wit_growth.specs.Cut.{cut_interface, cut_world}
 use Rattle.wit_growth.specs.GraphSource.{graph_stands, items_are_good}
-use Rattle.wit_growth.specs.Image.{entry_image, identity, interface_image, item_image}
+use Rattle.wit_growth.specs.Image.{entry_image, identity, interface_image}
 use Rattle.wit_growth.specs.ImagesCome.{entry_image_comes, interface_image_comes}
 use Rattle.wit_growth.specs.Kept.{Kept, everything}
 use Rattle.wit_growth.specs.ListFacts.{at_map, contained_at, place_of}
@@ -35,7 +35,7 @@ use Rattle.wit_including_laws.specs.CopiesCarried.{IsUnshadowed, copies_stand, c
 use Rattle.wit_including_laws.specs.IncludedWorld.{Including, IsIncluded, brought, is_other, joined_world, maps}
 use Rattle.wit_including_laws.specs.JoinedFacts.{distinct_joined, from_brought, joined_cases}
 use Rattle.wit_including_laws.specs.OnItsWay.{StandsSoFar}
-use Rattle.wit_including_laws.specs.Remains.{beside, export_no_type, export_remains, import_remains, interface_remains, type_remains, world_remains}
+use Rattle.wit_including_laws.specs.Remains.{beside, export_no_type, export_remains, image_no_type, import_remains, interface_remains, type_remains, world_remains}
 use Rattle.wit_including_laws.specs.Truth.{or_left}
 
 -- ---- stabilities that are joined
@@ -257,16 +257,11 @@ module _ (g : Graph) (stands : StandsSoFar g) (i : Including g) where
                     let old = from_brought g stands i i.host.exports i.old.exports (joins_exports g stands i free) made.0 made.1 in
                     let place = place_of i.old.exports old.0 old.1 in
                     let was = export_no_type g.interfaces old.0.0 old.0.1 ((stands.items.worlds i.from i.old i.old_at).exports place.0 old.0 place.1).is in
-                    let is : IsNoType made.0.1 = subst (λ (x : Entry). IsNoType x.1) old.2 (image_no_type old.0.1 was) in (
+                    let is : IsNoType made.0.1 = subst (λ (x : Entry). IsNoType x.1) old.2 (image_no_type (maps g i) i.from old.0.1 was) in (
                       subst (EntryComes sources i.into) (sym made.3) (new_one_comes old.0 made.0 (Contains-append_right i.old.imports i.old.exports old.0 old.1) old.2),
                       subst (λ (x : Entry). IsNoType x.1) (sym made.3) (no_type_new (is_other g i) made.0.0 made.0.1 is),
                     )
               ]
-            where
-              image_no_type : (held : WorldItem) → IsNoType held → IsNoType (item_image (maps g i) i.from held)
-              image_no_type (item.Interface j stability docs span external_id) is = tt
-              image_no_type (item.Function f) is = tt
-              image_no_type (item.Type_ t span) is = absurd is
 
       -- each thing comes
       pub included_covered : IsCovered everything sources new

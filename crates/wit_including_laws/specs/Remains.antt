@@ -20,7 +20,7 @@ use Rattle.wit_growth.specs.CarriedImages.{function_itself_carried, itself_carri
 use Rattle.wit_growth.specs.Covered.{EntryComes, InterfaceAt, InterfaceComes, IsNoType, ItemComes, TypeComes, WorldComes}
 use Rattle.wit_growth.specs.Cut.{cut_interface, cut_world, graph_source, item_in_range, kept_whole}
 use Rattle.wit_growth.specs.Good.{HasGoodItems}
-use Rattle.wit_growth.specs.Image.{identity, key_image}
+use Rattle.wit_growth.specs.Image.{Maps, identity, item_image, key_image}
 use Rattle.wit_growth.specs.ListFacts.{at_map, contained_at, found_at}
 use Rattle.wit_growth.specs.Sources.{Source}
 
@@ -155,3 +155,9 @@ module _ (g : Graph) (items : HasGoodItems g) (other : Source) where
         distinct_exports = good.distinct_exports;
         no_includes = good.no_includes;
       }
+
+-- the image of what is no type is none
+pub image_no_type : (m : Maps) (w : ℕ) (held : WorldItem) → IsNoType held → IsNoType (item_image m w held)
+image_no_type m w (item.Interface i stability docs span external_id) is = tt
+image_no_type m w (item.Function f) is = tt
+image_no_type m w (item.Type_ t span) is = absurd is
