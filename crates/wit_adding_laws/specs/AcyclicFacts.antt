@@ -27,6 +27,7 @@ use Rattle.wit_growth.specs.ReferredFacts.{alias_image, kind_refers}
 use Rattle.wit_growth.specs.RowFacts.{walk_shorter}
 use Rattle.wit_growth.specs.Sources.{OwnerTakesPart}
 use Rattle.wit_growth.specs.TypesAcyclic.{types_acyclic}
+use Rattle.wit_growth.specs.GraphSource.{good_items}
 use Rattle.wit_growth.specs.UsesAcyclic.{uses_acyclic}
 use Rattle.wit_adding.specs.Addition.{Addition, added_owns, addition_maps, interface_place, own_interface, own_interfaces, own_type, own_types, part, type_place}
 use Rattle.wit_adding.specs.ClosedCut.{closed_part}
@@ -158,7 +159,7 @@ module _ (a : Addition) (valid : IsValid a.graph) (shaped : IsShaped a.handed) (
     -- no interface uses itself
     pub added_uses_acyclic : IsAcyclic (uses_of types interfaces)
     added_uses_acyclic =
-        uses_acyclic (sources a) uses_rank a.graph g (good_things a.graph valid) (sources_good a valid shaped image) (draft_carries a valid shaped image types interfaces are) (draft_covered a valid shaped image types interfaces are) interfaces_grow valid.no_cycles.uses
+        uses_acyclic (sources a) uses_rank a.graph g (good_items a.graph (good_things a.graph valid)) (sources_good a valid shaped image) (draft_carries a valid shaped image types interfaces are) (draft_covered a valid shaped image types interfaces are) interfaces_grow valid.no_cycles.uses
 
     carried : (k t : ℕ) (def : TypeDef) → slice_get (sources a k).graph.types t ≡ Some def → (sources a k).types t ≡ true → length a.graph.types ≤ (sources a k).maps.types t
         → SomeAt types ((sources a k).maps.types t) (λ (new : TypeDef). RefersUnder (sources a k).maps (referred def.kind) (referred new.kind))

@@ -37,7 +37,7 @@ use Rattle.wit_adding.specs.Standing.{own_world_goes}
 use Rattle.wit_adding_laws.specs.ListedWorlds.{TakesPart, cut, imports_apart, is_listed, listed_own, own_world_at}
 use Rattle.wit_adding_laws.specs.OwnThings.{own_world_from}
 use Rattle.wit_adding_laws.specs.Parts.{parts_of}
-use Rattle.wit_adding_laws.specs.PlacedFacts.{placed_into}
+use Rattle.wit_including_laws.specs.PlacedFacts.{placed_into}
 use Rattle.wit_adding_laws.specs.SourcesGood.{package_source}
 
 -- the laws of elaboration that are used, as their contracts give them

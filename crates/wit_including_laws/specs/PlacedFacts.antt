@@ -13,31 +13,14 @@ use Rattle.wit_relations.specs.MemberFacts.{Contains-cons_cases, Contains-flat_m
 use Rattle.wit_items.specs.Entries.{Entry}
 use Rattle.wit_graph.proofs.Filters.{Contains-filter}
 use Rattle.wit_growth.specs.CutIsGood.{distinct_kept}
-use Rattle.wit_growth.specs.ListFacts.{contained_at, from_map, old_or_new, place_of, same_at}
+use Rattle.wit_growth.specs.ListFacts.{contained_at, from_map, place_of, same_at}
 use Rattle.wit_growth.specs.PackagesAcyclic.{numbered_from, numbered_into}
+use Rattle.wit_including_laws.specs.KeysApart.{joined_apart}
 use Rattle.wit_labels.specs.Setters.{after, awaited, is_under, placed, places, waiting, wanted_getter}
 
 -- ---- keys of lists joined end to end
 
 module _ {K V : Type 0} where
-  -- two lists without a key of both
-  pub joined_apart : (es fs : List (K × V)) → HasDistinctKeys es → HasDistinctKeys fs → ((e f : K × V) → Contains es e → Contains fs f → e.0 ≡ f.0 → ⊥) → HasDistinctKeys (es ++ fs)
-  joined_apart es fs first second apart i j e f at at' same =
-      elim (old_or_new es fs i e at) [
-        | inl old ↦ elim (old_or_new es fs j f at') [
-          | inl other ↦ first i j e f old other same
-          | inr behind ↦ absurd (apart e f (contained_at es i e old) (contained_at fs behind.0 f behind.2) same)
-        ]
-        | inr behind ↦ elim (old_or_new es fs j f at') [
-          | inl other ↦ absurd (apart f e (contained_at es j f other) (contained_at fs behind.0 e behind.2) (sym same))
-          | inr other ↦
-              let one : behind.0 ≡ other.0 = second behind.0 other.0 e f behind.2 other.2 same in
-              let a = behind.1 in
-              let b = other.1 in
-              omega arith
-        ]
-      ]
-
   -- lists of which no two have a key of both
   pub flat_apart : {X : Type 0} (h : X → List (K × V)) (xs : List X) → ((i : ℕ) (x : X) → slice_get xs i ≡ Some x → HasDistinctKeys (h x))
       → ((i j : ℕ) (x y : X) (e f : K × V) → slice_get xs i ≡ Some x → slice_get xs j ≡ Some y → Contains (h x) e → Contains (h y) f → e.0 ≡ f.0 → i ≡ j) → HasDistinctKeys (flat_map h xs)

@@ -1,0 +1,1 @@
+//! Laws of including: the contract of each function is what is proved.
