@@ -45,7 +45,7 @@ pub fn join(
             }
         }
     }
-    entries.reverse(); Ok(Table::from_map(entries))
+    Ok(Table::from_map(entries))
 }
 
 /// Adds an entry under a new key to the end.
