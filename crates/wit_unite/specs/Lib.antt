@@ -1,3 +1,4 @@
+pub mod FunctionMismatch
 pub mod TurnCause
 pub mod TurnExamples
 pub mod TurnLaws
