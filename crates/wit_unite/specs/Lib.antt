@@ -1,3 +1,4 @@
+pub mod AllElaborated
 pub mod FunctionMismatch
 pub mod TurnCause
 pub mod TurnExamples
