@@ -1,5 +1,5 @@
 -- The worked rows compute.
-use Rattle.std.proofs.Common.{◌≡◌, ℕ, List, [], ◌∷◌, Option, Some, None, length, slice_get, slice_index_or, refl, ap, arith}
+use Rattle.std.proofs.Common.{◌≡◌, ℕ, List, [], length, slice_get, slice_index_or, refl, ap, arith}
 use Rattle.std.specs.List.{flat_map}
 use Rattle.std.specs.Option.{option_map_or}
 use Rattle.std.specs.Prelude.{unwrap_or}

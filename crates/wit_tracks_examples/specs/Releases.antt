@@ -1,5 +1,5 @@
 -- Graphs of several versions of package foo:x, each with an interface x, and of package foo:main, which comes last.
-use Rattle.std.specs.Prelude.{ℕ, List, [], ◌∷◌, ◌++◌, Option, Some, None, codes, length, map}
+use Rattle.std.specs.Prelude.{ℕ, List, [], ◌∷◌, ◌++◌, Some, None, codes, length, map}
 use Rattle.std.specs.List.{enumerate_from}
 use Rattle.wit_values.specs.Version.{Parts}
 use Rattle.wit_items.specs.declared.function.Function.{Function}
