@@ -1,0 +1,4 @@
+pub mod Rewritten
+pub mod TrackCause
+pub mod Tracks
+pub mod Upgrade
