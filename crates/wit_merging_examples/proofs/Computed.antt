@@ -1,7 +1,6 @@
 -- The examples that compute.
-use Rattle.std.proofs.Common.{◌≡◌, ℕ, List, [], ◌∷◌, length, flat_map, refl, ap, arith}
+use Rattle.std.proofs.Common.{◌≡◌, List, length, flat_map, refl, ap, arith}
 use Rattle.wit_relations.specs.Walks.{walk, walk_within}
-use Rattle.wit_items.specs.declared.types.TypeDef.{TypeDef}
 use Rattle.wit_items.specs.declared.world.World.{World}
 use Rattle.wit_graph.specs.Elaborated.{import_steps, import_steps_within}
 use Rattle.wit_graph.specs.declared.graph.Graph.{Graph}

@@ -1,24 +1,18 @@
 -- Small graphs that are merged.
-use Rattle.std.specs.Prelude.{ℕ, List, [], ◌∷◌, ◌++◌, Some, None, codes}
-use Rattle.wit_items.specs.Entries.{Entry}
+use Rattle.std.specs.Prelude.{ℕ, List, [], ◌∷◌, Some, None, codes}
 use Rattle.wit_items.specs.declared.function.Function.{Function}
-use Rattle.wit_items.specs.declared.function.FunctionKind.TheVariants as function
-use Rattle.wit_items.specs.declared.function.Param.{Param}
 use Rattle.wit_items.specs.declared.interface.Interface.{Interface}
 use Rattle.wit_items.specs.declared.package_name.PackageName.{PackageName}
 use Rattle.wit_items.specs.declared.stability.Stability.{Stability}
-use Rattle.wit_items.specs.declared.stability.Stability.TheVariants.{Unknown, Unstable}
+use Rattle.wit_items.specs.declared.stability.Stability.TheVariants.{Unstable}
 use Rattle.wit_items.specs.declared.types.Field.{Field}
-use Rattle.wit_items.specs.declared.types.Handle.TheVariants as handle
 use Rattle.wit_items.specs.declared.types.TypeDef.{TypeDef}
 use Rattle.wit_items.specs.declared.types.TypeDefKind.TheVariants as kind
-use Rattle.wit_items.specs.declared.types.TypeOwner.TheVariants as owner
 use Rattle.wit_items.specs.declared.types.Type_.{Type_}
 use Rattle.wit_items.specs.declared.types.Type_.TheVariants as type
 use Rattle.wit_items.specs.declared.world.World.{World}
-use Rattle.wit_items.specs.declared.world.WorldItem.TheVariants as item
 use Rattle.wit_items.specs.declared.world.WorldKey.TheVariants as key
-use Rattle.wit_graph.specs.Samples.{entry_of, foo_bar, foo_bar_of, function_of, instance, interface_of, no_docs, type_in, type_of, unnamed, world_of}
+use Rattle.wit_graph.specs.Samples.{entry_of, foo_bar, foo_bar_of, function_of, instance, interface_of, no_docs, type_in, world_of}
 use Rattle.wit_graph.specs.declared.graph.Graph.{Graph}
 use Rattle.wit_graph.specs.declared.graph.Package.{Package}
 use Rattle.wit_merging.specs.Matches.{Merging}

@@ -1,22 +1,18 @@
 -- Worked merges: which things are matched, where things go, and the whole graph that is made.
 use Rattle.std.specs.Prelude.{◌≡◌, ℕ, List, [], ◌∷◌, Some, None, codes}
-use Rattle.wit_items.specs.declared.interface.Interface.{Interface}
 use Rattle.wit_items.specs.declared.stability.Stability.{Stability}
-use Rattle.wit_items.specs.declared.stability.Stability.TheVariants.{Unknown}
 use Rattle.wit_items.specs.declared.types.Handle.TheVariants as handle
-use Rattle.wit_items.specs.declared.types.TypeDef.{TypeDef}
 use Rattle.wit_items.specs.declared.types.TypeDefKind.TheVariants as kind
-use Rattle.wit_items.specs.declared.types.TypeOwner.TheVariants as owner
 use Rattle.wit_items.specs.declared.types.Type_.TheVariants as type
 use Rattle.wit_items.specs.declared.world.WorldItem.TheVariants as item
 use Rattle.wit_items.specs.declared.world.WorldKey.TheVariants as key
 use Rattle.wit_graph.specs.Examples.{empty_graph}
-use Rattle.wit_graph.specs.Samples.{entry_of, foo_bar_of, function_of, instance, interface_of, no_docs, type_in, unnamed, world_of}
+use Rattle.wit_graph.specs.Samples.{entry_of, function_of, interface_of, no_docs, type_in, unnamed, world_of}
 use Rattle.wit_graph.specs.declared.graph.Graph.{Graph}
-use Rattle.wit_merging.specs.Matches.{Merging, found_interface, found_package, found_type, found_world}
-use Rattle.wit_merging.specs.Moved.{Going, going}
+use Rattle.wit_merging.specs.Matches.{found_interface, found_package, found_type, found_world}
+use Rattle.wit_merging.specs.Moved.{going}
 use Rattle.wit_merging.specs.United.{united}
-use Rattle.wit_merging_examples.specs.Graphs.{a_uses_b, alias_in, b_uses_a, foo_bar_alone, foo_named, gate_f, i_uses_j, inner, interface_in, merging, more, number_in, one_number, only_c, package_named, record_x, resource_t, three, two_numbers, world_of_i}
+use Rattle.wit_merging_examples.specs.Graphs.{a_uses_b, b_uses_a, foo_bar_alone, foo_named, gate_f, i_uses_j, inner, interface_in, merging, more, number_in, one_number, only_c, package_named, record_x, resource_t, three, two_numbers, world_of_i}
 
 -- what is matched, and where things go
 pub record ExamplesOfMatches : Type 0 where

@@ -2,4 +2,5 @@
 //! They stand beside the crates, so that none waits for them.
 #![tactic(auto)]
 
+pub mod refusals;
 pub mod unions;
