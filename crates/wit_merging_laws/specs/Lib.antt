@@ -1,0 +1,2 @@
+pub mod MergingLaws
+pub mod NothingFacts
