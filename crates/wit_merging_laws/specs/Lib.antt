@@ -1,2 +1,3 @@
+pub mod MatchFacts
 pub mod MergingLaws
 pub mod NothingFacts
