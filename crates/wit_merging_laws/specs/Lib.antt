@@ -1,5 +1,6 @@
 pub mod LeadFacts
 pub mod MatchFacts
+pub mod MatchedOnce
 pub mod MergingLaws
 pub mod NothingFacts
 pub mod TypesStand

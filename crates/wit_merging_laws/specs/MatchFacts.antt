@@ -106,6 +106,8 @@ module _ (m : Merging) (valid : IsValid m.graph) where
     pub into_is : slice_get m.graph.worlds w' ≡ Some into
     pub name : into.name ≡ from.name
     pub home : into.package ≡ option_map (package_place m) from.package
+    pub at : InTable (λ (there : Package). there.worlds) from.package from.name w'
+    pub home_at : into.package ≡ Some at.p'
 
   pub world_is : (w w' : ℕ) → found_world m w ≡ Some w' → WorldMatch w w'
   world_is w w' found =
@@ -113,22 +115,24 @@ module _ (m : Merging) (valid : IsValid m.graph) where
       let table = in_table (λ (there : Package). there.worlds) one.0.package one.0.name w' one.2 in
       let place = place_of table.there.worlds (one.0.name, w') table.has in
       let is = found_at (λ (world : World). (world.name ≡ one.0.name) × (world.package ≡ Some table.p')) m.graph.worlds w' (valid.well_formed.tables.world_tables table.p' table.there table.there_is place.0 (one.0.name, w') place.1) in
-      record { from = one.0; into = is.0; from_is = one.1; into_is = is.1; name = is.2.0; home = is.2.1 ∙ sym (home_goes one.0.package table.p table.p' table.home_is table.matched) }
+      record { from = one.0; into = is.0; from_is = one.1; into_is = is.1; name = is.2.0; home = is.2.1 ∙ sym (home_goes one.0.package table.p table.p' table.home_is table.matched); at = table; home_at = is.2.1 }
 
   -- an interface with a name that is found
-  record NamedIs (name : List ℕ) (home : Option ℕ) (i' : ℕ) : Type 0 where
-    into : Interface
-    into_is : slice_get m.graph.interfaces i' ≡ Some into
-    called : into.name ≡ Some name
-    home_is : into.package ≡ option_map (package_place m) home
+  pub record NamedIs (name : List ℕ) (home : Option ℕ) (i' : ℕ) : Type 0 where
+    pub into : Interface
+    pub into_is : slice_get m.graph.interfaces i' ≡ Some into
+    pub called : into.name ≡ Some name
+    pub home_is : into.package ≡ option_map (package_place m) home
+    pub at : InTable (λ (there : Package). there.interfaces) home name i'
+    pub home_at : into.package ≡ Some at.p'
 
-  named_is : (name : List ℕ) (home : Option ℕ) (i' : ℕ) → found_in (λ (there : Package). there.interfaces) m home name ≡ Some i' → NamedIs name home i'
+  pub named_is : (name : List ℕ) (home : Option ℕ) (i' : ℕ) → found_in (λ (there : Package). there.interfaces) m home name ≡ Some i' → NamedIs name home i'
   named_is name home i' found =
       let table = in_table (λ (there : Package). there.interfaces) home name i' found in
       let place = place_of table.there.interfaces (name, i') table.has in
       let is = found_at (λ (interface : Interface). (interface.name ≡ Some name) × (interface.package ≡ Some table.p')) m.graph.interfaces i'
       (valid.well_formed.tables.interface_tables table.p' table.there table.there_is place.0 (name, i') place.1) in
-      record { into = is.0; into_is = is.1; called = is.2.0; home_is = is.2.1 ∙ sym (home_goes home table.p table.p' table.home_is table.matched) }
+      record { into = is.0; into_is = is.1; called = is.2.0; home_is = is.2.1 ∙ sym (home_goes home table.p table.p' table.home_is table.matched); at = table; home_at = is.2.1 }
 
 -- ---- spots
 
