@@ -36,7 +36,7 @@ use Rattle.wit_adding.specs.Gates.{interface_is_active, is_foreign_interface}
 use Rattle.wit_adding.specs.Reasons.{HasImage}
 use Rattle.wit_adding.specs.Standing.{foreign_interface_goes, own_interface_goes}
 use Rattle.wit_adding_laws.specs.AcyclicFacts.{added_types_acyclic, added_uses_acyclic}
-use Rattle.wit_adding_laws.specs.InterfacesApart.{active_there, interfaces_apart}
+use Rattle.wit_adding.specs.ApartFacts.{active_there, interfaces_apart}
 use Rattle.wit_adding_laws.specs.ListedStage.{listed, listed_from, listed_parts, stage_carries, stage_covered}
 use Rattle.wit_adding_laws.specs.ListedWorlds.{TakesPart, cut, export_takes, import_takes}
 use Rattle.wit_adding_laws.specs.PartsStand.{interface_stands, old_interface_at, own_of_both}

@@ -34,7 +34,7 @@ use Rattle.wit_adding_laws.specs.CoveredWorlds.{old_world_comes}
 use Rattle.wit_adding_laws.specs.DraftStands.{graph_stays, package_stands}
 use Rattle.wit_adding_laws.specs.InterfacesCome.{interfaces_come}
 use Rattle.wit_adding_laws.specs.ListedWorlds.{TakesPart, cut, export_key, export_takes, images_apart, import_key, import_takes, own_world_at, was_export, was_import}
-use Rattle.wit_adding_laws.specs.OwnThings.{own_world_from}
+use Rattle.wit_adding.specs.OwnThingFacts.{own_world_from}
 use Rattle.wit_adding_laws.specs.Parts.{HasParts}
 use Rattle.wit_adding_laws.specs.SourcesGood.{package_source, sources}
 use Rattle.wit_adding_laws.specs.TypesCome.{types_come}
