@@ -1,4 +1,4 @@
-use Rattle.std.proofs.Common.{◌∙◌, ◌<◌, ap, sym, arith, length}
+use Rattle.std.proofs.Common.{◌∙◌, ap, sym, arith}
 use Rattle.wit_adding.specs.Adding.{addition_of}
 use Rattle.wit_adding.specs.Addition.{Addition}
 use Rattle.wit_adding.specs.FlagFacts.{interface-flag, interface-inside}
