@@ -20,7 +20,7 @@ use Rattle.wit_adding.specs.Include.{Begun, Lists, with_world_included}
 use Rattle.wit_adding.specs.Pushed.{finished, with_include}
 use Rattle.wit_adding.specs.WorldReasons.{IsShadowed, renamed_key}
 use Rattle.wit_labels.specs.Setters.{placed}
-use Rattle.wit_adding_laws.specs.ListedStage.{listed_worlds}
+use Rattle.wit_adding_laws.specs.ListedStage.{listed_images}
 use Rattle.wit_including_laws.specs.CopiesCarried.{IsUnshadowed}
 use Rattle.wit_including_laws.specs.FinishedStands.{finished_stands}
 use Rattle.wit_including_laws.specs.IncludedOnce.{included_stands}
@@ -45,7 +45,7 @@ begun_world a e lists = record (world_image (addition_maps a) e.0 e.1) { imports
 
 -- the stage: `before` stand finished, the world is begun, and behind it stand those to come
 abbrev pub staged : Addition → List World → ℕ → ℕ × World → Begun → Graph
-staged a before k e b = record b.graph { worlds = before ++ begun_world a e b.lists ∷ drop (suc k) (listed_worlds a) }
+staged a before k e b = record b.graph { worlds = before ++ begun_world a e b.lists ∷ drop (suc k) (listed_images a) }
 
 -- nothing is shadowed where a world comes into what is begun
 pub record IsFree (b : Begun) (include : WorldInclude) (old : World) : Type 0 where
@@ -57,7 +57,7 @@ module _ (a : Addition) (before : List World) (k : ℕ) (e : ℕ × World) (b : 
   from = world_place a include.id
 
   abbrev later : List World
-  later = drop (suc k) (listed_worlds a)
+  later = drop (suc k) (listed_images a)
 
   -- a finished world that is included
   abbrev pub including : (old : World) → slice_get before from ≡ Some old → Including (staged a before k e b)
@@ -107,8 +107,8 @@ module _ (laws : WorldLaws) (a : Addition) (before : List World) (k : ℕ) (e : 
 
   -- and the next stage stands
   pub finish_step : StandsSoFar (staged a before k e b) → (HasConflict (graph_uses b.graph) (placed b.lists.exports) → ⊥)
-      → StandsSoFar (record b.graph { worlds = before ++ finished a e.0 e.1 b ∷ drop (suc k) (listed_worlds a) })
+      → StandsSoFar (record b.graph { worlds = before ++ finished a e.0 e.1 b ∷ drop (suc k) (listed_images a) })
   finish_step stands none =
-      let later = drop (suc k) (listed_worlds a) in
+      let later = drop (suc k) (listed_images a) in
       finished_stands laws (staged a before k e b) stands (length before) (begun_world a e b.lists) (slice_get-behind before later (begun_world a e b.lists)) (finished a e.0 e.1 b) (finished_is none)
       (before ++ finished a e.0 e.1 b ∷ later) (slice_get-behind before later (finished a e.0 e.1 b)) (λ w apart. others_stay before later (finished a e.0 e.1 b) (begun_world a e b.lists) w apart)

@@ -31,7 +31,7 @@ use Rattle.wit_adding.specs.Reasons.{HasImage}
 use Rattle.wit_adding.specs.WorldReasons.{AtWorld, IncludeIsFine, WorldIsFine}
 use Rattle.wit_labels.specs.Setters.{placed}
 use Rattle.wit_adding_laws.specs.ListedOnce.{listed_stands}
-use Rattle.wit_adding_laws.specs.ListedStage.{listed, listed_worlds}
+use Rattle.wit_adding_laws.specs.ListedStage.{listed, listed_images}
 use Rattle.wit_adding_laws.specs.StageGrows.{HasMore, begun_more}
 use Rattle.wit_adding_laws.specs.StageSteps.{IsFree, begun_world, finish_step, finished_is, include_step, staged}
 use Rattle.wit_including_laws.specs.CanonicalStays.{canonical_longer}
@@ -41,7 +41,7 @@ use Rattle.wit_including_laws.specs.WorldLaws.{WorldLaws}
 
 -- the stage before world k
 abbrev pub stage : Addition → ℕ → Graph
-stage a k = record (with_worlds a k) { worlds = (with_worlds a k).worlds ++ drop k (listed_worlds a) }
+stage a k = record (with_worlds a k) { worlds = (with_worlds a k).worlds ++ drop k (listed_images a) }
 
 -- ---- one more
 
@@ -85,7 +85,7 @@ module _ (a : Addition) where
     -- before the first include it is as listed
     first_staged : staged a before k e (begun_at zero) ≡ stage a k
     first_staged =
-        let next = drop_at (listed_worlds a) k (world_image (addition_maps a) e.0 e.1) (at_map (λ (d : ℕ × World). world_image (addition_maps a) d.0 d.1) (own_worlds a) k e at) in
+        let next = drop_at (listed_images a) k (world_image (addition_maps a) e.0 e.1) (at_map (λ (d : ℕ × World). world_image (addition_maps a) d.0 d.1) (own_worlds a) k e at) in
         ap (λ (later : List World). let r : Graph = record (with_worlds a k) { worlds = before ++ later } in r) (sym next)
 
     -- nothing is shadowed by an include that is fine
@@ -137,10 +137,10 @@ module _ (a : Addition) where
     whole_more = begun_more a e.0 e.1 includes (with_worlds a k)
 
     -- the next stage
-    stage_next : stage a (suc k) ≡ record whole.graph { worlds = before ++ finished a e.0 e.1 whole ∷ drop (suc k) (listed_worlds a) }
+    stage_next : stage a (suc k) ≡ record whole.graph { worlds = before ++ finished a e.0 e.1 whole ∷ drop (suc k) (listed_images a) }
     stage_next =
         let done = finished a e.0 e.1 whole in
-        let later = drop (suc k) (listed_worlds a) in
+        let later = drop (suc k) (listed_images a) in
         ap (λ (g : Graph). let r : Graph = record g { worlds = g.worlds ++ later } in r) (with_worlds_next k e at)
         ∙ ap (λ (ws : List World). let r : Graph = record whole.graph { worlds = (ws ++ done ∷ []) ++ later } in r) whole_more.worlds_are
         ∙ ap (λ (ws : List World). let r : Graph = record whole.graph { worlds = ws } in r) (append_assoc before (done ∷ []) later)
@@ -151,7 +151,7 @@ module _ (a : Addition) where
       no_conflict : HasConflict (graph_uses whole.graph) (placed whole.lists.exports) → ⊥
       no_conflict conflict =
           let so_far = whole_stands stands fine.includes in
-          let there = slice_get-behind before (drop (suc k) (listed_worlds a)) (begun_world a e whole.lists) in
+          let there = slice_get-behind before (drop (suc k) (listed_images a)) (begun_world a e whole.lists) in
           let refused = (laws.refused whole.graph.types (graph_uses whole.graph) (placed whole.lists.imports) (placed whole.lists.exports) so_far.uses
           (placed_in_order (staged a before k e whole) so_far (length before) (begun_world a e whole.lists) there)).0 conflict in
           fine.exports (moved_by a.offset e.1.span) (key_text whole.graph.packages whole.graph.interfaces refused.0) (record {
@@ -185,11 +185,11 @@ module _ (a : Addition) where
               (subst (λ (interfaces : List Interface). IsAcyclic (uses_of whole.graph.types interfaces)) whole_more.interfaces_are so_far.uses) in
               subst (λ (types : List TypeDef). Elaborated types (uses_of types whole.graph.interfaces) world world) (sym whole_more.types_are)
               (subst (λ (interfaces : List Interface). Elaborated ((with_worlds a k).types ++ whole_more.types) (uses_of ((with_worlds a k).types ++ whole_more.types) interfaces) world world) (sym whole_more.interfaces_are)
-              (canonical_longer (stage a k) stands.items whole_more.types whole_more.interfaces laws.local stands.uses acyclic w world (slice_get-append before (drop k (listed_worlds a)) w world there) (canonical w world there)))
+              (canonical_longer (stage a k) stands.items whole_more.types whole_more.interfaces laws.local stands.uses acyclic w world (slice_get-append before (drop k (listed_images a)) w world there) (canonical w world there)))
 
           new_one : Elaborated whole.graph.types (graph_uses whole.graph) (finished a e.0 e.1 whole) (finished a e.0 e.1 whole)
           new_one =
-              let there = slice_get-behind before (drop (suc k) (listed_worlds a)) (begun_world a e whole.lists) in
+              let there = slice_get-behind before (drop (suc k) (listed_images a)) (begun_world a e whole.lists) in
               laws.again whole.graph.types (graph_uses whole.graph) (with_placed (begun_world a e whole.lists)) (finished a e.0 e.1 whole) so_far.uses
               (placed_in_order (staged a before k e whole) so_far (length before) (begun_world a e whole.lists) there) (finished_is laws a before k e whole no_conflict)
 
