@@ -1,5 +1,5 @@
 //! Laws of adding: the contract of each function is what is proved.
-ghost use Rattle.wit_adding_laws.specs.StageFacts.{IncludesCanBe, PushesStayValid, WorldsCanBe};
+ghost use Rattle.wit_adding_laws.specs.StageFacts.{IncludedAreThere, IncludesCanBe, PushesStayValid, WorldsCanBe};
 
 use wit_graph::laws::{
     conflicts_are_refused, elaborated_entries, elaborated_once, elaborates_once,
@@ -41,3 +41,8 @@ pub fn worlds_can_be()
     labels_stay();
     conflicts_are_refused();
 }
+
+/// The world that an include names is there when its turn comes.
+pub fn included_are_there()
+    ensures { IncludedAreThere }
+{}
