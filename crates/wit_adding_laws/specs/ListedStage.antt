@@ -30,7 +30,7 @@ use Rattle.wit_adding.specs.Pushed.{with_parts}
 use Rattle.wit_adding.specs.Ranks.{rank}
 use Rattle.wit_adding.specs.Reasons.{HasImage}
 use Rattle.wit_adding.specs.Standing.{own_world_goes}
-use Rattle.wit_adding_laws.specs.CoveredWorlds.{old_world_comes}
+use Rattle.wit_adding_laws.specs.OldWorlds.{old_world_comes}
 use Rattle.wit_adding_laws.specs.DraftStands.{graph_stays, package_stands}
 use Rattle.wit_adding_laws.specs.InterfacesCome.{interfaces_come}
 use Rattle.wit_adding_laws.specs.ListedWorlds.{TakesPart, cut, export_key, export_takes, images_apart, import_key, import_takes, own_world_at, was_export, was_import}
@@ -42,11 +42,11 @@ use Rattle.wit_including_laws.specs.CopiesCarried.{lists_type, type_listed}
 use Rattle.wit_including_laws.specs.Remains.{export_no_type, image_no_type}
 
 -- the worlds of the package that take part, as they are listed
-abbrev pub listed_worlds : Addition → List World
-listed_worlds a = map (λ (e : ℕ × World). world_image (addition_maps a) e.0 e.1) (own_worlds a)
+abbrev pub listed_images : Addition → List World
+listed_images a = map (λ (e : ℕ × World). world_image (addition_maps a) e.0 e.1) (own_worlds a)
 
 abbrev pub listed : Addition → Graph
-listed a = record (with_parts a) { worlds = a.graph.worlds ++ listed_worlds a }
+listed a = record (with_parts a) { worlds = a.graph.worlds ++ listed_images a }
 
 pub listed_parts : (a : Addition) → HasParts a (with_parts a).types (with_parts a).interfaces
 listed_parts a = record { types_are = refl; interfaces_are = refl }
@@ -111,7 +111,7 @@ module _ (a : Addition) (valid : IsValid a.graph) (shaped : IsShaped a.handed) (
 
   pub listed_from : (w' : ℕ) (world : World) → slice_get (listed a).worlds w' ≡ Some world → (slice_get a.graph.worlds w' ≡ Some world) ⊎ ((w : ℕ) × (whole : World) × IsListedOf w' world w whole)
   listed_from w' world at =
-      elim (old_or_new a.graph.worlds (listed_worlds a) w' world at) [
+      elim (old_or_new a.graph.worlds (listed_images a) w' world at) [
         | inl old ↦ inl old
         | inr later ↦
             let e = from_map (λ (e : ℕ × World). world_image (addition_maps a) e.0 e.1) (own_worlds a) later.0 world later.2 in
@@ -121,13 +121,13 @@ module _ (a : Addition) (valid : IsValid a.graph) (shaped : IsShaped a.handed) (
 
   listed_at : (w : ℕ) (whole : World) → TakesPart a w whole → slice_get (listed a).worlds (world_place a w) ≡ Some (world_image (addition_maps a) w (cut a whole))
   listed_at w whole of =
-      at_new a.graph.worlds (listed_worlds a) (rank (own_world a) w) (world_place a w) (world_image (addition_maps a) w (cut a whole)) (own_world_goes a w of.takes)
+      at_new a.graph.worlds (listed_images a) (rank (own_world a) w) (world_place a w) (world_image (addition_maps a) w (cut a whole)) (own_world_goes a w of.takes)
       (at_map (λ (e : ℕ × World). world_image (addition_maps a) e.0 e.1) (own_worlds a) (rank (own_world a) w) (w, cut a whole) (own_world_at a w whole of))
 
   -- ---- the sources stand, and all things come of them
 
   pub stage_stays : StaysIn a.graph (listed a)
-  stage_stays = graph_stays a valid shaped image (listed a) (listed_parts a) (λ w world at. slice_get-append a.graph.worlds (listed_worlds a) w world at)
+  stage_stays = graph_stays a valid shaped image (listed a) (listed_parts a) (λ w world at. slice_get-append a.graph.worlds (listed_images a) w world at)
 
   worlds_stand : (w : ℕ) (world : World) → slice_get (package_source a).graph.worlds w ≡ Some world → (part a).worlds w ≡ true → SomeAt (listed a).worlds ((addition_maps a).worlds w) (WorldStands (package_source a) w world)
   worlds_stand w world at takes =
