@@ -2,6 +2,7 @@ pub mod EntrySteps
 pub mod Firsts
 pub mod Kept
 pub mod KeysApart
+pub mod LabelsStay
 pub mod MapsAre
 pub mod NamedFilter
 pub mod NamesApart
