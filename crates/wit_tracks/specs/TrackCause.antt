@@ -86,3 +86,7 @@ pub data UpgradeCause (u : Upgrade) (w : ℕ) : ResolveErrorKind → Type 0 wher
 -- of the world at a place
 abbrev pub IsTrackCause : TrackRule → Graph → ℕ → ResolveErrorKind → Type 0
 IsTrackCause rule g w error = (world : World) × (slice_get g.worlds w ≡ Some world) × UpgradeCause (record { rule = rule; graph = g; world = world }) w error
+
+-- nothing speaks against it
+abbrev pub IsAccepted : TrackRule → Graph → ℕ → Type 0
+IsAccepted rule g w = (error : ResolveErrorKind) → IsTrackCause rule g w error → ⊥

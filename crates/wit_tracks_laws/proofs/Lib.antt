@@ -1,0 +1,5 @@
+mod Accepting
+mod Greatest
+mod KeptKeys
+mod Merged
+mod TypesAfter
