@@ -1,5 +1,6 @@
 pub mod InterfacesStand
 pub mod LeadFacts
+pub mod ListedStand
 pub mod MatchFacts
 pub mod MatchedOnce
 pub mod MergingLaws
