@@ -1,4 +1,5 @@
 pub mod InterfacesStand
+pub mod KeptFacts
 pub mod LeadFacts
 pub mod ListedStand
 pub mod MatchFacts

@@ -33,7 +33,7 @@ use Rattle.wit_graph.specs.declared.graph.Graph.{Graph}
 use Rattle.wit_growth.specs.CarriedImages.{function_itself_carried}
 use Rattle.wit_growth.specs.Covered.{EntryComes, IsNoType, ItemComes, WorldAt, WorldComes}
 use Rattle.wit_growth.specs.Cut.{mapped_source}
-use Rattle.wit_growth.specs.Image.{Maps, entry_image, identity, key_image, world_image}
+use Rattle.wit_growth.specs.Image.{Maps, entry_image, identity, item_image, key_image, world_image}
 use Rattle.wit_growth.specs.ImagesCome.{entry_image_comes}
 use Rattle.wit_growth.specs.ListFacts.{Contains-map, Contains-map_cases, at_map, at_new, contained_at, found_at, from_map, old_or_new, place_of, some_at}
 use Rattle.wit_growth.specs.Operations.{merge_sources}
@@ -52,6 +52,7 @@ use Rattle.wit_merging.specs.United.{joined_graph}
 use Rattle.wit_merging_laws.specs.InterfacesStand.{moved_interface_goes, partner_from, partner_is}
 use Rattle.wit_merging_laws.specs.MatchFacts.{goes_to, interface_is, some_by, some_same, world_is, world_type_is}
 use Rattle.wit_merging_laws.specs.MatchedOnce.{interface_once, world_once}
+use Rattle.wit_merging_laws.specs.NothingFacts.{map_same}
 use Rattle.wit_merging_laws.specs.TypesStand.{matched_some, moved_next}
 use Rattle.wit_merging_laws.specs.WholeFacts.{world_at}
 
@@ -212,3 +213,98 @@ module _ (m : Merging) (valid : IsValid m.graph) (valid_other : IsValid m.other)
       distinct_exports = subst (λ (es : List Entry). HasDistinctKeys es) (sym exports) (keys_kept (joined_entry false exported) (λ e. refl) into.exports (valid.well_formed.worlds.distinct_exports w' into there));
       no_includes = includes ∙ valid.well_formed.worlds.no_includes w' into there;
     }
+
+    -- nothing is joined to entries for which nothing is brought
+    unjoined : (es : List Entry) → es ≡ map (joined_entry false []) es
+    unjoined es = sym (map_same (joined_entry false []) es (λ i e at. refl))
+
+    pub stays_come : WorldComes at (joined_graph m) w' (joined_world m (w', into))
+    stays_come = by (partner (found_world m) m.other.worlds w')
+      where
+        by : (o : Option (ℕ × World)) → WorldComes at (joined_graph m) w' (option_map_or (λ (p : ℕ × World). with_world m p into) o into)
+        by None = with_comes [] [] into (unjoined into.imports) (unjoined into.exports) refl
+        by (Some p) = with_comes _ _ (with_world m p into) refl refl refl
+
+  -- ---- keys of worlds that move
+
+  matched_within : (i i' : ℕ) → found_interface m i ≡ Some i' → i' < length m.graph.interfaces
+  matched_within i i' found = let is = interface_is m valid valid_other i i' found in slice_get_within m.graph.interfaces i' is.into is.into_is
+
+  -- no two interfaces go to one
+  pub interfaces_apart : (i j : ℕ) → interface_place m i ≡ interface_place m j → i ≡ j
+  interfaces_apart i j same = elim (cases_Bool (moves_interface m i)) [
+    | inl goes ↦ elim (cases_Bool (moves_interface m j)) [
+      | inl goes_so ↦
+          let a = moved_interface_goes m i goes in
+          let b = moved_interface_goes m j goes_so in
+          rank-injective (moves_interface m) i j goes goes_so (omega (arith, a, b, same))
+      | inr stays ↦
+          let found = matched_some (found_interface m j) stays in
+          let a = moved_interface_goes m i goes in
+          let b = goes_to (found_interface m j) (length m.graph.interfaces + rank (moves_interface m) j) found.0 found.1 in
+          let within = matched_within j found.0 found.1 in
+          absurd (omega (arith, a, b, same, within))
+    ]
+    | inr stays ↦ elim (cases_Bool (moves_interface m j)) [
+      | inl goes_so ↦
+          let found = matched_some (found_interface m i) stays in
+          let a = goes_to (found_interface m i) (length m.graph.interfaces + rank (moves_interface m) i) found.0 found.1 in
+          let b = moved_interface_goes m j goes_so in
+          let within = matched_within i found.0 found.1 in
+          absurd (omega (arith, a, b, same, within))
+      | inr stays_so ↦
+          let found = matched_some (found_interface m i) stays in
+          let found_so = matched_some (found_interface m j) stays_so in
+          let a = goes_to (found_interface m i) (length m.graph.interfaces + rank (moves_interface m) i) found.0 found.1 in
+          let b = goes_to (found_interface m j) (length m.graph.interfaces + rank (moves_interface m) j) found_so.0 found_so.1 in
+          let one : found.0 ≡ found_so.0 = omega (arith, a, b, same) in
+          interface_once m valid valid_other i j found_so.0 (found.1 ∙ ap (λ (x : ℕ). Some x) one) found_so.1
+    ]
+  ]
+
+  keys_apart : (w : ℕ) (k l : WorldKey) → key_image (merge_maps m) w k ≡ key_image (merge_maps m) w l → k ≡ l
+  keys_apart w (key.Name a) (key.Name b) same = same
+  keys_apart w (key.Name a) (key.Interface j) same = cc
+  keys_apart w (key.Interface i) (key.Name b) same = cc
+  keys_apart w (key.Interface i) (key.Interface j) same = ap (λ (x : ℕ). key.Interface x) (interfaces_apart i j (one same))
+    where
+      one : {a b : ℕ} → key.Interface a ≡ key.Interface b → a ≡ b
+      one same = cc
+
+  images_distinct : (w : ℕ) (es : List Entry) → HasDistinctKeys es → HasDistinctKeys (map (entry_image (merge_maps m) w) es)
+  images_distinct w es distinct i j x y first second same =
+      let a = from_map (entry_image (merge_maps m) w) es i x first in
+      let b = from_map (entry_image (merge_maps m) w) es j y second in
+      distinct i j a.0 b.0 a.1 b.1 (keys_apart w a.0.0 b.0.0 (ap (λ (e : Entry). e.0) a.2 ∙ (same ∙ ap (λ (e : Entry). e.0) (sym b.2))))
+
+  no_type_imaged : (w : ℕ) (held : WorldItem) → IsNoType held → IsNoType (item_image (merge_maps m) w held)
+  no_type_imaged w (item.Interface i stability docs span external_id) none = tt
+  no_type_imaged w (item.Function f) none = tt
+  no_type_imaged w (item.Type_ t span) none = absurd none
+
+  pub moved_comes : (w : ℕ) (old : World) → slice_get m.other.worlds w ≡ Some old → WorldComes at (joined_graph m) (world_place m w) (world_image (merge_maps m) w old)
+  moved_comes w old there =
+      let source = world_at m.other valid_other (merge_maps m) w old there in
+      let takes = lt-ltb w (length m.other.worlds) (slice_get_within m.other.worlds w old there) in
+      record {
+        imports = λ i e on.
+            let from = from_map (entry_image (merge_maps m) w) old.imports i e on in
+            inl (subst (EntryComes at (world_place m w)) from.2 (entry_image_comes at 1 w old from.0 source takes (Contains-append_left old.imports old.exports from.0 (contained_at old.imports i from.0 from.1))));
+        exports = λ i e on.
+            let from = from_map (entry_image (merge_maps m) w) old.exports i e on in
+            inl (
+              subst (EntryComes at (world_place m w)) from.2 (entry_image_comes at 1 w old from.0 source takes (Contains-append_right old.imports old.exports from.0 (contained_at old.exports i from.0 from.1))),
+              subst (λ (d : Entry). IsNoType d.1) from.2 (no_type_imaged w from.0.1 (export_no_type m.other.interfaces from.0.0 from.0.1 (valid_other.well_formed.worlds.exports w old there i from.0 from.1))),
+            );
+        distinct_imports = images_distinct w old.imports (valid_other.well_formed.worlds.distinct_imports w old there);
+        distinct_exports = images_distinct w old.exports (valid_other.well_formed.worlds.distinct_exports w old there);
+        no_includes = refl;
+      }
+
+  -- each listed world comes of worlds of the two
+  pub worlds_come : (w' : ℕ) (new : World) → slice_get (joined_graph m).worlds w' ≡ Some new → WorldComes at (joined_graph m) w' new
+  worlds_come w' new there = by (world_at_from m w' new there)
+    where
+      by : WorldFrom m w' new → WorldComes at (joined_graph m) w' new
+      by (of_graph old is same) = subst (WorldComes at (joined_graph m) w') same (stays_come w' old is)
+      by (of_other w old is goes place same) = subst (WorldComes at (joined_graph m) w') same (subst (λ (k : ℕ). WorldComes at (joined_graph m) k (world_image (merge_maps m) w old)) (sym place) (moved_comes w old is))
