@@ -8,3 +8,4 @@ pub mod MergingLaws
 pub mod NothingFacts
 pub mod TypesStand
 pub mod WholeFacts
+pub mod WorldsStand
