@@ -5,4 +5,5 @@ pub mod Matches
 pub mod MismatchText
 pub mod Moved
 pub mod Reasons
+pub mod Staying
 pub mod United

@@ -1,8 +1,11 @@
 pub mod InterfacesStand
+pub mod KeptFacts
 pub mod LeadFacts
+pub mod ListedStand
 pub mod MatchFacts
 pub mod MatchedOnce
 pub mod MergingLaws
 pub mod NothingFacts
 pub mod TypesStand
 pub mod WholeFacts
+pub mod WorldsStand

@@ -1,4 +1,5 @@
 pub mod Examples
+pub mod Merging
 pub mod Named
 pub mod RunLaws
 pub mod Selection
