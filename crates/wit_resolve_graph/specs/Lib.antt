@@ -1,4 +1,5 @@
 pub mod Examples
+pub mod Grouping
 pub mod Named
 pub mod RunLaws
 pub mod Selection
