@@ -123,7 +123,7 @@ module _ (a : Addition) where
       let b = begun a e.0 e.1 g in
       keeps_on g b.graph (with_world a g e) (keeps_includes (length g.worlds) (active_includes a e.1) (record { graph = g; lists = lists_of (world_image (addition_maps a) e.0 e.1) })) (keeps_with_worlds b.graph (finished a e.0 e.1 b ∷ []))
 
-  keeps_worlds : (es : List (ℕ × World)) (g : Graph) → Keeps g (fold (with_world a) g es)
+  pub keeps_worlds : (es : List (ℕ × World)) (g : Graph) → Keeps g (fold (with_world a) g es)
   keeps_worlds [] g = keeps_all g
   keeps_worlds (e ∷ es) g = keeps_on g (with_world a g e) (fold (with_world a) (with_world a g e) es) (keeps_world g e) (keeps_worlds es (with_world a g e))
 
@@ -140,7 +140,7 @@ module _ (a : Addition) where
         names = (_, refl);
       }
 
-keeps_pushes : (features : Features) (g : Graph) (ps : List Handed) (new : Graph) (ids : List ℕ) → ArePushed features g ps new ids → Keeps g new
+pub keeps_pushes : (features : Features) (g : Graph) (ps : List Handed) (new : Graph) (ids : List ℕ) → ArePushed features g ps new ids → Keeps g new
 keeps_pushes features g [] new [] same = subst (Keeps g) (sym same) (keeps_all g)
 keeps_pushes features g (p ∷ ps) new (id ∷ ids) pushed =
     keeps_on g pushed.0 new (subst (Keeps g) (sym pushed.1.graph_is) (keeps_pushed (addition features g p.0 p.1))) (keeps_pushes features pushed.0 ps new ids pushed.2)
