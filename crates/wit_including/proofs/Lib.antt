@@ -1,1 +1,4 @@
 pub mod IncludeSteps
+pub mod OwnKeys
+pub mod RowsStay
+pub mod Several
