@@ -38,7 +38,7 @@ pub fn include(
     let into = WorldId::from_index(graph.worlds.len());
     let included = graph.worlds.at(include.id.index());
     check_names(alloc, include.span, &include.names, included)?;
-    let copies = add_copies(alloc, graph, include.id, into, home, &include.names)?;
+    let copies = add_copies(alloc, graph, include.id, &include.names, into, home)?;
     let included = graph.worlds.at(include.id.index());
     let imports = copies.entries(alloc, &included.imports)?;
     let exports = copies.entries(alloc, &included.exports)?;

@@ -3,6 +3,7 @@ pub mod Firsts
 pub mod InterfacesApart
 pub mod Kept
 pub mod KeysApart
+pub mod LabelsStay
 pub mod MapsAre
 pub mod NamedFilter
 pub mod NamesApart

@@ -7,6 +7,7 @@ use Rattle.wit_copying.specs.Copied.{maps_of}
 use Rattle.wit_joining.specs.Renamed.{AreRenamed}
 use Rattle.wit_including.specs.Included.{IsIncludeCause, IsIncluded, before_includes}
 use Rattle.wit_including.proofs.IncludeSteps.{IsStep, brought_is, go, names_cause, same_old, stay_apart, step_cause, step_exports_once, step_fine, step_graph, step_imports_once, step_world}
+use Rattle.wit_including.proofs.NamesThere.{names_there}
 use Rattle.wit_including.proofs.including.include.Goals as goal
 
 told_err : {T E : Type 0} {P Q : E → Type 0} (r : Result T E) → IsErrAnd r P → ((e : E) → P e → Q e) → IfErr r Q
@@ -38,6 +39,9 @@ returns-in_err-check_names-clause-cause c =
     subst (λ (x : ResolveErrorKind). (x ≡ OutOfMemory) ⊎ ((old : World) × IsIncluded (before_includes c.args.graph.now c.args.world) c.args.include.now old × IsIncludeCause c.args.home (before_includes c.args.graph.now c.args.world) c.args.include.now old x)) (sym same)
     (names_cause c.args.graph.now c.args.include.now c.args.home c.args.world c.at-included.result.now c.in_err-check_names.field-0.0 at c.in_err-check_names.ensures.cause))
 
+pub add_copies-requires-clause-named : goal.add_copies-requires-clause-named
+add_copies-requires-clause-named c = λ (old : World) at. names_there c.args.graph.now c.args.include.now.id old (c.requires.can old at)
+
 pub add_copies-requires-clause-apart : goal.add_copies-requires-clause-apart
 add_copies-requires-clause-apart c = λ (old : World) at. stay_apart c.args.graph.now c.args.include.now.id old (c.requires.can old at)
 
@@ -46,7 +50,7 @@ join_lists-requires-clause-imports c =
     let at : slice_get c.args.graph.now.worlds c.args.include.now.id ≡ Some c.at-included.result.now = search rules in
     let can = c.requires.can c.at-included.result.now at in
     let into_is : c.from_index-into.result ≡ length c.args.graph.now.worlds = search rules in
-    let copied = c.in_ok-copies.ensures.graph c.at-included.result.now at ∙ ap (λ (n : ℕ). with_copies c.args.graph.now c.args.include.now.id c.at-included.result.now (go c.args.graph.now c.args.include.now.id c.at-included.result.now c.args.include.now.names n c.args.home)) into_is in
+    let copied = c.in_ok-copies.ensures.ok c.at-included.result.now at ∙ ap (λ (n : ℕ). with_copies c.args.graph.now c.args.include.now.id c.at-included.result.now (go c.args.graph.now c.args.include.now.id c.at-included.result.now c.args.include.now.names n c.args.home)) into_is in
     let maps = c.in_ok-copies.ensures.maps c.at-included.result.now at ∙ ap (λ (n : ℕ). go c.args.graph.now c.args.include.now.id c.at-included.result.now c.args.include.now.names n c.args.home) into_is in
     let again : slice_get c.add_copies.new.graph.worlds c.args.include.now.id ≡ Some c.at-included-2.result.now = search rules in
     let same = same_old c.args.graph.now c.add_copies.new.graph c.args.include.now.id c.at-included.result.now c.at-included-2.result.now (go c.args.graph.now c.args.include.now.id c.at-included.result.now c.args.include.now.names (length c.args.graph.now.worlds) c.args.home) copied at again in
@@ -69,7 +73,7 @@ join_lists-requires-clause-exports c =
     let at : slice_get c.args.graph.now.worlds c.args.include.now.id ≡ Some c.at-included.result.now = search rules in
     let can = c.requires.can c.at-included.result.now at in
     let into_is : c.from_index-into.result ≡ length c.args.graph.now.worlds = search rules in
-    let copied = c.in_ok-copies.ensures.graph c.at-included.result.now at ∙ ap (λ (n : ℕ). with_copies c.args.graph.now c.args.include.now.id c.at-included.result.now (go c.args.graph.now c.args.include.now.id c.at-included.result.now c.args.include.now.names n c.args.home)) into_is in
+    let copied = c.in_ok-copies.ensures.ok c.at-included.result.now at ∙ ap (λ (n : ℕ). with_copies c.args.graph.now c.args.include.now.id c.at-included.result.now (go c.args.graph.now c.args.include.now.id c.at-included.result.now c.args.include.now.names n c.args.home)) into_is in
     let maps = c.in_ok-copies.ensures.maps c.at-included.result.now at ∙ ap (λ (n : ℕ). go c.args.graph.now c.args.include.now.id c.at-included.result.now c.args.include.now.names n c.args.home) into_is in
     let again : slice_get c.add_copies.new.graph.worlds c.args.include.now.id ≡ Some c.at-included-2.result.now = search rules in
     let same = same_old c.args.graph.now c.add_copies.new.graph c.args.include.now.id c.at-included.result.now c.at-included-2.result.now (go c.args.graph.now c.args.include.now.id c.at-included.result.now c.args.include.now.names (length c.args.graph.now.worlds) c.args.home) copied at again in
@@ -92,7 +96,7 @@ returns-clause-graph c =
     let at : slice_get c.args.graph.now.worlds c.args.include.now.id ≡ Some c.at-included.result.now = search rules in
     let can = c.requires.can c.at-included.result.now at in
     let into_is : c.from_index-into.result ≡ length c.args.graph.now.worlds = search rules in
-    let copied = c.in_ok-copies.ensures.graph c.at-included.result.now at ∙ ap (λ (n : ℕ). with_copies c.args.graph.now c.args.include.now.id c.at-included.result.now (go c.args.graph.now c.args.include.now.id c.at-included.result.now c.args.include.now.names n c.args.home)) into_is in
+    let copied = c.in_ok-copies.ensures.ok c.at-included.result.now at ∙ ap (λ (n : ℕ). with_copies c.args.graph.now c.args.include.now.id c.at-included.result.now (go c.args.graph.now c.args.include.now.id c.at-included.result.now c.args.include.now.names n c.args.home)) into_is in
     let maps = c.in_ok-copies.ensures.maps c.at-included.result.now at ∙ ap (λ (n : ℕ). go c.args.graph.now c.args.include.now.id c.at-included.result.now c.args.include.now.names n c.args.home) into_is in
     let again : slice_get c.add_copies.new.graph.worlds c.args.include.now.id ≡ Some c.at-included-2.result.now = search rules in
     let same = same_old c.args.graph.now c.add_copies.new.graph c.args.include.now.id c.at-included.result.now c.at-included-2.result.now (go c.args.graph.now c.args.include.now.id c.at-included.result.now c.args.include.now.names (length c.args.graph.now.worlds) c.args.home) copied at again in
@@ -115,7 +119,7 @@ returns-clause-world c =
     let at : slice_get c.args.graph.now.worlds c.args.include.now.id ≡ Some c.at-included.result.now = search rules in
     let can = c.requires.can c.at-included.result.now at in
     let into_is : c.from_index-into.result ≡ length c.args.graph.now.worlds = search rules in
-    let copied = c.in_ok-copies.ensures.graph c.at-included.result.now at ∙ ap (λ (n : ℕ). with_copies c.args.graph.now c.args.include.now.id c.at-included.result.now (go c.args.graph.now c.args.include.now.id c.at-included.result.now c.args.include.now.names n c.args.home)) into_is in
+    let copied = c.in_ok-copies.ensures.ok c.at-included.result.now at ∙ ap (λ (n : ℕ). with_copies c.args.graph.now c.args.include.now.id c.at-included.result.now (go c.args.graph.now c.args.include.now.id c.at-included.result.now c.args.include.now.names n c.args.home)) into_is in
     let maps = c.in_ok-copies.ensures.maps c.at-included.result.now at ∙ ap (λ (n : ℕ). go c.args.graph.now c.args.include.now.id c.at-included.result.now c.args.include.now.names n c.args.home) into_is in
     let again : slice_get c.add_copies.new.graph.worlds c.args.include.now.id ≡ Some c.at-included-2.result.now = search rules in
     let same = same_old c.args.graph.now c.add_copies.new.graph c.args.include.now.id c.at-included.result.now c.at-included-2.result.now (go c.args.graph.now c.args.include.now.id c.at-included.result.now c.args.include.now.names (length c.args.graph.now.worlds) c.args.home) copied at again in
@@ -138,7 +142,7 @@ returns-clause-fine c =
     let at : slice_get c.args.graph.now.worlds c.args.include.now.id ≡ Some c.at-included.result.now = search rules in
     let can = c.requires.can c.at-included.result.now at in
     let into_is : c.from_index-into.result ≡ length c.args.graph.now.worlds = search rules in
-    let copied = c.in_ok-copies.ensures.graph c.at-included.result.now at ∙ ap (λ (n : ℕ). with_copies c.args.graph.now c.args.include.now.id c.at-included.result.now (go c.args.graph.now c.args.include.now.id c.at-included.result.now c.args.include.now.names n c.args.home)) into_is in
+    let copied = c.in_ok-copies.ensures.ok c.at-included.result.now at ∙ ap (λ (n : ℕ). with_copies c.args.graph.now c.args.include.now.id c.at-included.result.now (go c.args.graph.now c.args.include.now.id c.at-included.result.now c.args.include.now.names n c.args.home)) into_is in
     let maps = c.in_ok-copies.ensures.maps c.at-included.result.now at ∙ ap (λ (n : ℕ). go c.args.graph.now c.args.include.now.id c.at-included.result.now c.args.include.now.names n c.args.home) into_is in
     let again : slice_get c.add_copies.new.graph.worlds c.args.include.now.id ≡ Some c.at-included-2.result.now = search rules in
     let same = same_old c.args.graph.now c.add_copies.new.graph c.args.include.now.id c.at-included.result.now c.at-included-2.result.now (go c.args.graph.now c.args.include.now.id c.at-included.result.now c.args.include.now.names (length c.args.graph.now.worlds) c.args.home) copied at again in
@@ -161,7 +165,7 @@ returns-clause-cause c =
     let at : slice_get c.args.graph.now.worlds c.args.include.now.id ≡ Some c.at-included.result.now = search rules in
     let can = c.requires.can c.at-included.result.now at in
     let into_is : c.from_index-into.result ≡ length c.args.graph.now.worlds = search rules in
-    let copied = c.in_ok-copies.ensures.graph c.at-included.result.now at ∙ ap (λ (n : ℕ). with_copies c.args.graph.now c.args.include.now.id c.at-included.result.now (go c.args.graph.now c.args.include.now.id c.at-included.result.now c.args.include.now.names n c.args.home)) into_is in
+    let copied = c.in_ok-copies.ensures.ok c.at-included.result.now at ∙ ap (λ (n : ℕ). with_copies c.args.graph.now c.args.include.now.id c.at-included.result.now (go c.args.graph.now c.args.include.now.id c.at-included.result.now c.args.include.now.names n c.args.home)) into_is in
     let maps = c.in_ok-copies.ensures.maps c.at-included.result.now at ∙ ap (λ (n : ℕ). go c.args.graph.now c.args.include.now.id c.at-included.result.now c.args.include.now.names n c.args.home) into_is in
     let again : slice_get c.add_copies.new.graph.worlds c.args.include.now.id ≡ Some c.at-included-2.result.now = search rules in
     let same = same_old c.args.graph.now c.add_copies.new.graph c.args.include.now.id c.at-included.result.now c.at-included-2.result.now (go c.args.graph.now c.args.include.now.id c.at-included.result.now c.args.include.now.names (length c.args.graph.now.worlds) c.args.home) copied at again in
