@@ -3,3 +3,6 @@ mod Greatest
 mod KeptKeys
 mod Merged
 mod TypesAfter
+mod TypesGood
+mod ValidRewriting
+mod WorldsGood
