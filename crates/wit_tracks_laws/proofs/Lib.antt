@@ -1,6 +1,7 @@
 mod Accepting
 mod Greatest
 mod KeptKeys
+mod KeptLabels
 mod Merged
 mod TypesAfter
 mod TypesGood
