@@ -1,5 +1,5 @@
 //! Laws of semver merging: the contract of each function is what is proved.
-ghost use Rattle.wit_tracks_laws.specs.TrackLaws.{ExportsAreKept, KeysAreExact, NewestIsGreatest, OneOnEachTrack};
+ghost use Rattle.wit_tracks_laws.specs.TrackLaws.{ExportsAreKept, KeysAreExact, LabelsAreKept, NewestIsGreatest, OneOnEachTrack, RewrittenStayValid};
 
 use wit_graph::laws::{
     conflicts_are_refused, elaborated_entries, elaborated_once, elaborates_once, export_keys_stay,
@@ -37,9 +37,35 @@ pub fn one_on_each_track()
     export_keys_stay();
 }
 
+/// The world's imports under labels stay as they were.
+pub fn labels_are_kept()
+    ensures { LabelsAreKept }
+{
+    elaborates_once();
+    elaborated_entries();
+    elaborated_once();
+    labels_stay();
+    imports_are_least();
+    conflicts_are_refused();
+    export_keys_stay();
+}
+
 /// The keys of the world's exports stay.
 pub fn exports_are_kept()
     ensures { ExportsAreKept }
+{
+    elaborates_once();
+    elaborated_entries();
+    elaborated_once();
+    labels_stay();
+    imports_are_least();
+    conflicts_are_refused();
+    export_keys_stay();
+}
+
+/// A valid graph stays valid, where no interface, type or package depends on itself after it.
+pub fn rewritten_stay_valid()
+    ensures { RewrittenStayValid }
 {
     elaborates_once();
     elaborated_entries();
