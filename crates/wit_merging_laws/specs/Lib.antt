@@ -7,5 +7,6 @@ pub mod MatchedOnce
 pub mod MergingLaws
 pub mod NothingFacts
 pub mod TypesStand
+pub mod UnitedWorlds
 pub mod WholeFacts
 pub mod WorldsStand

@@ -53,7 +53,7 @@ use Rattle.wit_merging_laws.specs.TypesStand as types
 use Rattle.wit_merging_laws.specs.TypesStand.{matched_some}
 use Rattle.wit_merging_laws.specs.WholeFacts.{interface_from, world_from}
 
-abbrev entry : WorldKey → WorldItem → Entry
+abbrev pub entry : WorldKey → WorldItem → Entry
 entry k held = (k, held)
 
 -- ---- types that worlds list
@@ -142,7 +142,7 @@ module _ (m : Merging) (valid : IsValid m.graph) (valid_other : IsValid m.other)
         same_into = some_same is.into into (sym is.into_is ∙ into_there)
 
         differs : {text : List ℕ} → differ.EntriesDiffer m (codes "import") is.from.imports is.into.imports text → ⊥
-        differs apart = one _ (differ.worlds (record { x = w; from = is.from; x' = w'; into = is.into; from_is = is.from_is; matched = found; into_is = is.into_is }) is.at.p home.0 false _ is.at.home_is home.1 apart)
+        differs other = one _ (differ.worlds (record { x = w; from = is.from; x' = w'; into = is.into; from_is = is.from_is; matched = found; into_is = is.into_is }) is.at.p home.0 false _ is.at.home_is home.1 other)
 
         listed : Contains is.from.imports (entry (key.Name name) held)
         listed = subst (λ (x : World). Contains x.imports (entry (key.Name name) held)) (sym same_old) has
