@@ -2,6 +2,5 @@ mod Added
 mod Checks
 mod FitsIsExact
 mod OneAfterAnother
-mod OneWorld
 mod Stages
 mod WorldsAreFine
