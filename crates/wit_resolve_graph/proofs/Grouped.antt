@@ -31,8 +31,7 @@ use Rattle.wit_adding.specs.Cause.{IsAccepted, duplicate_5}
 use Rattle.wit_adding.specs.Pushed.{pushed, with_parts}
 use Rattle.wit_link.specs.Appending.{IsAdded, addition}
 use Rattle.wit_link.specs.Groups.{FilesPassTheEnd, IsGroupsCause, IsPushCause, files_end, packages_of}
-use Rattle.wit_link.specs.Several.{ArePushed, IsOneRefused}
-use Rattle.wit_link.specs.Supported.{CanAppend, IsSupported, IsSupportedGroup}
+use Rattle.wit_link.specs.Several.{ArePushed, CanAppend, IsOneRefused}
 use Rattle.wit_placing.specs.Grown.{Begins}
 use Rattle.wit_placing.specs.GrownFacts.{Begins-then}
 use Rattle.wit_resolve_graph.specs.Grouping.{AreAdded}
@@ -116,21 +115,17 @@ module _ (old now : Sources) (groups : List Group) (group : Group) (placed : now
 
 -- ---- what can be added
 
-group_can : (at : ℕ) (main : UnresolvedPackage) (nested : List UnresolvedPackage) → IsShaped main → IsSupported main → Each IsShaped nested → Each IsSupported nested
-    → (rest : List Handed) → AllByRecursion CanAppend rest → AllByRecursion CanAppend (map (λ (u : UnresolvedPackage). (u, at)) (nested ++ main ∷ []) ++ rest)
-group_can at main [] shaped supported all_shaped all_supported rest can = (record { shaped = shaped; supported = supported }, can)
-group_can at main (u ∷ nested) shaped supported all_shaped all_supported rest can = (
-  record { shaped = all_shaped 0 u refl; supported = all_supported 0 u refl },
-  group_can at main nested shaped supported (λ i x there. all_shaped (suc i) x there) (λ i x there. all_supported (suc i) x there) rest can,
-)
+group_can : (at : ℕ) (main : UnresolvedPackage) (nested : List UnresolvedPackage) → IsShaped main → Each IsShaped nested → (rest : List Handed) → AllByRecursion CanAppend rest
+    → AllByRecursion CanAppend (map (λ (u : UnresolvedPackage). (u, at)) (nested ++ main ∷ []) ++ rest)
+group_can at main [] shaped all_shaped rest can = (shaped, can)
+group_can at main (u ∷ nested) shaped all_shaped rest can = (all_shaped 0 u refl, group_can at main nested shaped (λ i x there. all_shaped (suc i) x there) rest can)
 
-pub packages_can : (at : ℕ) (groups : List Group) → AllByRecursion IsGroupShaped groups → AllByRecursion IsSupportedGroup groups → AllByRecursion CanAppend (packages_of at groups)
-packages_can at [] shaped supported = tt
-packages_can at (g ∷ groups) shaped supported =
-    group_can at g.main g.nested shaped.0.main supported.0.main shaped.0.nested supported.0.nested (packages_of (at + g.source_map.end) groups) (packages_can (at + g.source_map.end) groups shaped.1 supported.1)
+pub packages_can : (at : ℕ) (groups : List Group) → AllByRecursion IsGroupShaped groups → AllByRecursion CanAppend (packages_of at groups)
+packages_can at [] shaped = tt
+packages_can at (g ∷ groups) shaped = group_can at g.main g.nested shaped.0.main shaped.0.nested (packages_of (at + g.source_map.end) groups) (packages_can (at + g.source_map.end) groups shaped.1)
 
 pub have_spans : (handed : List Handed) → AllByRecursion CanAppend handed → HaveSpans handed
-have_spans handed can = λ i p there. (AllByRecursion-at CanAppend handed i p can there).shaped.foreign.spans
+have_spans handed can = λ i p there. (AllByRecursion-at CanAppend handed i p can there).foreign.spans
 
 sorted_are : (handed : List Handed) (order : List ℕ) (sorted : List Handed) → AllByRecursion CanAppend handed → AllZip (λ i (p : Handed). slice_get handed i ≡ Some p) order sorted → AllByRecursion CanAppend sorted
 sorted_are handed [] [] can are = tt

@@ -6,7 +6,7 @@ ghost use Rattle.wit_graph.specs.declared.error_kind.ResolveErrorKind.{ResolveEr
 ghost use Rattle.wit_graph.specs.declared.error_kind.ResolveErrorKind.TheVariants.{OffsetOverflow, OutOfMemory};
 ghost use Rattle.wit_items.specs.declared.unresolved.UnresolvedPackage.{UnresolvedPackage};
 ghost use Rattle.wit_link.specs.Groups.{FilesPassTheEnd, IsPushCause, files_end, packages_of};
-ghost use Rattle.wit_link.specs.Supported.{CanAppend};
+ghost use Rattle.wit_link.specs.Several.{CanAppend};
 ghost use Rattle.wit_placing.specs.Grown.{Begins};
 ghost use Rattle.wit_resolve_graph.specs.Grouping.{AreAdded};
 ghost use Rattle.wit_resolve_graph.specs.Step.{with_files};

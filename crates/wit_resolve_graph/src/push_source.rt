@@ -4,7 +4,6 @@ ghost use Rattle.wit_graph.specs.declared.error_kind.ResolveErrorKind.{ResolveEr
 ghost use Rattle.wit_items.specs.Shape.{IsGroupShaped};
 ghost use Rattle.wit_items.specs.declared.unresolved.UnresolvedPackageGroup.{UnresolvedPackageGroup};
 ghost use Rattle.wit_link.specs.Groups.{IsGroupsCause};
-ghost use Rattle.wit_link.specs.Supported.{IsSupportedGroup};
 ghost use Rattle.wit_resolve_graph.specs.Sources.{IsNotPlaced, IsPlaced, MayParse, PushesSource, RefusesSource};
 ghost use Rattle.wit_resolve_graph.specs.declared.sources.ParseFault.TheVariants as parse;
 ghost use Rattle.wit_resolve_graph.specs.Sources.{only_file};
@@ -20,8 +19,7 @@ impl Resolve {
     /// Adds what a parse makes of one file, as `push_group` does, and answers the main package's id. The
     /// parse is given the source map of this file.
     ///
-    /// So far the parse answers groups that `push_group` takes. Refused as
-    /// `push_group`, where the file would pass 4294967295 (27), and for memory, also where the parse
+    /// Refused as `push_group`, where the file would pass 4294967295 (27), and for memory, also where the parse
     /// wants it (28). Where the parse can't read the text, its files go to the end of the sources and
     /// its span is moved with them; where they don't fit it is 27, and nothing has changed.
     pub fn push_source<F: FnOnce(SourceMap) -> Result<UnresolvedPackageGroup, ParseFault> + Drop>(
@@ -33,7 +31,6 @@ impl Resolve {
     ) -> Result<PackageId, SourceFault>
         requires callable { F.IsAlwaysCallable parse }
         requires shaped { (group : UnresolvedPackageGroup) → MayParse F.FnOnce parse path.now contents.now (Ok group) → IsGroupShaped group }
-        requires supported { (group : UnresolvedPackageGroup) → MayParse F.FnOnce parse path.now contents.now (Ok group) → IsSupportedGroup group }
         ensures ok { IfOk result (λ id. PushesSource F.FnOnce parse self.old path.now contents.now id self.new) }
         ensures err { IfErr result (λ fault. RefusesSource F.FnOnce parse self.old path.now contents.now fault self.new) }
         ensures refuses { ((group : UnresolvedPackageGroup) → MayParse F.FnOnce parse path.now contents.now (Ok group) → (kind : ResolveErrorKind) × IsGroupsCause self.old.features self.old.graph self.old.source_map.end (group ∷ []) kind) → OnOk result ⊥ }

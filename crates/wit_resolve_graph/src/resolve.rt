@@ -11,7 +11,6 @@ ghost use Rattle.wit_sources.specs.SourceMap.{with_sources};
 ghost use Rattle.wit_adding.specs.Cause.{IsCause};
 ghost use Rattle.wit_link.specs.Appending.{IsAdded, addition};
 ghost use Rattle.wit_link.specs.Groups.{IsGroupsCause};
-ghost use Rattle.wit_link.specs.Supported.{IsSupported, IsSupportedGroup};
 ghost use Rattle.wit_resolve_graph.specs.Selection.{IsSaid, selected_world};
 ghost use Rattle.wit_resolve_graph.specs.State.{new_state};
 ghost use Rattle.wit_resolve_graph.specs.Step.{PushesGroups, RefusesGroups, with_feature};
@@ -164,8 +163,7 @@ impl Resolve {
 
     /// Adds a package, its spans moved by an offset, and answers its id.
     ///
-    /// So far no world of the package includes another. Refused as `wit_link::append` says (1 to 5, 9 to 15, 17, 18,
-    /// 27), and for memory (28); nothing has changed then.
+    /// Refused as `wit_link::append` says (1 to 5, 7 to 18, 27), and for memory (28); nothing has changed then.
     pub fn push(
         &mut self,
         alloc: Global,
@@ -173,7 +171,6 @@ impl Resolve {
         span_offset: u32,
     ) -> ResolveResult<PackageId>
         requires shaped { IsShaped «package» }
-        requires supported { IsSupported «package» }
         ensures ok { IfOk result (λ id. IsAdded (addition self.old.features self.old.graph «package» span_offset) self.new.graph id) }
         ensures features { self.new.features ≡ self.old.features }
         ensures source_map { self.new.source_map ≡ self.old.source_map }
@@ -192,7 +189,6 @@ impl Resolve {
         group: UnresolvedPackageGroup,
     ) -> ResolveResult<PackageId>
         requires shaped { IsGroupShaped group }
-        requires supported { IsSupportedGroup group }
         ensures ok { IfOk result (λ id. PushesGroups self.old group [] id self.new) }
         ensures err { IfErr result (λ kind. RefusesGroups self.old group [] kind self.new) }
         ensures refuses { (kind : ResolveErrorKind) → IsGroupsCause self.old.features self.old.graph self.old.source_map.end (group ∷ []) kind → OnOk result ⊥ }
@@ -204,9 +200,8 @@ impl Resolve {
     /// their names, and puts the groups' files at the end of the source map, the main group's first.
     /// Answers the id of the main group's main package.
     ///
-    /// So far no world of them includes another. Refused where two packages have one name (5), where they
-    /// depend on each other or one on itself (6), and as `push` where one of them is; the packages are as
-    /// before then. The files are at the end of the source map after a refusal, but after 27 nowhere, and
+    /// Refused where two packages have one name (5), where they depend on each other or one on itself (6),
+    /// and as `push` where one of them is; the packages are as before then. The files are at the end of the source map after a refusal, but after 27 nowhere, and
     /// after 28 there or not.
     pub fn push_groups(
         &mut self,
@@ -215,7 +210,6 @@ impl Resolve {
         deps: Items<UnresolvedPackageGroup>,
     ) -> ResolveResult<PackageId>
         requires shaped { AllByRecursion IsGroupShaped (main ∷ deps) }
-        requires supported { AllByRecursion IsSupportedGroup (main ∷ deps) }
         ensures ok { IfOk result (λ id. PushesGroups self.old main deps id self.new) }
         ensures err { IfErr result (λ kind. RefusesGroups self.old main deps kind self.new) }
         ensures refuses { (kind : ResolveErrorKind) → IsGroupsCause self.old.features self.old.graph self.old.source_map.end (main ∷ deps) kind → OnOk result ⊥ }

@@ -6,7 +6,7 @@ use Rattle.wit_resolve_graph.proofs.resolve.Resolve.push_groups.Goals as goal
 use Rattle.wit_resolve_graph.proofs.resolve.Resolve.push_groups.Goals.{then-is_offset_overflow, else-is_offset_overflow}
 
 pub add_packages-pushed-requires-clause-packages : goal.add_packages-pushed-requires-clause-packages
-add_packages-pushed-requires-clause-packages c = rw c.in_ok-packages.ensures.ok (packages_can c.self.inside.source_map.end (c.args.main ∷ c.args.deps) c.requires.shaped c.requires.supported)
+add_packages-pushed-requires-clause-packages c = rw c.in_ok-packages.ensures.ok (packages_can c.self.inside.source_map.end (c.args.main ∷ c.args.deps) c.requires.shaped)
 
 pub add_packages-pushed-requires-clause-named : goal.add_packages-pushed-requires-clause-named
 add_packages-pushed-requires-clause-named c = rw (c.in_ok-packages.ensures.ok, c.in_ok-name.ensures) (main_named c.self.inside.source_map.end c.args.main c.args.deps)
