@@ -6,6 +6,7 @@ pub mod MatchFacts
 pub mod MatchedOnce
 pub mod MergingLaws
 pub mod NothingFacts
+pub mod PackagesStand
 pub mod TypesStand
 pub mod UnitedWorlds
 pub mod WholeFacts
