@@ -40,7 +40,7 @@ use Rattle.wit_adding_laws.specs.Parts.{HasParts}
 use Rattle.wit_adding_laws.specs.PartsStand.{interface_stands, old_interface_at, old_type_at, type_stands, values_stand_there}
 use Rattle.wit_adding_laws.specs.SourcesGood.{package_source, sources}
 use Rattle.wit_adding_laws.specs.TypesCome.{types_come}
-use Rattle.wit_including_laws.specs.CopiesCarried.{lists_type, type_listed}
+use Rattle.wit_including_laws.specs.ListedTypes.{lists_type, type_listed}
 use Rattle.wit_including_laws.specs.Remains.{export_no_type, image_no_type}
 
 -- the worlds of the package that take part, as they are listed
