@@ -32,7 +32,8 @@ use Rattle.wit_growth.specs.ListFacts.{Contains-map, contained_at, found_at, get
 use Rattle.wit_growth.specs.Operations.{include_source}
 use Rattle.wit_growth.specs.Sources.{IsGoodSource}
 use Rattle.wit_adding.specs.Include.{entry_mentions, goes_with, interface_mentions, mentioned, owner_goes_with}
-use Rattle.wit_including_laws.specs.Mentioned.{GoesOrNamed, IsWith, entry_is, entry_mentioned, mentioned_refers, mentioned_with, owner_of_own}
+use Rattle.wit_including_laws.specs.Among.{owner_of_own}
+use Rattle.wit_including_laws.specs.Mentioned.{GoesOrNamed, IsWith, entry_is, entry_mentioned, mentioned_refers, mentioned_with}
 use Rattle.wit_including_laws.specs.OnItsWay.{StandsSoFar}
 use Rattle.wit_including_laws.specs.Truth.{all_pass, and_both, and_parts, or_cases, or_left, or_right, passes}
 

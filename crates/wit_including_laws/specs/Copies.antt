@@ -27,7 +27,8 @@ use Rattle.wit_adding.specs.RankFacts.{rank-injective, taken-at, taken_places-fr
 use Rattle.wit_adding.specs.Ranks.{rank, taken, taken_places}
 use Rattle.wit_including_laws.specs.CopiedPart.{copied_part, goes_parts, goes_within, is_mentioned, mentioned_takes}
 use Rattle.wit_including_laws.specs.IncludedWorld.{Including, IsIncluded, joined_world, maps}
-use Rattle.wit_including_laws.specs.Mentioned.{apart, in_rows, mentioned_refers, mentioned_with, named_stays, owned_has, owned_is, owner_of_own}
+use Rattle.wit_including_laws.specs.Among.{owner_of_own}
+use Rattle.wit_including_laws.specs.Mentioned.{apart, in_rows, mentioned_refers, mentioned_with, named_stays, owned_has, owned_is}
 use Rattle.wit_including_laws.specs.OnItsWay.{StandsSoFar}
 use Rattle.wit_including_laws.specs.Truth.{and_both, and_parts, one_passes, or_cases, or_left, or_right, passing}
 

@@ -36,6 +36,7 @@ use Rattle.wit_including_laws.specs.Copies.{copy_at, interface_copy_at, interfac
 use Rattle.wit_including_laws.specs.CopiedPart.{copied_part, has_name, is_mentioned, named_is}
 use Rattle.wit_including_laws.specs.IncludedWorld.{Including, IsIncluded, brought, is_other, joined_world, maps}
 use Rattle.wit_including_laws.specs.JoinedFacts.{JoinsList, label_comes}
+use Rattle.wit_including_laws.specs.ListedTypes.{ListsType, lists_type, type_listed}
 use Rattle.wit_including_laws.specs.Mentioned.{owned_is}
 use Rattle.wit_including_laws.specs.OnItsWay.{StandsSoFar}
 use Rattle.wit_including_laws.specs.Truth.{or_cases}
@@ -44,30 +45,6 @@ use Rattle.wit_including_laws.specs.Truth.{or_cases}
 pub record IsUnshadowed (g : Graph) (i : Including g) : Type 0 where
   pub imports : (n : List ℕ) → IsShadowed i.host.imports (map (λ (e : Entry). renamed_key i.names e.0) i.old.imports) n → ⊥
   pub exports : (n : List ℕ) → IsShadowed i.host.exports (map (λ (e : Entry). renamed_key i.names e.0) i.old.exports) n → ⊥
-
--- an entry that lists a type is a type under that label
-pub record ListsType (e : Entry) (name : List ℕ) (t : ℕ) : Type 0 where
-  pub span : Option (ℕ × ℕ)
-  pub key_is : e.0 ≡ key.Name name
-  pub held_is : e.1 ≡ item.Type_ t span
-
-pub lists_type : (e : Entry) (name : List ℕ) (t : ℕ) → Contains (listed_type e.0 e.1) (name, t) → ListsType e name t
-lists_type e name t has = by e.0 e.1 refl refl has
-  where
-    by : (k : WorldKey) (held : WorldItem) → e.0 ≡ k → e.1 ≡ held → Contains (listed_type k held) (name, t) → ListsType e name t
-    by (key.Name label) (item.Type_ u span) is holds has =
-        elim (Contains-cons_cases (label, u) (name, t) [] has) [
-          | inl same ↦ record { span = span; key_is = is ∙ (λ i. key.Name (same i).0); held_is = holds ∙ (λ i. item.Type_ (same i).1 span) }
-          | inr none ↦ absurd (Contains-nil none)
-        ]
-    by (key.Name label) (item.Interface i stability docs span external_id) is holds has = absurd (Contains-nil has)
-    by (key.Name label) (item.Function fn) is holds has = absurd (Contains-nil has)
-    by (key.Interface f) held is holds has = absurd (Contains-nil has)
-
-pub type_listed : (e : Entry) (name : List ℕ) (t : ℕ) → ListsType e name t → Contains (listed_type e.0 e.1) (name, t)
-type_listed e name t is =
-    subst (λ (k : WorldKey). Contains (listed_type k e.1) (name, t)) (sym is.key_is)
-    (subst (λ (held : WorldItem). Contains (listed_type (key.Name name) held) (name, t)) (sym is.held_is) (Contains-here (name, t) []))
 
 -- a type that is there stays as it is where a list is joined
 joined_type : (other : Bool) (brought : List Entry) (e : Entry) (name : List ℕ) (t : ℕ) → ListsType e name t → joined_entry other brought e ≡ e

@@ -36,7 +36,7 @@ use Rattle.wit_growth.specs.OnePlaceFrom.{cut_has_one_place}
 use Rattle.wit_growth.specs.Sources.{Carries, IsGoodSource, Source}
 use Rattle.wit_adding.specs.Behind.{with_placed}
 use Rattle.wit_labels.specs.Setters.{placed}
-use Rattle.wit_including_laws.specs.CopiesCarried.{lists_type, type_listed}
+use Rattle.wit_including_laws.specs.ListedTypes.{lists_type, type_listed}
 use Rattle.wit_including_laws.specs.OnItsWay.{StandsSoFar}
 use Rattle.wit_including_laws.specs.PlacedFacts.{placed_in, placed_into}
 use Rattle.wit_including_laws.specs.PlacedWorlds.{exported_named, exports_distinct, imports_distinct, placed_in_order, used_named}

@@ -31,9 +31,10 @@ use Rattle.wit_including_laws.specs.Copies.{interface_goes, interface_stays, int
 use Rattle.wit_including_laws.specs.CopiedPart.{copied_part, goes_parts, has_name, named_is}
 use Rattle.wit_including_laws.specs.CopiesCarried.{IsUnshadowed, joins_exports, joins_imports}
 use Rattle.wit_including_laws.specs.IncludedAcyclic.{included_types_acyclic, included_uses_acyclic}
-use Rattle.wit_including_laws.specs.IncludedCovered.{included_carries, included_covered, joined_one, new_interface, sources, sources_good}
+use Rattle.wit_including_laws.specs.IncludedCovered.{included_carries, included_covered, sources, sources_good}
 use Rattle.wit_including_laws.specs.IncludedWorld.{Including, IsIncluded, brought, is_other, joined_world, maps}
 use Rattle.wit_including_laws.specs.JoinedFacts.{from_brought, joined_cases}
+use Rattle.wit_including_laws.specs.JoinedItems.{joined_one, new_interface}
 use Rattle.wit_including_laws.specs.OnItsWay.{StandsSoFar}
 use Rattle.wit_including_laws.specs.Truth.{or_cases}
 
