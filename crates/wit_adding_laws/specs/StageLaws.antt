@@ -1,16 +1,11 @@
 -- What is known before each include, and before each world is finished, of any addition whose worlds are fine so far.
-use Rattle.std.proofs.Common.{◌≡◌, ◌∙◌, ℕ, suc, ◌<◌, List, drop, length, take, Some, slice_get, refl, sym, subst, arith}
+use Rattle.std.proofs.Common.{◌≡◌, ℕ, suc, List, drop, length, take, Some, slice_get, sym, subst, arith}
 use Rattle.std.proofs.lemmas.Option.{slice_get_within}
 use Rattle.wit_values.specs.Lists.{slice_get-append, slice_get-behind}
-use Rattle.wit_items.specs.Shape.{IsShaped}
 use Rattle.wit_items.specs.declared.world.World.{World}
-use Rattle.wit_graph.specs.Valid.{IsValid}
-use Rattle.wit_graph.specs.declared.graph.Graph.{Graph}
 use Rattle.wit_adding.specs.Addition.{Addition, active_includes, own_worlds, world_place}
-use Rattle.wit_adding.specs.Cause.{IncludeIsReached, IsReached}
 use Rattle.wit_adding.specs.Include.{Begun}
 use Rattle.wit_adding.specs.Pushed.{begun, begun_with, with_worlds}
-use Rattle.wit_adding.specs.WorldReasons.{AtInclude}
 use Rattle.wit_adding_laws.specs.ListedStage.{listed_images}
 use Rattle.wit_adding_laws.specs.StageFacts.{CanFinishBegun, CanInclude, IncludesCanBe, IsOnItsWay, WorldsCanBe}
 use Rattle.wit_adding_laws.specs.StageGrows.{begun_more}

@@ -1,16 +1,14 @@
 -- The stages of an addition, one after another: before each world, before each of its includes, and before it is
 -- finished, what is there is on its way.
-use Rattle.std.proofs.Common.{◌≡◌, ◌∙◌, inl, inr, ℕ, zero, suc, ◌+◌, ◌<◌, ◌≤◌, List, [], ◌∷◌, ◌++◌, drop, fold, map, take, length, Option, None, Some, slice_get, refl, sym, ap, subst, arith, codes}
+use Rattle.std.proofs.Common.{◌≡◌, ◌∙◌, inl, inr, ℕ, zero, suc, ◌<◌, ◌≤◌, List, [], ◌∷◌, ◌++◌, drop, fold, take, length, Some, slice_get, refl, sym, ap, subst, arith, codes}
 use Rattle.std.proofs.Math.Numerals.{add-one}
 use Rattle.std.proofs.lemmas.Bool.{cases_lt}
 use Rattle.std.proofs.lemmas.List.{append_assoc, take_all}
 use Rattle.std.proofs.lemmas.List.Sums.{fold-append}
-use Rattle.std.proofs.lemmas.Option.{slice_get_within}
 use Rattle.wit_values.specs.Lists.{push-cases, slice_get-append, slice_get-behind, take-next_at}
 use Rattle.wit_relations.specs.Relation.{IsAcyclic}
 use Rattle.wit_sources.specs.Span.{moved_by}
 use Rattle.wit_items.specs.Each.{Each}
-use Rattle.wit_items.specs.Shape.{IsShaped}
 use Rattle.wit_items.specs.Uses.{uses_of}
 use Rattle.wit_items.specs.declared.interface.Interface.{Interface}
 use Rattle.wit_items.specs.declared.types.TypeDef.{TypeDef}
@@ -25,13 +23,12 @@ use Rattle.wit_growth.specs.Image.{world_image}
 use Rattle.wit_growth.specs.ListFacts.{at_map, get_at}
 use Rattle.wit_adding.specs.Addition.{Addition, active_includes, addition_maps, own_worlds, world_place}
 use Rattle.wit_adding.specs.Behind.{with_placed}
-use Rattle.wit_adding.specs.Include.{Begun, lists_of}
+use Rattle.wit_adding.specs.Include.{Begun}
 use Rattle.wit_adding.specs.Pushed.{begun, begun_with, finished, with_include, with_parts, with_world, with_worlds}
 use Rattle.wit_adding.specs.Reasons.{HasImage}
-use Rattle.wit_adding.specs.WorldReasons.{AtWorld, IncludeIsFine, WorldIsFine}
+use Rattle.wit_adding.specs.WorldReasons.{IncludeIsFine, WorldIsFine}
 use Rattle.wit_labels.specs.Setters.{placed}
-use Rattle.wit_adding_laws.specs.ListedOnce.{listed_stands}
-use Rattle.wit_adding_laws.specs.ListedStage.{listed, listed_images}
+use Rattle.wit_adding_laws.specs.ListedStage.{listed_images}
 use Rattle.wit_adding_laws.specs.StageGrows.{HasMore, begun_more}
 use Rattle.wit_adding_laws.specs.StageSteps.{IsFree, begun_world, finish_step, finished_is, include_step, staged}
 use Rattle.wit_including_laws.specs.CanonicalStays.{canonical_longer}

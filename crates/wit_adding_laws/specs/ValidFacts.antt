@@ -1,5 +1,5 @@
 -- A valid graph to which a package is added is valid: each stage is on its way, and the last is the whole.
-use Rattle.std.proofs.Common.{◌≡◌, ◌∙◌, ℕ, zero, suc, ◌<◌, ◌≤◌, List, [], ◌++◌, drop, fold, map, take, length, Some, slice_get, refl, sym, ap, subst, arith}
+use Rattle.std.proofs.Common.{◌≡◌, ◌∙◌, ℕ, zero, suc, ◌≤◌, List, [], ◌++◌, drop, fold, map, length, ap, subst, arith}
 use Rattle.std.proofs.Math.ListN.{drop_of_length-le}
 use Rattle.std.proofs.lemmas.List.{append-nil, length-map, take_all}
 use Rattle.wit_items.specs.Each.{Each}
@@ -50,7 +50,6 @@ module _ (laws : WorldLaws) (a : Addition) (valid : IsValid a.graph) (shaped : I
       next_canonical a k e.0 e.1 laws image (stage_stands k (omega arith) (λ i below. reached i (omega arith))) (reached k (omega arith)) (stage_canonical k (omega arith) (λ i below. reached i (omega arith)))
 
   -- ---- the last is the whole
-
 
   all_worlds : with_worlds a (length (own_worlds a)) ≡ pushed a
   all_worlds = ap (fold (with_world a) (with_parts a)) (take_all (length (own_worlds a)) (own_worlds a) (omega arith))
