@@ -35,11 +35,12 @@ use Rattle.wit_adding.specs.Addition.{Addition, added_owns, addition_maps, inter
 use Rattle.wit_adding.specs.ClosedCut.{closed_part}
 use Rattle.wit_adding.specs.Gates.{interface_is_active, is_foreign_interface, type_is_active}
 use Rattle.wit_adding.specs.Lookup.{is_foreign_type}
+use Rattle.wit_adding.specs.OwnThingFacts.{own_of_both}
 use Rattle.wit_adding.specs.Reasons.{HasImage}
 use Rattle.wit_adding.specs.Standing.{foreign_interface_goes, foreign_type, listed_is}
 use Rattle.wit_adding_laws.specs.ListedStage.{listed, stage_carries, stage_covered}
 use Rattle.wit_adding_laws.specs.Parts.{HasParts}
-use Rattle.wit_adding_laws.specs.PartsStand.{own_interface_at, own_of_both, own_type_at}
+use Rattle.wit_adding_laws.specs.PartsStand.{own_interface_at, own_type_at}
 use Rattle.wit_adding_laws.specs.SourcesGood.{sources, sources_good}
 
 -- ---- what goes behind the old things is the package's own

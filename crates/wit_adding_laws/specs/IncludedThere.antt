@@ -17,7 +17,7 @@ use Rattle.wit_adding.specs.RankFacts.{rank-strict}
 use Rattle.wit_adding.specs.Reasons.{HasImage, of_include}
 use Rattle.wit_adding.specs.Standing.{foreign_world_within, own_world_goes}
 use Rattle.wit_adding_laws.specs.Grown.{grown}
-use Rattle.wit_adding_laws.specs.OwnThings.{own_world_from}
+use Rattle.wit_adding.specs.OwnThingFacts.{own_world_from}
 use Rattle.wit_adding_laws.specs.StageFacts.{IncludedAreThere}
 use Rattle.wit_adding_laws.specs.StageGrows.{begun_more}
 

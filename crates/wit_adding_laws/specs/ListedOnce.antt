@@ -25,13 +25,14 @@ use Rattle.wit_growth.specs.OnePlaceFrom.{HasOnePlace-from_once, cut_has_one_pla
 use Rattle.wit_growth.specs.Sources.{InterfaceStands, Source}
 use Rattle.wit_adding.specs.Addition.{Addition, addition_maps, interface_place, part}
 use Rattle.wit_adding.specs.Gates.{interface_is_active, is_foreign_interface}
+use Rattle.wit_adding.specs.OwnThingFacts.{own_of_both}
 use Rattle.wit_adding.specs.Reasons.{HasImage}
 use Rattle.wit_adding.specs.Standing.{foreign_interface_goes, own_interface_goes}
 use Rattle.wit_adding_laws.specs.AcyclicFacts.{added_types_acyclic, added_uses_acyclic}
-use Rattle.wit_adding_laws.specs.InterfacesApart.{active_there, interfaces_apart}
+use Rattle.wit_adding.specs.ApartFacts.{active_there, interfaces_apart}
 use Rattle.wit_adding_laws.specs.ListedStage.{listed, listed_from, listed_parts, stage_carries, stage_covered}
 use Rattle.wit_adding_laws.specs.ListedWorlds.{TakesPart, cut, export_takes, import_takes}
-use Rattle.wit_adding_laws.specs.PartsStand.{interface_stands, old_interface_at, own_of_both}
+use Rattle.wit_adding_laws.specs.PartsStand.{interface_stands, old_interface_at}
 use Rattle.wit_including_laws.specs.IncludedOnce.{held_within}
 use Rattle.wit_including_laws.specs.OnItsWay.{StandsSoFar}
 use Rattle.wit_adding_laws.specs.SourcesGood.{package_source, sources, sources_good}

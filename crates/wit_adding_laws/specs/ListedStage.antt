@@ -32,7 +32,7 @@ use Rattle.wit_adding.specs.Standing.{own_world_goes}
 use Rattle.wit_adding_laws.specs.OldWorlds.{old_world_comes}
 use Rattle.wit_adding_laws.specs.InterfacesCome.{interfaces_come}
 use Rattle.wit_adding_laws.specs.ListedWorlds.{TakesPart, cut, export_key, export_takes, images_apart, import_key, import_takes, own_world_at, was_export, was_import}
-use Rattle.wit_adding_laws.specs.OwnThings.{own_world_from}
+use Rattle.wit_adding.specs.OwnThingFacts.{own_world_from}
 use Rattle.wit_adding_laws.specs.Parts.{HasParts}
 use Rattle.wit_adding_laws.specs.PartsStand.{interface_stands, old_interface_at, old_type_at, type_stands, values_stand_there}
 use Rattle.wit_adding_laws.specs.SourcesGood.{package_source, sources}

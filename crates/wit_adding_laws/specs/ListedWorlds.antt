@@ -22,15 +22,15 @@ use Rattle.wit_growth.specs.Image.{entry_image, item_image, key_image, name_imag
 use Rattle.wit_growth.specs.ListFacts.{Contains-map_cases, at_map, contained_at, found_at, from_map, place_of, some_at}
 use Rattle.wit_growth.specs.Sources.{Stands}
 use Rattle.wit_adding.specs.Addition.{Addition, active, addition_maps, interface_place, own_world, own_worlds, part, type_place, world_place}
+use Rattle.wit_adding.specs.ApartFacts.{KeyTakesPart, keys_apart}
 use Rattle.wit_adding.specs.Behind.{with_placed}
 use Rattle.wit_adding.specs.ClosedCut.{closed_part}
 use Rattle.wit_adding.specs.Gates.{interface_is_active}
+use Rattle.wit_adding.specs.OwnThingFacts.{own_world_from}
 use Rattle.wit_adding.specs.RankFacts.{taken_places-at}
 use Rattle.wit_adding.specs.Ranks.{rank, taken_places}
 use Rattle.wit_adding.specs.Reasons.{HasImage}
-use Rattle.wit_adding_laws.specs.InterfacesApart.{KeyTakesPart, keys_apart}
 use Rattle.wit_adding_laws.specs.NamedAliases.{aliases_named, interface_within, named_goes}
-use Rattle.wit_adding_laws.specs.OwnThings.{own_world_from}
 use Rattle.wit_adding_laws.specs.Parts.{HasParts}
 use Rattle.wit_adding_laws.specs.PartsStand.{type_stands}
 use Rattle.wit_including_laws.specs.PlacedFacts.{placed_distinct, placed_in}

@@ -24,7 +24,7 @@ use Rattle.wit_adding.specs.RankFacts.{taken_places-at}
 use Rattle.wit_adding.specs.Ranks.{rank, taken_places}
 use Rattle.wit_adding.specs.Reasons.{HasImage}
 use Rattle.wit_adding_laws.specs.NamesOnce.{distinct_interfaces, table_entry}
-use Rattle.wit_adding_laws.specs.OwnThings.{own_interface_from}
+use Rattle.wit_adding.specs.OwnThingFacts.{own_interface_from}
 use Rattle.wit_adding_laws.specs.Grown.{IsGrown, part_at}
 use Rattle.wit_adding_laws.specs.ListedStage.{listed_parts}
 use Rattle.wit_adding_laws.specs.PartsStand.{old_interface_at, own_interface_at}

@@ -22,7 +22,7 @@ use Rattle.wit_adding.specs.Standing.{own_world_goes}
 use Rattle.wit_adding_laws.specs.Grown.{IsCalled, IsGrown}
 use Rattle.wit_adding_laws.specs.ListedWorlds.{TakesPart, cut, own_world_at}
 use Rattle.wit_adding_laws.specs.NamesOnce.{at_drop, place_once}
-use Rattle.wit_adding_laws.specs.OwnThings.{own_part, own_world_from}
+use Rattle.wit_adding.specs.OwnThingFacts.{own_part, own_world_from}
 
 -- ---- lists
 

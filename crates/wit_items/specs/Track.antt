@@ -5,6 +5,8 @@
 use Rattle.std.specs.Prelude.{ℕ, ◌==◌, List, [], ◌∷◌, drop, length, Option, None, Some, decimal, if◌then◌else◌}
 use Rattle.semver.specs.Identifiers.{parts_text}
 use Rattle.wit_values.specs.Version.{Parts}
+use Rattle.wit_items.specs.declared.track.TrackRule.{TrackRule}
+use Rattle.wit_items.specs.declared.track.TrackRule.TheVariants.{Published, WithPrereleases}
 
 -- of a release, by its numbers: the major one, or the minor one where the major one is 0, or the whole
 abbrev pub release_track : ℕ → ℕ → ℕ → Parts
@@ -14,6 +16,11 @@ release_track major minor patch =
 -- the track; of a pre-release it is the pre-release itself, and the build metadata never counts
 abbrev pub track_of : Parts → Parts
 track_of v = if length v.3 == 0 then release_track v.0 v.1 v.2 else (v.0, v.1, v.2, v.3, [])
+
+-- the track by a rule: that of above, or the one by which a pre-release stands on the track of its release
+abbrev pub track_by : TrackRule → Parts → Parts
+track_by Published v = track_of v
+track_by WithPrereleases v = release_track v.0 v.1 v.2
 
 -- the text of the track of a release
 abbrev pub release_track_text : ℕ → ℕ → ℕ → List ℕ

@@ -10,6 +10,15 @@ use std::alloc::{AllocError, Global};
 use std::fmt;
 use wit_values::Version;
 
+/// The rule by which a version stands on a track.
+#[derive(Clone, Copy, Debug, PartialEq, Eq)]
+pub enum TrackRule {
+    /// A pre-release stands on a track of its own.
+    Published,
+    /// A pre-release stands on the track of its release.
+    WithPrereleases,
+}
+
 impl PackageName {
     /// The track of a version, and what remains of the version's text after the text of the track, None
     /// where nothing does: 1.2.3 is on 1.0.0 with `.2.3`, 0.2.1+b on 0.2.0 with `.1+b`.

@@ -1,3 +1,5 @@
+pub mod AllElaborated
+pub mod FunctionMismatch
 pub mod TurnCause
 pub mod TurnExamples
 pub mod TurnLaws

@@ -1,0 +1,5 @@
+pub mod Rewritten
+pub mod TrackCause
+pub mod Tracked
+pub mod Tracks
+pub mod Upgrade

@@ -1,0 +1,68 @@
+-- Merges against which nothing speaks.
+use Rattle.std.proofs.Common.{◌≡◌, ◌∙◌, ℕ, Bool, true, false, List, Option, Some, is_some, slice_get, sym, ap, subst, Contains}
+use Rattle.std.proofs.lemmas.Bool.{false≢true}
+use Rattle.std.specs.List.{list_all}
+use Rattle.std.specs.Option.{option_map_or}
+use Rattle.wit_relations.specs.Cycles.{IsOnCycle}
+use Rattle.wit_items.specs.Reference.{type_references}
+use Rattle.wit_items.specs.declared.types.TypeDef.{TypeDef}
+use Rattle.wit_items.specs.declared.track.TrackRule.{TrackRule}
+use Rattle.wit_items.specs.declared.world.World.{World}
+use Rattle.wit_graph.specs.Elaboration.{graph_uses}
+use Rattle.wit_graph.specs.Imported.{HasConflict}
+use Rattle.wit_graph.specs.declared.error_kind.ResolveErrorKind.{ResolveErrorKind}
+use Rattle.wit_graph.specs.declared.graph.Graph.{Graph}
+use Rattle.wit_unite.specs.AllElaborated.{graph_package_uses}
+use Rattle.wit_tracks.specs.Rewritten.{following, relisted_at, replaced_use, target_name, type_named}
+use Rattle.wit_tracks.specs.TrackCause.{Disagrees, IsComplete, IsTrackCause, UpgradeCause, conflict_4, functions_disagree_25, interface_cycle_22, package_cycle_6, type_cycle_23, type_missing_25}
+use Rattle.wit_tracks.specs.Upgrade.{Upgrade, newest}
+use Rattle.wit_tracks_examples.proofs.Tests.{all_are, some_same}
+
+module _ (u : Upgrade) where
+  -- does the newest have the type of this name?
+  abbrev has_name : ℕ → List ℕ → Bool
+  has_name f name = is_some (type_named u.graph.interfaces (newest u f) name)
+
+  abbrev has_target_of : TypeDef → ℕ → Bool
+  has_target_of def f = option_map_or (has_name f) (target_name u.graph.types def) true
+
+  abbrev has_target_in : ℕ → TypeDef → Bool
+  has_target_in t def = option_map_or (has_target_of def) (replaced_use u t) true
+
+  -- is there a type to name in the place of what type t names?
+  abbrev pub has_target : ℕ → Bool
+  has_target t = option_map_or (has_target_in t) (slice_get u.graph.types t) true
+
+  pub complete : list_all has_target (following u) ≡ true → IsComplete u
+  complete all message lacks =
+      let one : option_map_or (has_target_in lacks.t) (Some lacks.def) true ≡ true =
+      ap (λ (o : Option TypeDef). option_map_or (has_target_in lacks.t) o true) (sym lacks.is) ∙ all_are has_target (following u) all lacks.t lacks.follows in
+      let two : option_map_or (has_target_of lacks.def) (Some lacks.f) true ≡ true = ap (λ (o : Option ℕ). option_map_or (has_target_of lacks.def) o true) (sym lacks.uses) ∙ one in
+      let three : option_map_or (has_name lacks.f) (Some lacks.name) true ≡ true = ap (λ (o : Option (List ℕ)). option_map_or (has_name lacks.f) o true) (sym lacks.named) ∙ two in
+      let four : false ≡ true = ap (λ (o : Option ℕ). is_some o) (sym lacks.absent) ∙ three in
+      false≢true four
+
+-- what nothing speaks against
+pub record Clear (u : Upgrade) (w : ℕ) : Type 0 where
+  pub is_complete : IsComplete u
+  pub agrees : (message : List ℕ) → Disagrees u message → ⊥
+  pub packages : (p q : ℕ) → IsOnCycle (graph_package_uses (relisted_at u w)) p q → ⊥
+  pub interfaces : (i j : ℕ) → IsOnCycle (graph_uses (relisted_at u w)) i j → ⊥
+  pub types : (s t : ℕ) → IsOnCycle (type_references (relisted_at u w).types) s t → ⊥
+  pub exports : (world : World) → Contains (relisted_at u w).worlds world → HasConflict (graph_uses (relisted_at u w)) world.exports → ⊥
+
+clear_is_fine : (u : Upgrade) (w : ℕ) (error : ResolveErrorKind) → Clear u w → UpgradeCause u w error → ⊥
+clear_is_fine u w error clear (conflict_4 span name complete is) = clear.exports is.world is.there is.conflict
+clear_is_fine u w error clear (package_cycle_6 home complete is) = clear.packages is.p is.q is.on_cycle
+clear_is_fine u w error clear (interface_cycle_22 message complete is) = clear.interfaces is.i is.j is.on_cycle
+clear_is_fine u w error clear (type_cycle_23 message complete is) = clear.types is.t is.u is.on_cycle
+clear_is_fine u w error clear (type_missing_25 message lacks) = clear.is_complete message lacks
+clear_is_fine u w error clear (functions_disagree_25 message disagrees) = clear.agrees message disagrees
+
+abbrev upgrade_of : TrackRule → Graph → World → Upgrade
+upgrade_of rule g world = record { rule = rule; graph = g; world = world }
+
+pub is_fine : (rule : TrackRule) (g : Graph) (w : ℕ) (world : World) → slice_get g.worlds w ≡ Some world → Clear (upgrade_of rule g world) w → (error : ResolveErrorKind) → IsTrackCause rule g w error → ⊥
+is_fine rule g w world there clear error cause =
+    let same : world ≡ cause.0 = some_same world cause.0 (sym there ∙ cause.1) in
+    clear_is_fine (upgrade_of rule g world) w error clear (subst (λ (x : World). UpgradeCause (upgrade_of rule g x) w error) (sym same) cause.2)

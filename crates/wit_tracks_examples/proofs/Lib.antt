@@ -1,0 +1,5 @@
+mod Reasons
+mod Fine
+mod Mismatches
+mod Rows
+mod Tests

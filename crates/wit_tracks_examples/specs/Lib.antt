@@ -1,0 +1,3 @@
+pub mod CauseExamples
+pub mod Releases
+pub mod RewrittenExamples

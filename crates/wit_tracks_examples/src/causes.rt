@@ -1,0 +1,12 @@
+//! Why imports aren't merged by tracks, and graphs that just lack the reason.
+ghost use Rattle.wit_tracks_examples.specs.CauseExamples.{ExamplesOfCauses, ExamplesOfMismatches};
+
+/// For each reason a graph that has it, and one that lacks it and is fine.
+pub fn examples_of_causes()
+    ensures { ExamplesOfCauses }
+{}
+
+/// Functions of one name that disagree, and that don't.
+pub fn examples_of_mismatches()
+    ensures { ExamplesOfMismatches }
+{}

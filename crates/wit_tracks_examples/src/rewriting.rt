@@ -1,0 +1,12 @@
+//! Worked graphs: what semver merging makes of them, and what it doesn't.
+ghost use Rattle.wit_tracks_examples.specs.RewrittenExamples.{ExamplesOfRewriting, ExamplesOfRules};
+
+/// Worlds that import several versions, among them all worked rows.
+pub fn examples_of_rewriting()
+    ensures { ExamplesOfRewriting }
+{}
+
+/// Pre-releases under both rules of tracks.
+pub fn examples_of_rules()
+    ensures { ExamplesOfRules }
+{}

@@ -1,0 +1,9 @@
+mod Accepting
+mod Greatest
+mod KeptKeys
+mod KeptLabels
+mod Merged
+mod TypesAfter
+mod TypesGood
+mod ValidRewriting
+mod WorldsGood

@@ -1,0 +1,61 @@
+-- Laws of semver merging, by whatever rule of tracks.
+use Rattle.std.specs.Prelude.{◌≡◌, ◌↔◌, ℕ, true, false, Some, slice_get, Contains}
+use Rattle.std.specs.Map.{keys_of}
+use Rattle.std.specs.declared.cmp.Ordering.TheVariants.{Greater}
+use Rattle.wit_values.specs.Version.{version_cmp}
+use Rattle.wit_items.specs.declared.track.TrackRule.{TrackRule}
+use Rattle.wit_items.specs.declared.world.World.{World}
+use Rattle.wit_items.specs.declared.world.WorldKey.{WorldKey}
+use Rattle.wit_graph.specs.Entries.{ids_of}
+use Rattle.wit_graph.specs.KeptByElaboration.{labelled}
+use Rattle.wit_graph.specs.Valid.{IsValid}
+use Rattle.wit_graph.specs.declared.graph.Graph.{Graph}
+use Rattle.wit_relations.specs.Relation.{IsAcyclic}
+use Rattle.wit_unite.specs.AllElaborated.{graph_package_uses}
+use Rattle.wit_tracks.specs.Rewritten.{rewritten}
+use Rattle.wit_tracks.specs.TrackCause.{IsAccepted}
+use Rattle.wit_tracks.specs.Tracks.{Versioned, are_on_one_track, versioned}
+use Rattle.wit_tracks.specs.Upgrade.{Upgrade, imported, is_replaced, newest}
+
+-- what stands for a replaced interface is an import on its track, which stays, and no import there is of a greater
+-- version
+pub record IsGreatest (u : Upgrade) (f n : ℕ) : Type 0 where
+  pub is_imported : Contains (imported u) n
+  pub on_track : are_on_one_track u.rule u.graph.packages u.graph.interfaces f n ≡ true
+  pub stays : is_replaced u n ≡ false
+  pub greatest : (j : ℕ) (v w : Versioned) → Contains (imported u) j → are_on_one_track u.rule u.graph.packages u.graph.interfaces n j ≡ true
+      → versioned u.graph.packages u.graph.interfaces j ≡ Some v → versioned u.graph.packages u.graph.interfaces n ≡ Some w → version_cmp v.version w.version ≡ Greater → ⊥
+
+abbrev pub NewestIsGreatest : Type 0
+NewestIsGreatest = (u : Upgrade) (f : ℕ) → is_replaced u f ≡ true → IsGreatest u f (newest u f)
+
+-- a merge of a valid graph against which nothing speaks, of world `old` at place w, which becomes `new`
+pub record IsMerged (rule : TrackRule) (g : Graph) (w : ℕ) (old new : World) : Type 0 where
+  pub valid : IsValid g
+  pub there : slice_get g.worlds w ≡ Some old
+  pub accepted : IsAccepted rule g w
+  pub is : slice_get (rewritten rule g w).worlds w ≡ Some new
+
+-- the interfaces that the world imports under their own keys are exactly the former ones less the replaced: nothing
+-- comes back and nothing new is needed
+abbrev pub KeysAreExact : Type 0
+KeysAreExact = (rule : TrackRule) (g : Graph) (w : ℕ) (old new : World) (j : ℕ) → IsMerged rule g w old new
+    → Contains (ids_of new.imports) j ↔ (Contains (ids_of old.imports) j × (is_replaced (record { rule = rule; graph = g; world = old }) j ≡ false))
+
+-- no two of them are on one track
+abbrev pub OneOnEachTrack : Type 0
+OneOnEachTrack = (rule : TrackRule) (g : Graph) (w : ℕ) (old new : World) (i j : ℕ) → IsMerged rule g w old new → Contains (ids_of new.imports) i → Contains (ids_of new.imports) j
+    → are_on_one_track rule (rewritten rule g w).packages (rewritten rule g w).interfaces i j ≡ true → i ≡ j
+
+-- the imports under labels stay as they were
+abbrev pub LabelsAreKept : Type 0
+LabelsAreKept = (rule : TrackRule) (g : Graph) (w : ℕ) (old new : World) → IsMerged rule g w old new → labelled new.imports ≡ labelled old.imports
+
+-- and so do the keys of the exports
+abbrev pub ExportsAreKept : Type 0
+ExportsAreKept = (rule : TrackRule) (g : Graph) (w : ℕ) (old new : World) (k : WorldKey) → IsMerged rule g w old new → Contains (keys_of new.exports) k ↔ Contains (keys_of old.exports) k
+
+-- and the graph stays valid, where no package depends on itself after it
+abbrev pub RewrittenStayValid : Type 0
+RewrittenStayValid = (rule : TrackRule) (g : Graph) (w : ℕ) (old : World) → IsValid g → slice_get g.worlds w ≡ Some old → IsAccepted rule g w
+    → IsAcyclic (graph_package_uses (rewritten rule g w)) → IsValid (rewritten rule g w)
