@@ -1,7 +1,6 @@
 -- The first stage of an addition: the graph with the package's types and interfaces, and behind its worlds those of the
 -- package as they are listed. Its things come of the graph and of the package, and these stand in it.
-use Rattle.std.proofs.Common.{◌≡◌, ◌∙◌, ◌⊎◌, inl, inr, ℕ, zero, suc, true, List, ◌++◌, map, length, None, Some, slice_get, refl, sym, ap, subst, Contains}
-use Rattle.std.specs.List.{flat_map}
+use Rattle.std.proofs.Common.{◌≡◌, ◌∙◌, ◌⊎◌, inl, inr, ℕ, zero, suc, true, List, ◌++◌, map, None, Some, slice_get, refl, sym, ap, subst, Contains}
 use Rattle.std.proofs.lemmas.List.Elements.{Contains-append_left, Contains-append_right}
 use Rattle.wit_values.specs.Lists.{slice_get-append}
 use Rattle.wit_values.specs.Table.{HasDistinctKeys}
@@ -14,8 +13,6 @@ use Rattle.wit_items.specs.Shape.{IsShaped}
 use Rattle.wit_items.specs.declared.interface.Interface.{Interface}
 use Rattle.wit_items.specs.declared.types.TypeDef.{TypeDef}
 use Rattle.wit_items.specs.declared.world.World.{World}
-use Rattle.wit_items.specs.declared.world.WorldItem.TheVariants as item
-use Rattle.wit_items.specs.declared.world.WorldKey.TheVariants as key
 use Rattle.wit_graph.specs.Valid.{IsValid}
 use Rattle.wit_graph.specs.declared.graph.Graph.{Graph}
 use Rattle.wit_growth.specs.Covered.{EntryComes, IsCovered, IsNoType, WorldComes}

@@ -1,41 +1,22 @@
 -- Types of some owners, and what they refer to: types of the same owners, or of interfaces with names.
-use Rattle.std.proofs.Common.{◌≡◌, ◌∙◌, ◌⊎◌, ◌&&◌, inl, inr, ℕ, ◌<◌, Bool, true, false, List, [], ◌∷◌, ◌++◌, map, Option, None, Some, slice_get, refl, sym, ap, subst, arith, Contains, IsSome, IfSome, length, is_some, nat_eq, if◌then◌else◌}
-use Rattle.std.specs.List.{flat_map, list_any}
-use Rattle.std.specs.Option.{option_map_or}
+use Rattle.std.proofs.Common.{◌≡◌, ◌∙◌, ◌⊎◌, inl, inr, ℕ, ◌<◌, List, [], ◌∷◌, Option, None, Some, slice_get, refl, sym, ap, subst, arith, Contains, IsSome, length, is_some, if◌then◌else◌}
 use Rattle.std.proofs.lemmas.List.{length-map}
-use Rattle.std.proofs.lemmas.Bool.{cases_Bool, eq-eqb, false≢true}
-use Rattle.std.proofs.lemmas.List.Elements.{All-contains, Contains-append_cases}
+use Rattle.std.proofs.lemmas.List.Elements.{All-contains}
 use Rattle.std.proofs.lemmas.Option.{slice_get_within}
-use Rattle.wit_relations.specs.FreshFacts.{any_from_contains, contains_from_any}
-use Rattle.wit_relations.specs.MemberFacts.{Contains-cons_cases, Contains-flat_map, Contains-flat_map_cases, Contains-nil}
+use Rattle.wit_relations.specs.MemberFacts.{Contains-cons_cases, Contains-nil}
 use Rattle.wit_relations.specs.Relation.{IsPath, Reaches, direct}
-use Rattle.wit_relations.specs.WalkFacts.{Contains-walk_end, Reaches-from_walk, walk-from_IsPath}
-use Rattle.wit_relations.specs.Walks.{walk}
 use Rattle.wit_items.specs.Each.{SomeAt}
-use Rattle.wit_items.specs.Entries.{Entry, IsExport, IsImport, ItemUsesOwn, is_unnamed, item_interface, placed_interfaces}
-use Rattle.wit_items.specs.Ownership.{IsListed, IsNamed, IsNamedInterface, IsOwn, IsPlain, Shows, parts, through_unnamed}
-use Rattle.wit_items.specs.Reference.{function_references, referred, type_references}
+use Rattle.wit_items.specs.Ownership.{IsNamedInterface, IsOwn, IsPlain, parts, through_unnamed}
+use Rattle.wit_items.specs.Reference.{referred, type_references}
 use Rattle.wit_items.specs.Uses.{alias_target}
-use Rattle.wit_items.specs.declared.function.Function.{Function}
-use Rattle.wit_items.specs.declared.interface.Interface.{Interface}
 use Rattle.wit_items.specs.declared.types.TypeDef.{TypeDef}
 use Rattle.wit_items.specs.declared.types.TypeDefKind.{TypeDefKind}
 use Rattle.wit_items.specs.declared.types.TypeDefKind.TheVariants as kind
 use Rattle.wit_items.specs.declared.types.TypeOwner.{TypeOwner}
-use Rattle.wit_items.specs.declared.types.TypeOwner.TheVariants as owner
 use Rattle.wit_items.specs.declared.types.Type_.TheVariants as type
-use Rattle.wit_items.specs.declared.world.World.{World}
-use Rattle.wit_items.specs.declared.world.WorldItem.{WorldItem}
-use Rattle.wit_items.specs.declared.world.WorldItem.TheVariants as item
-use Rattle.wit_items.specs.declared.world.WorldKey.{WorldKey}
-use Rattle.wit_items.specs.declared.world.WorldKey.TheVariants as key
 use Rattle.wit_graph.specs.declared.graph.Graph.{Graph}
 use Rattle.wit_growth.specs.GoodTypes.{IsAliased, from_if}
-use Rattle.wit_growth.specs.ListFacts.{Contains-map_cases, found_at, from_row, in_row, place_of, same_at, some_at}
-use Rattle.wit_growth.specs.GoodWorlds.{import_from_export}
-use Rattle.wit_growth.specs.OnePlaceCarried.{named_not}
-use Rattle.wit_growth.specs.RowFacts.{Reaches-join, Reaches-use}
-use Rattle.wit_adding.specs.Include.{entry_mentions, goes_with, interface_mentions, is_owned_with, mentioned, owner_goes_with}
+use Rattle.wit_growth.specs.ListFacts.{found_at, from_row, in_row, place_of, same_at, some_at}
 use Rattle.wit_including_laws.specs.OnItsWay.{StandsSoFar}
 
 -- ---- kinds and names

@@ -1,14 +1,12 @@
 -- Behind an include the graph on its way still stands, and so do the copies of what takes part of it.
-use Rattle.std.proofs.Common.{◌≡◌, ◌∙◌, ◌⊎◌, inl, inr, ℕ, Bool, true, false, List, [], map, Option, None, Some, option_map, slice_get, refl, sym, ap, subst, Contains, IsSome, is_some, nat_eq, if◌then◌else◌}
-use Rattle.std.specs.List.{flat_map}
+use Rattle.std.proofs.Common.{◌≡◌, ◌∙◌, ◌⊎◌, inl, inr, ℕ, Bool, true, false, List, map, Option, None, Some, option_map, slice_get, refl, sym, ap, subst, Contains, IsSome, is_some, nat_eq, if◌then◌else◌}
 use Rattle.std.proofs.lemmas.Bool.{cases_Bool, eq-eqb, eqb-true, false≢true}
 use Rattle.std.proofs.lemmas.List.Elements.{Contains-append_left}
-use Rattle.wit_relations.specs.MemberFacts.{Contains-cons_cases, Contains-flat_map, Contains-flat_map_cases, Contains-here, Contains-nil}
+use Rattle.wit_relations.specs.MemberFacts.{Contains-flat_map, Contains-flat_map_cases}
 use Rattle.wit_items.specs.Each.{SomeAt}
 use Rattle.wit_items.specs.Entries.{Entry, IsExport, IsImport}
 use Rattle.wit_sources.specs.Span.{moved_by}
 use Rattle.wit_items.specs.Ownership.{IsNamed, listed_type, world_types}
-use Rattle.wit_items.specs.Reference.{referred}
 use Rattle.wit_items.specs.declared.interface.Interface.{Interface}
 use Rattle.wit_items.specs.declared.types.TypeDef.{TypeDef}
 use Rattle.wit_items.specs.declared.types.TypeOwner.{TypeOwner}
@@ -28,7 +26,6 @@ use Rattle.wit_growth.specs.Cut.{StaysIn, cut_interface, cut_world}
 use Rattle.wit_growth.specs.Image.{entry_image, interface_image, item_image, key_image, name_image, owner_image, type_image}
 use Rattle.wit_growth.specs.ListFacts.{Contains-map, found_at, from_map, place_of, same_at, some_at}
 use Rattle.wit_growth.specs.Operations.{include_source}
-use Rattle.wit_growth.specs.Referred.{RefersUnder}
 use Rattle.wit_growth.specs.Sources.{Carries, InterfaceStands, Source, Stands, WorldStands}
 use Rattle.wit_adding.specs.Include.{goes_with, interface_copy, is_copied, joined_entry, joined_item, owner_goes_with, type_copy}
 use Rattle.wit_adding.specs.WorldReasons.{IsShadowed, renamed_key}

@@ -1,19 +1,16 @@
 -- Behind an include each thing comes of the graph on its way, as it stood or as a copy.
-use Rattle.std.proofs.Common.{◌≡◌, ◌∙◌, ◌⊎◌, inl, inr, ℕ, Bool, true, false, List, [], ◌++◌, if◌then◌else◌, filter, map, Option, None, Some, slice_get, refl, sym, ap, subst, Contains, nat_eq}
+use Rattle.std.proofs.Common.{◌≡◌, ◌∙◌, ◌⊎◌, inl, inr, ℕ, Bool, true, false, List, [], ◌++◌, if◌then◌else◌, Option, None, Some, slice_get, refl, sym, ap, subst, Contains, nat_eq}
 use Rattle.std.specs.Map.{lookup}
 use Rattle.std.specs.Option.{option_map_or}
 use Rattle.std.proofs.lemmas.Bool.{eq-eqb}
 use Rattle.std.proofs.lemmas.List.Elements.{Contains-append_left, Contains-append_right}
-use Rattle.wit_items.specs.Entries.{Entry, item_interface}
+use Rattle.wit_items.specs.Entries.{Entry}
 use Rattle.wit_items.specs.declared.function.Function.{Function}
 use Rattle.wit_items.specs.declared.interface.Interface.{Interface}
-use Rattle.wit_items.specs.declared.stability.Stability.TheVariants.{Stable, Unknown, Unstable}
 use Rattle.wit_items.specs.declared.types.TypeDef.{TypeDef}
-use Rattle.wit_items.specs.declared.world.World.{World}
 use Rattle.wit_items.specs.declared.world.WorldItem.{WorldItem}
 use Rattle.wit_items.specs.declared.world.WorldItem.TheVariants as item
 use Rattle.wit_items.specs.declared.world.WorldKey.{WorldKey}
-use Rattle.wit_items.specs.declared.world.WorldKey.TheVariants as key
 use Rattle.wit_graph.proofs.Filters.{filter-all}
 use Rattle.wit_graph.specs.Entries.{same_key}
 use Rattle.wit_graph.specs.declared.graph.Graph.{Graph}
@@ -21,12 +18,12 @@ use Rattle.wit_growth.specs.CarriedImages.{image_carried}
 use Rattle.wit_growth.specs.Covered.{EntryComes, InterfaceComes, IsCovered, IsNoType, IsOwnMade, ItemComes, TypeComes, WorldComes}
 use Rattle.wit_growth.specs.Cut.{cut_interface, cut_world}
 use Rattle.wit_growth.specs.GraphSource.{graph_stands, items_are_good}
-use Rattle.wit_growth.specs.Image.{entry_image, identity, interface_image}
+use Rattle.wit_growth.specs.Image.{entry_image, identity}
 use Rattle.wit_growth.specs.ImagesCome.{entry_image_comes, interface_image_comes}
 use Rattle.wit_growth.specs.Kept.{Kept, everything}
 use Rattle.wit_growth.specs.ListFacts.{at_map, contained_at, place_of}
 use Rattle.wit_growth.specs.Sources.{Carries, IsCarriedType, IsGoodSource, Source}
-use Rattle.wit_adding.specs.Include.{goes_with, interface_copy, joined_entry, joined_item, new_item, type_copy}
+use Rattle.wit_adding.specs.Include.{goes_with, interface_copy, joined_entry, joined_item, new_item}
 use Rattle.wit_including_laws.specs.Copies.{copied_mentioned, interface_from, type_from, world_from}
 use Rattle.wit_including_laws.specs.CopiedPart.{copied_part, going_functions, going_types, has_name, part_good, takes_mentioned}
 use Rattle.wit_including_laws.specs.Mentioned.{entry_mentioned}

@@ -1,38 +1,30 @@
 -- What the entries of a world mention, through whatever types: types that go with the world, types of interfaces with
 -- names, and types without names that refer to nothing else.
-use Rattle.std.proofs.Common.{◌≡◌, ◌∙◌, ◌⊎◌, ◌&&◌, inl, inr, ℕ, ◌<◌, Bool, true, false, List, [], ◌∷◌, ◌++◌, map, Option, None, Some, slice_get, refl, sym, ap, subst, arith, Contains, IsSome, IfSome, length, is_some, nat_eq, if◌then◌else◌}
+use Rattle.std.proofs.Common.{◌≡◌, ◌∙◌, ◌⊎◌, ◌&&◌, inl, inr, ℕ, ◌<◌, Bool, true, false, List, [], ◌∷◌, ◌++◌, map, Option, None, Some, slice_get, refl, sym, ap, subst, arith, Contains, IsSome, length, is_some, nat_eq, if◌then◌else◌}
 use Rattle.std.specs.List.{flat_map, list_any}
 use Rattle.std.specs.Option.{option_map_or}
 use Rattle.std.proofs.lemmas.List.{length-map}
 use Rattle.std.proofs.lemmas.Bool.{cases_Bool, eq-eqb, false≢true}
-use Rattle.std.proofs.lemmas.List.Elements.{All-contains, Contains-append_cases}
-use Rattle.std.proofs.lemmas.Option.{slice_get_within}
-use Rattle.wit_relations.specs.FreshFacts.{any_from_contains, contains_from_any}
+use Rattle.std.proofs.lemmas.List.Elements.{Contains-append_cases}
 use Rattle.wit_relations.specs.MemberFacts.{Contains-cons_cases, Contains-flat_map, Contains-flat_map_cases, Contains-nil}
-use Rattle.wit_relations.specs.Relation.{IsPath, Reaches, direct}
+use Rattle.wit_relations.specs.Relation.{Reaches}
 use Rattle.wit_relations.specs.WalkFacts.{Contains-walk_end, Reaches-from_walk, walk-from_IsPath}
 use Rattle.wit_relations.specs.Walks.{walk}
-use Rattle.wit_items.specs.Each.{SomeAt}
-use Rattle.wit_items.specs.Entries.{Entry, IsExport, IsImport, ItemUsesOwn, is_unnamed, item_interface, placed_interfaces}
-use Rattle.wit_items.specs.Ownership.{IsListed, IsNamed, IsNamedInterface, IsOwn, IsPlain, Shows, parts, through_unnamed}
+use Rattle.wit_items.specs.Entries.{Entry, IsImport, ItemUsesOwn, is_unnamed, placed_interfaces}
+use Rattle.wit_items.specs.Ownership.{IsListed, IsNamedInterface, IsOwn}
 use Rattle.wit_items.specs.Reference.{function_references, referred, type_references}
-use Rattle.wit_items.specs.Uses.{alias_target}
 use Rattle.wit_items.specs.declared.function.Function.{Function}
 use Rattle.wit_items.specs.declared.interface.Interface.{Interface}
 use Rattle.wit_items.specs.declared.types.TypeDef.{TypeDef}
-use Rattle.wit_items.specs.declared.types.TypeDefKind.{TypeDefKind}
-use Rattle.wit_items.specs.declared.types.TypeDefKind.TheVariants as kind
 use Rattle.wit_items.specs.declared.types.TypeOwner.{TypeOwner}
 use Rattle.wit_items.specs.declared.types.TypeOwner.TheVariants as owner
-use Rattle.wit_items.specs.declared.types.Type_.TheVariants as type
 use Rattle.wit_items.specs.declared.world.World.{World}
 use Rattle.wit_items.specs.declared.world.WorldItem.{WorldItem}
 use Rattle.wit_items.specs.declared.world.WorldItem.TheVariants as item
 use Rattle.wit_items.specs.declared.world.WorldKey.{WorldKey}
 use Rattle.wit_items.specs.declared.world.WorldKey.TheVariants as key
 use Rattle.wit_graph.specs.declared.graph.Graph.{Graph}
-use Rattle.wit_growth.specs.GoodTypes.{IsAliased, from_if}
-use Rattle.wit_growth.specs.ListFacts.{Contains-map_cases, found_at, from_row, in_row, place_of, same_at, some_at}
+use Rattle.wit_growth.specs.ListFacts.{Contains-map_cases, found_at, in_row, place_of}
 use Rattle.wit_growth.specs.GoodWorlds.{import_from_export}
 use Rattle.wit_growth.specs.OnePlaceCarried.{named_not}
 use Rattle.wit_growth.specs.RowFacts.{Reaches-join, Reaches-use}

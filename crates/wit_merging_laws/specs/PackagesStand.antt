@@ -32,7 +32,7 @@ use Rattle.wit_growth.specs.PackagesAcyclic.{length-numbered, numbered_from, num
 use Rattle.wit_growth.specs.Theory.{HasGoodTables}
 use Rattle.wit_adding.specs.RankFacts.{taken-at, taken_places-from}
 use Rattle.wit_adding.specs.Ranks.{rank, taken, taken_places}
-use Rattle.wit_adding_laws.specs.PlacedFacts.{joined_apart}
+use Rattle.wit_including_laws.specs.KeysApart.{joined_apart}
 use Rattle.wit_merging.specs.Joined.{joined_interface, joined_package, joined_world, with_package, with_world}
 use Rattle.wit_merging.specs.Matches.{Merging, found_as, found_in, found_interface, found_package, found_world, partner}
 use Rattle.wit_merging.specs.Moved.{interface_place, merge_maps, moves_interface, moves_package, moves_world, package_place, world_place}

@@ -35,7 +35,7 @@ use Rattle.wit_growth.specs.ListFacts.{Contains-map, at_map, contained_at, found
 use Rattle.wit_growth.specs.NamedUses.{IsUsed_named}
 use Rattle.wit_growth.specs.Operations.{merge_sources}
 use Rattle.wit_growth.specs.Sources.{Carries, Source, WorldStands}
-use Rattle.wit_adding_laws.specs.WorldFacts.{WorldLaws}
+use Rattle.wit_including_laws.specs.WorldLaws.{WorldLaws}
 use Rattle.wit_merging.specs.Matches.{Merging}
 use Rattle.wit_merging.specs.Moved.{merge_maps}
 use Rattle.wit_merging.specs.Reasons.{AreOne}
