@@ -1,7 +1,9 @@
 //! What adding a package makes of a graph, and why it is refused: definitions and laws. Of code there is what
-//! the steps of an addition hand on to each other.
+//! the steps of an addition hand on to each other, and which notes let their items take part.
 #![tactic(auto)]
 
 pub mod adding;
+pub mod gates;
 
 pub use crate::adding::{Activity, Adding, Places, Values};
+pub use crate::gates::is_active;

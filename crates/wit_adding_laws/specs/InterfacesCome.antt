@@ -18,8 +18,8 @@ use Rattle.wit_growth.specs.Image.{interface_image}
 use Rattle.wit_growth.specs.ImagesCome.{interface_image_comes}
 use Rattle.wit_growth.specs.ListFacts.{at_map, contained_at, found_at, from_map, old_or_new}
 use Rattle.wit_adding.specs.Addition.{Addition, addition_maps, own_interfaces, part}
+use Rattle.wit_adding.specs.OwnThingFacts.{own_interface_from}
 use Rattle.wit_adding.specs.Reasons.{HasImage}
-use Rattle.wit_adding_laws.specs.OwnThings.{own_interface_from}
 use Rattle.wit_adding_laws.specs.Parts.{HasParts}
 use Rattle.wit_adding_laws.specs.SourcesGood.{sources, sources_good}
 

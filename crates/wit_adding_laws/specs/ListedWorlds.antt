@@ -22,18 +22,18 @@ use Rattle.wit_growth.specs.Image.{entry_image, item_image, key_image, name_imag
 use Rattle.wit_growth.specs.ListFacts.{Contains-map_cases, at_map, contained_at, found_at, from_map, place_of, some_at}
 use Rattle.wit_growth.specs.Sources.{Stands}
 use Rattle.wit_adding.specs.Addition.{Addition, active, addition_maps, interface_place, own_world, own_worlds, part, type_place, world_place}
+use Rattle.wit_adding.specs.ApartFacts.{KeyTakesPart, keys_apart}
 use Rattle.wit_adding.specs.Behind.{with_placed}
 use Rattle.wit_adding.specs.ClosedCut.{closed_part}
 use Rattle.wit_adding.specs.Gates.{interface_is_active}
+use Rattle.wit_adding.specs.OwnThingFacts.{own_world_from}
 use Rattle.wit_adding.specs.RankFacts.{taken_places-at}
 use Rattle.wit_adding.specs.Ranks.{rank, taken_places}
 use Rattle.wit_adding.specs.Reasons.{HasImage}
-use Rattle.wit_adding_laws.specs.InterfacesApart.{KeyTakesPart, keys_apart}
 use Rattle.wit_adding_laws.specs.NamedAliases.{aliases_named, interface_within, named_goes}
-use Rattle.wit_adding_laws.specs.OwnThings.{own_world_from}
 use Rattle.wit_adding_laws.specs.Parts.{HasParts}
 use Rattle.wit_adding_laws.specs.PartsStand.{type_stands}
-use Rattle.wit_adding_laws.specs.PlacedFacts.{placed_distinct, placed_in}
+use Rattle.wit_including_laws.specs.PlacedFacts.{placed_distinct, placed_in}
 
 -- ---- which worlds
 
@@ -94,17 +94,17 @@ module _ (a : Addition) (shaped : IsShaped a.handed) (image : HasImage a) (w : �
 -- ---- keys that differ
 
 module _ (a : Addition) (valid : IsValid a.graph) (shaped : IsShaped a.handed) (image : HasImage a) (w : ℕ) (whole : World) (of : TakesPart a w whole) where
-  export_key : (k : WorldKey) (held : WorldItem) → IsExport a.handed.interfaces k held → ItemIsKept (part a) held → KeyTakesPart a valid shaped image k
+  pub export_key : (k : WorldKey) (held : WorldItem) → IsExport a.handed.interfaces k held → ItemIsKept (part a) held → KeyTakesPart a valid shaped image k
   export_key (key.Name label) held is takes = tt
   export_key (key.Interface f) (item.Interface i stability docs span external_id) is takes = subst (λ (x : ℕ). interface_is_active a.features a.handed x ≡ true) is.0 takes
   export_key (key.Interface f) (item.Function fn) is takes = absurd is
   export_key (key.Interface f) (item.Type_ t span) is takes = absurd is
 
-  import_key : (k : WorldKey) (held : WorldItem) → IsImport a.handed.interfaces a.handed.types w k held → ItemIsKept (part a) held → KeyTakesPart a valid shaped image k
+  pub import_key : (k : WorldKey) (held : WorldItem) → IsImport a.handed.interfaces a.handed.types w k held → ItemIsKept (part a) held → KeyTakesPart a valid shaped image k
   import_key (key.Name label) held is takes = tt
   import_key (key.Interface f) held is takes = export_key (key.Interface f) held is takes
 
-  images_apart : (es : List Entry) → ((e : Entry) → Contains es e → KeyTakesPart a valid shaped image e.0) → HasDistinctKeys es → HasDistinctKeys (map (entry_image (addition_maps a) w) es)
+  pub images_apart : (es : List Entry) → ((e : Entry) → Contains es e → KeyTakesPart a valid shaped image e.0) → HasDistinctKeys es → HasDistinctKeys (map (entry_image (addition_maps a) w) es)
   images_apart es takes distinct i j e f first second same =
       let x = from_map (entry_image (addition_maps a) w) es i e first in
       let y = from_map (entry_image (addition_maps a) w) es j f second in

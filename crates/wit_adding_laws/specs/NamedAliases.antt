@@ -19,12 +19,12 @@ use Rattle.wit_growth.specs.ListFacts.{found_at, from_map, old_or_new, place_of,
 use Rattle.wit_growth.specs.ReferredFacts.{alias_image}
 use Rattle.wit_growth.specs.Sources.{InterfaceStands, Stands}
 use Rattle.wit_adding.specs.Addition.{Addition, added_owns, addition_maps, interface_place, needs_own, own_types, part, type_place}
+use Rattle.wit_adding.specs.ApartFacts.{active_there}
 use Rattle.wit_adding.specs.ClosedCut.{closed_part, references_kept}
 use Rattle.wit_adding.specs.Gates.{interface_is_active, type_is_active}
+use Rattle.wit_adding.specs.OwnThingFacts.{own_type_from}
 use Rattle.wit_adding.specs.Reasons.{HasImage}
 use Rattle.wit_adding.specs.Resources.{own_of}
-use Rattle.wit_adding_laws.specs.InterfacesApart.{active_there}
-use Rattle.wit_adding_laws.specs.OwnThings.{own_type_from}
 use Rattle.wit_adding_laws.specs.Parts.{HasParts}
 use Rattle.wit_adding_laws.specs.PartsStand.{interface_stands, old_interface_at, old_type_at, type_stands}
 use Rattle.wit_adding_laws.specs.SourcesGood.{package_source}

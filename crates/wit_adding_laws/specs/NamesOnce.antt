@@ -15,10 +15,10 @@ use Rattle.wit_items.specs.declared.interface.Interface.{Interface}
 use Rattle.wit_growth.specs.ListFacts.{contained_at, place_of}
 use Rattle.wit_adding.specs.Addition.{Addition, interface_place, own_interface}
 use Rattle.wit_adding.specs.Gates.{interface_is_active, is_foreign_interface}
+use Rattle.wit_adding.specs.OwnThingFacts.{own_part}
 use Rattle.wit_adding.specs.Pushed.{new_package}
 use Rattle.wit_adding.specs.RankFacts.{taken_places-from}
 use Rattle.wit_adding.specs.Ranks.{rank, taken_places}
-use Rattle.wit_adding_laws.specs.OwnThings.{own_part}
 
 -- ---- lists
 

@@ -1,6 +1,6 @@
 -- What takes part of a package stands among the types and interfaces of the graph behind which it is put: types,
 -- values and interfaces.
-use Rattle.std.proofs.Common.{◌≡◌, ◌∙◌, ℕ, zero, suc, ◌+◌, ◌<◌, ◌&&◌, ◌||◌, Bool, true, false, not, List, [], ◌∷◌, ◌++◌, ◌⊎◌, inl, inr, map, filter, length, cond, nat_eq, Option, None, Some, option_and_then, option_map, IsSome, slice_get, refl, sym, ap, subst, arith, Contains, if◌then◌else◌}
+use Rattle.std.proofs.Common.{◌≡◌, ◌∙◌, ℕ, zero, suc, ◌+◌, ◌<◌, ◌&&◌, ◌||◌, Bool, true, false, List, [], ◌∷◌, ◌++◌, ◌⊎◌, inl, inr, map, filter, length, cond, nat_eq, Option, None, Some, option_and_then, option_map, IsSome, slice_get, refl, sym, ap, subst, arith, Contains, if◌then◌else◌}
 use Rattle.std.specs.List.{enumerate_from, flat_map, list_any, range_with_len}
 use Rattle.std.specs.Map.{lookup}
 use Rattle.std.specs.Option.{option_map_or, option_to_list}
@@ -36,6 +36,7 @@ use Rattle.wit_growth.specs.Sources.{InterfaceStands, IsOwnOf, Stands, alias_row
 use Rattle.wit_adding.specs.Addition.{Addition, added_owns, addition_maps, needs_own, own_interface, own_interfaces, own_type, own_types, part, positions, plain_maps, plain_types, type_place, interface_place, value_place}
 use Rattle.wit_adding.specs.Gates.{interface_is_active, is_foreign_interface, type_is_active}
 use Rattle.wit_adding.specs.Lookup.{is_foreign_type, listed_type}
+use Rattle.wit_adding.specs.OwnThingFacts.{own_of_both}
 use Rattle.wit_adding.specs.RankFacts.{taken-at, taken_places-at}
 use Rattle.wit_adding.specs.Ranks.{rank, taken, taken_places}
 use Rattle.wit_adding.specs.Reasons.{HasImage}
@@ -43,12 +44,6 @@ use Rattle.wit_adding.specs.Resources.{is_resource, is_resource_kind, leads_to_r
 use Rattle.wit_adding.specs.Standing.{ForeignType, foreign_interface_goes, foreign_type, listed_is, own_interface_goes, own_type_goes}
 use Rattle.wit_adding_laws.specs.Parts.{HasParts}
 use Rattle.wit_adding_laws.specs.SourcesGood.{package_source}
-
--- ---- what is its own, and what is foreign
-
-pub own_of_both : (foreign active : Bool) → foreign ≡ false → active ≡ true → not foreign && active ≡ true
-own_of_both true active h k = cc
-own_of_both false active h k = k
 
 module _ (a : Addition) (valid : IsValid a.graph) (shaped : IsShaped a.handed) (image : HasImage a) (types : List TypeDef) (interfaces : List Interface) (are : HasParts a types interfaces) where
   -- an own type stands as its image at its place

@@ -16,11 +16,11 @@ use Rattle.wit_growth.specs.Image.{type_image}
 use Rattle.wit_growth.specs.ListFacts.{contained_at, from_map, old_or_new}
 use Rattle.wit_adding.specs.Addition.{Addition, added_owns, addition_maps, needs_own, own_types, type_place}
 use Rattle.wit_adding.specs.Lookup.{is_foreign_type}
+use Rattle.wit_adding.specs.OwnThingFacts.{own_type_from}
+use Rattle.wit_adding.specs.PositionFacts.{needs_active}
 use Rattle.wit_adding.specs.Reasons.{HasImage}
 use Rattle.wit_adding.specs.Resources.{own_of}
-use Rattle.wit_adding_laws.specs.OwnThings.{own_type_from}
 use Rattle.wit_adding_laws.specs.Parts.{HasParts}
-use Rattle.wit_adding_laws.specs.Positions.{needs_active}
 use Rattle.wit_adding_laws.specs.SourcesGood.{sources}
 
 module _ (a : Addition) (valid : IsValid a.graph) (shaped : IsShaped a.handed) (image : HasImage a) (g : Graph) (are : HasParts a g.types g.interfaces) where

@@ -4,8 +4,8 @@ use Rattle.std.specs.Prelude.{nat_lt, unwrap_or}
 use Rattle.std.proofs.lemmas.Bool.{cases_lt, eqb-false, eqb-true, le-ltb, lt-ltb, ltb-false}
 use Rattle.std.proofs.lemmas.List.{length-set}
 use Rattle.std.proofs.lemmas.List.Folds.{list_any-append}
-use Rattle.std.proofs.lemmas.List.FromFn.{length-map-range_with_len, map-range_with_len_more}
-use Rattle.std.proofs.lemmas.Option.{slice_get_past, slice_get_within}
+use Rattle.std.proofs.lemmas.List.FromFn.{fill_by_all, length-map-range_with_len}
+use Rattle.std.proofs.lemmas.Option.{get_or_from_slice_get, slice_get_within}
 use Rattle.std.specs.List.{flat_map, list_any, range_with_len}
 use Rattle.std.specs.Option.{option_map_or}
 use Rattle.wit_values.specs.Lists.{slice_get-set, take-next_at}
@@ -23,41 +23,19 @@ use Rattle.wit_items.specs.declared.world.World.{World}
 use Rattle.wit_graph.specs.declared.features.Features.{Features}
 use Rattle.wit_growth.specs.ListFacts.{found_at, place_of}
 use Rattle.wit_adding.specs.Gates.{foreign_items, interface_is_active, is_active, is_foreign_interface, is_foreign_world, notes_of_foreign, some_active, type_is_active, world_is_active}
+use Rattle.wit_adding.specs.RangeFacts.{range-at, range-past}
 use Rattle.wit_adding.specs.declared.adding.Activity.{Activity}
 use Rattle.wit_gates.specs.GateSteps.{AreMarked, HasFlag, IsMarked, is_marked, own_activity, own_interface_flag, own_world_flag, with_item}
 use Rattle.wit_gates.proofs.ForeignNotes.{named_ids, notes_none}
 
--- ---- lists by their places
-
-pub range-at : {X : Type 0} (f : ℕ → X) (a n i j : ℕ) → i < n → a + i ≡ j → slice_get (map f (range_with_len a n)) i ≡ Some (f j)
-range-at f a zero i j within is = absurd (omega arith)
-range-at f a (suc n) zero j within is = let same : a ≡ j = omega arith in ap (λ (m : ℕ). Some (f m)) same
-range-at f a (suc n) (suc i) j within is = range-at f (a + 1) n i j (omega arith) (omega arith)
-
-same_gets : {X : Type 0} (xs ys : List X) → length xs ≡ length ys → ((i : ℕ) → i < length xs → slice_get xs i ≡ slice_get ys i) → xs ≡ ys
-same_gets [] [] long same = refl
-same_gets [] (y ∷ ys) long same = absurd (omega arith)
-same_gets (x ∷ xs) [] long same = absurd (omega arith)
-same_gets {X} (x ∷ xs) (y ∷ ys) long same =
-    let first : Some x ≡ Some y = same 0 (omega arith) in
-    let here : x ≡ y = cc in
-    let rest : xs ≡ ys = same_gets xs ys (omega arith) (λ i below. same (suc i) (omega arith)) in
-    cc
+-- ---- flags by their places
 
 -- the flag of a thing that the package has, and none past the last one
 pub flag_is : (f : ℕ → Bool) (n i : ℕ) → (n ≤ i → f i ≡ false) → unwrap_or (slice_get (map f (range_with_len 0 n)) i) false ≡ f i
 flag_is f n i past = elim (cases_lt i n) [
-  | inl within ↦ ap (λ (o : Option Bool). unwrap_or o false) (range-at f 0 n i i within (omega arith))
-  | inr beyond ↦
-      let long : length (map f (range_with_len 0 n)) ≤ i = let count = length-map-range_with_len f 0 n in omega arith in
-      ap (λ (o : Option Bool). unwrap_or o false) (slice_get_past (map f (range_with_len 0 n)) i long) ∙ sym (past beyond)
+  | inl within ↦ ap (λ (o : Option Bool). unwrap_or o false) (range-at f n i within)
+  | inr beyond ↦ ap (λ (o : Option Bool). unwrap_or o false) (range-past f n i beyond) ∙ sym (past beyond)
 ]
-
--- one flag more
-pub pushed-flag : (f : ℕ → Bool) (n : ℕ) (before after : List Bool) (flag : Bool) → before ≡ map f (range_with_len 0 n) → after ≡ before ++ flag ∷ [] → flag ≡ f n
-    → after ≡ map f (range_with_len 0 (n + 1))
-pushed-flag f n before after flag so_far added is =
-    added ∙ (ap (λ (l : List Bool). l ++ flag ∷ []) so_far ∙ (ap (λ (b : Bool). map f (range_with_len 0 n) ++ b ∷ []) is ∙ sym (map-range_with_len_more f 0 n n (omega arith))))
 
 -- ---- marks
 
@@ -219,12 +197,10 @@ all-flags : (features : Features) (id : AstItem → List ℕ) (deps : ForeignIte
     → AreMarked features id (foreign_items deps) old new → new ≡ map whole (range_with_len 0 n)
 all-flags features id deps own whole n old new match is marked =
     let long : length old ≡ n = ap length is ∙ length-map-range_with_len own 0 n in
-    let count : length (map whole (range_with_len 0 n)) ≡ n = length-map-range_with_len whole 0 n in
     let longer = marked.0 in
-    same_gets new (map whole (range_with_len 0 n)) (omega arith) (λ i below.
-    let within : i < n = omega arith in
-    let at : slice_get old i ≡ Some (own i) = ap (λ (l : List Bool). slice_get l i) is ∙ range-at own 0 n i i within (omega arith) in
-    marked.1 i (own i) at ∙ (ap Some (match i) ∙ sym (range-at whole 0 n i i within (omega arith))))
+    fill_by_all whole new n false (omega arith) (λ i within.
+    let at : slice_get old i ≡ Some (own i) = ap (λ (l : List Bool). slice_get l i) is ∙ range-at own n i within in
+    get_or_from_slice_get new i (whole i) false (marked.1 i (own i) at ∙ ap Some (match i)))
 
 pub activity-is : (features : Features) (u : UnresolvedPackage) (old new : Activity) → IsShaped u → old ≡ own_activity features u → IsMarked features (foreign_items u.foreign_deps) old new
     → new ≡ record {

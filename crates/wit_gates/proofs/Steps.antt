@@ -1,6 +1,5 @@
--- The steps of loops over lists, and what holds of a result.
-use Rattle.std.proofs.Common.{◌≡◌, ◌≤◌, ℕ, ◌+◌, inl, inr, List, length, Some, slice_get, refl, sym, subst, arith, Result, Ok, Err}
-use Rattle.std.specs.Prelude.{OnOk}
+-- The steps of loops over lists.
+use Rattle.std.proofs.Common.{◌≡◌, ◌≤◌, ℕ, ◌+◌, inl, inr, List, length, Some, slice_get, refl, sym, subst, arith}
 use Rattle.std.proofs.lemmas.Bool.{cases_lt}
 use Rattle.wit_items.specs.Each.{EachAt}
 use Rattle.wit_items.specs.EachFacts.{EachBelow, all}
@@ -27,8 +26,3 @@ module _ {X : Type 0} {P : ℕ → X → Type 0} {xs : List X} {n : ℕ} where
   -- all
   pub all_of : EachBelow n P xs → length xs ≤ n → EachAt P xs
   all_of below reached = (all below reached).0 refl
-
--- what holds after a success
-pub on_ok : {T E P Q : Type 0} (r : Result T E) → OnOk r P → (P → Q) → OnOk r Q
-on_ok (Ok v) holds f = f holds
-on_ok (Err e) holds f = holds

@@ -4,9 +4,8 @@ ghost use Rattle.wit_sources.specs.Span.{moved_by};
 ghost use Rattle.wit_graph.specs.declared.error_kind.ResolveErrorKind.TheVariants.{Semantic};
 ghost use Rattle.wit_adding.specs.Gates.{is_active};
 
-use crate::taking_part::is_active;
 use std::alloc::{AllocError, Global};
-use wit_adding::{Activity, Adding};
+use wit_adding::{Activity, Adding, is_active};
 use wit_graph::{Cause, ResolveError, ResolveErrorKind};
 use wit_items::{Span, Stability, Text};
 

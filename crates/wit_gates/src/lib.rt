@@ -3,12 +3,13 @@
 #![tactic(auto)]
 
 mod checker;
-mod foreign;
+pub mod messages;
 mod needs;
 pub mod references;
 pub mod taking_part;
 pub mod versions;
 
+pub use crate::messages::{excluded_message, excluded_owner_message};
 pub use crate::references::check_references;
 pub use crate::taking_part::activity;
 pub use crate::versions::check_versions;

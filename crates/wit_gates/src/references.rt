@@ -1,5 +1,5 @@
 //! What takes part and needs what is left out.
-ghost use Rattle.std.specs.Prelude.{◌≡◌, ◌≢◌, ◌⊎◌, ℕ, IfErr, IfOk, List, OnOk, string_bytes};
+ghost use Rattle.std.specs.Prelude.{◌≡◌, ◌≢◌, ◌⊎◌, ℕ, IfErr, IfOk, List, OnOk};
 ghost use Rattle.wit_sources.specs.Span.{moved_by};
 ghost use Rattle.wit_items.specs.Each.{Each, EachAt};
 ghost use Rattle.wit_items.specs.Entries.{Entry};
@@ -17,6 +17,7 @@ ghost use Rattle.wit_gates.specs.GateSteps.{IsReady, MayRefuse, seen};
 ghost use Rattle.wit_gates.specs.ReferenceSteps.{FieldStays, ForeignStays, FunctionStays, FunctionsStay, IncludeStays, IsReferred, IsTakenType, ItemStays, KindRefers, KindStays, MayTakePart, OwnerStays, PartsStay, RefersByInclude, RefersByItem, RefersInField, Stays, TypeStays, TypesStay, takes_part, thing_of};
 
 use crate::checker::Checker;
+use crate::messages::{excluded_message, excluded_owner_message};
 use crate::needs::{Needed, flag_at};
 use std::alloc::{AllocError, Global};
 use wit_adding::{Activity, Adding};
@@ -60,20 +61,11 @@ impl<'a> Checker<'a> {
         }
     }
 
-    /// What is told of a reference to what is left out.
-    fn excluded_message(&self, word: &str) -> Result<String, AllocError>
-        ensures { IfOk result (λ message. string_bytes message ≡ excluded_text word.now) }
-    {
-        format!(in self.alloc;
-            "found a reference to a {word} which is excluded due to its feature not being activated"
-        )
-    }
-
     /// Something refers to what is left out.
     fn excluded(&self, needed: Needed, span: Span) -> Result<ResolveError, AllocError>
         ensures { IfOk result (λ e. e ≡ Semantic (moved_by self.now.adding.offset span) (excluded_text (word_of (thing_of needed))) cause.Excluded) }
     {
-        let message = self.excluded_message(needed.word())?;
+        let message = excluded_message(self.alloc, needed.word())?;
         self.semantic(span, message, Cause::Excluded)
     }
 
@@ -81,11 +73,7 @@ impl<'a> Checker<'a> {
     fn excluded_owner(&self, needed: Needed, span: Span) -> Result<ResolveError, AllocError>
         ensures { IfOk result (λ e. e ≡ Semantic (moved_by self.now.adding.offset span) (excluded_owner_text (word_of (thing_of needed))) cause.ExcludedOwner) }
     {
-        let word = needed.word();
-        let excluded = self.excluded_message(word)?;
-        let message = format!(in self.alloc;
-            "{excluded}; this type is not gated by a feature but its {word} is"
-        )?;
+        let message = excluded_owner_message(self.alloc, needed.word())?;
         self.semantic(span, message, Cause::ExcludedOwner)
     }
 

@@ -9,11 +9,13 @@ ghost use Rattle.wit_adding.specs.Adding.{activity_of, addition_of};
 ghost use Rattle.wit_adding.specs.Gates.{foreign_items, is_active, some_active, type_is_active};
 ghost use Rattle.wit_gates.specs.GateSteps.{HasFlag, IsMarked, own_activity, own_interface_flag, own_world_flag, with_item};
 
-use crate::foreign::{foreign_interfaces, foreign_worlds};
 use std::alloc::{AllocError, Global};
-use wit_adding::{Activity, Adding};
+use wit_adding::{Activity, Adding, is_active};
 use wit_graph::Features;
-use wit_items::{AstItem, Items, Names, PackageName, Stability, Table, UnresolvedPackage};
+use wit_items::{
+    AstItem, Items, Names, PackageName, Stability, Table, UnresolvedPackage, foreign_interfaces,
+    foreign_worlds,
+};
 
 /// What takes part of a package under the features that are on: a type, an interface or a world of its own
 /// where its note lets it, one of another package where one of the places that name it does.
@@ -26,20 +28,7 @@ pub fn activity(alloc: Global, adding: &Adding<'_>) -> Result<Activity, AllocErr
     Ok(activity)
 }
 
-/// Whether a note lets its item take part.
-pub(crate) fn is_active(features: &Features, note: &Stability) -> bool
-    ensures { result ≡ is_active features.now note.now }
-{
-    match note {
-        Stability::Unknown => true,
-        Stability::Stable { .. } => true,
-        Stability::Unstable { feature, .. } => {
-            features.all || features.names.contains(feature.as_str())
-        }
-    }
-}
-
-/// Whether one of several does.
+/// Whether one of several notes lets its item take part.
 fn some_active(features: &Features, notes: &Items<Stability>) -> bool
     ensures { result ≡ some_active features.now notes.now }
 {

@@ -22,14 +22,13 @@ ghost use Rattle.wit_adding.specs.Passed.{GatesAreMet};
 ghost use Rattle.wit_gates.specs.GateSteps.{Asks, AsksItem, HasReached, IsAt, IsMet, IsReady, IsThere, MayRefuse, MeetsForeign, MeetsFunctions, MeetsItem, MeetsParts};
 
 use crate::checker::Checker;
-use crate::foreign::{foreign_interfaces, foreign_worlds};
 use crate::needs::flag_at;
 use std::alloc::{AllocError, Global};
 use wit_adding::{Activity, Adding};
 use wit_graph::{Cause, ResolveError, ResolveResult};
 use wit_items::{
     AstItem, Function, Items, Names, Span, Stability, Table, Version, WorldInclude, WorldItem,
-    WorldKey,
+    WorldKey, foreign_interfaces, foreign_worlds,
 };
 
 /// Refuses a `@since` that is asked and that the package doesn't meet: it has no version (9), or one that is

@@ -1,3 +1,4 @@
+pub mod AnswerFacts
 pub mod Elaborated
 pub mod Elaborating
 pub mod Elaboration
@@ -8,6 +9,7 @@ pub mod Error
 pub mod ErrorLoan
 pub mod ErrorText
 pub mod Examples
+pub mod HeldFacts
 pub mod IdText
 pub mod Imported
 pub mod KeptByElaboration

@@ -30,7 +30,7 @@ pub fn is_elaborable(alloc: Global, graph: &Graph, world: WorldId) -> Result<boo
 
 /// Whether the keys and ids of a world are in order, over these types and so many interfaces: what
 /// stands under the key of an interface is that interface, and the interfaces of all entries are there.
-pub fn is_listed(types: &[TypeDef], interfaces: usize, world: &World) -> bool
+fn is_listed(types: &[TypeDef], interfaces: usize, world: &World) -> bool
     ensures { IsTrue result ↔ IsListed types.now interfaces world.now.imports world.now.exports }
 {
     are_listed(types, interfaces, &world.imports) && are_listed(types, interfaces, &world.exports)

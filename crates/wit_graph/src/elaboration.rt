@@ -2,7 +2,7 @@
 //!
 //! A listed world says what it imports and exports; its elaboration adds what these need. Imports
 //! get what they use before them, exports too, and what exports need from outside is imported.
-ghost use Rattle.std.specs.Prelude.{◌≡◌, ◌<◌, IfOk, IfErr, OnOk, OnErr, length};
+ghost use Rattle.std.specs.Prelude.{◌≡◌, ◌<◌, IfOk, IfErr, OnOk, OnErr, length, take};
 ghost use Rattle.wit_graph.specs.Elaborated.{elaborated_exports, elaborated_imports};
 ghost use Rattle.wit_graph.specs.Elaborating.{HaveNodes, TellsExported};
 ghost use Rattle.wit_graph.specs.Elaboration.{AreElaborated, ElaboratesWorld, HasConflictAt, IsConflictError, IsElaborationError, IsErrorAt, IsListedAt, graph_uses};
@@ -23,7 +23,7 @@ use crate::marks::Marks;
 use std::alloc::{AllocError, Global};
 use std::marker::Model;
 use std::mem;
-use wit_items::{Interface, TypeDef, World, WorldId, uses_of};
+use wit_items::{Interface, TypeDef, World, WorldId, interface_uses, uses_of};
 use wit_values::{Items, Table, Text};
 
 /// What the elaboration of several worlds of one graph shares: which interfaces use which, and marks
@@ -56,6 +56,27 @@ impl Elaborator {
     {
         let uses = uses_of(alloc, types, interfaces)?;
         let marks = Marks::new(alloc, uses.len())?;
+        Ok(Elaborator { uses, marks })
+    }
+
+    /// For worlds over these types and interfaces, of which it is for the first so many already. It goes over the
+    /// types of the others once.
+    pub fn grown(
+        self,
+        alloc: Global,
+        types: &[TypeDef],
+        interfaces: &[Interface],
+    ) -> Result<Elaborator, AllocError>
+        requires { self ≡ uses_of types.now (take (length self) interfaces.now) }
+        ensures { IfOk result (λ elaborator. elaborator ≡ uses_of types.now interfaces.now) }
+    {
+        let Elaborator { uses, marks } = self;
+        let mut uses = uses;
+        let mut marks = marks;
+        for index in uses.len()..interfaces.len() {
+            uses.push(interface_uses(alloc, types, &interfaces[index])?)?;
+            marks.add_node()?;
+        }
         Ok(Elaborator { uses, marks })
     }
 

@@ -19,7 +19,7 @@ pub mod rendering;
 pub mod role;
 
 pub use crate::cause::Cause;
-pub use crate::elaborable::{is_elaborable, is_listed};
+pub use crate::elaborable::is_elaborable;
 pub use crate::elaboration::{Elaborator, elaborate};
 pub use crate::entries::Lists;
 pub use crate::error::{ResolveError, ResolveResult};

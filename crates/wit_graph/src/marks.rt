@@ -1,5 +1,5 @@
 //! Marks of interfaces, for the elaboration of one world after another.
-ghost use Rattle.std.specs.Prelude.{◌≡◌, [], IfOk};
+ghost use Rattle.std.specs.Prelude.{◌≡◌, ℕ, ◌+◌, [], IfOk, OnOk};
 ghost use Rattle.wit_graph.specs.Elaborating.{HaveNodes};
 
 use std::alloc::{AllocError, Global};
@@ -52,5 +52,16 @@ impl Marks {
             outside: Listing::new(alloc, interfaces)?,
             leading: Listing::new(alloc, interfaces)?,
         })
+    }
+
+    /// One interface more, which isn't marked for anything.
+    pub(crate) fn add_node(&mut self) -> Result<(), AllocError>
+        ensures { OnOk result ((n : ℕ) → HaveNodes self.old n → HaveNodes self.new (n + 1)) }
+    {
+        self.walked.add_node()?;
+        self.exported.add_node()?;
+        self.reaching.add_node()?;
+        self.outside.add_node()?;
+        self.leading.add_node()
     }
 }

@@ -8,7 +8,7 @@ use Rattle.wit_graph.specs.Valid.{IsValid}
 use Rattle.wit_graph.specs.declared.graph.Graph.{Graph}
 use Rattle.wit_growth.specs.Covered.{IsCovered}
 use Rattle.wit_growth.specs.Cut.{IsClosedCut, IsGoodWhere, cut_source}
-use Rattle.wit_growth.specs.Good.{HasGoodThings, IsGoodAsAWhole, IsGoodType}
+use Rattle.wit_growth.specs.Good.{HasGoodItems, HasGoodThings, IsGoodAsAWhole, IsGoodType}
 use Rattle.wit_growth.specs.Image.{Maps}
 use Rattle.wit_growth.specs.Kept.{Kept, everything}
 use Rattle.wit_growth.specs.Sources.{Carries, IsGoodSource, Source}
@@ -47,14 +47,25 @@ module _ {K : Type 0} (at : K → Source) (g : Graph) (good : (k : K) → IsGood
           | inr own ↦ let made = own.kind in cc
         ]
 
-    pub covered_things : HasGoodTables g → HasGoodThings g
-    covered_things tables =
+    -- its types, interfaces and worlds are good
+    pub covered_items : HasGoodItems g
+    covered_items =
         let are = IsGoodWhere-of_covered everything covered in
         record {
           types = λ t' new there. are.types_are t' new there refl;
           known = covered_known;
           interfaces = λ f' new there. are.interfaces_are f' new there refl;
           worlds = λ w' new there. good_world at g good carries w' new there (covered.worlds w' new there refl);
+        }
+
+    pub covered_things : HasGoodTables g → HasGoodThings g
+    covered_things tables =
+        let items = covered_items in
+        record {
+          types = items.types;
+          known = items.known;
+          interfaces = items.interfaces;
+          worlds = items.worlds;
           packages = tables.packages;
           interfaces_in_tables = tables.interfaces;
           worlds_in_tables = tables.worlds;

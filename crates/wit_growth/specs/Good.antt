@@ -63,6 +63,14 @@ pub record IsGoodPackage (interfaces : List Interface) (worlds : List World) (p 
   pub namespace : IsKebabName home.name.namespace
   pub name : IsKebabName home.name.name
 
+-- each type, interface and world of the graph is good: so they are also while a package is added, when its tables
+-- name worlds that are not finished
+pub record HasGoodItems (g : Graph) : Type 0 where
+  pub types : EachAt (IsGoodType g.types g.interfaces g.worlds) g.types
+  pub known : Each (λ (def : TypeDef). def.kind ≢ kind.Unknown) g.types
+  pub interfaces : EachAt (IsGoodInterface g.types) g.interfaces
+  pub worlds : EachAt (IsGoodWorld g.types g.interfaces) g.worlds
+
 -- each thing of the graph is good
 pub record HasGoodThings (g : Graph) : Type 0 where
   pub types : EachAt (IsGoodType g.types g.interfaces g.worlds) g.types

@@ -23,7 +23,7 @@ use Rattle.wit_items.specs.declared.world.WorldKey.TheVariants as key
 use Rattle.wit_graph.proofs.Filters.{Contains-filter}
 use Rattle.wit_graph.specs.declared.graph.Graph.{Graph}
 use Rattle.wit_growth.specs.Cut.{IsClosedCut, IsGoodWhere, ItemIsKept, OwnerIsKept, StaysIn, cut_interface, cut_world, graph_source, kept_whole, mapped_source}
-use Rattle.wit_growth.specs.Good.{HasGoodThings}
+use Rattle.wit_growth.specs.Good.{HasGoodItems, HasGoodThings}
 use Rattle.wit_growth.specs.Image.{Maps, identity}
 use Rattle.wit_growth.specs.Referred.{RefersUnder}
 use Rattle.wit_growth.specs.Sources.{Carries, InterfaceStands, IsGoodSource, Stands, WorldStands}
@@ -31,7 +31,7 @@ use Rattle.wit_growth.specs.CarriedImages.{itself_stands}
 use Rattle.wit_growth.specs.CutIsGood.{cut_is_good}
 use Rattle.wit_growth.specs.ListFacts.{contained_at, found_at, from_map, in_row, some_at}
 
-module _ (g : Graph) (good : HasGoodThings g) (acyclic : IsAcyclic (type_references g.types)) where
+module _ (g : Graph) (good : HasGoodItems g) (acyclic : IsAcyclic (type_references g.types)) where
   type_in_range : (t : ℕ) (def : TypeDef) → slice_get g.types t ≡ Some def → (kept_whole g).types t ≡ true
   type_in_range t def at = lt-ltb t (length g.types) (slice_get_within g.types t def at)
 
@@ -93,9 +93,16 @@ module _ (g : Graph) (good : HasGoodThings g) (acyclic : IsAcyclic (type_referen
     exports_are = λ w world at takes. (good.worlds w world at).exports;
   }
 
-  -- a valid graph is a good source, under whatever maps
-  pub mapped_is_good : (m : Maps) → IsGoodSource (mapped_source g m)
-  mapped_is_good m = cut_is_good (kept_whole g) g.types g.interfaces g.worlds m whole_is_closed whole_is_good
+  -- a graph whose types, interfaces and worlds are good is a good source, under whatever maps
+  pub items_are_good : (m : Maps) → IsGoodSource (mapped_source g m)
+  items_are_good m = cut_is_good (kept_whole g) g.types g.interfaces g.worlds m whole_is_closed whole_is_good
+
+pub good_items : (g : Graph) → HasGoodThings g → HasGoodItems g
+good_items g good = record { types = good.types; known = good.known; interfaces = good.interfaces; worlds = good.worlds }
+
+-- so is a valid graph
+pub mapped_is_good : (g : Graph) → HasGoodThings g → IsAcyclic (type_references g.types) → (m : Maps) → IsGoodSource (mapped_source g m)
+mapped_is_good g good acyclic m = items_are_good g (good_items g good) acyclic m
 
 -- what keeps name, owner and kind stands
 stands_kept : (def new : TypeDef) → new.name ≡ def.name → new.owner ≡ def.owner → ((def.name ≡ None) → new.kind ≡ def.kind) → Stands identity def new

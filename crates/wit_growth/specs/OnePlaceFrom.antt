@@ -110,7 +110,7 @@ module _ (interfaces : List Interface) (worlds : List World) (once : StandOnce i
 -- ---- the cut
 
 module _ (kept : Kept) (interfaces : List Interface) (worlds : List World) (one : HasOnePlace interfaces worlds) where
-  unnamed_cut : (f : ℕ) → is_unnamed (map (cut_interface kept) interfaces) f ≡ is_unnamed interfaces f
+  pub unnamed_cut : (f : ℕ) → is_unnamed (map (cut_interface kept) interfaces) f ≡ is_unnamed interfaces f
   unnamed_cut f = by interfaces f
     where
       by : (xs : List Interface) (i : ℕ) → is_unnamed (map (cut_interface kept) xs) i ≡ is_unnamed xs i

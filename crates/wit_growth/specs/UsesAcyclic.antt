@@ -13,7 +13,7 @@ use Rattle.wit_items.specs.declared.types.TypeOwner.{TypeOwner}
 use Rattle.wit_items.specs.declared.types.TypeOwner.TheVariants as owner
 use Rattle.wit_graph.specs.declared.graph.Graph.{Graph}
 use Rattle.wit_growth.specs.Covered.{IsCovered}
-use Rattle.wit_growth.specs.Good.{HasGoodThings}
+use Rattle.wit_growth.specs.Good.{HasGoodItems}
 use Rattle.wit_growth.specs.Growth.{InterfacesGrow}
 use Rattle.wit_growth.specs.Image.{Maps, owner_image}
 use Rattle.wit_growth.specs.Kept.{everything}
@@ -63,7 +63,7 @@ other_is (owner.Interface i) owner.None j is = cc
 other_is (owner.World w) owner.None j is = cc
 other_is owner.None owner.None j is = cc
 
-module _ {K : Type 0} (at : K → Source) (rank : K → ℕ → ℕ) (old g : Graph) (good_old : HasGoodThings old) (good : (k : K) → IsGoodSource (at k)) (carries : (k : K) → Carries (at k) g)
+module _ {K : Type 0} (at : K → Source) (rank : K → ℕ → ℕ) (old g : Graph) (good_old : HasGoodItems old) (good : (k : K) → IsGoodSource (at k)) (carries : (k : K) → Carries (at k) g)
     (covered : IsCovered everything at g) (grow : InterfacesGrow at rank old g) where
   record Rank (f' r : ℕ) : Type 0 where
     source : K

@@ -26,6 +26,7 @@ pub use crate::ids::{
 pub use crate::interface::Interface;
 pub use crate::package_name::PackageName;
 pub use crate::reference::{function_references, referred, type_references};
+pub use crate::shape::foreign::{foreign_interfaces, foreign_worlds};
 pub use crate::stability::{Docs, Stability};
 pub use crate::track::TrackRule;
 pub use crate::types::{

@@ -5,7 +5,7 @@ ghost use Rattle.wit_items.specs.Shape.{IsGroupShaped, IsShaped, IsUnplaced};
 ghost use Rattle.wit_items.specs.declared.interface.Interface.{Interface};
 ghost use Rattle.wit_items.specs.declared.world.World.{World};
 
-mod foreign;
+pub mod foreign;
 pub mod keys;
 pub mod names;
 mod numbers;

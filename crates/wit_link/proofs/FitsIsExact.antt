@@ -20,13 +20,14 @@ use Rattle.wit_items.specs.declared.world.World.{World}
 use Rattle.wit_items.specs.declared.world.WorldInclude.{WorldInclude}
 use Rattle.wit_items.specs.declared.world.WorldItem.{WorldItem}
 use Rattle.wit_items.specs.declared.world.WorldItem.TheVariants as item
-use Rattle.wit_link.specs.Fits.{EntriesFit, Fits, FunctionFits, InterfaceFits, ItemFits, KindFits, PackageFits, TypeFits, WorldFits}
 use Rattle.wit_adding.specs.Gates.{Place}
 use Rattle.wit_adding.specs.Spans.{function_spans, interface_spans, item_spans, kind_spans, package_spans, type_spans, world_spans}
 use Rattle.wit_values.specs.Lists.{slice_get-append}
 use Rattle.wit_growth.specs.ListFacts.{Each-map, at_map, place_of}
 use Rattle.wit_adding.specs.Addition.{Addition}
 use Rattle.wit_adding.specs.Reasons.{PassesTheEnd}
+use Rattle.wit_placing.specs.Fits.{EntriesFit, Fits, FunctionFits, InterfaceFits, ItemFits, KindFits, TypeFits}
+use Rattle.wit_link.specs.Fits.{PackageFits, WholeWorldFits}
 
 -- ---- what holds of each element
 
@@ -156,14 +157,14 @@ module _ (offset : ℕ) where
   abbrev world_rest : World → List Place
   world_rest world = flat_map entry_spans world.imports ++ (flat_map entry_spans world.exports ++ include_spans world.includes)
 
-  all_world : (world : World) → WorldFits offset world → AllFit (world_spans world)
+  all_world : (world : World) → WholeWorldFits offset world → AllFit (world_spans world)
   all_world world fits =
-      Each-cons (Fits offset) world.span (world_rest world) fits.own
-      (Each-append (Fits offset) (flat_map entry_spans world.imports) (flat_map entry_spans world.exports ++ include_spans world.includes) (all_entries world.imports fits.imports)
-      (Each-append (Fits offset) (flat_map entry_spans world.exports) (include_spans world.includes) (all_entries world.exports fits.exports)
+      Each-cons (Fits offset) world.span (world_rest world) fits.entries.own
+      (Each-append (Fits offset) (flat_map entry_spans world.imports) (flat_map entry_spans world.exports ++ include_spans world.includes) (all_entries world.imports fits.entries.imports)
+      (Each-append (Fits offset) (flat_map entry_spans world.exports) (include_spans world.includes) (all_entries world.exports fits.entries.exports)
       (Each-map (λ (i : WorldInclude). i.span) (Fits offset) world.includes fits.includes)))
 
-  world_fits : (world : World) → AllFit (world_spans world) → WorldFits offset world
+  world_fits : (world : World) → AllFit (world_spans world) → WholeWorldFits offset world
   world_fits world all =
       let rest : AllFit (world_rest world) = Each-tail (Fits offset) world.span (world_rest world) all in
       let imports = Each-left (Fits offset) (flat_map entry_spans world.imports) (flat_map entry_spans world.exports ++ include_spans world.includes) rest in
@@ -171,9 +172,11 @@ module _ (offset : ℕ) where
       let exports = Each-left (Fits offset) (flat_map entry_spans world.exports) (include_spans world.includes) others in
       let includes = Each-right (Fits offset) (flat_map entry_spans world.exports) (include_spans world.includes) others in
       record {
-        own = Each-head (Fits offset) world.span (world_rest world) all;
-        imports = entries_fit world.imports imports;
-        exports = entries_fit world.exports exports;
+        entries = record {
+          own = Each-head (Fits offset) world.span (world_rest world) all;
+          imports = entries_fit world.imports imports;
+          exports = entries_fit world.exports exports;
+        };
         includes = Each-unmapped (Fits offset) IncludeFits (λ (i : WorldInclude). i.span) world.includes (λ i h. h) includes;
       }
 
@@ -204,7 +207,7 @@ module _ (offset : ℕ) where
   all_package u fits =
       let types = Each-flat (Fits offset) (TypeFits offset) type_spans all_type u.types fits.types in
       let interfaces = Each-flat (Fits offset) (InterfaceFits offset) interface_spans all_interface u.interfaces fits.interfaces in
-      let worlds = Each-flat (Fits offset) (WorldFits offset) world_spans all_world u.worlds fits.worlds in
+      let worlds = Each-flat (Fits offset) (WholeWorldFits offset) world_spans all_world u.worlds fits.worlds in
       let required : AllFit (required_spans u) = Each-map (λ (r : ℕ × Place). r.1) (Fits offset) u.required_resource_types fits.foreign.required in
       Each-cons (Fits offset) u.package_name_span (after_name u) fits.name
       (Each-append (Fits offset) u.foreign_dep_spans (after_deps u) fits.foreign.deps
@@ -234,7 +237,7 @@ module _ (offset : ℕ) where
             Each-unflat (Fits offset) (InterfaceFits offset) interface_spans interface_fits u.interfaces
             (Each-left (Fits offset) (flat_map interface_spans u.interfaces) (flat_map world_spans u.worlds) behind_types);
         worlds =
-            Each-unflat (Fits offset) (WorldFits offset) world_spans world_fits u.worlds
+            Each-unflat (Fits offset) (WholeWorldFits offset) world_spans world_fits u.worlds
             (Each-right (Fits offset) (flat_map interface_spans u.interfaces) (flat_map world_spans u.worlds) behind_types);
       }
 

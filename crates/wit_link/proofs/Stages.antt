@@ -16,8 +16,8 @@ use Rattle.wit_adding.specs.Addition.{Addition, active_includes, addition_maps, 
 use Rattle.wit_adding.specs.Behind.{IsBehind, with_placed}
 use Rattle.wit_adding.specs.Gates.{include_is_active}
 use Rattle.wit_adding.specs.Include.{Begun, lists_of}
+use Rattle.wit_adding.specs.OwnThingFacts.{own_world_from}
 use Rattle.wit_adding.specs.Pushed.{begun, begun_with, finished, pushed, with_include, with_parts, with_world, with_worlds}
-use Rattle.wit_adding_laws.specs.OwnThings.{own_world_from}
 use Rattle.wit_finishing.specs.Finished.{CanFinish, finished_world, with_all_finished, with_finished}
 use Rattle.wit_link.specs.Images.{image_of, images}
 use Rattle.wit_link.specs.Supported.{IncludesNothing, IsSupported}

@@ -1,70 +1,19 @@
 -- Whether the spans of a package still end within the last position, 4294967295, when they are moved. The
 -- law `fitting_is_exact` says that a package fits exactly where no span of it passes the end.
-use Rattle.std.specs.Prelude.{◌≡◌, ◌⊎◌, None, ℕ, ◌+◌, ◌<◌, ◌^◌, List}
+use Rattle.std.specs.Prelude.{◌≡◌, ◌⊎◌, None, ℕ}
 use Rattle.wit_items.specs.Each.{Each}
-use Rattle.wit_items.specs.Entries.{Entry}
-use Rattle.wit_sources.specs.Span.{end_of, moved_by}
-use Rattle.wit_items.specs.declared.function.Function.{Function}
-use Rattle.wit_items.specs.declared.function.Param.{Param}
-use Rattle.wit_items.specs.declared.interface.Interface.{Interface}
-use Rattle.wit_items.specs.declared.types.Case.{Case}
-use Rattle.wit_items.specs.declared.types.EnumCase.{EnumCase}
-use Rattle.wit_items.specs.declared.types.Field.{Field}
-use Rattle.wit_items.specs.declared.types.Flag.{Flag}
-use Rattle.wit_items.specs.declared.types.TypeDef.{TypeDef}
-use Rattle.wit_items.specs.declared.types.TypeDefKind.{TypeDefKind}
-use Rattle.wit_items.specs.declared.types.TypeDefKind.TheVariants as kind
+use Rattle.wit_sources.specs.Span.{moved_by}
 use Rattle.wit_items.specs.declared.unresolved.UnresolvedPackage.{UnresolvedPackage}
 use Rattle.wit_items.specs.declared.world.World.{World}
 use Rattle.wit_items.specs.declared.world.WorldInclude.{WorldInclude}
-use Rattle.wit_items.specs.declared.world.WorldItem.{WorldItem}
-use Rattle.wit_items.specs.declared.world.WorldItem.TheVariants as item
 use Rattle.wit_graph.specs.declared.error_kind.ResolveErrorKind.{ResolveErrorKind}
 use Rattle.wit_graph.specs.declared.error_kind.ResolveErrorKind.TheVariants.{DuplicatePackage, OffsetOverflow}
 use Rattle.wit_adding.specs.Gates.{Place}
+use Rattle.wit_placing.specs.Fits.{Fits, InterfaceFits, TypeFits, WorldFits}
 
--- the place still ends within the last position
-abbrev pub Fits : ℕ → Place → Type 0
-Fits offset place = end_of place + offset < 2 ^ 32
-
--- those of the parts of a kind
-abbrev pub KindFits : ℕ → TypeDefKind → Type 0
-KindFits offset (kind.Record fields) = Each (λ (f : Field). Fits offset f.span) fields
-KindFits offset (kind.Variant cases) = Each (λ (c : Case). Fits offset c.span) cases
-KindFits offset (kind.Flags flags) = Each (λ (f : Flag). Fits offset f.span) flags
-KindFits offset (kind.Enum cases) = Each (λ (c : EnumCase). Fits offset c.span) cases
-KindFits offset _ = Unit {0}
-
--- those of a type
-pub record TypeFits (offset : ℕ) (def : TypeDef) : Type 0 where
-  pub own : Fits offset def.span
-  pub parts : KindFits offset def.kind
-
--- those of a function
-pub record FunctionFits (offset : ℕ) (f : Function) : Type 0 where
-  pub own : Fits offset f.span
-  pub params : Each (λ (p : Param). Fits offset p.span) f.params
-
--- those of an interface
-pub record InterfaceFits (offset : ℕ) (interface : Interface) : Type 0 where
-  pub own : Fits offset interface.span
-  pub functions : Each (λ (e : List ℕ × Function). FunctionFits offset e.1) interface.functions
-
--- those of an entry of a world
-abbrev pub ItemFits : ℕ → WorldItem → Type 0
-ItemFits offset (item.Interface id stability docs span external_id) = Fits offset span
-ItemFits offset (item.Function function) = FunctionFits offset function
-ItemFits offset (item.Type_ id span) = Fits offset span
-
--- those of entries
-abbrev pub EntriesFit : ℕ → List Entry → Type 0
-EntriesFit offset entries = Each (λ (e : Entry). ItemFits offset e.1) entries
-
--- those of a world
-pub record WorldFits (offset : ℕ) (world : World) : Type 0 where
-  pub own : Fits offset world.span
-  pub imports : EntriesFit offset world.imports
-  pub exports : EntriesFit offset world.exports
+-- those of a world with its entries, and of its includes
+pub record WholeWorldFits (offset : ℕ) (world : World) : Type 0 where
+  pub entries : WorldFits offset world
   pub includes : Each (λ (i : WorldInclude). Fits offset i.span) world.includes
 
 -- that of a type that has to be a resource
@@ -83,7 +32,7 @@ pub record PackageFits (offset : ℕ) (u : UnresolvedPackage) : Type 0 where
   pub foreign : ForeignFits offset u
   pub types : Each (TypeFits offset) u.types
   pub interfaces : Each (InterfaceFits offset) u.interfaces
-  pub worlds : Each (WorldFits offset) u.worlds
+  pub worlds : Each (WholeWorldFits offset) u.worlds
 
 -- the refusal of a package whose name is there: that it is there, with the place of the name, or that this
 -- place passes the end

@@ -1,9 +1,6 @@
--- Which packages and groups can be added so far: those whose worlds include no other, each in a group of its own.
--- Later work takes this away.
-use Rattle.std.specs.Prelude.{◌≡◌, [], None}
-use Rattle.std.specs.Map.{lookup}
+-- Which packages and groups can be added so far: those whose worlds include no other. Later work takes this away.
+use Rattle.std.specs.Prelude.{◌≡◌, []}
 use Rattle.wit_items.specs.Each.{Each}
-use Rattle.wit_items.specs.PackageOrder.{same_package}
 use Rattle.wit_items.specs.Shape.{IsShaped}
 use Rattle.wit_items.specs.declared.unresolved.UnresolvedPackage.{UnresolvedPackage}
 use Rattle.wit_items.specs.declared.unresolved.UnresolvedPackageGroup.{UnresolvedPackageGroup}
@@ -18,11 +15,10 @@ IncludesNothing world = world.includes ≡ []
 abbrev pub IsSupported : UnresolvedPackage → Type 0
 IsSupported u = Each IncludesNothing u.worlds
 
--- a group of one such package that names nothing of itself
+-- a group of such packages
 pub record IsSupportedGroup (group : UnresolvedPackageGroup) : Type 0 where
   pub main : IsSupported group.main
-  pub no_nested : group.nested ≡ []
-  pub names_others : lookup (same_package group.main.name) group.main.foreign_deps ≡ None
+  pub nested : Each IsSupported group.nested
 
 -- a package, with the offset of its spans, that has its shape and can be added so far
 pub record CanAppend (handed : Handed) : Type 0 where

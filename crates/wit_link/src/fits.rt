@@ -12,19 +12,8 @@ ghost use Rattle.wit_items.specs.declared.types.Flag.{Flag};
 ghost use Rattle.wit_items.specs.declared.types.TypeDef.{TypeDef};
 ghost use Rattle.wit_items.specs.declared.world.World.{World};
 ghost use Rattle.wit_items.specs.declared.world.WorldInclude.{WorldInclude};
-ghost use Rattle.wit_link.specs.Fits.{
-  EntriesFit,
-  Fits,
-  ForeignFits,
-  FunctionFits,
-  InterfaceFits,
-  ItemFits,
-  KindFits,
-  PackageFits,
-  RequiredFits,
-  TypeFits,
-  WorldFits,
-};
+ghost use Rattle.wit_link.specs.Fits.{ForeignFits, PackageFits, RequiredFits, WholeWorldFits};
+ghost use Rattle.wit_placing.specs.Fits.{EntriesFit, Fits, FunctionFits, InterfaceFits, ItemFits, KindFits, TypeFits, WorldFits};
 
 use wit_items::{
     Case, EnumCase, Field, Flag, Function, Interface, Param, Span, Table, TypeDef, TypeDefKind,
@@ -170,18 +159,23 @@ fn params_fit(params: &[Param], offset: u32) -> bool
 }
 
 fn worlds_fit(worlds: &[World], offset: u32) -> bool
-    ensures { IsTrue result ↔ Each (WorldFits offset) worlds.now }
+    ensures { IsTrue result ↔ Each (WholeWorldFits offset) worlds.now }
 {
     worlds.iter().all(|world| world_fits(world, offset))
 }
 
 fn world_fits(world: &World, offset: u32) -> bool
+    ensures { IsTrue result ↔ WholeWorldFits offset world.now }
+{
+    world_and_entries_fit(world, offset) && includes_fit(world.includes.as_slice(), offset)
+}
+
+fn world_and_entries_fit(world: &World, offset: u32) -> bool
     ensures { IsTrue result ↔ WorldFits offset world.now }
 {
     fits(world.span, offset)
         && entries_fit(&world.imports, offset)
         && entries_fit(&world.exports, offset)
-        && includes_fit(world.includes.as_slice(), offset)
 }
 
 fn entries_fit(entries: &Table<WorldKey, WorldItem>, offset: u32) -> bool

@@ -1,8 +1,13 @@
 //! Where the things of a handed-in package or graph stand in the graph that took them.
-ghost use Rattle.std.specs.Prelude.{◌≡◌};
+ghost use Rattle.std.specs.Prelude.{◌≡◌, ◌⊎◌, ◌<◌, ℕ, None, Some, Ok, IfErr, IfOk, OnOk, codes, length, slice_get, string_bytes};
+ghost use Rattle.wit_adding.specs.CauseText.{excluded_owner_text, excluded_text};
+ghost use Rattle.wit_graph.specs.declared.cause.Cause.TheVariants as cause;
+ghost use Rattle.wit_graph.specs.declared.error_kind.ResolveErrorKind.TheVariants.{OutOfMemory, Semantic};
 
-use std::alloc::AllocError;
-use wit_items::{InterfaceId, Items, PackageId, TryClone, TypeId, WorldId};
+use std::alloc::{AllocError, Global};
+use wit_gates::{excluded_message, excluded_owner_message};
+use wit_graph::{Cause, ResolveError, ResolveErrorKind, ResolveResult};
+use wit_items::{InterfaceId, Items, PackageId, Span, Text, TryClone, TypeId, WorldId};
 use wit_values::try_clone_four;
 
 /// The ids of the things that were handed in: for each place of the handed-in list the id in the
@@ -56,6 +61,119 @@ impl Remap {
     {
         self.packages.as_slice()
     }
+}
+
+impl Remap {
+    /// Where a type that was handed in is; the id is one of those that `types` lists. Where there is an id,
+    /// that is answered, and no memory is taken. Refused with the handed span where the type is left out (11), and
+    /// for memory (28).
+    pub fn map_type(&self, alloc: Global, id: TypeId, span: Span) -> ResolveResult<TypeId>
+        requires { id < length self.now.types }
+        ensures found { (new : ℕ) → slice_get self.now.types id ≡ Some (Some new) → result ≡ Ok new }
+        ensures refuses { slice_get self.now.types id ≡ Some None → OnOk result ⊥ }
+        ensures cause { IfErr result (λ kind. (kind ≡ OutOfMemory) ⊎ (kind ≡ Semantic span (excluded_text (codes "type")) cause.Excluded)) }
+    {
+        match self.types.at(id.index()) {
+            Some(new) => Ok(*new),
+            None => Err(excluded(alloc, "type", span)?),
+        }
+    }
+
+    /// Where an interface that was handed in is: as `map_type`, with `interfaces`.
+    pub fn map_interface(
+        &self,
+        alloc: Global,
+        id: InterfaceId,
+        span: Span,
+    ) -> ResolveResult<InterfaceId>
+        requires { id < length self.now.interfaces }
+        ensures found { (new : ℕ) → slice_get self.now.interfaces id ≡ Some (Some new) → result ≡ Ok new }
+        ensures refuses { slice_get self.now.interfaces id ≡ Some None → OnOk result ⊥ }
+        ensures cause { IfErr result (λ kind. (kind ≡ OutOfMemory) ⊎ (kind ≡ Semantic span (excluded_text (codes "interface")) cause.Excluded)) }
+    {
+        match self.interfaces.at(id.index()) {
+            Some(new) => Ok(*new),
+            None => Err(excluded(alloc, "interface", span)?),
+        }
+    }
+
+    /// Where a world that was handed in is: as `map_type`, with `worlds`.
+    pub fn map_world(&self, alloc: Global, id: WorldId, span: Span) -> ResolveResult<WorldId>
+        requires { id < length self.now.worlds }
+        ensures found { (new : ℕ) → slice_get self.now.worlds id ≡ Some (Some new) → result ≡ Ok new }
+        ensures refuses { slice_get self.now.worlds id ≡ Some None → OnOk result ⊥ }
+        ensures cause { IfErr result (λ kind. (kind ≡ OutOfMemory) ⊎ (kind ≡ Semantic span (excluded_text (codes "world")) cause.Excluded)) }
+    {
+        match self.worlds.at(id.index()) {
+            Some(new) => Ok(*new),
+            None => Err(excluded(alloc, "world", span)?),
+        }
+    }
+
+    /// Where the interface that owns a type is: as `map_interface`, but where it is left out the type that isn't is
+    /// what is refused (12).
+    pub fn map_interface_for_type(
+        &self,
+        alloc: Global,
+        id: InterfaceId,
+        span: Span,
+    ) -> ResolveResult<InterfaceId>
+        requires { id < length self.now.interfaces }
+        ensures found { (new : ℕ) → slice_get self.now.interfaces id ≡ Some (Some new) → result ≡ Ok new }
+        ensures refuses { slice_get self.now.interfaces id ≡ Some None → OnOk result ⊥ }
+        ensures cause { IfErr result (λ kind. (kind ≡ OutOfMemory) ⊎ (kind ≡ Semantic span (excluded_owner_text (codes "interface")) cause.ExcludedOwner)) }
+    {
+        match self.interfaces.at(id.index()) {
+            Some(new) => Ok(*new),
+            None => Err(excluded_owner(alloc, "interface", span)?),
+        }
+    }
+
+    /// Where the world that owns a type is: as `map_interface_for_type`, with `worlds`.
+    pub fn map_world_for_type(
+        &self,
+        alloc: Global,
+        id: WorldId,
+        span: Span,
+    ) -> ResolveResult<WorldId>
+        requires { id < length self.now.worlds }
+        ensures found { (new : ℕ) → slice_get self.now.worlds id ≡ Some (Some new) → result ≡ Ok new }
+        ensures refuses { slice_get self.now.worlds id ≡ Some None → OnOk result ⊥ }
+        ensures cause { IfErr result (λ kind. (kind ≡ OutOfMemory) ⊎ (kind ≡ Semantic span (excluded_owner_text (codes "world")) cause.ExcludedOwner)) }
+    {
+        match self.worlds.at(id.index()) {
+            Some(new) => Ok(*new),
+            None => Err(excluded_owner(alloc, "world", span)?),
+        }
+    }
+}
+
+/// 11: what is referred to is left out; `sort` is `type`, `interface` or `world`.
+fn excluded(alloc: Global, sort: &str, span: Span) -> Result<ResolveError, AllocError>
+    ensures { IfOk result (λ e. e ≡ Semantic span (excluded_text sort.now) cause.Excluded) }
+{
+    let message = excluded_message(alloc, sort)?;
+    Ok(refusal(message, span, Cause::Excluded))
+}
+
+/// 12: a type isn't left out, but its owner is; `sort` is `interface` or `world`.
+fn excluded_owner(alloc: Global, sort: &str, span: Span) -> Result<ResolveError, AllocError>
+    ensures { IfOk result (λ e. e ≡ Semantic span (excluded_owner_text sort.now) cause.ExcludedOwner) }
+{
+    let message = excluded_owner_message(alloc, sort)?;
+    Ok(refusal(message, span, Cause::ExcludedOwner))
+}
+
+/// A refusal with this message, at this place.
+fn refusal(message: String, span: Span, cause: Cause) -> ResolveError
+    ensures { result ≡ Semantic span (string_bytes message) cause }
+{
+    ResolveErrorKind::Semantic {
+        span,
+        message: Text::from_string(message),
+        cause,
+    }
+    .into()
 }
 
 impl TryClone for Remap {

@@ -26,11 +26,16 @@ fn includes_nothing(world: &World) -> bool
     world.includes.is_empty()
 }
 
-/// Whether a group can be added so far: it is one such package, which names nothing of itself.
+/// Whether a group can be added so far: its packages can.
 pub fn is_supported_group(group: &UnresolvedPackageGroup) -> bool
     ensures { IsTrue result ↔ IsSupportedGroup group.now }
 {
-    is_supported(&group.main)
-        && group.nested.is_empty()
-        && !group.main.foreign_deps.contains_key(&group.main.name)
+    is_supported(&group.main) && are_supported(group.nested.as_slice())
+}
+
+/// Whether each of these packages can be added so far.
+fn are_supported(packages: &[UnresolvedPackage]) -> bool
+    ensures { IsTrue result ↔ Each IsSupported packages.now }
+{
+    packages.iter().all(|package| is_supported(package))
 }

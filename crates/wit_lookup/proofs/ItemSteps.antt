@@ -11,7 +11,7 @@ use Rattle.wit_adding.specs.Gates.{interface_is_active, world_is_active}
 use Rattle.wit_lookup.specs.Finding.{AreThere, IsHome, Named, found_among, interface_in, world_in}
 use Rattle.wit_lookup.specs.declared.foreign.Found.{Found}
 use Rattle.wit_lookup.proofs.Causes.{is_named}
-use Rattle.wit_lookup.proofs.Flags.{named_interface-inside, named_world-inside}
+use Rattle.wit_lookup.proofs.FoundLists.{named_interface-inside, named_world-inside}
 use Rattle.wit_lookup.proofs.NamedItems.{named_until, until-next, whole}
 use Rattle.wit_lookup.proofs.Steps.{interface-found, interface-there, world-found, world-there}
 

@@ -1,10 +1,9 @@
 pub mod Assembled
 pub mod Causes
 pub mod Firsts
-pub mod Flags
+pub mod FoundLists
 pub mod Going
 pub mod ItemSteps
 pub mod NamedItems
-pub mod Ranges
 pub mod Steps
 pub mod TypeSteps

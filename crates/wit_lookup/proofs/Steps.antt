@@ -11,11 +11,11 @@ use Rattle.wit_items.specs.declared.unresolved.AstItem.TheVariants as item
 use Rattle.wit_adding.specs.Addition.{Addition}
 use Rattle.wit_adding.specs.Gates.{interface_is_active, world_is_active}
 use Rattle.wit_adding.specs.Lookup.{find_interface, find_world, named_items}
+use Rattle.wit_adding.specs.RangeFacts.{range-same, range-set}
 use Rattle.wit_lookup.specs.Finding.{AreThere, Named, found_among, interface_among, world_among}
 use Rattle.wit_lookup.specs.declared.foreign.Found.{Found}
 use Rattle.wit_lookup.proofs.Firsts.{first_as_before, first_at_end, names, none_before}
 use Rattle.wit_lookup.proofs.NamedItems.{ids_named}
-use Rattle.wit_lookup.proofs.Ranges.{range-same, range-set}
 
 -- the interfaces and the worlds that an item is
 abbrev pub interfaces_of : Named → List ℕ

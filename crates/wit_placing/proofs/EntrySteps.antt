@@ -11,15 +11,15 @@ use Rattle.wit_items.specs.declared.world.WorldItem.TheVariants as item
 use Rattle.wit_items.specs.declared.world.WorldKey.{WorldKey}
 use Rattle.wit_items.specs.declared.world.WorldKey.TheVariants as key
 use Rattle.wit_growth.specs.Image.{entry_image, item_image, key_image}
-use Rattle.wit_placing.specs.Fits.{EntriesFit, ItemFits}
+use Rattle.wit_placing.specs.Fits.{EntriesFit, Fits, ItemFits}
 use Rattle.wit_placing.specs.Movers.{maps_of}
 use Rattle.wit_placing.specs.declared.mover.Mover.{Mover}
 
 -- the spans of the first entry fit, and those of the others
-pub first_fits : (offset : ℕ) (left rest : List Entry) (e : Entry) → EntriesFit offset left → left ≡ e ∷ rest → ItemFits offset e.1
+pub first_fits : (offset : ℕ) (left rest : List Entry) (e : Entry) → EntriesFit (Fits offset) left → left ≡ e ∷ rest → ItemFits (Fits offset) e.1
 first_fits offset left rest e fits first = fits zero e (ap (λ (l : List Entry). slice_get l zero) first)
 
-pub others_fit : (offset : ℕ) (left rest : List Entry) (e : Entry) → EntriesFit offset left → left ≡ e ∷ rest → EntriesFit offset rest
+pub others_fit : (offset : ℕ) (left rest : List Entry) (e : Entry) → EntriesFit (Fits offset) left → left ≡ e ∷ rest → EntriesFit (Fits offset) rest
 others_fit offset left rest e fits first i x at = fits (suc i) x (ap (λ (l : List Entry). slice_get l (suc i)) first ∙ at)
 
 module _ (f : Entry → Entry) where

@@ -16,10 +16,10 @@ use Rattle.wit_graph.specs.Valid.{IsValid}
 use Rattle.wit_growth.specs.Cut.{ItemIsKept}
 use Rattle.wit_growth.specs.Image.{entry_image}
 use Rattle.wit_adding.specs.Addition.{Addition, active, addition_maps, own_world, part}
+use Rattle.wit_adding.specs.ApartFacts.{KeyTakesPart, keys_apart}
 use Rattle.wit_adding.specs.ClosedCut.{closed_part}
 use Rattle.wit_adding.specs.Reasons.{HasImage}
 use Rattle.wit_placing.specs.Worlds.{HasKeysApart}
-use Rattle.wit_placing.proofs.InterfacesApart.{KeyTakesPart, keys_apart}
 
 module _ (f : Entry → Entry) (kept : Entry → Bool) where
   -- a key that no other has

@@ -1,14 +1,12 @@
 pub mod EntrySteps
 pub mod Firsts
-pub mod InterfacesApart
 pub mod Kept
 pub mod KeysApart
+pub mod LabelsStay
 pub mod MapsAre
 pub mod NamedFilter
 pub mod NamesApart
-pub mod OwnThings
 pub mod Places
-pub mod Positions
 pub mod Ready
 pub mod Rows
 pub mod SpansFit

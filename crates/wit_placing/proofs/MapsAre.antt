@@ -7,12 +7,12 @@ use Rattle.wit_items.specs.declared.world.WorldItem.TheVariants as item
 use Rattle.wit_adding.specs.Adding.{activity_of, places_of, values_of}
 use Rattle.wit_adding.specs.Addition.{Addition, active, addition_maps, interface_place, needs_own, own_types, taken_interface, taken_type, taken_world, type_place, value_place, world_place}
 use Rattle.wit_adding.specs.Gates.{function_is_active, interface_is_active, item_is_active, type_is_active, world_is_active}
+use Rattle.wit_adding.specs.PositionFacts.{needs_active}
 use Rattle.wit_adding.specs.Ranks.{rank}
 use Rattle.wit_adding.specs.Reasons.{HasImage}
 use Rattle.wit_placing.specs.Movers.{goes, maps_with}
 use Rattle.wit_placing.specs.Parts.{flag, has_item, kept_with}
 use Rattle.wit_placing.proofs.Places.{flag-is, goes-is, values-are}
-use Rattle.wit_placing.proofs.Positions.{needs_active}
 use Rattle.wit_placing.proofs.WhereNew.{interface_past, type_past, world_past}
 
 off : {X : Type 0} (b : Bool) (x y : X) → b ≡ false → (if b then x else y) ≡ y

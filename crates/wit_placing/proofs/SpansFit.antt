@@ -36,7 +36,7 @@ module _ (offset : ℕ) where
   of_map : {X : Type 0} (span : X → Place) (xs : List X) → AllFit offset (map span xs) → Each (λ (x : X). Fits offset (span x)) xs
   of_map span xs fit i x at = fit (span x) (Contains-map span xs x (contained_at xs i x at))
 
-  kind_fits : (k : TypeDefKind) → AllFit offset (kind_spans k) → KindFits offset k
+  kind_fits : (k : TypeDefKind) → AllFit offset (kind_spans k) → KindFits (Fits offset) k
   kind_fits (kind.Record fields) fit = of_map (λ (f : Field). f.span) fields fit
   kind_fits kind.Resource fit = tt
   kind_fits (kind.Handle handle) fit = tt
@@ -54,13 +54,13 @@ module _ (offset : ℕ) where
   kind_fits (kind.Type_ ty) fit = tt
   kind_fits kind.Unknown fit = tt
 
-  type_fits : (def : TypeDef) → AllFit offset (type_spans def) → TypeFits offset def
+  type_fits : (def : TypeDef) → AllFit offset (type_spans def) → TypeFits (Fits offset) def
   type_fits def fit = record {
     own = fit def.span (Contains-here def.span (kind_spans def.kind));
     parts = kind_fits def.kind (λ s has. fit s (Contains-there def.span s (kind_spans def.kind) has));
   }
 
-  function_fits : (f : Function) → AllFit offset (function_spans f) → FunctionFits offset f
+  function_fits : (f : Function) → AllFit offset (function_spans f) → FunctionFits (Fits offset) f
   function_fits f fit =
       let params = map (λ (p : Param). p.span) f.params in
       record {
@@ -68,7 +68,7 @@ module _ (offset : ℕ) where
         params = of_map (λ (p : Param). p.span) f.params (λ s has. fit s (Contains-there f.span s params has));
       }
 
-  interface_fits : (interface : Interface) → AllFit offset (interface_spans interface) → InterfaceFits offset interface
+  interface_fits : (interface : Interface) → AllFit offset (interface_spans interface) → InterfaceFits (Fits offset) interface
   interface_fits interface fit =
       let functions = flat_map (λ (e : List ℕ × Function). function_spans e.1) interface.functions in
       record {
@@ -77,12 +77,12 @@ module _ (offset : ℕ) where
             (Contains-flat_map (λ (e : List ℕ × Function). function_spans e.1) interface.functions e s (contained_at interface.functions i e at) has)));
       }
 
-  item_fits : (held : WorldItem) → AllFit offset (item_spans held) → ItemFits offset held
+  item_fits : (held : WorldItem) → AllFit offset (item_spans held) → ItemFits (Fits offset) held
   item_fits (item.Interface id stability docs span external_id) fit = fit span (Contains-here span [])
   item_fits (item.Function f) fit = function_fits f fit
   item_fits (item.Type_ t span) fit = fit span (Contains-here span [])
 
-  world_fits : (world : World) → AllFit offset (world_spans world) → WorldFits offset world
+  world_fits : (world : World) → AllFit offset (world_spans world) → WorldFits (Fits offset) world
   world_fits world fit =
       let spans = λ (e : Entry). item_spans e.1 in
       let imports = flat_map spans world.imports in
@@ -110,13 +110,13 @@ module _ (a : Addition) (offset_fits : a.offset < 2 ^ 32) (fit : PassesTheEnd a 
   in_lists s has =
       span_fits s (Contains-there u.package_name_span s _ (Contains-append_right u.foreign_dep_spans _ s (Contains-append_right u.unknown_type_spans _ s (Contains-append_right (map (λ (r : ℕ × Place). r.1) u.required_resource_types) _ s has))))
 
-  pub types_fit : Each (TypeFits a.offset) u.types
+  pub types_fit : Each (TypeFits (Fits a.offset)) u.types
   types_fit i def at = type_fits a.offset def (λ s has. in_lists s (Contains-append_left (flat_map type_spans u.types) _ s (Contains-flat_map type_spans u.types def s (contained_at u.types i def at) has)))
 
-  pub interfaces_fit : Each (InterfaceFits a.offset) u.interfaces
+  pub interfaces_fit : Each (InterfaceFits (Fits a.offset)) u.interfaces
   interfaces_fit i interface at =
       interface_fits a.offset interface (λ s has. in_lists s (Contains-append_right (flat_map type_spans u.types) _ s (Contains-append_left (flat_map interface_spans u.interfaces) _ s (Contains-flat_map interface_spans u.interfaces interface s (contained_at u.interfaces i interface at) has))))
 
-  pub worlds_fit : Each (WorldFits a.offset) u.worlds
+  pub worlds_fit : Each (WorldFits (Fits a.offset)) u.worlds
   worlds_fit i world at =
       world_fits a.offset world (λ s has. in_lists s (Contains-append_right (flat_map type_spans u.types) _ s (Contains-append_right (flat_map interface_spans u.interfaces) _ s (Contains-flat_map world_spans u.worlds world s (contained_at u.worlds i world at) has))))

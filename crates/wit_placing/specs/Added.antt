@@ -16,7 +16,7 @@ use Rattle.wit_growth.specs.Kept.{Kept}
 use Rattle.wit_adding.specs.Addition.{Addition, active_includes, addition_maps, own_worlds}
 use Rattle.wit_adding.specs.Ranks.{taken, taken_places}
 use Rattle.wit_adding.specs.declared.adding.Places.{Places}
-use Rattle.wit_placing.specs.Fits.{InterfaceFits, TypeFits, WorldFits}
+use Rattle.wit_placing.specs.Fits.{Fits, InterfaceFits, TypeFits, WorldFits}
 use Rattle.wit_placing.specs.Parts.{is_new}
 use Rattle.wit_placing.specs.Tables.{interfaces_at, worlds_at}
 use Rattle.wit_placing.specs.Worlds.{HasKeysApart}
@@ -39,9 +39,9 @@ added_worlds a = map (added_world a) (own_worlds a)
 -- what can be moved to the ends of a graph: its spans fit, and names and keys differ at their places
 pub record IsReady (places : Places) (m : Maps) (kept : Kept) (g : Graph) (u : UnresolvedPackage) : Type 0 where
   pub new : lookup (same_package u.name) g.package_names ≡ None
-  pub types : Each (TypeFits m.offset) u.types
-  pub interfaces : Each (InterfaceFits m.offset) u.interfaces
-  pub worlds : Each (WorldFits m.offset) u.worlds
+  pub types : Each (TypeFits (Fits m.offset)) u.types
+  pub interfaces : Each (InterfaceFits (Fits m.offset)) u.interfaces
+  pub worlds : Each (WorldFits (Fits m.offset)) u.worlds
   pub interface_names : IsDistinct bytes_eq (keys_of (interfaces_at m (taken_places (is_new (length g.interfaces) places.interfaces) u.interfaces)))
   pub world_names : IsDistinct bytes_eq (keys_of (worlds_at m (taken_places (is_new (length g.worlds) places.worlds) u.worlds)))
   pub keys : Each (λ (e : ℕ × World). HasKeysApart m kept e.1) (taken_places (is_new (length g.worlds) places.worlds) u.worlds)

@@ -22,41 +22,41 @@ use Rattle.wit_adding.specs.Gates.{Place}
 abbrev pub Fits : ℕ → Place → Type 0
 Fits offset place = end_of place + offset < 2 ^ 32
 
--- those of the parts of a kind
-abbrev pub KindFits : ℕ → TypeDefKind → Type 0
-KindFits offset (kind.Record fields) = Each (λ (f : Field). Fits offset f.span) fields
-KindFits offset (kind.Variant cases) = Each (λ (c : Case). Fits offset c.span) cases
-KindFits offset (kind.Flags flags) = Each (λ (f : Flag). Fits offset f.span) flags
-KindFits offset (kind.Enum cases) = Each (λ (c : EnumCase). Fits offset c.span) cases
-KindFits offset _ = Unit {0}
+-- of any condition on places: those of the parts of a kind meet it
+abbrev pub KindFits : (Place → Type 0) → TypeDefKind → Type 0
+KindFits P (kind.Record fields) = Each (λ (f : Field). P f.span) fields
+KindFits P (kind.Variant cases) = Each (λ (c : Case). P c.span) cases
+KindFits P (kind.Flags flags) = Each (λ (f : Flag). P f.span) flags
+KindFits P (kind.Enum cases) = Each (λ (c : EnumCase). P c.span) cases
+KindFits P _ = Unit {0}
 
 -- those of a type
-pub record TypeFits (offset : ℕ) (def : TypeDef) : Type 0 where
-  pub own : Fits offset def.span
-  pub parts : KindFits offset def.kind
+pub record TypeFits (P : Place → Type 0) (def : TypeDef) : Type 0 where
+  pub own : P def.span
+  pub parts : KindFits P def.kind
 
 -- those of a function
-pub record FunctionFits (offset : ℕ) (f : Function) : Type 0 where
-  pub own : Fits offset f.span
-  pub params : Each (λ (p : Param). Fits offset p.span) f.params
+pub record FunctionFits (P : Place → Type 0) (f : Function) : Type 0 where
+  pub own : P f.span
+  pub params : Each (λ (p : Param). P p.span) f.params
 
 -- those of an interface
-pub record InterfaceFits (offset : ℕ) (interface : Interface) : Type 0 where
-  pub own : Fits offset interface.span
-  pub functions : Each (λ (e : List ℕ × Function). FunctionFits offset e.1) interface.functions
+pub record InterfaceFits (P : Place → Type 0) (interface : Interface) : Type 0 where
+  pub own : P interface.span
+  pub functions : Each (λ (e : List ℕ × Function). FunctionFits P e.1) interface.functions
 
 -- those of what a world holds under a key
-abbrev pub ItemFits : ℕ → WorldItem → Type 0
-ItemFits offset (item.Interface id stability docs span external_id) = Fits offset span
-ItemFits offset (item.Function function) = FunctionFits offset function
-ItemFits offset (item.Type_ id span) = Fits offset span
+abbrev pub ItemFits : (Place → Type 0) → WorldItem → Type 0
+ItemFits P (item.Interface id stability docs span external_id) = P span
+ItemFits P (item.Function function) = FunctionFits P function
+ItemFits P (item.Type_ id span) = P span
 
 -- those of entries
-abbrev pub EntriesFit : ℕ → List Entry → Type 0
-EntriesFit offset entries = Each (λ (e : Entry). ItemFits offset e.1) entries
+abbrev pub EntriesFit : (Place → Type 0) → List Entry → Type 0
+EntriesFit P entries = Each (λ (e : Entry). ItemFits P e.1) entries
 
 -- those of a world and of its entries
-pub record WorldFits (offset : ℕ) (world : World) : Type 0 where
-  pub own : Fits offset world.span
-  pub imports : EntriesFit offset world.imports
-  pub exports : EntriesFit offset world.exports
+pub record WorldFits (P : Place → Type 0) (world : World) : Type 0 where
+  pub own : P world.span
+  pub imports : EntriesFit P world.imports
+  pub exports : EntriesFit P world.exports

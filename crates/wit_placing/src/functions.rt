@@ -1,17 +1,16 @@
 //! Functions and interfaces, at their places.
-use crate::mover::Mover;
+use crate::moves::Moves;
 use crate::place::Place;
 use wit_items::{Function, FunctionKind, Interface, Param};
 
 impl Place for Param {
     ghost use Rattle.wit_growth.specs.Image.{param_image};
-    ghost use Rattle.wit_placing.specs.Fits.{Fits};
 
-    ghost fits = { λ offset param. Fits offset param.span };
+    ghost fits = { λ P param. P param.span };
 
     ghost placed = { param_image };
 
-    fn place(&mut self, mover: &Mover<'_>) {
+    fn place<M: Moves>(&mut self, mover: &M) {
         self.ty.place(mover);
         self.span = mover.span(self.span);
     }
@@ -24,7 +23,7 @@ impl Place for FunctionKind {
 
     ghost placed = { function_kind_image };
 
-    fn place(&mut self, mover: &Mover<'_>) {
+    fn place<M: Moves>(&mut self, mover: &M) {
         match self {
             FunctionKind::Method(id) => id.place(mover),
             FunctionKind::AsyncMethod(id) => id.place(mover),
@@ -51,7 +50,7 @@ impl Place for Function {
 
     ghost placed = { function_image };
 
-    fn place(&mut self, mover: &Mover<'_>) {
+    fn place<M: Moves>(&mut self, mover: &M) {
         self.kind.place(mover);
         self.params.place(mover);
         self.result_.place(mover);
@@ -67,10 +66,10 @@ impl Place for Interface {
 
     ghost placed = { interface_image };
 
-    fn place(&mut self, mover: &Mover<'_>) {
+    fn place<M: Moves>(&mut self, mover: &M) {
         self.types.place(mover);
         self.functions.place(mover);
-        self.package = Some(mover.package);
+        self.package = Some(mover.home());
         self.span = mover.span(self.span);
     }
 }

@@ -5,6 +5,7 @@
 pub mod functions;
 pub mod mark;
 pub mod mover;
+pub mod moves;
 pub mod part;
 pub mod parts;
 pub mod place;
@@ -14,6 +15,7 @@ pub mod worlds;
 
 pub use crate::mark::Mark;
 pub use crate::mover::Mover;
+pub use crate::moves::Moves;
 pub use crate::part::Part;
 pub use crate::parts::add_parts;
 pub use crate::place::Place;

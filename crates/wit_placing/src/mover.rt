@@ -1,9 +1,6 @@
 //! Where the things of a package go.
-ghost use Rattle.std.specs.Prelude.{◌≡◌};
-ghost use Rattle.wit_sources.specs.Span.{moved_by};
-ghost use Rattle.wit_placing.specs.Fits.{Fits};
-ghost use Rattle.wit_placing.specs.Movers.{maps_of};
 
+use crate::moves::Moves;
 use wit_adding::Places;
 use wit_items::{InterfaceId, Items, PackageId, Span, TypeId, WorldId};
 
@@ -18,49 +15,47 @@ pub struct Mover<'a> {
     pub offset: u32,
 }
 
-impl<'a> Mover<'a> {
-    pub fn type_id(&self, id: TypeId) -> TypeId
-        ensures { result ≡ (maps_of self.now).types id }
-    {
+impl<'a> Moves for Mover<'a> {
+    ghost use Rattle.wit_placing.specs.Fits.{Fits};
+    ghost use Rattle.wit_placing.specs.Movers.{maps_of};
+
+    ghost maps = { maps_of };
+
+    ghost fits = { λ m. Fits m.offset };
+
+    fn type_id(&self, id: TypeId) -> TypeId {
         match self.places.types.get(id.index()) {
             Some(Some(new)) => *new,
             _ => id,
         }
     }
 
-    /// Where a type goes at a value position.
-    pub fn value_id(&self, id: TypeId) -> TypeId
-        ensures { result ≡ (maps_of self.now).values id }
-    {
+    fn value_id(&self, id: TypeId) -> TypeId {
         match self.values.get(id.index()) {
             Some(new) => *new,
             None => id,
         }
     }
 
-    pub fn interface_id(&self, id: InterfaceId) -> InterfaceId
-        ensures { result ≡ (maps_of self.now).interfaces id }
-    {
+    fn interface_id(&self, id: InterfaceId) -> InterfaceId {
         match self.places.interfaces.get(id.index()) {
             Some(Some(new)) => *new,
             _ => id,
         }
     }
 
-    pub fn world_id(&self, id: WorldId) -> WorldId
-        ensures { result ≡ (maps_of self.now).worlds id }
-    {
+    fn world_id(&self, id: WorldId) -> WorldId {
         match self.places.worlds.get(id.index()) {
             Some(Some(new)) => *new,
             _ => id,
         }
     }
 
-    /// A span, so many positions further on.
-    pub fn span(&self, span: Span) -> Span
-        requires { Fits self.now.offset span }
-        ensures { result ≡ moved_by self.now.offset span }
-    {
+    fn home(&self) -> PackageId {
+        self.package
+    }
+
+    fn span(&self, span: Span) -> Span {
         match span.moved(self.offset) {
             Some(moved) => moved,
             None => unreachable!(),

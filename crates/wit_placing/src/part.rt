@@ -7,7 +7,7 @@ ghost use Rattle.wit_placing.specs.Parts.{is_new, kept_of};
 
 use std::alloc::{AllocError, Global};
 use std::mem;
-use wit_adding::Activity;
+use wit_adding::{Activity, is_active};
 use wit_graph::Features;
 use wit_items::{
     Function, Id, Interface, Items, Names, Stability, Table, TypeId, WorldInclude, WorldItem,
@@ -23,15 +23,10 @@ pub struct Part<'a> {
 
 impl<'a> Part<'a> {
     /// Whether a note lets its item take part.
-    fn is_active(&self, stability: &Stability) -> bool
-        ensures { result ≡ is_active self.now.features.now stability.now }
+    fn is_active(&self, note: &Stability) -> bool
+        ensures { result ≡ is_active self.now.features.now note.now }
     {
-        match stability {
-            Stability::Unstable { feature, .. } => {
-                self.features.all || self.features.names.contains(feature.as_str())
-            }
-            Stability::Unknown | Stability::Stable { .. } => true,
-        }
+        is_active(self.features, note)
     }
 
     /// Whether a type takes part.

@@ -14,7 +14,7 @@ ghost use Rattle.wit_items.specs.Each.{Each};
 ghost use Rattle.wit_items.specs.PackageOrder.{same_package};
 ghost use Rattle.wit_items.specs.Shape.{IsShaped};
 ghost use Rattle.wit_placing.specs.Added.{IsReady, added_worlds, addition, moved_parts};
-ghost use Rattle.wit_placing.specs.Fits.{InterfaceFits, TypeFits};
+ghost use Rattle.wit_placing.specs.Fits.{Fits, InterfaceFits, TypeFits};
 ghost use Rattle.wit_placing.specs.Grown.{Grown};
 ghost use Rattle.wit_placing.specs.Movers.{maps_of};
 ghost use Rattle.wit_placing.specs.Parts.{is_new, kept_of};
@@ -45,7 +45,7 @@ fn add_types(
     types: Items<TypeDef>,
     owns: Items<TypeDef>,
 ) -> Result<(), AllocError>
-    requires { Each (TypeFits mover.now.offset) types }
+    requires { Each (TypeFits (Fits mover.now.offset)) types }
     ensures ok { OnOk result (graph.new ≡ record graph.old { types = graph.old.types ++ (map (type_image (maps_of mover.now)) (taken (is_new (length graph.old.types) mover.now.places.now.types) types) ++ owns) }) }
     ensures grown { Grown graph.old graph.new }
 {
@@ -63,7 +63,7 @@ fn placed_types(
     mover: &Mover<'_>,
     types: Items<(usize, TypeDef)>,
 ) -> Result<Items<TypeDef>, AllocError>
-    requires { Each (λ e. TypeFits mover.now.offset e.1) types }
+    requires { Each (λ e. TypeFits (Fits mover.now.offset) e.1) types }
     ensures { IfOk result (λ placed. placed ≡ map (λ e. type_image (maps_of mover.now) e.1) types) }
 {
     let mut placed = Items::new(alloc);
@@ -85,7 +85,7 @@ fn add_interfaces(
     part: &Part<'_>,
     interfaces: Items<Interface>,
 ) -> Result<Names<InterfaceId>, AllocError>
-    requires fits { Each (InterfaceFits mover.now.offset) interfaces }
+    requires fits { Each (InterfaceFits (Fits mover.now.offset)) interfaces }
     requires names { IsDistinct bytes_eq (keys_of (interfaces_at (maps_of mover.now) (taken_places (is_new (length graph.old.interfaces) mover.now.places.now.interfaces) interfaces))) }
     ensures ok { OnOk result (graph.new ≡ record graph.old { interfaces = graph.old.interfaces ++ map (interface_image (maps_of mover.now)) (map (cut_interface (kept_of part.now)) (taken (is_new (length graph.old.interfaces) mover.now.places.now.interfaces) interfaces)) }) }
     ensures table { IfOk result (λ table. table ≡ interfaces_at (maps_of mover.now) (taken_places (is_new (length graph.old.interfaces) mover.now.places.now.interfaces) interfaces)) }
@@ -107,7 +107,7 @@ fn placed_interfaces(
     part: &Part<'_>,
     interfaces: Items<(usize, Interface)>,
 ) -> Result<Items<Interface>, AllocError>
-    requires { Each (λ e. InterfaceFits mover.now.offset e.1) interfaces }
+    requires { Each (λ e. InterfaceFits (Fits mover.now.offset) e.1) interfaces }
     ensures { IfOk result (λ placed. placed ≡ map (λ e. interface_image (maps_of mover.now) (cut_interface (kept_of part.now) e.1)) interfaces) }
 {
     let mut placed = Items::new(alloc);

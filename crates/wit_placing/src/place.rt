@@ -1,23 +1,22 @@
 //! Images in place: what is handed in takes its new ids and moves its spans, and keeps all else.
-ghost use Rattle.std.specs.Prelude.{◌≡◌, ℕ};
+ghost use Rattle.std.specs.Prelude.{◌≡◌, ℕ, Option};
 ghost use Rattle.wit_growth.specs.Image.{Maps};
-ghost use Rattle.wit_placing.specs.Movers.{maps_of};
 
-use crate::mover::Mover;
+use crate::moves::Moves;
 use std::mem;
 use wit_items::{Items, Names, TypeId};
 
 /// What can take its place in a graph: its ids and spans are rewritten, which takes no memory and refuses nothing.
 pub trait Place {
-    /// Its spans can be moved so far.
-    ghost fits: { ℕ → Self → Type 0 };
+    /// Its spans meet a condition.
+    ghost fits: { (Option (ℕ × ℕ) → Type 0) → Self → Type 0 };
 
     /// Its image.
     ghost placed: { Maps → Self → Self };
 
-    fn place(&mut self, mover: &Mover<'_>)
-        requires { fits mover.now.offset self.old }
-        ensures { self.new ≡ placed (maps_of mover.now) self.old };
+    fn place<M: Moves>(&mut self, mover: &M)
+        requires { fits (M.fits mover.now) self.old }
+        ensures { self.new ≡ placed (M.maps mover.now) self.old };
 }
 
 impl Place for TypeId {
@@ -25,7 +24,7 @@ impl Place for TypeId {
 
     ghost placed = { λ m id. m.types id };
 
-    fn place(&mut self, mover: &Mover<'_>) {
+    fn place<M: Moves>(&mut self, mover: &M) {
         *self = mover.type_id(*self);
     }
 }
@@ -33,11 +32,11 @@ impl Place for TypeId {
 impl<T: Place> Place for Option<T> {
     ghost use Rattle.std.specs.Option.{option_map, ForSome};
 
-    ghost fits = { λ offset x. ForSome x (T.fits offset) };
+    ghost fits = { λ P x. ForSome x (T.fits P) };
 
     ghost placed = { λ m. option_map (T.placed m) };
 
-    fn place(&mut self, mover: &Mover<'_>) {
+    fn place<M: Moves>(&mut self, mover: &M) {
         if let Some(value) = self {
             value.place(mover);
         }
@@ -48,11 +47,11 @@ impl<T: Place> Place for Items<T> {
     ghost use Rattle.std.specs.Prelude.{map};
     ghost use Rattle.wit_items.specs.Each.{Each};
 
-    ghost fits = { λ offset xs. Each (T.fits offset) xs };
+    ghost fits = { λ P xs. Each (T.fits P) xs };
 
     ghost placed = { λ m. map (T.placed m) };
 
-    fn place(&mut self, mover: &Mover<'_>) {
+    fn place<M: Moves>(&mut self, mover: &M) {
         for index in 0..self.len() {
             self.at_mut(index).place(mover);
         }
@@ -63,11 +62,11 @@ impl<V: Place + Drop> Place for Names<V> {
     ghost use Rattle.std.specs.Prelude.{List, ℕ, map};
     ghost use Rattle.wit_items.specs.Each.{Each};
 
-    ghost fits = { λ offset es. Each (λ (e : List ℕ × V). V.fits offset e.1) es };
+    ghost fits = { λ P es. Each (λ (e : List ℕ × V). V.fits P e.1) es };
 
     ghost placed = { λ m. map (λ (e : List ℕ × V). (e.0, V.placed m e.1)) };
 
-    fn place(&mut self, mover: &Mover<'_>) {
+    fn place<M: Moves>(&mut self, mover: &M) {
         let alloc = self.allocator();
         let mut map = mem::replace(self, Names::new(alloc)).into_map();
         for index in 0..map.len() {

@@ -7,6 +7,7 @@ ghost use Rattle.wit_placing.specs.Movers.{maps_of};
 ghost use Rattle.wit_placing.specs.Tables.{interfaces_at, worlds_at};
 
 use crate::mover::Mover;
+use crate::moves::Moves;
 use std::alloc::{AllocError, Global};
 use wit_items::{Interface, InterfaceId, Names, World, WorldId};
 

@@ -1,9 +1,8 @@
 //! Types, at their places.
 ghost use Rattle.std.specs.Prelude.{◌≡◌};
 ghost use Rattle.wit_growth.specs.Image.{target_image};
-ghost use Rattle.wit_placing.specs.Movers.{maps_of};
 
-use crate::mover::Mover;
+use crate::moves::Moves;
 use crate::place::Place;
 use wit_items::{Case, EnumCase, Field, Flag, Handle, Type_, TypeDef, TypeDefKind, TypeOwner};
 
@@ -15,7 +14,7 @@ impl Place for Type_ {
 
     ghost placed = { value_image };
 
-    fn place(&mut self, mover: &Mover<'_>) {
+    fn place<M: Moves>(&mut self, mover: &M) {
         if let Type_::Id(id) = self {
             *id = mover.value_id(*id);
         }
@@ -23,8 +22,8 @@ impl Place for Type_ {
 }
 
 /// A type that an alias names.
-fn place_target(ty: &mut Type_, mover: &Mover<'_>)
-    ensures { ty.new ≡ target_image (maps_of mover.now) ty.old }
+fn place_target<M: Moves>(ty: &mut Type_, mover: &M)
+    ensures { ty.new ≡ target_image (M.maps mover.now) ty.old }
 {
     if let Type_::Id(id) = ty {
         id.place(mover);
@@ -33,13 +32,12 @@ fn place_target(ty: &mut Type_, mover: &Mover<'_>)
 
 impl Place for Field {
     ghost use Rattle.wit_growth.specs.Image.{field_image};
-    ghost use Rattle.wit_placing.specs.Fits.{Fits};
 
-    ghost fits = { λ offset f. Fits offset f.span };
+    ghost fits = { λ P f. P f.span };
 
     ghost placed = { field_image };
 
-    fn place(&mut self, mover: &Mover<'_>) {
+    fn place<M: Moves>(&mut self, mover: &M) {
         self.ty.place(mover);
         self.span = mover.span(self.span);
     }
@@ -47,13 +45,12 @@ impl Place for Field {
 
 impl Place for Case {
     ghost use Rattle.wit_growth.specs.Image.{case_image};
-    ghost use Rattle.wit_placing.specs.Fits.{Fits};
 
-    ghost fits = { λ offset c. Fits offset c.span };
+    ghost fits = { λ P c. P c.span };
 
     ghost placed = { case_image };
 
-    fn place(&mut self, mover: &Mover<'_>) {
+    fn place<M: Moves>(&mut self, mover: &M) {
         self.ty.place(mover);
         self.span = mover.span(self.span);
     }
@@ -61,26 +58,24 @@ impl Place for Case {
 
 impl Place for Flag {
     ghost use Rattle.wit_growth.specs.Image.{flag_image};
-    ghost use Rattle.wit_placing.specs.Fits.{Fits};
 
-    ghost fits = { λ offset f. Fits offset f.span };
+    ghost fits = { λ P f. P f.span };
 
     ghost placed = { flag_image };
 
-    fn place(&mut self, mover: &Mover<'_>) {
+    fn place<M: Moves>(&mut self, mover: &M) {
         self.span = mover.span(self.span);
     }
 }
 
 impl Place for EnumCase {
     ghost use Rattle.wit_growth.specs.Image.{enum_case_image};
-    ghost use Rattle.wit_placing.specs.Fits.{Fits};
 
-    ghost fits = { λ offset c. Fits offset c.span };
+    ghost fits = { λ P c. P c.span };
 
     ghost placed = { enum_case_image };
 
-    fn place(&mut self, mover: &Mover<'_>) {
+    fn place<M: Moves>(&mut self, mover: &M) {
         self.span = mover.span(self.span);
     }
 }
@@ -92,7 +87,7 @@ impl Place for Handle {
 
     ghost placed = { handle_image };
 
-    fn place(&mut self, mover: &Mover<'_>) {
+    fn place<M: Moves>(&mut self, mover: &M) {
         match self {
             Handle::Own(id) => id.place(mover),
             Handle::Borrow(id) => id.place(mover),
@@ -107,7 +102,7 @@ impl Place for TypeOwner {
 
     ghost placed = { owner_image };
 
-    fn place(&mut self, mover: &Mover<'_>) {
+    fn place<M: Moves>(&mut self, mover: &M) {
         match self {
             TypeOwner::World(id) => *id = mover.world_id(*id),
             TypeOwner::Interface(id) => *id = mover.interface_id(*id),
@@ -124,7 +119,7 @@ impl Place for TypeDefKind {
 
     ghost placed = { kind_image };
 
-    fn place(&mut self, mover: &Mover<'_>) {
+    fn place<M: Moves>(&mut self, mover: &M) {
         match self {
             TypeDefKind::Record { fields } => fields.place(mover),
             TypeDefKind::Flags { flags } => flags.place(mover),
@@ -151,15 +146,16 @@ impl Place for TypeDefKind {
     }
 }
 
+/// Its name stays, whatever a label becomes.
 impl Place for TypeDef {
     ghost use Rattle.wit_growth.specs.Image.{type_image};
     ghost use Rattle.wit_placing.specs.Fits.{TypeFits};
 
     ghost fits = { TypeFits };
 
-    ghost placed = { type_image };
+    ghost placed = { λ m def. record (type_image m def) { name = def.name } };
 
-    fn place(&mut self, mover: &Mover<'_>) {
+    fn place<M: Moves>(&mut self, mover: &M) {
         self.kind.place(mover);
         self.owner.place(mover);
         self.span = mover.span(self.span);

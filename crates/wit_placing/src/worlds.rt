@@ -5,12 +5,13 @@ ghost use Rattle.std.specs.Map.{keys_of};
 ghost use Rattle.wit_growth.specs.Image.{entry_image, item_image, key_image};
 ghost use Rattle.wit_items.specs.Each.{Each};
 ghost use Rattle.wit_items.specs.WorldKeyFacts.{same_key};
-ghost use Rattle.wit_placing.specs.Fits.{EntriesFit, ItemFits, WorldFits};
+ghost use Rattle.wit_placing.specs.Fits.{EntriesFit, Fits, ItemFits, WorldFits};
 ghost use Rattle.wit_placing.specs.Movers.{maps_of};
 ghost use Rattle.wit_placing.specs.Parts.{kept_of};
 ghost use Rattle.wit_placing.specs.Worlds.{HasKeysApart, placed_world};
 
 use crate::mover::Mover;
+use crate::moves::Moves;
 use crate::part::Part;
 use crate::place::Place;
 use std::alloc::{AllocError, Global};
@@ -34,7 +35,7 @@ pub(crate) fn placed_worlds(
     part: &Part<'_>,
     worlds: Items<(usize, World)>,
 ) -> Result<Items<PlacedWorld>, AllocError>
-    requires fits { Each (λ e. WorldFits mover.now.offset e.1) worlds }
+    requires fits { Each (λ e. WorldFits (Fits mover.now.offset) e.1) worlds }
     requires keys { Each (λ e. HasKeysApart (maps_of mover.now) (kept_of part.now) e.1) worlds }
     ensures { IfOk result (λ placed. placed ≡ map (placed_world (maps_of mover.now) part.now) worlds) }
 {
@@ -54,7 +55,7 @@ fn placed_world(
     place: WorldId,
     mut world: World,
 ) -> Result<PlacedWorld, AllocError>
-    requires fits { WorldFits mover.now.offset world }
+    requires fits { WorldFits (Fits mover.now.offset) world }
     requires keys { HasKeysApart (maps_of mover.now) (kept_of part.now) world }
     ensures { IfOk result (λ placed. placed ≡ placed_world (maps_of mover.now) part.now (place, world)) }
 {
@@ -80,7 +81,7 @@ fn placed_entries(
     mover: &Mover<'_>,
     entries: Table<WorldKey, WorldItem>,
 ) -> Result<Table<WorldKey, WorldItem>, AllocError>
-    requires fits { EntriesFit mover.now.offset entries }
+    requires fits { EntriesFit (Fits mover.now.offset) entries }
     requires keys { IsDistinct same_key (keys_of (map (entry_image (maps_of mover.now) 0) entries)) }
     ensures { IfOk result (λ placed. (w : ℕ) → placed ≡ map (entry_image (maps_of mover.now) w) entries) }
 {
@@ -103,7 +104,7 @@ fn placed_key(mover: &Mover<'_>, key: WorldKey) -> WorldKey
 
 /// What a world holds under a key, at its place.
 fn placed_item(mover: &Mover<'_>, item: WorldItem) -> WorldItem
-    requires { ItemFits mover.now.offset item }
+    requires { ItemFits (Fits mover.now.offset) item }
     ensures { (w : ℕ) → result ≡ item_image (maps_of mover.now) w item }
 {
     let mut item = item;

@@ -1,12 +1,10 @@
 //! Canonical names: with the text of the track in the place of the version.
-ghost use Rattle.std.specs.Prelude.{◌≡◌, IfErr, IfOk, Some, string_bytes};
+ghost use Rattle.std.specs.Prelude.{◌≡◌, IfErr, IfOk, string_bytes};
 ghost use Rattle.std.specs.Option.{option_map};
 ghost use Rattle.wit_graph.specs.Questions.{canonical_id_text, canonical_id_text_in, canonical_interface_id_at, canonical_key_text, track_part, version_suffix_of};
 ghost use Rattle.wit_graph.specs.declared.error_kind.ResolveErrorKind.TheVariants.{OutOfMemory};
 
-use crate::track::{Track, track_suffix};
 use std::alloc::{AllocError, Global};
-use std::fmt;
 use wit_graph::{Graph, ResolveResult};
 use wit_items::{InterfaceId, PackageId, PackageName, Version, WorldKey};
 
@@ -91,7 +89,8 @@ pub fn version_suffix_of(
     let Some(version) = &package.name.version else {
         return Ok(None);
     };
-    Ok(track_suffix(alloc, version)?)
+    let (_track, suffix) = PackageName::version_compat_track_string(alloc, version)?;
+    Ok(suffix)
 }
 
 /// `namespace:package/name`, and `@track` where the package has a version.
@@ -100,24 +99,19 @@ fn canonical_id_in(alloc: Global, package: &PackageName, name: &str) -> Result<S
 {
     let namespace = &package.namespace;
     let package_name = &package.name;
-    let track = TrackPart(&package.version);
+    let track = track_part(alloc, &package.version)?;
     format!(in alloc; "{namespace}:{package_name}/{name}{track}")
 }
 
 /// `@` and the text of the track, where there is a version.
-#[derive(Drop)]
-struct TrackPart<'a>(&'a Option<Version>);
-
-impl<'a> fmt::Display for TrackPart<'a> {
-    ghost output = { λ s. Some (track_part s.0.now) };
-
-    fn fmt<W: fmt::Write>(&self, f: &mut fmt::Formatter<W>) -> fmt::Result {
-        match self.0 {
-            Some(version) => {
-                let track = Track(version);
-                write!(f, "@{track}")
-            }
-            None => Ok(()),
+fn track_part(alloc: Global, version: &Option<Version>) -> Result<String, AllocError>
+    ensures { IfOk result (λ text. string_bytes text ≡ track_part version.now) }
+{
+    match version {
+        Some(version) => {
+            let (track, _suffix) = PackageName::version_compat_track_string(alloc, version)?;
+            format!(in alloc; "@{track}")
         }
+        None => Ok(String::new(alloc)),
     }
 }

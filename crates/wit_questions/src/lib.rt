@@ -9,7 +9,6 @@ pub mod held;
 pub mod interface_deps;
 mod next;
 pub mod package_deps;
-mod track;
 mod world_deps;
 
 pub use crate::canonical::{

@@ -1,10 +1,10 @@
 -- Items that leave their slots in an order.
 use Rattle.std.proofs.Common.{◌≡◌, ◌∙◌, ◌<◌, ◌≤◌, ◌+◌, ℕ, zero, suc, false, List, [], ◌∷◌, ◌++◌, length, take, refl, ap, sym, subst, inl, inr, arith, Option, Some, None, map, slice_get, slice_set, get_or, Contains, All, nat_eq}
-use Rattle.std.proofs.lemmas.Bool.{cases_eq, eqb-false}
+use Rattle.std.proofs.lemmas.Bool.{eqb-false}
 use Rattle.std.proofs.lemmas.List.{length-map, length-set, take_all}
 use Rattle.std.proofs.lemmas.List.Elements.{Contains-append_left, Contains-push}
-use Rattle.std.specs.List.{AllByRecursion, AllZip, IsDistinct}
-use Rattle.wit_values.specs.Lists.{AllByRecursion-at, set-cases, take-next_at}
+use Rattle.std.specs.List.{AllZip, IsDistinct}
+use Rattle.wit_values.specs.Lists.{AllByRecursion-at, take-next_at}
 use Rattle.wit_relations.specs.MemberFacts.{Contains-cons_cases, Contains-nil}
 
 module _ {X : Type 0} where

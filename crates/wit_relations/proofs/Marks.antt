@@ -1,12 +1,13 @@
 -- What marks tell of the nodes that are listed.
-use Rattle.std.proofs.Common.{◌≡◌, ◌↔◌, ℕ, ◌<◌, Bool, true, false, Some, List, [], ◌∷◌, inl, inr, length, get_or, set, drop, ◌+◌, sym, subst, ◌∙◌, nat_eq, arith, IsTrue, slice_get, All, Contains}
+use Rattle.std.proofs.Common.{◌≡◌, ◌↔◌, ℕ, ◌<◌, Bool, true, false, Some, List, [], ◌∷◌, ◌++◌, inl, inr, length, get_or, set, drop, ◌+◌, sym, subst, ◌∙◌, nat_eq, arith, IsTrue, slice_get, All, Contains}
 use Rattle.std.specs.List.{list_any}
 use Rattle.std.proofs.lemmas.Bool.{cases_eq, cases_Bool, false≢true}
-use Rattle.std.proofs.lemmas.List.{get_or-set_same, get_or-set_other, length-set, drop_more}
-use Rattle.std.proofs.lemmas.List.Elements.{All-head, All-tail}
+use Rattle.std.proofs.Math.Seq.{get_or-append_seam}
+use Rattle.std.proofs.lemmas.List.{get_or-set_same, get_or-set_other, get_or_append_left, length-set, length_push, drop_more}
+use Rattle.std.proofs.lemmas.List.Elements.{All-contains, All-head, All-tail, All-weaker}
 use Rattle.std.proofs.lemmas.Option.{get_or_from_slice_get, slice_get_cases}
 use Rattle.wit_relations.specs.MemberFacts.{Contains-nil, Contains-cons_cases}
-use Rattle.wit_relations.specs.FreshFacts.{any_from_contains, contains_from_any}
+use Rattle.wit_relations.specs.FreshFacts.{any_from_contains, contains_from_any, no_any_from}
 use Rattle.wit_relations.specs.Walks.{MarksTell}
 
 -- a mark tells whether its node is listed
@@ -49,6 +50,22 @@ MarksTell-from_none marks are = record {
   each = λ i below. elim (cases_Bool (get_or marks i false)) [ inl on ↦ absurd (Contains-nil (are.marked i below on)) | inr off ↦ off ];
   in_range = are.in_range;
 }
+
+-- one node more, whose mark is off
+pub MarksTell-more : (marks : List Bool) (order : List ℕ) → MarksTell marks order → MarksTell (marks ++ false ∷ []) order
+MarksTell-more marks order tell =
+    let long : length (marks ++ false ∷ []) ≡ length marks + 1 = length_push marks false in
+    record {
+      each = λ i below. elim (cases_eq i (length marks)) [
+        | inl last ↦
+            let off : get_or (marks ++ false ∷ []) i false ≡ false = subst (λ (k : ℕ). get_or (marks ++ false ∷ []) k false ≡ false) (sym last) (get_or-append_seam marks false [] false) in
+            off ∙ sym (no_any_from i order (λ (has : Contains order i). let within : i < length marks = All-contains (λ k. k < length marks) order i tell.in_range has in omega (arith, last, within)))
+        | inr apart ↦
+            let inside : i < length marks = omega arith in
+            get_or_append_left marks (false ∷ []) false i inside ∙ tell.each i inside
+      ];
+      in_range = All-weaker (λ k. k < length marks) (λ k. k < length (marks ++ false ∷ [])) (λ k below. omega (arith, long, below)) order tell.in_range;
+    }
 
 -- the list from an index on begins with the node that is read there
 pub listed_from : (order : List ℕ) (at node : ℕ) → slice_get order at ≡ Some node → drop at order ≡ node ∷ drop (at + 1) order

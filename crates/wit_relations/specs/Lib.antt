@@ -1,3 +1,4 @@
+pub mod AmongFacts
 pub mod Cycles
 pub mod EarlierFacts
 pub mod Examples

@@ -2,7 +2,7 @@
 //!
 //! A listing keeps the first of each node that walks come to. It holds a node after all that the
 //! node uses, so what is listed need not be walked again.
-ghost use Rattle.std.specs.Prelude.{◌≡◌, ℕ, ◌<◌, ◌++◌, ◌∷◌, ◌↔◌, [], OnOk, OnErr, IfOk, IsTrue, All, Contains, length};
+ghost use Rattle.std.specs.Prelude.{◌≡◌, ℕ, ◌<◌, ◌+◌, ◌++◌, ◌∷◌, ◌↔◌, [], OnOk, OnErr, IfOk, IsTrue, All, Contains, length};
 ghost use Rattle.std.specs.List.{flat_map};
 ghost use Rattle.wit_relations.specs.Relation.{IsAcyclic};
 ghost use Rattle.wit_relations.specs.Walks.{UsesFirst, first_of_each, fresh, walk};
@@ -91,6 +91,14 @@ impl Listing {
         self.order.push(node)?;
         self.marks.set(node, true);
         Ok(())
+    }
+
+    /// One node more, which isn't listed. Where there is no memory the listing is as before.
+    pub fn add_node(&mut self) -> Result<(), AllocError>
+        ensures ok { OnOk result (self.new ≡ record self.old { nodes = self.old.nodes + 1 }) }
+        ensures err { OnErr result (self.new ≡ self.old) }
+    {
+        self.marks.push(false)
     }
 
     /// Takes all nodes off the list, at a step for each that is listed.

@@ -1,6 +1,7 @@
 mod EmptyGraph
+mod Grouped
 mod NamedWorlds
-mod OnePackage
+mod OneOrder
 mod Runs
 mod RunsKeep
 mod Selected

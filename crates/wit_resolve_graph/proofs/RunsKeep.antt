@@ -3,8 +3,10 @@ use Rattle.std.proofs.Common.{◌≡◌, ◌∙◌, inl, inr, ℕ, List, [], ◌
 use Rattle.std.specs.Option.{option_map_or}
 use Rattle.std.proofs.lemmas.List.{append-nil}
 use Rattle.wit_values.specs.Lists.{kept-cases, slice_get-append, slice_get-set}
-use Rattle.wit_items.specs.Each.{SomeAt}
+use Rattle.wit_items.specs.Each.{EachAt, SomeAt}
 use Rattle.wit_graph.specs.declared.features.Features.{Features}
+use Rattle.wit_items.specs.declared.interface.Interface.{Interface}
+use Rattle.wit_items.specs.declared.types.TypeDef.{TypeDef}
 use Rattle.wit_items.specs.declared.world.World.{World}
 use Rattle.wit_items.specs.declared.world.WorldInclude.{WorldInclude}
 use Rattle.wit_graph.specs.declared.graph.Graph.{Graph}
@@ -17,6 +19,11 @@ use Rattle.wit_adding.specs.Pushed.{begun, finished, new_package, pushed, with_i
 use Rattle.wit_growth.specs.Image.{Maps, world_image}
 use Rattle.wit_link.specs.Appending.{addition}
 use Rattle.wit_link.specs.Several.{ArePushed}
+use Rattle.wit_merging.specs.Matches.{Merging}
+use Rattle.wit_merging.specs.Staying.{SameHome, SameInterface, SamePackage, SameType}
+use Rattle.wit_merging.specs.United.{united}
+use Rattle.wit_merging_laws.specs.KeptFacts.{interfaces_stay, names_stay, packages_stay, types_stay, worlds_stay}
+use Rattle.wit_resolve_graph.specs.Merging.{merging}
 use Rattle.wit_resolve_graph.specs.RunLaws.{Keeps, RunsKeep}
 use Rattle.wit_resolve_graph.specs.State.{State}
 use Rattle.wit_resolve_graph.specs.Step.{Step, answers_at}
@@ -33,25 +40,33 @@ more_again : {X : Type 0} (xs ys zs : List X) → (more : List X) × (ys ≡ xs 
 more_again {X} xs ys zs first second =
     (first.0 ++ second.0, second.1 ∙ ap (λ (l : List X). l ++ second.0) first.1 ∙ append_assoc xs first.0 second.0)
 
-abbrev SameHome : World → World → Type 0
-SameHome old new = new.package ≡ old.package
-
-abbrev SamePackage : Package → Package → Type 0
-SamePackage old new = (new.name ≡ old.name) × (new.interfaces ≡ old.interfaces)
+same_interface : (interface : Interface) → SameInterface interface interface
+same_interface interface = record { name = refl; home = refl; types = nothing_more interface.types; functions = nothing_more interface.functions }
 
 keeps_all : (g : Graph) → Keeps g g
 keeps_all g = record {
-  types = nothing_more g.types;
-  interfaces = nothing_more g.interfaces;
+  types = λ t def at. some_at (SameType def) g.types t def at refl;
+  interfaces = λ i interface at. some_at (SameInterface interface) g.interfaces i interface at (same_interface interface);
   worlds = λ w world at. some_at (SameHome world) g.worlds w world at refl;
-  packages = λ p home at. some_at (SamePackage home) g.packages p home at (refl, refl);
+  packages = λ p home at. some_at (SamePackage home) g.packages p home at (refl, nothing_more home.interfaces);
   names = nothing_more g.package_names;
 }
 
 keeps_on : (g h k : Graph) → Keeps g h → Keeps h k → Keeps g k
 keeps_on g h k first second = record {
-  types = more_again g.types h.types k.types first.types second.types;
-  interfaces = more_again g.interfaces h.interfaces k.interfaces first.interfaces second.interfaces;
+  types = λ t def at.
+      let mid = found_at (SameType def) h.types t (first.types t def at) in
+      let last = found_at (SameType mid.0) k.types t (second.types t mid.0 mid.1) in
+      some_at (SameType def) k.types t last.0 last.1 (last.2 ∙ ap (λ (d : TypeDef). record d { stability = last.0.stability }) mid.2);
+  interfaces = λ i interface at.
+      let mid = found_at (SameInterface interface) h.interfaces i (first.interfaces i interface at) in
+      let last = found_at (SameInterface mid.0) k.interfaces i (second.interfaces i mid.0 mid.1) in
+      some_at (SameInterface interface) k.interfaces i last.0 last.1 (record {
+        name = last.2.name ∙ mid.2.name;
+        home = last.2.home ∙ mid.2.home;
+        types = more_again interface.types mid.0.types last.0.types mid.2.types last.2.types;
+        functions = more_again interface.functions mid.0.functions last.0.functions mid.2.functions last.2.functions;
+      });
   worlds = λ w world at.
       let mid = found_at (SameHome world) h.worlds w (first.worlds w world at) in
       let last = found_at (SameHome mid.0) k.worlds w (second.worlds w mid.0 mid.1) in
@@ -59,25 +74,32 @@ keeps_on g h k first second = record {
   packages = λ p home at.
       let mid = found_at (SamePackage home) h.packages p (first.packages p home at) in
       let last = found_at (SamePackage mid.0) k.packages p (second.packages p mid.0 mid.1) in
-      some_at (SamePackage home) k.packages p last.0 last.1 (last.2.0 ∙ mid.2.0, last.2.1 ∙ mid.2.1);
+      some_at (SamePackage home) k.packages p last.0 last.1 (last.2.0 ∙ mid.2.0, more_again home.interfaces mid.0.interfaces last.0.interfaces mid.2.1 last.2.1);
   names = more_again g.package_names h.package_names k.package_names first.names second.names;
 }
 
 -- with other worlds behind
 keeps_with_worlds : (g : Graph) (worlds : List World) → Keeps g (record g { worlds = g.worlds ++ worlds })
 keeps_with_worlds g worlds = record {
-  types = nothing_more g.types;
-  interfaces = nothing_more g.interfaces;
+  types = (keeps_all g).types;
+  interfaces = (keeps_all g).interfaces;
   worlds = λ w world at. some_at (SameHome world) (g.worlds ++ worlds) w world (slice_get-append g.worlds worlds w world at) refl;
   packages = (keeps_all g).packages;
   names = nothing_more g.package_names;
 }
 
+-- types and interfaces with others behind them
+types_behind : (xs ys : List TypeDef) → EachAt (λ t (def : TypeDef). SomeAt (xs ++ ys) t (SameType def)) xs
+types_behind xs ys t def at = some_at (SameType def) (xs ++ ys) t def (slice_get-append xs ys t def at) refl
+
+interfaces_behind : (xs ys : List Interface) → EachAt (λ i (interface : Interface). SomeAt (xs ++ ys) i (SameInterface interface)) xs
+interfaces_behind xs ys i interface at = some_at (SameInterface interface) (xs ++ ys) i interface (slice_get-append xs ys i interface at) (same_interface interface)
+
 -- the copies of an include keep it
 keeps_copies : (g : Graph) (from : ℕ) (world : World) (m : Maps) → Keeps g (with_copies g from world m)
 keeps_copies g from world m = record {
-  types = (_, refl);
-  interfaces = (_, refl);
+  types = types_behind g.types _;
+  interfaces = interfaces_behind g.interfaces _;
   worlds = (keeps_all g).worlds;
   packages = (keeps_all g).packages;
   names = nothing_more g.package_names;
@@ -101,7 +123,7 @@ module _ (a : Addition) where
       let b = begun a e.0 e.1 g in
       keeps_on g b.graph (with_world a g e) (keeps_includes (length g.worlds) (active_includes a e.1) (record { graph = g; lists = lists_of (world_image (addition_maps a) e.0 e.1) })) (keeps_with_worlds b.graph (finished a e.0 e.1 b ∷ []))
 
-  keeps_worlds : (es : List (ℕ × World)) (g : Graph) → Keeps g (fold (with_world a) g es)
+  pub keeps_worlds : (es : List (ℕ × World)) (g : Graph) → Keeps g (fold (with_world a) g es)
   keeps_worlds [] g = keeps_all g
   keeps_worlds (e ∷ es) g = keeps_on g (with_world a g e) (fold (with_world a) (with_world a g e) es) (keeps_world g e) (keeps_worlds es (with_world a g e))
 
@@ -111,14 +133,14 @@ module _ (a : Addition) where
     where
       parts : Keeps a.graph (with_parts a)
       parts = record {
-        types = (_, refl);
-        interfaces = (_, refl);
+        types = types_behind a.graph.types _;
+        interfaces = interfaces_behind a.graph.interfaces _;
         worlds = (keeps_all a.graph).worlds;
-        packages = λ p home at. some_at (SamePackage home) (a.graph.packages ++ new_package a ∷ []) p home (slice_get-append a.graph.packages (new_package a ∷ []) p home at) (refl, refl);
+        packages = λ p home at. some_at (SamePackage home) (a.graph.packages ++ new_package a ∷ []) p home (slice_get-append a.graph.packages (new_package a ∷ []) p home at) (refl, nothing_more home.interfaces);
         names = (_, refl);
       }
 
-keeps_pushes : (features : Features) (g : Graph) (ps : List Handed) (new : Graph) (ids : List ℕ) → ArePushed features g ps new ids → Keeps g new
+pub keeps_pushes : (features : Features) (g : Graph) (ps : List Handed) (new : Graph) (ids : List ℕ) → ArePushed features g ps new ids → Keeps g new
 keeps_pushes features g [] new [] same = subst (Keeps g) (sym same) (keeps_all g)
 keeps_pushes features g (p ∷ ps) new (id ∷ ids) pushed =
     keeps_on g pushed.0 new (subst (Keeps g) (sym pushed.1.graph_is) (keeps_pushed (addition features g p.0 p.1))) (keeps_pushes features pushed.0 ps new ids pushed.2)
@@ -138,25 +160,25 @@ module _ (g : Graph) (w : ℕ) (old : World) (turn : Turn) (there : slice_get g.
       ]
 
   packages_renamed : (o : Option ℕ) (i : ℕ) (home : Package) → slice_get g.packages i ≡ Some home → SomeAt (with_renamed g.packages o w turn.name) i (SamePackage home)
-  packages_renamed None i home at = some_at (SamePackage home) g.packages i home at (refl, refl)
+  packages_renamed None i home at = some_at (SamePackage home) g.packages i home at (refl, nothing_more home.interfaces)
   packages_renamed (Some p) i home at = by (slice_get g.packages p) refl
     where
       by : (o : Option Package) → slice_get g.packages p ≡ o → SomeAt (option_map_or (λ (x : Package). slice_set g.packages p (record x { worlds = put_last x.worlds w turn.name })) o g.packages) i (SamePackage home)
-      by None none = some_at (SamePackage home) g.packages i home at (refl, refl)
+      by None none = some_at (SamePackage home) g.packages i home at (refl, nothing_more home.interfaces)
       by (Some x) found =
           let renamed : Package = record x { worlds = put_last x.worlds w turn.name } in
           elim (kept-cases g.packages p renamed i home at) [
             | inl same ↦
                 let one : home ≡ x = same_at g.packages i p home x same at found in
                 subst (λ (u : ℕ). SomeAt (slice_set g.packages p renamed) u (SamePackage home)) (sym same)
-                (some_at (SamePackage home) (slice_set g.packages p renamed) p renamed (slice_get-set g.packages p x renamed found) (ap (λ (y : Package). y.name) (sym one), ap (λ (y : Package). y.interfaces) (sym one)))
-            | inr stays ↦ some_at (SamePackage home) (slice_set g.packages p renamed) i home stays (refl, refl)
+                (some_at (SamePackage home) (slice_set g.packages p renamed) p renamed (slice_get-set g.packages p x renamed found) (ap (λ (y : Package). y.name) (sym one), ([], ap (λ (y : Package). y.interfaces) (sym one) ∙ sym (append-nil home.interfaces))))
+            | inr stays ↦ some_at (SamePackage home) (slice_set g.packages p renamed) i home stays (refl, nothing_more home.interfaces)
           ]
 
   keeps_turned_at : Keeps g (turned_at g w old turn)
   keeps_turned_at = record {
-    types = nothing_more g.types;
-    interfaces = nothing_more g.interfaces;
+    types = (keeps_all g).types;
+    interfaces = (keeps_all g).interfaces;
     worlds = worlds_turned;
     packages = packages_renamed old.package;
     names = nothing_more g.package_names;
@@ -168,6 +190,10 @@ keeps_turned g w f = by (slice_get g.worlds w) refl
     by : (o : Option World) → slice_get g.worlds w ≡ o → Keeps g (option_map_or (λ (world : World). turned_at g w world (f world)) o g)
     by None none = keeps_all g
     by (Some old) there = keeps_turned_at g w old (f old) there
+
+-- a merge keeps it
+keeps_united : (m : Merging) → Keeps m.graph (united m)
+keeps_united m = record { types = types_stay m; interfaces = interfaces_stay m; worlds = worlds_stay m; packages = packages_stay m; names = names_stay m }
 
 same_graph : (old new : State) → new.graph ≡ old.graph → Keeps old.graph new.graph
 same_graph old new same = subst (Keeps old.graph) (sym same) (keeps_all old.graph)
@@ -193,9 +219,9 @@ keeps_step old (PushGroups main deps) reply.NoWorld new step = absurd step
 keeps_step old (PushGroups main deps) (reply.Refused error) new step = same_graph old new step.graph
 keeps_step old (Merge other) reply.Done new step = absurd step
 keeps_step old (Merge other) (reply.Pushed id) new step = absurd step
-keeps_step old (Merge other) (reply.Merged remap) new step = absurd step
+keeps_step old (Merge other) (reply.Merged remap) new step = subst (Keeps old.graph) (sym step.graph) (keeps_united (merging old other))
 keeps_step old (Merge other) reply.NoWorld new step = absurd step
-keeps_step old (Merge other) (reply.Refused error) new step = absurd step
+keeps_step old (Merge other) (reply.Refused error) new step = same_graph old new step.graph
 keeps_step old (Importize home world out) reply.Done new step =
     subst (λ (s : State). Keeps old.graph s.graph) (sym step.is_turned) (keeps_turned old.graph step.w (importized out))
 keeps_step old (Importize home world out) (reply.Pushed id) new step = absurd step

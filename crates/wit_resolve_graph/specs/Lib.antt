@@ -1,4 +1,6 @@
 pub mod Examples
+pub mod Merging
+pub mod Grouping
 pub mod Named
 pub mod RunLaws
 pub mod Selection

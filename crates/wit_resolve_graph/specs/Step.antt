@@ -18,6 +18,7 @@ use Rattle.wit_graph.specs.declared.features.Features.{Features}
 use Rattle.wit_link.specs.Groups.{IsGroupsCause, files_end, packages_of}
 use Rattle.wit_link.specs.Several.{ArePushed}
 use Rattle.wit_sorting.specs.Sorting.{AreSorted, Handed, IsSortCause}
+use Rattle.wit_resolve_graph.specs.Merging.{Merges, RefusesMerge}
 use Rattle.wit_resolve_graph.specs.Named.{HasWorld}
 use Rattle.wit_unite.specs.TurnCause.{IsExportizeCause, IsImportizeCause, imports_at}
 use Rattle.wit_unite.specs.Turned.{Turn, exportized, importized, turned}
@@ -105,7 +106,7 @@ listed_answers g keys entries = map (λ (e : Entry). is_listed_key g keys e.0) e
 abbrev pub answers_at : State → Option (List (List ℕ)) → ℕ → List Bool
 answers_at state keys w = listed_answers state.graph keys (imports_at state.graph w)
 
--- what merging and semver merging do isn't defined yet: no such answer is one of a run so far
+-- what semver merging does isn't defined yet: no such answer is one of a run so far
 abbrev pub Waits : Type 0
 Waits = ⊥
 
@@ -125,8 +126,8 @@ Step old (SetAllFeatures all) _ new = ⊥
 Step old (PushGroups main deps) (Pushed id) new = PushesGroups old main deps id new
 Step old (PushGroups main deps) (Refused error) new = RefusesGroups old main deps error new
 Step old (PushGroups main deps) _ new = ⊥
-Step old (Merge other) (Merged remap) new = Waits
-Step old (Merge other) (Refused error) new = Waits
+Step old (Merge other) (Merged remap) new = Merges old other remap new
+Step old (Merge other) (Refused error) new = RefusesMerge old other error new
 Step old (Merge other) _ new = ⊥
 Step old (Importize home world out) NoWorld new = IsAbsent old home world × (new ≡ old)
 Step old (Importize home world out) Done new = Turns old home world (λ w. importized out) (λ w. IsImportizeCause old.graph w out) new

@@ -4,6 +4,7 @@
 
 pub mod command;
 mod core_names;
+mod groups;
 pub mod laws;
 mod push_source;
 mod questions;

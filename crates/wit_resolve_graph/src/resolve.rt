@@ -1,5 +1,6 @@
 //! A graph of packages with its features and its sources.
 ghost use Rattle.std.specs.Prelude.{◌≡◌, ◌⊎◌, ◌↔◌, ◌<◌, ◌≤◌, ◌+◌, ◌^◌, [], ◌∷◌, Bool, Ok, Err, IfErr, IfOk, IfSome, List, OnErr, OnOk, IsTrue, length, string_bytes};
+ghost use Rattle.std.specs.List.{AllByRecursion};
 ghost use Rattle.std.specs.Option.{option_copied, option_map};
 ghost use Rattle.wit_graph.specs.IdText.{id_text, interface_id_at, key_text};
 ghost use Rattle.wit_graph.specs.Valid.{IsValid};
@@ -17,6 +18,7 @@ ghost use Rattle.wit_resolve_graph.specs.Step.{PushesGroups, RefusesGroups, with
 ghost use Rattle.wit_unite.specs.TurnCause.{AreAnswers, Exportizes, IsExportizeCause, IsImportizeCause, RefusesExportize, imports_at};
 ghost use Rattle.wit_unite.specs.Turned.{exportized, importized, turned};
 
+use crate::groups::{add_packages, place_groups};
 use crate::select::select_world;
 use std::alloc::{AllocError, Global};
 use std::fmt;
@@ -182,13 +184,8 @@ impl Resolve {
         append(alloc, &mut self.graph, &self.features, package, span_offset)
     }
 
-    /// Adds the main package of a group and puts the group's files at the end of the source map, and
-    /// answers the package's id.
-    ///
-    /// So far nothing is nested in the group, and its package names nothing of itself, and no world of it includes
-    /// another. Refused as `push`; the packages are as before then. The
-    /// files are at the end of the source map after a refusal, but after 27 nowhere, and after 28
-    /// there or not.
+    /// Adds the packages of a group, the nested ones and the main one, and puts the group's files at the
+    /// end of the source map, and answers the main package's id: `push_groups` with this group alone.
     pub fn push_group(
         &mut self,
         alloc: Global,
@@ -200,40 +197,38 @@ impl Resolve {
         ensures err { IfErr result (λ kind. RefusesGroups self.old group [] kind self.new) }
         ensures refuses { (kind : ResolveErrorKind) → IsGroupsCause self.old.features self.old.graph self.old.source_map.end (group ∷ []) kind → OnOk result ⊥ }
     {
-        let UnresolvedPackageGroup {
-            main,
-            nested,
-            source_map,
-        } = group;
-        drop(nested);
-        let files = self.source_map.len();
-        let end = self.source_map.end();
-        let offset = self.push_source_map(alloc, source_map)?;
-        let pushed = self.push(alloc, main, offset);
-        if is_offset_overflow(&pushed) {
-            self.source_map.truncate(files, end);
-        }
-        pushed
+        self.push_groups(alloc, group, Items::new(alloc))
     }
 
-    /// Adds the packages of groups, and answers the id of the main group's main package.
+    /// Adds the packages of groups, each after those of them that it depends on and else in the order of
+    /// their names, and puts the groups' files at the end of the source map, the main group's first.
+    /// Answers the id of the main group's main package.
     ///
-    /// So far there is the main group alone.
+    /// So far no world of them includes another. Refused where two packages have one name (5), where they
+    /// depend on each other or one on itself (6), and as `push` where one of them is; the packages are as
+    /// before then. The files are at the end of the source map after a refusal, but after 27 nowhere, and
+    /// after 28 there or not.
     pub fn push_groups(
         &mut self,
         alloc: Global,
         main: UnresolvedPackageGroup,
         deps: Items<UnresolvedPackageGroup>,
     ) -> ResolveResult<PackageId>
-        requires shaped { IsGroupShaped main }
-        requires supported { IsSupportedGroup main }
-        requires deps { deps ≡ [] }
+        requires shaped { AllByRecursion IsGroupShaped (main ∷ deps) }
+        requires supported { AllByRecursion IsSupportedGroup (main ∷ deps) }
         ensures ok { IfOk result (λ id. PushesGroups self.old main deps id self.new) }
         ensures err { IfErr result (λ kind. RefusesGroups self.old main deps kind self.new) }
         ensures refuses { (kind : ResolveErrorKind) → IsGroupsCause self.old.features self.old.graph self.old.source_map.end (main ∷ deps) kind → OnOk result ⊥ }
     {
-        drop(deps);
-        self.push_group(alloc, main)
+        let name = main.main.name.try_clone()?;
+        let files = self.source_map.len();
+        let end = self.source_map.end();
+        let packages = place_groups(alloc, &mut self.source_map, main, deps)?;
+        let pushed = add_packages(alloc, &mut self.graph, &self.features, packages, &name);
+        if is_offset_overflow(&pushed) {
+            self.source_map.truncate(files, end);
+        }
+        pushed
     }
 
     /// The world that a text names: a name in the one main package, or `namespace:package/name` with an

@@ -16,8 +16,8 @@ use wit_items::Text;
 /// Runs commands in order, and answers a reply to each. Room for all replies is made first; where there
 /// is none, nothing has changed.
 ///
-/// So far a command turns features on or a world, or is `PushGroups` with the main group alone, nothing
-/// nested in it, and a package that `Resolve::push` takes.
+/// So far a command turns features on or a world, or is `PushGroups` with packages that
+/// `Resolve::push_groups` takes.
 pub fn run(
     alloc: Global,
     resolve: &mut Resolve,

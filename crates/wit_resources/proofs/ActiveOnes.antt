@@ -17,9 +17,9 @@ use Rattle.wit_graph.specs.declared.features.Features.{Features}
 use Rattle.wit_growth.specs.ListFacts.{get_at}
 use Rattle.wit_adding.specs.Addition.{Addition}
 use Rattle.wit_adding.specs.Gates.{function_is_active, interface_is_active, world_is_active}
+use Rattle.wit_adding.specs.RangeFacts.{in_range, range_below}
 use Rattle.wit_adding.specs.Reasons.{IsActiveFunction, of_interface, of_world}
 use Rattle.wit_resources.specs.Active.{active_entries, active_functions, active_item, active_named, active_one, interface_functions, world_functions}
-use Rattle.wit_resources.proofs.Ranges.{in_range, range_below}
 
 one_in : (features : Features) (f : Function) → function_is_active features f ≡ true → Contains (active_one features f) f
 one_in features f takes = subst (λ (b : Bool). Contains (if b then f ∷ [] else []) f) (sym takes) (Contains-here f [])

@@ -6,7 +6,6 @@ mod MayHold
 mod Needing
 mod Positions
 mod Ranges
-mod Reading
 mod Rows
 mod Searching
 mod Tells

@@ -1,5 +1,5 @@
 -- Which types hold a borrow, one type at a time.
-use Rattle.std.proofs.Common.{◌≡◌, ◌∙◌, inl, inr, ℕ, true, false, List, None, Some, slice_get, refl, sym, subst, Result, Ok, Err, IfOk}
+use Rattle.std.proofs.Common.{◌≡◌, ◌∙◌, inl, inr, ℕ, true, false, List, None, Some, slice_get, refl, sym, subst}
 use Rattle.std.proofs.lemmas.Bool.{false≢true, ltb-true}
 use Rattle.wit_relations.specs.Relation.{Reaches}
 use Rattle.wit_items.specs.Shape.{IsShaped}
@@ -15,11 +15,6 @@ use Rattle.wit_adding.specs.Reasons.{HoldsBorrow, IsBorrow, MayHoldBorrow}
 use Rattle.wit_resources.specs.Borrows.{IsBorrowThere}
 use Rattle.wit_resources.proofs.Searching.{ReachesBad}
 use Rattle.wit_resources.proofs.Where.{foreign_back, found_is_foreign, found_on}
-
--- what holds of an answer where another thing does
-pub if_ok_step : {X E : Type 0} (P Q : X → Type 0) → ((x : X) → P x → Q x) → (r : Result X E) → IfOk r P → IfOk r Q
-if_ok_step P Q step (Ok x) h = step x h
-if_ok_step P Q step (Err e) h = h
 
 -- the kind is a borrow
 abbrev pub IsBorrowKind : TypeDefKind → Type 0

@@ -6,6 +6,7 @@ use Rattle.std.proofs.lemmas.List.Elements.{filter-append}
 use Rattle.wit_items.specs.Shape.{IsShaped}
 use Rattle.wit_adding.specs.Addition.{Addition, needs_own, plain_types, type_place}
 use Rattle.wit_adding.specs.Gates.{type_is_active}
+use Rattle.wit_adding.specs.RangeFacts.{range-more}
 use Rattle.wit_adding.specs.RankFacts.{after, rank-kept, rank-left, rank-suc}
 use Rattle.wit_adding.specs.Ranks.{rank, taken, taken_places}
 use Rattle.wit_adding.specs.Reasons.{HasImage}
@@ -13,7 +14,6 @@ use Rattle.wit_adding.specs.Resources.{leads_to_resource}
 use Rattle.wit_resources.specs.Asked.{is_asked}
 use Rattle.wit_resources.specs.Leading.{leads_there}
 use Rattle.wit_resources.proofs.Positions.{asked_active}
-use Rattle.wit_resources.proofs.Ranges.{range-more}
 use Rattle.wit_resources.proofs.Where.{conj}
 
 -- ---- ranks

@@ -31,6 +31,7 @@ use Rattle.wit_adding.specs.Addition.{Addition, active, function_positions, own_
 use Rattle.wit_adding.specs.ClosedCut.{function_kept, member_of_first, references_kept, there_where}
 use Rattle.wit_adding.specs.Gates.{HasEntry, function_is_active, interface_is_active, is_active, is_foreign_interface, is_foreign_world, item_is_active, type_is_active, world_is_active}
 use Rattle.wit_adding.specs.Lookup.{is_foreign_type}
+use Rattle.wit_adding.specs.RangeFacts.{in_range, range_below}
 use Rattle.wit_adding.specs.RankFacts.{taken-at, taken_places-at, taken_places-from}
 use Rattle.wit_adding.specs.Ranks.{rank, taken, taken_places}
 use Rattle.wit_adding.specs.Reasons.{HasImage, IsActiveFunction, of_interface, of_world}
@@ -38,7 +39,6 @@ use Rattle.wit_adding.specs.Resources.{signature_positions, value_positions}
 use Rattle.wit_resources.specs.Active.{active_functions}
 use Rattle.wit_resources.specs.Asked.{gathered_positions, is_asked, positions_of_type}
 use Rattle.wit_resources.proofs.ActiveOnes.{active_back, active_in}
-use Rattle.wit_resources.proofs.Ranges.{in_range, range_below}
 use Rattle.wit_resources.proofs.Where.{both}
 
 second : (b c : Bool) → not b && c ≡ true → c ≡ true

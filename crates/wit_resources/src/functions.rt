@@ -2,13 +2,12 @@
 ghost use Rattle.std.specs.Prelude.{◌≡◌, ◌++◌, IfOk, OnOk, length};
 ghost use Rattle.std.specs.List.{flat_map, range_with_len};
 ghost use Rattle.wit_adding.specs.Adding.{activity_of, addition_of};
-ghost use Rattle.wit_adding.specs.Gates.{is_active};
 ghost use Rattle.wit_resources.specs.Active.{active_entries, active_functions, active_item, active_named, active_one, interface_functions, seen, world_functions};
 
 use std::alloc::{AllocError, Global};
-use wit_adding::{Activity, Adding};
+use wit_adding::{Activity, Adding, is_active};
 use wit_graph::Features;
-use wit_items::{Function, Names, Stability, Table, WorldItem, WorldKey};
+use wit_items::{Function, Names, Table, WorldItem, WorldKey};
 
 /// The functions that take part: those of the interfaces, then those of the worlds.
 pub(crate) fn active_functions<'a>(
@@ -116,16 +115,4 @@ fn push_active<'a>(
         functions.push(function)?;
     }
     Ok(())
-}
-
-/// Whether a note lets its item take part.
-fn is_active(features: &Features, stability: &Stability) -> bool
-    ensures { result ≡ is_active features.now stability.now }
-{
-    match stability {
-        Stability::Unknown | Stability::Stable { .. } => true,
-        Stability::Unstable { feature, .. } => {
-            features.all || features.names.contains(feature.as_str())
-        }
-    }
 }

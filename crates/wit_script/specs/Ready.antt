@@ -1,6 +1,6 @@
 -- Which lines of a script are accepted so far, by kind of line. Later work widens `is_accepted_so_far` and `CanPush`, and at
 -- last removes them.
-use Rattle.std.specs.Prelude.{◌≡◌, Bool, true, false, List, [], IsTrue}
+use Rattle.std.specs.Prelude.{Bool, true, false, List, ◌∷◌, IsTrue}
 use Rattle.std.specs.List.{AllByRecursion}
 use Rattle.wit_items.specs.Shape.{IsGroupShaped}
 use Rattle.wit_items.specs.declared.unresolved.UnresolvedPackageGroup.{UnresolvedPackageGroup}
@@ -56,19 +56,21 @@ is_accepted_so_far (says.Line said gate) = is_line_taken said
 is_accepted_so_far says.Push = true
 is_accepted_so_far (says.Request asked) = is_taken asked
 
+-- a group has the shape that a graph takes, and can be added so far
+abbrev pub CanAdd : UnresolvedPackageGroup → Type 0
+CanAdd group = IsGroupShaped group × IsSupportedGroup group
+
 -- packages can be added so far; else their `push` isn't accepted
-pub record CanPush (main : UnresolvedPackageGroup) (deps : List UnresolvedPackageGroup) : Type 0 where
-  pub supported : IsSupportedGroup main
-  pub alone : deps ≡ []
+abbrev pub CanPush : List UnresolvedPackageGroup → Type 0
+CanPush groups = AllByRecursion IsSupportedGroup groups
 
 -- packages have the shape that a graph takes
-pub record AreShaped (main : UnresolvedPackageGroup) (deps : List UnresolvedPackageGroup) : Type 0 where
-  pub main_shape : IsGroupShaped main
-  pub deps_shape : AllByRecursion IsGroupShaped deps
+abbrev pub AreShaped : List UnresolvedPackageGroup → Type 0
+AreShaped groups = AllByRecursion IsGroupShaped groups
 
 -- a command whose packages have their shape, and that is accepted so far
 abbrev pub IsReady : ScriptCommand → Type 0
-IsReady (asks.Push main deps) = AreShaped main deps × CanPush main deps
+IsReady (asks.Push main deps) = AreShaped (main ∷ deps) × CanPush (main ∷ deps)
 IsReady (asks.Request asked) = IsTrue (is_taken asked)
 
 abbrev pub AreReady : List ScriptCommand → Type 0

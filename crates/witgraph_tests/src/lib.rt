@@ -11,6 +11,8 @@ mod fixtures;
 #[cfg(test)]
 mod questions;
 #[cfg(test)]
+mod refusals;
+#[cfg(test)]
 mod resolve;
 #[cfg(test)]
 mod selecting;

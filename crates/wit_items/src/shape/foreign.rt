@@ -17,7 +17,7 @@ use std::alloc::{AllocError, Global};
 use wit_values::{Items, Names, Table};
 
 /// The interfaces that are named of other packages.
-pub(crate) fn foreign_interfaces(
+pub fn foreign_interfaces(
     alloc: Global,
     deps: &Table<PackageName, Names<(AstItem, Items<Stability>)>>,
 ) -> Result<Items<usize>, AllocError>
@@ -54,7 +54,7 @@ fn push_interface(ids: &mut Items<usize>, item: AstItem) -> Result<(), AllocErro
 }
 
 /// The worlds that are named of other packages.
-pub(crate) fn foreign_worlds(
+pub fn foreign_worlds(
     alloc: Global,
     deps: &Table<PackageName, Names<(AstItem, Items<Stability>)>>,
 ) -> Result<Items<usize>, AllocError>

@@ -1,16 +1,13 @@
-use Rattle.std.proofs.Common.{rules, ◌≡◌, ◌∙◌, ◌⊎◌, ◌++◌, ◌∷◌, [], ℕ, List, IfErr, IsErrAnd, OnErr, Result, Ok, Err, inl, inr, subst, sym, ap, take}
+use Rattle.std.proofs.Common.{rules, ◌≡◌, ◌∙◌, ◌⊎◌, ◌++◌, ◌∷◌, [], ℕ, List, inl, inr, subst, sym, ap, take}
 use Rattle.std.proofs.lemmas.List.{append_assoc}
 use Rattle.std.specs.Vec.Iter.{into_iter_items}
+use Rattle.wit_graph.specs.AnswerFacts.{on_err, told_err}
 use Rattle.wit_graph.specs.declared.error_kind.ResolveErrorKind.{ResolveErrorKind}
 use Rattle.wit_graph.specs.declared.error_kind.ResolveErrorKind.TheVariants.{OutOfMemory}
 use Rattle.wit_graph.specs.declared.graph.Graph.{Graph}
 use Rattle.wit_finishing.specs.Finished.{CanFinish, IsFinishCause, StopsAt, with_all_finished, with_finished}
 use Rattle.wit_finishing.proofs.Causes.{can_finish_more, finished_more, stop_cause, stopped}
 use Rattle.wit_finishing.proofs.finishing.finish_worlds.Goals as goal
-
-told_err : {T E : Type 0} {P Q : E → Type 0} (r : Result T E) → IsErrAnd r P → ((e : E) → P e → Q e) → IfErr r Q
-told_err (Ok v) is gives = tt
-told_err (Err e) is gives = gives e is
 
 pub loop-world-preserved : goal.loop-world-preserved
 loop-world-preserved c = record {
@@ -36,10 +33,6 @@ returns-in_err-finish_world-clause-cause c =
     subst (λ (x : ResolveErrorKind). (x ≡ OutOfMemory) ⊎ ((k : ℕ) × StopsAt c.args.graph.now c.args.worlds x k)) (sym same)
     (stop_cause c.args.graph.now c.args.worlds c.loop-world.yielded (into_iter_items c.next.new.self) c.in-Some.world are c.loop-world.invariant.fine c.in_err-finish_world.field-0.0
     (subst (λ (g : Graph). (c.in_err-finish_world.field-0.0 ≡ OutOfMemory) ⊎ IsFinishCause g c.in-Some.world c.in_err-finish_world.field-0.0) c.loop-world.invariant.graph c.in_err-finish_world.ensures.cause)))
-
-on_err : {T E : Type 0} {P : Type 0} (r : Result T E) → P → OnErr r P
-on_err (Ok v) p = tt
-on_err (Err e) p = p
 
 pub returns-in_err-finish_world-clause-err : goal.returns-in_err-finish_world-clause-err
 returns-in_err-finish_world-clause-err c =

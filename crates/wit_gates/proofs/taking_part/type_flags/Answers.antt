@@ -2,12 +2,12 @@ use Rattle.std.proofs.Common.{◌∙◌, ap, sym, Option, false}
 use Rattle.std.specs.Option.{option_map_or}
 use Rattle.wit_items.specs.declared.types.TypeDef.{TypeDef}
 use Rattle.wit_adding.specs.Gates.{is_active, type_is_active}
-use Rattle.wit_gates.proofs.Flags.{pushed-flag}
+use Rattle.wit_adding.specs.RangeFacts.{range-pushed}
 use Rattle.wit_gates.proofs.taking_part.type_flags.Goals as goal
 
 pub loop-index-preserved : goal.loop-index-preserved
 loop-index-preserved c =
     let features = c.args.features.now in
     let here = ap (λ (o : Option TypeDef). option_map_or (λ (def : TypeDef). is_active features def.stability) o false) c.at.ensures in
-    pushed-flag (type_is_active features c.args.handed.now.types) c.loop-index.index c.loop-index.flags c.push.new.self c.is_active.result c.loop-index.invariant c.in_ok-push.ensures.ok
+    range-pushed (type_is_active features c.args.handed.now.types) c.loop-index.index c.loop-index.flags c.push.new.self c.is_active.result c.loop-index.invariant c.in_ok-push.ensures.ok
     (c.is_active.ensures ∙ sym here)

@@ -1,6 +1,6 @@
 use Rattle.wit_items.specs.EachFacts.{EachBelow}
 use Rattle.wit_items.specs.Entries.{Entry}
-use Rattle.wit_link.specs.Fits.{ItemFits}
+use Rattle.wit_placing.specs.Fits.{ItemFits}
 use Rattle.wit_link.proofs.fits.entries_fit.Given as goal
 
 -- the first ones fit

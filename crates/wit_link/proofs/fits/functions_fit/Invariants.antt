@@ -1,7 +1,7 @@
 use Rattle.std.proofs.Common.{ℕ, List}
 use Rattle.wit_items.specs.EachFacts.{EachBelow}
 use Rattle.wit_items.specs.declared.function.Function.{Function}
-use Rattle.wit_link.specs.Fits.{FunctionFits}
+use Rattle.wit_placing.specs.Fits.{FunctionFits}
 use Rattle.wit_link.proofs.fits.functions_fit.Given as goal
 
 -- the first ones fit

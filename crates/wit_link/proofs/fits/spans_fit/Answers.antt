@@ -3,7 +3,8 @@ use Rattle.wit_items.specs.Each.{Each}
 use Rattle.wit_items.specs.declared.interface.Interface.{Interface}
 use Rattle.wit_items.specs.declared.types.TypeDef.{TypeDef}
 use Rattle.wit_items.specs.declared.world.World.{World}
-use Rattle.wit_link.specs.Fits.{InterfaceFits, TypeFits, WorldFits}
+use Rattle.wit_placing.specs.Fits.{InterfaceFits, TypeFits}
+use Rattle.wit_link.specs.Fits.{WholeWorldFits}
 use Rattle.wit_link.proofs.fits.spans_fit.Goals as goal
 
 pub returns : goal.returns
@@ -13,7 +14,7 @@ returns c = (
     foreign = c.foreign_spans_fit.ensures.0 c.if-not-foreign_spans_fit.false;
     types = subst (λ (xs : List TypeDef). Each (TypeFits c.args.offset) xs) c.as_slice.ensures (c.types_fit.ensures.0 c.if-not-types_fit.false);
     interfaces = subst (λ (xs : List Interface). Each (InterfaceFits c.args.offset) xs) c.as_slice-2.ensures (c.interfaces_fit.ensures.0 c.if-not-interfaces_fit.false);
-    worlds = subst (λ (xs : List World). Each (WorldFits c.args.offset) xs) c.as_slice-3.ensures (c.worlds_fit.ensures.0 worlds);
+    worlds = subst (λ (xs : List World). Each (WholeWorldFits c.args.offset) xs) c.as_slice-3.ensures (c.worlds_fit.ensures.0 worlds);
   },
-  λ fits. c.worlds_fit.ensures.1 (subst (λ (xs : List World). Each (WorldFits c.args.offset) xs) (sym c.as_slice-3.ensures) fits.worlds),
+  λ fits. c.worlds_fit.ensures.1 (subst (λ (xs : List World). Each (WholeWorldFits c.args.offset) xs) (sym c.as_slice-3.ensures) fits.worlds),
 )

@@ -1,9 +1,10 @@
 use Rattle.std.proofs.Common.{◌≡◌, ◌∙◌, ap, inr, slice_get, sym, true}
 use Rattle.std.proofs.lemmas.Bool.{false≢true}
 use Rattle.wit_adding.specs.Adding.{addition_of}
+use Rattle.wit_adding.specs.FlagFacts.{interface-flag, interface-inside}
 use Rattle.wit_adding.specs.Gates.{interface_is_active}
 use Rattle.wit_lookup.proofs.Causes.{interface_missing}
-use Rattle.wit_lookup.proofs.Flags.{named_interface-inside, interface-flag, interface-inside, none_from_test, some_from_test}
+use Rattle.wit_lookup.proofs.FoundLists.{named_interface-inside, none_from_test, some_from_test}
 use Rattle.wit_lookup.proofs.foreign.find_interface.Goals as goal
 use Rattle.wit_lookup.proofs.foreign.find_interface.Goals.{else-is_none-via-else-is_none, else-is_none-via-then-is_none+else-at}
 

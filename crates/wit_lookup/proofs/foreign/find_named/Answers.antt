@@ -3,7 +3,7 @@ use Rattle.wit_adding.specs.Adding.{addition_of}
 use Rattle.wit_lookup.specs.Finding.{AreThere, found_among}
 use Rattle.wit_lookup.specs.declared.foreign.Found.{Found}
 use Rattle.wit_lookup.proofs.Causes.{is_named, packages-next}
-use Rattle.wit_lookup.proofs.Flags.{named_interface-inside, named_world-inside, found_interface-inside, found_world-inside}
+use Rattle.wit_lookup.proofs.FoundLists.{found_interface-inside, found_world-inside, named_interface-inside, named_world-inside}
 use Rattle.wit_lookup.proofs.NamedItems.{named_until, until-all}
 use Rattle.wit_lookup.proofs.ItemSteps.{interface_step, world_step}
 use Rattle.wit_lookup.proofs.foreign.find_named.Goals as goal

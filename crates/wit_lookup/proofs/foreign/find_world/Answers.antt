@@ -1,9 +1,10 @@
 use Rattle.std.proofs.Common.{◌≡◌, ◌∙◌, ap, inr, slice_get, sym, true}
 use Rattle.std.proofs.lemmas.Bool.{false≢true}
 use Rattle.wit_adding.specs.Adding.{addition_of}
+use Rattle.wit_adding.specs.FlagFacts.{world-flag, world-inside}
 use Rattle.wit_adding.specs.Gates.{world_is_active}
 use Rattle.wit_lookup.proofs.Causes.{world_missing}
-use Rattle.wit_lookup.proofs.Flags.{named_world-inside, world-flag, world-inside, none_from_test, some_from_test}
+use Rattle.wit_lookup.proofs.FoundLists.{named_world-inside, none_from_test, some_from_test}
 use Rattle.wit_lookup.proofs.foreign.find_world.Goals as goal
 use Rattle.wit_lookup.proofs.foreign.find_world.Goals.{else-is_none-via-else-is_none, else-is_none-via-then-is_none+else-at}
 

@@ -1,5 +1,5 @@
 use Rattle.std.proofs.Common.{◌∙◌, ◌++◌, ◌∷◌, [], None, ap, sym}
-use Rattle.wit_lookup.proofs.Ranges.{range-next}
+use Rattle.wit_adding.specs.RangeFacts.{range-next}
 use Rattle.wit_lookup.proofs.foreign.nothing.Goals as goal
 
 pub loop-index-preserved : goal.loop-index-preserved

@@ -2,10 +2,11 @@ use Rattle.std.proofs.Common.{◌∙◌, ◌++◌, ◌∷◌, [], List, Option, 
 use Rattle.std.specs.List.{range_with_len}
 use Rattle.wit_adding.specs.Addition.{taken_interface}
 use Rattle.wit_adding.specs.Adding.{addition_of}
+use Rattle.wit_adding.specs.FlagFacts.{interface-flag, interface-inside}
 use Rattle.wit_adding.specs.Lookup.{named_items}
-use Rattle.wit_lookup.proofs.Flags.{found_interface-at, found_interface-inside, interface-flag, interface-inside}
+use Rattle.wit_adding.specs.RangeFacts.{range-next}
+use Rattle.wit_lookup.proofs.FoundLists.{found_interface-at, found_interface-inside}
 use Rattle.wit_lookup.proofs.Going.{interface_step}
-use Rattle.wit_lookup.proofs.Ranges.{range-next}
 use Rattle.wit_lookup.proofs.next.interface_places.Goals as goal
 
 pub at-active-requires : goal.at-active-requires

@@ -2,10 +2,11 @@ use Rattle.std.proofs.Common.{◌∙◌, ◌++◌, ◌∷◌, [], List, Option, 
 use Rattle.std.specs.List.{range_with_len}
 use Rattle.wit_adding.specs.Addition.{taken_world}
 use Rattle.wit_adding.specs.Adding.{addition_of}
+use Rattle.wit_adding.specs.FlagFacts.{world-flag, world-inside}
 use Rattle.wit_adding.specs.Lookup.{named_items}
-use Rattle.wit_lookup.proofs.Flags.{found_world-at, found_world-inside, world-flag, world-inside}
+use Rattle.wit_adding.specs.RangeFacts.{range-next}
+use Rattle.wit_lookup.proofs.FoundLists.{found_world-at, found_world-inside}
 use Rattle.wit_lookup.proofs.Going.{world_step}
-use Rattle.wit_lookup.proofs.Ranges.{range-next}
 use Rattle.wit_lookup.proofs.next.world_places.Goals as goal
 
 pub at-active-requires : goal.at-active-requires

@@ -1,10 +1,11 @@
 use Rattle.std.proofs.Common.{◌≡◌, ◌∙◌, ℕ, None, Some, ap, inr, sym, true}
 use Rattle.std.proofs.lemmas.Bool.{false≢true, lt-ltb}
 use Rattle.wit_adding.specs.Adding.{addition_of}
+use Rattle.wit_adding.specs.FlagFacts.{interface-flag, interface-inside}
 use Rattle.wit_adding.specs.Gates.{interface_is_active}
 use Rattle.wit_adding.specs.Lookup.{found_interface, listed_type, named_items}
 use Rattle.wit_lookup.proofs.Causes.{type_missing}
-use Rattle.wit_lookup.proofs.Flags.{found_interface-at, found_interface-inside, interface-flag, interface-inside, none_from_test, some_from_test}
+use Rattle.wit_lookup.proofs.FoundLists.{found_interface-at, found_interface-inside, none_from_test, some_from_test}
 use Rattle.wit_lookup.proofs.TypeSteps.{found_type-is, owner-inside, type-there}
 use Rattle.wit_lookup.proofs.types.foreign_type.Goals as goal
 use Rattle.wit_lookup.proofs.types.foreign_type.Goals.{else-is_none-via-else-is_none, else-is_none-via-then-is_none+else-at}

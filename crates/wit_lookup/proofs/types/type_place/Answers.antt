@@ -2,9 +2,9 @@ use Rattle.std.proofs.Common.{◌≡◌, ◌∙◌, Option, ℕ, ap, arith, leng
 use Rattle.std.proofs.lemmas.Bool.{false≢true, lt-ltb, ltb-true}
 use Rattle.std.specs.Prelude.{IfOk}
 use Rattle.wit_adding.specs.Adding.{addition_of}
+use Rattle.wit_adding.specs.FlagFacts.{type-flag, type-inside}
 use Rattle.wit_adding.specs.Gates.{type_is_active}
 use Rattle.wit_adding.specs.Lookup.{is_foreign_type}
-use Rattle.wit_lookup.proofs.Flags.{type-flag, type-inside}
 use Rattle.wit_lookup.proofs.Going.{foreign_type_goes, own_type_step}
 use Rattle.wit_lookup.proofs.types.type_place.Goals as goal
 use Rattle.wit_lookup.proofs.types.type_place.Goals.{else-active-via-else-active, else-active-via-then-active+else-t-len}

@@ -2,8 +2,8 @@ use Rattle.std.proofs.Common.{◌∙◌, ◌++◌, ◌∷◌, [], List, Option, 
 use Rattle.std.specs.List.{range_with_len}
 use Rattle.wit_adding.specs.Addition.{taken_type}
 use Rattle.wit_adding.specs.Adding.{addition_of}
+use Rattle.wit_adding.specs.RangeFacts.{range-next}
 use Rattle.wit_lookup.proofs.Causes.{types-next}
-use Rattle.wit_lookup.proofs.Ranges.{range-next}
 use Rattle.wit_lookup.proofs.types.type_places.Goals as goal
 
 pub loop-t-preserved : goal.loop-t-preserved

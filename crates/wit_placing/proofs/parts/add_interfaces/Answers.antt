@@ -5,7 +5,7 @@ use Rattle.wit_items.specs.declared.interface.Interface.{Interface}
 use Rattle.wit_growth.specs.Cut.{cut_interface}
 use Rattle.wit_growth.specs.Image.{interface_image}
 use Rattle.wit_adding.specs.Ranks.{taken_places}
-use Rattle.wit_placing.specs.Fits.{InterfaceFits}
+use Rattle.wit_placing.specs.Fits.{Fits, InterfaceFits}
 use Rattle.wit_placing.specs.Movers.{maps_of}
 use Rattle.wit_placing.specs.Parts.{is_new, kept_of}
 use Rattle.wit_placing.proofs.Kept.{Each-enumerated, Each-filter, map-pairs}
@@ -17,8 +17,8 @@ interface_table-requires c =
 
 pub placed_interfaces-requires : goal.placed_interfaces-requires
 placed_interfaces-requires c =
-    subst (λ (es : List (ℕ × Interface)). Each (λ (e : ℕ × Interface). InterfaceFits c.args.mover.now.offset e.1) es) (sym c.in_ok-own.ensures)
-    (Each-filter (λ (e : ℕ × Interface). InterfaceFits c.args.mover.now.offset e.1) _ (enumerate_from 0 c.args.interfaces) (Each-enumerated (InterfaceFits c.args.mover.now.offset) 0 c.args.interfaces c.requires.fits))
+    subst (λ (es : List (ℕ × Interface)). Each (λ (e : ℕ × Interface). InterfaceFits (Fits c.args.mover.now.offset) e.1) es) (sym c.in_ok-own.ensures)
+    (Each-filter (λ (e : ℕ × Interface). InterfaceFits (Fits c.args.mover.now.offset) e.1) _ (enumerate_from 0 c.args.interfaces) (Each-enumerated (InterfaceFits (Fits c.args.mover.now.offset)) 0 c.args.interfaces c.requires.fits))
 
 -- images of cut interfaces, one after another
 joined : {X Y Z : Type 0} (f : Y → Z) (g : X → Y) (xs : List X) → map (λ (x : X). f (g x)) xs ≡ map f (map g xs)

@@ -4,7 +4,7 @@ use Rattle.wit_items.specs.Each.{Each}
 use Rattle.wit_items.specs.declared.types.TypeDef.{TypeDef}
 use Rattle.wit_growth.specs.Image.{type_image}
 use Rattle.wit_adding.specs.Ranks.{taken_places}
-use Rattle.wit_placing.specs.Fits.{TypeFits}
+use Rattle.wit_placing.specs.Fits.{Fits, TypeFits}
 use Rattle.wit_placing.specs.Movers.{maps_of}
 use Rattle.wit_placing.specs.Parts.{is_new}
 use Rattle.wit_placing.proofs.Kept.{Each-enumerated, Each-filter, map-pairs}
@@ -12,8 +12,8 @@ use Rattle.wit_placing.proofs.parts.add_types.Goals as goal
 
 pub placed_types-requires : goal.placed_types-requires
 placed_types-requires c =
-    subst (λ (es : List (ℕ × TypeDef)). Each (λ (e : ℕ × TypeDef). TypeFits c.args.mover.now.offset e.1) es) (sym c.in_ok-own.ensures)
-    (Each-filter (λ (e : ℕ × TypeDef). TypeFits c.args.mover.now.offset e.1) _ (enumerate_from 0 c.args.types) (Each-enumerated (TypeFits c.args.mover.now.offset) 0 c.args.types c.requires))
+    subst (λ (es : List (ℕ × TypeDef)). Each (λ (e : ℕ × TypeDef). TypeFits (Fits c.args.mover.now.offset) e.1) es) (sym c.in_ok-own.ensures)
+    (Each-filter (λ (e : ℕ × TypeDef). TypeFits (Fits c.args.mover.now.offset) e.1) _ (enumerate_from 0 c.args.types) (Each-enumerated (TypeFits (Fits c.args.mover.now.offset)) 0 c.args.types c.requires))
 
 pub returns-clause-ok : goal.returns-clause-ok
 returns-clause-ok c =

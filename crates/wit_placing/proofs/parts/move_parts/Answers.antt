@@ -5,7 +5,7 @@ use Rattle.wit_items.specs.declared.interface.Interface.{Interface}
 use Rattle.wit_items.specs.declared.types.TypeDef.{TypeDef}
 use Rattle.wit_items.specs.declared.world.World.{World}
 use Rattle.wit_adding.specs.Ranks.{taken_places}
-use Rattle.wit_placing.specs.Fits.{InterfaceFits, TypeFits, WorldFits}
+use Rattle.wit_placing.specs.Fits.{Fits, InterfaceFits, TypeFits, WorldFits}
 use Rattle.wit_placing.specs.Movers.{maps_of}
 use Rattle.wit_placing.specs.Parts.{is_new, kept_of}
 use Rattle.wit_placing.specs.Worlds.{HasKeysApart}
@@ -13,16 +13,16 @@ use Rattle.wit_placing.proofs.Kept.{Each-enumerated, Each-filter}
 use Rattle.wit_placing.proofs.parts.move_parts.Goals as goal
 
 pub add_types-requires : goal.add_types-requires
-add_types-requires c = subst (λ (types : List TypeDef). Each (TypeFits c.args.mover.now.offset) types) (sym c.replace-types.ensures.value) c.requires.types
+add_types-requires c = subst (λ (types : List TypeDef). Each (TypeFits (Fits c.args.mover.now.offset)) types) (sym c.replace-types.ensures.value) c.requires.types
 
 pub add_interfaces-requires-clause-fits : goal.add_interfaces-requires-clause-fits
-add_interfaces-requires-clause-fits c = subst (λ (interfaces : List Interface). Each (InterfaceFits c.args.mover.now.offset) interfaces) (sym c.replace-interfaces.ensures.value) c.requires.interfaces
+add_interfaces-requires-clause-fits c = subst (λ (interfaces : List Interface). Each (InterfaceFits (Fits c.args.mover.now.offset)) interfaces) (sym c.replace-interfaces.ensures.value) c.requires.interfaces
 
 pub placed_worlds-requires-clause-fits : goal.placed_worlds-requires-clause-fits
 placed_worlds-requires-clause-fits c =
-    let fit : Each (WorldFits c.args.mover.now.offset) c.replace-worlds.result = subst (λ (worlds : List World). Each (WorldFits c.args.mover.now.offset) worlds) (sym c.replace-worlds.ensures.value) c.requires.worlds in
-    subst (λ (es : List (ℕ × World)). Each (λ (e : ℕ × World). WorldFits c.args.mover.now.offset e.1) es) (sym c.in_ok-own.ensures)
-    (Each-filter (λ (e : ℕ × World). WorldFits c.args.mover.now.offset e.1) _ (enumerate_from 0 c.replace-worlds.result) (Each-enumerated (WorldFits c.args.mover.now.offset) 0 c.replace-worlds.result fit))
+    let fit : Each (WorldFits (Fits c.args.mover.now.offset)) c.replace-worlds.result = subst (λ (worlds : List World). Each (WorldFits (Fits c.args.mover.now.offset)) worlds) (sym c.replace-worlds.ensures.value) c.requires.worlds in
+    subst (λ (es : List (ℕ × World)). Each (λ (e : ℕ × World). WorldFits (Fits c.args.mover.now.offset) e.1) es) (sym c.in_ok-own.ensures)
+    (Each-filter (λ (e : ℕ × World). WorldFits (Fits c.args.mover.now.offset) e.1) _ (enumerate_from 0 c.replace-worlds.result) (Each-enumerated (WorldFits (Fits c.args.mover.now.offset)) 0 c.replace-worlds.result fit))
 
 pub placed_worlds-requires-clause-keys : goal.placed_worlds-requires-clause-keys
 placed_worlds-requires-clause-keys c =

@@ -4,7 +4,7 @@ use Rattle.wit_items.specs.Each.{Each}
 use Rattle.wit_items.specs.declared.interface.Interface.{Interface}
 use Rattle.wit_growth.specs.Cut.{cut_interface}
 use Rattle.wit_growth.specs.Image.{interface_image}
-use Rattle.wit_placing.specs.Fits.{InterfaceFits}
+use Rattle.wit_placing.specs.Fits.{Fits, InterfaceFits}
 use Rattle.wit_placing.specs.Movers.{maps_of}
 use Rattle.wit_placing.specs.Parts.{kept_of}
 use Rattle.wit_placing.proofs.parts.placed_interfaces.Given as goal
@@ -14,5 +14,5 @@ abbrev pub invariant-loop-item : goal.invariant-loop-item
 invariant-loop-item l = record {
   all : l.placed ++ map (λ (e : ℕ × Interface). interface_image (maps_of l.mover) (cut_interface (kept_of l.part) e.1)) (into_iter_items l.item-iterator)
       ≡ map (λ (e : ℕ × Interface). interface_image (maps_of l.mover) (cut_interface (kept_of l.part) e.1)) l.fn.interfaces;
-  fits : Each (λ (e : ℕ × Interface). InterfaceFits l.mover.offset e.1) (into_iter_items l.item-iterator);
+  fits : Each (λ (e : ℕ × Interface). InterfaceFits (Fits l.mover.offset) e.1) (into_iter_items l.item-iterator);
 }

@@ -1,6 +1,6 @@
 use Rattle.std.proofs.Common.{◌≡◌, ◌++◌, map}
 use Rattle.wit_growth.specs.Image.{entry_image}
-use Rattle.wit_placing.specs.Fits.{EntriesFit}
+use Rattle.wit_placing.specs.Fits.{EntriesFit, Fits}
 use Rattle.wit_placing.specs.Movers.{maps_of}
 use Rattle.wit_placing.proofs.worlds.placed_entries.Given as goal
 
@@ -8,5 +8,5 @@ use Rattle.wit_placing.proofs.worlds.placed_entries.Given as goal
 abbrev pub invariant-loop-key : goal.invariant-loop-key
 invariant-loop-key l = record {
   all : l.placed ++ map (entry_image (maps_of l.mover) 0) l.key-iterator ≡ map (entry_image (maps_of l.mover) 0) l.fn.entries;
-  fits : EntriesFit l.mover.offset l.key-iterator;
+  fits : EntriesFit (Fits l.mover.offset) l.key-iterator;
 }

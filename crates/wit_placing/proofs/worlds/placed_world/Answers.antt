@@ -5,7 +5,7 @@ use Rattle.wit_items.specs.Entries.{Entry}
 use Rattle.wit_items.specs.WorldKeyFacts.{same_key}
 use Rattle.wit_growth.specs.Image.{entry_image}
 use Rattle.wit_adding.specs.Gates.{include_is_active}
-use Rattle.wit_placing.specs.Fits.{EntriesFit, ItemFits}
+use Rattle.wit_placing.specs.Fits.{EntriesFit, Fits, ItemFits}
 use Rattle.wit_placing.specs.Movers.{maps_of}
 use Rattle.wit_placing.specs.Parts.{kept_of}
 use Rattle.wit_placing.proofs.Kept.{Each-filter}
@@ -14,7 +14,7 @@ use Rattle.wit_placing.proofs.worlds.placed_world.Goals as goal
 pub placed_entries-requires-clause-fits : goal.placed_entries-requires-clause-fits
 placed_entries-requires-clause-fits c =
     let whole = c.cut_entries.ensures ∙ ap (filter (λ (e : Entry). (kept_of c.args.part.now).items e.1)) c.replace-imports.ensures.value in
-    subst (EntriesFit c.args.mover.now.offset) (sym whole) (Each-filter (λ (e : Entry). ItemFits c.args.mover.now.offset e.1) (λ (e : Entry). (kept_of c.args.part.now).items e.1) c.args.world.imports c.requires.fits.imports)
+    subst (EntriesFit (Fits c.args.mover.now.offset)) (sym whole) (Each-filter (λ (e : Entry). ItemFits (Fits c.args.mover.now.offset) e.1) (λ (e : Entry). (kept_of c.args.part.now).items e.1) c.args.world.imports c.requires.fits.imports)
 
 pub placed_entries-requires-clause-keys : goal.placed_entries-requires-clause-keys
 placed_entries-requires-clause-keys c =
@@ -24,7 +24,7 @@ placed_entries-requires-clause-keys c =
 pub placed_entries-requires-2-clause-fits : goal.placed_entries-requires-2-clause-fits
 placed_entries-requires-2-clause-fits c =
     let whole = c.cut_entries-2.ensures ∙ ap (filter (λ (e : Entry). (kept_of c.args.part.now).items e.1)) c.replace-exports.ensures.value in
-    subst (EntriesFit c.args.mover.now.offset) (sym whole) (Each-filter (λ (e : Entry). ItemFits c.args.mover.now.offset e.1) (λ (e : Entry). (kept_of c.args.part.now).items e.1) c.args.world.exports c.requires.fits.exports)
+    subst (EntriesFit (Fits c.args.mover.now.offset)) (sym whole) (Each-filter (λ (e : Entry). ItemFits (Fits c.args.mover.now.offset) e.1) (λ (e : Entry). (kept_of c.args.part.now).items e.1) c.args.world.exports c.requires.fits.exports)
 
 pub placed_entries-requires-2-clause-keys : goal.placed_entries-requires-2-clause-keys
 placed_entries-requires-2-clause-keys c =

@@ -1,7 +1,7 @@
 use Rattle.std.proofs.Common.{◌≡◌, ◌∙◌, ℕ, List, map, slice_get, ap, sym}
 use Rattle.std.specs.Vec.Iter.{into_iter_items}
 use Rattle.wit_items.specs.declared.world.World.{World}
-use Rattle.wit_placing.specs.Fits.{WorldFits}
+use Rattle.wit_placing.specs.Fits.{Fits, WorldFits}
 use Rattle.wit_placing.specs.Movers.{maps_of}
 use Rattle.wit_placing.specs.Parts.{kept_of}
 use Rattle.wit_placing.specs.Worlds.{HasKeysApart, placed_world}
@@ -10,7 +10,7 @@ use Rattle.wit_placing.proofs.worlds.placed_worlds.Goals as goal
 
 pub placed_world-requires-clause-fits : goal.placed_world-requires-clause-fits
 placed_world-requires-clause-fits c =
-    first_of (λ (e : ℕ × World). WorldFits c.args.mover.now.offset e.1) (into_iter_items c.loop-place.place-iterator) (into_iter_items c.next.new.self) (c.in-Some.place, c.in-Some.world)
+    first_of (λ (e : ℕ × World). WorldFits (Fits c.args.mover.now.offset) e.1) (into_iter_items c.loop-place.place-iterator) (into_iter_items c.next.new.self) (c.in-Some.place, c.in-Some.world)
     c.loop-place.invariant.fits c.in-Some.ensures.steps.0
 
 pub placed_world-requires-clause-keys : goal.placed_world-requires-clause-keys
@@ -35,6 +35,6 @@ loop-place-preserved c =
     let e : ℕ × World = (c.in-Some.place, c.in-Some.world) in
     record {
       all = rw c.in_ok-push.ensures.ok (mapped-next f c.loop-place.placed left rest (map f c.args.worlds) e c.in_ok-placed_world.field-0 (c.in_ok-placed_world.ensures ∙ ap (λ (w : ℕ). f (w, e.1)) c.from_index-place.ensures) c.loop-place.invariant.all c.in-Some.ensures.steps.0);
-      fits = others_of (λ (e : ℕ × World). WorldFits c.args.mover.now.offset e.1) left rest e c.loop-place.invariant.fits c.in-Some.ensures.steps.0;
+      fits = others_of (λ (e : ℕ × World). WorldFits (Fits c.args.mover.now.offset) e.1) left rest e c.loop-place.invariant.fits c.in-Some.ensures.steps.0;
       keys = others_of (λ (e : ℕ × World). HasKeysApart (maps_of c.args.mover.now) (kept_of c.args.part.now) e.1) left rest e c.loop-place.invariant.keys c.in-Some.ensures.steps.0;
     }

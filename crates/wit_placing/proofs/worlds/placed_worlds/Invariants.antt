@@ -2,7 +2,7 @@ use Rattle.std.proofs.Common.{◌≡◌, ◌++◌, ℕ, map}
 use Rattle.std.specs.Vec.Iter.{into_iter_items}
 use Rattle.wit_items.specs.Each.{Each}
 use Rattle.wit_items.specs.declared.world.World.{World}
-use Rattle.wit_placing.specs.Fits.{WorldFits}
+use Rattle.wit_placing.specs.Fits.{Fits, WorldFits}
 use Rattle.wit_placing.specs.Movers.{maps_of}
 use Rattle.wit_placing.specs.Parts.{kept_of}
 use Rattle.wit_placing.specs.Worlds.{HasKeysApart, placed_world}
@@ -12,6 +12,6 @@ use Rattle.wit_placing.proofs.worlds.placed_worlds.Given as goal
 abbrev pub invariant-loop-place : goal.invariant-loop-place
 invariant-loop-place l = record {
   all : l.placed ++ map (placed_world (maps_of l.mover) l.part) (into_iter_items l.place-iterator) ≡ map (placed_world (maps_of l.mover) l.part) l.fn.worlds;
-  fits : Each (λ (e : ℕ × World). WorldFits l.mover.offset e.1) (into_iter_items l.place-iterator);
+  fits : Each (λ (e : ℕ × World). WorldFits (Fits l.mover.offset) e.1) (into_iter_items l.place-iterator);
   keys : Each (λ (e : ℕ × World). HasKeysApart (maps_of l.mover) (kept_of l.part) e.1) (into_iter_items l.place-iterator);
 }

@@ -1,13 +1,10 @@
-use Rattle.std.proofs.Common.{◌≡◌, ◌⊎◌, inl, inr, ℕ, Bool, List, Option, option_map, string_bytes, sym, subst, Result, Ok, Err, IsErrAnd, IfErr}
+use Rattle.std.proofs.Common.{◌≡◌, ◌⊎◌, inl, inr, ℕ, Bool, List, Option, option_map, string_bytes, sym, subst}
+use Rattle.wit_graph.specs.AnswerFacts.{told_err}
 use Rattle.wit_graph.specs.declared.error_kind.ResolveErrorKind.{ResolveErrorKind}
 use Rattle.wit_graph.specs.declared.error_kind.ResolveErrorKind.TheVariants.{OutOfMemory}
 use Rattle.wit_resolve_graph.specs.Step.{answers_at}
 use Rattle.wit_unite.specs.TurnCause.{IsExportizeCause}
 use Rattle.wit_resolve_graph.proofs.turning.exportize_listed.Goals as goal
-
-told_err : {T E : Type 0} {P Q : E → Type 0} (r : Result T E) → IsErrAnd r P → ((e : E) → P e → Q e) → IfErr r Q
-told_err (Ok v) is gives = tt
-told_err (Err e) is gives = gives e is
 
 pub returns-in_err-exportize_answered-clause-cause : goal.returns-in_err-exportize_answered-clause-cause
 returns-in_err-exportize_answered-clause-cause c =

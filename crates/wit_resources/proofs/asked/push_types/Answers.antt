@@ -1,22 +1,21 @@
-use Rattle.std.proofs.Common.{◌∙◌, ◌<◌, sym, arith, length}
+use Rattle.std.proofs.Common.{◌∙◌, sym, arith}
 use Rattle.wit_adding.specs.Adding.{addition_of}
 use Rattle.wit_adding.specs.Addition.{Addition}
+use Rattle.wit_adding.specs.FlagFacts.{type-flag, type-inside}
 use Rattle.wit_resources.specs.Asked.{positions_of_type}
 use Rattle.wit_resources.proofs.Ranges.{ranged-next, ranged-same}
-use Rattle.wit_resources.proofs.Reading.{type_flag, type_read}
 use Rattle.wit_resources.proofs.Positions.{positions_off, positions_on}
 use Rattle.wit_resources.proofs.asked.push_types.Goals.{then-at+in_ok-value_positions+in_ok-append, else-at}
 use Rattle.wit_resources.proofs.asked.push_types.Goals as goal
 
 pub at-requires : goal.at-requires
 at-requires c =
-    type_flag (addition_of c.args.adding.now) c.args.activity.now c.requires c.loop-place.place (let below = c.loop-place-test.true in let end = c.len-place-end.ensures in omega arith)
+    type-inside (addition_of c.args.adding.now) c.args.activity.now c.requires c.loop-place.place (let below = c.loop-place-test.true in let end = c.len-place-end.ensures in omega arith)
 
 pub loop-place-preserved : goal.loop-place-preserved
 loop-place-preserved c =
     let a : Addition = addition_of c.args.adding.now in
-    let below : c.loop-place.place < length a.handed.types = let first = c.loop-place-test.true in let end = c.len-place-end.ensures in omega arith in
-    let flag = type_read a c.args.activity.now c.requires c.loop-place.place below c.at.result.now c.at.ensures in
+    let flag = sym (type-flag a c.args.activity.now c.requires c.loop-place.place c.at.result.now c.at.ensures) in
     elim c.if-at.branch [
       | then-at+in_ok-value_positions+in_ok-append w ↦
           ranged-next (positions_of_type a) c.loop-place.place c.args.ids.now c.loop-place.ids c.if-at.ids

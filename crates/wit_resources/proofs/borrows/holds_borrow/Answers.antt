@@ -5,11 +5,11 @@ use Rattle.std.proofs.lemmas.Option.{slice_get-get_or}
 use Rattle.wit_relations.specs.Relation.{IsAcyclic, direct}
 use Rattle.wit_relations.specs.Walks.{walk}
 use Rattle.wit_items.specs.declared.types.TypeDef.{TypeDef}
+use Rattle.wit_graph.specs.HeldFacts.{held_acyclic, held_long, held_row}
 use Rattle.wit_graph.specs.Questions.{held_rows}
 use Rattle.wit_adding.specs.Reasons.{IsBorrow}
 use Rattle.wit_resources.proofs.Inserting.{insert-known, insert-new, insert-same}
 use Rattle.wit_resources.proofs.MayHold.{borrow_back, borrow_here}
-use Rattle.wit_resources.proofs.Rows.{held_acyclic, held_long, held_row}
 use Rattle.wit_resources.proofs.Searching.{IsSearching, search-bad, search-begun, search-free, search-known, search-more, search-none, shorter-known, shorter-more, top_there}
 use Rattle.wit_resources.proofs.borrows.holds_borrow.Goals as goal
 

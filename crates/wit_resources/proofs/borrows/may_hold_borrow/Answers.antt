@@ -5,13 +5,13 @@ use Rattle.wit_relations.specs.Relation.{IsAcyclic, direct}
 use Rattle.wit_relations.specs.Walks.{walk}
 use Rattle.wit_items.specs.ReferenceFacts.{IsAcyclic-references}
 use Rattle.wit_items.specs.Shape.{IsShaped}
+use Rattle.wit_graph.specs.HeldFacts.{held_acyclic, held_long, held_row}
 use Rattle.wit_graph.specs.Questions.{held_rows}
 use Rattle.wit_adding.specs.Adding.{addition_of}
 use Rattle.wit_adding.specs.Addition.{Addition}
 use Rattle.wit_resources.specs.Borrows.{IsBorrowThere}
 use Rattle.wit_resources.proofs.Inserting.{insert-known, insert-new, insert-same}
 use Rattle.wit_resources.proofs.MayHold.{may_hold, may_hold_back}
-use Rattle.wit_resources.proofs.Rows.{held_acyclic, held_long, held_row}
 use Rattle.wit_resources.proofs.Searching.{IsSearching, search-bad, search-begun, search-free, search-known, search-more, search-none, shorter-known, shorter-more, top_there}
 use Rattle.wit_resources.proofs.borrows.may_hold_borrow.Goals as goal
 

@@ -1,22 +1,21 @@
-use Rattle.std.proofs.Common.{◌∙◌, ◌<◌, ap, sym, arith, length}
+use Rattle.std.proofs.Common.{◌∙◌, ap, sym, arith}
 use Rattle.wit_adding.specs.Adding.{addition_of}
 use Rattle.wit_adding.specs.Addition.{Addition}
+use Rattle.wit_adding.specs.FlagFacts.{interface-flag, interface-inside}
 use Rattle.wit_resources.specs.Active.{active_named, interface_functions, seen}
 use Rattle.wit_resources.proofs.ActiveOnes.{interface_off, interface_on}
 use Rattle.wit_resources.proofs.Ranges.{ranged-next, ranged-same}
-use Rattle.wit_resources.proofs.Reading.{interface_flag, interface_read}
 use Rattle.wit_resources.proofs.functions.push_interfaces.Goals.{then-at+in_ok-push_named, else-at}
 use Rattle.wit_resources.proofs.functions.push_interfaces.Goals as goal
 
 pub at-requires : goal.at-requires
 at-requires c =
-    interface_flag (addition_of c.args.adding.now) c.args.activity.now c.requires c.loop-place.place (let below = c.loop-place-test.true in let end = c.len-place-end.ensures in omega arith)
+    interface-inside (addition_of c.args.adding.now) c.args.activity.now c.requires c.loop-place.place (let below = c.loop-place-test.true in let end = c.len-place-end.ensures in omega arith)
 
 pub loop-place-preserved : goal.loop-place-preserved
 loop-place-preserved c =
     let a : Addition = addition_of c.args.adding.now in
-    let below : c.loop-place.place < length a.handed.interfaces = let first = c.loop-place-test.true in let end = c.len-place-end.ensures in omega arith in
-    let flag = interface_read a c.args.activity.now c.requires c.loop-place.place below c.at.result.now c.at.ensures in
+    let flag = sym (interface-flag a c.args.activity.now c.requires c.loop-place.place c.at.result.now c.at.ensures) in
     elim c.if-at.branch [
       | then-at+in_ok-push_named w ↦
           ranged-next (interface_functions a) c.loop-place.place (seen c.args.functions.now.items) (seen c.loop-place.functions.items) (seen c.if-at.functions.items)

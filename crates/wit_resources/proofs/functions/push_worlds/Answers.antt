@@ -1,23 +1,22 @@
-use Rattle.std.proofs.Common.{◌∙◌, ◌<◌, ◌++◌, ap, sym, arith, length, List, append_assoc}
+use Rattle.std.proofs.Common.{◌∙◌, ◌++◌, ap, sym, arith, List, append_assoc}
 use Rattle.wit_items.specs.declared.function.Function.{Function}
 use Rattle.wit_adding.specs.Adding.{addition_of}
 use Rattle.wit_adding.specs.Addition.{Addition}
+use Rattle.wit_adding.specs.FlagFacts.{world-flag, world-inside}
 use Rattle.wit_resources.specs.Active.{active_entries, seen, world_functions}
 use Rattle.wit_resources.proofs.ActiveOnes.{world_off, world_on}
 use Rattle.wit_resources.proofs.Ranges.{ranged-next, ranged-same}
-use Rattle.wit_resources.proofs.Reading.{world_flag, world_read}
 use Rattle.wit_resources.proofs.functions.push_worlds.Goals.{then-at+in_ok-push_entries+in_ok-push_entries-2, else-at}
 use Rattle.wit_resources.proofs.functions.push_worlds.Goals as goal
 
 pub at-requires : goal.at-requires
 at-requires c =
-    world_flag (addition_of c.args.adding.now) c.args.activity.now c.requires c.loop-place.place (let below = c.loop-place-test.true in let end = c.len-place-end.ensures in omega arith)
+    world-inside (addition_of c.args.adding.now) c.args.activity.now c.requires c.loop-place.place (let below = c.loop-place-test.true in let end = c.len-place-end.ensures in omega arith)
 
 pub loop-place-preserved : goal.loop-place-preserved
 loop-place-preserved c =
     let a : Addition = addition_of c.args.adding.now in
-    let below : c.loop-place.place < length a.handed.worlds = let first = c.loop-place-test.true in let end = c.len-place-end.ensures in omega arith in
-    let flag = world_read a c.args.activity.now c.requires c.loop-place.place below c.at.result.now c.at.ensures in
+    let flag = sym (world-flag a c.args.activity.now c.requires c.loop-place.place c.at.result.now c.at.ensures) in
     elim c.if-at.branch [
       | then-at+in_ok-push_entries+in_ok-push_entries-2 w ↦
           let imports : List Function = active_entries a.features w.at-world.result.now.imports in

@@ -5,26 +5,26 @@ use Rattle.wit_items.specs.Uses.{alias_target}
 use Rattle.wit_items.specs.declared.types.TypeDef.{TypeDef}
 use Rattle.wit_adding.specs.Adding.{addition_of}
 use Rattle.wit_adding.specs.Addition.{Addition, taken_type}
+use Rattle.wit_adding.specs.FlagFacts.{place-inside, place-is}
 use Rattle.wit_adding.specs.Lookup.{is_foreign_type}
+use Rattle.wit_adding.specs.RangeFacts.{range-read}
 use Rattle.wit_adding.specs.Resources.{leads_to_resource}
 use Rattle.wit_resources.specs.Leading.{leads_there}
-use Rattle.wit_resources.proofs.Ranges.{read_number}
-use Rattle.wit_resources.proofs.Reading.{has_place, taken_at}
 use Rattle.wit_resources.proofs.Where.{foreign_back, found_there, leads_alias, leads_foreign, leads_left, leads_own, target_earlier}
 use Rattle.wit_resources.proofs.leading.leads_there.Goals as goal
 
 pub at-requires : goal.at-requires
-at-requires c = has_place (addition_of c.args.adding.now) c.args.places.now c.requires.places c.args.place c.requires.there
+at-requires c = place-inside (addition_of c.args.adding.now) c.args.places.now c.requires.places c.args.place c.requires.there
 
 pub returns-in_default : goal.returns-in_default
 returns-in_default c =
     sym (leads_left (addition_of c.args.adding.now) c.requires.valid c.requires.shaped c.requires.image c.args.place
-    (taken_at (addition_of c.args.adding.now) c.args.places.now c.requires.places c.args.place c.requires.there c.at.result.now c.at.ensures ∙ c.in_default.is))
+    (sym (place-is (addition_of c.args.adding.now) c.args.places.now c.requires.places c.args.place c.at.result.now c.at.ensures) ∙ c.in_default.is))
 
 pub leads_to_resource-requires-clause-there : goal.leads_to_resource-requires-clause-there
 leads_to_resource-requires-clause-there c =
     let a : Addition = addition_of c.args.adding.now in
-    let taken : taken_type a c.args.place ≡ Some c.in-Some.id = taken_at a c.args.places.now c.requires.places c.args.place c.requires.there c.at.result.now c.at.ensures ∙ c.in-Some.is in
+    let taken : taken_type a c.args.place ≡ Some c.in-Some.id = sym (place-is a c.args.places.now c.requires.places c.args.place c.at.result.now c.at.ensures) ∙ c.in-Some.is in
     let below : c.args.place < length a.handed.unknown_type_spans = let first = c.if-place-len.true in let len = c.len.ensures in omega arith in
     let back = foreign_back a c.requires.shaped c.args.place c.in-Some.id (lt-ltb c.args.place (length a.handed.unknown_type_spans) below) taken in
     subst (λ (types : List TypeDef). c.in-Some.id < length types) (sym c.as_slice.ensures) (found_there a c.requires.valid c.args.place c.in-Some.id back.1)
@@ -32,7 +32,7 @@ leads_to_resource-requires-clause-there c =
 pub returns-then-place-len : goal.returns-then-place-len
 returns-then-place-len c =
     let a : Addition = addition_of c.args.adding.now in
-    let taken : taken_type a c.args.place ≡ Some c.in-Some.id = taken_at a c.args.places.now c.requires.places c.args.place c.requires.there c.at.result.now c.at.ensures ∙ c.in-Some.is in
+    let taken : taken_type a c.args.place ≡ Some c.in-Some.id = sym (place-is a c.args.places.now c.requires.places c.args.place c.at.result.now c.at.ensures) ∙ c.in-Some.is in
     let below : c.args.place < length a.handed.unknown_type_spans = let first = c.if-place-len.true in let len = c.len.ensures in omega arith in
     c.leads_to_resource.ensures ∙ (ap (λ (types : List TypeDef). leads_to_resource types c.in-Some.id) c.as_slice.ensures
     ∙ sym (leads_foreign a c.requires.valid c.requires.shaped c.requires.image c.args.place c.in-Some.id (lt-ltb c.args.place (length a.handed.unknown_type_spans) below) taken))
@@ -50,18 +50,17 @@ pub returns-in-Some-alias_target : goal.returns-in-Some-alias_target
 returns-in-Some-alias_target c =
     let a : Addition = addition_of c.args.adding.now in
     let target : alias_target c.at-2.result.now.kind ≡ Some c.in-Some-alias_target.target = sym c.alias_target.ensures ∙ c.in-Some-alias_target.is in
-    let earlier = target_earlier a c.requires.valid c.requires.shaped c.requires.image c.args.place c.in-Some-alias_target.target c.at-2.result.now c.at-2.ensures target in
-    let taken : taken_type a c.args.place ≡ Some c.in-Some.id = taken_at a c.args.places.now c.requires.places c.args.place c.requires.there c.at.result.now c.at.ensures ∙ c.in-Some.is in
+    let taken : taken_type a c.args.place ≡ Some c.in-Some.id = sym (place-is a c.args.places.now c.requires.places c.args.place c.at.result.now c.at.ensures) ∙ c.in-Some.is in
     let its : is_foreign_type a.handed c.args.place ≡ false = le-ltb c.args.place (length a.handed.unknown_type_spans) (let past = c.if-place-len.false in let len = c.len.ensures in omega arith) in
     let at : slice_get c.args.earlier.now c.in-Some-alias_target.target ≡ Some c.at-in-Some-alias_target.result.now =
     subst (λ (k : ℕ). slice_get c.args.earlier.now k ≡ Some c.at-in-Some-alias_target.result.now) c.index.ensures c.at-in-Some-alias_target.ensures in
-    read_number (leads_there a) c.args.place c.in-Some-alias_target.target c.args.earlier.now c.at-in-Some-alias_target.result.now earlier c.requires.earlier at
+    range-read (leads_there a) c.args.place c.in-Some-alias_target.target c.args.earlier.now c.at-in-Some-alias_target.result.now c.requires.earlier at
     ∙ sym (leads_alias a c.requires.valid c.requires.shaped c.requires.image c.args.place c.in-Some.id c.at-2.result.now c.at-2.ensures its taken c.in-Some-alias_target.target target)
 
 pub returns-in-None : goal.returns-in-None
 returns-in-None c =
     let a : Addition = addition_of c.args.adding.now in
     let none : alias_target c.at-2.result.now.kind ≡ None = sym c.alias_target.ensures ∙ c.in-None.is in
-    let taken : taken_type a c.args.place ≡ Some c.in-Some.id = taken_at a c.args.places.now c.requires.places c.args.place c.requires.there c.at.result.now c.at.ensures ∙ c.in-Some.is in
+    let taken : taken_type a c.args.place ≡ Some c.in-Some.id = sym (place-is a c.args.places.now c.requires.places c.args.place c.at.result.now c.at.ensures) ∙ c.in-Some.is in
     let its : is_foreign_type a.handed c.args.place ≡ false = le-ltb c.args.place (length a.handed.unknown_type_spans) (let past = c.if-place-len.false in let len = c.len.ensures in omega arith) in
     c.is_resource.ensures ∙ sym (leads_own a c.requires.valid c.requires.shaped c.requires.image c.args.place c.in-Some.id c.at-2.result.now c.at-2.ensures its taken none)

@@ -2,11 +2,11 @@ use Rattle.std.proofs.Common.{◌≡◌, ◌∙◌, ◌+◌, ◌≤◌, ◌<◌,
 use Rattle.std.proofs.lemmas.Bool.{le-ltb, lt-ltb}
 use Rattle.wit_adding.specs.Adding.{addition_of}
 use Rattle.wit_adding.specs.Addition.{Addition, own_type}
+use Rattle.wit_adding.specs.FlagFacts.{type-flag, type-inside}
 use Rattle.wit_adding.specs.Gates.{type_is_active}
 use Rattle.wit_adding.specs.Lookup.{is_foreign_type}
 use Rattle.wit_adding.specs.Ranks.{rank}
 use Rattle.wit_resources.proofs.Needing.{length-taken, rank-most, rank-none, rank-one, rank-same}
-use Rattle.wit_resources.proofs.Reading.{type_flag, type_read}
 use Rattle.wit_resources.proofs.Where.{both}
 use Rattle.wit_resources.proofs.owning.count_own.Goals.{then-at, else-at}
 use Rattle.wit_resources.proofs.owning.count_own.Goals as goal
@@ -28,7 +28,7 @@ loop-place-init c =
 pub at-requires : goal.at-requires
 at-requires c =
     let a : Addition = addition_of c.args.adding.now in
-    type_flag a c.args.activity.now c.requires.activity c.loop-place.place (let first = c.loop-place-test.true in let same = ap length c.as_slice-types.ensures in omega arith)
+    type-inside a c.args.activity.now c.requires.activity c.loop-place.place (let first = c.loop-place-test.true in let same = ap length c.as_slice-types.ensures in omega arith)
 
 pub overflow_add-count : goal.overflow_add-count
 overflow_add-count c =
@@ -41,8 +41,7 @@ pub loop-place-preserved : goal.loop-place-preserved
 loop-place-preserved c =
     let a : Addition = addition_of c.args.adding.now in
     let t : ℕ = c.loop-place.place in
-    let below : t < length a.handed.types = let first = c.loop-place-test.true in let same = ap length c.as_slice-types.ensures in omega arith in
-    let flag = type_read a c.args.activity.now c.requires.activity t below c.at.result.now c.at.ensures in
+    let flag = sym (type-flag a c.args.activity.now c.requires.activity t c.at.result.now c.at.ensures) in
     let its : is_foreign_type a.handed t ≡ false = le-ltb t (length a.handed.unknown_type_spans) (let start = c.loop-place.auto.place in let len = c.len-place.ensures in omega arith) in
     elim c.if-at.branch [
       | then-at w ↦ w.count-is ∙ (ap (λ (n : ℕ). n + 1) c.loop-place.invariant ∙ sym (rank-one (own_type a) t (both (is_foreign_type a.handed t) (type_is_active a.features a.handed.types t) its (flag ∙ w.if-at.true))))

@@ -1,12 +1,12 @@
-use Rattle.std.proofs.Common.{◌≡◌, ◌∙◌, ◌<◌, ◌&&◌, ℕ, Bool, true, false, length, map, ap, refl, sym, arith}
+use Rattle.std.proofs.Common.{◌≡◌, ◌∙◌, ◌&&◌, ℕ, Bool, true, false, length, map, ap, refl, sym, arith}
 use Rattle.std.specs.List.{range_with_len}
 use Rattle.std.proofs.lemmas.List.FromFn.{length-map-range_with_len}
 use Rattle.wit_adding.specs.Adding.{addition_of}
 use Rattle.wit_adding.specs.Addition.{Addition, needs_own}
+use Rattle.wit_adding.specs.RangeFacts.{range-pushed, range-read}
 use Rattle.wit_resources.specs.Asked.{is_asked}
 use Rattle.wit_resources.specs.Leading.{leads_there}
 use Rattle.wit_resources.proofs.Needing.{needs_is}
-use Rattle.wit_resources.proofs.Ranges.{mapped-next, read_number}
 use Rattle.wit_resources.proofs.Where.{conj}
 use Rattle.wit_resources.proofs.owning.needed.Goals.{then-at, else-at}
 use Rattle.wit_resources.proofs.owning.needed.Goals as goal
@@ -21,16 +21,15 @@ loop-place-preserved c =
     let n : ℕ = length a.handed.types in
     let t : ℕ = c.loop-place.place in
     let long = ap length c.in_ok-asked.ensures ∙ length-map-range_with_len (is_asked a) 0 n in
-    let below : t < n = let first = c.loop-place-test.true in let end = c.len-place-end.ensures in omega arith in
-    let asked : c.at.result.now ≡ is_asked a t = read_number (is_asked a) n t c.in_ok-asked.asked c.at.result.now below c.in_ok-asked.ensures c.at.ensures in
+    let asked : c.at.result.now ≡ is_asked a t = range-read (is_asked a) n t c.in_ok-asked.asked c.at.result.now c.in_ok-asked.ensures c.at.ensures in
     let is : c.if-at.push ≡ needs_own a t =
     elim c.if-at.branch [
       | then-at w ↦
-          w.push-is ∙ (read_number (leads_there a) n t c.in_ok-leading.leading w.at-then-at.result.now below c.in_ok-leading.ensures w.at-then-at.ensures
+          w.push-is ∙ (range-read (leads_there a) n t c.in_ok-leading.leading w.at-then-at.result.now c.in_ok-leading.ensures w.at-then-at.ensures
           ∙ (sym (conj (is_asked a t) (leads_there a t) (sym asked ∙ w.if-at.true)) ∙ needs_is a c.requires.shaped c.requires.image t))
       | else-at w ↦ w.push-is ∙ (w.if-at.false ∙ (neither (is_asked a t) (leads_there a t) (sym asked ∙ w.if-at.false) ∙ needs_is a c.requires.shaped c.requires.image t))
     ] in
-    mapped-next (needs_own a) t c.loop-place.needed c.push.new.self c.if-at.push c.loop-place.invariant c.in_ok-push.ensures.ok is
+    range-pushed (needs_own a) t c.loop-place.needed c.push.new.self c.if-at.push c.loop-place.invariant c.in_ok-push.ensures.ok is
 
 pub returns : goal.returns
 returns c =

@@ -5,12 +5,13 @@ use Rattle.std.proofs.lemmas.List.FromFn.{length-map-range_with_len}
 use Rattle.wit_items.specs.declared.types.TypeDef.{TypeDef}
 use Rattle.wit_adding.specs.Adding.{addition_of, places_of}
 use Rattle.wit_adding.specs.Addition.{Addition, needs_own, own_types, taken_type, type_place, value_place}
+use Rattle.wit_adding.specs.RangeFacts.{range-at, range-pushed, range-read}
 use Rattle.wit_adding.specs.Ranks.{rank}
 use Rattle.wit_adding.specs.Resources.{own_of}
 use Rattle.wit_adding.specs.declared.adding.Places.{Places}
 use Rattle.wit_adding.specs.declared.adding.Values.{Values}
 use Rattle.wit_resources.proofs.Needing.{length-filtered, rank-most}
-use Rattle.wit_resources.proofs.Ranges.{at_number, mapped-next, passed-next, picked-next, read_number}
+use Rattle.wit_resources.proofs.Ranges.{passed-next, picked-next}
 use Rattle.wit_resources.proofs.owning.values.Goals.{then-at+in_ok-push+in_ok-push-2, else-at+in_ok-push-3}
 use Rattle.wit_resources.proofs.owning.values.Goals as goal
 
@@ -30,7 +31,7 @@ goes_plain : (a : Addition) (t : ℕ) → needs_own a t ≡ false → value_plac
 goes_plain a t needs = ap (λ (b : Bool). if b then length a.graph.types + length (own_types a) + rank (needs_own a) t else type_place a t) needs
 
 stands : (a : Addition) (places : Places) (t : ℕ) → places ≡ places_of a → t < length a.handed.types → slice_get places.types t ≡ Some (taken_type a t)
-stands a places t are below = ap (λ (p : Places). slice_get p.types t) are ∙ at_number (taken_type a) (length a.handed.types) t below
+stands a places t are below = ap (λ (p : Places). slice_get p.types t) are ∙ range-at (taken_type a) (length a.handed.types) t below
 
 pub overflow_add-first : goal.overflow_add-first
 overflow_add-first c =
@@ -50,7 +51,7 @@ loop-place-preserved c =
     let t : ℕ = c.loop-place.place in
     let long = ap length c.in_ok-needed.ensures ∙ length-map-range_with_len (needs_own a) 0 n in
     let below : t < n = let first = c.loop-place-test.true in let end = c.len-place-end.ensures in omega arith in
-    let flag : c.at.result.now ≡ needs_own a t = read_number (needs_own a) n t c.in_ok-needed.needed c.at.result.now below c.in_ok-needed.ensures c.at.ensures in
+    let flag : c.at.result.now ≡ needs_own a t = range-read (needs_own a) n t c.in_ok-needed.needed c.at.result.now c.in_ok-needed.ensures c.at.ensures in
     let id : c.type_place-id.result ≡ type_place a t = c.type_place-id.ensures (taken_type a t) (stands a c.args.places.now t c.requires.places below) in
     let count = owns_long a t c.loop-place.owns c.loop-place.invariant.owns in
     elim c.if-at.branch [
@@ -59,13 +60,13 @@ loop-place-preserved c =
           let goes = goes_own a t needs in
           let place : w.from_index.result ≡ value_place a t = let is = w.from_index.ensures in let first = c.first_own-first.ensures.first in let len = w.len.ensures in omega arith in
           record {
-            places = mapped-next (value_place a) t c.loop-place.value_places c.if-at.value_places w.from_index.result c.loop-place.invariant.places (w.value_places-is ∙ w.in_ok-push.ensures.ok) place;
+            places = range-pushed (value_place a) t c.loop-place.value_places c.if-at.value_places w.from_index.result c.loop-place.invariant.places (w.value_places-is ∙ w.in_ok-push.ensures.ok) place;
             owns = picked-next (needs_own a) (own_at a) t c.loop-place.owns c.if-at.owns w.own_of.result c.loop-place.invariant.owns (w.owns-is ∙ w.in_ok-push-2.ensures.ok) (w.own_of.ensures ∙ ap own_of id) needs;
           }
       | else-at+in_ok-push-3 w ↦
           let plain : needs_own a t ≡ false = sym flag ∙ w.if-at.false in
           record {
-            places = mapped-next (value_place a) t c.loop-place.value_places c.if-at.value_places c.type_place-id.result c.loop-place.invariant.places (w.value_places-is ∙ w.in_ok-push-3.ensures.ok) (id ∙ sym (goes_plain a t plain));
+            places = range-pushed (value_place a) t c.loop-place.value_places c.if-at.value_places c.type_place-id.result c.loop-place.invariant.places (w.value_places-is ∙ w.in_ok-push-3.ensures.ok) (id ∙ sym (goes_plain a t plain));
             owns = passed-next (needs_own a) (own_at a) t c.loop-place.owns c.if-at.owns c.loop-place.invariant.owns w.owns-is plain;
           }
     ]

@@ -2,8 +2,8 @@ use Rattle.std.proofs.Common.{◌≡◌, ◌∙◌, ◌<◌, true, false, ℕ, N
 use Rattle.wit_items.specs.declared.types.TypeDef.{TypeDef}
 use Rattle.wit_adding.specs.Adding.{addition_of}
 use Rattle.wit_adding.specs.Addition.{Addition, taken_type}
+use Rattle.wit_adding.specs.FlagFacts.{place-inside, place-is}
 use Rattle.wit_adding.specs.Resources.{leads_to_resource}
-use Rattle.wit_resources.proofs.Reading.{has_place, taken_at}
 use Rattle.wit_resources.proofs.Tells.{resource_cause}
 use Rattle.wit_resources.proofs.Where.{foreign_back, found_on, found_there, required_is_foreign}
 use Rattle.wit_resources.proofs.required.check_required.Goals as goal
@@ -12,14 +12,14 @@ pub at-requires : goal.at-requires
 at-requires c =
     let a : Addition = addition_of c.args.adding.now in
     let there = required_is_foreign a c.requires.shaped c.args.id c.args.span c.requires.required in
-    subst (λ (k : ℕ). k < length c.args.places.now.types) (sym c.index.ensures) (has_place a c.args.places.now c.requires.places c.args.id there.0)
+    subst (λ (k : ℕ). k < length c.args.places.now.types) (sym c.index.ensures) (place-inside a c.args.places.now c.requires.places c.args.id there.0)
 
 pub returns-in_default-clause-ok : goal.returns-in_default-clause-ok
 returns-in_default-clause-ok c = λ t' active found.
     let a : Addition = addition_of c.args.adding.now in
     let there = required_is_foreign a c.requires.shaped c.args.id c.args.span c.requires.required in
     let taken : taken_type a c.args.id ≡ None =
-    taken_at a c.args.places.now c.requires.places c.args.id there.0 c.at.result.now (subst (λ (k : ℕ). slice_get c.args.places.now.types k ≡ Some c.at.result.now) c.index.ensures c.at.ensures) ∙ c.in_default.is in
+    sym (place-is a c.args.places.now c.requires.places c.args.id c.at.result.now (subst (λ (k : ℕ). slice_get c.args.places.now.types k ≡ Some c.at.result.now) c.index.ensures c.at.ensures)) ∙ c.in_default.is in
     let goes : taken_type a c.args.id ≡ Some t' = found_on a c.requires.shaped c.args.id t' active found in
     cc
 
@@ -28,7 +28,7 @@ leads_to_resource-requires-clause-there c =
     let a : Addition = addition_of c.args.adding.now in
     let there = required_is_foreign a c.requires.shaped c.args.id c.args.span c.requires.required in
     let taken : taken_type a c.args.id ≡ Some c.in-Some.found =
-    taken_at a c.args.places.now c.requires.places c.args.id there.0 c.at.result.now (subst (λ (k : ℕ). slice_get c.args.places.now.types k ≡ Some c.at.result.now) c.index.ensures c.at.ensures) ∙ c.in-Some.is in
+    sym (place-is a c.args.places.now c.requires.places c.args.id c.at.result.now (subst (λ (k : ℕ). slice_get c.args.places.now.types k ≡ Some c.at.result.now) c.index.ensures c.at.ensures)) ∙ c.in-Some.is in
     let back = foreign_back a c.requires.shaped c.args.id c.in-Some.found there.1 taken in
     subst (λ (types : List TypeDef). c.in-Some.found < length types) (sym c.as_slice.ensures) (found_there a c.requires.valid c.args.id c.in-Some.found back.1)
 
@@ -37,7 +37,7 @@ returns-then-leads_to_resource-clause-ok c = λ t' active found.
     let a : Addition = addition_of c.args.adding.now in
     let there = required_is_foreign a c.requires.shaped c.args.id c.args.span c.requires.required in
     let taken : taken_type a c.args.id ≡ Some c.in-Some.found =
-    taken_at a c.args.places.now c.requires.places c.args.id there.0 c.at.result.now (subst (λ (k : ℕ). slice_get c.args.places.now.types k ≡ Some c.at.result.now) c.index.ensures c.at.ensures) ∙ c.in-Some.is in
+    sym (place-is a c.args.places.now c.requires.places c.args.id c.at.result.now (subst (λ (k : ℕ). slice_get c.args.places.now.types k ≡ Some c.at.result.now) c.index.ensures c.at.ensures)) ∙ c.in-Some.is in
     let goes : taken_type a c.args.id ≡ Some t' = found_on a c.requires.shaped c.args.id t' active found in
     let same : c.in-Some.found ≡ t' = cc in
     subst (λ (k : ℕ). leads_to_resource a.graph.types k ≡ true) same
@@ -48,7 +48,7 @@ returns-clause-cause c =
     let a : Addition = addition_of c.args.adding.now in
     let there = required_is_foreign a c.requires.shaped c.args.id c.args.span c.requires.required in
     let taken : taken_type a c.args.id ≡ Some c.in-Some.found =
-    taken_at a c.args.places.now c.requires.places c.args.id there.0 c.at.result.now (subst (λ (k : ℕ). slice_get c.args.places.now.types k ≡ Some c.at.result.now) c.index.ensures c.at.ensures) ∙ c.in-Some.is in
+    sym (place-is a c.args.places.now c.requires.places c.args.id c.at.result.now (subst (λ (k : ℕ). slice_get c.args.places.now.types k ≡ Some c.at.result.now) c.index.ensures c.at.ensures)) ∙ c.in-Some.is in
     let back = foreign_back a c.requires.shaped c.args.id c.in-Some.found there.1 taken in
     let none : leads_to_resource a.graph.types c.in-Some.found ≡ false =
     ap (λ (types : List TypeDef). leads_to_resource types c.in-Some.found) (sym c.as_slice.ensures) ∙ (sym c.leads_to_resource.ensures ∙ c.if-leads_to_resource.false) in

@@ -1,6 +1,7 @@
-use Rattle.std.proofs.Common.{◌≡◌, ◌∙◌, ◌⊎◌, inl, inr, ℕ, List, [], Some, length, slice_get, string_bytes, refl, sym, ap, subst, Result, Ok, Err, IsErrAnd, IfErr}
+use Rattle.std.proofs.Common.{◌≡◌, ◌∙◌, ◌⊎◌, inl, inr, ℕ, List, [], Some, length, slice_get, string_bytes, refl, sym, ap, subst}
 use Rattle.std.specs.Option.{option_map}
 use Rattle.wit_items.specs.declared.world.World.{World}
+use Rattle.wit_graph.specs.AnswerFacts.{told_err}
 use Rattle.wit_graph.specs.Entries.{Entry}
 use Rattle.wit_graph.specs.Listed.{IsListed}
 use Rattle.wit_graph.specs.Valid.{IsValid}
@@ -15,10 +16,6 @@ use Rattle.wit_unite.proofs.turns.importize.Goals as goal
 
 pub free_name-requires : goal.free_name-requires
 free_name-requires c = record { world = has_home c.args.graph.now c.requires.valid c.args.world c.requires.world }
-
-told_err : {T E : Type 0} {P Q : E → Type 0} (r : Result T E) → IsErrAnd r P → ((e : E) → P e → Q e) → IfErr r Q
-told_err (Ok v) is gives = tt
-told_err (Err e) is gives = gives e is
 
 pub returns-in_err-name-clause-cause : goal.returns-in_err-name-clause-cause
 returns-in_err-name-clause-cause c =

@@ -1,5 +1,6 @@
-use Rattle.std.proofs.Common.{◌≡◌, ◌⊎◌, ℕ, Some, slice_get, sym, subst, Result, Ok, Err, IsErrAnd, IfErr}
+use Rattle.std.proofs.Common.{◌≡◌, ◌⊎◌, ℕ, Some, slice_get, sym, subst}
 use Rattle.wit_items.specs.declared.world.World.{World}
+use Rattle.wit_graph.specs.AnswerFacts.{told_err}
 use Rattle.wit_graph.specs.Elaboration.{IsConflictError, graph_uses}
 use Rattle.wit_graph.specs.Imported.{HasConflict}
 use Rattle.wit_graph.specs.declared.error_kind.ResolveErrorKind.{ResolveErrorKind}
@@ -15,10 +16,6 @@ with_last-requires c =
     let there : slice_get c.args.graph.now.worlds c.args.world ≡ Some c.at-current.result.now = subst (λ (i : ℕ). slice_get c.args.graph.now.worlds i ≡ Some c.at-current.result.now) c.index.ensures c.at-current.ensures in
     let at : slice_get c.args.graph.now.packages c.home_of-home.result ≡ Some c.at.result.now = subst (λ (i : ℕ). slice_get c.args.graph.now.packages i ≡ Some c.at.result.now) c.index-2.ensures c.at.ensures in
     c.requires.free c.at-current.result.now c.at.result.now there (c.home_of-home.result, c.home_of-home.ensures, at, taken)
-
-told_err : {T E : Type 0} {P Q : E → Type 0} (r : Result T E) → IsErrAnd r P → ((e : E) → P e → Q e) → IfErr r Q
-told_err (Ok v) is gives = tt
-told_err (Err e) is gives = gives e is
 
 pub returns-in_err-turned-clause-cause : goal.returns-in_err-turned-clause-cause
 returns-in_err-turned-clause-cause c =

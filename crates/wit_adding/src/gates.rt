@@ -1,0 +1,18 @@
+//! Whether an item takes part under the features that are on.
+ghost use Rattle.std.specs.Prelude.{◌≡◌};
+ghost use Rattle.wit_adding.specs.Gates.{is_active};
+
+use wit_graph::Features;
+use wit_items::Stability;
+
+/// Whether a note lets its item take part.
+pub fn is_active(features: &Features, note: &Stability) -> bool
+    ensures { result ≡ is_active features.now note.now }
+{
+    match note {
+        Stability::Unknown | Stability::Stable { .. } => true,
+        Stability::Unstable { feature, .. } => {
+            features.all || features.names.contains(feature.as_str())
+        }
+    }
+}

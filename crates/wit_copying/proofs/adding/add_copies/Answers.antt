@@ -1,0 +1,112 @@
+use Rattle.std.proofs.Common.{◌≡◌, ◌∙◌, ◌++◌, ℕ, List, Some, Contains, is_some, length, map, nat_eq, ap, slice_get, subst, sym, ◌<◌}
+use Rattle.std.specs.Map.{keys_of, lookup}
+use Rattle.wit_items.specs.declared.interface.Interface.{Interface}
+use Rattle.wit_items.specs.declared.types.TypeDef.{TypeDef}
+use Rattle.wit_items.specs.declared.world.IncludeName.{IncludeName}
+use Rattle.wit_items.specs.declared.world.World.{World}
+use Rattle.wit_graph.specs.declared.graph.Graph.{Graph}
+use Rattle.wit_growth.specs.Image.{Maps, interface_image, type_image}
+use Rattle.wit_growth.specs.Operations.{include_maps}
+use Rattle.wit_labels.specs.Rename.{renamed}
+use Rattle.wit_adding.specs.Include.{copy_maps, goes_with, interface_copy, is_copied, type_copy}
+use Rattle.wit_adding.specs.Ranks.{taken}
+use Rattle.wit_copying.specs.Copied.{NamesThere, goes, numbered, places}
+use Rattle.wit_copying.proofs.RisingIds.{numbered-keys}
+use Rattle.wit_copying.proofs.Standing.{copied_there, goes_there, keys_there, some_there}
+use Rattle.wit_copying.proofs.TakenPlaces.{goes_where, told_where}
+use Rattle.wit_copying.proofs.adding.add_copies.Goals as goal
+
+-- ---- the tables, of one graph
+
+abbrev TypesAt : Graph → ℕ → List (ℕ × ℕ) → Type 0
+TypesAt g from table = (world : World) → slice_get g.worlds from ≡ Some world → table ≡ numbered (length g.types) (places (is_copied g from world) g.types)
+
+abbrev InterfacesAt : Graph → ℕ → List (ℕ × ℕ) → Type 0
+InterfacesAt g from table = (world : World) → slice_get g.worlds from ≡ Some world → table ≡ numbered (length g.interfaces) (places (goes_with g world) g.interfaces)
+
+module _ (g : Graph) (from : ℕ) (world : World) (types interfaces : List (ℕ × ℕ))
+    (types_is : types ≡ numbered (length g.types) (places (is_copied g from world) g.types))
+    (interfaces_is : interfaces ≡ numbered (length g.interfaces) (places (goes_with g world) g.interfaces)) where
+  types_go : goes types ≡ type_copy g from world
+  types_go = λ j t. (ap (λ (table : List (ℕ × ℕ)). goes table t) types_is ∙ goes_where (is_copied g from world) g.types (copied_there g from world) (length g.types) t) j
+
+  interfaces_go : goes interfaces ≡ interface_copy g world
+  interfaces_go = λ j i. (ap (λ (table : List (ℕ × ℕ)). goes table i) interfaces_is ∙ goes_where (goes_with g world) g.interfaces (goes_there g world) (length g.interfaces) i) j
+
+  maps_go : (names : List IncludeName) (into home : ℕ) → include_maps (goes types) (goes interfaces) (renamed names) from into home ≡ copy_maps g from world names into home
+  maps_go names into home = λ j. include_maps (types_go j) (interfaces_go j) (renamed names) from into home
+
+  type_keys : keys_of types ≡ places (is_copied g from world) g.types
+  type_keys = ap keys_of types_is ∙ numbered-keys (length g.types) (places (is_copied g from world) g.types)
+
+  interface_keys : keys_of interfaces ≡ places (goes_with g world) g.interfaces
+  interface_keys = ap keys_of interfaces_is ∙ numbered-keys (length g.interfaces) (places (goes_with g world) g.interfaces)
+
+pub copied_types-requires-clause-going : goal.copied_types-requires-clause-going
+copied_types-requires-clause-going c =
+    let g = c.args.graph.now in
+    let table = c.in_ok-interfaces.interfaces in
+    subst (λ (x : Graph). (world : World) → slice_get x.worlds c.args.from ≡ Some world → (i : ℕ) → is_some (lookup (nat_eq i) table) ≡ goes_with x world i) (sym c.in_ok-interfaces.ensures.same)
+    (λ world at i. ap (λ (es : List (ℕ × ℕ)). is_some (lookup (nat_eq i) es)) (c.in_ok-interfaces.ensures.table world at)
+    ∙ told_where (goes_with g world) g.interfaces (goes_there g world) (length g.interfaces) i)
+
+pub copied_types-requires-clause-named : goal.copied_types-requires-clause-named
+copied_types-requires-clause-named c =
+    subst (λ (x : Graph). (world : World) → slice_get x.worlds c.args.from ≡ Some world → NamesThere x world) (sym c.in_ok-interfaces.ensures.same) c.requires.named
+
+pub type_copies-requires : goal.type_copies-requires
+type_copies-requires c =
+    let g = c.args.graph.now in
+    let same : c.copied_types.new.graph ≡ g = c.in_ok-types.ensures.same ∙ c.in_ok-interfaces.ensures.same in
+    let tables : TypesAt g c.args.from c.in_ok-types.types = subst (λ (x : Graph). TypesAt x c.args.from c.in_ok-types.types) c.in_ok-interfaces.ensures.same c.in_ok-types.ensures.table in
+    let world = some_there g.worlds c.args.from c.requires.there in
+    subst (λ (x : Graph). (t : ℕ) → Contains (keys_of c.in_ok-types.types) t → t < length x.types) (sym same)
+    (keys_there (is_copied g c.args.from world.0) g.types (length g.types) c.in_ok-types.types (tables world.0 world.1))
+
+pub interface_copies-requires : goal.interface_copies-requires
+interface_copies-requires c =
+    let g = c.args.graph.now in
+    let same : c.copied_types.new.graph ≡ g = c.in_ok-types.ensures.same ∙ c.in_ok-interfaces.ensures.same in
+    let world = some_there g.worlds c.args.from c.requires.there in
+    subst (λ (x : Graph). (i : ℕ) → Contains (keys_of c.in_ok-interfaces.interfaces) i → i < length x.interfaces) (sym same)
+    (keys_there (goes_with g world.0) g.interfaces (length g.interfaces) c.in_ok-interfaces.interfaces (c.in_ok-interfaces.ensures.table world.0 world.1))
+
+pub returns-clause-maps : goal.returns-clause-maps
+returns-clause-maps c = λ world at.
+    let g = c.args.graph.now in
+    let tables : TypesAt g c.args.from c.in_ok-types.types = subst (λ (x : Graph). TypesAt x c.args.from c.in_ok-types.types) c.in_ok-interfaces.ensures.same c.in_ok-types.ensures.table in
+    maps_go g c.args.from world c.in_ok-types.types c.in_ok-interfaces.interfaces (tables world at) (c.in_ok-interfaces.ensures.table world at) c.args.names.now c.args.into c.args.home
+
+pub returns-clause-ok : goal.returns-clause-ok
+returns-clause-ok c = λ world at.
+    let g = c.args.graph.now in
+    let from : ℕ = c.args.from in
+    let same : c.copied_types.new.graph ≡ g = c.in_ok-types.ensures.same ∙ c.in_ok-interfaces.ensures.same in
+    let tables : TypesAt g from c.in_ok-types.types = subst (λ (x : Graph). TypesAt x from c.in_ok-types.types) c.in_ok-interfaces.ensures.same c.in_ok-types.ensures.table in
+    let types_is = tables world at in
+    let interfaces_is = c.in_ok-interfaces.ensures.table world at in
+    let m : Maps = include_maps (goes c.in_ok-types.types) (goes c.in_ok-interfaces.interfaces) (renamed c.args.names.now) from c.args.into c.args.home in
+    let m_is : m ≡ copy_maps g from world c.args.names.now c.args.into c.args.home = maps_go g from world c.in_ok-types.types c.in_ok-interfaces.interfaces types_is interfaces_is c.args.names.now c.args.into c.args.home in
+    let type_list : c.in_ok-types-2.types ≡ map (type_image m) (taken (is_copied g from world) c.copied_types.new.graph.types) =
+    c.in_ok-types-2.ensures (is_copied g from world)
+    (type_keys g from world c.in_ok-types.types c.in_ok-interfaces.interfaces types_is interfaces_is ∙ ap (λ (x : Graph). places (is_copied g from world) x.types) (sym same)) in
+    let interface_list : c.in_ok-interfaces-2.interfaces ≡ map (interface_image m) (taken (goes_with g world) c.copied_types.new.graph.interfaces) =
+    c.in_ok-interfaces-2.ensures (goes_with g world)
+    (interface_keys g from world c.in_ok-types.types c.in_ok-interfaces.interfaces types_is interfaces_is ∙ ap (λ (x : Graph). places (goes_with g world) x.interfaces) (sym same)) in
+    let types : c.append.new.self ≡ g.types ++ map (type_image (copy_maps g from world c.args.names.now c.args.into c.args.home)) (taken (is_copied g from world) g.types) =
+    c.in_ok-append.ensures.ok
+    ∙ (ap (λ (xs : List TypeDef). c.copied_types.new.graph.types ++ xs) type_list
+    ∙ (ap (λ (x : Graph). x.types ++ map (type_image m) (taken (is_copied g from world) x.types)) same
+    ∙ ap (λ (n : Maps). g.types ++ map (type_image n) (taken (is_copied g from world) g.types)) m_is)) in
+    let interfaces : c.append-2.new.self ≡ g.interfaces ++ map (interface_image (copy_maps g from world c.args.names.now c.args.into c.args.home)) (taken (goes_with g world) g.interfaces) =
+    c.in_ok-append-2.ensures.ok
+    ∙ (ap (λ (xs : List Interface). c.copied_types.new.graph.interfaces ++ xs) interface_list
+    ∙ (ap (λ (x : Graph). x.interfaces ++ map (interface_image m) (taken (goes_with g world) x.interfaces)) same
+    ∙ ap (λ (n : Maps). g.interfaces ++ map (interface_image n) (taken (goes_with g world) g.interfaces)) m_is)) in
+    λ j. record {
+      types = types j;
+      interfaces = interfaces j;
+      worlds = ap (λ (x : Graph). x.worlds) same j;
+      packages = ap (λ (x : Graph). x.packages) same j;
+      package_names = ap (λ (x : Graph). x.package_names) same j;
+    }

@@ -1,0 +1,164 @@
+//! Where what an include copies goes, and images under it.
+ghost use Rattle.std.specs.Prelude.{◌≡◌, ℕ, IfOk, map};
+ghost use Rattle.std.specs.Option.{option_map};
+ghost use Rattle.wit_growth.specs.Image.{entry_image, interface_image, key_image, item_image, type_image};
+ghost use Rattle.wit_labels.specs.Rename.{renamed};
+ghost use Rattle.wit_copying.specs.Copied.{maps_of};
+
+use std::alloc::{AllocError, Global};
+use std::mem;
+use wit_items::{
+    IncludeName, Interface, InterfaceId, Items, PackageId, Span, Table, Text, TryClone, TypeDef,
+    TypeId, TypeOwner, WorldId, WorldItem, WorldKey,
+};
+use wit_labels::rename_first;
+use wit_placing::{Moves, Place};
+
+/// Where what an include copies of a world goes. An id that isn't there stays.
+#[derive(Drop)]
+pub struct Copies<'a> {
+    pub types: Table<TypeId, TypeId>,
+    pub interfaces: Table<InterfaceId, InterfaceId>,
+    /// The included world.
+    pub from: WorldId,
+    /// The world that includes it.
+    pub into: WorldId,
+    /// The package of that world.
+    pub home: PackageId,
+    /// How labels are renamed.
+    pub names: &'a Items<IncludeName>,
+}
+
+impl<'a> Moves for Copies<'a> {
+    ghost maps = { maps_of };
+
+    ghost fits = { λ _ _. Unit {0} };
+
+    fn type_id(&self, id: TypeId) -> TypeId {
+        match self.types.get(&id) {
+            Some(copy) => *copy,
+            None => id,
+        }
+    }
+
+    fn value_id(&self, id: TypeId) -> TypeId {
+        self.type_id(id)
+    }
+
+    fn interface_id(&self, id: InterfaceId) -> InterfaceId {
+        match self.interfaces.get(&id) {
+            Some(copy) => *copy,
+            None => id,
+        }
+    }
+
+    fn world_id(&self, id: WorldId) -> WorldId {
+        if id == self.from { self.into } else { id }
+    }
+
+    fn home(&self) -> PackageId {
+        self.home
+    }
+
+    fn span(&self, span: Span) -> Span {
+        span
+    }
+}
+
+impl<'a> Copies<'a> {
+    /// A label of the included world, renamed.
+    fn label(&self, alloc: Global, label: &Text) -> Result<Text, AllocError>
+        ensures { IfOk result (λ new. new ≡ renamed self.now.names.now label.now) }
+    {
+        rename_first(alloc, label.as_str(), self.names)
+    }
+
+    /// The copy of a type. A type of the included world is renamed with its label.
+    pub(crate) fn of_type(&self, alloc: Global, def: &TypeDef) -> Result<TypeDef, AllocError>
+        ensures { IfOk result (λ copy. copy ≡ type_image (maps_of self.now) def.now) }
+    {
+        let mut copy = def.try_clone()?;
+        copy.place(self);
+        if let TypeOwner::World(world) = def.owner {
+            if world == self.from {
+                let name = self.name(alloc, &def.name)?;
+                drop(mem::replace(&mut copy.name, name));
+            }
+        }
+        Ok(copy)
+    }
+
+    /// A name of a type of the included world, renamed.
+    fn name(&self, alloc: Global, name: &Option<Text>) -> Result<Option<Text>, AllocError>
+        ensures { IfOk result (λ new. new ≡ option_map (renamed self.now.names.now) name.now) }
+    {
+        match name {
+            Some(label) => Ok(Some(self.label(alloc, label)?)),
+            None => Ok(None),
+        }
+    }
+
+    /// The copy of an interface.
+    pub(crate) fn of_interface(&self, interface: &Interface) -> Result<Interface, AllocError>
+        ensures { IfOk result (λ copy. copy ≡ interface_image (maps_of self.now) interface.now) }
+    {
+        let mut copy = interface.try_clone()?;
+        copy.place(self);
+        Ok(copy)
+    }
+
+    /// What an entry of the included world becomes.
+    pub fn entry(
+        &self,
+        alloc: Global,
+        key: &WorldKey,
+        item: &WorldItem,
+    ) -> Result<(WorldKey, WorldItem), AllocError>
+        ensures { IfOk result (λ copy. copy ≡ entry_image (maps_of self.now) self.now.from (key.now, item.now)) }
+    {
+        Ok((self.key(alloc, key)?, self.item(alloc, item)?))
+    }
+
+    /// What entries of the included world become, in their order. Renamed labels may be equal.
+    pub fn entries(
+        &self,
+        alloc: Global,
+        entries: &Table<WorldKey, WorldItem>,
+    ) -> Result<Items<(WorldKey, WorldItem)>, AllocError>
+        ensures { IfOk result (λ copies. copies ≡ map (entry_image (maps_of self.now) self.now.from) entries.now) }
+    {
+        let mut copies = Items::new(alloc);
+        for index in 0..entries.len() {
+            let (key, item) = entries.entry_at(index);
+            copies.push(self.entry(alloc, key, item)?)?;
+        }
+        Ok(copies)
+    }
+
+    /// What a key becomes.
+    fn key(&self, alloc: Global, key: &WorldKey) -> Result<WorldKey, AllocError>
+        ensures { IfOk result (λ copy. copy ≡ key_image (maps_of self.now) self.now.from key.now) }
+    {
+        match key {
+            WorldKey::Name(label) => Ok(WorldKey::Name(self.label(alloc, label)?)),
+            WorldKey::Interface(id) => Ok(WorldKey::Interface(self.interface_id(*id))),
+        }
+    }
+
+    /// What an item becomes. A function is renamed with its label.
+    fn item(&self, alloc: Global, item: &WorldItem) -> Result<WorldItem, AllocError>
+        ensures { IfOk result (λ copy. copy ≡ item_image (maps_of self.now) self.now.from item.now) }
+    {
+        let mut copy = item.try_clone()?;
+        match &mut copy {
+            WorldItem::Interface { id, .. } => *id = self.interface_id(*id),
+            WorldItem::Function(function) => {
+                let name = self.label(alloc, &function.name)?;
+                drop(mem::replace(&mut function.name, name));
+                function.place(self);
+            }
+            WorldItem::Type_ { id, .. } => id.place(self),
+        }
+        Ok(copy)
+    }
+}

@@ -1,0 +1,71 @@
+-- What the interfaces of a graph on its way use stays what it was, where the graph grows.
+use Rattle.std.proofs.Common.{◌≡◌, ◌∙◌, ℕ, ◌<◌, zero, suc, List, [], ◌∷◌, ◌++◌, map, filter_map, length, take, drop, Option, None, Some, IfSome, option_and_then, slice_get, refl, sym, ap, subst, Contains, arith}
+use Rattle.std.proofs.lemmas.List.{length-map, take-append-drop}
+use Rattle.std.proofs.lemmas.List.Elements.{All-contains}
+use Rattle.std.proofs.lemmas.Option.{slice_get_within}
+use Rattle.wit_values.specs.Lists.{slice_get-append}
+use Rattle.wit_items.specs.Reference.{referred, type_references}
+use Rattle.wit_items.specs.Uses.{alias_target, interface_uses, other_owner, type_interface_dep, uses_of}
+use Rattle.wit_items.specs.declared.interface.Interface.{Interface}
+use Rattle.wit_items.specs.declared.types.TypeDef.{TypeDef}
+use Rattle.wit_items.specs.declared.types.TypeOwner.{TypeOwner}
+use Rattle.wit_items.specs.declared.types.TypeOwner.TheVariants as owner
+use Rattle.wit_relations.specs.Relation.{direct}
+use Rattle.wit_graph.specs.Elaboration.{graph_uses}
+use Rattle.wit_graph.specs.declared.graph.Graph.{Graph}
+use Rattle.wit_growth.specs.GoodTypes.{alias_referred}
+use Rattle.wit_growth.specs.ListFacts.{found_at, get_at, in_row}
+use Rattle.wit_placing.specs.Grown.{Grown}
+use Rattle.wit_adding_laws.specs.StageFacts.{IsOnItsWay}
+
+-- the interface that what an alias names belongs to, where that isn't its own owner
+abbrev named_dep : List TypeDef → TypeOwner → ℕ → Option ℕ
+named_dep types by target = option_and_then (λ (named : TypeDef). other_owner by named.owner) (slice_get types target)
+
+dep_of : (types : List TypeDef) (id : ℕ) (def : TypeDef) → slice_get types id ≡ Some def → type_interface_dep types id ≡ option_and_then (named_dep types def.owner) (alias_target def.kind)
+dep_of types id def at = ap (λ (o : Option TypeDef). option_and_then (λ (d : TypeDef). option_and_then (named_dep types d.owner) (alias_target d.kind)) o) at
+
+filter_map_agrees : {X Y : Type 0} (f g : X → Option Y) (xs : List X) → ((i : ℕ) (x : X) → slice_get xs i ≡ Some x → f x ≡ g x) → filter_map f xs ≡ filter_map g xs
+filter_map_agrees f g [] same = refl
+filter_map_agrees f g (x ∷ xs) same = rw (same 0 x refl, filter_map_agrees f g xs (λ i. same (suc i))) refl
+
+map_agrees : {X Y : Type 0} (f g : X → Y) (xs : List X) → ((i : ℕ) (x : X) → slice_get xs i ≡ Some x → f x ≡ g x) → map f xs ≡ map g xs
+map_agrees f g [] same = refl
+map_agrees f g (x ∷ xs) same = rw (same 0 x refl, map_agrees f g xs (λ i. same (suc i))) refl
+
+module _ (g : Graph) (on : IsOnItsWay g) (more : List TypeDef) where
+  -- what an alias names is there
+  target_there : (id : ℕ) (def : TypeDef) (t : ℕ) → slice_get g.types id ≡ Some def → alias_target def.kind ≡ Some t → t < length g.types
+  target_there id def t at is =
+      let has : Contains (direct (type_references g.types) id) t = in_row (λ (d : TypeDef). referred d.kind) g.types id def t at (alias_referred def.kind t is) in
+      let within : t < length (type_references g.types) = All-contains (λ j. j < length (type_references g.types)) (direct (type_references g.types) id) t (on.references.in_range id) has in
+      let long : length (type_references g.types) ≡ length g.types = length-map g.types (λ (d : TypeDef). referred d.kind) in
+      omega (arith, within, long)
+
+  dep_stays : (by : TypeOwner) (target : Option ℕ) → ((t : ℕ) → target ≡ Some t → t < length g.types) → option_and_then (named_dep (g.types ++ more) by) target ≡ option_and_then (named_dep g.types by) target
+  dep_stays by None there = refl
+  dep_stays by (Some t) there =
+      let named = get_at g.types t (there t refl) in
+      ap (λ (o : Option TypeDef). option_and_then (λ (n : TypeDef). other_owner by n.owner) o) (slice_get-append g.types more t named.0 named.1 ∙ sym named.1)
+
+  type_stays : (id : ℕ) (def : TypeDef) → slice_get g.types id ≡ Some def → type_interface_dep (g.types ++ more) id ≡ type_interface_dep g.types id
+  type_stays id def at =
+      dep_of (g.types ++ more) id def (slice_get-append g.types more id def at) ∙ dep_stays def.owner (alias_target def.kind) (λ t is. target_there id def t at is) ∙ sym (dep_of g.types id def at)
+
+  interface_stays : (i : ℕ) (interface : Interface) → slice_get g.interfaces i ≡ Some interface → interface_uses (g.types ++ more) interface ≡ interface_uses g.types interface
+  interface_stays i interface at =
+      filter_map_agrees (λ (e : List ℕ × ℕ). type_interface_dep (g.types ++ more) e.1) (λ (e : List ℕ × ℕ). type_interface_dep g.types e.1) interface.types
+      (λ k e is.
+      let def = found_at (λ (def : TypeDef). (def.name ≡ Some e.0) × (def.owner ≡ owner.Interface i)) g.types e.1 ((on.interfaces i interface at).own_types k e is) in
+      type_stays e.1 def.0 def.1)
+
+  rows_agree : uses_of (g.types ++ more) g.interfaces ≡ uses_of g.types g.interfaces
+  rows_agree = map_agrees (interface_uses (g.types ++ more)) (interface_uses g.types) g.interfaces interface_stays
+
+-- the rows of the first interfaces of a graph that has grown
+pub rows_stay : (g g' : Graph) → IsOnItsWay g → Grown g g' → graph_uses g ≡ uses_of g'.types (take (length (graph_uses g)) g'.interfaces)
+rows_stay g g' on grown =
+    let long : length (graph_uses g) ≡ length g.interfaces = length-map g.interfaces (interface_uses g.types) in
+    let types : g.types ++ drop (length g.types) g'.types ≡ g'.types = ap (λ (l : List TypeDef). l ++ drop (length g.types) g'.types) (sym grown.types) ∙ take-append-drop (length g.types) g'.types in
+    sym (rows_agree g on (drop (length g.types) g'.types)) ∙ ap (λ (l : List TypeDef). uses_of l g.interfaces) types
+    ∙ ap (uses_of g'.types) (sym grown.interfaces) ∙ ap (λ (n : ℕ). uses_of g'.types (take n g'.interfaces)) (sym long)

@@ -1,0 +1,39 @@
+use Rattle.std.proofs.Common.{rules, ◌≡◌, ◌⊎◌, ℕ, sym, subst, IfErr, IsErrAnd, Ok, Err, Result}
+use Rattle.wit_graph.specs.declared.error_kind.ResolveErrorKind.{ResolveErrorKind}
+use Rattle.wit_graph.specs.declared.error_kind.ResolveErrorKind.TheVariants.{OutOfMemory}
+use Rattle.wit_placing.specs.GrownFacts.{Grown-then}
+use Rattle.wit_including.specs.Included.{StopsAtInclude}
+use Rattle.wit_including.proofs.Several.{all_fine, all_graph, all_world, beginning-next, beginning-none, include_can, include_own, include_there, stops_here}
+use Rattle.wit_including.proofs.adding.include_each.Goals as goal
+
+told_err : {T E : Type 0} {P Q : E → Type 0} (r : Result T E) → IsErrAnd r P → ((e : E) → P e → Q e) → IfErr r Q
+told_err (Ok v) is gives = tt
+told_err (Err e) is gives = gives e is
+
+pub loop-place-init : goal.loop-place-init
+loop-place-init c = beginning-none c.args.home c.args.graph.now c.args.world c.args.includes.now c.requires.own_keys
+
+pub include-requires-clause-there : goal.include-requires-clause-there
+include-requires-clause-there c =
+    include_there c.args.home c.args.graph.now c.args.world c.args.includes.now c.loop-place.place c.loop-place.graph c.loop-place.world c.loop-place.invariant c.requires c.at.result.now c.at.ensures
+
+pub include-requires-clause-can : goal.include-requires-clause-can
+include-requires-clause-can c =
+    include_can c.args.home c.args.graph.now c.args.world c.args.includes.now c.loop-place.place c.loop-place.graph c.loop-place.world c.loop-place.invariant c.requires c.at.result.now c.at.ensures
+
+pub include-requires-clause-own_keys : goal.include-requires-clause-own_keys
+include-requires-clause-own_keys c =
+    include_own c.args.home c.args.graph.now c.args.world c.args.includes.now c.loop-place.place c.loop-place.graph c.loop-place.world c.loop-place.invariant c.requires c.at.result.now c.at.ensures
+
+pub loop-place-preserved : goal.loop-place-preserved
+loop-place-preserved c =
+    beginning-next c.args.home c.args.graph.now c.args.world c.args.includes.now c.loop-place.place c.loop-place.graph c.loop-place.world c.loop-place.invariant c.requires c.at.result.now c.at.ensures
+    c.include.new.graph c.in_ok-world.world c.in_ok-world.ensures.graph c.in_ok-world.ensures.world c.in_ok-world.ensures.fine c.include.ensures.grown
+
+pub returns-in_err-world-clause-cause : goal.returns-in_err-world-clause-cause
+returns-in_err-world-clause-cause c =
+    told_err c.from_residual.result c.from_residual.ensures.1
+    (λ e is.
+    let same : e ≡ c.in_err-world.field-0.0 = is in
+    subst (λ (x : ResolveErrorKind). (x ≡ OutOfMemory) ⊎ ((j : ℕ) × StopsAtInclude c.args.home c.args.graph.now c.args.world c.args.includes.now j x)) (sym same)
+    (stops_here c.args.home c.args.graph.now c.args.world c.args.includes.now c.loop-place.place c.loop-place.graph c.loop-place.world c.loop-place.invariant c.requires c.at.result.now c.at.ensures c.in_err-world.field-0.0 c.in_err-world.ensures.cause))

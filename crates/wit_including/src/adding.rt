@@ -1,0 +1,62 @@
+//! A world with its includes is put behind the worlds of a graph.
+ghost use Rattle.std.specs.Prelude.{◌≡◌, ◌⊎◌, ℕ, IfErr, IfOk, OnOk};
+ghost use Rattle.wit_graph.specs.Elaboration.{graph_uses};
+ghost use Rattle.wit_graph.specs.declared.error_kind.ResolveErrorKind.TheVariants.{OutOfMemory};
+ghost use Rattle.wit_including.specs.Included.{CanBeAdded, CanBeBegun, IsFineAt, IsFineWorld, IsWorldCause, StopsAtInclude, with_including, with_lists, with_several};
+ghost use Rattle.wit_placing.specs.Grown.{Grown};
+
+use crate::including::include;
+use std::alloc::Global;
+use wit_finishing::finish_world;
+use wit_graph::{Elaborator, Graph, ResolveResult};
+use wit_items::{Items, PackageId, World, WorldInclude};
+
+/// A world with its includes, one after another; the graph has their copies at its ends.
+fn include_each(
+    alloc: Global,
+    graph: &mut Graph,
+    world: World,
+    includes: &Items<WorldInclude>,
+    home: PackageId,
+) -> ResolveResult<World>
+    requires { CanBeBegun home graph.old world includes.now }
+    ensures graph { OnOk result (graph.new ≡ (with_several home graph.old world includes.now).graph) }
+    ensures world { IfOk result (λ new. new ≡ with_lists world (with_several home graph.old world includes.now).lists) }
+    ensures fine { OnOk result ((j : ℕ) → IsFineAt home graph.old world includes.now j) }
+    ensures cause { IfErr result (λ kind. (kind ≡ OutOfMemory) ⊎ ((j : ℕ) × StopsAtInclude home graph.old world includes.now j kind)) }
+    ensures grown { Grown graph.old graph.new }
+{
+    let mut world = world;
+    for place in 0..includes.len() {
+        world = include(alloc, graph, world, includes.at(place), home)?;
+    }
+    Ok(world)
+}
+
+/// Puts a world behind the worlds of a graph: its includes one after another, its setters after their getters,
+/// elaborated.
+///
+/// Refused as an include is (7, 8, 16) and as a world is that is finished (4, 17, 18), and for memory (28); the graph may
+/// then have grown at its ends.
+pub fn add_world(
+    alloc: Global,
+    graph: &mut Graph,
+    elaborator: Elaborator,
+    world: World,
+    includes: &Items<WorldInclude>,
+    home: PackageId,
+) -> ResolveResult<Elaborator>
+    requires uses { elaborator ≡ graph_uses graph.old }
+    requires can { CanBeAdded home graph.old world includes.now }
+    ensures ok { OnOk result (graph.new ≡ with_including home graph.old world includes.now) }
+    ensures uses { IfOk result (λ new. new ≡ graph_uses graph.new) }
+    ensures fine { OnOk result (IsFineWorld home graph.old world includes.now) }
+    ensures cause { IfErr result (λ kind. (kind ≡ OutOfMemory) ⊎ IsWorldCause home graph.old world includes.now kind) }
+    ensures grown { Grown graph.old graph.new }
+{
+    let world = include_each(alloc, graph, world, includes, home)?;
+    let types = graph.types.as_slice();
+    let mut elaborator = elaborator.grown(alloc, types, graph.interfaces.as_slice())?;
+    finish_world(alloc, graph, &mut elaborator, world)?;
+    Ok(elaborator)
+}

@@ -1,0 +1,73 @@
+//! A world of a graph is included in one that comes next.
+ghost use Rattle.std.specs.Prelude.{◌≡◌, ◌⊎◌, ◌<◌, IfErr, IfOk, OnOk, Some, codes, length, slice_get};
+ghost use Rattle.wit_adding.specs.Include.{joined, lists_of};
+ghost use Rattle.wit_graph.specs.declared.error_kind.ResolveErrorKind.TheVariants.{OutOfMemory};
+ghost use Rattle.wit_including.specs.Included.{CanBeIncluded, HaveOwnKeys, IncludeIsFine, IsIncludeCause, IsIncluded, before_includes, with_lists, with_one};
+ghost use Rattle.wit_items.specs.declared.world.World.{World};
+ghost use Rattle.wit_joining.specs.Joined.{CanJoin, ComeOnce, IsJoinCause};
+ghost use Rattle.wit_placing.specs.Grown.{Grown};
+
+use std::alloc::Global;
+use std::mem;
+use wit_copying::add_copies;
+use wit_graph::{Graph, ResolveResult};
+use wit_items::{Items, PackageId, Span, Table, World, WorldId, WorldInclude, WorldItem, WorldKey};
+use wit_joining::{check_names, join};
+
+/// Includes a world of a graph in another one, which comes next: what goes with the included world is copied to the ends
+/// of the graph, and its entries are joined to the lists of the other.
+///
+/// Refused where a renaming is of no label (16), a label that is brought is there (7), two stabilities of one interface
+/// disagree (8), and for memory (28); the graph may then have grown at its ends.
+pub fn include(
+    alloc: Global,
+    graph: &mut Graph,
+    world: World,
+    include: &WorldInclude,
+    home: PackageId,
+) -> ResolveResult<World>
+    requires there { include.now.id < length graph.old.worlds }
+    requires can { CanBeIncluded (before_includes graph.old world) include.now }
+    requires own_keys { HaveOwnKeys (lists_of world) }
+    ensures graph { OnOk result (graph.new ≡ (with_one home (before_includes graph.old world) include.now).graph) }
+    ensures world { IfOk result (λ new. new ≡ with_lists world (with_one home (before_includes graph.old world) include.now).lists) }
+    ensures fine { OnOk result (IncludeIsFine home (before_includes graph.old world) include.now) }
+    ensures cause { IfErr result (λ kind. (kind ≡ OutOfMemory) ⊎ ((old : World) × IsIncluded (before_includes graph.old world) include.now old × IsIncludeCause home (before_includes graph.old world) include.now old kind)) }
+    ensures grown { Grown graph.old graph.new }
+{
+    let into = WorldId::from_index(graph.worlds.len());
+    let included = graph.worlds.at(include.id.index());
+    check_names(alloc, include.span, &include.names, included)?;
+    let copies = add_copies(alloc, graph, include.id, &include.names, into, home)?;
+    let included = graph.worlds.at(include.id.index());
+    let imports = copies.entries(alloc, &included.imports)?;
+    let exports = copies.entries(alloc, &included.exports)?;
+    let other = included.package != Some(home);
+    join_lists(alloc, other, include.span, world, imports, exports)
+}
+
+/// A world with brought entries joined to its lists.
+fn join_lists(
+    alloc: Global,
+    other: bool,
+    span: Span,
+    world: World,
+    imports: Items<(WorldKey, WorldItem)>,
+    exports: Items<(WorldKey, WorldItem)>,
+) -> ResolveResult<World>
+    requires imports { ComeOnce imports }
+    requires exports { ComeOnce exports }
+    ensures ok { IfOk result (λ new. new ≡ record world { imports = joined other world.imports imports; exports = joined other world.exports exports }) }
+    ensures imports { OnOk result (CanJoin other world.imports imports) }
+    ensures exports { OnOk result (CanJoin other world.exports exports) }
+    ensures cause { IfErr result (λ kind. (kind ≡ OutOfMemory) ⊎ (IsJoinCause other span (codes "import") world.imports imports kind ⊎ IsJoinCause other span (codes "export") world.exports exports kind)) }
+{
+    let mut world = world;
+    let current = mem::replace(&mut world.imports, Table::new(alloc));
+    let imports = join(alloc, other, span, "import", current, imports)?;
+    drop(mem::replace(&mut world.imports, imports));
+    let current = mem::replace(&mut world.exports, Table::new(alloc));
+    let exports = join(alloc, other, span, "export", current, exports)?;
+    drop(mem::replace(&mut world.exports, exports));
+    Ok(world)
+}

@@ -1,0 +1,9 @@
+//! Worlds that include others: each include with its copies and its entries joined, one after another, and then the
+//! world finished.
+#![tactic(auto)]
+
+pub mod adding;
+pub mod including;
+
+pub use crate::adding::add_world;
+pub use crate::including::include;

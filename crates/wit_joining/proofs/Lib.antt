@@ -1,0 +1,3 @@
+pub mod JoinSteps
+pub mod Keys
+pub mod Words

@@ -1,0 +1,2 @@
+//! What merging two graphs makes, and why it is refused: definitions.
+#![tactic(auto)]

@@ -1,0 +1,6 @@
+mod Accepted
+mod Computed
+mod Mismatches
+mod Passing
+mod Refused
+mod Tests

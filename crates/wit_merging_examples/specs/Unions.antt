@@ -1,0 +1,90 @@
+-- Worked merges: which things are matched, where things go, and the whole graph that is made.
+use Rattle.std.specs.Prelude.{◌≡◌, ℕ, List, [], ◌∷◌, Some, None, codes}
+use Rattle.wit_items.specs.declared.stability.Stability.{Stability}
+use Rattle.wit_items.specs.declared.types.Handle.TheVariants as handle
+use Rattle.wit_items.specs.declared.types.TypeDefKind.TheVariants as kind
+use Rattle.wit_items.specs.declared.types.Type_.TheVariants as type
+use Rattle.wit_items.specs.declared.world.WorldItem.TheVariants as item
+use Rattle.wit_items.specs.declared.world.WorldKey.TheVariants as key
+use Rattle.wit_graph.specs.Examples.{empty_graph}
+use Rattle.wit_graph.specs.Samples.{entry_of, function_of, interface_of, no_docs, type_in, unnamed, world_of}
+use Rattle.wit_graph.specs.declared.graph.Graph.{Graph}
+use Rattle.wit_merging.specs.Matches.{found_interface, found_package, found_type, found_world}
+use Rattle.wit_merging.specs.Moved.{going}
+use Rattle.wit_merging.specs.United.{united}
+use Rattle.wit_merging_examples.specs.Graphs.{a_uses_b, b_uses_a, foo_bar_alone, foo_named, gate_f, i_uses_j, inner, interface_in, merging, more, number_in, one_number, only_c, package_named, record_x, resource_t, three, two_numbers, world_of_i}
+
+-- what is matched, and where things go
+pub record ExamplesOfMatches : Type 0 where
+  -- by names, whatever the order
+  pub home : found_package (merging b_uses_a a_uses_b) 0 ≡ Some 1
+  pub no_home : found_package (merging b_uses_a only_c) 0 ≡ None
+  pub interface : found_interface (merging one_number more) 0 ≡ Some 0
+  pub no_interface : found_interface (merging one_number more) 1 ≡ None
+  -- an interface of that name in a package of another name isn't matched
+  pub other_home : found_interface (merging a_uses_b only_c) 0 ≡ None
+  pub type : found_type (merging one_number more) 0 ≡ Some 0
+  pub no_type : found_type (merging one_number more) 1 ≡ None
+  -- nor is a type of that name in an interface of another name
+  pub other_interface : found_type (merging b_uses_a a_uses_b) 0 ≡ None
+  pub world : found_world (merging three (two_numbers (codes "u"))) 0 ≡ Some 0
+  -- interfaces without a name by the label under which they stand, their types by name
+  pub inner_interface : found_interface (merging (inner [] [] []) (inner ((codes "t", 0) ∷ []) (number_in 0 (codes "t") ∷ []) [])) 0 ≡ Some 0
+  pub inner_type : found_type (merging (inner ((codes "t", 0) ∷ []) (number_in 0 (codes "t") ∷ []) []) (inner ((codes "t", 0) ∷ []) (number_in 0 (codes "t") ∷ []) [])) 0 ≡ Some 0
+  -- where things go: i and its t to those that are there, u, j and v to the next ids
+  pub goes : going (merging one_number more) ≡ record { types = Some 0 ∷ Some 1 ∷ Some 2 ∷ []; interfaces = Some 0 ∷ Some 1 ∷ []; worlds = []; packages = 0 ∷ [] }
+  -- packages that are there in another order
+  pub goes_across : going (merging b_uses_a a_uses_b) ≡ record { types = Some 2 ∷ Some 3 ∷ []; interfaces = Some 2 ∷ Some 3 ∷ []; worlds = []; packages = 1 ∷ 0 ∷ [] }
+
+-- interface i of numbers of these names, in this order
+abbrev pub three_numbers : List ℕ → List ℕ → Graph
+three_numbers second third = foo_bar_alone (number_in 0 (codes "t") ∷ number_in 0 second ∷ number_in 0 third ∷ [])
+    (interface_of (Some (codes "i")) ((codes "t", 0) ∷ (second, 1) ∷ (third, 2) ∷ []) ∷ []) (world_of (codes "w") (entry_of 0 ∷ []) [] ∷ []) ((codes "i", 0) ∷ []) ((codes "w", 0) ∷ [])
+
+-- interface i with a number t under this gate
+abbrev pub gated : Stability → Graph
+gated note = record one_number { types = record (number_in 0 (codes "t")) { stability = note } ∷ [] }
+
+-- a function f under label f of world w
+abbrev pub world_function : Graph
+world_function = foo_bar_alone [] [] (world_of (codes "w") ((key.Name (codes "f"), item.Function (function_of (codes "f") [] None)) ∷ []) [] ∷ []) [] ((codes "w", 0) ∷ [])
+
+-- whole graphs
+pub record ExamplesOfUnions : Type 0 where
+  -- nothing into a graph, a graph into nothing, a graph into itself
+  pub nothing_comes : united (merging three empty_graph) ≡ three
+  pub into_nothing : united (merging empty_graph three) ≡ three
+  pub itself : united (merging three three) ≡ three
+  -- what isn't there comes: u to i, j to the package; and it isn't left out
+  pub grown : united (merging one_number more) ≡ more
+  pub stays : united (merging one_number more) ≡ one_number → ⊥
+  -- and the other way round nothing comes
+  pub less : united (merging more one_number) ≡ more
+  -- in both orders the same names, though not the same order
+  pub first_order : united (merging (two_numbers (codes "u")) (two_numbers (codes "v"))) ≡ three_numbers (codes "u") (codes "v")
+  pub second_order : united (merging (two_numbers (codes "v")) (two_numbers (codes "u"))) ≡ three_numbers (codes "v") (codes "u")
+  -- t is a resource here, so a value of it is an `own`, which stands behind what moves; the record itself isn't kept out
+  pub owned : (united (merging resource_t record_x)).types ≡ type_in 0 (codes "t") kind.Resource ∷ type_in 0 (codes "x") (kind.Record (record { name = codes "a"; ty = type.Id 2; docs = no_docs; span = None } ∷ [])) ∷ unnamed (kind.Handle (handle.Own 0)) ∷ []
+  -- and t stays what it is here
+  pub not_owned : united (merging record_x resource_t) ≡ record_x
+  -- i uses j now, so a world that imports i imports j, before it
+  pub elaborated : (united (merging world_of_i i_uses_j)).worlds ≡ world_of (codes "w") (entry_of 1 ∷ entry_of 0 ∷ []) [] ∷ []
+  pub not_as_listed : (united (merging world_of_i i_uses_j)).worlds ≡ world_of_i.worlds → ⊥
+  -- the interface without a name takes what the other one has
+  pub inner_joined : united (merging (inner ((codes "t", 0) ∷ []) (number_in 0 (codes "t") ∷ []) []) (inner ((codes "u", 0) ∷ []) (number_in 0 (codes "u") ∷ []) (function_of (codes "f") (type.Id 0 ∷ []) None ∷ [])))
+      ≡ inner ((codes "t", 0) ∷ (codes "u", 1) ∷ []) (number_in 0 (codes "t") ∷ number_in 0 (codes "u") ∷ []) (function_of (codes "f") (type.Id 1 ∷ []) None ∷ [])
+  -- a function of a matched world doesn't come again
+  pub function_once : united (merging world_function world_function) ≡ world_function
+  -- packages: what each has joins under its name, and one that isn't there comes last
+  pub packages : (united (merging b_uses_a a_uses_b)).packages ≡ package_named (codes "a") ((codes "i", 0) ∷ (codes "h", 3) ∷ []) ∷ package_named (codes "b") ((codes "j", 1) ∷ (codes "k", 2) ∷ []) ∷ []
+  pub package_comes : (united (merging b_uses_a only_c)).packages
+      ≡ package_named (codes "a") ((codes "i", 0) ∷ []) ∷ package_named (codes "b") ((codes "j", 1) ∷ []) ∷ package_named (codes "c") ((codes "k", 2) ∷ []) ∷ []
+  pub named_once : (united (merging b_uses_a only_c)).package_names ≡ (foo_named (codes "a"), 0) ∷ (foo_named (codes "b"), 1) ∷ (foo_named (codes "c"), 2) ∷ []
+  pub of_its_package : (united (merging b_uses_a only_c)).interfaces
+      ≡ interface_in 0 (codes "i") ((codes "t", 0) ∷ []) ∷ interface_in 1 (codes "j") ((codes "t", 1) ∷ []) ∷ interface_in 2 (codes "k") ((codes "v", 2) ∷ []) ∷ []
+  -- a gate replaces none, and stays where none comes
+  pub gate_comes : united (merging one_number (gated gate_f)) ≡ gated gate_f
+  pub gate_stays : united (merging (gated gate_f) one_number) ≡ gated gate_f
+  -- spans of what moves move
+  pub moved : (united (record { graph = empty_graph; other = record one_number { interfaces = record (interface_of (Some (codes "i")) ((codes "t", 0) ∷ [])) { span = Some (20, 25) } ∷ [] }; offset = 16 })).interfaces
+      ≡ record (interface_of (Some (codes "i")) ((codes "t", 0) ∷ [])) { span = Some (36, 41) } ∷ []

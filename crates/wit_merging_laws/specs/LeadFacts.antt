@@ -1,0 +1,81 @@
+-- Facts on what leads to resources, and on places that pass, as wit_adding_laws has them for itself.
+use Rattle.std.proofs.Common.{◌≡◌, ◌∙◌, ℕ, zero, suc, ◌+◌, ◌||◌, Bool, true, false, List, [], ◌∷◌, ◌++◌, map, filter, length, cond, Option, None, Some, slice_get, refl, ap}
+use Rattle.std.specs.List.{enumerate_from, flat_map, list_any, range_with_len}
+use Rattle.std.specs.Option.{option_map_or, option_to_list}
+use Rattle.std.proofs.lemmas.Option.{get_or_from_slice_get}
+use Rattle.wit_relations.specs.Relation.{direct}
+use Rattle.wit_relations.specs.Walks.{walk, walk_within}
+use Rattle.wit_items.specs.Ownership.{IsPlain}
+use Rattle.wit_items.specs.Uses.{alias_target}
+use Rattle.wit_items.specs.declared.types.TypeDef.{TypeDef}
+use Rattle.wit_items.specs.declared.types.TypeDefKind.{TypeDefKind}
+use Rattle.wit_items.specs.declared.types.TypeDefKind.TheVariants as kind
+use Rattle.wit_growth.specs.ListFacts.{at_map}
+use Rattle.wit_growth.specs.Sources.{alias_rows}
+use Rattle.wit_adding.specs.Resources.{is_resource, is_resource_kind, leads_to_resource}
+
+-- a type that is neither an alias nor a resource leads to none
+plain_alias : (k : TypeDefKind) → IsPlain k → alias_target k ≡ None
+plain_alias (kind.Record fields) plain = refl
+plain_alias kind.Resource plain = absurd plain
+plain_alias (kind.Handle handle) plain = refl
+plain_alias (kind.Flags flags) plain = refl
+plain_alias (kind.Tuple types) plain = refl
+plain_alias (kind.Variant cases) plain = refl
+plain_alias (kind.Enum cases) plain = refl
+plain_alias (kind.Option ty) plain = refl
+plain_alias (kind.Result_ ok err) plain = refl
+plain_alias (kind.List ty) plain = refl
+plain_alias (kind.Map k v) plain = refl
+plain_alias (kind.FixedLengthList ty len) plain = refl
+plain_alias (kind.Future ty) plain = refl
+plain_alias (kind.Stream ty) plain = refl
+plain_alias (kind.Type_ ty) plain = absurd plain
+plain_alias kind.Unknown plain = refl
+
+plain_resource : (k : TypeDefKind) → IsPlain k → is_resource_kind k ≡ false
+plain_resource (kind.Record fields) plain = refl
+plain_resource kind.Resource plain = absurd plain
+plain_resource (kind.Handle handle) plain = refl
+plain_resource (kind.Flags flags) plain = refl
+plain_resource (kind.Tuple types) plain = refl
+plain_resource (kind.Variant cases) plain = refl
+plain_resource (kind.Enum cases) plain = refl
+plain_resource (kind.Option ty) plain = refl
+plain_resource (kind.Result_ ok err) plain = refl
+plain_resource (kind.List ty) plain = refl
+plain_resource (kind.Map k v) plain = refl
+plain_resource (kind.FixedLengthList ty len) plain = refl
+plain_resource (kind.Future ty) plain = refl
+plain_resource (kind.Stream ty) plain = refl
+plain_resource (kind.Type_ ty) plain = absurd plain
+plain_resource kind.Unknown plain = refl
+
+pub leads_nowhere : (types : List TypeDef) (t : ℕ) (def : TypeDef) → slice_get types t ≡ Some def → IsPlain def.kind → leads_to_resource types t ≡ false
+unfolding walk walk_within
+leads_nowhere types t def at plain = within (length (alias_rows types))
+  where
+    none : direct (alias_rows types) t ≡ []
+    none =
+        get_or_from_slice_get (alias_rows types) t (option_to_list (alias_target def.kind)) [] (at_map (λ (def : TypeDef). option_to_list (alias_target def.kind)) types t def at)
+        ∙ ap (λ (o : Option ℕ). option_to_list o) (plain_alias def.kind plain)
+
+    here : is_resource types t ≡ false
+    here = ap (λ (o : Option TypeDef). option_map_or (λ (def : TypeDef). is_resource_kind def.kind) o false) at ∙ plain_resource def.kind plain
+
+    within : (members : ℕ) → list_any (is_resource types) (walk_within (alias_rows types) members t) ≡ false
+    within zero = refl
+    within (suc members) =
+        ap (λ (d : List ℕ). list_any (is_resource types) (flat_map (walk_within (alias_rows types) members) d ++ t ∷ [])) none
+        ∙ ap (λ (b : Bool). b || false) here
+
+-- the places of what passes, one after another
+pub filtered_range : {X : Type 0} (p : ℕ → Bool) (xs : List X) (n : ℕ) → filter p (range_with_len n (length xs)) ≡ map (λ (e : ℕ × X). e.0) (filter (λ (e : ℕ × X). p e.0) (enumerate_from n xs))
+filtered_range p [] n = refl
+filtered_range {X} p (x ∷ xs) n = by (p n) (filtered_range p xs (n + 1))
+  where
+    by : (b : Bool) → filter p (range_with_len (n + 1) (length xs)) ≡ map (λ (e : ℕ × X). e.0) (filter (λ (e : ℕ × X). p e.0) (enumerate_from (n + 1) xs))
+        → cond b (n ∷ filter p (range_with_len (n + 1) (length xs))) (filter p (range_with_len (n + 1) (length xs)))
+        ≡ map (λ (e : ℕ × X). e.0) (cond b ((n, x) ∷ filter (λ (e : ℕ × X). p e.0) (enumerate_from (n + 1) xs)) (filter (λ (e : ℕ × X). p e.0) (enumerate_from (n + 1) xs)))
+    by true old = ap (λ l. n ∷ l) old
+    by false old = old

@@ -1,0 +1,13 @@
+pub mod InterfacesStand
+pub mod KeptFacts
+pub mod LeadFacts
+pub mod ListedStand
+pub mod MatchFacts
+pub mod MatchedOnce
+pub mod MergingLaws
+pub mod NothingFacts
+pub mod PackagesStand
+pub mod TypesStand
+pub mod UnitedWorlds
+pub mod WholeFacts
+pub mod WorldsStand

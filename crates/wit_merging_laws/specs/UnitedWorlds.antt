@@ -1,0 +1,145 @@
+-- The worlds of two graphs that are one, elaborated: where no interface uses itself and no world is in conflict, they
+-- list the types that they listed and come of the two graphs as before, and each is its own elaboration.
+use Rattle.std.proofs.Common.{◌≡◌, ◌∙◌, inl, inr, ℕ, zero, suc, true, List, [], map, length, Some, slice_get, refl, sym, ap, subst, Contains}
+use Rattle.wit_values.specs.Table.{HasDistinctKeys}
+use Rattle.wit_relations.specs.MemberFacts.{Contains-cons_cases, Contains-flat_map_cases, Contains-nil}
+use Rattle.wit_relations.specs.Relation.{IsAcyclic}
+use Rattle.wit_items.specs.Each.{Each, SomeAt}
+use Rattle.wit_items.specs.Entries.{Entry, HasExports, HasImports, IsExport}
+use Rattle.wit_items.specs.Ownership.{AliasesNamed, IsNamed, world_types}
+use Rattle.wit_items.specs.declared.interface.Interface.{Interface}
+use Rattle.wit_items.specs.declared.types.TypeDef.{TypeDef}
+use Rattle.wit_items.specs.declared.world.World.{World}
+use Rattle.wit_items.specs.declared.world.WorldItem.{WorldItem}
+use Rattle.wit_items.specs.declared.world.WorldItem.TheVariants as item
+use Rattle.wit_items.specs.declared.world.WorldKey.{WorldKey}
+use Rattle.wit_items.specs.declared.world.WorldKey.TheVariants as key
+use Rattle.wit_graph.proofs.Classes.{in_by_class}
+use Rattle.wit_graph.proofs.Filters.{Contains-filter, Contains-filtered}
+use Rattle.wit_graph.specs.Elaborated.{Elaborated}
+use Rattle.wit_graph.specs.Elaboration.{graph_uses}
+use Rattle.wit_graph.specs.Entries.{by_class, id_of}
+use Rattle.wit_graph.specs.Imported.{HasConflict, exported_keys}
+use Rattle.wit_graph.specs.KeptByElaboration.{IsUsed, is_label, labelled, settled}
+use Rattle.wit_graph.specs.Listed.{IsListed}
+use Rattle.wit_graph.specs.ListedFacts.{lists_in_order}
+use Rattle.wit_graph.specs.Valid.{IsValid}
+use Rattle.wit_graph.specs.declared.graph.Graph.{Graph}
+use Rattle.wit_growth.specs.Covered.{IsCovered, WorldComes}
+use Rattle.wit_growth.specs.CoveredIsValid.{IsGoodWhere-of_covered}
+use Rattle.wit_growth.specs.Cut.{IsGoodWhere, StaysIn}
+use Rattle.wit_growth.specs.ElaboratedCome.{elaborated_comes}
+use Rattle.wit_growth.specs.GraphSource.{graph_stands}
+use Rattle.wit_growth.specs.Kept.{everything}
+use Rattle.wit_growth.specs.ListFacts.{Contains-map, at_map, contained_at, found_at, from_map, place_of, some_at}
+use Rattle.wit_growth.specs.NamedUses.{IsUsed_named}
+use Rattle.wit_growth.specs.Operations.{merge_sources}
+use Rattle.wit_growth.specs.Sources.{Carries, Source, WorldStands}
+use Rattle.wit_including_laws.specs.WorldLaws.{WorldLaws}
+use Rattle.wit_merging.specs.Matches.{Merging}
+use Rattle.wit_merging.specs.Moved.{merge_maps}
+use Rattle.wit_merging.specs.Reasons.{AreOne}
+use Rattle.wit_merging.specs.United.{elaborated_world, joined_graph, united}
+use Rattle.wit_merging_laws.specs.InterfacesStand as interfaces
+use Rattle.wit_merging_laws.specs.ListedStand.{worlds_come}
+use Rattle.wit_merging_laws.specs.MergingLaws.{AreGood, CanElaborate}
+use Rattle.wit_merging_laws.specs.TypesStand as types
+use Rattle.wit_merging_laws.specs.WorldsStand.{entry, graph_stays, joined_covered, joined_stands, listed_by, lists_it, sources_good}
+
+-- an exported key is that of an interface with a name
+named_key : (interfaces : List Interface) (k : WorldKey) (held : WorldItem) (j : ℕ) → Contains (id_of k) j → IsExport interfaces k held → IsNamed interfaces j
+named_key interfaces (key.Name name) held j has is = absurd (Contains-nil has)
+named_key interfaces (key.Interface f) (item.Interface i stability docs span external_id) j has is = elim (Contains-cons_cases f j [] has) [
+  | inl same ↦ subst (IsNamed interfaces) same is.1
+  | inr none ↦ absurd (Contains-nil none)
+]
+named_key interfaces (key.Interface f) (item.Function fn) j has is = absurd is
+named_key interfaces (key.Interface f) (item.Type_ t span) j has is = absurd is
+
+module _ (laws : WorldLaws) (m : Merging) (valid : IsValid m.graph) (valid_other : IsValid m.other) (one : AreOne m) (can : CanElaborate m) where
+  abbrev g : Graph
+  g = joined_graph m
+
+  abbrev at : ℕ → Source
+  at = merge_sources m.graph m.other (merge_maps m)
+
+  -- the things of the two as one are good
+  pub joined_good : IsGoodWhere everything g.types g.interfaces g.worlds
+  joined_good = IsGoodWhere-of_covered at g (sources_good m valid valid_other one) (joined_stands m valid valid_other one) everything (joined_covered m valid valid_other one)
+
+  pub aliases : Each (AliasesNamed g.types g.interfaces) g.types
+  aliases t def there = (joined_good.types_are t def there refl).alias
+
+  module _ (w' : ℕ) (listed : World) (there : slice_get g.worlds w' ≡ Some listed) where
+    listed_imports : HasImports g.interfaces g.types w' listed
+    listed_imports i e on = (joined_good.imports_are w' listed there refl i e on).is
+
+    listed_exports : HasExports g.interfaces listed
+    listed_exports i e on = (joined_good.exports_are w' listed there refl i e on).is
+
+    in_order : IsListed g.types (length (graph_uses g)) listed.imports listed.exports
+    in_order = lists_in_order g.types g.interfaces aliases w' listed listed_imports listed_exports
+
+    pub is_elaborated : Elaborated g.types (graph_uses g) listed (elaborated_world g listed)
+    is_elaborated = record { no_conflict = can.clear listed (contained_at g.worlds w' listed there); world_is = refl }
+
+    -- the world lists the types that it listed
+    pub types_listed : (name : List ℕ) (t : ℕ) → Contains (world_types listed) (name, t) → Contains (world_types (elaborated_world g listed)) (name, t)
+    types_listed name t has =
+        let done = elaborated_world g listed in
+        let by = listed_by listed name t has in
+        let e : Entry = entry (key.Name name) (item.Type_ t by.span) in
+        let sorted = in_by_class g.types listed.imports e by.has in
+        let under : Contains (labelled (by_class g.types listed.imports)) e = Contains-filtered (λ (d : Entry). is_label d.0) (by_class g.types listed.imports) e sorted refl in
+        let stays = laws.labels g.types (graph_uses g) listed done can.acyclic in_order (worlds_come m valid valid_other w' listed there).distinct_imports is_elaborated in
+        let among : Contains (labelled done.imports) (settled e) = subst (λ (es : List Entry). Contains es (settled e)) (sym stays) (Contains-map settled (labelled (by_class g.types listed.imports)) e under) in
+        lists_it done name t by.span (Contains-filter (λ (d : Entry). is_label d.0) done.imports (settled e) among).0
+
+    -- it comes of the two graphs
+    pub elaborated_world_comes : WorldComes at g w' (elaborated_world g listed)
+    elaborated_world_comes =
+        elaborated_comes at g w' listed (elaborated_world g listed) laws.entries laws.once can.acyclic in_order (λ j used. IsUsed_named g.types g.interfaces aliases listed.imports j used)
+        (λ j has.
+        let from = Contains-flat_map_cases (λ (e : Entry). id_of e.0) listed.exports j has in
+        let place = place_of listed.exports from.0 from.1.0 in
+        named_key g.interfaces from.0.0 from.0.1 j from.1.1 (listed_exports place.0 from.0 place.1))
+        (worlds_come m valid valid_other w' listed there) is_elaborated (worlds_come m valid valid_other w' listed there).no_includes
+
+    -- and is its own elaboration
+    pub is_canonical : Elaborated g.types (graph_uses g) (elaborated_world g listed) (elaborated_world g listed)
+    is_canonical = laws.again g.types (graph_uses g) listed (elaborated_world g listed) can.acyclic in_order is_elaborated
+
+  -- ---- the united graph
+
+  pub united_canonical : Each (λ (world : World). Elaborated g.types (graph_uses g) world world) (united m).worlds
+  united_canonical w' world there =
+      let from = from_map (elaborated_world g) g.worlds w' world there in
+      subst (λ (x : World). Elaborated g.types (graph_uses g) x x) from.2 (is_canonical w' from.0 from.1)
+
+  -- what stood stands
+  stands_so : (s : Source) (w w' : ℕ) (old : World) → SomeAt g.worlds w' (WorldStands s w old) → SomeAt (united m).worlds w' (WorldStands s w old)
+  stands_so s w w' old stands =
+      let found = found_at (WorldStands s w old) g.worlds w' stands in
+      some_at (WorldStands s w old) (united m).worlds w' (elaborated_world g found.0) (at_map (elaborated_world g) g.worlds w' found.0 found.1) (record {
+        types = λ name t has taken. types_listed w' found.0 found.1 (s.maps.labels w name) (s.maps.types t) (found.2.types name t has taken);
+        home = found.2.home;
+      })
+
+  pub united_stands : (k : ℕ) → Carries (at k) (united m)
+  united_stands k =
+      let stands = joined_stands m valid valid_other one k in
+      record { types = stands.types; values = stands.values; interfaces = stands.interfaces; worlds = λ w old there takes. stands_so (at k) w ((at k).maps.worlds w) old (stands.worlds w old there takes) }
+
+  pub united_covered : IsCovered everything at (united m)
+  united_covered = record {
+    types = λ t' new there takes. types.types_come m valid valid_other (united m) t' new there;
+    interfaces = λ f' new there takes. interfaces.interfaces_come m valid valid_other f' new there;
+    worlds = λ w' new there takes.
+        let from = from_map (elaborated_world g) g.worlds w' new there in
+        let comes = subst (WorldComes at g w') from.2 (elaborated_world_comes w' from.0 from.1) in
+        record { imports = comes.imports; exports = comes.exports; distinct_imports = comes.distinct_imports; distinct_exports = comes.distinct_exports; no_includes = comes.no_includes };
+  }
+
+  -- its things are good
+  pub united_good : AreGood (united m)
+  united_good = record { things = IsGoodWhere-of_covered at (united m) (sources_good m valid valid_other one) united_stands everything united_covered; canonical = united_canonical }

@@ -1,0 +1,4 @@
+//! Laws of merging.
+#![tactic(auto)]
+
+pub mod laws;

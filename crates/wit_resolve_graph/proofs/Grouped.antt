@@ -1,0 +1,424 @@
+-- From what placing, sorting and adding packages tell to what is told of their groups.
+use Rattle.std.proofs.Common.{◌≡◌, ◌∙◌, ◌⊎◌, ◌+◌, ◌<◌, ◌≤◌, ◌^◌, ℕ, zero, suc, List, [], ◌∷◌, ◌++◌, length, take, map, slice_get, get_or, Option, None, Some, Result, Ok, Err, IfOk, IfErr, OnErr, refl, ap, sym, subst, inl, inr, Contains, arith}
+use Rattle.std.proofs.lemmas.List.{append-nil, append_assoc, length-map, take_at}
+use Rattle.std.proofs.lemmas.List.FromFn.{get_or-range_with_len, length-range_with_len}
+use Rattle.std.proofs.lemmas.List.Sorted.{Contains-permutation}
+use Rattle.std.specs.List.{AllByRecursion, AllZip, flat_map, range_with_len}
+use Rattle.std.specs.Map.{lookup}
+use Rattle.std.specs.Prelude.{is_some}
+use Rattle.wit_values.specs.Lists.{AllByRecursion-at, lookup-append, lookup-push, slice_get-push}
+use Rattle.wit_relations.specs.FreshFacts.{fresh_all}
+use Rattle.wit_relations.specs.MemberFacts.{Contains-cons_cases, Contains-flat_map, Contains-nil}
+use Rattle.wit_relations.specs.Relation.{direct}
+use Rattle.wit_relations.specs.Walks.{walk, walk_within}
+use Rattle.wit_sources.specs.SourceMap.{AreLaidOut, Sources, moved_file, with_sources}
+use Rattle.wit_sources.specs.Span.{moved_by}
+use Rattle.wit_items.specs.Each.{Each}
+use Rattle.wit_items.specs.PackageNameFacts.{own_name}
+use Rattle.wit_items.specs.PackageOrder.{same_package}
+use Rattle.wit_items.specs.Shape.{IsGroupShaped, IsShaped}
+use Rattle.wit_items.specs.declared.package_name.PackageName.{PackageName}
+use Rattle.wit_items.specs.declared.unresolved.UnresolvedPackage.{UnresolvedPackage}
+use Rattle.wit_items.specs.declared.unresolved.UnresolvedPackageGroup.{UnresolvedPackageGroup}
+use Rattle.wit_graph.specs.declared.error_kind.ResolveErrorKind.{ResolveErrorKind}
+use Rattle.wit_graph.specs.declared.error_kind.ResolveErrorKind.TheVariants.{DuplicatePackage, OffsetOverflow, OutOfMemory}
+use Rattle.wit_graph.specs.declared.features.Features.{Features}
+use Rattle.wit_graph.specs.declared.graph.Graph.{Graph}
+use Rattle.wit_growth.specs.ListFacts.{at_map, contained_at, from_map, place_of, some_at}
+use Rattle.wit_sorting.specs.Sorting.{AreSorted, Handed, HaveSpans, IsGroupOrder, IsSortCause, handed_deps, handed_uses, names_of}
+use Rattle.wit_adding.specs.Addition.{own_worlds}
+use Rattle.wit_adding.specs.Cause.{IsAccepted, duplicate_5}
+use Rattle.wit_adding.specs.Pushed.{pushed, with_parts}
+use Rattle.wit_link.specs.Appending.{IsAdded, addition}
+use Rattle.wit_link.specs.Groups.{FilesPassTheEnd, IsGroupsCause, IsPushCause, files_end, packages_of}
+use Rattle.wit_link.specs.Several.{ArePushed, IsOneRefused}
+use Rattle.wit_link.specs.Supported.{CanAppend, IsSupported, IsSupportedGroup}
+use Rattle.wit_placing.specs.Grown.{Begins}
+use Rattle.wit_placing.specs.GrownFacts.{Begins-then}
+use Rattle.wit_resolve_graph.specs.Grouping.{AreAdded}
+use Rattle.wit_resolve_graph.specs.State.{State}
+use Rattle.wit_resolve_graph.specs.Step.{HasFilesAfter, PushesGroups, RefusesGroups, with_files}
+use Rattle.wit_resolve_graph.proofs.OneOrder.{Differ, one_place, one_sorted}
+use Rattle.wit_resolve_graph.proofs.RunsKeep.{keeps_pushes, keeps_worlds}
+
+abbrev Group : Type 0
+Group = UnresolvedPackageGroup
+
+-- ---- groups one after another
+
+pub with_files-push : (s : Sources) (groups : List Group) (group : Group) → with_files s (groups ++ group ∷ []) ≡ with_sources (with_files s groups) group.source_map
+with_files-push s [] group = refl
+with_files-push s (g ∷ groups) group = with_files-push (with_sources s g.source_map) groups group
+
+-- their files end where those of the groups do
+pub end-with_files : (s : Sources) (groups : List Group) → (with_files s groups).end ≡ files_end s.end groups
+end-with_files s [] = refl
+end-with_files s (g ∷ groups) = end-with_files (with_sources s g.source_map) groups
+
+pub files_end-append : (at : ℕ) (groups others : List Group) → files_end at (groups ++ others) ≡ files_end (files_end at groups) others
+files_end-append at [] others = refl
+files_end-append at (g ∷ groups) others = files_end-append (at + g.source_map.end) groups others
+
+files_end-later : (at : ℕ) (groups : List Group) → at ≤ files_end at groups
+files_end-later at [] = omega arith
+files_end-later at (g ∷ groups) = let rest = files_end-later (at + g.source_map.end) groups in omega (arith, rest)
+
+pub packages-push : (at : ℕ) (groups : List Group) (group : Group) → packages_of at (groups ++ group ∷ []) ≡ packages_of at groups ++ packages_of (files_end at groups) (group ∷ [])
+packages-push at [] group = refl
+packages-push at (g ∷ groups) group =
+    let front = map (λ (u : UnresolvedPackage). (u, at)) (g.nested ++ g.main ∷ []) in
+    ap (λ (l : List Handed). front ++ l) (packages-push (at + g.source_map.end) groups group)
+    ∙ sym (append_assoc front (packages_of (at + g.source_map.end) groups) (packages_of (files_end (at + g.source_map.end) groups) (group ∷ [])))
+
+-- where the files of one group pass the end, so do those of all
+pub passes_on : (at : ℕ) (before : List Group) (group : Group) (after : List Group) (kind : ResolveErrorKind) → FilesPassTheEnd (files_end at before) (group ∷ []) kind → FilesPassTheEnd at (before ++ group ∷ after) kind
+passes_on at before group after OffsetOverflow far =
+    let same = files_end-append at before (group ∷ after) in
+    let later = files_end-later (files_end at before + group.source_map.end) after in
+    omega (arith, far, same, later)
+passes_on at before group after _ far = absurd far
+
+-- what was there comes first
+pub begins_with_files : (old : Sources) (groups : List Group) → Begins old.files (with_files old groups).files
+begins_with_files old groups = let more = grown old groups in ap (λ l. take (length old.files) l) more.1 ∙ take_at old.files more.0 (length old.files) refl
+  where
+    grown : (s : Sources) (gs : List Group) → (more : _) × ((with_files s gs).files ≡ s.files ++ more)
+    grown s [] = ([], sym (append-nil s.files))
+    grown s (g ∷ gs) =
+        let rest = grown (with_sources s g.source_map) gs in
+        (map (moved_file s.end) g.source_map.files ++ rest.0, rest.1 ∙ append_assoc s.files (map (moved_file s.end) g.source_map.files) rest.0)
+
+-- one group more is placed
+module _ (old now : Sources) (groups : List Group) (group : Group) (placed : now ≡ with_files old groups) where
+  ends_there : now.end ≡ files_end old.end groups
+  ends_there = ap (λ (s : Sources). s.end) placed ∙ end-with_files old groups
+
+  pub more_files : (new : Sources) → new ≡ with_sources now group.source_map → new ≡ with_files old (groups ++ group ∷ [])
+  more_files new is = is ∙ ap (λ (s : Sources). with_sources s group.source_map) placed ∙ sym (with_files-push old groups group)
+
+  pub more_taken : (packages taken : List Handed) → packages ≡ packages_of old.end groups → taken ≡ packages ++ packages_of now.end (group ∷ []) → taken ≡ packages_of old.end (groups ++ group ∷ [])
+  more_taken packages taken before is =
+      is ∙ ap (λ (l : List Handed). l ++ packages_of now.end (group ∷ [])) before ∙ ap (λ (e : ℕ). packages_of old.end groups ++ packages_of e (group ∷ [])) ends_there ∙ sym (packages-push old.end groups group)
+
+  pub more_fits : now.end + group.source_map.end < 2 ^ 32 → files_end old.end (groups ++ group ∷ []) < 2 ^ 32
+  more_fits fits =
+      let same : files_end old.end (groups ++ group ∷ []) ≡ files_end old.end groups + group.source_map.end = files_end-append old.end groups (group ∷ []) in
+      omega (arith, fits, same, ends_there)
+
+  pub passes_there : (after : List Group) (all : List Group) → groups ++ group ∷ after ≡ all → (kind : ResolveErrorKind) → (kind ≡ OutOfMemory) ⊎ FilesPassTheEnd now.end (group ∷ []) kind → (kind ≡ OutOfMemory) ⊎ FilesPassTheEnd old.end all kind
+  passes_there after all are kind (inl memory) = inl memory
+  passes_there after all are kind (inr far) =
+      inr (subst (λ (l : List Group). FilesPassTheEnd old.end l kind) are (passes_on old.end groups group after kind (subst (λ (e : ℕ). FilesPassTheEnd e (group ∷ []) kind) ends_there far)))
+
+  pub begins_still : (new : Sources) → Begins now.files new.files → Begins old.files new.files
+  begins_still new begins =
+      Begins-then old.files now.files new.files (subst (λ (s : Sources). Begins old.files s.files) (sym placed) (begins_with_files old groups)) begins
+
+-- ---- what can be added
+
+group_can : (at : ℕ) (main : UnresolvedPackage) (nested : List UnresolvedPackage) → IsShaped main → IsSupported main → Each IsShaped nested → Each IsSupported nested
+    → (rest : List Handed) → AllByRecursion CanAppend rest → AllByRecursion CanAppend (map (λ (u : UnresolvedPackage). (u, at)) (nested ++ main ∷ []) ++ rest)
+group_can at main [] shaped supported all_shaped all_supported rest can = (record { shaped = shaped; supported = supported }, can)
+group_can at main (u ∷ nested) shaped supported all_shaped all_supported rest can = (
+  record { shaped = all_shaped 0 u refl; supported = all_supported 0 u refl },
+  group_can at main nested shaped supported (λ i x there. all_shaped (suc i) x there) (λ i x there. all_supported (suc i) x there) rest can,
+)
+
+pub packages_can : (at : ℕ) (groups : List Group) → AllByRecursion IsGroupShaped groups → AllByRecursion IsSupportedGroup groups → AllByRecursion CanAppend (packages_of at groups)
+packages_can at [] shaped supported = tt
+packages_can at (g ∷ groups) shaped supported =
+    group_can at g.main g.nested shaped.0.main supported.0.main shaped.0.nested supported.0.nested (packages_of (at + g.source_map.end) groups) (packages_can (at + g.source_map.end) groups shaped.1 supported.1)
+
+pub have_spans : (handed : List Handed) → AllByRecursion CanAppend handed → HaveSpans handed
+have_spans handed can = λ i p there. (AllByRecursion-at CanAppend handed i p can there).shaped.foreign.spans
+
+sorted_are : (handed : List Handed) (order : List ℕ) (sorted : List Handed) → AllByRecursion CanAppend handed → AllZip (λ i (p : Handed). slice_get handed i ≡ Some p) order sorted → AllByRecursion CanAppend sorted
+sorted_are handed [] [] can are = tt
+sorted_are handed [] (p ∷ sorted) can are = absurd are
+sorted_are handed (i ∷ order) [] can are = absurd are
+sorted_are handed (i ∷ order) (p ∷ sorted) can are = (AllByRecursion-at CanAppend handed i p can are.0, sorted_are handed order sorted can are.1)
+
+pub sorted_can : (handed sorted : List Handed) → AllByRecursion CanAppend handed → (order : List ℕ) × AreSorted handed order sorted → AllByRecursion CanAppend sorted
+sorted_can handed sorted can is = sorted_are handed is.0 sorted can is.1.are
+
+-- ---- the main package among those of the groups
+
+nested_before : (at : ℕ) (main : UnresolvedPackage) (nested : List UnresolvedPackage) (rest : List Handed) → slice_get (map (λ (u : UnresolvedPackage). (u, at)) (nested ++ main ∷ []) ++ rest) (length nested) ≡ Some (main, at)
+nested_before at main [] rest = refl
+nested_before at main (u ∷ nested) rest = nested_before at main nested rest
+
+pub main_at : (at : ℕ) (main : Group) (deps : List Group) → slice_get (packages_of at (main ∷ deps)) (length main.nested) ≡ Some (main.main, at)
+main_at at main deps = nested_before at main.main main.nested (packages_of (at + main.source_map.end) deps)
+
+abbrev name_in : Handed → PackageName
+name_in p = p.0.name
+
+main_name : (at : ℕ) (main : Group) (deps : List Group) → slice_get (names_of (packages_of at (main ∷ deps))) (length main.nested) ≡ Some main.main.name
+main_name at main deps = at_map name_in (packages_of at (main ∷ deps)) (length main.nested) (main.main, at) (main_at at main deps)
+
+pub main_named : (at : ℕ) (main : Group) (deps : List Group) → Contains (names_of (packages_of at (main ∷ deps))) main.main.name
+main_named at main deps = contained_at (names_of (packages_of at (main ∷ deps))) (length main.nested) main.main.name (main_name at main deps)
+
+-- ---- packages that can be sorted
+
+pub differ : (handed : List Handed) → ((error : ResolveErrorKind) → IsSortCause handed error → ⊥) → Differ handed
+differ handed sortable i j name before first second =
+    let p = from_map name_in handed i name first in
+    let q = from_map name_in handed j name second in
+    sortable (DuplicatePackage name (moved_by q.0.1 q.0.0.package_name_span) (moved_by p.0.1 p.0.0.package_name_span)) (record {
+      earlier = i;
+      later = j;
+      before = before;
+      first = some_at _ handed i p.0 p.1 (p.2, refl);
+      second = some_at _ handed j q.0 q.1 (q.2, refl);
+    })
+
+-- each place is in an order
+walks_to_itself : (uses : List (List ℕ)) (members i : ℕ) → 0 < members → Contains (walk_within uses members i) i
+unfolding walk_within
+walks_to_itself uses zero i some = absurd (omega (arith, some))
+walks_to_itself uses (suc members) i some =
+    contained_at (flat_map (walk_within uses members) (direct uses i) ++ i ∷ []) (length (flat_map (walk_within uses members) (direct uses i))) i (slice_get-push (flat_map (walk_within uses members) (direct uses i)) i)
+
+order_has : (handed : List Handed) (order : List ℕ) (i : ℕ) → IsGroupOrder handed order → i < length handed → Contains order i
+unfolding walk
+order_has handed order i is within =
+    let n = length handed in
+    let long : length (range_with_len 0 n) ≡ n = length-range_with_len 0 n in
+    let rows : length (handed_uses handed) ≡ n = length-map handed (λ (p : Handed). handed_deps (names_of handed) p.0) in
+    let here : get_or (range_with_len 0 n) i i ≡ 0 + i = get_or-range_with_len 0 n i i within in
+    let ranged : Contains (range_with_len 0 n) i = (i, omega (arith, long, within), omega (arith, here)) in
+    let rooted : Contains is.roots i = Contains-permutation (range_with_len 0 n) is.roots i is.all ranged in
+    let walked : Contains (walk (handed_uses handed) i) i = walks_to_itself (handed_uses handed) (length (handed_uses handed)) i (omega (arith, rows, within)) in
+    subst (λ (l : List ℕ). Contains l i) (sym is.is)
+    (fresh_all [] (flat_map (walk (handed_uses handed)) is.roots) i (Contains-flat_map (walk (handed_uses handed)) is.roots i i rooted walked))
+
+-- what stands at a place of the order stands there among the sorted ones
+sorted_at : (handed : List Handed) (order : List ℕ) (sorted : List Handed) (place i : ℕ) (p : Handed) → AllZip (λ i (p : Handed). slice_get handed i ≡ Some p) order sorted → slice_get order place ≡ Some i → slice_get handed i ≡ Some p
+    → slice_get sorted place ≡ Some p
+sorted_at handed [] sorted place i p are at there = cc
+sorted_at handed (j ∷ order) [] place i p are at there = absurd are
+sorted_at handed (j ∷ order) (q ∷ sorted) zero i p are at there =
+    let same : j ≡ i = cc in
+    sym are.0 ∙ ap (slice_get handed) same ∙ there
+sorted_at handed (j ∷ order) (q ∷ sorted) (suc place) i p are at there = sorted_at handed order sorted place i p are.1 at there
+
+order_at : (handed : List Handed) (order : List ℕ) (sorted : List Handed) (place : ℕ) (p : Handed) → AllZip (λ i (p : Handed). slice_get handed i ≡ Some p) order sorted → slice_get sorted place ≡ Some p
+    → (i : ℕ) × (slice_get order place ≡ Some i) × (slice_get handed i ≡ Some p)
+order_at handed [] [] place p are at = cc
+order_at handed [] (q ∷ sorted) place p are at = absurd are
+order_at handed (j ∷ order) [] place p are at = absurd are
+order_at handed (j ∷ order) (q ∷ sorted) zero p are at =
+    let same : q ≡ p = cc in (j, refl, are.0 ∙ ap (λ (x : Handed). Some x) same)
+order_at handed (j ∷ order) (q ∷ sorted) (suc place) p are at = order_at handed order sorted place p are.1 at
+
+below_length : {X : Type 0} (xs : List X) (i : ℕ) (x : X) → slice_get xs i ≡ Some x → i < length xs
+below_length [] i x at = cc
+below_length (y ∷ ys) zero x at = omega arith
+below_length (y ∷ ys) (suc i) x at = let rest = below_length ys i x at in omega (arith, rest)
+
+-- a name among handed packages is one among the sorted ones
+named_sorted : (handed : List Handed) (order : List ℕ) (sorted : List Handed) (name : PackageName) → AreSorted handed order sorted → Contains (names_of handed) name → Contains (names_of sorted) name
+named_sorted handed order sorted name is has =
+    let there = place_of (names_of handed) name has in
+    let p = from_map name_in handed there.0 name there.1 in
+    let listed = place_of order there.0 (order_has handed order there.0 is.is_order (below_length handed there.0 p.0 p.1)) in
+    let at = sorted_at handed order sorted listed.0 there.0 p.0 is.are listed.1 p.1 in
+    contained_at (names_of sorted) listed.0 name (at_map name_in sorted listed.0 p.0 at ∙ ap (λ (x : PackageName). Some x) p.2)
+
+-- ---- packages that are added
+
+-- where a package of a name went
+record IsFound (ps : List Handed) (ids : List ℕ) (new : Graph) (name : PackageName) : Type 0 where
+  place : ℕ
+  id : ℕ
+  name_is : slice_get (names_of ps) place ≡ Some name
+  id_is : slice_get ids place ≡ Some id
+  listed : lookup (same_package name) new.package_names ≡ Some id
+
+absent : (features : Features) (g : Graph) (p : Handed) → IsAccepted (addition features g p.0 p.1) → lookup (same_package p.0.name) g.package_names ≡ None
+absent features g p accepted = by (lookup (same_package p.0.name) g.package_names) refl
+  where
+    by : (o : Option ℕ) → lookup (same_package p.0.name) g.package_names ≡ o → o ≡ None
+    by None is = refl
+    by (Some id) is = absurd (accepted (DuplicatePackage p.0.name (moved_by p.1 p.0.package_name_span) None) (duplicate_5 p.0.name (moved_by p.1 p.0.package_name_span) None (record { there = ap is_some is; name_is = refl; span1_is = refl; span2_is = refl })))
+
+listed_here : (features : Features) (g mid new : Graph) (p : Handed) (ps : List Handed) (id : ℕ) (ids : List ℕ) → IsAdded (addition features g p.0 p.1) mid id → ArePushed features mid ps new ids
+    → lookup (same_package p.0.name) new.package_names ≡ Some id
+listed_here features g mid new p ps id ids added later =
+    let a = addition features g p.0 p.1 in
+    let same = same_package p.0.name in
+    let names = g.package_names ++ (p.0.name, length g.packages) ∷ [] in
+    let own = keeps_worlds a (own_worlds a) (with_parts a) in
+    let others = keeps_pushes features mid ps new ids later in
+    let first : lookup same names ≡ Some (length g.packages) = lookup-push same g.package_names p.0.name (length g.packages) (absent features g p added.accepted) (own_name p.0.name) in
+    let second : lookup same (pushed a).package_names ≡ Some (length g.packages) =
+    ap (lookup same) own.names.1 ∙ lookup-append same names own.names.0 (length g.packages) first in
+    let third : lookup same mid.package_names ≡ Some (length g.packages) = ap (λ (x : Graph). lookup same x.package_names) added.graph_is ∙ second in
+    ap (lookup same) others.names.1 ∙ lookup-append same mid.package_names others.names.0 (length g.packages) third ∙ ap (λ (i : ℕ). Some i) (sym added.id_is)
+
+found : (features : Features) (g : Graph) (ps : List Handed) (new : Graph) (ids : List ℕ) (name : PackageName) → ArePushed features g ps new ids → Contains (names_of ps) name → IsFound ps ids new name
+found features g [] new ids name pushed has = absurd (Contains-nil has)
+found features g (p ∷ ps) new [] name pushed has = absurd pushed
+found features g (p ∷ ps) new (id ∷ ids) name pushed has = elim (Contains-cons_cases p.0.name name (names_of ps) has) [
+  | inl same ↦ record {
+    place = 0;
+    id = id;
+    name_is = ap (λ (x : PackageName). Some x) same;
+    id_is = refl;
+    listed = subst (λ (x : PackageName). lookup (same_package x) new.package_names ≡ Some id) same (listed_here features g pushed.0 new p ps id ids pushed.1 pushed.2);
+  }
+  | inr there ↦
+      let rest = found features pushed.0 ps new ids name pushed.2 there in
+      record { place = suc rest.place; id = rest.id; name_is = rest.name_is; id_is = rest.id_is; listed = rest.listed }
+]
+
+module _ (features : Features) (g : Graph) (handed sorted : List Handed) (name : PackageName) (named : Contains (names_of handed) name) (is : (order : List ℕ) × AreSorted handed order sorted) (new : Graph) (ids : List ℕ) (pushed : ArePushed features g sorted new ids) where
+  in_table : IsFound sorted ids new name
+  in_table = found features g sorted new ids name pushed (named_sorted handed is.0 sorted name is.1 named)
+
+  -- the one of the name is in the table
+  pub never_none : lookup (same_package name) new.package_names ≡ None → ⊥
+  never_none none = let both : Some in_table.id ≡ None = sym in_table.listed ∙ none in cc
+
+  pub are_added : ((error : ResolveErrorKind) → IsSortCause handed error → ⊥) → (id : ℕ) → lookup (same_package name) new.package_names ≡ Some id → AreAdded features g handed name id new
+  are_added sortable id listed = record {
+    order = is.0;
+    sorted = sorted;
+    ids = ids;
+    place = in_table.place;
+    sortable = sortable;
+    are_sorted = is.1;
+    are_pushed = pushed;
+    name_is = in_table.name_is;
+    id_is = in_table.id_is ∙ sym in_table.listed ∙ listed;
+  }
+
+-- what speaks against one of the sorted packages speaks against adding them
+pub push_cause : (features : Features) (g : Graph) (handed sorted : List Handed) → ((error : ResolveErrorKind) → IsSortCause handed error → ⊥) → (order : List ℕ) × AreSorted handed order sorted → (kind : ResolveErrorKind)
+    → (kind ≡ OutOfMemory) ⊎ IsOneRefused features g sorted kind → (kind ≡ OutOfMemory) ⊎ (IsSortCause handed kind ⊎ IsPushCause features g handed kind)
+push_cause features g handed sorted sortable is kind (inl memory) = inl memory
+push_cause features g handed sorted sortable is kind (inr refused) = inr (inr (record { sortable = sortable; order = is.0; sorted = sorted; are_sorted = is.1; refused = refused }))
+
+-- and the other way round
+pub one_refused : (features : Features) (g : Graph) (handed sorted : List Handed) → ((error : ResolveErrorKind) → IsSortCause handed error → ⊥) → (order : List ℕ) × AreSorted handed order sorted → (kind : ResolveErrorKind)
+    → IsSortCause handed kind ⊎ IsPushCause features g handed kind → IsOneRefused features g sorted kind
+one_refused features g handed sorted sortable is kind (inl cause) = absurd (sortable kind cause)
+one_refused features g handed sorted sortable is kind (inr cause) =
+    subst (λ (l : List Handed). IsOneRefused features g l kind) (one_sorted handed (differ handed sortable) cause.order is.0 cause.sorted sorted cause.are_sorted is.1) cause.refused
+
+-- ---- the files after a refusal
+
+-- they are at the end after a refusal that is not for a position
+pub files_after : (error : ResolveErrorKind) (old : Sources) (groups : List Group) (new : Sources) → (error ≡ OffsetOverflow → ⊥) → new ≡ with_files old groups → HasFilesAfter error old groups new
+files_after OffsetOverflow old groups new other files = absurd (other refl)
+files_after OutOfMemory old groups new other files = inr files
+files_after _ old groups new other files = files
+
+-- nothing has changed after a refusal for a position or for memory
+pub files_stay : (error : ResolveErrorKind) (old : Sources) (groups : List Group) (new : Sources) → (error ≡ OutOfMemory) ⊎ (error ≡ OffsetOverflow) → new ≡ old → HasFilesAfter error old groups new
+files_stay OffsetOverflow old groups new other files = files
+files_stay OutOfMemory old groups new other files = inl files
+files_stay _ old groups new (inl memory) files = cc
+files_stay _ old groups new (inr far) files = cc
+
+passing_is : (at : ℕ) (groups : List Group) (error : ResolveErrorKind) → FilesPassTheEnd at groups error → (error ≡ OffsetOverflow) × (2 ^ 32 ≤ files_end at groups)
+passing_is at groups OffsetOverflow far = (refl, far)
+passing_is at groups _ far = absurd far
+
+-- the files that were there are laid out as they were, and are there again where the others are cut off
+module _ (old now : Sources) (groups : List Group) (placed : now ≡ with_files old groups) (n end : ℕ) (long : n ≡ length old.files) (ends : end ≡ old.end) where
+  first_files : take n now.files ≡ old.files
+  first_files = ap (λ (m : ℕ). take m now.files) long ∙ ap (λ (s : Sources). take (length old.files) s.files) placed ∙ begins_with_files old groups
+
+  pub laid_out_before : AreLaidOut 0 old.files old.end → AreLaidOut 0 (take n now.files) end
+  laid_out_before laid_out = rw (first_files, ends) laid_out
+
+  pub files_before : record { files = take n now.files; end = end } ≡ old
+  files_before = rw (first_files, ends) refl
+
+-- ---- the steps of adding groups
+
+-- what is told of a graph is told of the same graph elsewhere
+pub added_to : {new now : Graph} (r : Result ℕ ResolveErrorKind) (features : Features) (g : Graph) (packages : List Handed) (name : PackageName) → new ≡ now → IfOk r (λ id. AreAdded features g packages name id new) → IfOk r (λ id. AreAdded features g packages name id now)
+added_to (Ok id) features g packages name same added = subst (λ (x : Graph). AreAdded features g packages name id x) same added
+added_to (Err kind) features g packages name same added = tt
+
+pub same_after : (old new now : Graph) (r : Result ℕ ResolveErrorKind) → now ≡ new → OnErr r (new ≡ old) → OnErr r (now ≡ old)
+same_after old new now (Ok id) is same = tt
+same_after old new now (Err kind) is same = is ∙ same
+
+-- the packages and the name are those of the groups
+module _ (old : State) (main : Group) (deps : List Group) (packages : List Handed) (taken : packages ≡ packages_of old.source_map.end (main ∷ deps)) (name : PackageName) (named : name ≡ main.main.name) where
+  abbrev handed : List Handed
+  handed = packages_of old.source_map.end (main ∷ deps)
+
+  abbrev Speaks : List Handed → ResolveErrorKind → Type 0
+  Speaks l kind = IsSortCause l kind ⊎ IsPushCause old.features old.graph l kind
+
+  groups_cause : (kind : ResolveErrorKind) → (kind ≡ OutOfMemory) ⊎ Speaks packages kind → (kind ≡ OutOfMemory) ⊎ IsGroupsCause old.features old.graph old.source_map.end (main ∷ deps) kind
+  groups_cause kind (inl memory) = inl memory
+  groups_cause kind (inr cause) = inr (elim (subst (λ (l : List Handed). Speaks l kind) taken cause) [
+    | inl sorting ↦ inl sorting
+    | inr pushing ↦ inr (inl pushing)
+  ])
+
+  main_first : (order : List ℕ) (sorted : List Handed) (place : ℕ) → ((error : ResolveErrorKind) → IsSortCause handed error → ⊥) → AreSorted handed order sorted → slice_get (names_of sorted) place ≡ Some main.main.name
+      → slice_get order place ≡ Some (length main.nested)
+  main_first order sorted place sortable is there =
+      let p = from_map name_in sorted place main.main.name there in
+      let from = order_at handed order sorted place p.0 is.are p.1 in
+      let own : slice_get (names_of handed) from.0 ≡ Some main.main.name = at_map name_in handed from.0 p.0 from.2 ∙ ap (λ (x : PackageName). Some x) p.2 in
+      from.1 ∙ ap (λ (i : ℕ). Some i) (one_place handed (differ handed sortable) from.0 (length main.nested) main.main.name own (main_name old.source_map.end main deps))
+
+  -- the packages are added
+  pub pushes : (new : State) (r : Result ℕ ResolveErrorKind) → files_end old.source_map.end (main ∷ deps) < 2 ^ 32 → new.features ≡ old.features → new.source_map ≡ with_files old.source_map (main ∷ deps)
+      → IfOk r (λ id. AreAdded old.features old.graph packages name id new.graph) → IfOk r (λ id. PushesGroups old main deps id new)
+  pushes new (Err kind) fits features files are = tt
+  pushes new (Ok id) fits features files are =
+      let added : AreAdded old.features old.graph handed main.main.name id new.graph =
+      subst (λ (l : List Handed). AreAdded old.features old.graph l main.main.name id new.graph) taken (subst (λ (n : PackageName). AreAdded old.features old.graph packages n id new.graph) named are) in
+      record {
+        order = added.order;
+        sorted = added.sorted;
+        ids = added.ids;
+        place = added.place;
+        sortable = added.sortable;
+        fits = fits;
+        are_sorted = added.are_sorted;
+        are_pushed = added.are_pushed;
+        main_is = main_first added.order added.sorted added.place added.sortable added.are_sorted added.name_is;
+        id_is = added.id_is;
+        features = features;
+        files = files;
+      }
+
+  pub never_pushed : (new : State) (r : Result ℕ ResolveErrorKind) → r ≡ Err OffsetOverflow → IfOk r (λ id. PushesGroups old main deps id new)
+  never_pushed new (Ok id) far = cc
+  never_pushed new (Err kind) far = tt
+
+  -- they are refused, and the files stay
+  pub refuses : (new : State) (r : Result ℕ ResolveErrorKind) → (r ≡ Err OffsetOverflow → ⊥) → OnErr r (new.graph ≡ old.graph) → new.features ≡ old.features → new.source_map ≡ with_files old.source_map (main ∷ deps)
+      → IfErr r (λ kind. (kind ≡ OutOfMemory) ⊎ Speaks packages kind) → IfErr r (λ kind. RefusesGroups old main deps kind new)
+  refuses new (Ok id) other graph features files cause = tt
+  refuses new (Err kind) other graph features files cause = record {
+    cause = groups_cause kind cause;
+    graph = graph;
+    features = features;
+    files = files_after kind old.source_map (main ∷ deps) new.source_map (λ e. other (ap Err e)) files;
+  }
+
+  -- or they are taken back
+  pub takes_back : (new : State) (r : Result ℕ ResolveErrorKind) → r ≡ Err OffsetOverflow → OnErr r (new.graph ≡ old.graph) → new.features ≡ old.features → new.source_map ≡ old.source_map
+      → IfErr r (λ kind. (kind ≡ OutOfMemory) ⊎ Speaks packages kind) → IfErr r (λ kind. RefusesGroups old main deps kind new)
+  takes_back new (Ok id) far graph features files cause = tt
+  takes_back new (Err kind) far graph features files cause =
+      let overflow : kind ≡ OffsetOverflow = cc in
+      record { cause = groups_cause kind cause; graph = graph; features = features; files = files_stay kind old.source_map (main ∷ deps) new.source_map (inr overflow) files }
+
+  -- what speaks against the groups refuses them
+  pub must_refuse : (P : Type 0) → files_end old.source_map.end (main ∷ deps) < 2 ^ 32 → ((kind : ResolveErrorKind) → Speaks packages kind → P)
+      → (kind : ResolveErrorKind) → IsGroupsCause old.features old.graph old.source_map.end (main ∷ deps) kind → P
+  must_refuse P fits all kind (inl cause) = all kind (subst (λ (l : List Handed). Speaks l kind) (sym taken) (inl cause))
+  must_refuse P fits all kind (inr (inl cause)) = all kind (subst (λ (l : List Handed). Speaks l kind) (sym taken) (inr cause))
+  must_refuse P fits all kind (inr (inr far)) = let past = (passing_is old.source_map.end (main ∷ deps) kind far).1 in absurd (omega (arith, fits, past))

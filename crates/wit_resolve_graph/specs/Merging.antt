@@ -1,0 +1,48 @@
+-- What merging one state into another does, and what is left where it is refused.
+use Rattle.std.specs.Prelude.{◌≡◌, ◌⊎◌, ◌≤◌, ◌<◌, ◌+◌, ◌^◌}
+use Rattle.wit_sources.specs.SourceMap.{Sources, with_sources}
+use Rattle.wit_graph.specs.declared.error_kind.ResolveErrorKind.{ResolveErrorKind}
+use Rattle.wit_graph.specs.declared.error_kind.ResolveErrorKind.TheVariants.{OffsetOverflow, OutOfMemory}
+use Rattle.wit_link.specs.declared.remap.Remap.{Remap}
+use Rattle.wit_merging.specs.Cause.{CanMerge, IsMergeCause}
+use Rattle.wit_merging.specs.Matches.{Merging}
+use Rattle.wit_merging.specs.Moved.{Going, going}
+use Rattle.wit_merging.specs.United.{united}
+use Rattle.wit_resolve_graph.specs.State.{State}
+
+-- the graph of another state goes into that of a state; its spans move to the end of the sources, as its files do
+abbrev pub merging : State → State → Merging
+merging old other = record { graph = old.graph; other = other.graph; offset = old.source_map.end }
+
+-- where things go, as it is answered
+abbrev pub answered : Going → Remap
+answered g = record { types = g.types; interfaces = g.interfaces; worlds = g.worlds; packages = g.packages }
+
+-- 27: the files of both end past 4294967295
+abbrev pub FilesPass : State → State → ResolveErrorKind → Type 0
+FilesPass old other OffsetOverflow = 2 ^ 32 ≤ old.source_map.end + other.source_map.end
+FilesPass old other _ = ⊥
+
+-- another state is merged: its files fit and nothing speaks against it, the graphs are one, its files stand at the end,
+-- the features stay, and the answer is where its things went
+pub record Merges (old other : State) (remap : Remap) (new : State) : Type 0 where
+  pub fits : old.source_map.end + other.source_map.end < 2 ^ 32
+  pub accepted : CanMerge (merging old other)
+  pub graph : new.graph ≡ united (merging old other)
+  pub features : new.features ≡ old.features
+  pub files : new.source_map ≡ with_sources old.source_map other.source_map
+  pub remap_is : remap ≡ answered (going (merging old other))
+
+-- where files are after a refusal, given where they would be: there, but after a position that is too large nowhere, and
+-- after want of memory there or not
+abbrev pub HasSourcesAfter : ResolveErrorKind → Sources → Sources → Sources → Type 0
+HasSourcesAfter OffsetOverflow old added new = new ≡ old
+HasSourcesAfter OutOfMemory old added new = (new ≡ old) ⊎ (new ≡ added)
+HasSourcesAfter _ old added new = new ≡ added
+
+-- a merge is refused with this error
+pub record RefusesMerge (old other : State) (error : ResolveErrorKind) (new : State) : Type 0 where
+  pub cause : (error ≡ OutOfMemory) ⊎ (IsMergeCause (merging old other) error ⊎ FilesPass old other error)
+  pub graph : new.graph ≡ old.graph
+  pub features : new.features ≡ old.features
+  pub files : HasSourcesAfter error old.source_map (with_sources old.source_map other.source_map) new.source_map

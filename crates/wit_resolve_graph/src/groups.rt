@@ -1,0 +1,133 @@
+//! Groups of packages that are added together: their files at the end of the sources, their packages in order.
+ghost use Rattle.std.specs.Prelude.{◌≡◌, ◌⊎◌, ◌≤◌, ◌<◌, ◌+◌, ◌++◌, ◌^◌, [], ◌∷◌, Contains, IfErr, IfOk, List, OnErr, OnOk, map};
+ghost use Rattle.std.specs.List.{AllByRecursion};
+ghost use Rattle.wit_graph.specs.Valid.{IsValid};
+ghost use Rattle.wit_graph.specs.declared.error_kind.ResolveErrorKind.{ResolveErrorKind};
+ghost use Rattle.wit_graph.specs.declared.error_kind.ResolveErrorKind.TheVariants.{OffsetOverflow, OutOfMemory};
+ghost use Rattle.wit_items.specs.declared.unresolved.UnresolvedPackage.{UnresolvedPackage};
+ghost use Rattle.wit_link.specs.Groups.{FilesPassTheEnd, IsPushCause, files_end, packages_of};
+ghost use Rattle.wit_link.specs.Supported.{CanAppend};
+ghost use Rattle.wit_placing.specs.Grown.{Begins};
+ghost use Rattle.wit_resolve_graph.specs.Grouping.{AreAdded};
+ghost use Rattle.wit_resolve_graph.specs.Step.{with_files};
+ghost use Rattle.wit_sorting.specs.Sorting.{IsSortCause, names_of};
+ghost use Rattle.wit_sources.specs.SourceMap.{with_sources};
+
+use std::alloc::{AllocError, Global};
+use wit_graph::{Features, Graph, ResolveResult};
+use wit_items::{
+    Items, PackageId, PackageName, SourceMap, UnresolvedPackage, UnresolvedPackageGroup,
+};
+use wit_link::{append_all, sort_groups};
+
+/// Puts the files of groups at the end of a source map, in order, and answers their packages, the nested
+/// ones of a group before its main one, each with the place where its group's files begin.
+///
+/// Refused where the end would pass 4294967295 (27), and for memory (28); the map is as before then.
+pub(crate) fn place_groups(
+    alloc: Global,
+    source_map: &mut SourceMap,
+    main: UnresolvedPackageGroup,
+    deps: Items<UnresolvedPackageGroup>,
+) -> ResolveResult<Items<(UnresolvedPackage, u32)>>
+    ensures ok { IfOk result (λ packages. packages ≡ packages_of source_map.old.end (main ∷ deps)) }
+    ensures files { OnOk result (source_map.new ≡ with_files source_map.old (main ∷ deps)) }
+    ensures fits { OnOk result (files_end source_map.old.end (main ∷ deps) < 2 ^ 32) }
+    ensures err { OnErr result (source_map.new ≡ source_map.old) }
+    ensures cause { IfErr result (λ kind. (kind ≡ OutOfMemory) ⊎ FilesPassTheEnd source_map.old.end (main ∷ deps) kind) }
+{
+    let files = source_map.len();
+    let end = source_map.end();
+    let placed = place_each(alloc, source_map, main, deps);
+    if placed.is_err() {
+        source_map.truncate(files, end);
+    }
+    placed
+}
+
+/// The same, where after a refusal some of the files are at the end.
+fn place_each(
+    alloc: Global,
+    source_map: &mut SourceMap,
+    main: UnresolvedPackageGroup,
+    deps: Items<UnresolvedPackageGroup>,
+) -> ResolveResult<Items<(UnresolvedPackage, u32)>>
+    ensures ok { IfOk result (λ packages. packages ≡ packages_of source_map.old.end (main ∷ deps)) }
+    ensures files { OnOk result (source_map.new ≡ with_files source_map.old (main ∷ deps)) }
+    ensures fits { OnOk result (files_end source_map.old.end (main ∷ deps) < 2 ^ 32) }
+    ensures begins { Begins source_map.old.files source_map.new.files }
+    ensures cause { IfErr result (λ kind. (kind ≡ OutOfMemory) ⊎ FilesPassTheEnd source_map.old.end (main ∷ deps) kind) }
+{
+    let mut packages = Items::new(alloc);
+    place_group(alloc, source_map, &mut packages, main)?;
+    for group in deps.into_vec() {
+        place_group(alloc, source_map, &mut packages, group)?;
+    }
+    Ok(packages)
+}
+
+/// Puts the files of a group at the end of a source map, and its packages at the end of packages.
+fn place_group(
+    alloc: Global,
+    source_map: &mut SourceMap,
+    packages: &mut Items<(UnresolvedPackage, u32)>,
+    group: UnresolvedPackageGroup,
+) -> ResolveResult<()>
+    ensures ok { OnOk result (packages.new ≡ packages.old ++ packages_of source_map.old.end (group ∷ [])) }
+    ensures files { OnOk result (source_map.new ≡ with_sources source_map.old group.source_map) }
+    ensures fits { OnOk result (source_map.old.end + group.source_map.end < 2 ^ 32) }
+    ensures begins { Begins source_map.old.files source_map.new.files }
+    ensures cause { IfErr result (λ kind. (kind ≡ OutOfMemory) ⊎ FilesPassTheEnd source_map.old.end (group ∷ []) kind) }
+{
+    let UnresolvedPackageGroup {
+        main,
+        nested,
+        source_map: files,
+    } = group;
+    let offset = source_map.append(alloc, files)?;
+    take_packages(packages, nested, main, offset)?;
+    Ok(())
+}
+
+/// Adds nested packages and a main one at the end of packages, with an offset.
+fn take_packages(
+    packages: &mut Items<(UnresolvedPackage, u32)>,
+    nested: Items<UnresolvedPackage>,
+    main: UnresolvedPackage,
+    offset: u32,
+) -> Result<(), AllocError>
+    ensures { OnOk result (packages.new ≡ packages.old ++ map (λ (u : UnresolvedPackage). (u, offset)) (nested ++ main ∷ [])) }
+{
+    for package in nested.into_vec() {
+        packages.push((package, offset))?;
+    }
+    packages.push((main, offset))
+}
+
+/// Adds packages to a graph in the order of `sort_groups`, each with its spans moved by its offset, and
+/// answers the id of the one of a name.
+///
+/// Refused as `sort_groups` and `append_all` say; the graph is then as before.
+pub(crate) fn add_packages(
+    alloc: Global,
+    graph: &mut Graph,
+    features: &Features,
+    packages: Items<(UnresolvedPackage, u32)>,
+    name: &PackageName,
+) -> ResolveResult<PackageId>
+    requires packages { AllByRecursion CanAppend packages }
+    requires named { Contains (names_of packages) name.now }
+    requires valid { IsValid graph.old }
+    ensures ok { IfOk result (λ id. AreAdded features.now graph.old packages name.now id graph.new) }
+    ensures valid { IsValid graph.new }
+    ensures err { OnErr result (graph.new ≡ graph.old) }
+    ensures cause { IfErr result (λ kind. (kind ≡ OutOfMemory) ⊎ (IsSortCause packages kind ⊎ IsPushCause features.now graph.old packages kind)) }
+    ensures refuses { (kind : ResolveErrorKind) → IsSortCause packages kind ⊎ IsPushCause features.now graph.old packages kind → OnOk result ⊥ }
+{
+    let sorted = sort_groups(alloc, packages)?;
+    append_all(alloc, graph, features, sorted)?;
+    match graph.package_names.get(name) {
+        Some(id) => Ok(*id),
+        None => unreachable!(),
+    }
+}
