@@ -1,5 +1,6 @@
 //! What the lines of a package mention of other packages, looked at ahead.
-ghost use Rattle.std.specs.Prelude.{◌≡◌, List, ℕ, true, map, IfOk};
+ghost use Rattle.std.specs.Option.{option_to_list};
+ghost use Rattle.std.specs.Prelude.{◌≡◌, ◌++◌, List, ℕ, true, map, IfOk, OnOk};
 ghost use Rattle.wit_drafts.specs.declared.mention.Mention.{Mention};
 ghost use Rattle.wit_lines.specs.Statement.{said_of};
 ghost use Rattle.wit_lines.specs.declared.statement.Statement.TheVariants as says;
@@ -27,27 +28,33 @@ pub enum Ahead {
 }
 
 /// A line of the package, where its file has so many bytes before it.
-fn line_ahead(at: usize, line: &str, said: PackageLine, gate: Stability) -> Ahead
-    ensures { (after : ℕ → List Mention) → mentions_then result at after ≡ mentions_by true at line.now after (says.Line said gate) }
+fn line_ahead(
+    at: usize,
+    line: &str,
+    said: PackageLine,
+    gate: Stability,
+) -> Result<Ahead, AllocError>
+    ensures { IfOk result (λ ahead. (after : ℕ → List Mention) → mentions_then ahead at after ≡ mentions_by true at line.now after (says.Line said gate)) }
 {
     match span_of(at, line) {
-        Ok(span) => Ahead::Line {
+        Ok(span) => Ok(Ahead::Line {
             mention: mention_of(said, gate, span),
             next: at + line.len() + 1,
-        },
-        Err(_) => Ahead::End,
+        }),
+        Err(LineFault::NotUnderstood) => Ok(Ahead::End),
+        Err(LineFault::OutOfMemory) => Err(AllocError),
     }
 }
 
 /// What an accepted line says, where the file of the package has so many bytes before it.
-fn said_ahead(at: usize, line: &str, said: Statement) -> Ahead
-    ensures { (after : ℕ → List Mention) → mentions_then result at after ≡ mentions_by true at line.now after said }
+fn said_ahead(at: usize, line: &str, said: Statement) -> Result<Ahead, AllocError>
+    ensures { IfOk result (λ ahead. (after : ℕ → List Mention) → mentions_then ahead at after ≡ mentions_by true at line.now after said) }
 {
     match said {
         Statement::Line { said, gate } => line_ahead(at, line, said, gate),
-        Statement::Package(_) => Ahead::End,
-        Statement::Push => Ahead::End,
-        Statement::Request(_) => Ahead::End,
+        Statement::Package(_) => Ok(Ahead::End),
+        Statement::Push => Ok(Ahead::End),
+        Statement::Request(_) => Ok(Ahead::End),
     }
 }
 
@@ -60,11 +67,21 @@ fn look_ahead(alloc: Global, at: usize, line: &str) -> Result<Ahead, AllocError>
             if !is_accepted(&said) {
                 return Ok(Ahead::End);
             }
-            Ok(said_ahead(at, line, said))
+            said_ahead(at, line, said)
         }
         Ok(None) => Ok(Ahead::Silent),
         Err(LineFault::NotUnderstood) => Ok(Ahead::End),
         Err(LineFault::OutOfMemory) => Err(AllocError),
+    }
+}
+
+/// Adds a mention, where there is one.
+fn push_some(mentions: &mut Items<Mention>, mention: Option<Mention>) -> Result<(), AllocError>
+    ensures { OnOk result (mentions.new ≡ mentions.old ++ option_to_list mention) }
+{
+    match mention {
+        Some(mention) => mentions.push(mention),
+        None => Ok(()),
     }
 }
 
@@ -84,9 +101,7 @@ pub fn mentions_ahead(
             Ahead::Silent => {}
             Ahead::Line { mention, next } => {
                 at = next;
-                if let Some(mention) = mention {
-                    mentions.push(mention)?;
-                }
+                push_some(&mut mentions, mention)?;
             }
         }
     }
