@@ -1,5 +1,5 @@
 -- What mentions make, one after another.
-use Rattle.std.proofs.Common.{◌≡◌, ℕ, ◌+◌, Bool, true, false, cond, not, ◌&&◌, List, [], ◌∷◌, ◌++◌, length, map, filter, find, slice_get, slice_set, Option, None, Some, is_some, refl, sym, ap, ◌∙◌, bytes_eq, fold, option_and_then, append_assoc, append-nil}
+use Rattle.std.proofs.Common.{◌≡◌, ℕ, Bool, true, false, cond, not, List, [], ◌∷◌, ◌++◌, length, map, filter, find, slice_get, slice_set, Option, None, Some, is_some, refl, sym, ap, ◌∙◌, bytes_eq, fold, option_and_then, append_assoc, append-nil}
 use Rattle.std.proofs.lemmas.List.{length-map, map-append}
 use Rattle.std.proofs.lemmas.List.Elements.{filter-append}
 use Rattle.std.proofs.lemmas.List.Folds.{find-append}
@@ -16,21 +16,19 @@ use Rattle.wit_items.specs.declared.types.TypeDefKind.TheVariants as kind
 use Rattle.wit_items.specs.declared.types.TypeOwner.TheVariants as owner
 use Rattle.wit_items.specs.declared.unresolved.AstItem.{AstItem}
 use Rattle.wit_items.specs.declared.unresolved.AstItem.TheVariants as item
-use Rattle.wit_items.specs.declared.world.World.{World}
 use Rattle.wit_drafts.specs.Adding.{empty_interface, empty_world, type_with, with_interface_type, with_type, with_type_name_in}
 use Rattle.wit_drafts.specs.Draft.{begun_at, with_newline}
 use Rattle.wit_drafts.specs.Mention.{first_interfaces, first_role, keeps_role, known, first_packages, first_types, first_worlds, firsts, foreign_type, foreign_world, interface_id_of, is_world, mentioned_at, same_item, same_name, same_parent, same_type, type_id_of, used_name, used_type_name, uses_type, world_id_of}
-use Rattle.wit_drafts.specs.Mentioning.{fits, is_world_item, with_counted, with_dep_span, with_foreign, with_foreign_as, with_foreign_type, with_gate, with_item_note, with_mention, with_mention_of, with_note, with_package_note, with_type_span, with_use_as, with_value}
+use Rattle.wit_drafts.specs.Mentioning.{fits, is_world_item, with_counted, with_dep_span, with_foreign, with_foreign_as, with_foreign_type, with_gate, with_item_note, with_mention, with_mention_of, with_note, with_package_note, with_type_span, with_use_as}
 use Rattle.wit_drafts.specs.Naming.{Place, foreign_named}
 use Rattle.wit_drafts.specs.declared.draft.Draft.{Draft}
-use Rattle.wit_drafts.specs.declared.draft.Foreign.{Foreign}
 use Rattle.wit_drafts.specs.declared.draft.Scope.TheVariants as scope
 use Rattle.wit_drafts.specs.declared.draft.Standing.{Standing}
 use Rattle.wit_drafts.specs.declared.mention.Mention.{Mention}
 use Rattle.wit_drafts.specs.declared.mention.MentionKind.{MentionKind}
 use Rattle.wit_drafts.specs.declared.mention.MentionKind.TheVariants as taken
-use Rattle.wit_drafts.proofs.Firsts.{AreApart, each, each-first, each-kept, filter-none, filter-same, find-filter, find-firsts, find-kept, found-passes, none-first, find-last, find-same, firsts-apart, firsts-new, firsts-old, map-each, none-filter, place-new, place-old, position-same}
-use Rattle.wit_drafts.proofs.Same.{item-parent, item-through, item-turn, own-item, own-text, parent-through, parent-turn, type-item, type-through, type-turn}
+use Rattle.wit_drafts.proofs.Firsts.{each, each-first, each-kept, filter-none, find-filter, find-firsts, find-kept, found-passes, none-first, find-last, find-same, firsts-apart, firsts-new, firsts-old, map-each, none-filter, place-new, place-old, position-same}
+use Rattle.wit_drafts.proofs.Same.{item-parent, item-through, item-turn, own-item, own-text, parent-through, parent-turn, type-through, type-turn}
 use Rattle.wit_drafts.proofs.Tables.{Changes, Tells, item-at, item-changed, lookup-rows, rows-same, value-changed, value-last}
 
 -- one more, kept or not

@@ -1,10 +1,10 @@
 -- Mentions of the same package, of the same interface or world, and of the same type.
-use Rattle.std.proofs.Common.{◌≡◌, ℕ, Bool, true, false, ◌&&◌, List, Option, None, Some, refl, sym, ap, ◌∙◌, true≢false, bytes_eq, Decides}
+use Rattle.std.proofs.Common.{◌≡◌, ℕ, Bool, true, false, ◌&&◌, List, Option, None, Some, refl, ap, bytes_eq, Decides}
 use Rattle.std.proofs.lemmas.Slice.Eq.{bytes_eq-Decides}
 use Rattle.wit_items.specs.PackageNameFacts.{own_name as own_package, same_name as same_package-is}
 use Rattle.wit_items.specs.PackageOrder.{same_package}
 use Rattle.wit_items.specs.declared.package_name.PackageName.{PackageName}
-use Rattle.wit_drafts.specs.Mention.{is_type_name, same_item, same_name, same_parent, same_type, used_type_name}
+use Rattle.wit_drafts.specs.Mention.{same_item, same_name, same_parent, same_type, used_type_name}
 use Rattle.wit_drafts.specs.declared.mention.Mention.{Mention}
 
 -- ---- tests that tell equal things alone

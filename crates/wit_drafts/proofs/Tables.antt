@@ -1,5 +1,5 @@
 -- Tables and lists of what is said of the first of each.
-use Rattle.std.proofs.Common.{◌≡◌, ℕ, ◌+◌, one-add, Bool, true, false, cond, not, List, [], ◌∷◌, ◌++◌, map, find, slice_get, slice_set, Option, None, Some, refl, ap, ◌∙◌}
+use Rattle.std.proofs.Common.{◌≡◌, ◌+◌, one-add, Bool, true, false, cond, not, List, [], ◌∷◌, ◌++◌, map, find, slice_get, slice_set, None, Some, refl, ap, ◌∙◌}
 use Rattle.std.specs.List.{AllByRecursion, position_or_len}
 use Rattle.std.specs.Map.{lookup}
 use Rattle.std.specs.Option.{option_map}

@@ -6,7 +6,6 @@ use Rattle.std.specs.Str.{bytes_eq}
 use Rattle.wit_items.specs.Foreign.{ForeignItem, ForeignItems}
 use Rattle.wit_items.specs.PackageOrder.{same_package}
 use Rattle.wit_items.specs.declared.interface.Interface.{Interface}
-use Rattle.wit_items.specs.declared.package_name.PackageName.{PackageName}
 use Rattle.wit_items.specs.declared.stability.Stability.{Stability}
 use Rattle.wit_items.specs.declared.stability.Stability.TheVariants.{Unknown}
 use Rattle.wit_items.specs.declared.types.TypeDef.{TypeDef}

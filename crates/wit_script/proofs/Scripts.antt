@@ -6,7 +6,7 @@ use Rattle.std.specs.List.{prefix_len}
 use Rattle.std.specs.Option.{option_and_then, option_map}
 use Rattle.std.proofs.Math.ListN.{get_or-map}
 use Rattle.wit_lines.specs.Line.{is_comment, is_silent, is_silent_of, last_said_of}
-use Rattle.wit_lines.specs.Statement.{said_of, said_of_tokens, statement_by}
+use Rattle.wit_lines.specs.Statement.{said_of_tokens, statement_by}
 use Rattle.wit_lines.specs.declared.statement.Statement.{Statement}
 use Rattle.wit_script.specs.Ready.{AreReady, is_accepted_so_far}
 use Rattle.wit_script.specs.Script.{IsBad, IsBadLine, after_first, after_line, after_lines, new_reading, reading_before, reading_of}

@@ -1,4 +1,4 @@
-use Rattle.std.proofs.Common.{◌≡◌, List, ap, sym, ◌∙◌}
+use Rattle.std.proofs.Common.{List, ap, sym, ◌∙◌}
 use Rattle.wit_items.specs.declared.stability.Stability.{Stability}
 use Rattle.wit_drafts.specs.Mentioning.{with_gate}
 use Rattle.wit_drafts.proofs.Changing.{changed-text, nothing, unchanged-text}

@@ -1,4 +1,4 @@
-use Rattle.std.proofs.Common.{◌≡◌, List, ap, sym, ◌∙◌}
+use Rattle.std.proofs.Common.{List, ap, sym, ◌∙◌}
 use Rattle.indexmap.specs.IndexMap.{set_value_at}
 use Rattle.wit_items.specs.Foreign.{ForeignItem, ForeignItems}
 use Rattle.wit_items.specs.PackageOrder.{same_package}

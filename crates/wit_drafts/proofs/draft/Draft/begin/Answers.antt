@@ -1,4 +1,4 @@
-use Rattle.std.proofs.Common.{◌≡◌, Some, ap, fold, option_map, sym, ◌∙◌}
+use Rattle.std.proofs.Common.{Some, ap, fold, option_map, sym, ◌∙◌}
 use Rattle.wit_drafts.specs.Draft.{begun_at}
 use Rattle.wit_drafts.specs.Mention.{known}
 use Rattle.wit_drafts.specs.Mentioning.{with_mention}
