@@ -34,17 +34,17 @@ abbrev pub is_own : ParsedUsePath → Bool
 is_own (path.Name name) = true
 is_own (path.Package parent name) = false
 
--- lines of packages are read so far where they name nothing of other packages
+-- lines of packages are read so far, but for those that include a world of another package
 abbrev pub is_line_taken : PackageLine → Bool
 is_line_taken (line.Interface name) = true
 is_line_taken (line.World name) = true
 is_line_taken (line.Type_ name text) = true
 is_line_taken (line.Record name fields) = true
 is_line_taken (line.Resource name) = true
-is_line_taken (line.Use from name new) = is_own from
+is_line_taken (line.Use from name new) = true
 is_line_taken (line.Function said) = true
-is_line_taken (line.Import label from) = is_own from
-is_line_taken (line.Export label from) = is_own from
+is_line_taken (line.Import label from) = true
+is_line_taken (line.Export label from) = true
 is_line_taken (line.ImportFunction said) = true
 is_line_taken (line.ExportFunction said) = true
 is_line_taken (line.Include from names) = is_own from

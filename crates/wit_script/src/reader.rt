@@ -8,6 +8,7 @@ ghost use Rattle.wit_lines.specs.Line.{is_silent, last_said_of};
 ghost use Rattle.wit_script.specs.Ready.{AreReady, CanAdd, is_accepted_so_far, is_taken};
 ghost use Rattle.wit_script.specs.Script.{GoesOn, HasLineFault, HasReadFault, IsUnderstood, Leads, after_line, new_reading, reading_of, with_groups, with_package, with_package_line, with_push, with_request, with_statement};
 
+use crate::ahead::mentions_ahead;
 use crate::fault::ReadFault;
 use crate::ready::{ReadyCommand, ScriptCommand, is_accepted};
 use std::alloc::{AllocError, Global};
@@ -104,13 +105,19 @@ impl Reading {
     }
 
     /// Adds what a line says.
-    fn add(&mut self, alloc: Global, said: Statement, line: &str) -> Result<(), LineFault>
+    fn add(
+        &mut self,
+        alloc: Global,
+        said: Statement,
+        line: &str,
+        ahead: &[&str],
+    ) -> Result<(), LineFault>
         requires ready { AreReady self.old.commands }
         requires accepted { is_accepted_so_far said ≡ true }
-        ensures { GoesOn (with_statement is_accepted_so_far self.old said line.now []) result self.new }
+        ensures { GoesOn (with_statement is_accepted_so_far self.old said line.now (map (λ line. line.now) ahead.now)) result self.new }
     {
         match said {
-            Statement::Package(name) => self.add_package(alloc, name, line),
+            Statement::Package(name) => self.add_package(alloc, name, line, ahead),
             Statement::Line { said, gate } => self.add_package_line(alloc, said, gate, line),
             Statement::Push => self.add_push(alloc),
             Statement::Request(request) => self.add_request(request),
@@ -118,11 +125,18 @@ impl Reading {
     }
 
     /// Begins a package.
-    fn add_package(&mut self, alloc: Global, name: PackageName, line: &str) -> Result<(), LineFault>
-        ensures next { Leads (with_package is_accepted_so_far self.old name line.now []) result self.new }
+    fn add_package(
+        &mut self,
+        alloc: Global,
+        name: PackageName,
+        line: &str,
+        ahead: &[&str],
+    ) -> Result<(), LineFault>
+        ensures next { Leads (with_package is_accepted_so_far self.old name line.now (map (λ line. line.now) ahead.now)) result self.new }
         ensures commands { self.new.commands ≡ self.old.commands }
     {
-        let package = Draft::begin(alloc, name, line)?;
+        let mentions = mentions_ahead(alloc, line.len() + 1, ahead)?;
+        let package = Draft::begin(alloc, name, line, mentions)?;
         if let Some(before) = self.current.replace(package) {
             self.finished.push(before)?;
         }
@@ -201,9 +215,14 @@ impl Reading {
 }
 
 /// Adds a line, and tells whether it says anything.
-fn add_line(alloc: Global, reading: &mut Reading, line: &str) -> Result<bool, LineFault>
+fn add_line(
+    alloc: Global,
+    reading: &mut Reading,
+    line: &str,
+    ahead: &[&str],
+) -> Result<bool, LineFault>
     requires { AreReady reading.old.commands }
-    ensures next { GoesOn (after_line is_accepted_so_far reading.old line.now []) result reading.new }
+    ensures next { GoesOn (after_line is_accepted_so_far reading.old line.now (map (λ line. line.now) ahead.now)) result reading.new }
     ensures told { IfOk result (λ said. said ≡ not (is_silent line.now)) }
 {
     match read_line(alloc, line)? {
@@ -212,7 +231,7 @@ fn add_line(alloc: Global, reading: &mut Reading, line: &str) -> Result<bool, Li
             if !is_accepted(&said) {
                 return Err(LineFault::NotUnderstood);
             }
-            reading.add(alloc, said, line)?;
+            reading.add(alloc, said, line, ahead)?;
             Ok(true)
         }
     }
@@ -228,7 +247,7 @@ fn add_lines(alloc: Global, reading: &mut Reading, lines: &[&str]) -> Result<usi
 {
     let mut last = 0;
     for (index, line) in lines.iter().enumerate() {
-        let says_something = match add_line(alloc, reading, line) {
+        let says_something = match add_line(alloc, reading, line, &lines[index + 1..]) {
             Ok(says_something) => says_something,
             Err(LineFault::NotUnderstood) => {
                 return Err(ReadFault::NotUnderstood { line: index + 1 });
