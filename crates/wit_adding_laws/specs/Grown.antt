@@ -1,21 +1,19 @@
 -- What stands behind a graph to which a package is added: its types and interfaces, the copies of includes, the package,
 -- and its worlds, each under its name.
-use Rattle.std.proofs.Common.{◌≡◌, ◌∙◌, inl, inr, ℕ, zero, suc, ◌+◌, ◌<◌, ◌≤◌, List, [], ◌∷◌, ◌++◌, map, length, Some, slice_get, refl, sym, ap, subst, arith}
+use Rattle.std.proofs.Common.{◌≡◌, ◌∙◌, inl, inr, ℕ, zero, suc, ◌<◌, ◌≤◌, List, [], ◌∷◌, ◌++◌, map, length, Some, slice_get, refl, sym, ap, subst, arith}
 use Rattle.std.proofs.lemmas.Bool.{cases_lt}
 use Rattle.std.proofs.lemmas.List.{append-nil, append_assoc, length-append}
 use Rattle.wit_values.specs.Lists.{slice_get-append, slice_get-push}
 use Rattle.wit_items.specs.Each.{Each, SomeAt}
 use Rattle.wit_items.specs.declared.interface.Interface.{Interface}
-use Rattle.wit_items.specs.declared.package_name.PackageName.{PackageName}
 use Rattle.wit_items.specs.declared.types.TypeDef.{TypeDef}
 use Rattle.wit_items.specs.declared.world.World.{World}
 use Rattle.wit_graph.specs.declared.graph.Graph.{Graph}
-use Rattle.wit_graph.specs.declared.graph.Package.{Package}
 use Rattle.wit_growth.specs.Image.{interface_image, type_image}
 use Rattle.wit_growth.specs.ListFacts.{SomeAt-old, get_at, same_at, some_at}
 use Rattle.wit_adding.specs.Addition.{Addition, added_owns, addition_maps, own_interfaces, own_types, own_worlds}
 use Rattle.wit_adding.specs.Pushed.{begun, finished, new_package, with_parts, with_world, with_worlds}
-use Rattle.wit_adding_laws.specs.StageGrows.{HasMore, IsCopy, each_joined}
+use Rattle.wit_adding_laws.specs.StageGrows.{IsCopy, each_joined}
 use Rattle.wit_adding_laws.specs.Stages.{whole_more, with_worlds_next}
 
 -- a world has its name, and is of the new package

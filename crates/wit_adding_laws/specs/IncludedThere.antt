@@ -1,6 +1,6 @@
 -- The world that an include names is there when its turn comes: one of the graph, or one of the package that is finished.
 use Rattle.std.proofs.Common.{◌≡◌, ◌∙◌, inl, inr, ℕ, ◌+◌, ◌<◌, ◌&&◌, Bool, true, false, not, List, take, length, Some, slice_get, refl, sym, ap, subst, arith, Contains}
-use Rattle.std.proofs.lemmas.Bool.{cases_Bool, cases_lt}
+use Rattle.std.proofs.lemmas.Bool.{cases_Bool}
 use Rattle.std.proofs.lemmas.List.{length-append}
 use Rattle.std.proofs.lemmas.Option.{slice_get_within}
 use Rattle.wit_items.specs.Shape.{IsShaped}
@@ -14,7 +14,6 @@ use Rattle.wit_adding.specs.ClosedCut.{kept_world}
 use Rattle.wit_adding.specs.Gates.{include_is_active, is_foreign_world, world_is_active}
 use Rattle.wit_adding.specs.Pushed.{with_worlds}
 use Rattle.wit_adding.specs.RankFacts.{rank-strict}
-use Rattle.wit_adding.specs.Ranks.{rank}
 use Rattle.wit_adding.specs.Reasons.{HasImage, of_include}
 use Rattle.wit_adding.specs.Standing.{foreign_world_within, own_world_goes}
 use Rattle.wit_adding_laws.specs.Grown.{grown}

@@ -3,21 +3,14 @@
 use Rattle.std.proofs.Common.{◌≡◌, ◌∙◌, ◌⊎◌, inl, inr, ℕ, zero, suc, ◌<◌, ◌≤◌, Bool, true, false, not, is_some, List, [], ◌∷◌, map, length, Option, Some, IsSome, slice_get, refl, sym, ap, subst, arith, Contains}
 use Rattle.std.specs.Option.{option_map_or}
 use Rattle.std.proofs.lemmas.Bool.{cases_Bool, ltb-true}
-use Rattle.std.proofs.lemmas.Option.{slice_get_within}
 use Rattle.wit_values.specs.Table.{HasDistinctKeys}
-use Rattle.wit_relations.specs.Relation.{IsAcyclic}
-use Rattle.wit_items.specs.Entries.{Entry, IsImport, StandOnce, is_unnamed, item_interface}
-use Rattle.wit_items.specs.Ownership.{IsNamed}
+use Rattle.wit_items.specs.Entries.{Entry, is_unnamed, item_interface}
 use Rattle.wit_items.specs.Shape.{IsShaped}
-use Rattle.wit_items.specs.Uses.{uses_of}
 use Rattle.wit_items.specs.declared.interface.Interface.{Interface}
-use Rattle.wit_items.specs.declared.types.TypeDef.{TypeDef}
 use Rattle.wit_items.specs.declared.world.World.{World}
 use Rattle.wit_items.specs.declared.world.WorldItem.{WorldItem}
 use Rattle.wit_items.specs.declared.world.WorldItem.TheVariants as item
 use Rattle.wit_items.specs.declared.world.WorldKey.{WorldKey}
-use Rattle.wit_items.specs.declared.world.WorldKey.TheVariants as key
-use Rattle.wit_graph.specs.Elaborated.{settled_item}
 use Rattle.wit_graph.specs.Valid.{IsValid}
 use Rattle.wit_graph.specs.declared.graph.Graph.{Graph}
 use Rattle.wit_growth.specs.CoveredIsValid.{covered_items}
@@ -25,12 +18,11 @@ use Rattle.wit_growth.specs.Cut.{ItemIsKept, cut_interface, kept_whole}
 use Rattle.wit_growth.specs.GoodIsValid.{good_things}
 use Rattle.wit_growth.specs.GoodWorlds.{same_one}
 use Rattle.wit_growth.specs.Image.{entry_image, item_image, key_image, world_image}
-use Rattle.wit_growth.specs.Kept.{everything}
 use Rattle.wit_growth.specs.ListFacts.{Contains-map_cases, contained_at, found_at, get_at, place_of, same_at, some_at}
 use Rattle.wit_growth.specs.OnePlace.{HasOnePlace, Holds, Origin, StayApart, entries_of}
 use Rattle.wit_growth.specs.OnePlaceCarried.{HasOnePlace-of_covered, named_not}
 use Rattle.wit_growth.specs.OnePlaceFrom.{HasOnePlace-from_once, cut_has_one_place}
-use Rattle.wit_growth.specs.Sources.{Carries, InterfaceStands, Source}
+use Rattle.wit_growth.specs.Sources.{InterfaceStands, Source}
 use Rattle.wit_adding.specs.Addition.{Addition, addition_maps, interface_place, part}
 use Rattle.wit_adding.specs.Gates.{interface_is_active, is_foreign_interface}
 use Rattle.wit_adding.specs.OwnThingFacts.{own_of_both}

@@ -1,14 +1,9 @@
 -- Each world of the graph comes of itself, when a package is added.
-use Rattle.std.proofs.Common.{◌≡◌, inl, inr, ℕ, true, List, [], ◌++◌, length, Some, slice_get, refl, sym, ap, subst, Contains}
+use Rattle.std.proofs.Common.{◌≡◌, inl, ℕ, true, List, ◌++◌, length, Some, slice_get, refl, Contains}
 use Rattle.std.proofs.lemmas.Bool.{lt-ltb}
 use Rattle.std.proofs.lemmas.List.Elements.{Contains-append_left, Contains-append_right}
 use Rattle.std.proofs.lemmas.Option.{slice_get_within}
-use Rattle.wit_relations.specs.MemberFacts.{Contains-cons_cases, Contains-flat_map_cases, Contains-nil}
-use Rattle.wit_relations.specs.Relation.{IsAcyclic}
 use Rattle.wit_items.specs.Entries.{Entry, IsExport, IsImport}
-use Rattle.wit_items.specs.Ownership.{IsNamed}
-use Rattle.wit_items.specs.Shape.{IsShaped}
-use Rattle.wit_items.specs.Uses.{uses_of}
 use Rattle.wit_items.specs.declared.interface.Interface.{Interface}
 use Rattle.wit_items.specs.declared.types.TypeDef.{TypeDef}
 use Rattle.wit_items.specs.declared.types.TypeOwner.TheVariants as owner
@@ -24,10 +19,9 @@ use Rattle.wit_growth.specs.CarriedImages.{function_itself_carried}
 use Rattle.wit_growth.specs.Covered.{EntryComes, IsNoType, ItemComes, WorldComes}
 use Rattle.wit_growth.specs.Cut.{cut_world, graph_source, item_in_range, kept_whole}
 use Rattle.wit_growth.specs.GoodIsValid.{good_things}
-use Rattle.wit_growth.specs.Image.{identity, item_image, key_image}
-use Rattle.wit_growth.specs.ListFacts.{at_map, contained_at, found_at, place_of}
-use Rattle.wit_adding.specs.Addition.{Addition, addition_maps, part, world_place}
-use Rattle.wit_adding.specs.Reasons.{HasImage}
+use Rattle.wit_growth.specs.Image.{identity, key_image}
+use Rattle.wit_growth.specs.ListFacts.{at_map, contained_at, found_at}
+use Rattle.wit_adding.specs.Addition.{Addition}
 use Rattle.wit_adding_laws.specs.SourcesGood.{sources}
 
 -- ---- what stays

@@ -1,6 +1,6 @@
 -- Which package depends on which, when a package is added: what was there depends on what it did, and the new
 -- package on old ones alone, so none depends on itself.
-use Rattle.std.proofs.Common.{◌≡◌, ◌∙◌, ◌⊎◌, inl, inr, ℕ, ◌<◌, ◌≤◌, ◌==◌, Bool, true, false, List, [], ◌∷◌, ◌++◌, map, length, Option, None, Some, IsSome, IsSomeAnd, option_and_then, slice_get, refl, sym, ap, subst, arith, Contains, if◌then◌else◌}
+use Rattle.std.proofs.Common.{◌≡◌, ◌∙◌, ◌⊎◌, inl, inr, ℕ, ◌<◌, ◌≤◌, ◌==◌, Bool, true, false, List, [], ◌∷◌, map, length, Option, None, Some, IsSome, IsSomeAnd, option_and_then, slice_get, refl, sym, ap, subst, arith, Contains, if◌then◌else◌}
 use Rattle.std.proofs.lemmas.List.{length-append}
 use Rattle.std.proofs.lemmas.List.Elements.{Contains-append_cases}
 use Rattle.std.proofs.lemmas.Option.{slice_get_within}
@@ -31,10 +31,10 @@ use Rattle.wit_growth.specs.GoodIsValid.{good_things}
 use Rattle.wit_growth.specs.GraphSource.{good_items}
 use Rattle.wit_growth.specs.Growth.{PackagesGrow}
 use Rattle.wit_values.specs.Lists.{slice_get-append}
-use Rattle.wit_growth.specs.Image.{interface_image, type_image}
+use Rattle.wit_growth.specs.Image.{interface_image}
 use Rattle.wit_growth.specs.ListFacts.{at_below, found_at, from_map, get_at, old_or_new, place_of}
 use Rattle.wit_growth.specs.PackagesAcyclic.{packages_acyclic, there_is}
-use Rattle.wit_adding.specs.Addition.{Addition, added_owns, addition_maps, own_interfaces, own_types}
+use Rattle.wit_adding.specs.Addition.{Addition, addition_maps, own_interfaces}
 use Rattle.wit_adding.specs.Pushed.{new_package, with_parts}
 use Rattle.wit_adding.specs.Reasons.{HasImage}
 use Rattle.wit_adding_laws.specs.Grown.{IsGrown, interfaces_behind, more_interfaces, more_types, types_behind}

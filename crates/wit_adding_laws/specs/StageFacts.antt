@@ -1,6 +1,6 @@
 -- What is known at each stage of an addition, so that a contract can say it: of the graph before an include, where all
 -- before it is fine, and of the graph and the lists before a world is finished.
-use Rattle.std.specs.Prelude.{◌≡◌, ℕ, ◌<◌, false, length, slice_get, take, Some, IsSome}
+use Rattle.std.specs.Prelude.{◌≡◌, ℕ, false, length, slice_get, take, Some, IsSome}
 use Rattle.wit_relations.specs.Relation.{IsAcyclic, Reaches}
 use Rattle.wit_items.specs.Each.{EachAt}
 use Rattle.wit_items.specs.Reference.{type_references}

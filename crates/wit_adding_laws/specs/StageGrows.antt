@@ -5,12 +5,10 @@ use Rattle.std.specs.Option.{option_map_or}
 use Rattle.wit_items.specs.Each.{Each}
 use Rattle.wit_items.specs.Entries.{is_unnamed}
 use Rattle.wit_items.specs.declared.interface.Interface.{Interface}
-use Rattle.wit_items.specs.declared.package_name.PackageName.{PackageName}
 use Rattle.wit_items.specs.declared.types.TypeDef.{TypeDef}
 use Rattle.wit_items.specs.declared.world.World.{World}
 use Rattle.wit_items.specs.declared.world.WorldInclude.{WorldInclude}
 use Rattle.wit_graph.specs.declared.graph.Graph.{Graph}
-use Rattle.wit_graph.specs.declared.graph.Package.{Package}
 use Rattle.wit_growth.specs.Image.{interface_image, type_image}
 use Rattle.wit_growth.specs.ListFacts.{from_map, old_or_new}
 use Rattle.wit_adding.specs.Addition.{Addition, world_place}

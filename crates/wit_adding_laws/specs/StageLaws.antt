@@ -1,26 +1,20 @@
 -- What is known before each include, and before each world is finished, of any addition whose worlds are fine so far.
-use Rattle.std.proofs.Common.{◌≡◌, ◌∙◌, ℕ, suc, ◌<◌, List, drop, length, take, Some, slice_get, refl, sym, subst, arith}
+use Rattle.std.proofs.Common.{◌≡◌, ℕ, suc, List, drop, length, take, Some, slice_get, sym, subst, arith}
 use Rattle.std.proofs.lemmas.Option.{slice_get_within}
 use Rattle.wit_values.specs.Lists.{slice_get-append, slice_get-behind}
-use Rattle.wit_items.specs.Shape.{IsShaped}
 use Rattle.wit_items.specs.declared.world.World.{World}
-use Rattle.wit_graph.specs.Valid.{IsValid}
-use Rattle.wit_graph.specs.declared.graph.Graph.{Graph}
 use Rattle.wit_adding.specs.Addition.{Addition, active_includes, own_worlds, world_place}
-use Rattle.wit_adding.specs.Cause.{IncludeIsReached, IsReached}
 use Rattle.wit_adding.specs.Include.{Begun}
 use Rattle.wit_adding.specs.Pushed.{begun, begun_with, with_worlds}
-use Rattle.wit_adding.specs.WorldReasons.{AtInclude}
 use Rattle.wit_adding_laws.specs.ListedStage.{listed_images}
 use Rattle.wit_adding_laws.specs.StageFacts.{CanFinishBegun, CanInclude, IncludesCanBe, IsOnItsWay, WorldsCanBe}
 use Rattle.wit_adding_laws.specs.StageGrows.{begun_more}
 use Rattle.wit_adding_laws.specs.StageSteps.{begun_world, staged}
-use Rattle.wit_adding_laws.specs.Stages.{begun_stands, whole_stands}
+use Rattle.wit_adding_laws.specs.Stages.{LawsUsed, begun_stands, whole_stands}
 use Rattle.wit_adding_laws.specs.ValidFacts.{stage_stands}
 use Rattle.wit_including_laws.specs.Mentioned.{apart}
 use Rattle.wit_including_laws.specs.OnItsWay.{StandsSoFar}
 use Rattle.wit_including_laws.specs.PlacedWorlds.{placed_listed}
-use Rattle.wit_including_laws.specs.WorldLaws.{WorldLaws}
 
 module _ (a : Addition) (before : List World) (k : ℕ) (e : ℕ × World) (b : Begun) (stands : StandsSoFar (staged a before k e b)) where
   on_its_way : IsOnItsWay b.graph
@@ -41,13 +35,13 @@ module _ (a : Addition) (before : List World) (k : ℕ) (e : ℕ × World) (b : 
     apart = λ t r def there named left reaches. apart (staged a before k e b) stands from old t r def there named left reaches;
   }
 
-pub worlds_can_be : WorldLaws → WorldsCanBe
+pub worlds_can_be : LawsUsed → WorldsCanBe
 worlds_can_be laws a k valid shaped image reached fine at =
     let e : ℕ × World = (at.place, at.world) in
     let below = slice_get_within (own_worlds a) k e at.is in
     can_finish a (with_worlds a k).worlds k e (begun a at.place at.world (with_worlds a k)) (whole_stands a k e at.is (stage_stands laws a valid shaped image k (omega arith) reached) fine)
 
-pub includes_can_be : WorldLaws → IncludesCanBe
+pub includes_can_be : LawsUsed → IncludesCanBe
 includes_can_be laws a k j valid shaped reached at =
     let e : ℕ × World = (at.at.place, at.at.world) in
     let includes = active_includes a at.at.world in

@@ -1,11 +1,10 @@
 -- The stages of an addition, one after another: the graph on its way, with the world whose turn it is as it is begun, and
 -- behind it those to come as they are listed. An include more, or a world that is finished, leads from a stage that
 -- stands to one that stands.
-use Rattle.std.proofs.Common.{◌≡◌, ◌∙◌, inl, inr, ℕ, zero, suc, ◌+◌, ◌<◌, ◌≤◌, List, [], ◌∷◌, ◌++◌, drop, map, length, Option, None, Some, slice_get, refl, sym, ap, subst, arith, codes}
+use Rattle.std.proofs.Common.{◌≡◌, ℕ, zero, suc, List, [], ◌∷◌, ◌++◌, drop, map, length, Option, None, Some, slice_get, refl, ap, subst, arith}
 use Rattle.std.specs.Option.{option_map_or}
 use Rattle.std.proofs.lemmas.Option.{slice_get_within}
 use Rattle.wit_values.specs.Lists.{slice_get-append, slice_get-behind}
-use Rattle.wit_sources.specs.Span.{moved_by}
 use Rattle.wit_items.specs.Entries.{Entry}
 use Rattle.wit_items.specs.declared.world.World.{World}
 use Rattle.wit_items.specs.declared.world.WorldInclude.{WorldInclude}
@@ -14,7 +13,7 @@ use Rattle.wit_graph.specs.Elaboration.{graph_uses}
 use Rattle.wit_graph.specs.Imported.{HasConflict}
 use Rattle.wit_graph.specs.declared.graph.Graph.{Graph}
 use Rattle.wit_growth.specs.Image.{world_image}
-use Rattle.wit_adding.specs.Addition.{Addition, addition_maps, own_worlds, world_place}
+use Rattle.wit_adding.specs.Addition.{Addition, addition_maps, world_place}
 use Rattle.wit_adding.specs.Behind.{with_placed}
 use Rattle.wit_adding.specs.Include.{Begun, Lists, with_world_included}
 use Rattle.wit_adding.specs.Pushed.{finished, with_include}

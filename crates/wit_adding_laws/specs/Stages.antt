@@ -1,16 +1,14 @@
 -- The stages of an addition, one after another: before each world, before each of its includes, and before it is
 -- finished, what is there is on its way.
-use Rattle.std.proofs.Common.{◌≡◌, ◌∙◌, inl, inr, ℕ, zero, suc, ◌+◌, ◌<◌, ◌≤◌, List, [], ◌∷◌, ◌++◌, drop, fold, map, take, length, Option, None, Some, slice_get, refl, sym, ap, subst, arith, codes}
+use Rattle.std.proofs.Common.{◌≡◌, ◌∙◌, inl, inr, ℕ, zero, suc, ◌<◌, ◌≤◌, List, [], ◌∷◌, ◌++◌, drop, fold, take, length, Some, slice_get, refl, sym, ap, subst, arith, codes}
 use Rattle.std.proofs.Math.Numerals.{add-one}
 use Rattle.std.proofs.lemmas.Bool.{cases_lt}
 use Rattle.std.proofs.lemmas.List.{append_assoc, take_all}
 use Rattle.std.proofs.lemmas.List.Sums.{fold-append}
-use Rattle.std.proofs.lemmas.Option.{slice_get_within}
 use Rattle.wit_values.specs.Lists.{push-cases, slice_get-append, slice_get-behind, take-next_at}
 use Rattle.wit_relations.specs.Relation.{IsAcyclic}
 use Rattle.wit_sources.specs.Span.{moved_by}
 use Rattle.wit_items.specs.Each.{Each}
-use Rattle.wit_items.specs.Shape.{IsShaped}
 use Rattle.wit_items.specs.Uses.{uses_of}
 use Rattle.wit_items.specs.declared.interface.Interface.{Interface}
 use Rattle.wit_items.specs.declared.types.TypeDef.{TypeDef}
@@ -18,6 +16,7 @@ use Rattle.wit_items.specs.declared.world.World.{World}
 use Rattle.wit_items.specs.declared.world.WorldInclude.{WorldInclude}
 use Rattle.wit_graph.specs.Elaborated.{Elaborated}
 use Rattle.wit_graph.specs.Elaboration.{graph_uses}
+use Rattle.wit_graph.specs.ElaborationLaws.{ConflictsAreRefused}
 use Rattle.wit_graph.specs.Imported.{HasConflict}
 use Rattle.wit_graph.specs.IdText.{key_text}
 use Rattle.wit_graph.specs.declared.graph.Graph.{Graph}
@@ -25,19 +24,23 @@ use Rattle.wit_growth.specs.Image.{world_image}
 use Rattle.wit_growth.specs.ListFacts.{at_map, get_at}
 use Rattle.wit_adding.specs.Addition.{Addition, active_includes, addition_maps, own_worlds, world_place}
 use Rattle.wit_adding.specs.Behind.{with_placed}
-use Rattle.wit_adding.specs.Include.{Begun, lists_of}
+use Rattle.wit_adding.specs.Include.{Begun}
 use Rattle.wit_adding.specs.Pushed.{begun, begun_with, finished, with_include, with_parts, with_world, with_worlds}
 use Rattle.wit_adding.specs.Reasons.{HasImage}
-use Rattle.wit_adding.specs.WorldReasons.{AtWorld, IncludeIsFine, WorldIsFine}
+use Rattle.wit_adding.specs.WorldReasons.{IncludeIsFine, WorldIsFine}
 use Rattle.wit_labels.specs.Setters.{placed}
-use Rattle.wit_adding_laws.specs.ListedOnce.{listed_stands}
-use Rattle.wit_adding_laws.specs.ListedStage.{listed, listed_images}
+use Rattle.wit_adding_laws.specs.ListedStage.{listed_images}
 use Rattle.wit_adding_laws.specs.StageGrows.{HasMore, begun_more}
 use Rattle.wit_adding_laws.specs.StageSteps.{IsFree, begun_world, finish_step, finished_is, include_step, staged}
 use Rattle.wit_including_laws.specs.CanonicalStays.{canonical_longer}
 use Rattle.wit_including_laws.specs.OnItsWay.{StandsSoFar}
 use Rattle.wit_including_laws.specs.PlacedWorlds.{placed_in_order}
 use Rattle.wit_including_laws.specs.WorldLaws.{WorldLaws}
+
+-- the laws of elaboration that are used of stages: those of worlds, and that a conflict has a refused key
+pub record LawsUsed : Type 0 where
+  pub worlds : WorldLaws
+  pub refused : ConflictsAreRefused
 
 -- the stage before world k
 abbrev pub stage : Addition → ℕ → Graph
@@ -147,7 +150,7 @@ module _ (a : Addition) where
 
     -- ---- it is finished
 
-    module _ (laws : WorldLaws) (image : HasImage a) (stands : StandsSoFar (stage a k)) (fine : WorldIsFine a k) where
+    module _ (laws : LawsUsed) (image : HasImage a) (stands : StandsSoFar (stage a k)) (fine : WorldIsFine a k) where
       no_conflict : HasConflict (graph_uses whole.graph) (placed whole.lists.exports) → ⊥
       no_conflict conflict =
           let so_far = whole_stands stands fine.includes in
@@ -166,7 +169,7 @@ module _ (a : Addition) where
           })
 
       pub next_stands : StandsSoFar (stage a (suc k))
-      next_stands = subst StandsSoFar (sym stage_next) (finish_step laws a before k e whole (whole_stands stands fine.includes) no_conflict)
+      next_stands = subst StandsSoFar (sym stage_next) (finish_step laws.worlds a before k e whole (whole_stands stands fine.includes) no_conflict)
 
       -- worlds stay canonical, and the new one is
       pub next_canonical : Each (λ (world : World). Elaborated (with_worlds a k).types (graph_uses (with_worlds a k)) world world) before
@@ -185,13 +188,13 @@ module _ (a : Addition) where
               (subst (λ (interfaces : List Interface). IsAcyclic (uses_of whole.graph.types interfaces)) whole_more.interfaces_are so_far.uses) in
               subst (λ (types : List TypeDef). Elaborated types (uses_of types whole.graph.interfaces) world world) (sym whole_more.types_are)
               (subst (λ (interfaces : List Interface). Elaborated ((with_worlds a k).types ++ whole_more.types) (uses_of ((with_worlds a k).types ++ whole_more.types) interfaces) world world) (sym whole_more.interfaces_are)
-              (canonical_longer (stage a k) stands.items whole_more.types whole_more.interfaces laws.local stands.uses acyclic w world (slice_get-append before (drop k (listed_images a)) w world there) (canonical w world there)))
+              (canonical_longer (stage a k) stands.items whole_more.types whole_more.interfaces laws.worlds.local stands.uses acyclic w world (slice_get-append before (drop k (listed_images a)) w world there) (canonical w world there)))
 
           new_one : Elaborated whole.graph.types (graph_uses whole.graph) (finished a e.0 e.1 whole) (finished a e.0 e.1 whole)
           new_one =
               let there = slice_get-behind before (drop (suc k) (listed_images a)) (begun_world a e whole.lists) in
-              laws.again whole.graph.types (graph_uses whole.graph) (with_placed (begun_world a e whole.lists)) (finished a e.0 e.1 whole) so_far.uses
-              (placed_in_order (staged a before k e whole) so_far (length before) (begun_world a e whole.lists) there) (finished_is laws a before k e whole no_conflict)
+              laws.worlds.again whole.graph.types (graph_uses whole.graph) (with_placed (begun_world a e whole.lists)) (finished a e.0 e.1 whole) so_far.uses
+              (placed_in_order (staged a before k e whole) so_far (length before) (begun_world a e whole.lists) there) (finished_is laws.worlds a before k e whole no_conflict)
 
           all : Each (λ (world : World). Elaborated whole.graph.types (graph_uses whole.graph) world world) (before ++ finished a e.0 e.1 whole ∷ [])
           all w world there = elim (push-cases before (finished a e.0 e.1 whole) w world there) [

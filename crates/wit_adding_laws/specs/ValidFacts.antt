@@ -1,5 +1,5 @@
 -- A valid graph to which a package is added is valid: each stage is on its way, and the last is the whole.
-use Rattle.std.proofs.Common.{◌≡◌, ◌∙◌, ℕ, zero, suc, ◌<◌, ◌≤◌, List, [], ◌++◌, drop, fold, map, take, length, Some, slice_get, refl, sym, ap, subst, arith}
+use Rattle.std.proofs.Common.{◌≡◌, ◌∙◌, ℕ, zero, suc, ◌≤◌, List, [], ◌++◌, drop, fold, map, length, ap, subst, arith}
 use Rattle.std.proofs.Math.ListN.{drop_of_length-le}
 use Rattle.std.proofs.lemmas.List.{append-nil, length-map, take_all}
 use Rattle.wit_items.specs.Each.{Each}
@@ -24,14 +24,13 @@ use Rattle.wit_adding_laws.specs.ListedOnce.{listed_stands}
 use Rattle.wit_adding_laws.specs.ListedStage.{listed_images}
 use Rattle.wit_adding_laws.specs.NameFacts.{added_names}
 use Rattle.wit_adding_laws.specs.PackageFacts.{added_packages_acyclic}
-use Rattle.wit_adding_laws.specs.Stages.{next_canonical, next_stands, stage}
+use Rattle.wit_adding_laws.specs.Stages.{LawsUsed, next_canonical, next_stands, stage}
 use Rattle.wit_adding_laws.specs.TableFacts.{good_tables}
 use Rattle.wit_adding_laws.specs.WorldTables.{new_table, new_worlds_distinct, worlds_in_tables}
 use Rattle.wit_including_laws.specs.CanonicalStays.{canonical_longer}
 use Rattle.wit_including_laws.specs.OnItsWay.{StandsSoFar}
-use Rattle.wit_including_laws.specs.WorldLaws.{WorldLaws}
 
-module _ (laws : WorldLaws) (a : Addition) (valid : IsValid a.graph) (shaped : IsShaped a.handed) (image : HasImage a) where
+module _ (laws : LawsUsed) (a : Addition) (valid : IsValid a.graph) (shaped : IsShaped a.handed) (image : HasImage a) where
   -- ---- each stage is on its way
 
   pub stage_stands : (k : ℕ) → k ≤ length (own_worlds a) → IsReached a k → StandsSoFar (stage a k)
@@ -43,14 +42,13 @@ module _ (laws : WorldLaws) (a : Addition) (valid : IsValid a.graph) (shaped : I
   -- and its finished worlds are canonical
   stage_canonical : (k : ℕ) → k ≤ length (own_worlds a) → IsReached a k → Each (λ (world : World). Elaborated (with_worlds a k).types (graph_uses (with_worlds a k)) world world) (with_worlds a k).worlds
   stage_canonical zero within reached = λ w world at.
-      canonical_longer a.graph (good_items a.graph (good_things a.graph valid)) (map (type_image (addition_maps a)) (own_types a) ++ added_owns a) (map (interface_image (addition_maps a)) (own_interfaces a)) laws.local valid.no_cycles.uses
+      canonical_longer a.graph (good_items a.graph (good_things a.graph valid)) (map (type_image (addition_maps a)) (own_types a) ++ added_owns a) (map (interface_image (addition_maps a)) (own_interfaces a)) laws.worlds.local valid.no_cycles.uses
       (listed_stands a valid shaped image).uses w world at (valid.canonical w world at)
   stage_canonical (suc k) within reached =
       let e = get_at (own_worlds a) k (omega arith) in
       next_canonical a k e.0 e.1 laws image (stage_stands k (omega arith) (λ i below. reached i (omega arith))) (reached k (omega arith)) (stage_canonical k (omega arith) (λ i below. reached i (omega arith)))
 
   -- ---- the last is the whole
-
 
   all_worlds : with_worlds a (length (own_worlds a)) ≡ pushed a
   all_worlds = ap (fold (with_world a) (with_parts a)) (take_all (length (own_worlds a)) (own_worlds a) (omega arith))

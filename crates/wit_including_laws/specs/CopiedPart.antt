@@ -1,15 +1,14 @@
 -- What of a graph on its way takes part where a world of it is included: the world, what its entries mention, the
 -- interfaces that go with it, and those that have names. That is closed, so it is a good source of copies.
-use Rattle.std.proofs.Common.{◌≡◌, ◌∙◌, ◌⊎◌, ◌&&◌, ◌||◌, inl, inr, ℕ, ◌<◌, Bool, true, false, not, List, [], ◌∷◌, ◌++◌, Option, None, Some, slice_get, refl, sym, ap, subst, arith, Contains, IsSome, length, map, is_some, nat_eq, nat_lt, if◌then◌else◌}
+use Rattle.std.proofs.Common.{◌≡◌, ◌∙◌, ◌⊎◌, ◌||◌, inl, inr, ℕ, ◌<◌, Bool, true, false, not, List, [], ◌∷◌, ◌++◌, Option, None, Some, slice_get, refl, sym, ap, subst, Contains, IsSome, length, map, is_some, nat_eq, if◌then◌else◌}
 use Rattle.std.specs.List.{flat_map, list_all, list_any}
 use Rattle.std.specs.Option.{option_map_or}
-use Rattle.std.proofs.lemmas.Bool.{cases_Bool, eq-eqb, eqb-true, false≢true}
+use Rattle.std.proofs.lemmas.Bool.{eqb-true}
 use Rattle.std.proofs.lemmas.List.Elements.{Contains-append_cases, Contains-append_left, Contains-append_right}
 use Rattle.std.proofs.lemmas.Option.{slice_get_within}
 use Rattle.wit_relations.specs.FreshFacts.{any_from_contains, contains_from_any}
-use Rattle.wit_relations.specs.MemberFacts.{Contains-cons_cases, Contains-flat_map, Contains-flat_map_cases, Contains-here, Contains-nil, Contains-there}
-use Rattle.wit_items.specs.Each.{Each, EachAt}
-use Rattle.wit_items.specs.Entries.{Entry, IsExport, IsImport, ItemUsesOwn, held_interfaces, is_unnamed, item_interface, placed_interfaces}
+use Rattle.wit_relations.specs.MemberFacts.{Contains-cons_cases, Contains-flat_map, Contains-flat_map_cases, Contains-here, Contains-nil}
+use Rattle.wit_items.specs.Entries.{Entry, IsImport, held_interfaces, is_unnamed, item_interface, placed_interfaces}
 use Rattle.wit_items.specs.Ownership.{IsListed, IsNamed}
 use Rattle.wit_graph.specs.ListedFacts.{named_within}
 use Rattle.wit_items.specs.Reference.{function_references, referred}
@@ -31,8 +30,9 @@ use Rattle.wit_growth.specs.Kept.{Kept}
 use Rattle.wit_growth.specs.ListFacts.{Contains-map, contained_at, found_at, get_at, same_at, some_at}
 use Rattle.wit_growth.specs.Operations.{include_source}
 use Rattle.wit_growth.specs.Sources.{IsGoodSource}
-use Rattle.wit_adding.specs.Include.{entry_mentions, goes_with, interface_mentions, mentioned, owner_goes_with}
-use Rattle.wit_including_laws.specs.Mentioned.{GoesOrNamed, IsWith, entry_is, entry_mentioned, mentioned_refers, mentioned_with, owner_of_own}
+use Rattle.wit_adding.specs.Include.{entry_mentions, goes_with, interface_mentions, mentioned}
+use Rattle.wit_including_laws.specs.Among.{owner_of_own}
+use Rattle.wit_including_laws.specs.Mentioned.{GoesOrNamed, entry_is, entry_mentioned, mentioned_refers, mentioned_with}
 use Rattle.wit_including_laws.specs.OnItsWay.{StandsSoFar}
 use Rattle.wit_including_laws.specs.Truth.{all_pass, and_both, and_parts, or_cases, or_left, or_right, passes}
 

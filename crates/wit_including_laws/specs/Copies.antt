@@ -1,15 +1,13 @@
 -- Where things go that are copied, and that all else stays.
-use Rattle.std.proofs.Common.{◌≡◌, ◌∙◌, ◌⊎◌, ◌&&◌, ◌||◌, ◌+◌, inl, inr, ℕ, ◌<◌, ◌≤◌, Bool, true, false, not, List, [], ◌∷◌, ◌++◌, map, Option, None, Some, option_map, slice_get, refl, sym, ap, subst, arith, Contains, IsSome, length, is_some, nat_eq, if◌then◌else◌}
+use Rattle.std.proofs.Common.{◌≡◌, ◌∙◌, ◌⊎◌, ◌&&◌, ◌||◌, ◌+◌, inl, inr, ℕ, ◌<◌, ◌≤◌, Bool, true, false, not, List, map, Option, None, Some, slice_get, refl, sym, ap, subst, arith, Contains, IsSome, length, is_some, nat_eq, if◌then◌else◌}
 use Rattle.std.specs.List.{list_any}
 use Rattle.std.specs.Option.{option_map_or}
 use Rattle.std.proofs.lemmas.Bool.{cases_Bool, eq-eqb, eqb-true, false≢true}
 use Rattle.std.proofs.lemmas.Option.{slice_get_within}
 use Rattle.wit_values.specs.Lists.{slice_get-append}
-use Rattle.wit_relations.specs.FreshFacts.{any_from_contains, contains_from_any}
 use Rattle.wit_relations.specs.Relation.{Reaches}
-use Rattle.wit_relations.specs.WalkFacts.{Contains-walk_end, Reaches-from_walk, walk-from_IsPath}
+use Rattle.wit_relations.specs.WalkFacts.{Reaches-from_walk, walk-from_IsPath}
 use Rattle.wit_relations.specs.Walks.{walk}
-use Rattle.wit_items.specs.Entries.{is_unnamed}
 use Rattle.wit_items.specs.Ownership.{IsListed, IsNamed, IsNamedInterface}
 use Rattle.wit_items.specs.Reference.{referred, type_references}
 use Rattle.wit_items.specs.declared.interface.Interface.{Interface}
@@ -18,16 +16,17 @@ use Rattle.wit_items.specs.declared.types.TypeOwner.{TypeOwner}
 use Rattle.wit_items.specs.declared.types.TypeOwner.TheVariants as owner
 use Rattle.wit_items.specs.declared.world.World.{World}
 use Rattle.wit_graph.specs.declared.graph.Graph.{Graph}
-use Rattle.wit_growth.specs.Image.{Maps, interface_image, name_image, owner_image, type_image}
-use Rattle.wit_growth.specs.ListFacts.{at_below, at_map, at_new, found_at, from_map, get_at, in_row, old_or_new, same_at}
+use Rattle.wit_growth.specs.Image.{interface_image, type_image}
+use Rattle.wit_growth.specs.ListFacts.{at_map, at_new, from_map, in_row, old_or_new, same_at}
 use Rattle.wit_growth.specs.OnePlaceCarried.{named_not}
 use Rattle.wit_growth.specs.RowFacts.{Reaches-join, Reaches-self, Reaches-use}
-use Rattle.wit_adding.specs.Include.{goes_with, interface_copy, is_copied, is_owned_with, is_unnamed_type, mentioned, owner_goes_with, type_copy}
+use Rattle.wit_adding.specs.Include.{goes_with, interface_copy, is_copied, is_owned_with, is_unnamed_type, owner_goes_with, type_copy}
 use Rattle.wit_adding.specs.RankFacts.{rank-injective, taken-at, taken_places-from}
 use Rattle.wit_adding.specs.Ranks.{rank, taken, taken_places}
-use Rattle.wit_including_laws.specs.CopiedPart.{copied_part, goes_parts, goes_within, is_mentioned, mentioned_takes}
+use Rattle.wit_including_laws.specs.CopiedPart.{goes_parts, is_mentioned, mentioned_takes}
 use Rattle.wit_including_laws.specs.IncludedWorld.{Including, IsIncluded, joined_world, maps}
-use Rattle.wit_including_laws.specs.Mentioned.{apart, in_rows, mentioned_refers, mentioned_with, named_stays, owned_has, owned_is, owner_of_own}
+use Rattle.wit_including_laws.specs.Among.{owner_of_own}
+use Rattle.wit_including_laws.specs.Mentioned.{in_rows, mentioned_with, owned_is}
 use Rattle.wit_including_laws.specs.OnItsWay.{StandsSoFar}
 use Rattle.wit_including_laws.specs.Truth.{and_both, and_parts, one_passes, or_cases, or_left, or_right, passing}
 

@@ -1,14 +1,12 @@
 -- Behind an include the graph on its way still stands, and so do the copies of what takes part of it.
-use Rattle.std.proofs.Common.{◌≡◌, ◌∙◌, ◌⊎◌, inl, inr, ℕ, Bool, true, false, List, [], map, Option, None, Some, option_map, slice_get, refl, sym, ap, subst, Contains, IsSome, is_some, nat_eq, if◌then◌else◌}
-use Rattle.std.specs.List.{flat_map}
+use Rattle.std.proofs.Common.{◌≡◌, ◌∙◌, ◌⊎◌, inl, inr, ℕ, Bool, true, false, List, map, Option, None, Some, option_map, slice_get, refl, sym, ap, subst, Contains, IsSome, is_some, nat_eq, if◌then◌else◌}
 use Rattle.std.proofs.lemmas.Bool.{cases_Bool, eq-eqb, eqb-true, false≢true}
 use Rattle.std.proofs.lemmas.List.Elements.{Contains-append_left}
-use Rattle.wit_relations.specs.MemberFacts.{Contains-cons_cases, Contains-flat_map, Contains-flat_map_cases, Contains-here, Contains-nil}
+use Rattle.wit_relations.specs.MemberFacts.{Contains-flat_map, Contains-flat_map_cases}
 use Rattle.wit_items.specs.Each.{SomeAt}
 use Rattle.wit_items.specs.Entries.{Entry, IsExport, IsImport}
 use Rattle.wit_sources.specs.Span.{moved_by}
 use Rattle.wit_items.specs.Ownership.{IsNamed, listed_type, world_types}
-use Rattle.wit_items.specs.Reference.{referred}
 use Rattle.wit_items.specs.declared.interface.Interface.{Interface}
 use Rattle.wit_items.specs.declared.types.TypeDef.{TypeDef}
 use Rattle.wit_items.specs.declared.types.TypeOwner.{TypeOwner}
@@ -28,7 +26,6 @@ use Rattle.wit_growth.specs.Cut.{StaysIn, cut_interface, cut_world}
 use Rattle.wit_growth.specs.Image.{entry_image, interface_image, item_image, key_image, name_image, owner_image, type_image}
 use Rattle.wit_growth.specs.ListFacts.{Contains-map, found_at, from_map, place_of, same_at, some_at}
 use Rattle.wit_growth.specs.Operations.{include_source}
-use Rattle.wit_growth.specs.Referred.{RefersUnder}
 use Rattle.wit_growth.specs.Sources.{Carries, InterfaceStands, Source, Stands, WorldStands}
 use Rattle.wit_adding.specs.Include.{goes_with, interface_copy, is_copied, joined_entry, joined_item, owner_goes_with, type_copy}
 use Rattle.wit_adding.specs.WorldReasons.{IsShadowed, renamed_key}
@@ -36,6 +33,7 @@ use Rattle.wit_including_laws.specs.Copies.{copy_at, interface_copy_at, interfac
 use Rattle.wit_including_laws.specs.CopiedPart.{copied_part, has_name, is_mentioned, named_is}
 use Rattle.wit_including_laws.specs.IncludedWorld.{Including, IsIncluded, brought, is_other, joined_world, maps}
 use Rattle.wit_including_laws.specs.JoinedFacts.{JoinsList, label_comes}
+use Rattle.wit_including_laws.specs.ListedTypes.{ListsType, lists_type, type_listed}
 use Rattle.wit_including_laws.specs.Mentioned.{owned_is}
 use Rattle.wit_including_laws.specs.OnItsWay.{StandsSoFar}
 use Rattle.wit_including_laws.specs.Truth.{or_cases}
@@ -44,30 +42,6 @@ use Rattle.wit_including_laws.specs.Truth.{or_cases}
 pub record IsUnshadowed (g : Graph) (i : Including g) : Type 0 where
   pub imports : (n : List ℕ) → IsShadowed i.host.imports (map (λ (e : Entry). renamed_key i.names e.0) i.old.imports) n → ⊥
   pub exports : (n : List ℕ) → IsShadowed i.host.exports (map (λ (e : Entry). renamed_key i.names e.0) i.old.exports) n → ⊥
-
--- an entry that lists a type is a type under that label
-pub record ListsType (e : Entry) (name : List ℕ) (t : ℕ) : Type 0 where
-  pub span : Option (ℕ × ℕ)
-  pub key_is : e.0 ≡ key.Name name
-  pub held_is : e.1 ≡ item.Type_ t span
-
-pub lists_type : (e : Entry) (name : List ℕ) (t : ℕ) → Contains (listed_type e.0 e.1) (name, t) → ListsType e name t
-lists_type e name t has = by e.0 e.1 refl refl has
-  where
-    by : (k : WorldKey) (held : WorldItem) → e.0 ≡ k → e.1 ≡ held → Contains (listed_type k held) (name, t) → ListsType e name t
-    by (key.Name label) (item.Type_ u span) is holds has =
-        elim (Contains-cons_cases (label, u) (name, t) [] has) [
-          | inl same ↦ record { span = span; key_is = is ∙ (λ i. key.Name (same i).0); held_is = holds ∙ (λ i. item.Type_ (same i).1 span) }
-          | inr none ↦ absurd (Contains-nil none)
-        ]
-    by (key.Name label) (item.Interface i stability docs span external_id) is holds has = absurd (Contains-nil has)
-    by (key.Name label) (item.Function fn) is holds has = absurd (Contains-nil has)
-    by (key.Interface f) held is holds has = absurd (Contains-nil has)
-
-pub type_listed : (e : Entry) (name : List ℕ) (t : ℕ) → ListsType e name t → Contains (listed_type e.0 e.1) (name, t)
-type_listed e name t is =
-    subst (λ (k : WorldKey). Contains (listed_type k e.1) (name, t)) (sym is.key_is)
-    (subst (λ (held : WorldItem). Contains (listed_type (key.Name name) held) (name, t)) (sym is.held_is) (Contains-here (name, t) []))
 
 -- a type that is there stays as it is where a list is joined
 joined_type : (other : Bool) (brought : List Entry) (e : Entry) (name : List ℕ) (t : ℕ) → ListsType e name t → joined_entry other brought e ≡ e

@@ -1,6 +1,5 @@
 -- A graph on its way of which one world is finished is on its way.
-use Rattle.std.proofs.Common.{◌≡◌, ◌∙◌, ◌⊎◌, inl, inr, ℕ, Bool, true, false, List, [], ◌∷◌, ◌++◌, map, None, Some, length, slice_get, refl, sym, ap, subst, Contains, nat_eq}
-use Rattle.std.specs.List.{flat_map}
+use Rattle.std.proofs.Common.{◌≡◌, ◌∙◌, ◌⊎◌, inl, inr, ℕ, Bool, true, false, List, [], ◌∷◌, None, Some, slice_get, refl, sym, ap, subst, Contains, nat_eq}
 use Rattle.std.proofs.lemmas.Bool.{cases_Bool, eq-eqb, eqb-true, false≢true}
 use Rattle.wit_values.specs.Table.{HasDistinctKeys}
 use Rattle.wit_relations.specs.MemberFacts.{Contains-flat_map, Contains-flat_map_cases, Contains-here}
@@ -21,7 +20,7 @@ use Rattle.wit_graph.specs.Elaborated.{Elaborated, settled_item}
 use Rattle.wit_graph.specs.Entries.{by_class}
 use Rattle.wit_graph.specs.KeptByElaboration.{is_label, labelled, settled}
 use Rattle.wit_graph.specs.declared.graph.Graph.{Graph}
-use Rattle.wit_growth.specs.Covered.{EntryComes, IsCovered, IsNoType, WorldComes}
+use Rattle.wit_growth.specs.Covered.{IsCovered, WorldComes}
 use Rattle.wit_growth.specs.CoveredIsValid.{covered_items}
 use Rattle.wit_growth.specs.Cut.{StaysIn, graph_source, kept_whole}
 use Rattle.wit_growth.specs.ElaboratedCome.{elaborated_comes}
@@ -36,7 +35,7 @@ use Rattle.wit_growth.specs.OnePlaceFrom.{cut_has_one_place}
 use Rattle.wit_growth.specs.Sources.{Carries, IsGoodSource, Source}
 use Rattle.wit_adding.specs.Behind.{with_placed}
 use Rattle.wit_labels.specs.Setters.{placed}
-use Rattle.wit_including_laws.specs.CopiesCarried.{lists_type, type_listed}
+use Rattle.wit_including_laws.specs.ListedTypes.{lists_type}
 use Rattle.wit_including_laws.specs.OnItsWay.{StandsSoFar}
 use Rattle.wit_including_laws.specs.PlacedFacts.{placed_in, placed_into}
 use Rattle.wit_including_laws.specs.PlacedWorlds.{exported_named, exports_distinct, imports_distinct, placed_in_order, used_named}

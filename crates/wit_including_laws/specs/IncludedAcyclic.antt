@@ -1,7 +1,7 @@
 -- Behind an include no type refers to itself and no interface uses itself: copies refer to what is copied and to what
 -- stays as what they are of did, of which the walks are shorter.
-use Rattle.std.proofs.Common.{◌≡◌, ◌∙◌, inl, inr, ℕ, ◌<◌, ◌≤◌, Bool, true, false, List, ◌++◌, map, Some, option_map, length, slice_get, refl, sym, ap, subst, arith, Contains}
-use Rattle.std.proofs.lemmas.Bool.{false≢true, ltb-true}
+use Rattle.std.proofs.Common.{◌≡◌, ◌∙◌, ℕ, ◌<◌, ◌≤◌, Bool, true, false, List, map, Some, option_map, length, slice_get, sym, ap, subst, arith, Contains}
+use Rattle.std.proofs.lemmas.Bool.{ltb-true}
 use Rattle.std.proofs.lemmas.List.{length-append, length-map}
 use Rattle.std.proofs.lemmas.Option.{slice_get_within}
 use Rattle.wit_relations.specs.Relation.{IsAcyclic}

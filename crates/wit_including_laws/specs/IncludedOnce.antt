@@ -1,11 +1,11 @@
 -- Behind an include an interface without a name stands in one place, and the graph stands so far.
-use Rattle.std.proofs.Common.{◌≡◌, ◌∙◌, ◌⊎◌, ◌+◌, inl, inr, ℕ, ◌<◌, ◌≤◌, Bool, true, false, not, List, [], ◌∷◌, ◌++◌, map, Option, None, Some, length, slice_get, refl, sym, ap, subst, arith, Contains, IsSome, is_some, nat_eq}
+use Rattle.std.proofs.Common.{◌≡◌, ◌∙◌, ◌⊎◌, inl, inr, ℕ, ◌<◌, Bool, true, false, not, List, [], ◌∷◌, Option, None, Some, length, slice_get, refl, sym, ap, subst, arith, Contains, is_some}
 use Rattle.std.specs.Map.{lookup}
 use Rattle.std.specs.Option.{option_map_or}
-use Rattle.std.proofs.lemmas.Bool.{cases_Bool, false≢true, ltb-true}
+use Rattle.std.proofs.lemmas.Bool.{cases_Bool, ltb-true}
 use Rattle.std.proofs.lemmas.List.{length-map}
 use Rattle.wit_values.specs.Table.{HasDistinctKeys}
-use Rattle.wit_items.specs.Entries.{Entry, IsExport, IsImport, is_unnamed, item_interface}
+use Rattle.wit_items.specs.Entries.{Entry, IsImport, is_unnamed, item_interface}
 use Rattle.wit_items.specs.declared.interface.Interface.{Interface}
 use Rattle.wit_items.specs.declared.types.TypeDef.{TypeDef}
 use Rattle.wit_items.specs.declared.world.World.{World}
@@ -24,16 +24,15 @@ use Rattle.wit_growth.specs.ListFacts.{contained_at, get_at, place_of, same_at}
 use Rattle.wit_growth.specs.OnePlace.{HasOnePlace, Holds, Origin, StayApart, entries_of}
 use Rattle.wit_growth.specs.OnePlaceCarried.{HasOnePlace-of_covered, named_not}
 use Rattle.wit_growth.specs.OnePlaceFrom.{cut_has_one_place, unnamed_cut}
-use Rattle.wit_growth.specs.Sources.{Source}
 use Rattle.wit_adding.specs.Include.{goes_with, interface_copy, joined_entry, joined_item, new_item}
-use Rattle.wit_adding.specs.Ranks.{rank}
 use Rattle.wit_including_laws.specs.Copies.{interface_goes, interface_stays, interfaces_apart, old_interface_at, world_from}
 use Rattle.wit_including_laws.specs.CopiedPart.{copied_part, goes_parts, has_name, named_is}
 use Rattle.wit_including_laws.specs.CopiesCarried.{IsUnshadowed, joins_exports, joins_imports}
 use Rattle.wit_including_laws.specs.IncludedAcyclic.{included_types_acyclic, included_uses_acyclic}
-use Rattle.wit_including_laws.specs.IncludedCovered.{included_carries, included_covered, joined_one, new_interface, sources, sources_good}
+use Rattle.wit_including_laws.specs.IncludedCovered.{included_carries, included_covered, sources, sources_good}
 use Rattle.wit_including_laws.specs.IncludedWorld.{Including, IsIncluded, brought, is_other, joined_world, maps}
 use Rattle.wit_including_laws.specs.JoinedFacts.{from_brought, joined_cases}
+use Rattle.wit_including_laws.specs.JoinedItems.{joined_one, new_interface}
 use Rattle.wit_including_laws.specs.OnItsWay.{StandsSoFar}
 use Rattle.wit_including_laws.specs.Truth.{or_cases}
 

@@ -1,5 +1,5 @@
 -- A list that an include joins: no key comes twice where nothing is shadowed, and what comes under a label is there.
-use Rattle.std.proofs.Common.{◌≡◌, ◌∙◌, ◌⊎◌, inl, inr, ℕ, ◌<◌, Bool, true, false, not, List, [], ◌∷◌, ◌++◌, filter, map, Some, slice_get, refl, sym, ap, subst, arith, Contains, nat_eq, if◌then◌else◌}
+use Rattle.std.proofs.Common.{◌≡◌, ◌∙◌, ◌⊎◌, inl, inr, ℕ, ◌<◌, Bool, true, false, not, List, filter, map, Some, slice_get, refl, sym, ap, subst, Contains, nat_eq, if◌then◌else◌}
 use Rattle.std.specs.Map.{keys_of}
 use Rattle.std.proofs.lemmas.Bool.{cases_Bool, cases_order, eq-eqb, false≢true}
 use Rattle.std.proofs.lemmas.List.Elements.{Contains-append_left, Contains-append_right, Contains-append_cases}
@@ -21,7 +21,7 @@ use Rattle.wit_adding.specs.Include.{has_key, joined, joined_entry, new_item}
 use Rattle.wit_adding.specs.WorldReasons.{IsShadowed, renamed_key}
 use Rattle.wit_labels.specs.Rename.{renamed}
 use Rattle.wit_including_laws.specs.Copies.{interface_stays, named_left}
-use Rattle.wit_including_laws.specs.IncludedWorld.{Including, brought, is_other, maps}
+use Rattle.wit_including_laws.specs.IncludedWorld.{Including, brought, maps}
 use Rattle.wit_including_laws.specs.KeysApart.{joined_apart, split_at}
 use Rattle.wit_including_laws.specs.OnItsWay.{StandsSoFar}
 use Rattle.wit_including_laws.specs.Truth.{one_passes, passing}

@@ -1,5 +1,5 @@
 -- Keys of lists that are joined end to end, and what stands before a place of a list.
-use Rattle.std.proofs.Common.{◌≡◌, inl, inr, ℕ, zero, suc, ◌<◌, List, [], ◌∷◌, ◌++◌, Some, slice_get, refl, sym, ap, subst, arith, Contains}
+use Rattle.std.proofs.Common.{◌≡◌, inl, inr, ℕ, zero, suc, ◌<◌, List, [], ◌∷◌, ◌++◌, Some, slice_get, sym, ap, subst, arith, Contains}
 use Rattle.wit_relations.specs.MemberFacts.{Contains-here, Contains-there}
 use Rattle.wit_values.specs.Table.{HasDistinctKeys}
 use Rattle.wit_growth.specs.ListFacts.{contained_at, old_or_new}

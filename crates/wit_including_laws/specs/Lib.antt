@@ -1,3 +1,4 @@
+pub mod Among
 pub mod CanonicalStays
 pub mod CopiedPart
 pub mod Copies
@@ -7,8 +8,11 @@ pub mod IncludedAcyclic
 pub mod IncludedCovered
 pub mod IncludedOnce
 pub mod IncludedWorld
+pub mod IncludingLaws
 pub mod JoinedFacts
+pub mod JoinedItems
 pub mod KeysApart
+pub mod ListedTypes
 pub mod Mentioned
 pub mod OnItsWay
 pub mod PlacedFacts

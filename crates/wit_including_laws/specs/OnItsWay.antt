@@ -1,5 +1,4 @@
 -- A graph on its way: so many worlds of a package are finished, and those to come stand behind them as they are listed.
-use Rattle.std.specs.Prelude.{ℕ}
 use Rattle.wit_relations.specs.Relation.{IsAcyclic}
 use Rattle.wit_items.specs.Reference.{type_references}
 use Rattle.wit_items.specs.Uses.{uses_of}

@@ -1,7 +1,6 @@
 -- A world of a graph on its way, its setters placed: its keys and ids are in order, and what elaboration adds has a
 -- name.
-use Rattle.std.proofs.Common.{◌≡◌, inl, inr, ℕ, List, [], Some, length, slice_get, refl, sym, subst, Contains}
-use Rattle.std.proofs.lemmas.List.{length-map}
+use Rattle.std.proofs.Common.{◌≡◌, inl, inr, ℕ, List, [], Some, length, slice_get, subst, Contains}
 use Rattle.wit_relations.specs.MemberFacts.{Contains-cons_cases, Contains-flat_map_cases, Contains-nil}
 use Rattle.wit_values.specs.Table.{HasDistinctKeys}
 use Rattle.wit_items.specs.Each.{Each}
@@ -9,7 +8,6 @@ use Rattle.wit_items.specs.Entries.{Entry, HasExports, HasImports, IsExport}
 use Rattle.wit_items.specs.Ownership.{AliasesNamed, IsNamed}
 use Rattle.wit_items.specs.Uses.{uses_of}
 use Rattle.wit_items.specs.declared.interface.Interface.{Interface}
-use Rattle.wit_items.specs.declared.types.TypeDef.{TypeDef}
 use Rattle.wit_items.specs.declared.world.World.{World}
 use Rattle.wit_items.specs.declared.world.WorldItem.{WorldItem}
 use Rattle.wit_items.specs.declared.world.WorldItem.TheVariants as item

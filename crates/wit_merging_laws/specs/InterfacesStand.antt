@@ -38,7 +38,7 @@ use Rattle.wit_adding.specs.Found.{find-passes, find-some}
 use Rattle.wit_adding.specs.Lookup.{listed_type}
 use Rattle.wit_adding.specs.RankFacts.{taken-at, taken_places-from}
 use Rattle.wit_adding.specs.Ranks.{rank, taken_places}
-use Rattle.wit_adding_laws.specs.PlacedFacts.{joined_apart}
+use Rattle.wit_including_laws.specs.KeysApart.{joined_apart}
 use Rattle.wit_merging.specs.Joined.{joined_interface, with_interface}
 use Rattle.wit_merging.specs.Matches.{Merging, found_by, found_interface, found_type, partner}
 use Rattle.wit_merging.specs.Moved.{brought_functions, brought_types, interface_place, merge_maps, moved_interfaces, moves_interface, moves_type, type_place}

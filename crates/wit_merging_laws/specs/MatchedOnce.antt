@@ -32,7 +32,7 @@ one_under {K} {V} es distinct k v w first second =
     ap (λ (e : K × V). e.1) (same_at es one.0 other.0 (k, v) (k, w) same one.1 other.1)
 
 -- what an option has
-has_some : (o : Option ℕ) (P : ℕ → Type 0) (x : ℕ) → o ≡ Some x → IsSomeAnd o P → P x
+pub has_some : (o : Option ℕ) (P : ℕ → Type 0) (x : ℕ) → o ≡ Some x → IsSomeAnd o P → P x
 has_some None P x is h = cc
 has_some (Some y) P x is h = let same : y ≡ x = cc in subst P same h
 

@@ -175,7 +175,7 @@ module _ (u : Upgrade) (valid : IsValid u.graph) (w : ℕ) (there : slice_get u.
     no_interface_cycle : (message : List ℕ) → UsesItself (relisted_at u w) message → ⊥
     no_interface_cycle message is = accepted (Semantic None message cause.InterfaceCycle) (u.world, there, interface_cycle_22 message complete is)
 
-    no_type_cycle : (message : List ℕ) → RefersToItself (relisted_at u w) message → ⊥
+    pub no_type_cycle : (message : List ℕ) → RefersToItself (relisted_at u w) message → ⊥
     no_type_cycle message is = accepted (Semantic None message cause.TypeCycle) (u.world, there, type_cycle_23 message complete is)
 
     -- ---- no interface uses itself

@@ -1,12 +1,14 @@
 -- The types and interfaces of a rewritten graph are good.
-use Rattle.std.proofs.Common.{◌≡◌, ◌≢◌, ◌∙◌, ℕ, List, [], ◌∷◌, Option, None, Some, IsSome, is_some, length, slice_get, option_and_then, refl, sym, ap, subst, arith, Contains, if◌then◌else◌}
+use Rattle.std.proofs.Common.{◌≡◌, ◌<◌, ◌≢◌, ◌∙◌, ℕ, List, [], ◌∷◌, Option, None, Some, IsSome, is_some, length, slice_get, option_and_then, refl, sym, ap, subst, arith, Contains, if◌then◌else◌, ◌⊎◌, inl, inr}
 use Rattle.std.specs.List.{enumerate_from}
 use Rattle.std.proofs.lemmas.List.{length-map}
-use Rattle.wit_relations.specs.MemberFacts.{Contains-nil}
-use Rattle.wit_relations.specs.Relation.{IsPath, direct}
+use Rattle.std.proofs.lemmas.List.Elements.{All-contains}
+use Rattle.std.proofs.lemmas.Option.{slice_get_within}
+use Rattle.wit_relations.specs.MemberFacts.{Contains-cons_cases, Contains-nil}
+use Rattle.wit_relations.specs.Relation.{IsPath, direct, Reaches}
 use Rattle.wit_items.specs.Entries.{ItemUsesOwn}
 use Rattle.wit_items.specs.Ownership.{IsOwn, IsPlain, RefersToOwn, Shows, UsesOwn, through_unnamed}
-use Rattle.wit_items.specs.Reference.{referred}
+use Rattle.wit_items.specs.Reference.{referred, type_references}
 use Rattle.wit_items.specs.Uses.{alias_target}
 use Rattle.wit_items.specs.declared.function.Function.{Function}
 use Rattle.wit_items.specs.declared.interface.Interface.{Interface}
@@ -23,9 +25,9 @@ use Rattle.wit_growth.specs.GoodIsValid.{good_things}
 use Rattle.wit_growth.specs.ListFacts.{found_at, from_row, in_row, some_at}
 use Rattle.wit_growth.specs.PackagesAcyclic.{length-numbered}
 use Rattle.wit_tracks.specs.Rewritten.{new_target, retargeted, rewritten_types}
-use Rattle.wit_tracks.specs.Upgrade.{Upgrade}
+use Rattle.wit_tracks.specs.Upgrade.{Upgrade, newest}
 use Rattle.wit_tracks_laws.proofs.Accepting.{stays_so}
-use Rattle.wit_tracks_laws.proofs.TypesAfter.{after, retargeted_name, retargeted_owner, turned_from, type_after}
+use Rattle.wit_tracks_laws.proofs.TypesAfter.{after, retargeted_name, retargeted_owner, turned_from, turned_type, type_after}
 
 -- an alias is not plain
 alias_not_plain : (k : TypeDefKind) (t : ℕ) → alias_target k ≡ Some t → IsPlain k → ⊥
@@ -46,6 +48,10 @@ row_into (Some name) ids k none has = cc
 
 abbrev row : TypeDef → List ℕ
 row def = if is_some def.name then [] else referred def.kind
+
+name_cases : (o : Option (List ℕ)) → (o ≡ None) ⊎ ((name : List ℕ) × (o ≡ Some name))
+name_cases None = inl refl
+name_cases (Some name) = inr (name, refl)
 
 module _ (u : Upgrade) (valid : IsValid u.graph) (w : ℕ) (there : slice_get u.graph.worlds w ≡ Some u.world) where
   abbrev types : List TypeDef
@@ -108,6 +114,59 @@ module _ (u : Upgrade) (valid : IsValid u.graph) (w : ℕ) (there : slice_get u.
   item_own_after v (item.Type_ t span) own = own
 
   -- ---- each type but for where it is listed, and each interface
+
+  -- ---- what types refer to
+
+  refers_before : (i j : ℕ) (new : TypeDef) → slice_get changed i ≡ Some new → new.name ≡ None → Contains (referred new.kind) j → Contains (direct (type_references types) i) j
+  refers_before i j new at none has =
+      let def = type_after u i new at in
+      let before : def.0.name ≡ None = sym (retargeted_name def.0 (new_target u i def.0)) ∙ ap (λ (d : TypeDef). d.name) (sym def.2) ∙ none in
+      let same : new ≡ def.0 = def.2 ∙ unnamed_stays i def.0 def.1 before in
+      in_row (λ (d : TypeDef). referred d.kind) types i def.0 j def.1 (subst (λ (d : TypeDef). Contains (referred d.kind) j) same has)
+
+  pub refers_in_range : (i j : ℕ) → Contains (direct (type_references changed) i) j → j < length (type_references changed)
+  refers_in_range i j edge =
+      let from = from_row (λ (d : TypeDef). referred d.kind) changed i j edge in
+      let def = type_after u i from.0 from.1 in
+      let within : j < length types = by def.0 def.1 (new_target u i def.0) refl (subst (λ (d : TypeDef). Contains (referred d.kind) j) def.2 from.2) in
+      omega (arith, within, many, length-map changed (λ (d : TypeDef). referred d.kind))
+    where
+      by : (def : TypeDef) → slice_get types i ≡ Some def → (o : Option ℕ) → new_target u i def ≡ o → Contains (referred (retargeted def o).kind) j → j < length types
+      by def at None is has =
+          let old = All-contains (λ x. x < length (type_references types)) (direct (type_references types) i) j (valid.no_cycles.types.in_range i) (in_row (λ (d : TypeDef). referred d.kind) types i def j at has) in
+          omega (arith, old, length-map types (λ (d : TypeDef). referred d.kind))
+      by def at (Some t') is has =
+          let turned = turned_from u i def t' is in
+          let found = found_at (λ (named : TypeDef). (named.name ≡ Some turned.name) × (named.owner ≡ owner.Interface (newest u turned.f))) types t' (turned_type u valid i def t' turned) in
+          let same : t' ≡ j = elim (Contains-cons_cases t' j [] has) [ inl one ↦ one | inr none ↦ absurd (Contains-nil none) ] in
+          let within = slice_get_within types t' found.0 found.1 in
+          omega (arith, within, same)
+
+  -- a named type on the way from i to j
+  pub record NamedOn (i j : ℕ) : Type 0 where
+    pub m : ℕ
+    pub def : TypeDef
+    pub at : slice_get changed m ≡ Some def
+    pub name : List ℕ
+    pub named : def.name ≡ Some name
+    pub next : ℕ
+    pub edge : Contains (direct (type_references changed) m) next
+    pub to : Reaches (type_references changed) i m
+    pub rest : Reaches (type_references changed) next j
+
+  pub on_the_way : (i : ℕ) (path : List ℕ) (j : ℕ) → IsPath (type_references changed) i path j → IsPath (type_references types) i path j ⊎ NamedOn i j
+  on_the_way i [] j same = inl same
+  on_the_way i (k ∷ path) j leads =
+      let from = from_row (λ (d : TypeDef). referred d.kind) changed i k leads.0 in
+      by from.0 from.1 from.2 (name_cases from.0.name) (on_the_way k path j leads.1)
+    where
+      by : (new : TypeDef) → slice_get changed i ≡ Some new → Contains (referred new.kind) k → (new.name ≡ None) ⊎ ((name : List ℕ) × (new.name ≡ Some name)) → IsPath (type_references types) k path j ⊎ NamedOn k j
+          → IsPath (type_references types) i (k ∷ path) j ⊎ NamedOn i j
+      by new at has (inr name) rest =
+          inr (record { m = i; def = new; at = at; name = name.0; named = name.1; next = k; edge = leads.0; to = ([], refl); rest = (path, leads.1) })
+      by new at has (inl none) (inl old) = inl (refers_before i k new at none has, old)
+      by new at has (inl none) (inr n) =
+          inr (record { m = n.m; def = n.def; at = n.at; name = n.name; named = n.named; next = n.next; edge = n.edge; to = (k ∷ n.to.0, (leads.0, n.to.1)); rest = n.rest })
 
   pub unnamed_plain : (t : ℕ) (new : TypeDef) → slice_get changed t ≡ Some new → new.name ≡ None → IsPlain new.kind
   unnamed_plain t new at none =

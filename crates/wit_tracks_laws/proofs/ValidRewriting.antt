@@ -1,30 +1,34 @@
 -- A rewritten graph is valid.
-use Rattle.std.proofs.Common.{◌≡◌, ◌∙◌, inl, inr, ℕ, List, Option, None, Some, IsSomeAnd, slice_get, refl, sym, ap, subst, Contains}
+use Rattle.std.proofs.Common.{◌≡◌, ◌∙◌, inl, inr, ℕ, List, Option, None, Some, IsSomeAnd, get_or, slice_get, refl, sym, ap, subst, Contains, ◌∷◌}
 use Rattle.wit_values.specs.Lists.{kept-cases}
 use Rattle.wit_items.specs.Each.{SomeAt}
 use Rattle.wit_items.specs.Ownership.{IsListed, world_types}
+use Rattle.wit_items.specs.Reference.{type_references}
 use Rattle.wit_items.specs.Uses.{uses_of}
+use Rattle.wit_relations.specs.Relation.{IsAcyclic, direct}
+use Rattle.std.proofs.lemmas.List.Elements.{Contains-get_or}
+use Rattle.wit_growth.specs.RowFacts.{Reaches-join}
 use Rattle.wit_items.specs.declared.track.TrackRule.{TrackRule}
 use Rattle.wit_items.specs.declared.types.TypeDef.{TypeDef}
 use Rattle.wit_items.specs.declared.types.TypeOwner.{TypeOwner}
 use Rattle.wit_items.specs.declared.types.TypeOwner.TheVariants as owner
 use Rattle.wit_items.specs.declared.world.World.{World}
 use Rattle.wit_graph.specs.Elaborated.{Elaborated}
-use Rattle.wit_graph.specs.Valid.{HasNoCycles, IsValid, IsWorldInTable, IsWorldOf}
+use Rattle.wit_graph.specs.Valid.{IsValid, IsWorldInTable, IsWorldOf}
 use Rattle.wit_graph.specs.declared.graph.Graph.{Graph}
 use Rattle.wit_graph.specs.declared.graph.Package.{Package}
 use Rattle.wit_growth.specs.Good.{HasGoodThings, IsGoodAsAWhole, IsGoodWorld}
 use Rattle.wit_growth.specs.GoodIsValid.{IsValid-from_good, good_things}
 use Rattle.wit_growth.specs.ListFacts.{at_map, found_at, same_at, some_at}
 use Rattle.wit_growth.specs.OnePlaceFacts.{StandOnce-from_places}
-use Rattle.wit_unite.specs.AllElaborated.{elaborated_world}
+use Rattle.wit_unite.specs.AllElaborated.{elaborated_world, graph_package_uses, type_cycle_text}
 use Rattle.wit_tracks.specs.Rewritten.{listed_world, new_target, rewritten}
 use Rattle.wit_tracks.specs.TrackCause.{IsAccepted}
 use Rattle.wit_tracks.specs.Upgrade.{Upgrade}
-use Rattle.wit_tracks_laws.proofs.Accepting.{listed_there, new_aliases, relisted_worlds, rewritten_is}
+use Rattle.wit_tracks_laws.proofs.Accepting.{listed_there, new_aliases, no_type_cycle, relisted_worlds, rewritten_is, uses_acyclic}
 use Rattle.wit_tracks_laws.proofs.Merged.{Laws}
 use Rattle.wit_tracks_laws.proofs.TypesAfter.{retargeted_name, retargeted_owner, type_after}
-use Rattle.wit_tracks_laws.proofs.TypesGood.{interface_after, known_after, refers_to_own, unnamed_plain}
+use Rattle.wit_tracks_laws.proofs.TypesGood.{interface_after, known_after, on_the_way, refers_in_range, refers_to_own, unnamed_plain}
 use Rattle.wit_tracks_laws.proofs.WorldsGood.{done, done_is_canonical, done_is_good, from, new, one_place_new, relisted, same_name, same_package, types_stay, world_from}
 
 module _ (laws : Laws) (u : Upgrade) (valid : IsValid u.graph) (w : ℕ) (there : slice_get u.graph.worlds w ≡ Some u.world) (accepted : IsAccepted u.rule u.graph w) where
@@ -122,20 +126,41 @@ module _ (laws : Laws) (u : Upgrade) (valid : IsValid u.graph) (w : ℕ) (there 
         (things.worlds_in_tables v came.before came.at));
   }
 
-  whole_made : HasNoCycles made → IsGoodAsAWhole made
-  whole_made no_cycles = record {
+  -- ---- no type refers to itself
+
+  types_acyclic : IsAcyclic (type_references made.types)
+  types_acyclic = record {
+    in_range = λ i k d inside. refers_in_range u valid w there i (get_or (direct (type_references made.types) i) k d) (Contains-get_or (direct (type_references made.types) i) k d inside);
+    no_cycle = λ i k path leads. elim (on_the_way u valid w there i (k ∷ path) i leads) [
+      | inl old ↦ valid.no_cycles.types.no_cycle i k path old
+      | inr n ↦
+          no_type_cycle u valid w there accepted (type_cycle_text n.name) (record {
+            t = n.m;
+            u = n.next;
+            on_cycle = record { is_used = n.edge; leads_back = Reaches-join (type_references made.types) n.next i n.m n.rest n.to };
+            def = n.def;
+            is = n.at;
+            name = n.name;
+            name_is = n.named;
+            message_is = refl;
+          })
+    ];
+  }
+
+  whole_made : IsAcyclic (graph_package_uses made) → IsGoodAsAWhole made
+  whole_made packages = record {
     package_names = valid.well_formed.package_names;
     once = StandOnce-from_places g.interfaces made.worlds (one_place_new laws u valid w there accepted);
-    no_cycles = no_cycles;
+    no_cycles = record { uses = uses_acyclic u valid w there accepted; types = types_acyclic; packages = packages };
     canonical = λ v world at.
         let it = world_from laws u valid w there accepted v world at in
         subst (λ (x : World). Elaborated made.types (uses_of made.types made.interfaces) x x) it.is (done_is_canonical laws u valid w there accepted v it.listed it.at);
   }
 
-  pub valid_made : HasNoCycles made → IsValid made
-  valid_made no_cycles = IsValid-from_good made good_made (whole_made no_cycles)
+  pub valid_made : IsAcyclic (graph_package_uses made) → IsValid made
+  valid_made packages = IsValid-from_good made good_made (whole_made packages)
 
-pub rewritten_is_valid : (laws : Laws) (rule : TrackRule) (g : Graph) (w : ℕ) (old : World) → IsValid g → slice_get g.worlds w ≡ Some old → IsAccepted rule g w → HasNoCycles (rewritten rule g w) → IsValid (rewritten rule g w)
-rewritten_is_valid laws rule g w old valid there accepted no_cycles =
+pub rewritten_is_valid : (laws : Laws) (rule : TrackRule) (g : Graph) (w : ℕ) (old : World) → IsValid g → slice_get g.worlds w ≡ Some old → IsAccepted rule g w → IsAcyclic (graph_package_uses (rewritten rule g w)) → IsValid (rewritten rule g w)
+rewritten_is_valid laws rule g w old valid there accepted packages =
     let u : Upgrade = record { rule = rule; graph = g; world = old } in
-    subst IsValid (sym (rewritten_is rule g w old there)) (valid_made laws u valid w there accepted (subst HasNoCycles (rewritten_is rule g w old there) no_cycles))
+    subst IsValid (sym (rewritten_is rule g w old there)) (valid_made laws u valid w there accepted (subst (λ (x : Graph). IsAcyclic (graph_package_uses x)) (rewritten_is rule g w old there) packages))

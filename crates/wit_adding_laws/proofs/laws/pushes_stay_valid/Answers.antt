@@ -5,10 +5,12 @@ pub returns : goal.returns
 returns c =
     λ a valid shaped image absent reached.
     valid_pushes (record {
-      again = c.elaborates_once.ensures;
-      local = c.elaboration_is_local.ensures;
-      entries = c.elaborated_entries.ensures;
-      once = c.elaborated_once.ensures;
-      labels = c.labels_stay.ensures;
+      worlds = record {
+        again = c.elaborates_once.ensures;
+        local = c.elaboration_is_local.ensures;
+        entries = c.elaborated_entries.ensures;
+        once = c.elaborated_once.ensures;
+        labels = c.labels_stay.ensures;
+      };
       refused = c.conflicts_are_refused.ensures;
     }) a valid shaped image reached absent
