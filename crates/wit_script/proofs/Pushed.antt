@@ -6,14 +6,13 @@ use Rattle.wit_values.specs.Lists.{AllByRecursion-at}
 use Rattle.wit_items.specs.Each.{Each}
 use Rattle.wit_items.specs.Shape.{IsGroupShaped}
 use Rattle.wit_items.specs.declared.unresolved.UnresolvedPackageGroup.{UnresolvedPackageGroup}
-use Rattle.wit_link.specs.Supported.{IsSupportedGroup}
 use Rattle.wit_drafts.specs.Draft.{grouped}
 use Rattle.wit_drafts.specs.declared.draft.Draft.{Draft}
 use Rattle.wit_lines.specs.Signature.{each_of}
 use Rattle.wit_lines.specs.declared.fault.LineFault.{LineFault}
 use Rattle.wit_lines.specs.declared.request.Request.{Request}
 use Rattle.wit_lines.specs.declared.request.Request.TheVariants as request
-use Rattle.wit_script.specs.Ready.{AreReady, AreShaped, CanAdd, CanPush, IsReady, is_taken}
+use Rattle.wit_script.specs.Ready.{AreReady, AreShaped, IsReady, is_taken}
 use Rattle.wit_script.specs.Script.{GoesOn, IsBad, with_asked, with_command, with_groups, with_push}
 use Rattle.wit_script.specs.declared.reader.Reading.{Reading}
 use Rattle.wit_script.specs.declared.ready.ScriptCommand.{ScriptCommand}
@@ -31,16 +30,13 @@ pub more-ready : (commands : List ScriptCommand) (command : ScriptCommand) → A
 more-ready [] command ready one = (one, tt)
 more-ready (first ∷ commands) command ready one = (ready.0, more-ready commands command ready.1 one)
 
--- groups each of which can be added
-pub each-can : (groups : List UnresolvedPackageGroup) → Each CanAdd groups → AreShaped groups × CanPush groups
-each-can [] all = (tt, tt)
-each-can (group ∷ groups) all =
-    let first = all 0 group refl in
-    let rest = each-can groups (λ i x at. all (suc i) x at) in
-    ((first.0, rest.0), (first.1, rest.1))
+-- groups each of which has its shape
+pub each-shaped : (groups : List UnresolvedPackageGroup) → Each IsGroupShaped groups → AreShaped groups
+each-shaped [] all = tt
+each-shaped (group ∷ groups) all = (all 0 group refl, each-shaped groups (λ i x at. all (suc i) x at))
 
-can-each : (groups : List UnresolvedPackageGroup) → AreShaped groups × CanPush groups → Each CanAdd groups
-can-each groups all = λ i group at. (AllByRecursion-at IsGroupShaped groups i group all.0 at, AllByRecursion-at IsSupportedGroup groups i group all.1 at)
+shaped-each : (groups : List UnresolvedPackageGroup) → AreShaped groups → Each IsGroupShaped groups
+shaped-each groups all = λ i group at. AllByRecursion-at IsGroupShaped groups i group all at
 
 -- ---- packages as groups
 
@@ -72,10 +68,10 @@ each-next (q ∷ packages) p groups group had next =
 
 -- ---- a push
 
--- groups that can't be pushed
-pub bad-groups : (r : Reading) (groups : List UnresolvedPackageGroup) → ¬ Each CanAdd groups → IsBad (with_groups r groups)
+-- groups of which one has another shape
+pub bad-groups : (r : Reading) (groups : List UnresolvedPackageGroup) → ¬ Each IsGroupShaped groups → IsBad (with_groups r groups)
 bad-groups r [] fails = tt
-bad-groups r (main ∷ deps) fails = λ ready. fails (can-each (main ∷ deps) (last-ready r.commands (asks.Push main deps) ready))
+bad-groups r (main ∷ deps) fails = λ ready. fails (shaped-each (main ∷ deps) (last-ready r.commands (asks.Push main deps) ready))
 
 -- a push of these packages comes to the push of their groups
 pub push-is : (r : Reading) (p : Draft) (groups : List UnresolvedPackageGroup) → r.current ≡ Some p → each_of grouped (r.finished ++ p ∷ []) ≡ Some groups → with_push r ≡ with_groups r groups

@@ -4,8 +4,9 @@ ghost use Rattle.wit_drafts.specs.Draft.{grouped};
 ghost use Rattle.wit_lines.specs.IsRead.{IsRead};
 ghost use Rattle.wit_lines.specs.Signature.{each_of};
 ghost use Rattle.wit_items.specs.Each.{Each};
+ghost use Rattle.wit_items.specs.Shape.{IsGroupShaped};
 ghost use Rattle.wit_lines.specs.Line.{is_silent, last_said_of};
-ghost use Rattle.wit_script.specs.Ready.{AreReady, CanAdd, is_accepted_so_far, is_taken};
+ghost use Rattle.wit_script.specs.Ready.{AreReady, is_accepted_so_far, is_taken};
 ghost use Rattle.wit_script.specs.Script.{GoesOn, HasLineFault, HasReadFault, IsUnderstood, Leads, after_line, new_reading, reading_of, with_groups, with_package, with_package_line, with_push, with_request, with_statement};
 
 use crate::ahead::mentions_ahead;
@@ -16,7 +17,6 @@ use std::mem;
 use wit_drafts::Draft;
 use wit_items::{Items, PackageName, Stability, UnresolvedPackageGroup};
 use wit_lines::{LineFault, PackageLine, Request, Statement, lines, read_line};
-use wit_link::is_supported_group;
 
 /// What the lines so far say.
 #[derive(Drop)]
@@ -30,22 +30,12 @@ pub struct Reading {
     pub other: bool,
 }
 
-/// Whether a group has the shape that a graph takes, and can be added so far.
-fn can_add(alloc: Global, group: &UnresolvedPackageGroup) -> Result<bool, AllocError>
-    ensures { IfOk result (λ can. IsTrue can ↔ CanAdd group.now) }
-{
-    if !group.is_shaped(alloc)? {
-        return Ok(false);
-    }
-    Ok(is_supported_group(group))
-}
-
-/// Whether each of these groups has, and can.
-fn can_add_each(alloc: Global, groups: &[UnresolvedPackageGroup]) -> Result<bool, AllocError>
-    ensures { IfOk result (λ can. IsTrue can ↔ Each CanAdd groups.now) }
+/// Whether each of these groups has the shape that a graph takes.
+fn are_shaped(alloc: Global, groups: &[UnresolvedPackageGroup]) -> Result<bool, AllocError>
+    ensures { IfOk result (λ shaped. IsTrue shaped ↔ Each IsGroupShaped groups.now) }
 {
     for group in groups {
-        if !can_add(alloc, group)? {
+        if !group.is_shaped(alloc)? {
             return Ok(false);
         }
     }
@@ -188,7 +178,7 @@ impl Reading {
         requires current { self.old.current ≡ None }
         ensures { GoesOn (with_groups self.old groups) result self.new }
     {
-        if !can_add_each(alloc, groups.as_slice())? {
+        if !are_shaped(alloc, groups.as_slice())? {
             return Err(LineFault::NotUnderstood);
         }
         let Some((main, deps)) = split_main(groups) else {

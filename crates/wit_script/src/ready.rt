@@ -1,10 +1,10 @@
 //! What a script asks, and that it may be asked so far.
 ghost use Rattle.std.specs.Prelude.{◌≡◌};
-ghost use Rattle.wit_script.specs.Ready.{is_accepted_so_far, is_line_taken, is_own, is_taken};
+ghost use Rattle.wit_script.specs.Ready.{is_accepted_so_far, is_taken};
 
 use std::marker::Model;
-use wit_items::{Items, ParsedUsePath, UnresolvedPackageGroup};
-use wit_lines::{PackageLine, Request, Statement};
+use wit_items::{Items, UnresolvedPackageGroup};
+use wit_lines::{Request, Statement};
 
 /// A command of a script.
 #[derive(Drop)]
@@ -28,31 +28,13 @@ fn is_taken(request: &Request) -> bool
     }
 }
 
-/// Whether a path names something of the same package.
-fn is_own(path: &ParsedUsePath) -> bool
-    ensures { result ≡ is_own path.now }
-{
-    matches!(path, ParsedUsePath::Name(_))
-}
-
-/// Whether a line of a package is read so far: it includes no world of another package.
-fn is_line_taken(line: &PackageLine) -> bool
-    ensures { result ≡ is_line_taken line.now }
-{
-    match line {
-        PackageLine::Include { path, .. } => is_own(path),
-        _ => true,
-    }
-}
-
 /// Whether what a line says is accepted so far.
 pub fn is_accepted(said: &Statement) -> bool
     ensures { result ≡ is_accepted_so_far said.now }
 {
     match said {
-        Statement::Line { said, .. } => is_line_taken(said),
         Statement::Request(request) => is_taken(request),
-        Statement::Package(_) | Statement::Push => true,
+        _ => true,
     }
 }
 

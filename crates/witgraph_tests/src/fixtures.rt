@@ -1,7 +1,6 @@
 //! What several tests need.
 use std::alloc::Global;
 use std::process::Abort;
-use wit_link::is_supported;
 use wit_resolve_graph::Resolve;
 use wit_script::{ScriptCommand, read_script};
 
@@ -29,6 +28,5 @@ fn push(rt: &impl Abort, alloc: Global, resolve: &mut Resolve, command: ScriptCo
     drop(deps);
     let package = main.main;
     assert!(rt; package.is_shaped(alloc).expect(rt, "memory"));
-    assert!(rt; is_supported(&package));
     let _id = resolve.push(alloc, package, 0).expect(rt, "memory");
 }

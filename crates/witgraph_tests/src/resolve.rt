@@ -5,7 +5,6 @@ use std::alloc::Global;
 use std::process::Abort;
 use wit_graph::ResolveResult;
 use wit_items::{InterfaceId, PackageId, SourceMap, TryClone, UnresolvedPackageGroup, WorldKey};
-use wit_link::{is_supported, is_supported_group};
 use wit_resolve_graph::Resolve;
 use wit_script::{ScriptCommand, read_script};
 
@@ -49,7 +48,6 @@ fn push(
 ) -> Result<usize, u32> {
     let package = group(rt, alloc).main;
     assert!(rt; package.is_shaped(alloc).expect(rt, "memory"));
-    assert!(rt; is_supported(&package));
     answer(resolve.push(alloc, package, span_offset))
 }
 
@@ -57,7 +55,6 @@ fn push(
 fn push_group(rt: &impl Abort, alloc: Global, resolve: &mut Resolve) -> Result<usize, u32> {
     let group = group(rt, alloc);
     assert!(rt; group.is_shaped(alloc).expect(rt, "memory"));
-    assert!(rt; is_supported_group(&group));
     answer(resolve.push_group(alloc, group))
 }
 

@@ -1,7 +1,6 @@
 //! Sources that are pushed by a parse which is handed in, how their faults are told, and sources of packages.
 ghost use Rattle.std.specs.Prelude.{IfOk, IsErr};
 ghost use Rattle.wit_items.specs.Shape.{IsGroupShaped};
-ghost use Rattle.wit_link.specs.Supported.{IsSupportedGroup};
 ghost use Rattle.wit_package_sources.specs.Names.{ArePlaced};
 
 use std::alloc::{AllocError, Global};
@@ -11,7 +10,6 @@ use wit_items::{
     Docs, Function, FunctionKind, Interface, Items, Names, PackageId, PackageName, SourceMap, Span,
     Stability, Table, Text, TryClone, UnresolvedPackage, UnresolvedPackageGroup,
 };
-use wit_link::is_supported_group;
 use wit_resolve_graph::{PackageSources, ParseFault, Resolve, SourceFault};
 
 fn text(rt: &impl Abort, alloc: Global, text: &str) -> Text {
@@ -119,15 +117,14 @@ fn parsed(
     alloc: Global,
     source_map: SourceMap,
 ) -> Result<UnresolvedPackageGroup, ParseFault>
-    ensures shaped { IfOk result (λ group. IsGroupShaped group) }
-    ensures supported { IfOk result (λ group. IsSupportedGroup group) }
+    ensures { IfOk result (λ group. IsGroupShaped group) }
 {
     let group = UnresolvedPackageGroup {
         main: package(rt, alloc),
         nested: Items::new(alloc),
         source_map,
     };
-    if group.is_shaped(alloc).expect(rt, "memory") && is_supported_group(&group) {
+    if group.is_shaped(alloc).expect(rt, "memory") {
         return Ok(group);
     }
     Err(ParseFault::OutOfMemory)
