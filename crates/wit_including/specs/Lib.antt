@@ -1,1 +1,3 @@
+pub mod AdditionFacts
 pub mod Included
+pub mod SeveralFacts
