@@ -133,6 +133,12 @@ module _ (a : Addition) (shaped : IsShaped a.handed) (image : HasImage a) where
     | inr left ↦ absurd (image.references _ _ (record { thing = AnInterface i; place = place; refers = h; excluded = left; span_is = refl; message_is = refl }))
   ]
 
+  pub kept_world : (w : ℕ) (place : Place) → RefersTo a (AWorld w) place → world_is_active a.features a.handed w ≡ true
+  kept_world w place h = elim (cases_Bool (world_is_active a.features a.handed w)) [
+    | inl is_on ↦ is_on
+    | inr left ↦ absurd (image.references _ _ (record { thing = AWorld w; place = place; refers = h; excluded = left; span_is = refl; message_is = refl }))
+  ]
+
   -- and its owner isn't left out
   kept_owner : (t : ℕ) (def : TypeDef) (thing : Thing) → slice_get a.handed.types t ≡ Some def → type_is_active a.features a.handed.types t ≡ true → def.kind ≢ kind.Unknown
       → owner_thing def.owner ≡ thing ∷ [] → IsExcluded a thing → ⊥

@@ -9,20 +9,21 @@ use Rattle.std.proofs.lemmas.Map.Views.{Contains-from_lookup}
 use Rattle.wit_relations.specs.MemberFacts.{Contains-cons_cases, Contains-flat_map, Contains-flat_map_cases, Contains-here, Contains-nil, Contains-there}
 use Rattle.wit_relations.specs.FreshFacts.{any_from_contains, contains_from_any}
 use Rattle.wit_items.specs.Each.{Each, SomeAt}
-use Rattle.wit_items.specs.Foreign.{AreFirst, ForeignItem, ForeignItems, foreign_interfaces, interface_id}
+use Rattle.wit_items.specs.Foreign.{AreFirst, ForeignItem, ForeignItems, foreign_interfaces, foreign_worlds, interface_id, world_id}
 use Rattle.wit_items.specs.PackageNameFacts.{own_name, same_name}
 use Rattle.wit_items.specs.PackageOrder.{same_package}
 use Rattle.wit_items.specs.Shape.{IsShaped}
 use Rattle.wit_items.specs.declared.interface.Interface.{Interface}
 use Rattle.wit_items.specs.declared.package_name.PackageName.{PackageName}
+use Rattle.wit_items.specs.declared.world.World.{World}
 use Rattle.wit_items.specs.declared.unresolved.AstItem.{AstItem}
 use Rattle.wit_items.specs.declared.unresolved.AstItem.TheVariants as named
 use Rattle.wit_sources.specs.Span.{moved_by}
 use Rattle.wit_growth.specs.ListFacts.{Contains-map, Contains-map_cases, contained_at, found_at, get_at, place_of, some_at}
 use Rattle.wit_adding.specs.Addition.{Addition}
 use Rattle.wit_adding.specs.ClosedCut.{member_of_first}
-use Rattle.wit_adding.specs.Gates.{Place, interface_is_active, is_foreign_interface}
-use Rattle.wit_adding.specs.Lookup.{find_interface, find_package, found_interface, named_items, naming}
+use Rattle.wit_adding.specs.Gates.{Place, interface_is_active, is_foreign_interface, is_foreign_world, world_is_active}
+use Rattle.wit_adding.specs.Lookup.{find_interface, find_package, find_world, found_interface, named_items, naming}
 use Rattle.wit_adding.specs.Reasons.{HasImage, HasPackage, known_packages}
 
 -- ---- the first that passes
@@ -103,6 +104,23 @@ named_interface a shaped i foreign =
     find-some (λ (e : ℕ × PackageName × ForeignItem). list_any (nat_eq i) (interface_id e.2.1.0)) (named_items deps) (at.0, home.0.0, it.0)
     (named_into deps at.0 home.0.0 home.0.1 it.0 at.1 it.1.0) (any_from_contains i (interface_id it.0.1.0) it.1.1)
 
+-- so for worlds
+pub world_of : (w : ℕ) (it : AstItem) → list_any (nat_eq w) (world_id it) ≡ true → it ≡ named.World w
+world_of w (named.World v) h =
+    elim (Contains-cons_cases v w [] (contains_from_any w (v ∷ []) h)) [ inl same ↦ ap named.World same | inr none ↦ absurd (Contains-nil none) ]
+world_of w (named.Interface i) h = cc
+
+pub named_world : (a : Addition) → IsShaped a.handed → (w : ℕ) → is_foreign_world a.handed w ≡ true → (e : ℕ × PackageName × ForeignItem) × (naming world_id a.handed w ≡ Some e)
+named_world a shaped w foreign =
+    let deps = a.handed.foreign_deps in
+    let below : w < length (foreign_worlds deps) = ltb-true w (length (foreign_worlds deps)) foreign in
+    let has = member_of_first (foreign_worlds deps) (length a.handed.worlds) w shaped.foreign.worlds below in
+    let home = Contains-flat_map_cases (λ (e : PackageName × List ForeignItem). flat_map (λ (it : ForeignItem). world_id it.1.0) e.1) deps w has in
+    let it = Contains-flat_map_cases (λ (it : ForeignItem). world_id it.1.0) home.0.1 w home.1.1 in
+    let at = place_of deps home.0 home.1.0 in
+    find-some (λ (e : ℕ × PackageName × ForeignItem). list_any (nat_eq w) (world_id e.2.1.0)) (named_items deps) (at.0, home.0.0, it.0)
+    (named_into deps at.0 home.0.0 home.0.1 it.0 at.1 it.1.0) (any_from_contains w (world_id it.0.1.0) it.1.1)
+
 module _ (a : Addition) (shaped : IsShaped a.handed) (image : HasImage a) where
   -- the package of what is named is there, or it is the one that is added
   package_there : (at : ℕ) (home : PackageName) (items : List ForeignItem) (item : ForeignItem) → slice_get a.handed.foreign_deps at ≡ Some (home, items) → Contains items item
@@ -151,4 +169,31 @@ module _ (a : Addition) (shaped : IsShaped a.handed) (image : HasImage a) where
             has_package = home;
             absent = none;
             span_is = some_at (λ (interface : Interface). moved_by a.offset there.0.span ≡ moved_by a.offset interface.span) a.handed.interfaces i there.0 there.1 refl;
+          }))
+
+  -- so is a world
+  pub world_found : (w : ℕ) → is_foreign_world a.handed w ≡ true → world_is_active a.features a.handed w ≡ true
+      → (e : ℕ × PackageName × ForeignItem) × (w' : ℕ) × (naming world_id a.handed w ≡ Some e) × (find_world a.graph a.handed.name e.1 e.2.0 ≡ Some w')
+  world_found w foreign active =
+      let is = named_world a shaped w foreign in
+      let e = is.0 in
+      let passes = find-passes (λ (e : ℕ × PackageName × ForeignItem). list_any (nat_eq w) (world_id e.2.1.0)) (named_items a.handed.foreign_deps) e is.1 in
+      let at = named_at a.handed.foreign_deps e passes.0 in
+      by e is.1 passes.0 (world_of w e.2.1.0 passes.1) (package_there e.0 e.1 at.0 e.2 at.1 at.2) (find_world a.graph a.handed.name e.1 e.2.0) refl
+    where
+      by : (e : ℕ × PackageName × ForeignItem) → naming world_id a.handed w ≡ Some e → Contains (named_items a.handed.foreign_deps) e → e.2.1.0 ≡ named.World w
+          → HasPackage a.graph e.1 ⊎ (e.1 ≡ a.handed.name) → (o : Option ℕ) → find_world a.graph a.handed.name e.1 e.2.0 ≡ o
+          → (e : ℕ × PackageName × ForeignItem) × (w' : ℕ) × (naming world_id a.handed w ≡ Some e) × (find_world a.graph a.handed.name e.1 e.2.0 ≡ Some w')
+      by e is has kind home (Some w') found = (e, w', is, found)
+      by e is has kind home None none =
+          let there = get_at a.handed.worlds w (let below = ltb-true w (length (foreign_worlds a.handed.foreign_deps)) foreign in let inside = shaped.foreign.worlds.there in omega arith) in
+          absurd (image.worlds _ e.2.0 e.1 (record {
+            at = e.0;
+            w = w;
+            notes = e.2.1.1;
+            names = subst (λ (it : AstItem). Contains (named_items a.handed.foreign_deps) (e.0, e.1, (e.2.0, (it, e.2.1.1)))) kind has;
+            active = active;
+            has_package = home;
+            absent = none;
+            span_is = some_at (λ (world : World). moved_by a.offset there.0.span ≡ moved_by a.offset world.span) a.handed.worlds w there.0 there.1 refl;
           }))

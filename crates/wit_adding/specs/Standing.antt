@@ -8,7 +8,7 @@ use Rattle.std.proofs.lemmas.Map.Views.{Contains-from_lookup}
 use Rattle.std.proofs.lemmas.Slice.Eq.{bytes_eq-Decides}
 use Rattle.wit_values.specs.Lists.{slice_get-append}
 use Rattle.wit_items.specs.Each.{Each, SomeAt}
-use Rattle.wit_items.specs.Foreign.{ForeignItem, IsBare, IsBareInterface, IsForeignType, foreign_interfaces, interface_id}
+use Rattle.wit_items.specs.Foreign.{ForeignItem, IsBare, IsBareInterface, IsForeignType, foreign_interfaces, interface_id, world_id}
 use Rattle.wit_items.specs.Ownership.{IsTypeOf}
 use Rattle.wit_items.specs.Shape.{IsShaped}
 use Rattle.wit_items.specs.declared.interface.Interface.{Interface}
@@ -17,6 +17,8 @@ use Rattle.wit_items.specs.declared.types.TypeDef.{TypeDef}
 use Rattle.wit_items.specs.declared.types.TypeDefKind.TheVariants as kind
 use Rattle.wit_items.specs.declared.types.TypeOwner.{TypeOwner}
 use Rattle.wit_items.specs.declared.types.TypeOwner.TheVariants as owner
+use Rattle.wit_items.specs.declared.world.World.{World}
+use Rattle.std.proofs.lemmas.Option.{slice_get_within}
 use Rattle.wit_items.specs.declared.unresolved.AstItem.TheVariants as named
 use Rattle.wit_sources.specs.Span.{moved_by}
 use Rattle.wit_graph.specs.Valid.{IsValid}
@@ -25,9 +27,9 @@ use Rattle.wit_graph.specs.declared.graph.Package.{Package}
 use Rattle.wit_growth.specs.ListFacts.{at_map, at_new, contained_at, found_at, get_at, place_of, same_at, some_at}
 use Rattle.wit_adding.specs.Addition.{Addition, own_type, own_interface, own_world, type_place, interface_place, world_place}
 use Rattle.wit_adding.specs.ClosedCut.{kept_interface}
-use Rattle.wit_adding.specs.Found.{find-passes, interface_found, interface_of, named_at}
+use Rattle.wit_adding.specs.Found.{find-passes, interface_found, interface_of, named_at, world_found}
 use Rattle.wit_adding.specs.Gates.{Place, interface_is_active, is_foreign_interface, is_foreign_world, type_is_active, world_is_active}
-use Rattle.wit_adding.specs.Lookup.{find_interface, find_package, found_interface, found_type, is_foreign_type, listed_type, named_items, naming, owning_interface}
+use Rattle.wit_adding.specs.Lookup.{find_interface, find_package, find_world, found_interface, found_type, found_world, is_foreign_type, listed_type, named_items, naming, owning_interface}
 use Rattle.wit_adding.specs.Ranks.{rank}
 use Rattle.wit_adding.specs.Reasons.{HasImage, of_foreign_type}
 
@@ -78,6 +80,22 @@ find_is g valid own home name i found = in_package (find_package g own home) fou
     in_package None h = cc
     in_package (Some p) h = in_table p (slice_get g.packages p) refl h
 
+-- a world that is found is there
+pub find_world_within : (g : Graph) → IsValid g → (own home : PackageName) (name : List ℕ) (w : ℕ) → find_world g own home name ≡ Some w → w < length g.worlds
+find_world_within g valid own home name w found = in_package (find_package g own home) found
+  where
+    in_table : (p : ℕ) (o : Option Package) → slice_get g.packages p ≡ o → option_and_then (λ (there : Package). lookup (bytes_eq name) there.worlds) o ≡ Some w → w < length g.worlds
+    in_table p None at h = cc
+    in_table p (Some there) at h =
+        let has = Contains-from_lookup (λ x y. (bytes_eq-Decides x y).0) name w there.worlds h in
+        let place = place_of there.worlds (name, w) has in
+        let is = found_at (λ (world : World). (world.name ≡ name) × (world.package ≡ Some p)) g.worlds w (valid.well_formed.tables.world_tables p there at place.0 (name, w) place.1) in
+        slice_get_within g.worlds w is.0 is.1
+
+    in_package : (o : Option ℕ) → option_and_then (λ p. option_and_then (λ (there : Package). lookup (bytes_eq name) there.worlds) (slice_get g.packages p)) o ≡ Some w → w < length g.worlds
+    in_package None h = cc
+    in_package (Some p) h = in_table p (slice_get g.packages p) refl h
+
 -- a type that an interface lists is its own, under that name
 pub listed_is : (g : Graph) → IsValid g → (name : List ℕ) (i t : ℕ) → listed_type g name i ≡ Some t → IsTypeOf g.types (owner.Interface i) name t
 listed_is g valid name i t found = by (slice_get g.interfaces i) refl found
@@ -92,6 +110,16 @@ listed_is g valid name i t found = by (slice_get g.interfaces i) refl found
 -- ---- what is foreign is found
 
 module _ (a : Addition) (valid : IsValid a.graph) (shaped : IsShaped a.handed) (image : HasImage a) where
+  -- a world of another package that takes part goes to one of the graph
+  pub foreign_world_within : (w : ℕ) → is_foreign_world a.handed w ≡ true → world_is_active a.features a.handed w ≡ true → world_place a w < length a.graph.worlds
+  foreign_world_within w foreign active =
+      let is = world_found a shaped image w foreign active in
+      let e = is.0 in
+      let there : found_world a.graph a.handed w ≡ Some is.1 = ap (λ (o : Option (ℕ × PackageName × ForeignItem)). option_and_then (λ (e : ℕ × PackageName × ForeignItem). find_world a.graph a.handed.name e.1 e.2.0) o) is.2 ∙ is.3 in
+      let goes : world_place a w ≡ is.1 =
+      foreign_goes (world_is_active a.features a.handed w) (is_foreign_world a.handed w) (found_world a.graph a.handed w) (length a.graph.worlds + rank (own_world a) w) w is.1 active foreign there in
+      subst (λ (v : ℕ). v < length a.graph.worlds) (sym goes) (find_world_within a.graph valid a.handed.name e.1 e.2.0 is.1 is.3)
+
   -- an interface of another package that takes part goes to one of the graph, under its name
   pub foreign_interface_goes : (i : ℕ) (interface : Interface) → slice_get a.handed.interfaces i ≡ Some interface → is_foreign_interface a.handed i ≡ true → interface_is_active a.features a.handed i ≡ true
       → (found_interface a.graph a.handed i ≡ Some (interface_place a i)) × SomeAt a.graph.interfaces (interface_place a i) (λ (there : Interface). IsSome there.name × (there.name ≡ interface.name))

@@ -25,7 +25,9 @@ use Rattle.wit_growth.specs.ListFacts.{at_below, contained_at, found_at, from_ma
 use Rattle.wit_growth.specs.Referred.{RefersUnder}
 use Rattle.wit_growth.specs.ReferredFacts.{alias_image, kind_refers}
 use Rattle.wit_growth.specs.RowFacts.{walk_shorter}
-use Rattle.wit_growth.specs.Sources.{OwnerTakesPart}
+use Rattle.wit_growth.specs.Sources.{Carries, OwnerTakesPart}
+use Rattle.wit_growth.specs.Covered.{IsCovered}
+use Rattle.wit_growth.specs.Kept.{everything}
 use Rattle.wit_growth.specs.TypesAcyclic.{types_acyclic}
 use Rattle.wit_growth.specs.GraphSource.{good_items}
 use Rattle.wit_growth.specs.UsesAcyclic.{uses_acyclic}
@@ -35,8 +37,7 @@ use Rattle.wit_adding.specs.Gates.{interface_is_active, is_foreign_interface, ty
 use Rattle.wit_adding.specs.Lookup.{is_foreign_type}
 use Rattle.wit_adding.specs.Reasons.{HasImage}
 use Rattle.wit_adding.specs.Standing.{foreign_interface_goes, foreign_type, listed_is}
-use Rattle.wit_adding_laws.specs.Draft.{draft}
-use Rattle.wit_adding_laws.specs.DraftStands.{draft_carries, draft_covered}
+use Rattle.wit_adding_laws.specs.ListedStage.{listed, stage_carries, stage_covered}
 use Rattle.wit_adding_laws.specs.Parts.{HasParts}
 use Rattle.wit_adding_laws.specs.PartsStand.{own_interface_at, own_of_both, own_type_at}
 use Rattle.wit_adding_laws.specs.SourcesGood.{sources, sources_good}
@@ -92,7 +93,17 @@ module _ (a : Addition) (valid : IsValid a.graph) (shaped : IsShaped a.handed) (
 
   module _ (types : List TypeDef) (interfaces : List Interface) (are : HasParts a types interfaces) where
     abbrev g : Graph
-    g = draft a types interfaces
+    g = record (listed a) { types = types; interfaces = interfaces }
+
+    -- the first stage of the addition
+    stage_is : listed a ≡ g
+    stage_is = λ i. record (listed a) { types = sym are.types_are i; interfaces = sym are.interfaces_are i }
+
+    carries : (k : ℕ) → Carries (sources a k) g
+    carries k = subst (Carries (sources a k)) stage_is (stage_carries a valid shaped image k)
+
+    covered : IsCovered everything (sources a) g
+    covered = subst (IsCovered everything (sources a)) stage_is (stage_covered a valid shaped image)
 
     longer_types : length a.graph.types ≤ length types
     longer_types = let more = map (type_image (addition_maps a)) (own_types a) ++ added_owns a in let long = ap length are.types_are in omega (arith, long, length-append a.graph.types more)
@@ -111,10 +122,10 @@ module _ (a : Addition) (valid : IsValid a.graph) (shaped : IsShaped a.handed) (
     abbrev ListsImages : ℕ → Interface → Interface → Type 0
     ListsImages k interface new = Each (λ (e : List ℕ × ℕ). (t : ℕ) × Contains interface.types (e.0, t) × ((sources a k).types t ≡ true) × (e.1 ≡ (sources a k).maps.types t)) new.types
 
-    listed : (k f : ℕ) (interface : Interface) → slice_get (sources a k).graph.interfaces f ≡ Some interface → (sources a k).interfaces f ≡ true → length a.graph.interfaces ≤ (sources a k).maps.interfaces f
+    lists_images : (k f : ℕ) (interface : Interface) → slice_get (sources a k).graph.interfaces f ≡ Some interface → (sources a k).interfaces f ≡ true → length a.graph.interfaces ≤ (sources a k).maps.interfaces f
         → SomeAt interfaces ((sources a k).maps.interfaces f) (ListsImages k interface)
-    listed zero f interface at takes past = let within = ltb-true f (length a.graph.interfaces) takes in absurd (omega arith)
-    listed (suc k) f interface at takes past =
+    lists_images zero f interface at takes past = let within = ltb-true f (length a.graph.interfaces) takes in absurd (omega arith)
+    lists_images (suc k) f interface at takes past =
         let from = from_map (cut_interface (part a)) a.handed.interfaces f interface at in
         let own = new_interface_is_own f from.0 from.1 takes past in
         some_at (ListsImages (suc k) interface) interfaces (interface_place a f) (interface_image (addition_maps a) (cut_interface (part a) from.0)) (own_interface_at a valid shaped image types interfaces are f from.0 from.1 own.1)
@@ -154,12 +165,12 @@ module _ (a : Addition) (valid : IsValid a.graph) (shaped : IsShaped a.handed) (
         walk_shorter (uses_of a.handed.types a.handed.interfaces) shaped.uses f j (omega arith) (in_row (interface_uses a.handed.types) a.handed.interfaces f from.0 j from.1 used)
 
     interfaces_grow : InterfacesGrow (sources a) uses_rank a.graph g
-    interfaces_grow = record { longer = longer_interfaces; kept = kept_interfaces; kept_types = kept_types; listed = listed; aliases = aliases; falls = falls }
+    interfaces_grow = record { longer = longer_interfaces; kept = kept_interfaces; kept_types = kept_types; listed = lists_images; aliases = aliases; falls = falls }
 
     -- no interface uses itself
     pub added_uses_acyclic : IsAcyclic (uses_of types interfaces)
     added_uses_acyclic =
-        uses_acyclic (sources a) uses_rank a.graph g (good_items a.graph (good_things a.graph valid)) (sources_good a valid shaped image) (draft_carries a valid shaped image types interfaces are) (draft_covered a valid shaped image types interfaces are) interfaces_grow valid.no_cycles.uses
+        uses_acyclic (sources a) uses_rank a.graph g (good_items a.graph (good_things a.graph valid)) (sources_good a valid shaped image) carries covered interfaces_grow valid.no_cycles.uses
 
     carried : (k t : ℕ) (def : TypeDef) → slice_get (sources a k).graph.types t ≡ Some def → (sources a k).types t ≡ true → length a.graph.types ≤ (sources a k).maps.types t
         → SomeAt types ((sources a k).maps.types t) (λ (new : TypeDef). RefersUnder (sources a k).maps (referred def.kind) (referred new.kind))
@@ -178,4 +189,4 @@ module _ (a : Addition) (valid : IsValid a.graph) (shaped : IsShaped a.handed) (
     -- and no type refers to itself
     pub added_types_acyclic : IsAcyclic (type_references types)
     added_types_acyclic =
-        types_acyclic (sources a) (λ k t. t) a.graph.types g (λ k. (sources_good a valid shaped image k).closed) (draft_carries a valid shaped image types interfaces are) (draft_covered a valid shaped image types interfaces are) types_grow valid.no_cycles.types
+        types_acyclic (sources a) (λ k t. t) a.graph.types g (λ k. (sources_good a valid shaped image k).closed) carries covered types_grow valid.no_cycles.types

@@ -1,6 +1,6 @@
 -- The first stage of an addition: the graph with the package's types and interfaces, and behind its worlds those of the
 -- package as they are listed. Its things come of the graph and of the package, and these stand in it.
-use Rattle.std.proofs.Common.{◌≡◌, ◌∙◌, ◌⊎◌, inl, inr, ℕ, zero, suc, true, List, ◌++◌, map, length, Some, slice_get, refl, sym, ap, subst, Contains}
+use Rattle.std.proofs.Common.{◌≡◌, ◌∙◌, ◌⊎◌, inl, inr, ℕ, zero, suc, true, List, ◌++◌, map, length, None, Some, slice_get, refl, sym, ap, subst, Contains}
 use Rattle.std.specs.List.{flat_map}
 use Rattle.std.proofs.lemmas.List.Elements.{Contains-append_left, Contains-append_right}
 use Rattle.wit_values.specs.Lists.{slice_get-append}
@@ -11,42 +11,44 @@ use Rattle.wit_items.specs.Each.{SomeAt}
 use Rattle.wit_items.specs.Entries.{Entry}
 use Rattle.wit_items.specs.Ownership.{listed_type, world_types}
 use Rattle.wit_items.specs.Shape.{IsShaped}
+use Rattle.wit_items.specs.declared.interface.Interface.{Interface}
+use Rattle.wit_items.specs.declared.types.TypeDef.{TypeDef}
 use Rattle.wit_items.specs.declared.world.World.{World}
 use Rattle.wit_items.specs.declared.world.WorldItem.TheVariants as item
 use Rattle.wit_items.specs.declared.world.WorldKey.TheVariants as key
 use Rattle.wit_graph.specs.Valid.{IsValid}
 use Rattle.wit_graph.specs.declared.graph.Graph.{Graph}
 use Rattle.wit_growth.specs.Covered.{EntryComes, IsCovered, IsNoType, WorldComes}
-use Rattle.wit_growth.specs.Cut.{StaysIn, cut_world}
+use Rattle.wit_growth.specs.Cut.{StaysIn, cut_interface, cut_world}
 use Rattle.wit_growth.specs.CutIsGood.{distinct_kept}
 use Rattle.wit_growth.specs.GraphSource.{graph_stands}
 use Rattle.wit_growth.specs.Image.{entry_image, item_image, key_image, world_image}
 use Rattle.wit_growth.specs.ImagesCome.{entry_image_comes}
 use Rattle.wit_growth.specs.Kept.{everything}
 use Rattle.wit_growth.specs.ListFacts.{Contains-map, at_map, at_new, contained_at, from_map, old_or_new, some_at}
-use Rattle.wit_growth.specs.Sources.{Carries, Source, WorldStands}
+use Rattle.wit_growth.specs.Sources.{Carries, InterfaceStands, Source, WorldStands}
 use Rattle.wit_adding.specs.Addition.{Addition, addition_maps, own_world, own_worlds, part, world_place}
 use Rattle.wit_adding.specs.Pushed.{with_parts}
 use Rattle.wit_adding.specs.Ranks.{rank}
 use Rattle.wit_adding.specs.Reasons.{HasImage}
 use Rattle.wit_adding.specs.Standing.{own_world_goes}
-use Rattle.wit_adding_laws.specs.CoveredWorlds.{old_world_comes}
-use Rattle.wit_adding_laws.specs.DraftStands.{graph_stays, package_stands}
+use Rattle.wit_adding_laws.specs.OldWorlds.{old_world_comes}
 use Rattle.wit_adding_laws.specs.InterfacesCome.{interfaces_come}
 use Rattle.wit_adding_laws.specs.ListedWorlds.{TakesPart, cut, export_key, export_takes, images_apart, import_key, import_takes, own_world_at, was_export, was_import}
 use Rattle.wit_adding_laws.specs.OwnThings.{own_world_from}
 use Rattle.wit_adding_laws.specs.Parts.{HasParts}
+use Rattle.wit_adding_laws.specs.PartsStand.{interface_stands, old_interface_at, old_type_at, type_stands, values_stand_there}
 use Rattle.wit_adding_laws.specs.SourcesGood.{package_source, sources}
 use Rattle.wit_adding_laws.specs.TypesCome.{types_come}
 use Rattle.wit_including_laws.specs.CopiesCarried.{lists_type, type_listed}
 use Rattle.wit_including_laws.specs.Remains.{export_no_type, image_no_type}
 
 -- the worlds of the package that take part, as they are listed
-abbrev pub listed_worlds : Addition → List World
-listed_worlds a = map (λ (e : ℕ × World). world_image (addition_maps a) e.0 e.1) (own_worlds a)
+abbrev pub listed_images : Addition → List World
+listed_images a = map (λ (e : ℕ × World). world_image (addition_maps a) e.0 e.1) (own_worlds a)
 
 abbrev pub listed : Addition → Graph
-listed a = record (with_parts a) { worlds = a.graph.worlds ++ listed_worlds a }
+listed a = record (with_parts a) { worlds = a.graph.worlds ++ listed_images a }
 
 pub listed_parts : (a : Addition) → HasParts a (with_parts a).types (with_parts a).interfaces
 listed_parts a = record { types_are = refl; interfaces_are = refl }
@@ -111,7 +113,7 @@ module _ (a : Addition) (valid : IsValid a.graph) (shaped : IsShaped a.handed) (
 
   pub listed_from : (w' : ℕ) (world : World) → slice_get (listed a).worlds w' ≡ Some world → (slice_get a.graph.worlds w' ≡ Some world) ⊎ ((w : ℕ) × (whole : World) × IsListedOf w' world w whole)
   listed_from w' world at =
-      elim (old_or_new a.graph.worlds (listed_worlds a) w' world at) [
+      elim (old_or_new a.graph.worlds (listed_images a) w' world at) [
         | inl old ↦ inl old
         | inr later ↦
             let e = from_map (λ (e : ℕ × World). world_image (addition_maps a) e.0 e.1) (own_worlds a) later.0 world later.2 in
@@ -121,13 +123,39 @@ module _ (a : Addition) (valid : IsValid a.graph) (shaped : IsShaped a.handed) (
 
   listed_at : (w : ℕ) (whole : World) → TakesPart a w whole → slice_get (listed a).worlds (world_place a w) ≡ Some (world_image (addition_maps a) w (cut a whole))
   listed_at w whole of =
-      at_new a.graph.worlds (listed_worlds a) (rank (own_world a) w) (world_place a w) (world_image (addition_maps a) w (cut a whole)) (own_world_goes a w of.takes)
+      at_new a.graph.worlds (listed_images a) (rank (own_world a) w) (world_place a w) (world_image (addition_maps a) w (cut a whole)) (own_world_goes a w of.takes)
       (at_map (λ (e : ℕ × World). world_image (addition_maps a) e.0 e.1) (own_worlds a) (rank (own_world a) w) (w, cut a whole) (own_world_at a w whole of))
+
+  -- ---- the graph behind which the package is put stays, where its worlds do
+  graph_stays : (g : Graph) → HasParts a g.types g.interfaces → ((w : ℕ) (world : World) → slice_get a.graph.worlds w ≡ Some world → slice_get g.worlds w ≡ Some world) → StaysIn a.graph g
+  graph_stays g are worlds = record {
+    types = λ t def at. some_at (λ (new : TypeDef). (new.name ≡ def.name) × (new.owner ≡ def.owner) × ((def.name ≡ None) → new.kind ≡ def.kind)) g.types t def (old_type_at a valid shaped image g.types g.interfaces are t def at) (refl, refl, λ none. refl);
+    interfaces = λ f interface at. some_at (λ (new : Interface). (new.name ≡ interface.name) × (new.package ≡ interface.package) × ((e : List ℕ × ℕ) → Contains interface.types e → Contains new.types e)) g.interfaces f interface (old_interface_at a valid shaped image g.types g.interfaces are f interface at) (refl, refl, λ e has. has);
+    worlds = λ w world at. some_at (λ (new : World). (new.package ≡ world.package) × ((e : List ℕ × ℕ) → Contains (world_types world) e → Contains (world_types new) e)) g.worlds w world (worlds w world at) (refl, λ e has. has);
+  }
+
+  -- ---- what takes part of the package stands, where its worlds do
+
+  module _ (g : Graph) (are : HasParts a g.types g.interfaces) where
+    package_interface_stands : (f : ℕ) (interface : Interface) → slice_get (package_source a).graph.interfaces f ≡ Some interface → (part a).interfaces f ≡ true
+        → SomeAt g.interfaces ((addition_maps a).interfaces f) (InterfaceStands (package_source a) interface)
+    package_interface_stands f interface at takes =
+        let from = from_map (cut_interface (part a)) a.handed.interfaces f interface at in
+        subst (λ (x : Interface). SomeAt g.interfaces ((addition_maps a).interfaces f) (InterfaceStands (package_source a) x)) from.2 (interface_stands a valid shaped image g.types g.interfaces are f from.0 from.1 takes)
+
+    package_stands : ((w : ℕ) (world : World) → slice_get (package_source a).graph.worlds w ≡ Some world → (part a).worlds w ≡ true → SomeAt g.worlds ((addition_maps a).worlds w) (WorldStands (package_source a) w world))
+        → Carries (package_source a) g
+    package_stands worlds = record {
+      types = λ t def at takes. type_stands a valid shaped image g.types g.interfaces are t def at takes;
+      values = λ t def at takes. values_stand_there a valid shaped image g.types g.interfaces are t def at takes;
+      interfaces = package_interface_stands;
+      worlds = worlds;
+    }
 
   -- ---- the sources stand, and all things come of them
 
   pub stage_stays : StaysIn a.graph (listed a)
-  stage_stays = graph_stays a valid shaped image (listed a) (listed_parts a) (λ w world at. slice_get-append a.graph.worlds (listed_worlds a) w world at)
+  stage_stays = graph_stays (listed a) (listed_parts a) (λ w world at. slice_get-append a.graph.worlds (listed_images a) w world at)
 
   worlds_stand : (w : ℕ) (world : World) → slice_get (package_source a).graph.worlds w ≡ Some world → (part a).worlds w ≡ true → SomeAt (listed a).worlds ((addition_maps a).worlds w) (WorldStands (package_source a) w world)
   worlds_stand w world at takes =
@@ -139,7 +167,7 @@ module _ (a : Addition) (valid : IsValid a.graph) (shaped : IsShaped a.handed) (
 
   pub stage_carries : (k : ℕ) → Carries (sources a k) (listed a)
   stage_carries zero = graph_stands a.graph (listed a) stage_stays
-  stage_carries (suc k) = package_stands a valid shaped image (listed a) (listed_parts a) worlds_stand
+  stage_carries (suc k) = package_stands (listed a) (listed_parts a) worlds_stand
 
   pub stage_covered : IsCovered everything (sources a) (listed a)
   stage_covered = record {

@@ -15,9 +15,9 @@ use Rattle.wit_graph.specs.declared.graph.Graph.{Graph}
 use Rattle.wit_graph.specs.declared.graph.Package.{Package}
 use Rattle.wit_growth.specs.ListFacts.{SomeAt-old, contained_at, old_or_new, some_at}
 use Rattle.wit_adding.specs.Addition.{Addition}
-use Rattle.wit_adding.specs.Behind.{IsBehind}
 use Rattle.wit_adding.specs.Pushed.{new_package}
 use Rattle.wit_adding.specs.Reasons.{HasPackage}
+use Rattle.wit_adding_laws.specs.Grown.{IsGrown}
 use Rattle.wit_adding_laws.specs.TableFacts.{each_pushed}
 
 -- a name that is listed is found
@@ -49,8 +49,8 @@ distinct_pushed {K} {V} es e distinct fresh i j c d first second same =
     only (suc k) f at = cc
 
 -- the names of the graph's packages, and the new one
-pub added_names : (a : Addition) → IsValid a.graph → (HasPackage a.graph a.handed.name → ⊥) → (new : Graph) → IsBehind a new → HasPackageNames new.packages new.package_names
-added_names a valid absent new are =
+pub added_names : (a : Addition) → IsValid a.graph → (HasPackage a.graph a.handed.name → ⊥) → (count : ℕ) (new : Graph) → IsGrown a count new → HasPackageNames new.packages new.package_names
+added_names a valid absent count new are =
     subst (λ (packages : List Package). HasPackageNames packages new.package_names) (sym are.packages_are)
     (subst (λ (names : List (PackageName × ℕ)). HasPackageNames (a.graph.packages ++ new_package a ∷ []) names) (sym are.names_are) (record {
       own_name = each_pushed (λ i (e : PackageName × ℕ). SomeAt packages e.1 (λ (home : Package). home.name ≡ e.0)) a.graph.package_names (a.handed.name, length a.graph.packages)

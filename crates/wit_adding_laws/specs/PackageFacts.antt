@@ -26,18 +26,19 @@ use Rattle.wit_graph.specs.Valid.{IsValid}
 use Rattle.wit_graph.specs.declared.graph.Graph.{Graph}
 use Rattle.wit_graph.specs.declared.graph.Package.{Package}
 use Rattle.wit_growth.specs.DependencyFacts.{filter_map_from}
+use Rattle.wit_growth.specs.Good.{HasGoodItems}
+use Rattle.wit_growth.specs.GoodIsValid.{good_things}
+use Rattle.wit_growth.specs.GraphSource.{good_items}
 use Rattle.wit_growth.specs.Growth.{PackagesGrow}
+use Rattle.wit_values.specs.Lists.{slice_get-append}
 use Rattle.wit_growth.specs.Image.{interface_image, type_image}
 use Rattle.wit_growth.specs.ListFacts.{at_below, found_at, from_map, get_at, old_or_new, place_of}
 use Rattle.wit_growth.specs.PackagesAcyclic.{packages_acyclic, there_is}
 use Rattle.wit_adding.specs.Addition.{Addition, added_owns, addition_maps, own_interfaces, own_types}
-use Rattle.wit_adding.specs.Behind.{IsBehind}
-use Rattle.wit_adding.specs.Pushed.{new_package}
+use Rattle.wit_adding.specs.Pushed.{new_package, with_parts}
 use Rattle.wit_adding.specs.Reasons.{HasImage}
-use Rattle.wit_adding_laws.specs.PartsStand.{old_interface_at}
-use Rattle.wit_adding_laws.specs.AcyclicFacts.{kept_interfaces}
-use Rattle.wit_adding_laws.specs.Parts.{parts_of}
-use Rattle.wit_adding_laws.specs.UsesStay.{interface_stays, type_stays}
+use Rattle.wit_adding_laws.specs.Grown.{IsGrown, interfaces_behind, more_interfaces, more_types, types_behind}
+use Rattle.wit_including_laws.specs.CanonicalStays.{interface_stays, type_stays}
 
 -- ---- what a graph's packages name is there
 
@@ -130,18 +131,24 @@ some_package packages (Some p) q P holds is =
     let found = found_at (P p) packages p holds in
     subst (λ (x : ℕ). x < length packages) same (slice_get_within packages p found.0 found.1)
 
-module _ (a : Addition) (valid : IsValid a.graph) (shaped : IsShaped a.handed) (image : HasImage a) (new : Graph) (are : IsBehind a new) where
+module _ (a : Addition) (valid : IsValid a.graph) (shaped : IsShaped a.handed) (image : HasImage a) (count : ℕ) (new : Graph) (are : IsGrown a count new) where
+  old_items : HasGoodItems a.graph
+  old_items = good_items a.graph (good_things a.graph valid)
+
+  old_interface_at : (f : ℕ) (interface : Interface) → slice_get a.graph.interfaces f ≡ Some interface → slice_get new.interfaces f ≡ Some interface
+  old_interface_at f interface at = subst (λ (l : List Interface). slice_get l f ≡ Some interface) (sym (interfaces_behind a count new are)) (slice_get-append a.graph.interfaces (more_interfaces a count new are) f interface at)
+
   -- what an old type needs, it needed
   dep_stays : (t i : ℕ) → t < length a.graph.types → type_interface_dep new.types t ≡ Some i → type_interface_dep a.graph.types t ≡ Some i
   dep_stays t i within is =
       let def = get_at a.graph.types t within in
-      sym (type_stays a.graph valid (map (type_image (addition_maps a)) (own_types a) ++ added_owns a) t def.0 def.1) ∙ ap (λ (types : List TypeDef). type_interface_dep types t) (sym are.types_are) ∙ is
+      sym (type_stays a.graph old_items (more_types a count new are) t def.0 def.1) ∙ ap (λ (types : List TypeDef). type_interface_dep types t) (sym (types_behind a count new are)) ∙ is
 
   -- and so for an old interface
   uses_stay : (f : ℕ) (interface : Interface) (j : ℕ) → slice_get a.graph.interfaces f ≡ Some interface → Contains (interface_uses new.types interface) j → Contains (interface_uses a.graph.types interface) j
   uses_stay f interface j at has =
-      subst (λ (uses : List ℕ). Contains uses j) (interface_stays a.graph valid (map (type_image (addition_maps a)) (own_types a) ++ added_owns a) f interface at)
-      (subst (λ (types : List TypeDef). Contains (interface_uses types interface) j) are.types_are has)
+      subst (λ (uses : List ℕ). Contains uses j) (interface_stays a.graph old_items (more_types a count new are) f interface at)
+      (subst (λ (types : List TypeDef). Contains (interface_uses types interface) j) (types_behind a count new are) has)
 
   imported_type : (w : ℕ) (k : WorldKey) (held : WorldItem) (t : ℕ) (span : _) → IsImport a.graph.interfaces a.graph.types w k held → held ≡ item.Type_ t span → t < length a.graph.types
   imported_type w (key.Name name) (item.Type_ u s) t span is same =
@@ -161,12 +168,15 @@ module _ (a : Addition) (valid : IsValid a.graph) (shaped : IsShaped a.handed) (
   -- an interface is of a package that was there, or of the new one
   package_of : (i q : ℕ) (interface : Interface) → slice_get new.interfaces i ≡ Some interface → interface.package ≡ Some q → (q < length a.graph.packages) ⊎ (q ≡ length a.graph.packages)
   package_of i q interface on is =
-      elim (old_or_new a.graph.interfaces (map (interface_image (addition_maps a)) (own_interfaces a)) i interface (subst (λ (l : List Interface). slice_get l i ≡ Some interface) are.interfaces_are on)) [
-        | inl old ↦ inl (some_package a.graph.packages interface.package q _ (valid.well_formed.tables.interfaces_listed i interface old) is)
-        | inr later ↦
-            let from = from_map (interface_image (addition_maps a)) (own_interfaces a) later.0 interface later.2 in
-            let same : Some (length a.graph.packages) ≡ Some q = ap (λ (x : Interface). x.package) from.2 ∙ is in
-            inr (inside (length a.graph.packages) q same)
+      elim (old_or_new (with_parts a).interfaces are.interfaces i interface (subst (λ (l : List Interface). slice_get l i ≡ Some interface) are.interfaces_are on)) [
+        | inl part ↦ elim (old_or_new a.graph.interfaces (map (interface_image (addition_maps a)) (own_interfaces a)) i interface part) [
+          | inl old ↦ inl (some_package a.graph.packages interface.package q _ (valid.well_formed.tables.interfaces_listed i interface old) is)
+          | inr later ↦
+              let from = from_map (interface_image (addition_maps a)) (own_interfaces a) later.0 interface later.2 in
+              let same : Some (length a.graph.packages) ≡ Some q = ap (λ (x : Interface). x.package) from.2 ∙ is in
+              inr (inside (length a.graph.packages) q same)
+        ]
+        | inr copy ↦ let same : Some (length a.graph.packages) ≡ Some q = sym (are.copies copy.0 interface copy.2).1 ∙ is in inr (inside (length a.graph.packages) q same)
       ]
     where
       inside : (x y : ℕ) → Some x ≡ Some y → y ≡ x
@@ -179,7 +189,7 @@ module _ (a : Addition) (valid : IsValid a.graph) (shaped : IsShaped a.handed) (
     interfaces = λ p home e interface at has there.
         let place = place_of home.interfaces e has in
         let found = found_at (λ (x : Interface). (x.name ≡ Some e.0) × (x.package ≡ Some p)) a.graph.interfaces e.1 (valid.well_formed.tables.interface_tables p home at place.0 e place.1) in
-        kept_interfaces a valid shaped image new.types new.interfaces (parts_of a new are) e.1 interface (slice_get_within a.graph.interfaces e.1 found.0 found.1) there;
+        at_below a.graph.interfaces (more_interfaces a count new are) e.1 interface (slice_get_within a.graph.interfaces e.1 found.0 found.1) (subst (λ (l : List Interface). slice_get l e.1 ≡ Some interface) (interfaces_behind a count new are) there);
     worlds = λ p home e world at has there.
         let place = place_of home.worlds e has in
         let found = found_at (λ (x : World). (x.name ≡ e.0) × (x.package ≡ Some p)) a.graph.worlds e.1 (valid.well_formed.tables.world_tables p home at place.0 e place.1) in
@@ -193,7 +203,7 @@ module _ (a : Addition) (valid : IsValid a.graph) (shaped : IsShaped a.handed) (
         absurd (exported_type e.0 e.1 t span (valid.well_formed.worlds.exports w world at place.0 e place.1) is);
     others = λ p q home i at has is.
         let there = get_at a.graph.interfaces i (package_names_there a.graph valid home i has) in
-        let here = old_interface_at a valid shaped image new.types new.interfaces (parts_of a new are) i there.0 there.1 in
+        let here = old_interface_at i there.0 there.1 in
         ap (λ (o : Option Interface). option_and_then (λ (interface : Interface). option_and_then (λ q. if q == p then None else Some q) interface.package) o) (there.1 ∙ sym here) ∙ is;
     new = λ p q home past at has. newest p q home past at has;
   }

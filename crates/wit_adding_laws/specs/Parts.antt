@@ -6,12 +6,8 @@ use Rattle.wit_items.specs.declared.types.TypeDef.{TypeDef}
 use Rattle.wit_graph.specs.declared.graph.Graph.{Graph}
 use Rattle.wit_growth.specs.Image.{interface_image, type_image}
 use Rattle.wit_adding.specs.Addition.{Addition, added_owns, addition_maps, own_interfaces, own_types}
-use Rattle.wit_adding.specs.Behind.{IsBehind}
 
 -- those of the graph, and behind them the images of the package's own and the `own`s that values ask for
 pub record HasParts (a : Addition) (types : List TypeDef) (interfaces : List Interface) : Type 0 where
   pub types_are : types ≡ a.graph.types ++ (map (type_image (addition_maps a)) (own_types a) ++ added_owns a)
   pub interfaces_are : interfaces ≡ a.graph.interfaces ++ map (interface_image (addition_maps a)) (own_interfaces a)
-
-pub parts_of : (a : Addition) (new : Graph) → IsBehind a new → HasParts a new.types new.interfaces
-parts_of a new are = record { types_are = are.types_are; interfaces_are = are.interfaces_are }

@@ -19,14 +19,14 @@ use Rattle.wit_growth.specs.Image.{interface_image}
 use Rattle.wit_growth.specs.ListFacts.{SomeAt-old, contained_at, found_at, from_map, old_or_new, some_at}
 use Rattle.wit_growth.specs.Theory.{HasGoodTables}
 use Rattle.wit_adding.specs.Addition.{Addition, addition_maps, interface_place, own_interface, own_interfaces, part}
-use Rattle.wit_adding.specs.Behind.{IsBehind}
-use Rattle.wit_adding.specs.Pushed.{new_package}
+use Rattle.wit_adding.specs.Pushed.{new_package, with_parts}
 use Rattle.wit_adding.specs.RankFacts.{taken_places-at}
 use Rattle.wit_adding.specs.Ranks.{rank, taken_places}
 use Rattle.wit_adding.specs.Reasons.{HasImage}
 use Rattle.wit_adding_laws.specs.NamesOnce.{distinct_interfaces, table_entry}
 use Rattle.wit_adding_laws.specs.OwnThings.{own_interface_from}
-use Rattle.wit_adding_laws.specs.Parts.{parts_of}
+use Rattle.wit_adding_laws.specs.Grown.{IsGrown, part_at}
+use Rattle.wit_adding_laws.specs.ListedStage.{listed_parts}
 use Rattle.wit_adding_laws.specs.PartsStand.{old_interface_at, own_interface_at}
 
 -- what holds of each of a list and of one more
@@ -46,7 +46,7 @@ in_longer : (packages : List Package) (more : Package) (o : Option ℕ) (P : Pac
 in_longer packages more None P holds = holds
 in_longer packages more (Some p) P holds = SomeAt-old P P packages (more ∷ []) p (λ home is. is) holds
 
-module _ (a : Addition) (valid : IsValid a.graph) (shaped : IsShaped a.handed) (image : HasImage a) (new : Graph) (are : IsBehind a new) where
+module _ (a : Addition) (valid : IsValid a.graph) (shaped : IsShaped a.handed) (image : HasImage a) (count : ℕ) (new : Graph) (are : IsGrown a count new) where
   pub new_package_at : slice_get new.packages (length a.graph.packages) ≡ Some (new_package a)
   new_package_at = ap (λ (l : List Package). slice_get l (length a.graph.packages)) are.packages_are ∙ slice_get-push a.graph.packages (new_package a)
 
@@ -72,15 +72,22 @@ module _ (a : Addition) (valid : IsValid a.graph) (shaped : IsShaped a.handed) (
   pub interfaces_in_tables : EachAt (IsInTable new.packages) new.interfaces
   interfaces_in_tables i interface on =
       subst (λ (packages : List Package). IsInTable packages i interface) (sym are.packages_are)
-      (elim (old_or_new a.graph.interfaces (map (interface_image (addition_maps a)) (own_interfaces a)) i interface (subst (λ (l : List Interface). slice_get l i ≡ Some interface) are.interfaces_are on)) [
-        | inl old ↦ in_longer a.graph.packages (new_package a) interface.package (Tabled i interface) (valid.well_formed.tables.interfaces_listed i interface old)
-        | inr later ↦
-            let from = from_map (interface_image (addition_maps a)) (own_interfaces a) later.0 interface later.2 in
-            let here : IsInTable (a.graph.packages ++ new_package a ∷ []) (length a.graph.interfaces + later.0) (interface_image (addition_maps a) from.0) =
-            some_at (Tabled (length a.graph.interfaces + later.0) (interface_image (addition_maps a) from.0)) (a.graph.packages ++ new_package a ∷ []) (length a.graph.packages) (new_package a)
-            (slice_get-push a.graph.packages (new_package a)) (new_interface_tabled later.0 from.0 from.1) in
-            subst (λ (n : ℕ). IsInTable (a.graph.packages ++ new_package a ∷ []) n interface) (sym later.1)
-            (subst (IsInTable (a.graph.packages ++ new_package a ∷ []) (length a.graph.interfaces + later.0)) from.2 here)
+      (elim (old_or_new (with_parts a).interfaces are.interfaces i interface (subst (λ (l : List Interface). slice_get l i ≡ Some interface) are.interfaces_are on)) [
+        | inl part ↦ elim (old_or_new a.graph.interfaces (map (interface_image (addition_maps a)) (own_interfaces a)) i interface part) [
+          | inl old ↦ in_longer a.graph.packages (new_package a) interface.package (Tabled i interface) (valid.well_formed.tables.interfaces_listed i interface old)
+          | inr later ↦
+              let from = from_map (interface_image (addition_maps a)) (own_interfaces a) later.0 interface later.2 in
+              let here : IsInTable (a.graph.packages ++ new_package a ∷ []) (length a.graph.interfaces + later.0) (interface_image (addition_maps a) from.0) =
+              some_at (Tabled (length a.graph.interfaces + later.0) (interface_image (addition_maps a) from.0)) (a.graph.packages ++ new_package a ∷ []) (length a.graph.packages) (new_package a)
+              (slice_get-push a.graph.packages (new_package a)) (new_interface_tabled later.0 from.0 from.1) in
+              subst (λ (n : ℕ). IsInTable (a.graph.packages ++ new_package a ∷ []) n interface) (sym later.1)
+              (subst (IsInTable (a.graph.packages ++ new_package a ∷ []) (length a.graph.interfaces + later.0)) from.2 here)
+        ]
+        | inr copy ↦
+            let is = are.copies copy.0 interface copy.2 in
+            subst (λ (o : Option ℕ). IsSomeAnd o (λ p. SomeAt (a.graph.packages ++ new_package a ∷ []) p (Tabled i interface))) (sym is.1)
+            (some_at (Tabled i interface) (a.graph.packages ++ new_package a ∷ []) (length a.graph.packages) (new_package a) (slice_get-push a.graph.packages (new_package a))
+            (subst (λ (o : Option (List ℕ)). IfSome o (λ name. Contains (new_package a).interfaces (name, i))) (sym is.0) tt))
       ])
 
   -- ---- packages
@@ -92,7 +99,7 @@ module _ (a : Addition) (valid : IsValid a.graph) (shaped : IsShaped a.handed) (
       record {
         interfaces_are = λ i e on.
             let found = found_at (λ (interface : Interface). (interface.name ≡ Some e.0) × (interface.package ≡ Some p)) a.graph.interfaces e.1 (is.interfaces_are i e on) in
-            some_at (λ (interface : Interface). (interface.name ≡ Some e.0) × (interface.package ≡ Some p)) new.interfaces e.1 found.0 (old_interface_at a valid shaped image new.types new.interfaces (parts_of a new are) e.1 found.0 found.1) found.2;
+            some_at (λ (interface : Interface). (interface.name ≡ Some e.0) × (interface.package ≡ Some p)) new.interfaces e.1 found.0 (part_at a count new are e.1 found.0 (old_interface_at a valid shaped image (with_parts a).types (with_parts a).interfaces (listed_parts a) e.1 found.0 found.1)) found.2;
         worlds_are = λ i e on.
             subst (λ (worlds : List World). IsWorldOf worlds p e.0 e.1) (sym are.worlds_are)
             (SomeAt-old (λ (world : World). (world.name ≡ e.0) × (world.package ≡ Some p)) (λ (world : World). (world.name ≡ e.0) × (world.package ≡ Some p)) a.graph.worlds are.done e.1 (λ world is. is) (is.worlds_are i e on));
@@ -105,7 +112,7 @@ module _ (a : Addition) (valid : IsValid a.graph) (shaped : IsShaped a.handed) (
   new_interfaces_are : Each (λ (e : List ℕ × ℕ). IsInterfaceOf new.interfaces (length a.graph.packages) e.0 e.1) (new_package a).interfaces
   new_interfaces_are i e on =
       let entry = table_entry a shaped i e on in
-      let there = own_interface_at a valid shaped image new.types new.interfaces (parts_of a new are) entry.f entry.interface entry.there entry.own in
+      let there = part_at a count new are (interface_place a entry.f) _ (own_interface_at a valid shaped image (with_parts a).types (with_parts a).interfaces (listed_parts a) entry.f entry.interface entry.there entry.own) in
       subst (IsInterfaceOf new.interfaces (length a.graph.packages) e.0) entry.place
       (some_at (λ (interface : Interface). (interface.name ≡ Some e.0) × (interface.package ≡ Some (length a.graph.packages))) new.interfaces (interface_place a entry.f) (interface_image (addition_maps a) (cut_interface (part a) entry.interface)) there (entry.name, refl))
 

@@ -1,7 +1,8 @@
 -- Worlds in the tables of their packages, when a package is added: those that were there stay in theirs, and the
 -- new package has its own in its table, each under its name.
-use Rattle.std.proofs.Common.{◌≡◌, ◌∙◌, inl, inr, ℕ, ◌+◌, ◌-◌, List, [], ◌∷◌, drop, length, Option, None, Some, IsSomeAnd, slice_get, sym, ap, subst, arith, Contains}
+use Rattle.std.proofs.Common.{◌≡◌, ◌∙◌, ◌⊎◌, inl, inr, ℕ, ◌+◌, ◌-◌, List, [], ◌∷◌, drop, length, Option, None, Some, IsSomeAnd, slice_get, refl, sym, ap, subst, arith, Contains}
 use Rattle.std.proofs.lemmas.Bool.{cases_lt, false≢true, lt-ltb}
+use Rattle.std.proofs.lemmas.Option.{slice_get_within}
 use Rattle.wit_values.specs.Lists.{slice_get-append, slice_get-push}
 use Rattle.wit_values.specs.Table.{HasDistinctKeys}
 use Rattle.wit_items.specs.Each.{Each, EachAt, SomeAt}
@@ -11,17 +12,17 @@ use Rattle.wit_items.specs.declared.world.World.{World}
 use Rattle.wit_graph.specs.Valid.{IsValid, IsWorldInTable, IsWorldOf}
 use Rattle.wit_graph.specs.declared.graph.Graph.{Graph}
 use Rattle.wit_graph.specs.declared.graph.Package.{Package}
-use Rattle.wit_growth.specs.ListFacts.{at_map, contained_at, found_at, from_map, some_at}
-use Rattle.wit_adding.specs.Addition.{Addition, own_world, world_place}
-use Rattle.wit_adding.specs.Behind.{IsBehind}
+use Rattle.wit_growth.specs.ListFacts.{at_map, at_new, contained_at, found_at, from_map, get_at, old_or_new, same_at, some_at}
+use Rattle.wit_adding.specs.Addition.{Addition, own_world, own_worlds, world_place}
 use Rattle.wit_adding.specs.Gates.{is_foreign_world, world_is_active}
 use Rattle.wit_adding.specs.Pushed.{new_package}
 use Rattle.wit_adding.specs.RankFacts.{taken_places-at, taken_places-from}
 use Rattle.wit_adding.specs.Ranks.{rank, taken_places}
-use Rattle.wit_adding_laws.specs.ListedWorlds.{TakesPart}
+use Rattle.wit_adding.specs.Standing.{own_world_goes}
+use Rattle.wit_adding_laws.specs.Grown.{IsCalled, IsGrown}
+use Rattle.wit_adding_laws.specs.ListedWorlds.{TakesPart, cut, own_world_at}
 use Rattle.wit_adding_laws.specs.NamesOnce.{at_drop, place_once}
-use Rattle.wit_adding_laws.specs.OwnThings.{own_part}
-use Rattle.wit_adding_laws.specs.WorldFacts.{IsDone, done_at, world_from}
+use Rattle.wit_adding_laws.specs.OwnThings.{own_part, own_world_from}
 
 -- ---- lists
 
@@ -74,7 +75,7 @@ module _ (a : Addition) (shaped : IsShaped a.handed) where
 
 -- ---- tables
 
-module _ (a : Addition) (valid : IsValid a.graph) (shaped : IsShaped a.handed) (new : Graph) (are : IsBehind a new) where
+module _ (a : Addition) (valid : IsValid a.graph) (shaped : IsShaped a.handed) (new : Graph) (are : IsGrown a (length (own_worlds a)) new) where
   home_at : slice_get new.packages (length a.graph.packages) ≡ Some (new_package a)
   home_at = subst (λ (packages : List Package). slice_get packages (length a.graph.packages) ≡ Some (new_package a)) (sym are.packages_are) (slice_get-push a.graph.packages (new_package a))
 
@@ -82,14 +83,36 @@ module _ (a : Addition) (valid : IsValid a.graph) (shaped : IsShaped a.handed) (
   old_home_at p home at =
       subst (λ (packages : List Package). slice_get packages p ≡ Some home) (sym are.packages_are) (slice_get-append a.graph.packages (new_package a ∷ []) p home at)
 
-  -- a new world has the name that it had, and is of the new package
-  done_is : (w' : ℕ) (world : World) (w : ℕ) (whole : World) → IsDone a new w' world w whole → (world.name ≡ whole.name) × (world.package ≡ Some (length a.graph.packages))
-  done_is w' world w whole is = (ap (λ (x : World). x.name) is.elaborated.world_is, ap (λ (x : World). x.package) is.elaborated.world_is)
+  -- each world of the package that takes part is there, under its name
+  done_at : (w : ℕ) (whole : World) → TakesPart a w whole → SomeAt new.worlds (world_place a w) (λ (world : World). (world.name ≡ whole.name) × (world.package ≡ Some (length a.graph.packages)))
+  done_at w whole of =
+      let k = rank (own_world a) w in
+      let at = own_world_at a w whole of in
+      let found = found_at (IsCalled a (w, cut a whole)) are.done k (are.called k (w, cut a whole) (slice_get_within (own_worlds a) k (w, cut a whole) at) at) in
+      some_at (λ (world : World). (world.name ≡ whole.name) × (world.package ≡ Some (length a.graph.packages))) new.worlds (world_place a w) found.0
+      (subst (λ (worlds : List World). slice_get worlds (world_place a w) ≡ Some found.0) (sym are.worlds_are) (at_new a.graph.worlds are.done k (world_place a w) found.0 (own_world_goes a w of.takes) found.1)) found.2
+
+  -- and there is no other
+  world_from : (w' : ℕ) (world : World) → slice_get new.worlds w' ≡ Some world
+      → (slice_get a.graph.worlds w' ≡ Some world) ⊎ ((w : ℕ) × (whole : World) × TakesPart a w whole × (w' ≡ world_place a w) × (world.name ≡ whole.name) × (world.package ≡ Some (length a.graph.packages)))
+  world_from w' world at =
+      elim (old_or_new a.graph.worlds are.done w' world (subst (λ (worlds : List World). slice_get worlds w' ≡ Some world) are.worlds_are at)) [
+        | inl old ↦ inl old
+        | inr behind ↦
+            let within = slice_get_within are.done behind.0 world behind.2 in
+            let count = are.many in
+            let e = get_at (own_worlds a) behind.0 (omega arith) in
+            let is = own_world_from a behind.0 e.0 e.1 in
+            let called = found_at (IsCalled a e.0) are.done behind.0 (are.called behind.0 e.0 (omega arith) e.1) in
+            let same = same_at are.done behind.0 behind.0 called.0 world refl called.1 behind.2 in
+            let here : IsCalled a e.0 world = subst (IsCalled a e.0) same called.2 in
+            inr (e.0.0, is.world, record { there = is.there; takes = is.own }, behind.1 ∙ sym is.place, here.0 ∙ ap (λ (x : World). x.name) (sym is.is), here.1)
+      ]
 
   -- each world stands in the table of its package
   pub worlds_in_tables : EachAt (IsWorldInTable new.packages) new.worlds
   worlds_in_tables w' world at =
-      elim (world_from a new are w' world at) [
+      elim (world_from w' world at) [
         | inl old ↦
             some_and (λ p. SomeAt a.graph.packages p (λ (home : Package). Contains home.worlds (world.name, w'))) (λ p. SomeAt new.packages p (λ (home : Package). Contains home.worlds (world.name, w'))) world.package
             (λ p h.
@@ -97,11 +120,10 @@ module _ (a : Addition) (valid : IsValid a.graph) (shaped : IsShaped a.handed) (
             some_at (λ (home : Package). Contains home.worlds (world.name, w')) new.packages p found.0 (old_home_at p found.0 found.1) found.2)
             (valid.well_formed.tables.worlds_listed w' world old)
         | inr made ↦
-            let is = done_is w' world made.0 made.1 made.2 in
             let has : Contains (new_package a).worlds (world.name, w') =
-            subst (λ (name : List ℕ). Contains (new_package a).worlds (name, w')) (sym is.0)
-            (subst (λ (v : ℕ). Contains (new_package a).worlds (made.1.name, v)) (sym made.2.place) (table_has a shaped made.0 made.1 made.2.of)) in
-            subst (λ (o : Option ℕ). IsSomeAnd o (λ p. SomeAt new.packages p (λ (home : Package). Contains home.worlds (world.name, w')))) (sym is.1)
+            subst (λ (name : List ℕ). Contains (new_package a).worlds (name, w')) (sym made.4)
+            (subst (λ (v : ℕ). Contains (new_package a).worlds (made.1.name, v)) (sym made.3) (table_has a shaped made.0 made.1 made.2)) in
+            subst (λ (o : Option ℕ). IsSomeAnd o (λ p. SomeAt new.packages p (λ (home : Package). Contains home.worlds (world.name, w')))) (sym made.5)
             (some_at (λ (home : Package). Contains home.worlds (world.name, w')) new.packages (length a.graph.packages) (new_package a) home_at has)
       ]
 
@@ -109,7 +131,6 @@ module _ (a : Addition) (valid : IsValid a.graph) (shaped : IsShaped a.handed) (
   pub new_table : Each (λ (e : List ℕ × ℕ). IsWorldOf new.worlds (length a.graph.packages) e.0 e.1) (new_package a).worlds
   new_table i e on =
       let from = table_from a shaped i e on in
-      let done = done_at a new are from.0 from.1 from.2 in
-      let is = done_is (world_place a from.0) done.0 from.0 from.1 done.2 in
+      let done = found_at (λ (world : World). (world.name ≡ from.1.name) × (world.package ≡ Some (length a.graph.packages))) new.worlds (world_place a from.0) (done_at from.0 from.1 from.2) in
       subst (λ (v : ℕ). IsWorldOf new.worlds (length a.graph.packages) e.0 v) (sym from.4)
-      (some_at (λ (world : World). (world.name ≡ e.0) × (world.package ≡ Some (length a.graph.packages))) new.worlds (world_place a from.0) done.0 done.1 (is.0 ∙ sym from.3, is.1))
+      (some_at (λ (world : World). (world.name ≡ e.0) × (world.package ≡ Some (length a.graph.packages))) new.worlds (world_place a from.0) done.0 done.1 (done.2.0 ∙ sym from.3, done.2.1))

@@ -7,6 +7,7 @@ pub mod IncludedAcyclic
 pub mod IncludedCovered
 pub mod IncludedOnce
 pub mod IncludedWorld
+pub mod IncludingLaws
 pub mod JoinedFacts
 pub mod KeysApart
 pub mod Mentioned

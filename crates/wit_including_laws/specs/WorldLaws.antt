@@ -1,5 +1,5 @@
 -- The laws of elaboration that are used, as their contracts give them.
-use Rattle.wit_graph.specs.ElaborationLaws.{ElaboratesOnce}
+use Rattle.wit_graph.specs.ElaborationLaws.{ConflictsAreRefused, ElaboratesOnce}
 use Rattle.wit_graph.specs.KeptByElaboration.{ElaboratedEntries, ElaboratedOnce, ElaborationIsLocal, LabelsStay}
 
 pub record WorldLaws : Type 0 where
@@ -8,3 +8,4 @@ pub record WorldLaws : Type 0 where
   pub entries : ElaboratedEntries
   pub once : ElaboratedOnce
   pub labels : LabelsStay
+  pub refused : ConflictsAreRefused

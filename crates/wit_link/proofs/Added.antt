@@ -22,9 +22,9 @@ use Rattle.wit_adding.specs.WorldReasons.{WorldIsFine}
 use Rattle.wit_adding.specs.Passed.{has_image}
 use Rattle.wit_adding.specs.Reasons.{HasImage, HasPackage, PassesTheEnd}
 use Rattle.wit_adding_laws.specs.AcyclicFacts.{added_uses_acyclic}
-use Rattle.wit_adding_laws.specs.AddingLaws.{AdditionsStayValid}
 use Rattle.wit_adding_laws.specs.ListedWorlds.{listed_worlds}
 use Rattle.wit_adding_laws.specs.Parts.{HasParts}
+use Rattle.wit_adding_laws.specs.StageFacts.{PushesStayValid}
 use Rattle.wit_finishing.specs.Finished.{CanFinish, StopsAt, with_all_finished}
 use Rattle.wit_placing.specs.Added.{added_world}
 use Rattle.wit_placing.specs.declared.worlds.PlacedWorld.{PlacedWorld}
@@ -35,7 +35,7 @@ use Rattle.wit_link.specs.Images.{image_of, images}
 use Rattle.wit_link.specs.Supported.{IsSupported}
 use Rattle.wit_link.proofs.WorldsAreFine.{image_at, includes_are_fine, stop_is_cause, world_is_fine}
 use Rattle.wit_link.proofs.FitsIsExact.{fitting_passes_not, passes-of_not_fitting}
-use Rattle.wit_link.proofs.Stages.{pushed_is, pushed_is_behind}
+use Rattle.wit_link.proofs.Stages.{pushed_is}
 
 module _ (a : Addition) (supported : IsSupported a.handed) (is_new : IsNew a) (checked : IsChecked a) (fine : AllByRecursion (CanFinish (with_parts a)) (images a)) where
   each_world : (k : ℕ) → WorldIsFine a k
@@ -123,8 +123,11 @@ module _ (a : Addition) (valid : IsValid a.graph) (shaped : IsShaped a.handed) (
       (listed_worlds a valid shaped image (with_parts a).types (with_parts a).interfaces parts k from.0 from.1))
 
   -- what comes of the graph is valid
-  pub stays_valid : AdditionsStayValid → IsSupported a.handed → IsNew a → AllByRecursion (CanFinish (with_parts a)) (images a) → IsValid (with_all_finished (with_parts a) (images a))
-  stays_valid law supported new fine = law a (with_all_finished (with_parts a) (images a)) valid shaped image new.absent (pushed_is_behind a supported fine)
+  pub stays_valid : PushesStayValid → IsSupported a.handed → IsNew a → AllByRecursion (CanFinish (with_parts a)) (images a) → IsValid (with_all_finished (with_parts a) (images a))
+  stays_valid law supported new fine =
+      subst IsValid (pushed_is a supported)
+      (law a valid shaped image new.absent (λ k below.
+      world_is_fine a supported k (λ at. AllByRecursion-at (CanFinish (with_parts a)) (images a) k (image_of a (at.place, at.world)) fine (image_at a supported k at))))
 
   -- why a world can't be finished is a reason
   pub stopping_cause : IsSupported a.handed → (kind : ResolveErrorKind) → (kind ≡ OutOfMemory) ⊎ ((k : ℕ) × StopsAt (with_parts a) (images a) kind k) → (kind ≡ OutOfMemory) ⊎ IsCause a kind

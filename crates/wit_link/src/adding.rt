@@ -19,7 +19,7 @@ use crate::checking::{Checked, check};
 use crate::fits::spans_fit;
 use std::alloc::{AllocError, Global};
 use wit_adding::Adding;
-use wit_adding_laws::laws::additions_stay_valid;
+use wit_adding_laws::laws::pushes_stay_valid;
 use wit_finishing::finish_worlds;
 use wit_graph::{Features, Graph, ResolveError, ResolveErrorKind, ResolveResult};
 use wit_items::{Items, PackageId, Span, UnresolvedPackage, World};
@@ -112,7 +112,7 @@ fn add_checked(
     ensures grown { Grown graph.old graph.new }
     ensures cause { IfErr result (λ kind. (kind ≡ OutOfMemory) ⊎ IsCause (addition features.now graph.old «package» span_offset) kind) }
 {
-    additions_stay_valid();
+    pushes_stay_valid();
     let id = PackageId::from_index(graph.packages.len());
     let worlds = add_placed(alloc, graph, features, checked, package, span_offset)?;
     finish_worlds(alloc, graph, worlds)?;

@@ -64,4 +64,4 @@ returns-clause-valid c =
     let fine = moved (λ (g : Graph) (ws : List World). AllByRecursion (CanFinish g) ws) c.add_placed.new.graph (with_parts a) c.in_ok-worlds.worlds (images a) c.in_ok-worlds.ensures.ok c.in_ok-worlds.ensures.worlds c.in_ok-finish_worlds.ensures.fine in
     let new : c.finish_worlds.new.graph ≡ with_all_finished (with_parts a) (images a) =
     c.in_ok-finish_worlds.ensures.ok ∙ (ap (λ (g : Graph). with_all_finished g c.in_ok-worlds.worlds) c.in_ok-worlds.ensures.ok ∙ ap (with_all_finished (with_parts a)) c.in_ok-worlds.ensures.worlds) in
-    subst IsValid (sym new) (stays_valid a c.requires.valid c.requires.shaped (checked_image a c.requires.checked) c.additions_stay_valid.ensures c.requires.supported c.requires.new fine)
+    subst IsValid (sym new) (stays_valid a c.requires.valid c.requires.shaped (checked_image a c.requires.checked) c.pushes_stay_valid.ensures c.requires.supported c.requires.new fine)

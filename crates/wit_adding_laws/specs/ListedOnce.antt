@@ -1,5 +1,5 @@
--- An interface without a name stands in one place behind a graph when a package is added, as it did in the graph
--- and in the package.
+-- In the first stage of an addition an interface without a name stands in one place, as it did in the graph and in the
+-- package; so the stage is on its way.
 use Rattle.std.proofs.Common.{◌≡◌, ◌∙◌, ◌⊎◌, inl, inr, ℕ, zero, suc, ◌<◌, ◌≤◌, Bool, true, false, not, is_some, List, [], ◌∷◌, map, length, Option, Some, IsSome, slice_get, refl, sym, ap, subst, arith, Contains}
 use Rattle.std.specs.Option.{option_map_or}
 use Rattle.std.proofs.lemmas.Bool.{cases_Bool, ltb-true}
@@ -20,30 +20,29 @@ use Rattle.wit_items.specs.declared.world.WorldKey.TheVariants as key
 use Rattle.wit_graph.specs.Elaborated.{settled_item}
 use Rattle.wit_graph.specs.Valid.{IsValid}
 use Rattle.wit_graph.specs.declared.graph.Graph.{Graph}
-use Rattle.wit_growth.specs.Covered.{IsCovered}
+use Rattle.wit_growth.specs.CoveredIsValid.{covered_items}
 use Rattle.wit_growth.specs.Cut.{ItemIsKept, cut_interface, kept_whole}
 use Rattle.wit_growth.specs.GoodIsValid.{good_things}
 use Rattle.wit_growth.specs.GoodWorlds.{same_one}
-use Rattle.wit_growth.specs.Image.{item_image, key_image}
+use Rattle.wit_growth.specs.Image.{entry_image, item_image, key_image, world_image}
 use Rattle.wit_growth.specs.Kept.{everything}
-use Rattle.wit_growth.specs.ListFacts.{contained_at, found_at, get_at, place_of, same_at, some_at}
+use Rattle.wit_growth.specs.ListFacts.{Contains-map_cases, contained_at, found_at, get_at, place_of, same_at, some_at}
 use Rattle.wit_growth.specs.OnePlace.{HasOnePlace, Holds, Origin, StayApart, entries_of}
 use Rattle.wit_growth.specs.OnePlaceCarried.{HasOnePlace-of_covered, named_not}
-use Rattle.wit_growth.specs.OnePlaceFacts.{StandOnce-from_places}
 use Rattle.wit_growth.specs.OnePlaceFrom.{HasOnePlace-from_once, cut_has_one_place}
 use Rattle.wit_growth.specs.Sources.{Carries, InterfaceStands, Source}
 use Rattle.wit_adding.specs.Addition.{Addition, addition_maps, interface_place, part}
-use Rattle.wit_adding.specs.Behind.{IsBehind}
 use Rattle.wit_adding.specs.Gates.{interface_is_active, is_foreign_interface}
 use Rattle.wit_adding.specs.Reasons.{HasImage}
 use Rattle.wit_adding.specs.Standing.{foreign_interface_goes, own_interface_goes}
-use Rattle.wit_adding_laws.specs.CoveredWorlds.{exported_named, used_named}
+use Rattle.wit_adding_laws.specs.AcyclicFacts.{added_types_acyclic, added_uses_acyclic}
 use Rattle.wit_adding_laws.specs.InterfacesApart.{active_there, interfaces_apart}
-use Rattle.wit_adding_laws.specs.ListedWorlds.{TakesPart, export_from, export_takes, import_from, import_takes, listed_own}
-use Rattle.wit_adding_laws.specs.Parts.{parts_of}
+use Rattle.wit_adding_laws.specs.ListedStage.{listed, listed_from, listed_parts, stage_carries, stage_covered}
+use Rattle.wit_adding_laws.specs.ListedWorlds.{TakesPart, cut, export_takes, import_takes}
 use Rattle.wit_adding_laws.specs.PartsStand.{interface_stands, old_interface_at, own_of_both}
+use Rattle.wit_including_laws.specs.IncludedOnce.{held_within}
+use Rattle.wit_including_laws.specs.OnItsWay.{StandsSoFar}
 use Rattle.wit_adding_laws.specs.SourcesGood.{package_source, sources, sources_good}
-use Rattle.wit_adding_laws.specs.WorldFacts.{IsDone, WorldLaws, in_order, world_from}
 
 -- ---- interfaces without names
 
@@ -79,28 +78,12 @@ image_interface a w (item.Interface i stability docs span external_id) f' takes 
 image_interface a w (item.Function f) f' takes is = cc
 image_interface a w (item.Type_ t span) f' takes is = cc
 
-settled_interface : (held : WorldItem) → item_interface (settled_item held) ≡ item_interface held
-settled_interface (item.Interface i stability docs span external_id) = refl
-settled_interface (item.Function f) = refl
-settled_interface (item.Type_ t span) = refl
-
--- an interface that an entry holds is there
-held_within : (interfaces : List Interface) (types : List TypeDef) (w : ℕ) (k : WorldKey) (held : WorldItem) (f : ℕ) → IsImport interfaces types w k held → item_interface held ≡ f ∷ [] → f < length interfaces
-held_within interfaces types w (key.Interface g) (item.Interface i stability docs span external_id) f is held =
-    let found = found_at (λ (interface : Interface). IsSome interface.name) interfaces g is.1 in
-    let within = slice_get_within interfaces g found.0 found.1 in
-    let same : i ≡ f = same_one i f held in
-    let place = is.0 in
-    omega arith
-held_within interfaces types w (key.Interface g) (item.Function fn) f is held = absurd is
-held_within interfaces types w (key.Interface g) (item.Type_ t span) f is held = absurd is
-held_within interfaces types w (key.Name name) (item.Interface i stability docs span external_id) f is held = let same : i ≡ f = same_one i f held in subst (λ (j : ℕ). j < length interfaces) same is
-held_within interfaces types w (key.Name name) (item.Function fn) f is held = cc
-held_within interfaces types w (key.Name name) (item.Type_ t span) f is held = cc
-
 -- ---- apart
 
-module _ (laws : WorldLaws) (a : Addition) (valid : IsValid a.graph) (shaped : IsShaped a.handed) (image : HasImage a) (new : Graph) (are : IsBehind a new) (acyclic : IsAcyclic (uses_of new.types new.interfaces)) where
+module _ (a : Addition) (valid : IsValid a.graph) (shaped : IsShaped a.handed) (image : HasImage a) where
+  abbrev new : Graph
+  new = listed a
+
   -- an interface of the package without a name goes behind those of the graph
   unnamed_behind : (f : ℕ) → interface_is_active a.features a.handed f ≡ true → is_unnamed a.handed.interfaces f ≡ true → length a.graph.interfaces ≤ interface_place a f
   unnamed_behind f active unnamed = elim (cases_Bool (is_foreign_interface a.handed f)) [
@@ -120,13 +103,13 @@ module _ (laws : WorldLaws) (a : Addition) (valid : IsValid a.graph) (shaped : I
   unnamed_goes f active =
       let there = active_there a valid shaped image f active in
       let found = found_at (InterfaceStands (package_source a) (cut_interface (part a) there.0)) new.interfaces (interface_place a f)
-      (interface_stands a valid shaped image new.types new.interfaces (parts_of a new are) f there.0 there.1 active) in
+      (interface_stands a valid shaped image new.types new.interfaces (listed_parts a) f there.0 there.1 active) in
       unnamed_same a.handed.interfaces new.interfaces f (interface_place a f) there.0 found.0 there.1 found.1 found.2.name
 
   unnamed_stays : (f : ℕ) → f < length a.graph.interfaces → is_unnamed new.interfaces f ≡ is_unnamed a.graph.interfaces f
   unnamed_stays f within =
       let there = get_at a.graph.interfaces f within in
-      unnamed_same a.graph.interfaces new.interfaces f f there.0 there.0 there.1 (old_interface_at a valid shaped image new.types new.interfaces (parts_of a new are) f there.0 there.1) refl
+      unnamed_same a.graph.interfaces new.interfaces f f there.0 there.0 there.1 (old_interface_at a valid shaped image new.types new.interfaces (listed_parts a) f there.0 there.1) refl
 
   old_one : HasOnePlace a.graph.interfaces a.graph.worlds
   old_one = HasOnePlace-from_once a.graph.interfaces a.graph.worlds valid.well_formed.worlds.once
@@ -176,43 +159,25 @@ module _ (laws : WorldLaws) (a : Addition) (valid : IsValid a.graph) (shaped : I
     i : ℕ
     holds : Holds a.handed.worlds w exported i f
 
-  import_stood : (w : ℕ) (whole : World) → TakesPart a w whole → (d : Entry) (f' : ℕ) → Contains (listed_own a w whole).imports d → item_interface d.1 ≡ f' ∷ [] → Stood w whole false f'
-  import_stood w whole of d f' has held =
-      let from = import_from a shaped image w whole of d has in
-      let takes = import_takes a shaped image w whole of from.0 from.1 in
-      let is = image_interface a w from.0.1 f' takes.1 (ap (λ (e : Entry). item_interface e.1) from.2 ∙ held) in
-      let spot = place_of whole.imports from.0 takes.0 in
-      record { f = is.0; active = is.3; place = is.2; i = spot.0; holds = record { world = whole; there = of.there; entry = from.0; at = spot.1; held = is.1 } }
+  stood : (w : ℕ) (whole : World) → TakesPart a w whole → (b : Bool) (f' : ℕ) (e : Entry) → Contains (entries_of b (world_image (addition_maps a) w (cut a whole))) e → item_interface e.1 ≡ f' ∷ [] → Stood w whole b f'
+  stood w whole of false f' e has held =
+      let old = Contains-map_cases (entry_image (addition_maps a) w) (cut a whole).imports e has in
+      let takes = import_takes a shaped image w whole of old.0 old.1 in
+      let is = image_interface a w old.0.1 f' takes.1 (ap (λ (e : Entry). item_interface e.1) old.2 ∙ held) in
+      let spot = place_of whole.imports old.0 takes.0 in
+      record { f = is.0; active = is.3; place = is.2; i = spot.0; holds = record { world = whole; there = of.there; entry = old.0; at = spot.1; held = is.1 } }
+  stood w whole of true f' e has held =
+      let old = Contains-map_cases (entry_image (addition_maps a) w) (cut a whole).exports e has in
+      let takes = export_takes a shaped image w whole of old.0 old.1 in
+      let is = image_interface a w old.0.1 f' takes.1 (ap (λ (e : Entry). item_interface e.1) old.2 ∙ held) in
+      let spot = place_of whole.exports old.0 takes.0 in
+      record { f = is.0; active = is.3; place = is.2; i = spot.0; holds = record { world = whole; there = of.there; entry = old.0; at = spot.1; held = is.1 } }
 
-  export_stood : (w : ℕ) (whole : World) → TakesPart a w whole → (d : Entry) (f' : ℕ) → Contains (listed_own a w whole).exports d → item_interface d.1 ≡ f' ∷ [] → Stood w whole true f'
-  export_stood w whole of d f' has held =
-      let from = export_from a shaped image w whole of d has in
-      let takes = export_takes a shaped image w whole of from.0 from.1 in
-      let is = image_interface a w from.0.1 f' takes.1 (ap (λ (e : Entry). item_interface e.1) from.2 ∙ held) in
-      let spot = place_of whole.exports from.0 takes.0 in
-      record { f = is.0; active = is.3; place = is.2; i = spot.0; holds = record { world = whole; there = of.there; entry = from.0; at = spot.1; held = is.1 } }
-
-  added_named : (j f' : ℕ) → j ∷ [] ≡ f' ∷ [] → IsNamed new.interfaces j → is_unnamed new.interfaces f' ≡ true → ⊥
-  added_named j f' same named unnamed = named_not new.interfaces j named (ap (is_unnamed new.interfaces) (same_one j f' same) ∙ unnamed)
-
-  stood : (w' : ℕ) (world : World) (w : ℕ) (whole : World) → IsDone a new w' world w whole → (b : Bool) (f' : ℕ) (e : Entry) → is_unnamed new.interfaces f' ≡ true → Contains (entries_of b world) e → item_interface e.1 ≡ f' ∷ []
-      → Stood w whole b f'
-  stood w' world w whole is false f' e unnamed has held =
-      elim ((laws.entries new.types (uses_of new.types new.interfaces) (listed_own a w whole) world e acyclic (in_order laws a valid shaped image new are acyclic w whole is.of) is.elaborated).0 has) [
-        | inl stays ↦ import_stood w whole is.of stays.0 f' stays.1 (sym (settled_interface stays.0.1) ∙ ap (λ (d : Entry). item_interface d.1) (sym stays.2) ∙ held)
-        | inr made ↦ absurd (added_named made.1 f' (ap (λ (d : Entry). item_interface d.1) (sym made.2) ∙ held) (used_named laws a valid shaped image new are acyclic w whole is.of made.1 made.3) unnamed)
-      ]
-  stood w' world w whole is true f' e unnamed has held =
-      elim ((laws.entries new.types (uses_of new.types new.interfaces) (listed_own a w whole) world e acyclic (in_order laws a valid shaped image new are acyclic w whole is.of) is.elaborated).1 has) [
-        | inl stays ↦ export_stood w whole is.of e f' stays held
-        | inr made ↦ absurd (added_named made.1 f' (ap (λ (d : Entry). item_interface d.1) (sym made.2) ∙ held) (exported_named laws a valid shaped image new are acyclic w whole is.of made.1 made.3) unnamed)
-      ]
-
-  new_side : (w' : ℕ) (world : World) (w : ℕ) (whole : World) → IsDone a new w' world w whole → (f' : ℕ) (d e : Entry) → is_unnamed new.interfaces f' ≡ true
-      → Contains world.imports d → item_interface d.1 ≡ f' ∷ [] → Contains world.exports e → item_interface e.1 ≡ f' ∷ [] → ⊥
-  new_side w' world w whole is f' d e unnamed has held other held' =
-      let x = stood w' world w whole is false f' d unnamed has held in
-      let y = stood w' world w whole is true f' e unnamed other held' in
+  new_side : (w : ℕ) (whole : World) → TakesPart a w whole → (f' : ℕ) (d e : Entry) → is_unnamed new.interfaces f' ≡ true
+      → Contains (world_image (addition_maps a) w (cut a whole)).imports d → item_interface d.1 ≡ f' ∷ [] → Contains (world_image (addition_maps a) w (cut a whole)).exports e → item_interface e.1 ≡ f' ∷ [] → ⊥
+  new_side w whole of f' d e unnamed has held other held' =
+      let x = stood w whole of false f' d has held in
+      let y = stood w whole of true f' e other held' in
       let same : y.f ≡ x.f = interfaces_apart a valid shaped image y.f x.f y.active x.active (sym y.place ∙ x.place) in
       let free : is_unnamed a.handed.interfaces x.f ≡ true = sym (unnamed_goes x.f x.active) ∙ ap (is_unnamed new.interfaces) (sym x.place) ∙ unnamed in
       let places = handed_one x.f w w false true x.i y.i free x.holds (subst (λ (f : ℕ). Holds a.handed.worlds w true y.i f) same y.holds) in
@@ -223,7 +188,7 @@ module _ (laws : WorldLaws) (a : Addition) (valid : IsValid a.graph) (shaped : I
   one_side w' i' j' f' unnamed x y =
       let same = same_at new.worlds w' w' y.world x.world refl y.there x.there in
       let at : slice_get x.world.exports j' ≡ Some y.entry = subst (λ (world : World). slice_get world.exports j' ≡ Some y.entry) same y.at in
-      elim (world_from a new are w' x.world x.there) [
+      elim (listed_from a valid shaped image w' x.world x.there) [
         | inl old ↦
             let is = ((good_things a.graph valid).worlds w' x.world old).imports i' x.entry x.at in
             let within = held_within a.graph.interfaces a.graph.types w' x.entry.0 x.entry.1 f' is.is x.held in
@@ -232,7 +197,9 @@ module _ (laws : WorldLaws) (a : Addition) (valid : IsValid a.graph) (shaped : I
             let never = places.1 in
             cc
         | inr made ↦
-            new_side w' x.world made.0 made.1 made.2 f' x.entry y.entry unnamed (contained_at x.world.imports i' x.entry x.at) x.held (contained_at x.world.exports j' y.entry at) y.held
+            let is = made.2 in
+            new_side made.0 made.1 is.of f' x.entry y.entry unnamed (subst (λ (world : World). Contains world.imports x.entry) is.is (contained_at x.world.imports i' x.entry x.at)) x.held
+            (subst (λ (world : World). Contains world.exports y.entry) is.is (contained_at x.world.exports j' y.entry at)) y.held
       ]
 
   -- interfaces without names stay apart
@@ -243,7 +210,11 @@ module _ (laws : WorldLaws) (a : Addition) (valid : IsValid a.graph) (shaped : I
     one_side = one_side;
   }
 
-  -- so each has one place
-  pub stand_once : ((k : ℕ) → Carries (sources a k) new) → IsCovered everything (sources a) new → StandOnce new.interfaces new.worlds
-  stand_once carries covered =
-      StandOnce-from_places new.interfaces new.worlds (HasOnePlace-of_covered (sources a) new (sources_good a valid shaped image) carries covered stay_apart one_in)
+  -- the first stage is on its way
+  pub listed_stands : StandsSoFar (listed a)
+  listed_stands = record {
+    items = covered_items (sources a) (listed a) (sources_good a valid shaped image) (stage_carries a valid shaped image) (stage_covered a valid shaped image);
+    references = added_types_acyclic a valid shaped image (listed a).types (listed a).interfaces (listed_parts a);
+    uses = added_uses_acyclic a valid shaped image (listed a).types (listed a).interfaces (listed_parts a);
+    once = HasOnePlace-of_covered (sources a) (listed a) (sources_good a valid shaped image) (stage_carries a valid shaped image) (stage_covered a valid shaped image) stay_apart one_in;
+  }
