@@ -194,7 +194,7 @@ module _ (a : Addition) where
   -- ---- a world
 
   -- with all its includes it is what the addition begins
-  begun_same : (k : ℕ) (at : AtWorld a k) → local.with_several home (with_worlds a k) (image_at at.place at.world) (placed_includes a at.world) ≡ begun a at.place at.world (with_worlds a k)
+  pub begun_same : (k : ℕ) (at : AtWorld a k) → local.with_several home (with_worlds a k) (image_at at.place at.world) (placed_includes a at.world) ≡ begun a at.place at.world (with_worlds a k)
   begun_same k at = several_are (with_worlds a k) at.place at.world (active_includes a at.world)
 
   -- where it lists none it is its image
@@ -366,6 +366,10 @@ one_world a k at at' P holds =
     let same : (at.place, at.world) ≡ (at'.place, at'.world) = same_at (own_worlds a) k k (at.place, at.world) (at'.place, at'.world) refl at.is at'.is in
     subst (λ (e : ℕ × World). P e.0 e.1) same holds
 
+-- an include that is fine in one view of the world is fine
+pub include_reached : (a : Addition) (k j : ℕ) (at : AtWorld a k) → local.IsFineAt (home a) (with_worlds a k) (image_at a at.place at.world) (placed_includes a at.world) j → IncludeIsFine a k j
+include_reached a k j at fine = include_is_fine a k j (λ at'. one_world a k at at' (λ (w : ℕ) (world : World). local.IsFineAt (home a) (with_worlds a k) (image_at a w world) (placed_includes a world) j) fine)
+
 -- why a world is refused is a reason of the addition
 pub world_cause : (a : Addition) (k : ℕ) (at : AtWorld a k) → HasImage a → IsReached a k → (kind : ResolveErrorKind)
     → local.IsWorldCause (home a) (with_worlds a k) (image_at a at.place at.world) (placed_includes a at.world) kind → IsCause a kind
@@ -373,10 +377,10 @@ world_cause a k at image reached kind (local.at_include j stops) =
     include_cause a k j at (record {
       has_image = image;
       worlds = reached;
-      includes = λ i before. include_is_fine a k i (λ at'. one_world a k at at' (λ (w : ℕ) (world : World). local.IsFineAt (home a) (with_worlds a k) (image_at a w world) (placed_includes a world) i) (stops.earlier i before));
+      includes = λ i before. include_reached a k i at (stops.earlier i before);
     }) kind stops
 world_cause a k at image reached kind (local.as_finished fine is) =
-    finishing_cause a k at image reached (λ i. include_is_fine a k i (λ at'. one_world a k at at' (λ (w : ℕ) (world : World). local.IsFineAt (home a) (with_worlds a k) (image_at a w world) (placed_includes a world) i) (fine i))) kind is
+    finishing_cause a k at image reached (λ i. include_reached a k i at (fine i)) kind is
 
 -- and a world of which one view is fine is fine
 pub reached_fine : (a : Addition) (k : ℕ) (at : AtWorld a k) → local.IsFineWorld (home a) (with_worlds a k) (image_at a at.place at.world) (placed_includes a at.world) → WorldIsFine a k
