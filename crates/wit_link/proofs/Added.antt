@@ -37,18 +37,15 @@ use Rattle.wit_link.proofs.WorldsAreFine.{image_at, includes_are_fine, stop_is_c
 use Rattle.wit_link.proofs.FitsIsExact.{fitting_passes_not, passes-of_not_fitting}
 use Rattle.wit_link.proofs.Stages.{pushed_is}
 
-module _ (a : Addition) (supported : IsSupported a.handed) (is_new : IsNew a) (checked : IsChecked a) (fine : AllByRecursion (CanFinish (with_parts a)) (images a)) where
-  each_world : (k : ℕ) → WorldIsFine a k
-  each_world k = world_is_fine a supported k (λ at. AllByRecursion-at (CanFinish (with_parts a)) (images a) k (image_of a (at.place, at.world)) fine (image_at a supported k at))
-
+module _ (a : Addition) (is_new : IsNew a) (checked : IsChecked a) (each_world : (k : ℕ) → WorldIsFine a k) where
   pub is_accepted : IsAccepted a
   is_accepted _ (package_not_found_1 span requested known is) = checked.found.packages span requested known is
   is_accepted _ (world_not_found_2 span requested home is) = checked.found.worlds span requested home is
   is_accepted _ (interface_not_found_3 span requested home is) = checked.found.interfaces span requested home is
   is_accepted _ (conflict_4 k span name reached is) = (each_world k).exports span name is
   is_accepted _ (duplicate_5 name span1 span2 is) = is_new.absent is.there
-  is_accepted _ (shadowing_7 k j span word name reached is) = (includes_are_fine a supported k j).unshadowed span word name is
-  is_accepted _ (mismatch_8 k j span from into reached is) = (includes_are_fine a supported k j).agrees span from into is
+  is_accepted _ (shadowing_7 k j span word name reached is) = ((each_world k).includes j).unshadowed span word name is
+  is_accepted _ (mismatch_8 k j span from into reached is) = ((each_world k).includes j).agrees span from into is
   is_accepted _ (gate_without_version_9 span message is) = checked.met.version span message is
   is_accepted _ (gate_unreleased_10 span message is) = checked.met.released span message is
   is_accepted _ (excluded_11 span message is) = checked.needs.references span message is
@@ -56,14 +53,14 @@ module _ (a : Addition) (supported : IsSupported a.handed) (is_new : IsNew a) (c
   is_accepted _ (type_not_defined_13 span message is) = checked.found.types span message is
   is_accepted _ (not_a_resource_14 span message is) = checked.resources span message is
   is_accepted _ (borrow_in_result_15 span message is) = checked.no_borrow span message is
-  is_accepted _ (rename_unmatched_16 k j span message reached is) = (includes_are_fine a supported k j).renames span message is
+  is_accepted _ (rename_unmatched_16 k j span message reached is) = ((each_world k).includes j).renames span message is
   is_accepted _ (not_strongly_unique_17 k span message reached is) = (each_world k).labels span message is
   is_accepted _ (no_getter_18 k span message reached is) = (each_world k).setters span message is
   is_accepted _ (offset_overflow_27 is) = is_new.fits is
 
   -- and it is added
-  pub is_added : IsAdded a (with_all_finished (with_parts a) (images a)) (length a.graph.packages)
-  is_added = record { accepted = is_accepted; graph_is = sym (pushed_is a supported); id_is = refl }
+  pub is_added : (new : Graph) → new ≡ pushed a → IsAdded a new (length a.graph.packages)
+  is_added new is = record { accepted = is_accepted; graph_is = is; id_is = refl }
 
 -- ---- refusals before anything else is looked at
 
@@ -97,39 +94,18 @@ checked_image a checked = has_image a checked.met checked.needs checked.found
 
 -- ---- the worlds at their places
 
-map_twice : {X Y Z : Type 0} (f : Y → Z) (g : X → Y) (xs : List X) → map f (map g xs) ≡ map (λ x. f (g x)) xs
-map_twice f g [] = refl
-map_twice f g (x ∷ xs) = ap (λ l. f (g x) ∷ l) (map_twice f g xs)
+map_twice : {X Y Z : Type 0} (f : Y → Z) (g : X → Y) (h : X → Z) (xs : List X) → ((i : ℕ) (x : X) → slice_get xs i ≡ Some x → f (g x) ≡ h x) → map f (map g xs) ≡ map h xs
+map_twice f g h [] each = refl
+map_twice f g h (x ∷ xs) each = rw (each 0 x refl, map_twice f g h xs (λ i. each (suc i))) refl
 
-pub placed_images : (a : Addition) → map (λ (p : PlacedWorld). p.world) (map (added_world a) (own_worlds a)) ≡ images a
-placed_images a = map_twice (λ (p : PlacedWorld). p.world) (added_world a) (own_worlds a)
-
-each_of : {X : Type 0} (P : X → Type 0) (xs : List X) → ((k : ℕ) (x : X) → slice_get xs k ≡ Some x → P x) → AllByRecursion P xs
-each_of P [] each = tt
-each_of P (x ∷ xs) each = (each zero x refl, each_of P xs (λ k y at. each (suc k) y at))
-
-module _ (a : Addition) (valid : IsValid a.graph) (shaped : IsShaped a.handed) (image : HasImage a) where
-  parts : HasParts a (with_parts a).types (with_parts a).interfaces
-  parts = record { types_are = refl; interfaces_are = refl }
-
-  pub uses_are_acyclic : IsAcyclic (graph_uses (with_parts a))
-  uses_are_acyclic = added_uses_acyclic a valid shaped image (with_parts a).types (with_parts a).interfaces parts
-
-  pub images_are_listed : AllByRecursion (λ (world : World). IsListed (with_parts a).types (length (with_parts a).interfaces) (placed world.imports) (placed world.exports)) (images a)
-  images_are_listed =
-      each_of (λ (world : World). IsListed (with_parts a).types (length (with_parts a).interfaces) (placed world.imports) (placed world.exports)) (images a) (λ k world at.
-      let from = from_map (image_of a) (own_worlds a) k world at in
-      subst (λ (w : World). IsListed (with_parts a).types (length (with_parts a).interfaces) (placed w.imports) (placed w.exports)) from.2
-      (listed_worlds a valid shaped image (with_parts a).types (with_parts a).interfaces parts k from.0 from.1))
-
-  -- what comes of the graph is valid
-  pub stays_valid : PushesStayValid → IsSupported a.handed → IsNew a → AllByRecursion (CanFinish (with_parts a)) (images a) → IsValid (with_all_finished (with_parts a) (images a))
-  stays_valid law supported new fine =
-      subst IsValid (pushed_is a supported)
-      (law a valid shaped image new.absent (λ k below.
-      world_is_fine a supported k (λ at. AllByRecursion-at (CanFinish (with_parts a)) (images a) k (image_of a (at.place, at.world)) fine (image_at a supported k at))))
-
-  -- why a world can't be finished is a reason
-  pub stopping_cause : IsSupported a.handed → (kind : ResolveErrorKind) → (kind ≡ OutOfMemory) ⊎ ((k : ℕ) × StopsAt (with_parts a) (images a) kind k) → (kind ≡ OutOfMemory) ⊎ IsCause a kind
-  stopping_cause supported kind (inl memory) = inl memory
-  stopping_cause supported kind (inr stops) = inr (stop_is_cause a supported image kind stops.0 stops.1)
+-- a world that the package has goes where it goes
+place_is : (a : Addition) (w : ℕ) → w < length a.handed.worlds → goes (places_of a).worlds w ≡ world_place a w
+place_is a w within =
+    let at : slice_get (range_with_len 0 (length a.handed.worlds)) w ≡ Some w = range_at 0 (length a.handed.worlds) w within in
+    ap (id_or w) (at_map (taken_world a) (range_with_len 0 (length a.handed.worlds)) w w at) ∙ by (taken_world a w)
+  where
+    by : (o : Option ℕ) → id_or w (Some o) ≡ unwrap_or o w
+    by None = refl
+    by (Some p) = refl
+    range_at : (start n i : ℕ) → i < n → slice_get (range_with_len start n) i ≡ Some (start + i)
+    range_at start n i below = ?

@@ -4,6 +4,7 @@
 pub mod adding;
 mod checking;
 mod fits;
+mod including;
 pub mod remap;
 pub mod several;
 pub mod supported;
