@@ -1,5 +1,5 @@
 -- Includes of a world, one after another, and the world finished.
-use Rattle.std.proofs.Common.{◌≡◌, ◌∙◌, ◌⊎◌, inl, inr, ℕ, ◌+◌, ◌<◌, ◌≤◌, zero, suc, List, [], ◌∷◌, ◌++◌, fold, length, take, Option, None, Some, slice_get, refl, sym, ap, subst, arith, below_more}
+use Rattle.std.proofs.Common.{◌≡◌, ◌∙◌, ◌⊎◌, inl, inr, ℕ, ◌+◌, ◌<◌, ◌≤◌, zero, suc, List, [], ◌∷◌, fold, length, take, Some, slice_get, refl, sym, ap, subst, arith, below_more}
 use Rattle.std.proofs.lemmas.List.Sums.{fold-append}
 use Rattle.std.proofs.lemmas.Option.{slice_get_within}
 use Rattle.wit_values.specs.Lists.{take-next_at}
@@ -86,14 +86,17 @@ module _ (home : ℕ) (g : Graph) (world : World) (includes : List WorldInclude)
         → (kind ≡ OutOfMemory) ⊎ ((j : ℕ) × StopsAtInclude home g world includes j kind)
     stops_here kind (inl memory) = inl memory
     stops_here kind (inr stop) =
-        inr (n, record {
-          include = include;
-          is = at;
-          old = stop.0;
-          there = subst (λ (b : Begun). IsIncluded b include stop.0) begun_is stop.1;
-          earlier = is.fine;
-          cause = subst (λ (b : Begun). IsIncludeCause home b include stop.0 kind) begun_is stop.2;
-        })
+        inr (
+          n,
+          record {
+            include = include;
+            is = at;
+            old = stop.0;
+            there = subst (λ (b : Begun). IsIncluded b include stop.0) begun_is stop.1;
+            earlier = is.fine;
+            cause = subst (λ (b : Begun). IsIncludeCause home b include stop.0 kind) begun_is stop.2;
+          },
+        )
 
   -- all of them
   take-all : length includes ≤ n → take n includes ≡ includes

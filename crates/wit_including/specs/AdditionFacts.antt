@@ -1,13 +1,12 @@
 -- The includes of an addition's worlds, at its stages: what is told of one world with its includes, as reasons of the
 -- addition. For the proofs of the crates above; only `placed_include` and `placed_includes` are words of contracts.
-use Rattle.std.proofs.Common.{◌≡◌, ◌∙◌, ◌⊎◌, inl, inr, ℕ, zero, suc, ◌+◌, ◌<◌, List, [], ◌∷◌, ◌++◌, map, filter, fold, take, length, Option, Some, None, slice_get, refl, sym, ap, subst, arith, Contains, codes}
+use Rattle.std.proofs.Common.{◌≡◌, ◌∙◌, inl, inr, ℕ, zero, suc, ◌+◌, List, [], ◌∷◌, map, filter, fold, take, length, Some, None, slice_get, refl, sym, ap, subst, arith, Contains}
 use Rattle.std.proofs.lemmas.List.Sums.{fold-append}
 use Rattle.std.specs.Map.{keys_of}
 use Rattle.wit_values.specs.Lists.{take-next_at}
 use Rattle.wit_sources.specs.Span.{moved_by}
 use Rattle.wit_items.specs.Entries.{Entry}
 use Rattle.wit_items.specs.declared.function.Function.{Function}
-use Rattle.wit_items.specs.declared.stability.Stability.{Stability}
 use Rattle.wit_items.specs.declared.world.World.{World}
 use Rattle.wit_items.specs.declared.world.WorldInclude.{WorldInclude}
 use Rattle.wit_items.specs.declared.world.WorldItem.TheVariants as item
@@ -27,8 +26,8 @@ use Rattle.wit_adding.specs.Gates.{Place, include_is_active}
 use Rattle.wit_adding.specs.Include.{Begun, Lists, included, lists_of}
 use Rattle.wit_adding.specs.Pushed.{begun, begun_with, with_include, with_parts, with_world, with_worlds}
 use Rattle.wit_adding.specs.Reasons.{HasImage}
-use Rattle.wit_adding.specs.WorldReasons.{AreTooAlike, AtInclude, AtWorld, HaveLists, IncludeIsFine, IsListCalled, Mismatches, RenamesNothing, Shadows, WorldIsFine, made, written}
-use Rattle.wit_finishing.specs.Finished.{CanFinish, IsFinishCause, LabelsClash, SetterIsAlone, with_finished, conflict_4 as finish_conflict_4, no_getter_18 as finish_no_getter_18, not_strongly_unique_17 as finish_not_strongly_unique_17}
+use Rattle.wit_adding.specs.WorldReasons.{AtInclude, AtWorld, HaveLists, IncludeIsFine, IsListCalled, WorldIsFine, made, written}
+use Rattle.wit_finishing.specs.Finished.{IsFinishCause, LabelsClash, SetterIsAlone, with_finished, conflict_4 as finish_conflict_4, no_getter_18 as finish_no_getter_18, not_strongly_unique_17 as finish_not_strongly_unique_17}
 use Rattle.wit_including.specs.Included as local
 use Rattle.wit_including.specs.SeveralFacts.{one_worlds}
 
@@ -147,6 +146,7 @@ module _ (a : Addition) where
           old = old;
           old_is = there;
         }
+
         by : (kind : ResolveErrorKind) → local.IsIncludeCause home (local.with_several home (with_worlds a k) (image_at at.place at.world) (take j (placed_includes a at.world))) (placed_include a include) old kind → IsCause a kind
         by _ (local.shadowing_7 word name is) =
             shadowing_7 k j (moved_by a.offset include.span) word name reached (record {

@@ -1,7 +1,7 @@
 -- A world of a graph that is included in one that comes next, and why that is refused; all includes of a world, and the
 -- world finished. What an include makes is `included`.
 -- Source: `resolve_include` and `process_world_includes` of wit-parser 0.263.0.
-use Rattle.std.specs.Prelude.{◌≡◌, ◌<◌, ◌⊎◌, ℕ, List, fold, length, map, take, slice_get, Some}
+use Rattle.std.specs.Prelude.{◌≡◌, ◌<◌, ℕ, List, fold, length, map, take, slice_get, Some}
 use Rattle.std.specs.List.{AllByRecursion}
 use Rattle.wit_items.specs.Entries.{Entry}
 use Rattle.wit_items.specs.declared.stability.Stability.{Stability}

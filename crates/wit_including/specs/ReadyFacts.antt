@@ -1,28 +1,47 @@
 -- A world of an addition that is reached can be added with its includes, as the laws of stages have it. For the proofs of
 -- the crates above.
-use Rattle.std.proofs.Common.{◌≡◌, ◌∙◌, ℕ, ◌<◌, List, [], ◌∷◌, map, length, take, None, Some, slice_get, refl, sym, ap, subst, arith}
+use Rattle.std.proofs.Common.{◌≡◌, ℕ, ◌<◌, List, [], ◌∷◌, map, length, take, None, Some, slice_get, refl, sym, ap, subst, suc, arith, Contains}
 use Rattle.std.proofs.lemmas.Option.{slice_get_within}
+use Rattle.std.specs.List.{AllByRecursion}
+use Rattle.wit_values.specs.Lists.{AllByRecursion-at}
+use Rattle.wit_items.specs.Entries.{Entry}
 use Rattle.wit_items.specs.Shape.{IsShaped}
 use Rattle.wit_items.specs.declared.world.World.{World}
 use Rattle.wit_items.specs.declared.world.WorldInclude.{WorldInclude}
-use Rattle.wit_graph.specs.Listed.{IsListed}
+use Rattle.wit_items.specs.declared.world.WorldItem.{WorldItem}
+use Rattle.wit_items.specs.declared.world.WorldKey.{WorldKey}
+use Rattle.wit_items.specs.declared.world.WorldKey.TheVariants as key
+use Rattle.wit_graph.specs.Listed.{IsListed, IsUnderOwnKey}
 use Rattle.wit_graph.specs.Valid.{IsValid}
 use Rattle.wit_graph.specs.declared.graph.Graph.{Graph}
-use Rattle.wit_growth.specs.Image.{world_image}
-use Rattle.wit_growth.specs.ListFacts.{from_map}
-use Rattle.wit_adding.specs.Addition.{Addition, active_includes, addition_maps, own_worlds, world_place}
+use Rattle.wit_growth.specs.ListFacts.{contained_at, from_map, place_of}
+use Rattle.wit_labels.specs.Setters.{placed}
+use Rattle.wit_including_laws.specs.PlacedFacts.{placed_into}
+use Rattle.wit_adding.specs.Addition.{Addition, active_includes, world_place}
 use Rattle.wit_adding.specs.Cause.{IncludeIsReached, IsReached}
 use Rattle.wit_adding.specs.Include.{Begun}
 use Rattle.wit_adding.specs.Pushed.{with_parts, with_worlds}
 use Rattle.wit_adding.specs.Reasons.{HasImage}
-use Rattle.wit_adding.specs.WorldReasons.{AtInclude, AtWorld, IncludeIsFine}
-use Rattle.wit_adding_laws.specs.ListedWorlds.{is_listed}
-use Rattle.wit_adding_laws.specs.OwnThings.{own_world_from}
-use Rattle.wit_adding_laws.specs.Parts.{HasParts}
-use Rattle.wit_adding_laws.specs.StageFacts.{CanFinishBegun, CanInclude, IncludedAreThere, IncludesCanBe, IsOnItsWay, WorldsCanBe}
+use Rattle.wit_adding.specs.WorldReasons.{AtWorld}
+use Rattle.wit_adding_laws.specs.ListedWorlds.{listed_worlds}
+use Rattle.wit_adding_laws.specs.StageFacts.{CanFinishBegun, IncludedAreThere, IncludesCanBe, IsOnItsWay, WorldsCanBe}
 use Rattle.wit_including.specs.Included as local
 use Rattle.wit_including.specs.AdditionFacts.{begun_same, home, image_at, include_reached, placed_include, placed_includes, stage_is}
 use Rattle.wit_including.specs.SeveralFacts.{several_worlds}
+
+-- where setters stand says nothing of keys of interfaces
+each_of : (P : Entry → Type 0) (xs : List Entry) → ((i : ℕ) (x : Entry) → slice_get xs i ≡ Some x → P x) → AllByRecursion P xs
+each_of P [] each = tt
+each_of P (x ∷ xs) each = (each 0 x refl, each_of P xs (λ i. each (suc i)))
+
+own_from_placed : (es : List Entry) → AllByRecursion (λ (e : Entry). IsUnderOwnKey e.0 e.1) (placed es) → AllByRecursion (λ (e : Entry). IsUnderOwnKey e.0 e.1) es
+own_from_placed es own = each_of (λ (e : Entry). IsUnderOwnKey e.0 e.1) es (λ i e at. one e.0 e.1 (contained_at es i e at))
+  where
+    one : (k : WorldKey) (held : WorldItem) → Contains es (k, held) → IsUnderOwnKey k held
+    one (key.Name label) held has = tt
+    one (key.Interface f) held has =
+        let place = place_of (placed es) (key.Interface f, held) (placed_into es (key.Interface f, held) has refl) in
+        AllByRecursion-at (λ (e : Entry). IsUnderOwnKey e.0 e.1) (placed es) place.0 (key.Interface f, held) own place.1
 
 module _ (there : IncludedAreThere) (includes : IncludesCanBe) (worlds : WorldsCanBe) (a : Addition) (valid : IsValid a.graph) (shaped : IsShaped a.handed) (image : HasImage a) (k : ℕ) (reached : IsReached a k) (at : AtWorld a k) where
   abbrev here : Graph
@@ -62,12 +81,8 @@ module _ (there : IncludedAreThere) (includes : IncludesCanBe) (worlds : WorldsC
   can_finish fine = subst CanFinishBegun (sym (begun_same a k at)) (worlds a k valid shaped image reached (λ j. include_reached a k j at (fine j)) at)
 
   -- its lists are in order before its includes
-  listed : IsListed (with_parts a).types (length (with_parts a).interfaces) (image_at a at.place at.world).imports (image_at a at.place at.world).exports
-  listed =
-      let is = own_world_from a k (at.place, at.world) at.is in
-      let parts : HasParts a (with_parts a).types (with_parts a).interfaces = record { types_are = refl; interfaces_are = refl } in
-      subst (λ (world : World). IsListed (with_parts a).types (length (with_parts a).interfaces) (world_image (addition_maps a) at.place world).imports (world_image (addition_maps a) at.place world).exports) is.is
-      (is_listed a valid shaped image (with_parts a).types (with_parts a).interfaces parts at.place is.world (record { there = is.there; takes = is.own }))
+  listed : IsListed (with_parts a).types (length (with_parts a).interfaces) (placed (image_at a at.place at.world).imports) (placed (image_at a at.place at.world).exports)
+  listed = listed_worlds a valid shaped image (with_parts a).types (with_parts a).interfaces (record { types_are = refl; interfaces_are = refl }) k (at.place, at.world) at.is
 
   none_before : (i : ℕ) → i < 0 → Fine i
   none_before i before = absurd (omega (arith, before))
@@ -99,7 +114,10 @@ module _ (there : IncludedAreThere) (includes : IncludesCanBe) (worlds : WorldsC
           subst (λ (ws : List World). slice_get ws (world_place a from.0.id) ≡ Some old.0) (several_worlds (home a) (take j its) (local.before_includes here (image_at a at.place at.world))) old.1 in
           let within : world_place a from.0.id < length here.worlds = slice_get_within here.worlds (world_place a from.0.id) old.0 front in
           subst (λ (x : WorldInclude). x.id < length here.worlds) from.2 within;
-      own_keys = record { imports = listed.of_imports.own_keys; exports = listed.of_exports.own_keys };
+      own_keys = record {
+        imports = own_from_placed (image_at a at.place at.world).imports listed.of_imports.own_keys;
+        exports = own_from_placed (image_at a at.place at.world).exports listed.of_exports.own_keys;
+      };
       each = λ j include is fine.
           let from = from_map (placed_include a) (active_includes a at.world) j include is in
           subst (λ (x : WorldInclude). local.CanBeIncluded (begins j) x) from.2 (can_include j from.0 from.1 fine);
