@@ -4,4 +4,3 @@ pub mod Fits
 pub mod Groups
 pub mod Including
 pub mod Several
-pub mod Supported
