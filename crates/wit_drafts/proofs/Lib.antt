@@ -2,3 +2,8 @@ pub mod Keys
 pub mod Steps
 pub mod Wrapped
 pub mod Entries
+pub mod Firsts
+pub mod Tables
+pub mod Same
+pub mod Mentions
+pub mod Changing

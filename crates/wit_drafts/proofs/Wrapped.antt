@@ -1,5 +1,5 @@
 -- Forms that are made from the innermost one on.
-use Rattle.std.proofs.Common.{◌≡◌, ℕ, ◌+◌, ◌<◌, List, [], ◌∷◌, ◌++◌, length, take, get_or, refl, sym, ap, ◌∙◌}
+use Rattle.std.proofs.Common.{◌≡◌, ℕ, ◌+◌, ◌<◌, List, [], ◌∷◌, ◌++◌, length, take, get_or, refl, ap, ◌∙◌}
 use Rattle.std.proofs.lemmas.Grind.{take_at_read}
 use Rattle.wit_items.specs.declared.types.Type_.{Type_}
 use Rattle.wit_items.specs.declared.types.TypeDefKind.{TypeDefKind}

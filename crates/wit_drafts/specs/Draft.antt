@@ -6,10 +6,11 @@ use Rattle.wit_sources.specs.SourceMap.{Sources, with_file}
 use Rattle.wit_items.specs.declared.package_name.PackageName.{PackageName}
 use Rattle.wit_items.specs.declared.unresolved.UnresolvedPackageGroup.{UnresolvedPackageGroup}
 use Rattle.wit_lines.specs.Line.{ink_start_of, ink_end_of}
-use Rattle.wit_drafts.specs.Mention.{Mention, first_interfaces, first_types, first_worlds, foreign_interface, foreign_of, foreign_type, foreign_world, known, type_id_of}
+use Rattle.wit_drafts.specs.Mention.{first_interfaces, first_types, first_worlds, foreign_interface, foreign_of, foreign_type, foreign_world, known, type_id_of}
 use Rattle.wit_drafts.specs.Naming.{Place}
 use Rattle.wit_drafts.specs.declared.draft.Draft.{Draft}
 use Rattle.wit_drafts.specs.declared.draft.Scope.TheVariants as scope
+use Rattle.wit_drafts.specs.declared.mention.Mention.{Mention}
 
 -- how many bytes a file of a source map may have
 abbrev pub longest_file : ℕ

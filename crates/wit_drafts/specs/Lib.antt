@@ -2,6 +2,7 @@ pub mod Leads
 pub mod Naming
 pub mod Adding
 pub mod Mention
+pub mod Mentioning
 pub mod Draft
 pub mod Role
 pub mod Making

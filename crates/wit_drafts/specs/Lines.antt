@@ -1,6 +1,5 @@
 -- What each line makes of a package.
 use Rattle.std.specs.Prelude.{ℕ, List, length, Option, Some, None, option_and_then}
-use Rattle.std.specs.Option.{option_map}
 use Rattle.wit_items.specs.declared.function.Function.{Function}
 use Rattle.wit_items.specs.declared.stability.Stability.{Stability}
 use Rattle.wit_items.specs.declared.types.Field.{Field}

@@ -6,7 +6,6 @@ use Rattle.std.specs.Str.{bytes_eq}
 use Rattle.wit_items.specs.Foreign.{ForeignItem, ForeignItems}
 use Rattle.wit_items.specs.PackageOrder.{same_package}
 use Rattle.wit_items.specs.declared.interface.Interface.{Interface}
-use Rattle.wit_items.specs.declared.package_name.PackageName.{PackageName}
 use Rattle.wit_items.specs.declared.stability.Stability.{Stability}
 use Rattle.wit_items.specs.declared.stability.Stability.TheVariants.{Unknown}
 use Rattle.wit_items.specs.declared.types.TypeDef.{TypeDef}
@@ -22,22 +21,26 @@ use Rattle.wit_drafts.specs.Adding.{empty_interface, empty_world, type_with}
 use Rattle.wit_drafts.specs.Naming.{Place}
 use Rattle.wit_drafts.specs.declared.draft.Foreign.{Foreign}
 use Rattle.wit_drafts.specs.declared.draft.Standing.{Standing}
+use Rattle.wit_drafts.specs.declared.mention.Mention.{Mention}
+use Rattle.wit_drafts.specs.declared.mention.MentionKind.{MentionKind}
+use Rattle.wit_drafts.specs.declared.mention.MentionKind.TheVariants as taken
 
--- a mention of an interface or a world of another package, by a line with this gate that stands here; with the name of a
--- type where the line uses one
-pub record Mention : Type 0 where
-  pub parent : PackageName
-  pub name : List ℕ
-  pub is_world : Bool
-  pub type_name : Option (List ℕ)
-  pub gate : Stability
-  pub span : Place
+-- a line takes a name for that of a world
+abbrev pub is_world : MentionKind → Bool
+is_world taken.Interface = false
+is_world (taken.Type_ name) = false
+is_world taken.World = true
+
+-- the name of the type that a line uses
+abbrev pub used_type_name : MentionKind → Option (List ℕ)
+used_type_name taken.Interface = None
+used_type_name (taken.Type_ name) = Some name
+used_type_name taken.World = None
 
 -- what a path mentions: a name of the same package is no mention
-abbrev pub mentioned : ParsedUsePath → Bool → Option (List ℕ) → Stability → Place → List Mention
-mentioned (path.Name own) is_world type_name gate span = []
-mentioned (path.Package parent name) is_world type_name gate span =
-    record { parent = parent; name = name; is_world = is_world; type_name = type_name; gate = gate; span = span } ∷ []
+abbrev pub mentioned : ParsedUsePath → MentionKind → Stability → Place → List Mention
+mentioned (path.Name own) takes gate span = []
+mentioned (path.Package parent name) takes gate span = record { parent = parent; name = name; kind = takes; gate = gate; span = span } ∷ []
 
 -- what a line mentions
 abbrev pub mentions_of : PackageLine → Stability → Place → List Mention
@@ -46,13 +49,13 @@ mentions_of (says.World name) gate span = []
 mentions_of (says.Type_ name text) gate span = []
 mentions_of (says.Record name fields) gate span = []
 mentions_of (says.Resource name) gate span = []
-mentions_of (says.Use from name new) gate span = mentioned from false (Some name) gate span
+mentions_of (says.Use from name new) gate span = mentioned from (taken.Type_ name) gate span
 mentions_of (says.Function said) gate span = []
-mentions_of (says.Import label from) gate span = mentioned from false None gate span
-mentions_of (says.Export label from) gate span = mentioned from false None gate span
+mentions_of (says.Import label from) gate span = mentioned from taken.Interface gate span
+mentions_of (says.Export label from) gate span = mentioned from taken.Interface gate span
 mentions_of (says.ImportFunction said) gate span = []
 mentions_of (says.ExportFunction said) gate span = []
-mentions_of (says.Include from names) gate span = mentioned from true None gate span
+mentions_of (says.Include from names) gate span = mentioned from taken.World gate span
 
 -- two mentions of one package
 abbrev pub same_parent : Mention → Mention → Bool
@@ -73,7 +76,7 @@ same_name a (Some name) = is_type_name a name
 
 -- two uses of one type
 abbrev pub same_type : Mention → Mention → Bool
-same_type a b = same_item a b && same_name a.type_name b.type_name
+same_type a b = same_item a b && same_name (used_type_name a.kind) (used_type_name b.kind)
 
 -- the first of each, where two of them may be the same
 abbrev pub firsts : {X : Type 0} → (X → X → Bool) → List X → List X
@@ -85,13 +88,13 @@ abbrev pub first_packages : List Mention → List Mention
 first_packages ms = firsts same_parent ms
 
 abbrev pub first_interfaces : List Mention → List Mention
-first_interfaces ms = firsts same_item (filter (λ m. not m.is_world) ms)
+first_interfaces ms = firsts same_item (filter (λ m. not (is_world m.kind)) ms)
 
 abbrev pub first_worlds : List Mention → List Mention
-first_worlds ms = firsts same_item (filter (λ m. m.is_world) ms)
+first_worlds ms = firsts same_item (filter (λ m. is_world m.kind) ms)
 
 abbrev pub uses_type : Mention → Bool
-uses_type m = same_name m.type_name m.type_name
+uses_type m = same_name (used_type_name m.kind) (used_type_name m.kind)
 
 abbrev pub first_types : List Mention → List Mention
 first_types ms = firsts same_type (filter uses_type ms)
@@ -109,7 +112,7 @@ type_id_of ms m = position_or_len (same_type m) (first_types ms)
 -- a foreign interface or world, with a note for each line that names it: the gate of that line
 abbrev pub foreign_item : List Mention → Mention → ForeignItem
 foreign_item ms m =
-    (m.name, ((if m.is_world then item.World (world_id_of ms m) else item.Interface (interface_id_of ms m)), map (λ (n : Mention). n.gate) (filter (same_item m) ms)))
+    (m.name, ((if is_world m.kind then item.World (world_id_of ms m) else item.Interface (interface_id_of ms m)), map (λ (n : Mention). n.gate) (filter (same_item m) ms)))
 
 -- what is named of other packages, under the name of each
 abbrev pub foreign_deps_of : List Mention → ForeignItems
@@ -127,7 +130,7 @@ mentioned_at m = record { gate = Unknown; span = m.span }
 -- a foreign interface: its name, and those of its types that lines use
 abbrev pub foreign_interface : List Mention → Mention → Interface
 foreign_interface ms m =
-    record (empty_interface m.name (mentioned_at m)) { types = map (λ (t : Mention). (used_name t.type_name, type_id_of ms t)) (filter (same_item m) (first_types ms)) }
+    record (empty_interface m.name (mentioned_at m)) { types = map (λ (t : Mention). (used_name (used_type_name t.kind), type_id_of ms t)) (filter (same_item m) (first_types ms)) }
 
 -- a foreign world: its name
 abbrev pub foreign_world : Mention → World
@@ -135,7 +138,7 @@ foreign_world m = empty_world m.name (mentioned_at m)
 
 -- a foreign type, with the gate of the first line that uses it
 abbrev pub foreign_type : List Mention → Mention → TypeDef
-foreign_type ms m = type_with m.type_name kind.Unknown (owner.Interface (interface_id_of ms m)) (record { gate = m.gate; span = m.span })
+foreign_type ms m = type_with (used_type_name m.kind) kind.Unknown (owner.Interface (interface_id_of ms m)) (record { gate = m.gate; span = m.span })
 
 -- what is known of other packages
 abbrev pub foreign_of : List Mention → Foreign
@@ -147,12 +150,12 @@ foreign_of ms = record {
 
 -- what the first of these mentions of an interface or world takes it for
 abbrev pub first_role : Mention → List Mention → Bool
-first_role m [] = m.is_world
-first_role m (n ∷ ms) = if same_item m n then n.is_world else first_role m ms
+first_role m [] = is_world m.kind
+first_role m (n ∷ ms) = if same_item m n then is_world n.kind else first_role m ms
 
 -- the first line that names it takes it for what this line does
 abbrev pub keeps_role : List Mention → Mention → Bool
-keeps_role ms m = if m.is_world then first_role m ms else not (first_role m ms)
+keeps_role ms m = if is_world m.kind then first_role m ms else not (first_role m ms)
 
 -- the mentions that count: a line that takes an item for what its first mention doesn't isn't understood
 abbrev pub known : List Mention → List Mention

@@ -12,7 +12,7 @@ use wit_items::{
 use wit_lines::LineFault;
 
 /// The interface of a line, without types and functions.
-fn new_interface(alloc: Global, name: Text, here: &Standing) -> Result<Interface, AllocError>
+pub fn new_interface(alloc: Global, name: Text, here: &Standing) -> Result<Interface, AllocError>
     ensures { IfOk result (λ interface. interface ≡ empty_interface name here.now) }
 {
     let stability = here.gate.try_clone()?;
@@ -28,7 +28,7 @@ fn new_interface(alloc: Global, name: Text, here: &Standing) -> Result<Interface
 }
 
 /// The world of a line, without imports, exports and includes.
-fn new_world(alloc: Global, name: Text, here: &Standing) -> Result<World, AllocError>
+pub fn new_world(alloc: Global, name: Text, here: &Standing) -> Result<World, AllocError>
     ensures { IfOk result (λ world. world ≡ empty_world name here.now) }
 {
     let stability = here.gate.try_clone()?;

@@ -1,9 +1,10 @@
 //! A package of which some lines are read.
 ghost use Rattle.std.specs.Prelude.{◌≡◌, ◌++◌, [], IfOk};
-ghost use Rattle.wit_drafts.specs.Draft.{begun, file_of, grouped, span_after, with_newline, with_text};
+ghost use Rattle.wit_drafts.specs.Draft.{begun, begun_at, file_of, grouped, span_after, with_newline, with_text};
 ghost use Rattle.wit_drafts.specs.Lines.{with_line};
 ghost use Rattle.wit_lines.specs.IsRead.{IsRead};
 
+use crate::mention::Mention;
 use std::alloc::{AllocError, Global};
 use std::mem;
 use wit_items::{
@@ -100,7 +101,7 @@ const LONGEST_FILE: usize = 4294967294;
 
 /// The span of a line that goes to the end of a file of this length. The line isn't understood where
 /// the file would grow past the positions of a source map.
-fn span_of(file_len: usize, line: &str) -> Result<Span, LineFault>
+pub fn span_of(file_len: usize, line: &str) -> Result<Span, LineFault>
     ensures { IsRead (span_after file_len line.now) result }
 {
     if file_len > LONGEST_FILE || line.len() >= LONGEST_FILE - file_len {
@@ -121,15 +122,30 @@ fn with_newline(contents: Text, line: &str) -> Result<Text, AllocError>
 }
 
 impl Draft {
-    /// The package that a first line begins, and whose lines mention nothing of other packages.
-    pub fn begin(alloc: Global, name: PackageName, line: &str) -> Result<Draft, LineFault>
-        ensures { IsRead (begun name line.now []) result }
+    /// The package that a first line begins, and whose lines mention this of other packages, in their
+    /// order.
+    pub fn begin(
+        alloc: Global,
+        name: PackageName,
+        line: &str,
+        mentions: Items<Mention>,
+    ) -> Result<Draft, LineFault>
+        ensures { IsRead (begun name line.now mentions) result }
     {
-        let name_span = span_of(0, line)?;
+        let span = span_of(0, line)?;
+        let mut draft = Draft::empty(alloc, name, line, span)?;
+        draft.add_mentions(alloc, mentions)?;
+        Ok(draft)
+    }
+
+    /// The package of a first line that stands here, which knows nothing of other packages.
+    fn empty(alloc: Global, name: PackageName, line: &str, span: Span) -> Result<Draft, AllocError>
+        ensures { IfOk result (λ draft. draft ≡ begun_at name line.now [] span) }
+    {
         let contents = with_newline(Text::new(alloc), line)?;
         Ok(Draft {
             name,
-            name_span,
+            name_span: span,
             contents,
             interfaces: Items::new(alloc),
             worlds: Items::new(alloc),

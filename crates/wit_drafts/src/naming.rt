@@ -135,7 +135,7 @@ impl Draft {
     }
 
     /// The interface or world of another package that this names.
-    fn foreign_named(&self, parent: &PackageName, name: &str) -> Option<AstItem>
+    pub fn foreign_named(&self, parent: &PackageName, name: &str) -> Option<AstItem>
         ensures { result ≡ foreign_named self.now parent.now name.now }
     {
         let items = self.foreign.deps.get(parent)?;

@@ -6,8 +6,8 @@ use Rattle.wit_items.specs.declared.package_name.PackageName.{PackageName}
 use Rattle.wit_lines.specs.Token.{package_name_of, part_of}
 use Rattle.wit_lines.specs.declared.request.Request.{Request}
 use Rattle.wit_lines.specs.declared.request.Request.TheVariants as request
-use Rattle.wit_lines.specs.declared.request.TrackRule.{TrackRule}
-use Rattle.wit_lines.specs.declared.request.TrackRule.TheVariants as tracks
+use Rattle.wit_items.specs.declared.track.TrackRule.{TrackRule}
+use Rattle.wit_items.specs.declared.track.TrackRule.TheVariants as tracks
 
 -- a first token that begins such a command
 abbrev pub is_request : List ℕ → Bool

@@ -6,16 +6,7 @@ ghost use Rattle.wit_lines.specs.Request.{alone_of, exportize_in, exportize_of, 
 use crate::fault::LineFault;
 use crate::token::{read_package_name, read_part};
 use std::alloc::{AllocError, Global};
-use wit_items::{Items, PackageName, Text};
-
-/// The rule by which versions stand on one track.
-#[derive(Clone, Copy, Debug, PartialEq, Eq)]
-pub enum TrackRule {
-    /// A pre-release stands on a track of its own.
-    Published,
-    /// A pre-release stands on the track of its release.
-    WithPrereleases,
-}
+use wit_items::{Items, PackageName, Text, TrackRule};
 
 /// A command that hands in no package.
 #[derive(Drop)]

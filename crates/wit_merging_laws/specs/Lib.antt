@@ -6,8 +6,10 @@ pub mod MatchFacts
 pub mod MatchedOnce
 pub mod MergingLaws
 pub mod NothingFacts
+pub mod OnceStand
 pub mod PackagesStand
 pub mod TypesStand
 pub mod UnitedWorlds
+pub mod ValidUnions
 pub mod WholeFacts
 pub mod WorldsStand

@@ -7,7 +7,7 @@ use Rattle.wit_graph.specs.Elaborated.{Elaborated}
 use Rattle.wit_graph.specs.Elaboration.{graph_uses}
 use Rattle.wit_graph.specs.Examples.{empty_graph}
 use Rattle.wit_graph.specs.Imported.{HasConflict}
-use Rattle.wit_graph.specs.Valid.{IsValid}
+use Rattle.wit_graph.specs.Valid.{HasNoCycles, IsValid}
 use Rattle.wit_graph.specs.declared.graph.Graph.{Graph}
 use Rattle.wit_growth.specs.Cut.{IsGoodWhere}
 use Rattle.wit_growth.specs.Kept.{everything}
@@ -33,3 +33,9 @@ pub record AreGood (g : Graph) : Type 0 where
 -- so it is of two valid graphs that differ in nothing
 abbrev pub UnionsAreGood : Type 0
 UnionsAreGood = (m : Merging) → IsValid m.graph → IsValid m.other → AreOne m → CanElaborate m → AreGood (united m)
+
+-- what is united of two valid graphs that differ in nothing is valid, where no world is in conflict and no type,
+-- interface or package comes to depend on itself
+abbrev pub UnionsStayValid : Type 0
+UnionsStayValid = (m : Merging) → IsValid m.graph → IsValid m.other → AreOne m → ((world : World) → Contains (joined_graph m).worlds world → HasConflict (graph_uses (joined_graph m)) world.exports → ⊥)
+    → HasNoCycles (united m) → IsValid (united m)

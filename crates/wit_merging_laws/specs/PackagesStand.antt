@@ -350,3 +350,145 @@ module _ (m : Merging) (valid : IsValid m.graph) (valid_other : IsValid m.other)
                 Contains-append_right into.0.worlds (map (typed (world_place m)) (filter (λ (x : List ℕ × ℕ). moves_world m x.1) old.worlds)) (typed (world_place m) e)
                 (Contains-map (typed (world_place m)) (filter (λ (x : List ℕ × ℕ). moves_world m x.1) old.worlds) e (Contains-filtered (λ (x : List ℕ × ℕ). moves_world m x.1) old.worlds e has moves));
           })
+
+-- ---- all that has a package stands in its table
+
+some_so : (o : Option ℕ) (P Q : ℕ → Type 0) → ((p : ℕ) → P p → Q p) → IsSomeAnd o P → IsSomeAnd o Q
+some_so None P Q weaker h = absurd h
+some_so (Some p) P Q weaker h = weaker p h
+
+some_mapped : (o : Option ℕ) (f : ℕ → ℕ) (P Q : ℕ → Type 0) → ((p : ℕ) → P p → Q (f p)) → IsSomeAnd o P → IsSomeAnd (option_map f o) Q
+some_mapped None f P Q weaker h = absurd h
+some_mapped (Some p) f P Q weaker h = weaker p h
+
+named_so : (o : Option (List ℕ)) (P Q : List ℕ → Type 0) → ((n : List ℕ) → P n → Q n) → IfSome o P → IfSome o Q
+named_so None P Q weaker h = h
+named_so (Some n) P Q weaker h = weaker n h
+
+module _ (m : Merging) (valid : IsValid m.graph) (valid_other : IsValid m.other) where
+  -- the table of a package has the interface under its name
+  abbrev InTableOf : List Package → Option (List ℕ) → ℕ → ℕ → Type 0
+  InTableOf packages name i p = SomeAt packages p (λ (home : Package). IfSome name (λ n. Contains home.interfaces (n, i)))
+
+  abbrev WorldInTableOf : List Package → List ℕ → ℕ → ℕ → Type 0
+  WorldInTableOf packages name w p = SomeAt packages p (λ (home : Package). Contains home.worlds (name, w))
+
+  old_in_table : (i : ℕ) (name : Option (List ℕ)) (p : ℕ) → InTableOf m.graph.packages name i p → InTableOf (united m).packages name i p
+  old_in_table i name p is =
+      let home = found_at (λ (home : Package). IfSome name (λ n. Contains home.interfaces (n, i))) m.graph.packages p is in
+      let keeps = package_keeps m (p, home.0) in
+      some_at (λ (home : Package). IfSome name (λ n. Contains home.interfaces (n, i))) (united m).packages p (joined_package m (p, home.0)) (old_package_at m p home.0 home.1)
+      (named_so name (λ n. Contains home.0.interfaces (n, i)) (λ n. Contains (joined_package m (p, home.0)).interfaces (n, i)) (λ n has. keeps.interfaces (n, i) has) home.2)
+
+  new_in_table : (i : ℕ) (name : Option (List ℕ)) → moves_interface m i ≡ true → (p : ℕ) → InTableOf m.other.packages name i p → InTableOf (united m).packages name (interface_place m i) (package_place m p)
+  new_in_table i name moves p is =
+      let home = found_at (λ (home : Package). IfSome name (λ n. Contains home.interfaces (n, i))) m.other.packages p is in
+      let stands = found_at (ListsMoved m valid valid_other home.0) (united m).packages (package_place m p) (package_stands m valid valid_other p home.0 home.1) in
+      some_at (λ (home : Package). IfSome name (λ n. Contains home.interfaces (n, interface_place m i))) (united m).packages (package_place m p) stands.0 stands.1
+      (named_so name (λ n. Contains home.0.interfaces (n, i)) (λ n. Contains stands.0.interfaces (n, interface_place m i)) (λ n has. stands.2.interfaces (n, i) has moves) home.2)
+
+  in_table_so : (i : ℕ) (a b : Interface) → b.name ≡ a.name → b.package ≡ a.package → IsSomeAnd a.package (InTableOf (united m).packages a.name i) → IsInTable (united m).packages i b
+  in_table_so i a b name home is =
+      subst (λ (n : Option (List ℕ)). IsSomeAnd b.package (InTableOf (united m).packages n i)) (sym name) (subst (λ (p : Option ℕ). IsSomeAnd p (InTableOf (united m).packages a.name i)) (sym home) is)
+
+  pub interfaces_in_tables : EachAt (IsInTable (united m).packages) (united m).interfaces
+  interfaces_in_tables f' new there = by (interfaces.interface_at_from m f' new there)
+    where
+      by : interfaces.InterfaceFrom m f' new → IsInTable (united m).packages f' new
+      by (interfaces.of_graph old is same) =
+          let keeps = interfaces.joined_keeps m (f', old) in
+          in_table_so f' old new (ap (λ (x : Interface). x.name) (sym same) ∙ keeps.name) (ap (λ (x : Interface). x.package) (sym same) ∙ keeps.home)
+          (some_so old.package (InTableOf m.graph.packages old.name f') (InTableOf (united m).packages old.name f') (old_in_table f' old.name) (valid.well_formed.tables.interfaces_listed f' old is))
+      by (interfaces.of_other i old is moves place same) =
+          in_table_so f' (interface_image (merge_maps m) old) new (ap (λ (x : Interface). x.name) (sym same)) (ap (λ (x : Interface). x.package) (sym same))
+          (subst (λ (k : ℕ). IsSomeAnd (option_map (package_place m) old.package) (InTableOf (united m).packages old.name k)) (sym place)
+          (some_mapped old.package (package_place m) (InTableOf m.other.packages old.name i) (InTableOf (united m).packages old.name (interface_place m i)) (new_in_table i old.name moves) (valid_other.well_formed.tables.interfaces_listed i old is)))
+
+  old_world_in : (w : ℕ) (name : List ℕ) (p : ℕ) → WorldInTableOf m.graph.packages name w p → WorldInTableOf (united m).packages name w p
+  old_world_in w name p is =
+      let home = found_at (λ (home : Package). Contains home.worlds (name, w)) m.graph.packages p is in
+      some_at (λ (home : Package). Contains home.worlds (name, w)) (united m).packages p (joined_package m (p, home.0)) (old_package_at m p home.0 home.1) ((package_keeps m (p, home.0)).worlds (name, w) home.2)
+
+  new_world_in : (w : ℕ) (name : List ℕ) → moves_world m w ≡ true → (p : ℕ) → WorldInTableOf m.other.packages name w p → WorldInTableOf (united m).packages name (world_place m w) (package_place m p)
+  new_world_in w name moves p is =
+      let home = found_at (λ (home : Package). Contains home.worlds (name, w)) m.other.packages p is in
+      let stands = found_at (ListsMoved m valid valid_other home.0) (united m).packages (package_place m p) (package_stands m valid valid_other p home.0 home.1) in
+      some_at (λ (home : Package). Contains home.worlds (name, world_place m w)) (united m).packages (package_place m p) stands.0 stands.1 (stands.2.worlds (name, w) home.2 moves)
+
+  world_in_so : (w : ℕ) (a b : World) → b.name ≡ a.name → b.package ≡ a.package → IsSomeAnd a.package (WorldInTableOf (united m).packages a.name w) → IsWorldInTable (united m).packages w b
+  world_in_so w a b name home is =
+      subst (λ (n : List ℕ). IsSomeAnd b.package (WorldInTableOf (united m).packages n w)) (sym name) (subst (λ (p : Option ℕ). IsSomeAnd p (WorldInTableOf (united m).packages a.name w)) (sym home) is)
+
+  pub worlds_in_tables : EachAt (IsWorldInTable (united m).packages) (united m).worlds
+  worlds_in_tables w' new there =
+      let from = from_map (elaborated_world (joined_graph m)) (joined_graph m).worlds w' new there in
+      world_in_so w' from.0 new (ap (λ (x : World). x.name) (sym from.2)) (ap (λ (x : World). x.package) (sym from.2)) (by from.0 (worlds.world_at_from m w' from.0 from.1))
+    where
+      by : (listed : World) → worlds.WorldFrom m w' listed → IsWorldInTable (united m).packages w' listed
+      by listed (worlds.of_graph old is same) =
+          let keeps = world_keeps m (w', old) in
+          world_in_so w' old listed (ap (λ (x : World). x.name) (sym same) ∙ keeps.0) (ap (λ (x : World). x.package) (sym same) ∙ keeps.1)
+          (some_so old.package (WorldInTableOf m.graph.packages old.name w') (WorldInTableOf (united m).packages old.name w') (old_world_in w' old.name) (valid.well_formed.tables.worlds_listed w' old is))
+      by listed (worlds.of_other w old is moves place same) =
+          world_in_so w' (world_image (merge_maps m) w old) listed (ap (λ (x : World). x.name) (sym same)) (ap (λ (x : World). x.package) (sym same))
+          (subst (λ (k : ℕ). IsSomeAnd (option_map (package_place m) old.package) (WorldInTableOf (united m).packages old.name k)) (sym place)
+          (some_mapped old.package (package_place m) (WorldInTableOf m.other.packages old.name w) (WorldInTableOf (united m).packages old.name (world_place m w)) (new_world_in w old.name moves) (valid_other.well_formed.tables.worlds_listed w old is)))
+
+  pub good_tables : HasGoodTables (united m)
+  good_tables = record { packages = packages_good m valid valid_other; interfaces = interfaces_in_tables; worlds = worlds_in_tables }
+
+  -- ---- names
+
+  abbrev placed : PackageName × ℕ → PackageName × ℕ
+  placed e = (e.0, package_place m e.1)
+
+  abbrev brought : List (PackageName × ℕ)
+  brought = filter (λ (e : PackageName × ℕ). moves_package m e.1) m.other.package_names
+
+  own_name_of : (p : ℕ) (name : PackageName) → Contains m.other.package_names (name, p) → (home : Package) × (slice_get m.other.packages p ≡ Some home) × (home.name ≡ name)
+  own_name_of p name has =
+      let place = place_of m.other.package_names (name, p) has in
+      found_at (λ (home : Package). home.name ≡ name) m.other.packages p (valid_other.well_formed.package_names.own_name place.0 (name, p) place.1)
+
+  names_apart : (e f : PackageName × ℕ) → Contains m.graph.package_names e → Contains (map placed brought) f → e.0 ≡ f.0 → ⊥
+  names_apart e f has new same =
+      let old = Contains-map_cases placed brought f new in
+      let kept = Contains-filter (λ (x : PackageName × ℕ). moves_package m x.1) m.other.package_names old.0 old.1 in
+      let home = own_name_of old.0.1 old.0.0 kept.0 in
+      let looked : found_package m old.0.1 ≡ lookup (same_package old.0.0) m.graph.package_names =
+      some_by (λ (home : Package). lookup (same_package home.name) m.graph.package_names) (slice_get m.other.packages old.0.1) home.0 home.1 ∙ ap (λ (n : PackageName). lookup (same_package n) m.graph.package_names) home.2 in
+      let named : e.0 ≡ old.0.0 = same ∙ sym (ap (λ (x : PackageName × ℕ). x.0) old.2) in
+      in_vain (same_package old.0.0) old.0.0 e.1 m.graph.package_names (own_name old.0.0) (sym looked ∙ no_some (found_package m old.0.1) kept.1) (subst (λ (n : PackageName). Contains m.graph.package_names (n, e.1)) named has)
+
+  old_named : (e : PackageName × ℕ) → Contains m.graph.package_names e → SomeAt (united m).packages e.1 (λ (home : Package). home.name ≡ e.0)
+  old_named e has =
+      let place = place_of m.graph.package_names e has in
+      let home = found_at (λ (home : Package). home.name ≡ e.0) m.graph.packages e.1 (valid.well_formed.package_names.own_name place.0 e place.1) in
+      some_at (λ (home : Package). home.name ≡ e.0) (united m).packages e.1 (joined_package m (e.1, home.0)) (old_package_at m e.1 home.0 home.1) ((package_keeps m (e.1, home.0)).name ∙ home.2)
+
+  new_named : (e : PackageName × ℕ) → Contains (map placed brought) e → SomeAt (united m).packages e.1 (λ (home : Package). home.name ≡ e.0)
+  new_named e has =
+      let old = Contains-map_cases placed brought e has in
+      let kept = Contains-filter (λ (x : PackageName × ℕ). moves_package m x.1) m.other.package_names old.0 old.1 in
+      let home = own_name_of old.0.1 old.0.0 kept.0 in
+      let stands = found_at (ListsMoved m valid valid_other home.0) (united m).packages (package_place m old.0.1) (package_stands m valid valid_other old.0.1 home.0 home.1) in
+      subst (λ (x : PackageName × ℕ). SomeAt (united m).packages x.1 (λ (home : Package). home.name ≡ x.0)) old.2
+      (some_at (λ (home : Package). home.name ≡ old.0.0) (united m).packages (package_place m old.0.1) stands.0 stands.1 (stands.2.name ∙ home.2))
+
+  pub good_names : HasPackageNames (united m).packages (united m).package_names
+  good_names = record {
+    own_name = λ i e on.
+        elim (Contains-append_cases m.graph.package_names (map placed brought) e (contained_at (m.graph.package_names ++ map placed brought) i e on)) [ inl old ↦ old_named e old | inr new ↦ new_named e new ];
+    listed = λ p' new there. listed p' new (package_at_from m p' new there);
+    distinct = joined_apart m.graph.package_names (map placed brought) valid.well_formed.package_names.distinct
+        (distinct_under (package_place m) brought (distinct_kept (λ (x : PackageName × ℕ). moves_package m x.1) m.other.package_names valid_other.well_formed.package_names.distinct)) names_apart;
+  }
+    where
+      listed : (p' : ℕ) (new : Package) → PackageFrom m p' new → Contains (m.graph.package_names ++ map placed brought) (new.name, p')
+      listed p' new (of_graph old is same) =
+          Contains-append_left m.graph.package_names (map placed brought) (new.name, p')
+          (subst (λ (n : PackageName). Contains m.graph.package_names (n, p')) (sym (ap (λ (x : Package). x.name) (sym same) ∙ (package_keeps m (p', old)).name)) (valid.well_formed.package_names.listed p' old is))
+      listed p' new (of_other p old is moves place same) =
+          let has = Contains-map placed brought (old.name, p) (Contains-filtered (λ (x : PackageName × ℕ). moves_package m x.1) m.other.package_names (old.name, p) (valid_other.well_formed.package_names.listed p old is) moves) in
+          Contains-append_right m.graph.package_names (map placed brought) (new.name, p')
+          (subst (λ (k : ℕ). Contains (map placed brought) (new.name, k)) (sym place) (subst (λ (n : PackageName). Contains (map placed brought) (n, package_place m p)) (ap (λ (x : Package). x.name) same) has))

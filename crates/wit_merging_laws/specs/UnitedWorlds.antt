@@ -1,6 +1,6 @@
 -- The worlds of two graphs that are one, elaborated: where no interface uses itself and no world is in conflict, they
 -- list the types that they listed and come of the two graphs as before, and each is its own elaboration.
-use Rattle.std.proofs.Common.{◌≡◌, ◌∙◌, inl, inr, ℕ, zero, suc, true, List, [], map, length, Some, slice_get, refl, sym, ap, subst, Contains}
+use Rattle.std.proofs.Common.{◌≡◌, ◌∙◌, ◌⊎◌, inl, inr, ℕ, zero, suc, true, List, [], map, length, Some, slice_get, refl, sym, ap, subst, Contains}
 use Rattle.wit_values.specs.Table.{HasDistinctKeys}
 use Rattle.wit_relations.specs.MemberFacts.{Contains-cons_cases, Contains-flat_map_cases, Contains-nil}
 use Rattle.wit_relations.specs.Relation.{IsAcyclic}
@@ -20,7 +20,7 @@ use Rattle.wit_graph.specs.Elaborated.{Elaborated}
 use Rattle.wit_graph.specs.Elaboration.{graph_uses}
 use Rattle.wit_graph.specs.Entries.{by_class, id_of}
 use Rattle.wit_graph.specs.Imported.{HasConflict, exported_keys}
-use Rattle.wit_graph.specs.KeptByElaboration.{IsUsed, is_label, labelled, settled}
+use Rattle.wit_graph.specs.KeptByElaboration.{IsMadeExport, IsMadeImport, IsSettled, IsUsed, is_label, labelled, settled}
 use Rattle.wit_graph.specs.Listed.{IsListed}
 use Rattle.wit_graph.specs.ListedFacts.{lists_in_order}
 use Rattle.wit_graph.specs.Valid.{IsValid}
@@ -95,14 +95,25 @@ module _ (laws : WorldLaws) (m : Merging) (valid : IsValid m.graph) (valid_other
         let among : Contains (labelled done.imports) (settled e) = subst (λ (es : List Entry). Contains es (settled e)) (sym stays) (Contains-map settled (labelled (by_class g.types listed.imports)) e under) in
         lists_it done name t by.span (Contains-filter (λ (d : Entry). is_label d.0) done.imports (settled e) among).0
 
+    -- what elaboration adds has a name
+    pub used_is_named : (j : ℕ) → IsUsed g.types (graph_uses g) listed.imports j → IsNamed g.interfaces j
+    used_is_named j used = IsUsed_named g.types g.interfaces aliases listed.imports j used
+
+    pub exported_is_named : (j : ℕ) → Contains (exported_keys listed.exports) j → IsNamed g.interfaces j
+    exported_is_named j has =
+        let from = Contains-flat_map_cases (λ (e : Entry). id_of e.0) listed.exports j has in
+        let place = place_of listed.exports from.0 from.1.0 in
+        named_key g.interfaces from.0.0 from.0.1 j from.1.1 (listed_exports place.0 from.0 place.1)
+
+    -- an entry was listed, or is added
+    pub entries_from : (e : Entry) → (Contains (elaborated_world g listed).imports e → IsSettled listed.imports e ⊎ IsMadeImport g.types (graph_uses g) listed.imports listed.exports e)
+        × (Contains (elaborated_world g listed).exports e → Contains listed.exports e ⊎ IsMadeExport listed.exports e)
+    entries_from e = laws.entries g.types (graph_uses g) listed (elaborated_world g listed) e can.acyclic in_order is_elaborated
+
     -- it comes of the two graphs
     pub elaborated_world_comes : WorldComes at g w' (elaborated_world g listed)
     elaborated_world_comes =
-        elaborated_comes at g w' listed (elaborated_world g listed) laws.entries laws.once can.acyclic in_order (λ j used. IsUsed_named g.types g.interfaces aliases listed.imports j used)
-        (λ j has.
-        let from = Contains-flat_map_cases (λ (e : Entry). id_of e.0) listed.exports j has in
-        let place = place_of listed.exports from.0 from.1.0 in
-        named_key g.interfaces from.0.0 from.0.1 j from.1.1 (listed_exports place.0 from.0 place.1))
+        elaborated_comes at g w' listed (elaborated_world g listed) laws.entries laws.once can.acyclic in_order used_is_named exported_is_named
         (worlds_come m valid valid_other w' listed there) is_elaborated (worlds_come m valid valid_other w' listed there).no_includes
 
     -- and is its own elaboration

@@ -1,14 +1,19 @@
 -- What a `push` makes, and commands that aren't ready.
-use Rattle.std.proofs.Common.{◌≡◌, List, [], ◌∷◌, ◌++◌, Bool, true, false, Option, None, Some, Result, IsTrue, ◌↔◌, refl, sym, ap, subst, ◌∙◌}
+use Rattle.std.proofs.Common.{◌≡◌, ℕ, suc, List, [], ◌∷◌, ◌++◌, Bool, true, false, Option, None, Some, Result, Ok, Err, IsTrue, ◌↔◌, refl, sym, ap, subst, ◌∙◌}
+use Rattle.std.specs.List.{AllByRecursion}
 use Rattle.std.specs.Option.{option_and_then, option_map}
+use Rattle.wit_values.specs.Lists.{AllByRecursion-at}
+use Rattle.wit_items.specs.Each.{Each}
+use Rattle.wit_items.specs.Shape.{IsGroupShaped}
 use Rattle.wit_items.specs.declared.unresolved.UnresolvedPackageGroup.{UnresolvedPackageGroup}
+use Rattle.wit_link.specs.Supported.{IsSupportedGroup}
 use Rattle.wit_drafts.specs.Draft.{grouped}
 use Rattle.wit_drafts.specs.declared.draft.Draft.{Draft}
 use Rattle.wit_lines.specs.Signature.{each_of}
 use Rattle.wit_lines.specs.declared.fault.LineFault.{LineFault}
 use Rattle.wit_lines.specs.declared.request.Request.{Request}
 use Rattle.wit_lines.specs.declared.request.Request.TheVariants as request
-use Rattle.wit_script.specs.Ready.{AreReady, IsReady, is_taken}
+use Rattle.wit_script.specs.Ready.{AreReady, AreShaped, CanAdd, CanPush, IsReady, is_taken}
 use Rattle.wit_script.specs.Script.{GoesOn, IsBad, with_asked, with_command, with_groups, with_push}
 use Rattle.wit_script.specs.declared.reader.Reading.{Reading}
 use Rattle.wit_script.specs.declared.ready.ScriptCommand.{ScriptCommand}
@@ -26,66 +31,71 @@ pub more-ready : (commands : List ScriptCommand) (command : ScriptCommand) → A
 more-ready [] command ready one = (one, tt)
 more-ready (first ∷ commands) command ready one = (ready.0, more-ready commands command ready.1 one)
 
--- ---- several packages
+-- groups each of which can be added
+pub each-can : (groups : List UnresolvedPackageGroup) → Each CanAdd groups → AreShaped groups × CanPush groups
+each-can [] all = (tt, tt)
+each-can (group ∷ groups) all =
+    let first = all 0 group refl in
+    let rest = each-can groups (λ i x at. all (suc i) x at) in
+    ((first.0, rest.0), (first.1, rest.1))
 
--- something comes of something
-never-empty : (p : Draft) (ps : List Draft) → each_of grouped (p ∷ ps) ≡ Some [] → ⊥
-never-empty p ps read = at (grouped p) read where
-  rest : (main : UnresolvedPackageGroup) (o : Option (List UnresolvedPackageGroup)) → option_map (λ (deps : List UnresolvedPackageGroup). main ∷ deps) o ≡ Some [] → ⊥
-  rest main None read = cc
-  rest main (Some deps) read = cc
+can-each : (groups : List UnresolvedPackageGroup) → AreShaped groups × CanPush groups → Each CanAdd groups
+can-each groups all = λ i group at. (AllByRecursion-at IsGroupShaped groups i group all.0 at, AllByRecursion-at IsSupportedGroup groups i group all.1 at)
 
-  at : (o : Option UnresolvedPackageGroup) → option_and_then (λ main. option_map (λ (deps : List UnresolvedPackageGroup). main ∷ deps) (each_of grouped ps)) o ≡ Some [] → ⊥
-  at None read = cc
-  at (Some main) read = rest main (each_of grouped ps) read
+-- ---- packages as groups
 
-some-left : (ps : List Draft) (q : Draft) → each_of grouped (ps ++ q ∷ []) ≡ Some [] → ⊥
-some-left [] q read = never-empty q [] read
-some-left (p ∷ ps) q read = never-empty p (ps ++ q ∷ []) read
+nothing : {A B : Type 0} (o : Option A) → option_and_then (λ (y : A). let none : Option B = None in none) o ≡ None
+nothing None = refl
+nothing (Some y) = refl
 
-several : (r : Reading) (p q : Draft) (ps : List Draft) → IsBad (option_and_then (with_groups r) (each_of grouped (p ∷ (ps ++ q ∷ []))))
-several r p q ps = at (grouped p) where
-  more : (main : UnresolvedPackageGroup) (deps : List UnresolvedPackageGroup) → each_of grouped (ps ++ q ∷ []) ≡ Some deps → IsBad (with_groups r (main ∷ deps))
-  more main deps read = λ ready. some-left ps q (read ∙ ap Some (last-ready r.commands (asks.Push main deps) ready).1.alone)
+-- one that isn't read
+pub each-fails : (packages : List Draft) (p : Draft) (after : List Draft) → grouped p ≡ None → each_of grouped (packages ++ p ∷ after) ≡ None
+each-fails [] p after fails = rw fails refl
+each-fails (q ∷ packages) p after fails = rw (each-fails packages p after fails) (nothing (grouped q))
 
-  rest : (main : UnresolvedPackageGroup) (o : Option (List UnresolvedPackageGroup)) → each_of grouped (ps ++ q ∷ []) ≡ o
-      → IsBad (option_and_then (with_groups r) (option_map (λ (deps : List UnresolvedPackageGroup). main ∷ deps) o))
-  rest main None read = tt
-  rest main (Some deps) read = more main deps read
+-- one more
+one-more : (o : Option UnresolvedPackageGroup) (rest : Option (List UnresolvedPackageGroup)) (longer : Option (List UnresolvedPackageGroup)) (groups : List UnresolvedPackageGroup) (group : UnresolvedPackageGroup)
+    → option_and_then (λ y. option_map (λ (ys : List UnresolvedPackageGroup). y ∷ ys) rest) o ≡ Some groups
+    → ((others : List UnresolvedPackageGroup) → rest ≡ Some others → longer ≡ Some (others ++ group ∷ []))
+    → option_and_then (λ y. option_map (λ (ys : List UnresolvedPackageGroup). y ∷ ys) longer) o ≡ Some (groups ++ group ∷ [])
+one-more None rest longer groups group had next = cc
+one-more (Some y) None longer groups group had next = cc
+one-more (Some y) (Some others) longer groups group had next =
+    let same : groups ≡ y ∷ others = cc in
+    rw (next others refl, same) refl
 
-  at : (o : Option UnresolvedPackageGroup)
-      → IsBad (option_and_then (with_groups r) (option_and_then (λ main. option_map (λ (deps : List UnresolvedPackageGroup). main ∷ deps) (each_of grouped (ps ++ q ∷ []))) o))
-  at None = tt
-  at (Some main) = rest main (each_of grouped (ps ++ q ∷ [])) refl
+pub each-next : (packages : List Draft) (p : Draft) (groups : List UnresolvedPackageGroup) (group : UnresolvedPackageGroup) → each_of grouped packages ≡ Some groups → grouped p ≡ Some group
+    → each_of grouped (packages ++ p ∷ []) ≡ Some (groups ++ group ∷ [])
+each-next [] p groups group had next = let none : groups ≡ [] = cc in rw (next, none) refl
+each-next (q ∷ packages) p groups group had next =
+    one-more (grouped q) (each_of grouped packages) (each_of grouped (packages ++ p ∷ [])) groups group had (λ others is. each-next packages p others group is next)
 
--- a push after several packages isn't accepted so far
-pub push-several : (r : Reading) (q : Draft) → r.current ≡ Some q → ¬ (r.finished ≡ []) → IsBad (with_push r)
-push-several r q last some = rw last (at r.finished refl) where
-  at : (fs : List Draft) → r.finished ≡ fs → IsBad (option_and_then (with_groups r) (each_of grouped (fs ++ q ∷ [])))
-  at [] is = absurd (some is)
-  at (p ∷ ps) is = several r p q ps
+-- ---- a push
 
--- ---- one package
+-- groups that can't be pushed
+pub bad-groups : (r : Reading) (groups : List UnresolvedPackageGroup) → ¬ Each CanAdd groups → IsBad (with_groups r groups)
+bad-groups r [] fails = tt
+bad-groups r (main ∷ deps) fails = λ ready. fails (can-each (main ∷ deps) (last-ready r.commands (asks.Push main deps) ready))
 
-push-one : (r : Reading) (p : Draft) (main : UnresolvedPackageGroup) → r.current ≡ Some p → r.finished ≡ [] → grouped p ≡ Some main
-    → with_push r ≡ Some (with_command (record r { current = None }) (asks.Push main []))
-push-one r p main last none is =
-    ap (option_and_then (λ (q : Draft). option_and_then (with_groups r) (each_of grouped (r.finished ++ q ∷ [])))) last
-    ∙ ap (λ (fs : List Draft). option_and_then (with_groups r) (each_of grouped (fs ++ p ∷ []))) none
-    ∙ ap (λ (o : Option UnresolvedPackageGroup). option_and_then (with_groups r) (option_and_then (λ y. option_map (λ (ys : List UnresolvedPackageGroup). y ∷ ys) (Some [])) o)) is
-    ∙ ap (λ (fs : List Draft). Some (record (with_command r (asks.Push main [])) { finished = fs; current = None })) (sym none)
+-- a push of these packages comes to the push of their groups
+pub push-is : (r : Reading) (p : Draft) (groups : List UnresolvedPackageGroup) → r.current ≡ Some p → each_of grouped (r.finished ++ p ∷ []) ≡ Some groups → with_push r ≡ with_groups r groups
+push-is r p groups last read = rw (last, read) refl
 
--- a push of one package is the command that pushes it
-pub push-goes-on : {A : Type 0} (r new : Reading) (p : Draft) (main : UnresolvedPackageGroup) (answer : Result A LineFault) → r.current ≡ Some p → r.finished ≡ [] → grouped p ≡ Some main
-    → GoesOn (Some (with_command (record r { current = None }) (asks.Push main []))) answer new → GoesOn (with_push r) answer new
-push-goes-on r new p main answer last none is goes = subst (λ o. GoesOn o answer new) (sym (push-one r p main last none is)) goes
+-- packages of which one doesn't fit
+pub push-fails : (r : Reading) (p : Draft) → r.current ≡ Some p → each_of grouped (r.finished ++ p ∷ []) ≡ None → with_push r ≡ None
+push-fails r p last read = rw (last, read) refl
 
--- a package whose file doesn't fit
-pub push-fails : (r : Reading) (p : Draft) → r.current ≡ Some p → r.finished ≡ [] → grouped p ≡ None → with_push r ≡ None
-push-fails r p last none is =
-    ap (option_and_then (λ (q : Draft). option_and_then (with_groups r) (each_of grouped (r.finished ++ q ∷ [])))) last
-    ∙ ap (λ (fs : List Draft). option_and_then (with_groups r) (each_of grouped (fs ++ p ∷ []))) none
-    ∙ ap (λ (o : Option UnresolvedPackageGroup). option_and_then (with_groups r) (option_and_then (λ y. option_map (λ (ys : List UnresolvedPackageGroup). y ∷ ys) (Some [])) o)) is
+-- what waits has no part in it
+with_groups-waits : (r s : Reading) (groups : List UnresolvedPackageGroup) → r.commands ≡ s.commands → r.other ≡ s.other → with_groups r groups ≡ with_groups s groups
+with_groups-waits r s [] commands other = refl
+with_groups-waits r s (main ∷ deps) commands other =
+    ap (λ (l : List ScriptCommand). Some (record { commands = l ++ asks.Push main deps ∷ []; finished = []; current = None; other = r.other })) commands
+    ∙ ap (λ (o : Bool). Some (record { commands = s.commands ++ asks.Push main deps ∷ []; finished = []; current = None; other = o })) other
+
+pub push-goes-on : {A : Type 0} (r s new : Reading) (p : Draft) (groups : List UnresolvedPackageGroup) (answer : Result A LineFault) → r.current ≡ Some p → each_of grouped (r.finished ++ p ∷ []) ≡ Some groups
+    → s.commands ≡ r.commands → s.other ≡ r.other → GoesOn (with_groups s groups) answer new → GoesOn (with_push r) answer new
+push-goes-on r s new p groups answer last read commands other goes =
+    subst (λ (o : Option Reading). GoesOn o answer new) (with_groups-waits s r groups commands other ∙ sym (push-is r p groups last read)) goes
 
 -- ---- other commands
 

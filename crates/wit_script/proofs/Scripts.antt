@@ -1,22 +1,15 @@
 -- Lines that are read one after another.
-use Rattle.std.proofs.Common.{◌≡◌, ℕ, ◌+◌, ◌-◌, ◌<◌, Bor, map, take, get_or, sym, Bool, true, false, not, cond, List, [], ◌∷◌, ◌++◌, length, reverse, Option, None, Some, refl, ap, ◌∙◌, arith, length-append}
+use Rattle.std.proofs.Common.{◌≡◌, ℕ, ◌+◌, ◌-◌, ◌<◌, ◌≤◌, Bor, map, take, drop, get_or, sym, subst, suc, zero, add-one, Bool, true, false, not, cond, List, [], ◌∷◌, ◌++◌, length, reverse, Option, None, Some, refl, ap, ◌∙◌, arith, length-append, length-drop, take_all}
 use Rattle.std.proofs.lemmas.Grind.{common_steps, take_at_read}
-use Rattle.std.proofs.lemmas.List.{reverse-append, map-append, take-map}
+use Rattle.std.proofs.lemmas.List.{drop-map, length-map, map-append, reverse-append}
 use Rattle.std.specs.List.{prefix_len}
 use Rattle.std.specs.Option.{option_and_then, option_map}
-use Rattle.wit_items.specs.declared.stability.Stability.{Stability}
-use Rattle.wit_items.specs.declared.use_path.ParsedUsePath.TheVariants as path
-use Rattle.wit_drafts.specs.Draft.{begun}
-use Rattle.wit_drafts.specs.Mention.{Mention, mentions_of}
-use Rattle.wit_drafts.specs.Naming.{Place}
-use Rattle.wit_lines.specs.Line.{ink_end_of, ink_start_of, is_comment, is_silent, is_silent_of, last_said_of}
-use Rattle.wit_lines.specs.Statement.{said_of, said_of_tokens, statement_by}
-use Rattle.wit_lines.specs.declared.package_line.PackageLine.{PackageLine}
-use Rattle.wit_lines.specs.declared.package_line.PackageLine.TheVariants as line
+use Rattle.std.proofs.Math.ListN.{get_or-map}
+use Rattle.wit_lines.specs.Line.{is_comment, is_silent, is_silent_of, last_said_of}
+use Rattle.wit_lines.specs.Statement.{said_of_tokens, statement_by}
 use Rattle.wit_lines.specs.declared.statement.Statement.{Statement}
-use Rattle.wit_lines.specs.declared.statement.Statement.TheVariants as says
-use Rattle.wit_script.specs.Ready.{AreReady, is_accepted_so_far, is_line_taken, is_taken}
-use Rattle.wit_script.specs.Script.{IsBad, IsBadLine, after_line, after_lines, after_said, mentions_ahead, mentions_by, mentions_with, new_reading, reading_of, with_begun}
+use Rattle.wit_script.specs.Ready.{AreReady, is_accepted_so_far}
+use Rattle.wit_script.specs.Script.{IsBad, IsBadLine, after_first, after_line, after_lines, new_reading, reading_before, reading_of}
 use Rattle.wit_script.specs.declared.reader.Reading.{Reading}
 
 -- a step that changes nothing
@@ -30,70 +23,29 @@ and_then_both : {A : Type 0} (both first second : A → Option A) → ((x : A) �
 and_then_both both first second same None = refl
 and_then_both both first second same (Some x) = same x
 
--- an accepted line of a package mentions nothing of another one
-own-line : (said : PackageLine) (gate : Stability) (span : Place) → is_line_taken said ≡ true → mentions_of said gate span ≡ []
-own-line (line.Interface name) gate span own = refl
-own-line (line.World name) gate span own = refl
-own-line (line.Type_ name text) gate span own = refl
-own-line (line.Record name fields) gate span own = refl
-own-line (line.Resource name) gate span own = refl
-own-line (line.Use (path.Name from) name new) gate span own = refl
-own-line (line.Use (path.Package parent from) name new) gate span own = cc
-own-line (line.Function said) gate span own = refl
-own-line (line.Import label (path.Name from)) gate span own = refl
-own-line (line.Import label (path.Package parent from)) gate span own = cc
-own-line (line.Export label (path.Name from)) gate span own = refl
-own-line (line.Export label (path.Package parent from)) gate span own = cc
-own-line (line.ImportFunction said) gate span own = refl
-own-line (line.ExportFunction said) gate span own = refl
-own-line (line.Include (path.Name from) names) gate span own = refl
-own-line (line.Include (path.Package parent from) names) gate span own = cc
-
-own-said : (at : ℕ) (text : List ℕ) (after : ℕ → List Mention) → ((n : ℕ) → after n ≡ []) → (o : Option (Option Statement)) → mentions_with is_accepted_so_far at text after o ≡ []
-own-said at text after none None = refl
-own-said at text after none (Some None) = none at
-own-said at text after none (Some (Some (says.Package name))) = refl
-own-said at text after none (Some (Some (says.Line said gate))) = by (is_line_taken said) refl where
-  by : (b : Bool) → is_line_taken said ≡ b → mentions_by b at text after (says.Line said gate) ≡ []
-  by true own = rw (own-line said gate (Some (at + ink_start_of text, at + ink_end_of text)) own) (none (at + length text + 1))
-  by false own = refl
-own-said at text after none (Some (Some says.Push)) = refl
-own-said at text after none (Some (Some (says.Request asked))) = by (is_taken asked) where
-  by : (b : Bool) → mentions_by b at text after (says.Request asked) ≡ []
-  by true = refl
-  by false = refl
-
--- so far no line mentions anything of another package
-no-mention : (lines : List (List ℕ)) (at : ℕ) → mentions_ahead is_accepted_so_far at lines ≡ []
-no-mention [] at = refl
-no-mention (text ∷ lines) at = own-said at text (λ (after : ℕ). mentions_ahead is_accepted_so_far after lines) (no-mention lines) (said_of text)
-
--- so that the lines ahead don't matter
-ahead-same : (r : Reading) (text : List ℕ) (ahead : List (List ℕ)) → after_line is_accepted_so_far r text ahead ≡ after_line is_accepted_so_far r text []
-ahead-same r text ahead = at (said_of text) where
-  at : (o : Option (Option Statement)) → after_said is_accepted_so_far r text ahead o ≡ after_said is_accepted_so_far r text [] o
-  at None = refl
-  at (Some None) = refl
-  at (Some (Some (says.Package name))) = ap (λ (ms : List Mention). option_map (with_begun r) (begun name text ms)) (no-mention ahead (length text + 1))
-  at (Some (Some (says.Line said gate))) = refl
-  at (Some (Some says.Push)) = refl
-  at (Some (Some (says.Request asked))) = refl
+-- a line at a place, with those behind it known
+abbrev pub step_at : List (List ℕ) → ℕ → Reading → Option Reading
+step_at lines k r = after_line is_accepted_so_far r (get_or lines k []) (drop (suc k) lines)
 
 -- one more line
-pub after_lines-more : (r : Reading) (lines : List (List ℕ)) (text : List ℕ)
-    → after_lines is_accepted_so_far r (lines ++ text ∷ []) ≡ option_and_then (λ next. after_line is_accepted_so_far next text []) (after_lines is_accepted_so_far r lines)
-after_lines-more r [] text = and_then_some (after_line is_accepted_so_far r text [])
-after_lines-more r (first ∷ lines) text =
-    ap (option_and_then (λ (next : Reading). after_lines is_accepted_so_far next (lines ++ text ∷ []))) (ahead-same r first (lines ++ text ∷ []))
-    ∙ and_then_both (λ (next : Reading). after_lines is_accepted_so_far next (lines ++ text ∷ [])) (λ (next : Reading). after_lines is_accepted_so_far next lines)
-    (λ (next : Reading). after_line is_accepted_so_far next text []) (λ next. after_lines-more next lines text) (after_line is_accepted_so_far r first [])
-    ∙ sym (ap (λ (o : Option Reading). option_and_then (λ (next : Reading). after_line is_accepted_so_far next text []) (option_and_then (λ (next : Reading). after_lines is_accepted_so_far next lines) o)) (ahead-same r first lines))
+first-more : (r : Reading) (k : ℕ) (lines : List (List ℕ)) → k < length lines
+    → after_first is_accepted_so_far r (suc k) lines ≡ option_and_then (step_at lines k) (after_first is_accepted_so_far r k lines)
+first-more r k [] within = absurd (omega (arith, within))
+first-more r zero (text ∷ lines) within = and_then_some (after_line is_accepted_so_far r text lines)
+first-more r (suc k) (text ∷ lines) within =
+    and_then_both (λ (next : Reading). after_first is_accepted_so_far next (suc k) lines) (λ (next : Reading). after_first is_accepted_so_far next k lines)
+    (step_at lines k) (λ next. first-more next k lines (omega (arith, within))) (after_line is_accepted_so_far r text lines)
 
--- one more line that is understood
-pub after_lines-next : (before after : Reading) (lines : List (List ℕ)) (text : List ℕ) → reading_of lines ≡ Some before → after_line is_accepted_so_far before text [] ≡ Some after
-    → reading_of (lines ++ text ∷ []) ≡ Some after
-after_lines-next before after lines text read next =
-    after_lines-more new_reading lines text ∙ ap (option_and_then (λ (s : Reading). after_line is_accepted_so_far s text [])) read ∙ next
+pub before-more : (k : ℕ) (lines : List (List ℕ)) → k < length lines → reading_before (k + 1) lines ≡ option_and_then (step_at lines k) (reading_before k lines)
+before-more k lines within = ap (λ (n : ℕ). reading_before n lines) (add-one k) ∙ first-more new_reading k lines within
+
+-- all lines
+first-whole : (r : Reading) (lines : List (List ℕ)) → after_first is_accepted_so_far r (length lines) lines ≡ after_lines is_accepted_so_far r lines
+first-whole r [] = refl
+first-whole r (text ∷ lines) = ap (λ (f : Reading → Option Reading). option_and_then f (after_line is_accepted_so_far r text lines)) (λ i next. first-whole next lines i)
+
+pub before-whole : (lines : List (List ℕ)) → reading_before (length lines) lines ≡ reading_of lines
+before-whole lines = first-whole new_reading lines
 
 -- a line says nothing where nothing is read from it
 pub said_nothing : (tokens : List (List ℕ)) → said_of_tokens tokens ≡ Some None → false ≡ not (is_silent_of tokens)
@@ -144,9 +96,37 @@ module _ (xs : List (Bor (List ℕ))) (i : ℕ) (d : Bor (List ℕ)) where
   texts-next within = rw (take_at_read xs i d within).1 (map-append (λ (x : Bor (List ℕ)). x.now) (take i xs) (get_or xs i d ∷ []))
 
   -- the lines so far and one more are read
-  pub read-next : (before after : Reading) → i < length xs → reading_of (map (λ (x : Bor (List ℕ)). x.now) (take i xs)) ≡ Some before
-      → after_line is_accepted_so_far before (get_or xs i d).now [] ≡ Some after → reading_of (map (λ (x : Bor (List ℕ)). x.now) (take (i + 1) xs)) ≡ Some after
-  read-next before after within read next = rw (texts-next within) (after_lines-next before after (map (λ (x : Bor (List ℕ)). x.now) (take i xs)) (get_or xs i d).now read next)
+  abbrev texts : List (List ℕ)
+  texts = map (λ (x : Bor (List ℕ)). x.now) xs
+
+  all-behind : (n : ℕ) → take (length xs - n) (drop n xs) ≡ drop n xs
+  all-behind n = let long : length (drop n xs) ≡ length xs - n = length-drop n xs in take_all (length xs - n) (drop n xs) (omega (arith, long))
+
+  step-is : (r : Reading) → d.now ≡ [] → step_at texts i r ≡ after_line is_accepted_so_far r (get_or xs i d).now (map (λ (x : Bor (List ℕ)). x.now) (take (length xs - (i + 1)) (drop (i + 1) xs)))
+  step-is r nothing =
+      let text : get_or texts i [] ≡ (get_or xs i d).now = ap (λ (l : List ℕ). get_or texts i l) (sym nothing) ∙ get_or-map (λ (x : Bor (List ℕ)). x.now) xs i d in
+      let behind : drop (suc i) texts ≡ map (λ (x : Bor (List ℕ)). x.now) (take (length xs - (i + 1)) (drop (i + 1) xs)) =
+      drop-map (λ (x : Bor (List ℕ)). x.now) (suc i) xs ∙ ap (λ (n : ℕ). map (λ (x : Bor (List ℕ)). x.now) (drop n xs)) (sym (add-one i))
+      ∙ ap (map (λ (x : Bor (List ℕ)). x.now)) (sym (all-behind (i + 1))) in
+      λ k. after_line is_accepted_so_far r (text k) (behind k)
+
+  within-texts : i < length xs → i < length texts
+  within-texts within = let long : length texts ≡ length xs = length-map xs (λ (x : Bor (List ℕ)). x.now) in omega (arith, within, long)
+
+  next-is : (r : Reading) → d.now ≡ [] → i < length xs → reading_before i texts ≡ Some r
+      → reading_before (i + 1) texts ≡ after_line is_accepted_so_far r (get_or xs i d).now (map (λ (x : Bor (List ℕ)). x.now) (take (length xs - (i + 1)) (drop (i + 1) xs)))
+  next-is r nothing within read = before-more i texts (within-texts within) ∙ ap (option_and_then (step_at texts i)) read ∙ step-is r nothing
+
+  pub read-next : (before after : Reading) → d.now ≡ [] → i < length xs → reading_before i texts ≡ Some before
+      → after_line is_accepted_so_far before (get_or xs i d).now (map (λ (x : Bor (List ℕ)). x.now) (take (length xs - (i + 1)) (drop (i + 1) xs))) ≡ Some after → reading_before (i + 1) texts ≡ Some after
+  read-next before after nothing within read next = next-is before nothing within read ∙ next
+
+  -- all lines are read
+  pub read-all : (reading : Reading) → i ≤ length xs → length xs ≤ i → reading_before i texts ≡ Some reading → reading_of texts ≡ Some reading
+  read-all reading most least read =
+      let long : length texts ≡ length xs = length-map xs (λ (x : Bor (List ℕ)). x.now) in
+      let end : length texts ≡ i = omega (arith, most, least, long) in
+      sym (before-whole texts) ∙ ap (λ (n : ℕ). reading_before n texts) end ∙ read
 
   -- the last line that says something stays
   pub last-silent : (last : ℕ) → i < length xs → last ≡ last_said_of (map (λ (x : Bor (List ℕ)). x.now) (take i xs)) → false ≡ not (is_silent (get_or xs i d).now)
@@ -160,19 +140,14 @@ module _ (xs : List (Bor (List ℕ))) (i : ℕ) (d : Bor (List ℕ)) where
       rw (texts-next within) (ap (λ (n : ℕ). n + 1) (sym count) ∙ sym (last_said_of-said (map (λ (x : Bor (List ℕ)). x.now) (take i xs)) (get_or xs i d).now said))
 
   -- the first line that isn't understood
-  pub bad-line : (reading : Reading) → i < length xs → reading_of (map (λ (x : Bor (List ℕ)). x.now) (take i xs)) ≡ Some reading
-      → AreReady reading.commands → IsBad (after_line is_accepted_so_far reading (get_or xs i d).now []) → IsBadLine (map (λ (x : Bor (List ℕ)). x.now) xs) (i + 1)
-  bad-line reading within read ready bad = record {
+  pub bad-line : (reading : Reading) → d.now ≡ [] → i < length xs → reading_before i texts ≡ Some reading → AreReady reading.commands
+      → IsBad (after_line is_accepted_so_far reading (get_or xs i d).now (map (λ (x : Bor (List ℕ)). x.now) (take (length xs - (i + 1)) (drop (i + 1) xs)))) → IsBadLine texts (i + 1)
+  bad-line reading nothing within read ready bad = record {
     before = i;
     reading = reading;
-    read = rw (take-map (λ (x : Bor (List ℕ)). x.now) i xs) read;
+    read = read;
     ready = ready;
-    there = let long : length (map (λ (x : Bor (List ℕ)). x.now) xs) ≡ length xs = grind (arith, common_steps) in omega (arith, within);
-    bad =
-        let next : reading_of (map (λ (x : Bor (List ℕ)). x.now) (take (i + 1) xs)) ≡ after_line is_accepted_so_far reading (get_or xs i d).now [] =
-        rw (texts-next within)
-        (after_lines-more new_reading (map (λ (x : Bor (List ℕ)). x.now) (take i xs)) (get_or xs i d).now
-        ∙ ap (option_and_then (λ (s : Reading). after_line is_accepted_so_far s (get_or xs i d).now [])) read) in
-        rw (take-map (λ (x : Bor (List ℕ)). x.now) (i + 1) xs, next) bad;
+    there = within-texts within;
+    bad = subst IsBad (sym (next-is reading nothing within read)) bad;
     counted = refl;
   }

@@ -1,7 +1,6 @@
 -- What isn't understood stays so, whatever lines come after it.
-use Rattle.std.proofs.Common.{◌≡◌, ℕ, suc, zero, ◌+◌, ◌<◌, ◌≤◌, Bool, true, false, cond, List, [], ◌∷◌, ◌++◌, length, take, get_or, Option, None, Some, refl, sym, ap, subst, ◌∙◌, inl, inr, is_some, arith}
+use Rattle.std.proofs.Common.{◌≡◌, ℕ, suc, zero, ◌+◌, ◌<◌, ◌≤◌, Bool, true, false, cond, List, [], ◌∷◌, ◌++◌, length, drop, get_or, Option, None, Some, refl, sym, ap, subst, ◌∙◌, inl, inr, is_some, arith}
 use Rattle.std.proofs.lemmas.Bool.{cases_order}
-use Rattle.std.proofs.lemmas.Grind.{take_at_read}
 use Rattle.std.specs.Option.{option_and_then, option_map}
 use Rattle.wit_items.specs.declared.unresolved.UnresolvedPackageGroup.{UnresolvedPackageGroup}
 use Rattle.wit_drafts.specs.Draft.{begun, grouped}
@@ -13,9 +12,10 @@ use Rattle.wit_lines.specs.declared.request.Request.{Request}
 use Rattle.wit_lines.specs.declared.request.Request.TheVariants as request
 use Rattle.wit_lines.specs.declared.statement.Statement.{Statement}
 use Rattle.wit_lines.specs.declared.statement.Statement.TheVariants as says
-use Rattle.wit_script.proofs.Scripts.{after_lines-more}
+use Rattle.wit_script.proofs.Scripts.{before-more, step_at}
+use Rattle.wit_script.specs.Ahead.{mentions_ahead}
 use Rattle.wit_script.specs.Ready.{AreReady, is_accepted_so_far}
-use Rattle.wit_script.specs.Script.{IsBad, IsBadLine, after_line, after_said, new_reading, reading_of, with_asked, with_begun, with_current, with_groups, with_statement}
+use Rattle.wit_script.specs.Script.{IsBad, IsBadLine, after_line, after_said, new_reading, reading_before, with_asked, with_begun, with_current, with_groups, with_statement}
 use Rattle.wit_script.specs.declared.reader.Reading.{Reading}
 use Rattle.wit_script.specs.declared.ready.ScriptCommand.{ScriptCommand}
 use Rattle.wit_script.specs.declared.ready.ScriptCommand.TheVariants as asks
@@ -73,39 +73,37 @@ groups-stay : (r : Reading) (groups : List UnresolvedPackageGroup) (next : Readi
 groups-stay r [] next made ready = cc
 groups-stay r (main ∷ deps) next made ready = one-more r (asks.Push main deps) _ next refl (same-some _ next made) ready
 
-statement-stays : (r : Reading) (said : Statement) (text : List ℕ) (next : Reading) → with_statement is_accepted_so_far r said text [] ≡ Some next → AreReady next.commands → AreReady r.commands
-statement-stays r (says.Package name) text next made ready =
-    let p = map-of (with_begun r) (begun name text []) next made in kept r (with_begun r p.0) next p.2 (λ now. now) ready
-statement-stays r (says.Line said gate) text next made ready =
+statement-stays : (r : Reading) (said : Statement) (text : List ℕ) (ahead : List (List ℕ)) (next : Reading) → with_statement is_accepted_so_far r said text ahead ≡ Some next → AreReady next.commands → AreReady r.commands
+statement-stays r (says.Package name) text ahead next made ready =
+    let p = map-of (with_begun r) (begun name text (mentions_ahead is_accepted_so_far (length text + 1) ahead)) next made in kept r (with_begun r p.0) next p.2 (λ now. now) ready
+statement-stays r (says.Line said gate) text ahead next made ready =
     let p = step-of (λ (p : Draft). option_map (with_current r) (with_line p said gate text)) r.current next made in
     let q = map-of (with_current r) (with_line p.0 said gate text) next p.2 in
     kept r (with_current r q.0) next q.2 (λ now. now) ready
-statement-stays r says.Push text next made ready =
+statement-stays r says.Push text ahead next made ready =
     let p = step-of (λ (p : Draft). option_and_then (with_groups r) (each_of grouped (r.finished ++ p ∷ []))) r.current next made in
     let groups = step-of (with_groups r) (each_of grouped (r.finished ++ p.0 ∷ [])) next p.2 in
     groups-stay r groups.0 next groups.2 ready
-statement-stays r (says.Request asked) text next made ready =
+statement-stays r (says.Request asked) text ahead next made ready =
     asked-stays r asked r.other next (else-of (is_some r.current) (with_asked r asked r.other) next made) ready
 
-said-stays : (r : Reading) (text : List ℕ) (o : Option (Option Statement)) (next : Reading) → after_said is_accepted_so_far r text [] o ≡ Some next → AreReady next.commands → AreReady r.commands
-said-stays r text None next made ready = cc
-said-stays r text (Some None) next made ready = kept r r next (same-some r next made) (λ now. now) ready
-said-stays r text (Some (Some said)) next made ready =
-    statement-stays r said text next (then-of (is_accepted_so_far said) (with_statement is_accepted_so_far r said text []) next made) ready
+said-stays : (r : Reading) (text : List ℕ) (ahead : List (List ℕ)) (o : Option (Option Statement)) (next : Reading) → after_said is_accepted_so_far r text ahead o ≡ Some next → AreReady next.commands → AreReady r.commands
+said-stays r text ahead None next made ready = cc
+said-stays r text ahead (Some None) next made ready = kept r r next (same-some r next made) (λ now. now) ready
+said-stays r text ahead (Some (Some said)) next made ready =
+    statement-stays r said text ahead next (then-of (is_accepted_so_far said) (with_statement is_accepted_so_far r said text ahead) next made) ready
 
 -- ---- what is bad stays bad
 
-line-stays : (r : Reading) (text : List ℕ) → ¬ AreReady r.commands → IsBad (after_line is_accepted_so_far r text [])
-line-stays r text bad = at (after_line is_accepted_so_far r text []) refl where
-  at : (o : Option Reading) → after_line is_accepted_so_far r text [] ≡ o → IsBad o
+line-stays : (r : Reading) (text : List ℕ) (ahead : List (List ℕ)) → ¬ AreReady r.commands → IsBad (after_line is_accepted_so_far r text ahead)
+line-stays r text ahead bad = at (after_line is_accepted_so_far r text ahead) refl where
+  at : (o : Option Reading) → after_line is_accepted_so_far r text ahead ≡ o → IsBad o
   at None made = tt
-  at (Some next) made = λ ready. bad (said-stays r text (said_of text) next made ready)
+  at (Some next) made = λ ready. bad (said-stays r text ahead (said_of text) next made ready)
 
-bad-more : (lines : List (List ℕ)) (text : List ℕ) → IsBad (reading_of lines) → IsBad (reading_of (lines ++ text ∷ []))
-bad-more lines text bad = rw (after_lines-more new_reading lines text) (at (reading_of lines) bad) where
-  at : (o : Option Reading) → IsBad o → IsBad (option_and_then (λ (s : Reading). after_line is_accepted_so_far s text []) o)
-  at None bad = tt
-  at (Some r) bad = line-stays r text bad
+bad-step : (lines : List (List ℕ)) (k : ℕ) (o : Option Reading) → IsBad o → IsBad (option_and_then (step_at lines k) o)
+bad-step lines k None bad = tt
+bad-step lines k (Some r) bad = line-stays r (get_or lines k []) (drop (suc k) lines) bad
 
 difference : (a b : ℕ) → a ≤ b → (d : ℕ) × (b ≡ a + d)
 difference zero b less = (b, omega arith)
@@ -113,21 +111,21 @@ difference (suc a) zero less = absurd (omega (arith, less))
 difference (suc a) (suc b) less = let d = difference a b (omega (arith, less)) in (d.0, omega (arith, d.1))
 
 module _ (lines : List (List ℕ)) where
-  bad-next : (k : ℕ) → k < length lines → IsBad (reading_of (take k lines)) → IsBad (reading_of (take (k + 1) lines))
-  bad-next k within bad = rw (take_at_read lines k [] within).1 (bad-more (take k lines) (get_or lines k []) bad)
+  bad-next : (k : ℕ) → k < length lines → IsBad (reading_before k lines) → IsBad (reading_before (k + 1) lines)
+  bad-next k within bad = subst IsBad (sym (before-more k lines within)) (bad-step lines k (reading_before k lines) bad)
 
-  bad-after : (d k : ℕ) → k + d ≤ length lines → IsBad (reading_of (take k lines)) → IsBad (reading_of (take (k + d) lines))
-  bad-after zero k within bad = let same : k ≡ k + 0 = omega arith in subst (λ n. IsBad (reading_of (take n lines))) same bad
+  bad-after : (d k : ℕ) → k + d ≤ length lines → IsBad (reading_before k lines) → IsBad (reading_before (k + d) lines)
+  bad-after zero k within bad = let same : k ≡ k + 0 = omega arith in subst (λ n. IsBad (reading_before n lines)) same bad
   bad-after (suc d) k within bad =
       let same : (k + 1) + d ≡ k + suc d = omega arith in
-      subst (λ n. IsBad (reading_of (take n lines))) same (bad-after d (k + 1) (omega (arith, within)) (bad-next k (omega (arith, within)) bad))
+      subst (λ n. IsBad (reading_before n lines)) same (bad-after d (k + 1) (omega (arith, within)) (bad-next k (omega (arith, within)) bad))
 
   -- no reading that goes on comes after a bad line
-  pub no-reading : (number n : ℕ) (r : Reading) → (bad : IsBadLine lines number) → bad.before < n → n ≤ length lines → reading_of (take n lines) ≡ Some r → AreReady r.commands → ⊥
+  pub no-reading : (number n : ℕ) (r : Reading) → (bad : IsBadLine lines number) → bad.before < n → n ≤ length lines → reading_before n lines ≡ Some r → AreReady r.commands → ⊥
   no-reading number n r bad after within read ready =
       let rest : (d : ℕ) × (n ≡ (bad.before + 1) + d) = difference (bad.before + 1) n (omega (arith, after)) in
-      let there : IsBad (reading_of (take n lines)) =
-      subst (λ m. IsBad (reading_of (take m lines))) (sym rest.1) (bad-after rest.0 (bad.before + 1) (omega (arith, within, rest.1)) bad.bad) in
+      let there : IsBad (reading_before n lines) =
+      subst (λ m. IsBad (reading_before m lines)) (sym rest.1) (bad-after rest.0 (bad.before + 1) (omega (arith, within, rest.1)) bad.bad) in
       let gone : IsBad (Some r) = subst IsBad read there in
       gone ready
 
@@ -146,7 +144,7 @@ module _ (lines : List (List ℕ)) where
 
   -- a reading after so many lines that goes on
   abbrev Goes : ℕ → Type 0
-  Goes k = (r : Reading) × (reading_of (take k lines) ≡ Some r) × AreReady r.commands
+  Goes k = (r : Reading) × (reading_before k lines ≡ Some r) × AreReady r.commands
 
   bad-else : (o : Option Reading) → ¬ ((r : Reading) × (o ≡ Some r) × AreReady r.commands) → IsBad o
   bad-else None none = tt
@@ -162,6 +160,6 @@ module _ (lines : List (List ℕ)) where
         read = goes.1;
         ready = goes.2;
         there = omega (arith, within);
-        bad = let same : suc k ≡ k + 1 = omega arith in subst (λ n. IsBad (reading_of (take n lines))) same (bad-else (reading_of (take (suc k) lines)) stuck);
+        bad = let same : suc k ≡ k + 1 = omega arith in subst (λ n. IsBad (reading_before n lines)) same (bad-else (reading_before (suc k) lines) stuck);
         counted = refl;
       }))

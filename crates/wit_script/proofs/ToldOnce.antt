@@ -1,7 +1,8 @@
 -- Of a script one thing is said.
-use Rattle.std.proofs.Common.{◌≡◌, ℕ, Bool, true, false, ◌||◌, List, [], ◌∷◌, length, take, Option, None, Some, IsTrue, is_some, refl, sym, ap, subst, ◌∙◌, arith}
+use Rattle.std.proofs.Common.{◌≡◌, ℕ, Bool, true, false, ◌||◌, List, length, Option, None, Some, IsTrue, is_some, refl, sym, ap, subst, ◌∙◌, arith}
 use Rattle.wit_drafts.specs.declared.draft.Draft.{Draft}
 use Rattle.wit_lines.specs.Line.{last_said_of, lines_of}
+use Rattle.wit_script.proofs.Scripts.{before-whole}
 use Rattle.wit_script.proofs.Stays.{goes-on, no-reading, one-bad-line}
 use Rattle.wit_script.specs.Ready.{AreReady}
 use Rattle.wit_script.specs.Script.{IsBadLine, IsLeftOpen, IsUnderstood, reading_of}
@@ -12,14 +13,10 @@ use Rattle.wit_script.specs.declared.ready.ScriptCommand.{ScriptCommand}
 same-some : {A : Type 0} (x y : A) → Some x ≡ Some y → x ≡ y
 same-some x y h = cc
 
-take-all : (lines : List (List ℕ)) → take (length lines) lines ≡ lines
-take-all [] = refl
-take-all (text ∷ lines) = ap (λ l. text ∷ l) (take-all lines)
-
 -- a whole reading leaves no bad line
 no-bad : (lines : List (List ℕ)) (number : ℕ) (r : Reading) → reading_of lines ≡ Some r → AreReady r.commands → IsBadLine lines number → ⊥
 no-bad lines number r read ready bad =
-    no-reading lines number (length lines) r bad bad.there (omega arith) (ap reading_of (take-all lines) ∙ read) ready
+    no-reading lines number (length lines) r bad bad.there (omega arith) (before-whole lines ∙ read) ready
 
 -- nothing waits and something waits
 neither : (c : Option Draft) (o : Bool) → c ≡ None → o ≡ false → IsTrue (is_some c || o) → ⊥
@@ -43,7 +40,7 @@ pub told-once : (text : List ℕ) → IsToldOnce text
 told-once text = record {
   some = λ not_understood not_bad not_open.
       goes-on (lines_of text) (length (lines_of text)) (omega arith) not_bad (λ goes.
-      whole text goes.0 (sym (ap reading_of (take-all (lines_of text))) ∙ goes.1) goes.2 not_understood not_open);
+      whole text goes.0 (sym (before-whole (lines_of text)) ∙ goes.1) goes.2 not_understood not_open);
   understood_or_bad = λ commands number understood bad. no-bad (lines_of text) number understood.reading understood.read (subst AreReady (sym understood.asked) understood.ready) bad;
   understood_or_open = λ commands number understood left.
       let same : understood.reading ≡ left.reading = same-some _ _ (sym understood.read ∙ left.read) in

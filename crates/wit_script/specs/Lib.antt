@@ -1,6 +1,7 @@
 pub mod Watched
 pub mod World
 pub mod Ready
+pub mod Ahead
 pub mod Script
 pub mod Told
 pub mod Answer

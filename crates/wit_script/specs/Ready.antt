@@ -1,6 +1,6 @@
 -- Which lines of a script are accepted so far, by kind of line. Later work widens `is_accepted_so_far` and `CanPush`, and at
 -- last removes them.
-use Rattle.std.specs.Prelude.{◌≡◌, Bool, true, false, List, [], IsTrue}
+use Rattle.std.specs.Prelude.{Bool, true, false, List, ◌∷◌, IsTrue}
 use Rattle.std.specs.List.{AllByRecursion}
 use Rattle.wit_items.specs.Shape.{IsGroupShaped}
 use Rattle.wit_items.specs.declared.unresolved.UnresolvedPackageGroup.{UnresolvedPackageGroup}
@@ -34,17 +34,17 @@ abbrev pub is_own : ParsedUsePath → Bool
 is_own (path.Name name) = true
 is_own (path.Package parent name) = false
 
--- lines of packages are read so far where they name nothing of other packages
+-- lines of packages are read so far, but for those that include a world of another package
 abbrev pub is_line_taken : PackageLine → Bool
 is_line_taken (line.Interface name) = true
 is_line_taken (line.World name) = true
 is_line_taken (line.Type_ name text) = true
 is_line_taken (line.Record name fields) = true
 is_line_taken (line.Resource name) = true
-is_line_taken (line.Use from name new) = is_own from
+is_line_taken (line.Use from name new) = true
 is_line_taken (line.Function said) = true
-is_line_taken (line.Import label from) = is_own from
-is_line_taken (line.Export label from) = is_own from
+is_line_taken (line.Import label from) = true
+is_line_taken (line.Export label from) = true
 is_line_taken (line.ImportFunction said) = true
 is_line_taken (line.ExportFunction said) = true
 is_line_taken (line.Include from names) = is_own from
@@ -56,19 +56,21 @@ is_accepted_so_far (says.Line said gate) = is_line_taken said
 is_accepted_so_far says.Push = true
 is_accepted_so_far (says.Request asked) = is_taken asked
 
+-- a group has the shape that a graph takes, and can be added so far
+abbrev pub CanAdd : UnresolvedPackageGroup → Type 0
+CanAdd group = IsGroupShaped group × IsSupportedGroup group
+
 -- packages can be added so far; else their `push` isn't accepted
-pub record CanPush (main : UnresolvedPackageGroup) (deps : List UnresolvedPackageGroup) : Type 0 where
-  pub supported : IsSupportedGroup main
-  pub alone : deps ≡ []
+abbrev pub CanPush : List UnresolvedPackageGroup → Type 0
+CanPush groups = AllByRecursion IsSupportedGroup groups
 
 -- packages have the shape that a graph takes
-pub record AreShaped (main : UnresolvedPackageGroup) (deps : List UnresolvedPackageGroup) : Type 0 where
-  pub main_shape : IsGroupShaped main
-  pub deps_shape : AllByRecursion IsGroupShaped deps
+abbrev pub AreShaped : List UnresolvedPackageGroup → Type 0
+AreShaped groups = AllByRecursion IsGroupShaped groups
 
 -- a command whose packages have their shape, and that is accepted so far
 abbrev pub IsReady : ScriptCommand → Type 0
-IsReady (asks.Push main deps) = AreShaped main deps × CanPush main deps
+IsReady (asks.Push main deps) = AreShaped (main ∷ deps) × CanPush (main ∷ deps)
 IsReady (asks.Request asked) = IsTrue (is_taken asked)
 
 abbrev pub AreReady : List ScriptCommand → Type 0

@@ -1,15 +1,14 @@
 -- A script, line by line: what the lines make, which scripts are understood, what they ask, and which line of another is
 -- the first that isn't understood.
-use Rattle.std.specs.Prelude.{◌≡◌, ◌⊎◌, ◌||◌, ℕ, ◌+◌, ◌<◌, Bool, true, false, List, [], ◌∷◌, ◌++◌, length, take, Option, Some, None, IsTrue, is_some, option_and_then, Result, Ok, Err, if◌then◌else◌}
+use Rattle.std.specs.Prelude.{◌≡◌, ◌⊎◌, ◌||◌, ℕ, zero, suc, ◌+◌, ◌<◌, Bool, true, false, List, [], ◌∷◌, ◌++◌, length, Option, Some, None, IsTrue, is_some, option_and_then, Result, Ok, Err, if◌then◌else◌}
 use Rattle.std.specs.Option.{option_map, option_to_list}
 use Rattle.wit_items.specs.declared.package_name.PackageName.{PackageName}
 use Rattle.wit_items.specs.declared.stability.Stability.{Stability}
 use Rattle.wit_items.specs.declared.unresolved.UnresolvedPackageGroup.{UnresolvedPackageGroup}
 use Rattle.wit_drafts.specs.Draft.{begun, grouped}
 use Rattle.wit_drafts.specs.Lines.{with_line}
-use Rattle.wit_drafts.specs.Mention.{Mention, mentions_of}
 use Rattle.wit_drafts.specs.declared.draft.Draft.{Draft}
-use Rattle.wit_lines.specs.Line.{ink_end_of, ink_start_of, last_said_of, lines_of}
+use Rattle.wit_lines.specs.Line.{last_said_of, lines_of}
 use Rattle.wit_lines.specs.Signature.{each_of}
 use Rattle.wit_lines.specs.Statement.{said_of}
 use Rattle.wit_lines.specs.declared.fault.LineFault.{LineFault}
@@ -19,6 +18,7 @@ use Rattle.wit_lines.specs.declared.request.Request.{Request}
 use Rattle.wit_lines.specs.declared.request.Request.TheVariants as request
 use Rattle.wit_lines.specs.declared.statement.Statement.{Statement}
 use Rattle.wit_lines.specs.declared.statement.Statement.TheVariants as says
+use Rattle.wit_script.specs.Ahead.{mentions_ahead}
 use Rattle.wit_script.specs.Ready.{AreReady, is_accepted_so_far}
 use Rattle.wit_script.specs.declared.fault.ReadFault.{ReadFault}
 use Rattle.wit_script.specs.declared.fault.ReadFault.TheVariants as read_fault
@@ -33,25 +33,6 @@ new_reading = record { commands = []; finished = []; current = None; other = fal
 -- a package that begins; the one before it, if there is one, gets no more lines
 abbrev pub with_begun : Reading → Draft → Reading
 with_begun r p = record r { finished = r.finished ++ option_to_list r.current; current = Some p }
-
--- what an accepted line mentions of other packages, and the lines after it, where it is a line of the package
-abbrev pub mentions_by : Bool → ℕ → List ℕ → (ℕ → List Mention) → Statement → List Mention
-mentions_by false at line after said = []
-mentions_by true at line after (says.Package name) = []
-mentions_by true at line after (says.Line said gate) = mentions_of said gate (Some (at + ink_start_of line, at + ink_end_of line)) ++ after (at + length line + 1)
-mentions_by true at line after says.Push = []
-mentions_by true at line after (says.Request asked) = []
-
-abbrev pub mentions_with : (Statement → Bool) → ℕ → List ℕ → (ℕ → List Mention) → Option (Option Statement) → List Mention
-mentions_with accepts at line after None = []
-mentions_with accepts at line after (Some None) = after at
-mentions_with accepts at line after (Some (Some said)) = mentions_by (accepts said) at line after said
-
--- what lines mention up to the end of the package, or to the first that isn't accepted, where its file has so many bytes
--- before them
-abbrev pub mentions_ahead : (Statement → Bool) → ℕ → List (List ℕ) → List Mention
-mentions_ahead accepts at [] = []
-mentions_ahead accepts at (line ∷ lines) = mentions_with accepts at line (λ after. mentions_ahead accepts after lines) (said_of line)
 
 -- `package PKG`, with what the lines ahead mention
 abbrev pub with_package : (Statement → Bool) → Reading → PackageName → List ℕ → List (List ℕ) → Option Reading
@@ -115,6 +96,16 @@ after_lines accepts r (line ∷ lines) = option_and_then (λ next. after_lines a
 abbrev pub reading_of : List (List ℕ) → Option Reading
 reading_of lines = after_lines is_accepted_so_far new_reading lines
 
+-- what so many of the lines say, from the first on, where those behind them are known
+abbrev pub after_first : (Statement → Bool) → Reading → ℕ → List (List ℕ) → Option Reading
+after_first accepts r zero lines = Some r
+after_first accepts r (suc k) [] = Some r
+after_first accepts r (suc k) (line ∷ lines) = option_and_then (λ next. after_first accepts next k lines) (after_line accepts r line lines)
+
+-- the same, where those are accepted that are so far
+abbrev pub reading_before : ℕ → List (List ℕ) → Option Reading
+reading_before k lines = after_first is_accepted_so_far new_reading k lines
+
 -- no reading comes out, or one with a command that isn't ready
 abbrev pub IsBad : Option Reading → Type 0
 IsBad None = Unit {0}
@@ -134,10 +125,10 @@ pub record IsUnderstood (text : List ℕ) (commands : List ScriptCommand) : Type
 pub record IsBadLine (lines : List (List ℕ)) (number : ℕ) : Type 0 where
   pub before : ℕ
   pub reading : Reading
-  pub read : reading_of (take before lines) ≡ Some reading
+  pub read : reading_before before lines ≡ Some reading
   pub ready : AreReady reading.commands
   pub there : before < length lines
-  pub bad : IsBad (reading_of (take (before + 1) lines))
+  pub bad : IsBad (reading_before (before + 1) lines)
   pub counted : number ≡ before + 1
 
 -- all lines are understood, but a package waits for its `push` or an `other` for its `merge`; this is the last line that

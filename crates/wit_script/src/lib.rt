@@ -1,6 +1,7 @@
 //! Scripts that build packages, put them into a resolve graph and print its worlds.
 #![tactic(auto)]
 
+pub mod ahead;
 pub mod answer;
 pub mod fault;
 pub mod laws;

@@ -1,13 +1,18 @@
 //! From the text of a script to its commands.
-ghost use Rattle.std.specs.Prelude.{◌≡◌, ◌↔◌, ◌||◌, [], is_some, true, map, Some, IfOk, IfErr, IsTrue, OnOk, not};
+ghost use Rattle.std.specs.Prelude.{◌≡◌, ◌↔◌, ◌||◌, [], ◌∷◌, is_some, true, map, None, Some, IfOk, IfErr, IfSome, IsTrue, OnOk, not};
+ghost use Rattle.wit_drafts.specs.Draft.{grouped};
+ghost use Rattle.wit_lines.specs.IsRead.{IsRead};
+ghost use Rattle.wit_lines.specs.Signature.{each_of};
+ghost use Rattle.wit_items.specs.Each.{Each};
 ghost use Rattle.wit_lines.specs.Line.{is_silent, last_said_of};
-ghost use Rattle.wit_script.specs.Ready.{AreReady, IsReady, is_accepted_so_far, is_taken};
-ghost use Rattle.wit_script.specs.declared.ready.ScriptCommand.TheVariants.{Push};
-ghost use Rattle.wit_script.specs.Script.{GoesOn, HasLineFault, HasReadFault, IsUnderstood, Leads, after_line, new_reading, reading_of, with_command, with_package, with_package_line, with_push, with_request, with_statement};
+ghost use Rattle.wit_script.specs.Ready.{AreReady, CanAdd, is_accepted_so_far, is_taken};
+ghost use Rattle.wit_script.specs.Script.{GoesOn, HasLineFault, HasReadFault, IsUnderstood, Leads, after_line, new_reading, reading_of, with_groups, with_package, with_package_line, with_push, with_request, with_statement};
 
+use crate::ahead::mentions_ahead;
 use crate::fault::ReadFault;
 use crate::ready::{ReadyCommand, ScriptCommand, is_accepted};
 use std::alloc::{AllocError, Global};
+use std::mem;
 use wit_drafts::Draft;
 use wit_items::{Items, PackageName, Stability, UnresolvedPackageGroup};
 use wit_lines::{LineFault, PackageLine, Request, Statement, lines, read_line};
@@ -26,13 +31,57 @@ pub struct Reading {
 }
 
 /// Whether a group has the shape that a graph takes, and can be added so far.
-fn can_push(alloc: Global, main: &UnresolvedPackageGroup) -> Result<bool, AllocError>
-    ensures { IfOk result (λ can. IsTrue can ↔ IsReady (Push main.now [])) }
+fn can_add(alloc: Global, group: &UnresolvedPackageGroup) -> Result<bool, AllocError>
+    ensures { IfOk result (λ can. IsTrue can ↔ CanAdd group.now) }
 {
-    if !main.is_shaped(alloc)? {
+    if !group.is_shaped(alloc)? {
         return Ok(false);
     }
-    Ok(is_supported_group(main))
+    Ok(is_supported_group(group))
+}
+
+/// Whether each of these groups has, and can.
+fn can_add_each(alloc: Global, groups: &[UnresolvedPackageGroup]) -> Result<bool, AllocError>
+    ensures { IfOk result (λ can. IsTrue can ↔ Each CanAdd groups.now) }
+{
+    for group in groups {
+        if !can_add(alloc, group)? {
+            return Ok(false);
+        }
+    }
+    Ok(true)
+}
+
+/// Packages as groups, each of its own.
+fn into_groups(
+    alloc: Global,
+    packages: Items<Draft>,
+) -> Result<Items<UnresolvedPackageGroup>, LineFault>
+    ensures { IsRead (each_of grouped packages) result }
+{
+    let mut groups = Items::new(alloc);
+    for package in packages.into_vec() {
+        match package.into_group(alloc) {
+            Ok(group) => groups.push(group)?,
+            Err(fault) => return Err(fault),
+        }
+    }
+    Ok(groups)
+}
+
+/// The first group and those after it, where there is one.
+fn split_main(
+    groups: Items<UnresolvedPackageGroup>,
+) -> Option<(UnresolvedPackageGroup, Items<UnresolvedPackageGroup>)>
+    ensures some { IfSome result (λ split. groups ≡ split.0 ∷ split.1) }
+    ensures none { result ≡ None → groups ≡ [] }
+{
+    if groups.is_empty() {
+        return None;
+    }
+    let mut deps = groups.into_vec();
+    let main = deps.remove(0);
+    Some((main, Items::from_vec(deps)))
 }
 
 impl Reading {
@@ -56,13 +105,19 @@ impl Reading {
     }
 
     /// Adds what a line says.
-    fn add(&mut self, alloc: Global, said: Statement, line: &str) -> Result<(), LineFault>
+    fn add(
+        &mut self,
+        alloc: Global,
+        said: Statement,
+        line: &str,
+        ahead: &[&str],
+    ) -> Result<(), LineFault>
         requires ready { AreReady self.old.commands }
         requires accepted { is_accepted_so_far said ≡ true }
-        ensures { GoesOn (with_statement is_accepted_so_far self.old said line.now []) result self.new }
+        ensures { GoesOn (with_statement is_accepted_so_far self.old said line.now (map (λ line. line.now) ahead.now)) result self.new }
     {
         match said {
-            Statement::Package(name) => self.add_package(alloc, name, line),
+            Statement::Package(name) => self.add_package(alloc, name, line, ahead),
             Statement::Line { said, gate } => self.add_package_line(alloc, said, gate, line),
             Statement::Push => self.add_push(alloc),
             Statement::Request(request) => self.add_request(request),
@@ -70,11 +125,18 @@ impl Reading {
     }
 
     /// Begins a package.
-    fn add_package(&mut self, alloc: Global, name: PackageName, line: &str) -> Result<(), LineFault>
-        ensures next { Leads (with_package is_accepted_so_far self.old name line.now []) result self.new }
+    fn add_package(
+        &mut self,
+        alloc: Global,
+        name: PackageName,
+        line: &str,
+        ahead: &[&str],
+    ) -> Result<(), LineFault>
+        ensures next { Leads (with_package is_accepted_so_far self.old name line.now (map (λ line. line.now) ahead.now)) result self.new }
         ensures commands { self.new.commands ≡ self.old.commands }
     {
-        let package = Draft::begin(alloc, name, line)?;
+        let mentions = mentions_ahead(alloc, line.len() + 1, ahead)?;
+        let package = Draft::begin(alloc, name, line, mentions)?;
         if let Some(before) = self.current.replace(package) {
             self.finished.push(before)?;
         }
@@ -100,30 +162,38 @@ impl Reading {
         Ok(())
     }
 
-    /// Ends the packages, of which there is one so far, and adds the command that pushes it.
+    /// Ends the packages since the last command, and adds the command that pushes them, the first being
+    /// the main one.
     fn add_push(&mut self, alloc: Global) -> Result<(), LineFault>
         requires { AreReady self.old.commands }
         ensures { GoesOn (with_push self.old) result self.new }
     {
-        let Some(package) = self.current.take() else {
+        let Some(last) = self.current.take() else {
             return Err(LineFault::NotUnderstood);
         };
-        if !self.finished.is_empty() {
-            return Err(LineFault::NotUnderstood);
-        }
-        let main = package.into_group(alloc)?;
-        self.add_group(alloc, main)
+        let mut packages = mem::replace(&mut self.finished, Items::new(alloc));
+        packages.push(last)?;
+        let groups = into_groups(alloc, packages)?;
+        self.add_groups(alloc, groups)
     }
 
-    /// Adds the command that pushes a group, where it can be pushed.
-    fn add_group(&mut self, alloc: Global, main: UnresolvedPackageGroup) -> Result<(), LineFault>
-        requires { AreReady self.old.commands }
-        ensures { GoesOn (Some (with_command self.old (Push main []))) result self.new }
+    /// Adds the command that pushes groups, where they can be pushed.
+    fn add_groups(
+        &mut self,
+        alloc: Global,
+        groups: Items<UnresolvedPackageGroup>,
+    ) -> Result<(), LineFault>
+        requires ready { AreReady self.old.commands }
+        requires finished { self.old.finished ≡ [] }
+        requires current { self.old.current ≡ None }
+        ensures { GoesOn (with_groups self.old groups) result self.new }
     {
-        if !can_push(alloc, &main)? {
+        if !can_add_each(alloc, groups.as_slice())? {
             return Err(LineFault::NotUnderstood);
         }
-        let deps = Items::new(alloc);
+        let Some((main, deps)) = split_main(groups) else {
+            return Err(LineFault::NotUnderstood);
+        };
         self.commands
             .push(ReadyCommand::new(ScriptCommand::Push { main, deps }))?;
         Ok(())
@@ -145,9 +215,14 @@ impl Reading {
 }
 
 /// Adds a line, and tells whether it says anything.
-fn add_line(alloc: Global, reading: &mut Reading, line: &str) -> Result<bool, LineFault>
+fn add_line(
+    alloc: Global,
+    reading: &mut Reading,
+    line: &str,
+    ahead: &[&str],
+) -> Result<bool, LineFault>
     requires { AreReady reading.old.commands }
-    ensures next { GoesOn (after_line is_accepted_so_far reading.old line.now []) result reading.new }
+    ensures next { GoesOn (after_line is_accepted_so_far reading.old line.now (map (λ line. line.now) ahead.now)) result reading.new }
     ensures told { IfOk result (λ said. said ≡ not (is_silent line.now)) }
 {
     match read_line(alloc, line)? {
@@ -156,7 +231,7 @@ fn add_line(alloc: Global, reading: &mut Reading, line: &str) -> Result<bool, Li
             if !is_accepted(&said) {
                 return Err(LineFault::NotUnderstood);
             }
-            reading.add(alloc, said, line)?;
+            reading.add(alloc, said, line, ahead)?;
             Ok(true)
         }
     }
@@ -172,7 +247,7 @@ fn add_lines(alloc: Global, reading: &mut Reading, lines: &[&str]) -> Result<usi
 {
     let mut last = 0;
     for (index, line) in lines.iter().enumerate() {
-        let says_something = match add_line(alloc, reading, line) {
+        let says_something = match add_line(alloc, reading, line, &lines[index + 1..]) {
             Ok(says_something) => says_something,
             Err(LineFault::NotUnderstood) => {
                 return Err(ReadFault::NotUnderstood { line: index + 1 });

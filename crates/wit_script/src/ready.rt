@@ -35,14 +35,11 @@ fn is_own(path: &ParsedUsePath) -> bool
     matches!(path, ParsedUsePath::Name(_))
 }
 
-/// Whether a line of a package is read so far: it names nothing of other packages.
+/// Whether a line of a package is read so far: it includes no world of another package.
 fn is_line_taken(line: &PackageLine) -> bool
     ensures { result ≡ is_line_taken line.now }
 {
     match line {
-        PackageLine::Use { path, .. } => is_own(path),
-        PackageLine::Import { path, .. } => is_own(path),
-        PackageLine::Export { path, .. } => is_own(path),
         PackageLine::Include { path, .. } => is_own(path),
         _ => true,
     }

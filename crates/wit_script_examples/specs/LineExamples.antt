@@ -6,7 +6,7 @@ use Rattle.wit_items.specs.declared.use_path.ParsedUsePath.TheVariants as path
 use Rattle.wit_lines.specs.Statement.{said_of}
 use Rattle.wit_lines.specs.declared.package_line.PackageLine.TheVariants as line
 use Rattle.wit_lines.specs.declared.request.Request.TheVariants as request
-use Rattle.wit_lines.specs.declared.request.TrackRule.TheVariants as rule
+use Rattle.wit_items.specs.declared.track.TrackRule.TheVariants as rule
 use Rattle.wit_lines.specs.declared.statement.Statement.{Statement}
 use Rattle.wit_lines.specs.declared.statement.Statement.TheVariants as says
 use Rattle.wit_lines.specs.declared.type_text.TypeText.{TypeText}

@@ -83,6 +83,8 @@ pub record ExamplesOfScripts : Type 0 where
   pub among_lines : IsNotUnderstood (codes "package a:b\nprint a:b w\npush\n") 2
   -- nothing pushes the package
   pub unended : IsNotUnderstood (codes "package a:b\ninterface i\n\n# end\n") 2
-  -- not accepted so far: a foreign name, another graph
-  pub foreign_name : IsNotUnderstood (codes "package a:b\nworld w\nimport c:d/e\n") 3
+  -- the key of an interface of another package twice
+  pub foreign_twice : IsNotUnderstood (codes "package a:b\nworld w\nimport c:d/e\nimport c:d/e\n") 4
+  -- not accepted so far: a world of another package, another graph
+  pub foreign_world : IsNotUnderstood (codes "package a:b\nworld w\nimport c:d/e\ninclude c:d/v\n") 4
   pub other_line : IsNotUnderstood (codes "feature f\nother\nmerge\n") 2

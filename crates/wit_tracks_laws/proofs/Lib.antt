@@ -1,4 +1,5 @@
 mod Accepting
+mod EachElaborated
 mod Greatest
 mod KeptKeys
 mod KeptLabels

@@ -6,13 +6,15 @@ use Rattle.wit_values.specs.Version.{version_cmp}
 use Rattle.wit_items.specs.declared.track.TrackRule.{TrackRule}
 use Rattle.wit_items.specs.declared.world.World.{World}
 use Rattle.wit_items.specs.declared.world.WorldKey.{WorldKey}
+use Rattle.wit_graph.specs.Elaborated.{Elaborated}
+use Rattle.wit_graph.specs.Elaboration.{graph_uses}
 use Rattle.wit_graph.specs.Entries.{ids_of}
 use Rattle.wit_graph.specs.KeptByElaboration.{labelled}
 use Rattle.wit_graph.specs.Valid.{IsValid}
 use Rattle.wit_graph.specs.declared.graph.Graph.{Graph}
 use Rattle.wit_relations.specs.Relation.{IsAcyclic}
 use Rattle.wit_unite.specs.AllElaborated.{graph_package_uses}
-use Rattle.wit_tracks.specs.Rewritten.{rewritten}
+use Rattle.wit_tracks.specs.Rewritten.{relisted, rewritten}
 use Rattle.wit_tracks.specs.TrackCause.{IsAccepted}
 use Rattle.wit_tracks.specs.Tracks.{Versioned, are_on_one_track, versioned}
 use Rattle.wit_tracks.specs.Upgrade.{Upgrade, imported, is_replaced, newest}
@@ -54,6 +56,12 @@ LabelsAreKept = (rule : TrackRule) (g : Graph) (w : ℕ) (old new : World) → I
 -- and so do the keys of the exports
 abbrev pub ExportsAreKept : Type 0
 ExportsAreKept = (rule : TrackRule) (g : Graph) (w : ℕ) (old new : World) (k : WorldKey) → IsMerged rule g w old new → Contains (keys_of new.exports) k ↔ Contains (keys_of old.exports) k
+
+-- each world is the elaboration of its list: the named one's less the replaced, of each other its former one
+abbrev pub WorldsAreElaborated : Type 0
+WorldsAreElaborated = (rule : TrackRule) (g : Graph) (w : ℕ) (old : World) (v : ℕ) (listed new : World) → IsValid g → slice_get g.worlds w ≡ Some old → IsAccepted rule g w
+    → slice_get (relisted rule g w).worlds v ≡ Some listed → slice_get (rewritten rule g w).worlds v ≡ Some new
+    → Elaborated (rewritten rule g w).types (graph_uses (rewritten rule g w)) listed new
 
 -- and the graph stays valid, where no package depends on itself after it
 abbrev pub RewrittenStayValid : Type 0

@@ -1,5 +1,5 @@
 //! Laws of semver merging: the contract of each function is what is proved.
-ghost use Rattle.wit_tracks_laws.specs.TrackLaws.{ExportsAreKept, KeysAreExact, LabelsAreKept, NewestIsGreatest, OneOnEachTrack, RewrittenStayValid};
+ghost use Rattle.wit_tracks_laws.specs.TrackLaws.{ExportsAreKept, KeysAreExact, LabelsAreKept, NewestIsGreatest, OneOnEachTrack, RewrittenStayValid, WorldsAreElaborated};
 
 use wit_graph::laws::{
     conflicts_are_refused, elaborated_entries, elaborated_once, elaborates_once, export_keys_stay,
@@ -63,7 +63,7 @@ pub fn exports_are_kept()
     export_keys_stay();
 }
 
-/// A valid graph stays valid, where no interface, type or package depends on itself after it.
+/// A valid graph stays valid, where no package depends on itself after it.
 pub fn rewritten_stay_valid()
     ensures { RewrittenStayValid }
 {
@@ -74,4 +74,11 @@ pub fn rewritten_stay_valid()
     imports_are_least();
     conflicts_are_refused();
     export_keys_stay();
+}
+
+/// Each world is the elaboration of its list: the named one's less the replaced, of each other its former one.
+pub fn worlds_are_elaborated()
+    ensures { WorldsAreElaborated }
+{
+    conflicts_are_refused();
 }

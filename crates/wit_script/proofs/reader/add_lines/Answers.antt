@@ -1,6 +1,6 @@
-use Rattle.std.proofs.Common.{◌≡◌, ◌∙◌, ◌+◌, sym, map, take, List, [], Some, ℕ, Bor}
-use Rattle.wit_script.specs.Script.{reading_of}
-use Rattle.wit_script.proofs.Scripts.{bad-line, read-next, last-silent, last-said}
+use Rattle.std.proofs.Common.{◌≡◌, ◌∙◌, ◌+◌, refl, sym, map, List, [], Some, ℕ, Bor}
+use Rattle.wit_script.specs.Script.{reading_before}
+use Rattle.wit_script.proofs.Scripts.{bad-line, read-all, read-next, last-silent, last-said}
 use Rattle.wit_script.proofs.reader.add_lines.Goals as goal
 use Rattle.wit_script.proofs.reader.add_lines.Goals.{then-says_something, else-says_something}
 
@@ -11,14 +11,14 @@ none = record { ref_ptr = (0, 0); now = [] }
 pub returns-in-Err-NotUnderstood-clause-fault : goal.returns-in-Err-NotUnderstood-clause-fault
 unfolding none
 returns-in-Err-NotUnderstood-clause-fault c =
-    bad-line c.args.lines.now c.loop-index.index none c.loop-index.reading c.loop-index-test.true c.loop-index.invariant.read c.loop-index.invariant.ready
+    bad-line c.args.lines.now c.loop-index.index none c.loop-index.reading refl c.loop-index-test.true c.loop-index.invariant.read c.loop-index.invariant.ready
     (rw c.in-Err-NotUnderstood.field-0-is at c.in-Err-NotUnderstood.ensures.next)
 
 pub loop-index-preserved : goal.loop-index-preserved
 unfolding none
 loop-index-preserved c =
-    let read : reading_of (map (λ (x : Bor (List ℕ)). x.now) (take (c.loop-index.index + 1) c.args.lines.now)) ≡ Some c.add_line.new.reading =
-    read-next c.args.lines.now c.loop-index.index none c.loop-index.reading c.add_line.new.reading
+    let read : reading_before (c.loop-index.index + 1) (map (λ (x : Bor (List ℕ)). x.now) c.args.lines.now) ≡ Some c.add_line.new.reading =
+    read-next c.args.lines.now c.loop-index.index none c.loop-index.reading c.add_line.new.reading refl
     c.loop-index-test.true c.loop-index.invariant.read c.in-Ok.ensures.next.0 in
     record {
       read = read;
@@ -31,3 +31,8 @@ loop-index-preserved c =
             (sym w.if-says_something.false ∙ c.in-Ok.ensures.told))
       ];
     }
+
+pub returns-clause-read : goal.returns-clause-read
+unfolding none
+returns-clause-read c =
+    read-all c.args.lines.now c.loop-index.index none c.loop-index.reading c.loop-index.auto.index-end c.loop-index-test.false c.loop-index.invariant.read

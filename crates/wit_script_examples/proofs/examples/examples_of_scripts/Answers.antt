@@ -1,7 +1,7 @@
 use Rattle.std.proofs.Common.{refl, inl, inr, codes, lit<}
 use Rattle.wit_items.specs.UsePath.{is_kebab_name, use_path_of}
 use Rattle.wit_script.specs.Script.{new_reading}
-use Rattle.wit_script_examples.proofs.After.{after}
+use Rattle.wit_script_examples.proofs.After.{after, before}
 use Rattle.wit_script_examples.proofs.examples.examples_of_scripts.Goals as goal
 
 pub returns : goal.returns
@@ -18,6 +18,7 @@ returns c = record {
   name_later = inl (record { before = 2; reading = after (codes "package a:b\nworld w"); read = refl; ready = tt; there = lit< tt; bad = tt; counted = refl });
   among_lines = inl (record { before = 1; reading = after (codes "package a:b"); read = refl; ready = tt; there = lit< tt; bad = tt; counted = refl });
   unended = inr (record { reading = after (codes "package a:b\ninterface i"); read = refl; ready = tt; waits = refl; counted = refl });
-  foreign_name = inl (record { before = 2; reading = after (codes "package a:b\nworld w"); read = refl; ready = tt; there = lit< tt; bad = tt; counted = refl });
+  foreign_twice = inl (record { before = 3; reading = before 3 (codes "package a:b\nworld w\nimport c:d/e\nimport c:d/e\n"); read = refl; ready = tt; there = lit< tt; bad = tt; counted = refl });
+  foreign_world = inl (record { before = 3; reading = before 3 (codes "package a:b\nworld w\nimport c:d/e\ninclude c:d/v\n"); read = refl; ready = tt; there = lit< tt; bad = tt; counted = refl });
   other_line = inl (record { before = 1; reading = after (codes "feature f"); read = refl; ready = (refl, tt); there = lit< tt; bad = tt; counted = refl });
 }

@@ -1,8 +1,6 @@
-use Rattle.std.proofs.Common.{◌≡◌, ◌∙◌, ◌-◌, ◌+◌, ℕ, ap, sym, take, Some, arith}
-use Rattle.wit_items.specs.declared.types.Type_.{Type_}
+use Rattle.std.proofs.Common.{◌≡◌, ◌∙◌, ◌-◌, ◌+◌, ℕ, ap, sym, take, arith}
 use Rattle.wit_items.specs.declared.types.TypeDefKind.{TypeDefKind}
 use Rattle.wit_drafts.specs.Making.{forms_made, type_of}
-use Rattle.wit_drafts.specs.declared.draft.Draft.{Draft}
 use Rattle.wit_drafts.proofs.Steps.{same-some}
 use Rattle.wit_drafts.proofs.Wrapped.{form-made}
 use Rattle.wit_drafts.proofs.draft.Draft.make_forms.Goals as goal

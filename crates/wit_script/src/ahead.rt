@@ -1,0 +1,109 @@
+//! What the lines of a package mention of other packages, looked at ahead.
+ghost use Rattle.std.specs.Option.{option_to_list};
+ghost use Rattle.std.specs.Prelude.{◌≡◌, ◌++◌, List, ℕ, true, map, IfOk, OnOk};
+ghost use Rattle.wit_drafts.specs.declared.mention.Mention.{Mention};
+ghost use Rattle.wit_lines.specs.Statement.{said_of};
+ghost use Rattle.wit_lines.specs.declared.statement.Statement.TheVariants as says;
+ghost use Rattle.wit_script.specs.Ahead.{mentions_ahead, mentions_by, mentions_placed, mentions_then, mentions_with};
+ghost use Rattle.wit_script.specs.Ready.{is_accepted_so_far};
+
+use crate::ready::is_accepted;
+use std::alloc::{AllocError, Global};
+use wit_drafts::{Mention, mention_of, span_of};
+use wit_items::{Items, Stability};
+use wit_lines::{LineFault, PackageLine, Statement, read_line};
+
+/// What a line ahead is.
+#[derive(Drop)]
+pub enum Ahead {
+    /// The package ends before it, or the script isn't understood there.
+    End,
+    /// It says nothing.
+    Silent,
+    /// It is a line of the package, whose file then has so many bytes.
+    Line {
+        mention: Option<Mention>,
+        next: usize,
+    },
+}
+
+/// A line of the package, where its file has so many bytes before it.
+fn line_ahead(
+    at: usize,
+    line: &str,
+    said: PackageLine,
+    gate: Stability,
+) -> Result<Ahead, AllocError>
+    ensures { IfOk result (λ ahead. (after : ℕ → List Mention) → mentions_then ahead at after ≡ mentions_by true at line.now after (says.Line said gate)) }
+{
+    match span_of(at, line) {
+        Ok(span) => Ok(Ahead::Line {
+            mention: mention_of(said, gate, span),
+            next: at + line.len() + 1,
+        }),
+        Err(LineFault::NotUnderstood) => Ok(Ahead::End),
+        Err(LineFault::OutOfMemory) => Err(AllocError),
+    }
+}
+
+/// What an accepted line says, where the file of the package has so many bytes before it.
+fn said_ahead(at: usize, line: &str, said: Statement) -> Result<Ahead, AllocError>
+    ensures { IfOk result (λ ahead. (after : ℕ → List Mention) → mentions_then ahead at after ≡ mentions_by true at line.now after said) }
+{
+    match said {
+        Statement::Line { said, gate } => line_ahead(at, line, said, gate),
+        Statement::Package(_) => Ok(Ahead::End),
+        Statement::Push => Ok(Ahead::End),
+        Statement::Request(_) => Ok(Ahead::End),
+    }
+}
+
+/// What a line ahead is, where the file of the package has so many bytes before it.
+fn look_ahead(alloc: Global, at: usize, line: &str) -> Result<Ahead, AllocError>
+    ensures { IfOk result (λ next. (after : ℕ → List Mention) → mentions_then next at after ≡ mentions_with is_accepted_so_far at line.now after (said_of line.now)) }
+{
+    match read_line(alloc, line) {
+        Ok(Some(said)) => {
+            if !is_accepted(&said) {
+                return Ok(Ahead::End);
+            }
+            said_ahead(at, line, said)
+        }
+        Ok(None) => Ok(Ahead::Silent),
+        Err(LineFault::NotUnderstood) => Ok(Ahead::End),
+        Err(LineFault::OutOfMemory) => Err(AllocError),
+    }
+}
+
+/// Adds a mention, where there is one.
+fn push_some(mentions: &mut Items<Mention>, mention: Option<Mention>) -> Result<(), AllocError>
+    ensures { OnOk result (mentions.new ≡ mentions.old ++ option_to_list mention) }
+{
+    match mention {
+        Some(mention) => mentions.push(mention),
+        None => Ok(()),
+    }
+}
+
+/// What lines mention up to the end of the package, where its file has so many bytes before them.
+pub fn mentions_ahead(
+    alloc: Global,
+    file_len: usize,
+    lines: &[&str],
+) -> Result<Items<Mention>, AllocError>
+    ensures { IfOk result (λ mentions. mentions ≡ mentions_ahead is_accepted_so_far file_len (map (λ line. line.now) lines.now)) }
+{
+    let mut mentions = Items::new(alloc);
+    let mut at = file_len;
+    for line in lines {
+        match look_ahead(alloc, at, line)? {
+            Ahead::End => return Ok(mentions),
+            Ahead::Silent => {}
+            Ahead::Line { mention, next } => {
+                at = next;
+                push_some(&mut mentions, mention)?;
+            }
+        }
+    }
+    Ok(mentions)
+}
