@@ -1,6 +1,5 @@
 -- What the steps of an include tell of the lists, as reasons of the include.
-use Rattle.std.proofs.Common.{◌≡◌, ◌∙◌, ◌⊎◌, inl, inr, ℕ, zero, suc, Bool, ◌&&◌, true, false, not, is_some, List, [], ◌∷◌, ◌++◌, map, length, nat_eq, Option, Some, None, slice_get, slice_index_or, refl, arith, sym, ap, subst, Contains, codes, if◌then◌else◌}
-use Rattle.std.proofs.lemmas.Bool.{false≢true}
+use Rattle.std.proofs.Common.{◌≡◌, ◌∙◌, ◌⊎◌, inl, inr, ℕ, zero, suc, Bool, ◌&&◌, true, false, not, is_some, List, [], ◌∷◌, map, length, nat_eq, Option, Some, None, slice_get, refl, arith, sym, ap, subst, Contains, codes, if◌then◌else◌}
 use Rattle.std.specs.Cmp.{nat_eq_equiv}
 use Rattle.std.specs.List.{AllByRecursion, list_any}
 use Rattle.std.specs.Map.{keys_of}
@@ -12,7 +11,6 @@ use Rattle.wit_items.specs.Entries.{Entry, IsExport, is_unnamed, placed_interfac
 use Rattle.wit_items.specs.Ownership.{IsNamed}
 use Rattle.wit_items.specs.Reference.{type_references}
 use Rattle.wit_items.specs.declared.interface.Interface.{Interface}
-use Rattle.wit_items.specs.declared.stability.Docs.{Docs}
 use Rattle.wit_items.specs.declared.stability.Stability.{Stability}
 use Rattle.wit_items.specs.declared.types.TypeDef.{TypeDef}
 use Rattle.wit_items.specs.declared.world.IncludeName.{IncludeName}
@@ -22,7 +20,7 @@ use Rattle.wit_items.specs.declared.world.WorldItem.{WorldItem}
 use Rattle.wit_items.specs.declared.world.WorldItem.TheVariants as item
 use Rattle.wit_items.specs.declared.world.WorldKey.{WorldKey}
 use Rattle.wit_items.specs.declared.world.WorldKey.TheVariants as key
-use Rattle.wit_relations.specs.Relation.{IsPath, Reaches, direct}
+use Rattle.wit_relations.specs.Relation.{IsPath, direct}
 use Rattle.wit_graph.specs.Entries.{instance_of}
 use Rattle.wit_graph.specs.Listed.{IsUnderOwnKey}
 use Rattle.wit_graph.specs.declared.cause.Cause.TheVariants as cause
@@ -34,11 +32,11 @@ use Rattle.wit_growth.specs.Image.{Maps, entry_image, item_image, key_image}
 use Rattle.wit_growth.specs.ListFacts.{Contains-map, Contains-map_cases, contained_at, found_at, from_map, place_of, same_at}
 use Rattle.wit_labels.specs.Rename.{renamed}
 use Rattle.wit_adding.specs.CauseText.{rename_text}
-use Rattle.wit_adding.specs.Include.{Begun, Lists, copy_maps, goes_with, include_stability, interface_copy, is_other_package, is_owned_with, is_unnamed_type, joined, lists_of, with_copies, with_world_included}
+use Rattle.wit_adding.specs.Include.{Begun, Lists, copy_maps, goes_with, include_stability, interface_copy, is_other_package, is_owned_with, joined, lists_of, with_copies, with_world_included}
 use Rattle.wit_adding.specs.WorldReasons.{Disagree, HasStability, IsListCalled, IsShadowed, renamed_key}
 use Rattle.wit_adding_laws.specs.StageFacts.{CanInclude}
 use Rattle.wit_copying.specs.Copied.{StayApart}
-use Rattle.wit_joining.specs.Joined.{CanJoin, ComeOnce, IsJoinCause, StabilitiesDiffer, StandsWith, item_shadowing_7, stability_mismatch_8}
+use Rattle.wit_joining.specs.Joined.{CanJoin, ComeOnce, IsJoinCause, StandsWith, item_shadowing_7, stability_mismatch_8}
 use Rattle.wit_joining.specs.Renamed.{AreRenamed, IsFirstUnmatched}
 use Rattle.wit_including.specs.Included.{HaveOwnKeys, IncludeIsFine, IsIncludeCause, IsIncluded, before_includes, mismatch_8, rename_unmatched_16, shadowing_7, with_lists, with_one}
 
@@ -134,9 +132,13 @@ module _ (g : Graph) (from : ℕ) (old : World) (names : List IncludeName) (into
   comes_with entries keyed n stability has =
       let e : Entry = (key.Interface n, item.Interface n stability has.0 has.1 has.2) in
       let place = place_of entries e has.3 in
-      let stays : interface_copy g old n ≡ n = named_stays n (export_named g.interfaces n e.1 (keyed.exports place.0 n e.1 place.1)) in
-      (interface_copy g old n, has.0, moved_by 0 has.1, has.2,
-      subst (λ (x : ℕ). Contains (bring entries) (key.Interface x, item.Interface (interface_copy g old n) stability has.0 (moved_by 0 has.1) has.2)) stays (Contains-map (entry_image go from) entries e has.3))
+      let stays : interface_copy g old n ≡ n = named_stays n (export_named g.interfaces n e.1 (keyed.exports place.0 n e.1 place.1)) in (
+        interface_copy g old n,
+        has.0,
+        moved_by 0 has.1,
+        has.2,
+        subst (λ (x : ℕ). Contains (bring entries) (key.Interface x, item.Interface (interface_copy g old n) stability has.0 (moved_by 0 has.1) has.2)) stays (Contains-map (entry_image go from) entries e has.3),
+      )
 
 -- what stands under the key of an interface is that one
 stands_own : (entries : List Entry) → AllByRecursion (λ (e : Entry). IsUnderOwnKey e.0 e.1) entries → (n : ℕ) (stability : Stability) → StandsWith entries n stability → HasStability entries n stability
@@ -250,6 +252,7 @@ stay_apart g from old can t o named apart reaches = by (slice_get g.types t) ref
     nowhere : (path : List ℕ) → slice_get g.types t ≡ None → IsPath (type_references g.types) t path o → t ≡ o
     nowhere [] none is = is
     nowhere (k ∷ path) none is = absurd (no-place k (subst (λ (l : List ℕ). Contains l k) (direct_none g.types t none) is.0))
+
     by : (found : Option TypeDef) → slice_get g.types t ≡ found → is_owned_with g from old o ≡ false
     by None none = subst (λ (x : ℕ). is_owned_with g from old x ≡ false) (nowhere reaches.0 none reaches.1) apart
     by (Some def) at =
@@ -301,11 +304,19 @@ module _ (g : Graph) (include : WorldInclude) (home : ℕ) (world : World) (g' :
       → (kind ≡ OutOfMemory) ⊎ ((old : World) × IsIncluded (before_includes g world) include old × IsIncludeCause home (before_includes g world) include old kind)
   step_cause own kind (inl memory) = inl memory
   step_cause own kind (inr (inl is)) =
-      inr (step.old, step.at, list_cause g include step.old world home (codes "import") world.imports step.old.imports kind (imports_keyed g include.id step.old step.good) own.imports (inl (refl, refl)) (inl (refl, refl))
-      (told_of (λ (b : Bool) (l : List Entry). IsJoinCause b include.span (codes "import") world.imports l kind) imports _ step.imports_are is))
+      inr (
+        step.old,
+        step.at,
+        list_cause g include step.old world home (codes "import") world.imports step.old.imports kind (imports_keyed g include.id step.old step.good) own.imports (inl (refl, refl)) (inl (refl, refl))
+            (told_of (λ (b : Bool) (l : List Entry). IsJoinCause b include.span (codes "import") world.imports l kind) imports _ step.imports_are is),
+      )
   step_cause own kind (inr (inr is)) =
-      inr (step.old, step.at, list_cause g include step.old world home (codes "export") world.exports step.old.exports kind (exports_keyed g include.id step.old step.good) own.exports (inr (refl, refl)) (inr (refl, refl))
-      (told_of (λ (b : Bool) (l : List Entry). IsJoinCause b include.span (codes "export") world.exports l kind) exports _ step.exports_are is))
+      inr (
+        step.old,
+        step.at,
+        list_cause g include step.old world home (codes "export") world.exports step.old.exports kind (exports_keyed g include.id step.old step.good) own.exports (inr (refl, refl)) (inr (refl, refl))
+            (told_of (λ (b : Bool) (l : List Entry). IsJoinCause b include.span (codes "export") world.exports l kind) exports _ step.exports_are is),
+      )
 
   pub step_imports_once : ComeOnce imports
   step_imports_once = subst (λ (l : List Entry). ComeOnce l) (sym step.imports_are) (come_once g include.id step.old include.names (length g.worlds) home step.old.imports (imports_keyed g include.id step.old step.good))

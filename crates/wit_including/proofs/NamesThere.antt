@@ -1,11 +1,11 @@
 -- What the entries of a world name that can be included is there.
-use Rattle.std.proofs.Common.{◌≡◌, ◌<◌, ◌⊎◌, inl, inr, ℕ, Bool, true, false, List, [], ◌∷◌, ◌++◌, map, length, Option, Some, None, slice_get, refl, sym, subst, Contains, if◌then◌else◌}
+use Rattle.std.proofs.Common.{◌≡◌, ◌<◌, inl, inr, ℕ, Bool, true, false, List, [], ◌++◌, map, length, Option, Some, None, slice_get, refl, subst, Contains, if◌then◌else◌}
 use Rattle.std.proofs.lemmas.List.Elements.{Contains-append_cases}
 use Rattle.std.proofs.lemmas.Option.{slice_get_within}
 use Rattle.std.specs.List.{flat_map}
 use Rattle.std.specs.Option.{option_map_or}
 use Rattle.wit_relations.specs.MemberFacts.{Contains-cons_cases, Contains-flat_map_cases, Contains-nil}
-use Rattle.wit_items.specs.Entries.{Entry, IsExport, IsImport, ItemUsesOwn}
+use Rattle.wit_items.specs.Entries.{IsExport, IsImport, ItemUsesOwn}
 use Rattle.wit_items.specs.Reference.{function_references}
 use Rattle.wit_items.specs.declared.function.Function.{Function}
 use Rattle.wit_items.specs.declared.interface.Interface.{Interface}

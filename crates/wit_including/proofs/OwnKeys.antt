@@ -5,7 +5,6 @@ use Rattle.std.specs.Map.{lookup}
 use Rattle.std.specs.Option.{option_map_or}
 use Rattle.wit_items.specs.Entries.{Entry, IsExport}
 use Rattle.wit_items.specs.declared.interface.Interface.{Interface}
-use Rattle.wit_items.specs.declared.stability.Stability.{Stability}
 use Rattle.wit_items.specs.declared.stability.Stability.TheVariants.{Unknown, Stable, Unstable}
 use Rattle.wit_items.specs.declared.world.World.{World}
 use Rattle.wit_items.specs.declared.world.WorldInclude.{WorldInclude}
@@ -16,9 +15,10 @@ use Rattle.wit_items.specs.declared.world.WorldKey.TheVariants as key
 use Rattle.wit_graph.specs.Entries as graph
 use Rattle.wit_graph.specs.Entries.{instance_of}
 use Rattle.wit_graph.specs.Listed.{IsUnderOwnKey}
-use Rattle.wit_growth.specs.Image.{Maps, entry_image, item_image}
-use Rattle.wit_adding.specs.Include.{Begun, Lists, copy_maps, has_key, is_other_package, joined, joined_entry, joined_item, new_item, with_world_included}
+use Rattle.wit_growth.specs.Image.{Maps, entry_image}
+use Rattle.wit_adding.specs.Include.{Begun, copy_maps, has_key, is_other_package, joined, joined_entry, joined_item, new_item}
 use Rattle.wit_including.specs.Included.{CanBeIncluded, HaveOwnKeys, with_one}
+use Rattle.wit_including.specs.SeveralFacts.{none_is, some_is}
 use Rattle.wit_including.proofs.IncludeSteps.{IsKeyed, exports_keyed, imports_keyed}
 
 -- each entry is under its own key
@@ -79,16 +79,10 @@ brought_own interfaces m w entries keyed = go entries (λ i f held at. keyed.exp
     one (key.Interface f) (item.Interface id stability docs span external_id) is = ap (λ (x : ℕ). m.interfaces x ∷ []) (is f refl).0
     one (key.Interface f) (item.Function g) is = absurd (is f refl)
     one (key.Interface f) (item.Type_ t span) is = absurd (is f refl)
+
     go : (es : List Entry) → ((i f : ℕ) (held : WorldItem) → slice_get es i ≡ Some (key.Interface f, held) → IsExport interfaces (key.Interface f) held) → AreOwn (map (entry_image m w) es)
     go [] each = tt
     go (e ∷ es) each = (one e.0 e.1 (λ f called. each 0 f e.1 (ap (λ (x : WorldKey). Some (x, e.1)) called)), go es (λ i. each (suc i)))
-
--- what an include makes where the world is there, and where it isn't
-pub some_is : (home : ℕ) (b : Begun) (include : WorldInclude) (old : World) → slice_get b.graph.worlds include.id ≡ Some old → with_one home b include ≡ with_world_included home (length b.graph.worlds) include.names include.id old b
-some_is home b include old at = ap (λ (o : Option World). option_map_or (λ (w : World). with_world_included home (length b.graph.worlds) include.names include.id w b) o b) at
-
-pub none_is : (home : ℕ) (b : Begun) (include : WorldInclude) → slice_get b.graph.worlds include.id ≡ None → with_one home b include ≡ b
-none_is home b include at = ap (λ (o : Option World). option_map_or (λ (w : World). with_world_included home (length b.graph.worlds) include.names include.id w b) o b) at
 
 -- so it is with an include more
 pub one_own : (home : ℕ) (b : Begun) (include : WorldInclude) → CanBeIncluded b include → HaveOwnKeys b.lists → HaveOwnKeys (with_one home b include).lists

@@ -1,8 +1,7 @@
 -- What the interfaces of a graph on its way use stays what it was, where the graph grows.
-use Rattle.std.proofs.Common.{◌≡◌, ◌∙◌, ℕ, ◌<◌, zero, suc, List, [], ◌∷◌, ◌++◌, map, filter_map, length, take, drop, Option, None, Some, IfSome, option_and_then, slice_get, refl, sym, ap, subst, Contains, arith}
+use Rattle.std.proofs.Common.{◌≡◌, ◌∙◌, ℕ, ◌<◌, suc, List, [], ◌∷◌, ◌++◌, map, filter_map, length, take, drop, Option, None, Some, option_and_then, slice_get, refl, sym, ap, Contains, arith}
 use Rattle.std.proofs.lemmas.List.{length-map, take-append-drop}
 use Rattle.std.proofs.lemmas.List.Elements.{All-contains}
-use Rattle.std.proofs.lemmas.Option.{slice_get_within}
 use Rattle.wit_values.specs.Lists.{slice_get-append}
 use Rattle.wit_items.specs.Reference.{referred, type_references}
 use Rattle.wit_items.specs.Uses.{alias_target, interface_uses, other_owner, type_interface_dep, uses_of}

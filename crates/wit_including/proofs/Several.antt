@@ -1,5 +1,5 @@
 -- Includes of a world, one after another, and the world finished.
-use Rattle.std.proofs.Common.{◌≡◌, ◌∙◌, ◌⊎◌, inl, inr, ℕ, ◌+◌, ◌<◌, ◌≤◌, zero, suc, List, [], ◌∷◌, ◌++◌, fold, length, take, Option, None, Some, slice_get, refl, sym, ap, subst, arith, below_more}
+use Rattle.std.proofs.Common.{◌≡◌, ◌∙◌, ◌⊎◌, inl, inr, ℕ, ◌+◌, ◌<◌, ◌≤◌, zero, suc, List, [], ◌∷◌, fold, length, take, Some, slice_get, refl, sym, ap, subst, arith, below_more}
 use Rattle.std.proofs.lemmas.List.Sums.{fold-append}
 use Rattle.std.proofs.lemmas.Option.{slice_get_within}
 use Rattle.wit_values.specs.Lists.{take-next_at}
@@ -18,20 +18,8 @@ use Rattle.wit_finishing.specs.Finished.{CanFinish, IsFinishCause, with_finished
 use Rattle.wit_placing.specs.Grown.{Grown}
 use Rattle.wit_placing.specs.GrownFacts.{Begins-more, Begins-same, Grown-same, Grown-then}
 use Rattle.wit_including.specs.Included.{CanBeAdded, CanBeBegun, CanBeIncluded, HaveOwnKeys, IncludeIsFine, IsFineAt, IsFineWorld, IsIncludeCause, IsIncluded, IsWorldCause, StopsAtInclude, as_finished, at_include, before_includes, with_including, with_lists, with_one, with_several}
-use Rattle.wit_including.proofs.OwnKeys.{none_is, one_own, some_is}
-
--- ---- the worlds stay as they are
-
-one_worlds : (home : ℕ) (b : Begun) (include : WorldInclude) → (with_one home b include).graph.worlds ≡ b.graph.worlds
-one_worlds home b include = by (slice_get b.graph.worlds include.id) refl
-  where
-    by : (o : Option World) → slice_get b.graph.worlds include.id ≡ o → (with_one home b include).graph.worlds ≡ b.graph.worlds
-    by None at = ap (λ (x : Begun). x.graph.worlds) (none_is home b include at)
-    by (Some old) at = ap (λ (x : Begun). x.graph.worlds) (some_is home b include old at)
-
-several_worlds : (home : ℕ) (includes : List WorldInclude) (b : Begun) → (fold (with_one home) b includes).graph.worlds ≡ b.graph.worlds
-several_worlds home [] b = refl
-several_worlds home (include ∷ includes) b = several_worlds home includes (with_one home b include) ∙ one_worlds home b include
+use Rattle.wit_including.specs.SeveralFacts.{several_worlds}
+use Rattle.wit_including.proofs.OwnKeys.{one_own}
 
 -- ---- the state of including
 
@@ -63,7 +51,7 @@ module _ (home : ℕ) (g : Graph) (world : World) (includes : List WorldInclude)
     pub include_there : include.id < length g'.worlds
     include_there =
         let same : g'.worlds ≡ g.worlds = ap (λ (h : Graph). h.worlds) is.graph ∙ several_worlds home (take n includes) (before_includes g world) in
-        subst (λ (ws : List World). include.id < length ws) (sym same) (can.there n include at)
+        subst (λ (ws : List World). include.id < length ws) (sym same) (can.there n include at is.fine)
 
     begun_can : CanBeIncluded (with_several home g world (take n includes)) include
     begun_can = can.each n include at is.fine
@@ -98,14 +86,17 @@ module _ (home : ℕ) (g : Graph) (world : World) (includes : List WorldInclude)
         → (kind ≡ OutOfMemory) ⊎ ((j : ℕ) × StopsAtInclude home g world includes j kind)
     stops_here kind (inl memory) = inl memory
     stops_here kind (inr stop) =
-        inr (n, record {
-          include = include;
-          is = at;
-          old = stop.0;
-          there = subst (λ (b : Begun). IsIncluded b include stop.0) begun_is stop.1;
-          earlier = is.fine;
-          cause = subst (λ (b : Begun). IsIncludeCause home b include stop.0 kind) begun_is stop.2;
-        })
+        inr (
+          n,
+          record {
+            include = include;
+            is = at;
+            old = stop.0;
+            there = subst (λ (b : Begun). IsIncluded b include stop.0) begun_is stop.1;
+            earlier = is.fine;
+            cause = subst (λ (b : Begun). IsIncludeCause home b include stop.0 kind) begun_is stop.2;
+          },
+        )
 
   -- all of them
   take-all : length includes ≤ n → take n includes ≡ includes

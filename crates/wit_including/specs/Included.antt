@@ -1,9 +1,8 @@
 -- A world of a graph that is included in one that comes next, and why that is refused; all includes of a world, and the
 -- world finished. What an include makes is `included`.
 -- Source: `resolve_include` and `process_world_includes` of wit-parser 0.263.0.
-use Rattle.std.specs.Prelude.{◌≡◌, ◌<◌, ◌⊎◌, ℕ, List, fold, length, map, take, slice_get, Some}
+use Rattle.std.specs.Prelude.{◌≡◌, ◌<◌, ℕ, List, fold, length, map, take, slice_get, Some}
 use Rattle.std.specs.List.{AllByRecursion}
-use Rattle.wit_items.specs.Each.{Each}
 use Rattle.wit_items.specs.Entries.{Entry}
 use Rattle.wit_items.specs.declared.stability.Stability.{Stability}
 use Rattle.wit_items.specs.declared.world.IncludeName.{IncludeName}
@@ -98,7 +97,7 @@ pub record StopsAtInclude (home : ℕ) (g : Graph) (world : World) (includes : L
 
 -- each of the includes can be made, where those before it are fine
 pub record CanBeBegun (home : ℕ) (g : Graph) (world : World) (includes : List WorldInclude) : Type 0 where
-  pub there : Each (λ (include : WorldInclude). include.id < length g.worlds) includes
+  pub there : (j : ℕ) (include : WorldInclude) → slice_get includes j ≡ Some include → ((i : ℕ) → i < j → IsFineAt home g world includes i) → include.id < length g.worlds
   pub own_keys : HaveOwnKeys (lists_of world)
   pub each : (j : ℕ) (include : WorldInclude) → slice_get includes j ≡ Some include → ((i : ℕ) → i < j → IsFineAt home g world includes i) → CanBeIncluded (with_several home g world (take j includes)) include
 

@@ -1,1 +1,4 @@
+pub mod AdditionFacts
 pub mod Included
+pub mod ReadyFacts
+pub mod SeveralFacts

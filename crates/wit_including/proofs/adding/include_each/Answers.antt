@@ -1,9 +1,8 @@
-use Rattle.std.proofs.Common.{rules, ◌≡◌, ◌⊎◌, ℕ, sym, subst, IfErr, IsErrAnd, Ok, Err, Result}
+use Rattle.std.proofs.Common.{◌≡◌, ◌⊎◌, ℕ, sym, subst, IfErr, IsErrAnd, Ok, Err, Result}
 use Rattle.wit_graph.specs.declared.error_kind.ResolveErrorKind.{ResolveErrorKind}
 use Rattle.wit_graph.specs.declared.error_kind.ResolveErrorKind.TheVariants.{OutOfMemory}
-use Rattle.wit_placing.specs.GrownFacts.{Grown-then}
 use Rattle.wit_including.specs.Included.{StopsAtInclude}
-use Rattle.wit_including.proofs.Several.{all_fine, all_graph, all_world, beginning-next, beginning-none, include_can, include_own, include_there, stops_here}
+use Rattle.wit_including.proofs.Several.{beginning-next, beginning-none, include_can, include_own, include_there, stops_here}
 use Rattle.wit_including.proofs.adding.include_each.Goals as goal
 
 told_err : {T E : Type 0} {P Q : E → Type 0} (r : Result T E) → IsErrAnd r P → ((e : E) → P e → Q e) → IfErr r Q

@@ -4,7 +4,6 @@ use Rattle.wit_graph.specs.declared.error_kind.ResolveErrorKind.TheVariants.{Out
 use Rattle.wit_items.specs.declared.world.World.{World}
 use Rattle.wit_adding.specs.Include.{is_other_package, with_copies}
 use Rattle.wit_copying.specs.Copied.{maps_of}
-use Rattle.wit_joining.specs.Renamed.{AreRenamed}
 use Rattle.wit_including.specs.Included.{IsIncludeCause, IsIncluded, before_includes}
 use Rattle.wit_including.proofs.IncludeSteps.{IsStep, brought_is, go, names_cause, same_old, stay_apart, step_cause, step_exports_once, step_fine, step_graph, step_imports_once, step_world}
 use Rattle.wit_including.proofs.NamesThere.{names_there}
