@@ -1,5 +1,4 @@
 -- What is united of two valid graphs is valid: what is shown of its types, interfaces, worlds and packages, joined.
-use Rattle.wit_graph.specs.Valid.{IsValid}
 use Rattle.wit_growth.specs.CoveredIsValid.{IsValid-of_covered}
 use Rattle.wit_growth.specs.Good.{IsGoodAsAWhole}
 use Rattle.wit_growth.specs.Operations.{merge_sources}
