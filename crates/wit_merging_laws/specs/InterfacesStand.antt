@@ -1,6 +1,6 @@
 -- The interfaces of two graphs that are one: those of the graph stay and may have more, those of the other stand at
 -- their places, and there are no others.
-use Rattle.std.proofs.Common.{◌≡◌, ◌∙◌, ℕ, ◌+◌, ◌<◌, Bool, true, false, not, List, [], ◌∷◌, ◌++◌, ◌⊎◌, inl, inr, map, filter, length, is_some, nat_eq, find, Option, None, Some, option_and_then, option_map, IsSome, slice_get, refl, sym, ap, subst, arith, Contains}
+use Rattle.std.proofs.Common.{◌≡◌, ◌∙◌, ℕ, ◌+◌, Bool, true, not, List, ◌++◌, inl, inr, map, length, is_some, nat_eq, Option, None, Some, IsSome, slice_get, refl, sym, ap, subst, arith, Contains}
 use Rattle.std.specs.List.{enumerate_from}
 use Rattle.std.specs.Map.{lookup}
 use Rattle.std.specs.Option.{option_eq, option_map_or}
@@ -14,18 +14,16 @@ use Rattle.std.proofs.lemmas.Slice.Eq.{bytes_eq-Decides}
 use Rattle.std.specs.Cmp.Lexicographic.{nat_list_eq_equiv}
 use Rattle.wit_values.specs.Lists.{slice_get-append}
 use Rattle.wit_values.specs.Table.{HasDistinctKeys}
-use Rattle.wit_items.specs.Each.{Each, SomeAt}
+use Rattle.wit_items.specs.Each.{SomeAt}
 use Rattle.wit_items.specs.declared.function.Function.{Function}
 use Rattle.wit_items.specs.declared.interface.Interface.{Interface}
 use Rattle.wit_items.specs.declared.types.TypeDef.{TypeDef}
-use Rattle.wit_items.specs.declared.types.TypeOwner.{TypeOwner}
 use Rattle.wit_items.specs.declared.types.TypeOwner.TheVariants as owner
 use Rattle.wit_graph.proofs.Filters.{Contains-filter, Contains-filtered}
 use Rattle.wit_graph.specs.Valid.{IsValid}
-use Rattle.wit_graph.specs.declared.graph.Graph.{Graph}
 use Rattle.wit_growth.specs.CarriedImages.{function_image_carried, function_itself_carried}
 use Rattle.wit_growth.specs.Covered.{FunctionComes, InterfaceAt, InterfaceComes, ListedComes}
-use Rattle.wit_growth.specs.Cut.{graph_source, mapped_source}
+use Rattle.wit_growth.specs.Cut.{mapped_source}
 use Rattle.wit_growth.specs.CutIsGood.{distinct_kept}
 use Rattle.wit_growth.specs.GoodIsValid.{good_things}
 use Rattle.wit_growth.specs.Image.{function_image, identity, interface_image}
@@ -43,10 +41,10 @@ use Rattle.wit_merging.specs.Joined.{joined_interface, with_interface}
 use Rattle.wit_merging.specs.Matches.{Merging, found_by, found_interface, found_type, partner}
 use Rattle.wit_merging.specs.Moved.{brought_functions, brought_types, interface_place, merge_maps, moved_interfaces, moves_interface, moves_type, type_place}
 use Rattle.wit_merging.specs.United.{joined_graph}
-use Rattle.wit_merging_laws.specs.MatchFacts.{goes_to, interface_is, some_by, some_same, type_is}
+use Rattle.wit_merging_laws.specs.MatchFacts.{goes_to, interface_is, some_by, some_same}
 use Rattle.wit_merging_laws.specs.MatchedOnce.{interface_once}
 use Rattle.wit_merging_laws.specs.TypesStand.{matched_some, moved_next}
-use Rattle.wit_merging_laws.specs.WholeFacts.{interface_at, interface_from, types_within}
+use Rattle.wit_merging_laws.specs.WholeFacts.{interface_at, types_within}
 
 -- ---- partners
 

@@ -1,57 +1,42 @@
 -- The worlds of two graphs that are one, as they are listed: those of the graph stay, those of the other stand at their
 -- places, and there are no others.
-use Rattle.std.proofs.Common.{◌≡◌, ◌∙◌, ℕ, ◌+◌, ◌<◌, ◌≤◌, Bool, true, false, not, List, [], ◌∷◌, ◌++◌, ◌⊎◌, inl, inr, map, filter, length, is_some, Option, None, Some, option_map, IsSome, slice_get, refl, sym, ap, subst, arith, Contains}
+use Rattle.std.proofs.Common.{◌≡◌, ◌∙◌, ℕ, ◌+◌, ◌<◌, true, false, List, [], ◌∷◌, ◌++◌, inl, inr, map, length, Option, None, Some, slice_get, refl, sym, ap, subst, arith, Contains}
 use Rattle.std.specs.List.{enumerate_from}
 use Rattle.std.specs.Map.{lookup}
 use Rattle.std.specs.Option.{option_map_or}
-use Rattle.std.specs.Str.{bytes_eq}
-use Rattle.std.proofs.lemmas.Bool.{cases_Bool, false≢true, lt-ltb}
+use Rattle.std.proofs.lemmas.Bool.{cases_Bool, lt-ltb}
 use Rattle.std.proofs.lemmas.List.{length-map}
 use Rattle.std.proofs.lemmas.List.Elements.{Contains-append_left, Contains-append_right}
-use Rattle.std.proofs.lemmas.Map.Views.{Contains-from_lookup, IsSome-lookup_from_Contains}
 use Rattle.std.proofs.lemmas.Option.{slice_get_within}
-use Rattle.std.proofs.lemmas.Slice.Eq.{bytes_eq-Decides}
-use Rattle.std.specs.Cmp.Lexicographic.{nat_list_eq_equiv}
 use Rattle.wit_values.specs.Lists.{slice_get-append}
 use Rattle.wit_values.specs.Table.{HasDistinctKeys}
-use Rattle.wit_relations.specs.MemberFacts.{Contains-cons_cases, Contains-flat_map, Contains-flat_map_cases, Contains-here, Contains-nil}
-use Rattle.wit_items.specs.Each.{Each, SomeAt}
-use Rattle.wit_items.specs.Entries.{Entry, IsExport, IsImport, item_interface}
-use Rattle.wit_items.specs.Ownership.{listed_type, world_types}
+use Rattle.wit_items.specs.Entries.{Entry, IsExport}
 use Rattle.wit_items.specs.declared.interface.Interface.{Interface}
-use Rattle.wit_items.specs.declared.types.TypeDef.{TypeDef}
-use Rattle.wit_items.specs.declared.types.TypeOwner.TheVariants as owner
 use Rattle.wit_items.specs.declared.world.World.{World}
 use Rattle.wit_items.specs.declared.world.WorldItem.{WorldItem}
 use Rattle.wit_items.specs.declared.world.WorldItem.TheVariants as item
 use Rattle.wit_items.specs.declared.world.WorldKey.{WorldKey}
 use Rattle.wit_items.specs.declared.world.WorldKey.TheVariants as key
-use Rattle.wit_graph.proofs.FreshEntries.{same_key-true}
 use Rattle.wit_graph.specs.Entries.{same_key}
 use Rattle.wit_graph.specs.Valid.{IsValid}
-use Rattle.wit_graph.specs.declared.graph.Graph.{Graph}
 use Rattle.wit_growth.specs.CarriedImages.{function_itself_carried}
-use Rattle.wit_growth.specs.Covered.{EntryComes, IsNoType, ItemComes, WorldAt, WorldComes}
-use Rattle.wit_growth.specs.Cut.{mapped_source}
+use Rattle.wit_growth.specs.Covered.{EntryComes, IsNoType, ItemComes, WorldComes}
 use Rattle.wit_growth.specs.Image.{Maps, entry_image, identity, item_image, key_image, world_image}
 use Rattle.wit_growth.specs.ImagesCome.{entry_image_comes}
-use Rattle.wit_growth.specs.ListFacts.{Contains-map, Contains-map_cases, at_map, at_new, contained_at, found_at, from_map, old_or_new, place_of, some_at}
+use Rattle.wit_growth.specs.ListFacts.{at_map, at_new, contained_at, from_map, old_or_new, place_of}
 use Rattle.wit_growth.specs.Operations.{merge_sources}
 use Rattle.wit_growth.specs.PackagesAcyclic.{length-numbered, numbered_from, numbered_into}
-use Rattle.wit_growth.specs.Sources.{Source, WorldStands}
+use Rattle.wit_growth.specs.Sources.{Source}
 use Rattle.wit_adding.specs.Include.{joined_entry, joined_item}
 use Rattle.wit_adding.specs.RankFacts.{rank-injective, taken_places-at, taken_places-from}
-use Rattle.wit_adding.specs.Ranks.{rank, taken_places}
-use Rattle.wit_merging.specs.Agreement.{EntriesDiffer, same_sort}
-use Rattle.wit_merging.specs.Agreement as differ
-use Rattle.wit_merging.specs.Joined.{is_under_id, joined_world, with_entries, with_world}
-use Rattle.wit_merging.specs.Matches.{Merging, found_by, found_interface, found_item, found_type, found_world, partner, world_beside}
-use Rattle.wit_merging.specs.Moved.{interface_place, merge_maps, moved_worlds, moves_interface, moves_world, package_place, type_place, world_place}
-use Rattle.wit_merging.specs.Reasons.{AreOne}
+use Rattle.wit_adding.specs.Ranks.{rank}
+use Rattle.wit_merging.specs.Joined.{joined_world, with_world}
+use Rattle.wit_merging.specs.Matches.{Merging, found_interface, found_world, partner}
+use Rattle.wit_merging.specs.Moved.{interface_place, merge_maps, moved_worlds, moves_interface, moves_world, world_place}
 use Rattle.wit_merging.specs.United.{joined_graph}
-use Rattle.wit_merging_laws.specs.InterfacesStand.{moved_interface_goes, partner_from, partner_is}
-use Rattle.wit_merging_laws.specs.MatchFacts.{goes_to, interface_is, some_by, some_same, world_is, world_type_is}
-use Rattle.wit_merging_laws.specs.MatchedOnce.{interface_once, world_once}
+use Rattle.wit_merging_laws.specs.InterfacesStand.{moved_interface_goes}
+use Rattle.wit_merging_laws.specs.MatchFacts.{goes_to, interface_is}
+use Rattle.wit_merging_laws.specs.MatchedOnce.{interface_once}
 use Rattle.wit_merging_laws.specs.NothingFacts.{map_same}
 use Rattle.wit_merging_laws.specs.TypesStand.{matched_some, moved_next}
 use Rattle.wit_merging_laws.specs.WholeFacts.{world_at}

@@ -1,6 +1,6 @@
 -- What is matched is there, under the name that it is looked up by, and of the package or the owner to which that of
 -- the other thing goes.
-use Rattle.std.proofs.Common.{◌≡◌, ◌∙◌, ℕ, Bool, true, false, List, [], ◌∷◌, ◌++◌, ◌⊎◌, inl, inr, arith, cond, is_some, nat_eq, not, Option, None, Some, option_and_then, option_map, unwrap_or, IsSome, slice_get, refl, sym, ap, subst, Contains}
+use Rattle.std.proofs.Common.{◌≡◌, ◌∙◌, ℕ, Bool, true, false, List, [], ◌∷◌, inl, inr, arith, cond, is_some, nat_eq, not, Option, None, Some, option_and_then, option_map, unwrap_or, slice_get, refl, sym, ap, subst, Contains}
 use Rattle.std.proofs.lemmas.Bool.{eqb-true}
 use Rattle.std.proofs.lemmas.List.Elements.{Contains-append_cases}
 use Rattle.std.proofs.lemmas.Map.Views.{Contains-from_lookup}

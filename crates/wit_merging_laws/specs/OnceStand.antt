@@ -1,11 +1,9 @@
 -- An interface without a name stands in one place of a united graph, as it did in the two graphs.
-use Rattle.std.proofs.Common.{◌≡◌, ◌∙◌, ◌⊎◌, inl, inr, ℕ, ◌+◌, ◌<◌, ◌≤◌, zero, suc, Bool, true, false, not, is_some, List, [], ◌∷◌, map, filter, length, Option, None, Some, option_and_then, nat_eq, slice_get, refl, sym, ap, subst, arith, Contains}
+use Rattle.std.proofs.Common.{◌≡◌, ◌∙◌, ◌⊎◌, inl, inr, ℕ, ◌<◌, zero, suc, Bool, true, false, not, is_some, List, [], ◌∷◌, map, filter, length, Option, None, Some, slice_get, refl, sym, ap, subst, arith, Contains}
 use Rattle.std.specs.Map.{lookup}
 use Rattle.std.specs.Option.{option_map_or}
 use Rattle.std.proofs.lemmas.Bool.{cases_Bool, eqb-true, ltb-true}
 use Rattle.std.proofs.lemmas.Map.Views.{Contains-from_lookup}
-use Rattle.std.proofs.lemmas.Option.{slice_get_within}
-use Rattle.wit_items.specs.Each.{SomeAt}
 use Rattle.wit_items.specs.Entries.{Entry, StandOnce, is_unnamed, item_interface}
 use Rattle.wit_items.specs.Ownership.{IsNamed}
 use Rattle.wit_items.specs.declared.interface.Interface.{Interface}
@@ -16,23 +14,22 @@ use Rattle.wit_items.specs.declared.world.WorldKey.{WorldKey}
 use Rattle.wit_items.specs.declared.world.WorldKey.TheVariants as key
 use Rattle.wit_graph.proofs.FreshEntries.{same_key-true}
 use Rattle.wit_graph.specs.Elaborated.{settled_item}
-use Rattle.wit_graph.specs.Elaboration.{graph_uses}
 use Rattle.wit_graph.specs.Entries.{same_key}
 use Rattle.wit_graph.specs.Valid.{IsValid}
 use Rattle.wit_graph.specs.declared.graph.Graph.{Graph}
 use Rattle.wit_growth.specs.Cut.{cut_interface, kept_whole, mapped_source}
 use Rattle.wit_growth.specs.GoodWorlds.{same_one}
 use Rattle.wit_growth.specs.Image.{Maps, entry_image, identity, item_image, key_image, world_image}
-use Rattle.wit_growth.specs.ListFacts.{Contains-map_cases, contained_at, found_at, from_map, place_of, same_at, some_at}
-use Rattle.wit_growth.specs.OnePlace.{HasOnePlace, Holds, Origin, StayApart, entries_of}
+use Rattle.wit_growth.specs.ListFacts.{Contains-map_cases, contained_at, found_at, from_map, place_of, same_at}
+use Rattle.wit_growth.specs.OnePlace.{HasOnePlace, Holds, Origin, entries_of}
 use Rattle.wit_growth.specs.OnePlaceCarried.{HasOnePlace-of_covered, named_not}
 use Rattle.wit_growth.specs.OnePlaceFacts.{StandOnce-from_places}
 use Rattle.wit_growth.specs.OnePlaceFrom.{cut_has_one_place}
 use Rattle.wit_growth.specs.Operations.{merge_sources}
 use Rattle.wit_growth.specs.Sources.{InterfaceStands, Source}
 use Rattle.wit_adding.specs.Include.{joined_entry, joined_item}
-use Rattle.wit_adding_laws.specs.WorldFacts.{WorldLaws}
-use Rattle.wit_merging.specs.Joined.{is_under_id, joined_interface, joined_world, with_world}
+use Rattle.wit_including_laws.specs.WorldLaws.{WorldLaws}
+use Rattle.wit_merging.specs.Joined.{is_under_id, joined_interface, with_world}
 use Rattle.wit_merging.specs.Matches.{Merging, found_as, found_interface, found_world, partner, spots}
 use Rattle.wit_merging.specs.Moved.{interface_place, merge_maps, moves_interface, world_place}
 use Rattle.wit_merging.specs.Reasons.{AreOne}

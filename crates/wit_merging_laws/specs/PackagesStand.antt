@@ -1,6 +1,6 @@
 -- The packages of a united graph: their tables hold its interfaces and worlds under their names and nothing else, and
 -- they are listed under their names.
-use Rattle.std.proofs.Common.{◌≡◌, ◌∙◌, ℕ, ◌+◌, ◌<◌, zero, suc, Bool, true, false, not, List, [], ◌∷◌, ◌++◌, ◌⊎◌, inl, inr, cond, map, filter, length, is_some, Option, None, Some, option_and_then, option_map, IsSome, slice_get, refl, sym, ap, subst, arith, Contains}
+use Rattle.std.proofs.Common.{◌≡◌, ◌∙◌, ℕ, ◌+◌, Bool, true, false, not, List, [], ◌∷◌, ◌++◌, inl, inr, cond, map, filter, length, is_some, Option, None, Some, option_and_then, option_map, slice_get, refl, sym, ap, subst, arith, Contains}
 use Rattle.std.specs.Cmp.Lexicographic.{nat_list_eq_equiv}
 use Rattle.std.specs.List.{enumerate_from}
 use Rattle.std.specs.Map.{lookup}
@@ -11,18 +11,15 @@ use Rattle.std.proofs.lemmas.Bool.{cases_Bool, false≢true}
 use Rattle.std.proofs.lemmas.List.{length-map}
 use Rattle.std.proofs.lemmas.List.Elements.{Contains-append_cases, Contains-append_left, Contains-append_right}
 use Rattle.wit_values.specs.Lists.{slice_get-append}
-use Rattle.wit_values.specs.Table.{HasDistinctKeys}
 use Rattle.wit_relations.specs.MemberFacts.{Contains-cons_cases, Contains-nil}
-use Rattle.wit_items.specs.Each.{Each, EachAt, SomeAt}
+use Rattle.wit_items.specs.Each.{EachAt, SomeAt}
 use Rattle.wit_items.specs.PackageNameFacts.{own_name}
 use Rattle.wit_items.specs.PackageOrder.{same_package}
-use Rattle.wit_items.specs.UsePath.{IsKebabName}
 use Rattle.wit_items.specs.declared.interface.Interface.{Interface}
 use Rattle.wit_items.specs.declared.package_name.PackageName.{PackageName}
 use Rattle.wit_items.specs.declared.world.World.{World}
 use Rattle.wit_graph.proofs.Filters.{Contains-filter, Contains-filtered}
 use Rattle.wit_graph.specs.Valid.{HasPackageNames, IsInTable, IsInterfaceOf, IsValid, IsWorldInTable, IsWorldOf}
-use Rattle.wit_graph.specs.declared.graph.Graph.{Graph}
 use Rattle.wit_graph.specs.declared.graph.Package.{Package}
 use Rattle.wit_growth.specs.CutIsGood.{distinct_kept}
 use Rattle.wit_growth.specs.Good.{IsGoodPackage}
@@ -40,8 +37,8 @@ use Rattle.wit_merging.specs.United.{elaborated_world, joined_graph, package_ima
 use Rattle.wit_merging_laws.specs.InterfacesStand as interfaces
 use Rattle.wit_merging_laws.specs.InterfacesStand.{distinct_under, partner_from, partner_is}
 use Rattle.wit_merging_laws.specs.ListedStand as worlds
-use Rattle.wit_merging_laws.specs.MatchFacts.{goes_to, interface_is, package_is, some_by, some_same, world_is}
-use Rattle.wit_merging_laws.specs.MatchedOnce.{has_some, package_once}
+use Rattle.wit_merging_laws.specs.MatchFacts.{goes_to, package_is, some_by, some_same}
+use Rattle.wit_merging_laws.specs.MatchedOnce.{package_once}
 use Rattle.wit_merging_laws.specs.TypesStand.{matched_some, moved_next}
 
 -- a key that is looked up in vain isn't there

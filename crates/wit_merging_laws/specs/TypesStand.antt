@@ -1,6 +1,6 @@
 -- The types of two graphs that are one: those of the graph stay but for their stability, those of the other stand at
 -- their places, and there are no others but the `own`s that values ask for.
-use Rattle.std.proofs.Common.{◌≡◌, ◌∙◌, ℕ, ◌+◌, ◌<◌, ◌&&◌, Bool, true, false, not, List, [], ◌∷◌, ◌++◌, ◌⊎◌, inl, inr, map, filter, length, cond, is_some, nat_eq, Option, None, Some, option_map, unwrap_or, IsSome, slice_get, refl, sym, ap, subst, arith, Contains, if◌then◌else◌}
+use Rattle.std.proofs.Common.{◌≡◌, ◌∙◌, ℕ, ◌+◌, ◌&&◌, Bool, true, false, not, List, ◌++◌, ◌⊎◌, inl, inr, map, filter, length, is_some, nat_eq, Option, None, Some, option_map, unwrap_or, IsSome, slice_get, refl, sym, ap, subst, arith, if◌then◌else◌}
 use Rattle.std.specs.List.{enumerate_from, list_any, range_with_len}
 use Rattle.std.specs.Option.{option_map_or}
 use Rattle.std.proofs.lemmas.Bool.{cases_Bool, false≢true, lt-ltb}
@@ -28,7 +28,7 @@ use Rattle.wit_growth.specs.PackagesAcyclic.{length-numbered, numbered_from, num
 use Rattle.wit_growth.specs.Referred.{RefersUnder}
 use Rattle.wit_growth.specs.Sources.{IsCarriedType, IsOwnOf, Source, Stands}
 use Rattle.wit_adding.specs.RankFacts.{taken-at, taken_places-at, taken_places-from}
-use Rattle.wit_adding.specs.Ranks.{rank, taken, taken_places}
+use Rattle.wit_adding.specs.Ranks.{rank, taken_places}
 use Rattle.wit_adding.specs.Resources.{leads_to_resource, own_of}
 use Rattle.wit_growth.specs.ReferredFacts.{plain_image}
 use Rattle.wit_merging.specs.Joined.{joined_type, with_type}

@@ -1,14 +1,11 @@
 -- The worlds of two graphs that are one, elaborated: where no interface uses itself and no world is in conflict, they
 -- list the types that they listed and come of the two graphs as before, and each is its own elaboration.
-use Rattle.std.proofs.Common.{◌≡◌, ◌∙◌, ◌⊎◌, inl, inr, ℕ, zero, suc, true, List, [], map, length, Some, slice_get, refl, sym, ap, subst, Contains}
-use Rattle.wit_values.specs.Table.{HasDistinctKeys}
+use Rattle.std.proofs.Common.{◌≡◌, ◌⊎◌, inl, inr, ℕ, List, [], length, Some, slice_get, refl, sym, subst, Contains}
 use Rattle.wit_relations.specs.MemberFacts.{Contains-cons_cases, Contains-flat_map_cases, Contains-nil}
-use Rattle.wit_relations.specs.Relation.{IsAcyclic}
 use Rattle.wit_items.specs.Each.{Each, SomeAt}
 use Rattle.wit_items.specs.Entries.{Entry, HasExports, HasImports, IsExport}
 use Rattle.wit_items.specs.Ownership.{AliasesNamed, IsNamed, world_types}
 use Rattle.wit_items.specs.declared.interface.Interface.{Interface}
-use Rattle.wit_items.specs.declared.types.TypeDef.{TypeDef}
 use Rattle.wit_items.specs.declared.world.World.{World}
 use Rattle.wit_items.specs.declared.world.WorldItem.{WorldItem}
 use Rattle.wit_items.specs.declared.world.WorldItem.TheVariants as item
@@ -19,7 +16,7 @@ use Rattle.wit_graph.proofs.Filters.{Contains-filter, Contains-filtered}
 use Rattle.wit_graph.specs.Elaborated.{Elaborated}
 use Rattle.wit_graph.specs.Elaboration.{graph_uses}
 use Rattle.wit_graph.specs.Entries.{by_class, id_of}
-use Rattle.wit_graph.specs.Imported.{HasConflict, exported_keys}
+use Rattle.wit_graph.specs.Imported.{exported_keys}
 use Rattle.wit_graph.specs.KeptByElaboration.{IsMadeExport, IsMadeImport, IsSettled, IsUsed, is_label, labelled, settled}
 use Rattle.wit_graph.specs.Listed.{IsListed}
 use Rattle.wit_graph.specs.ListedFacts.{lists_in_order}
@@ -27,9 +24,8 @@ use Rattle.wit_graph.specs.Valid.{IsValid}
 use Rattle.wit_graph.specs.declared.graph.Graph.{Graph}
 use Rattle.wit_growth.specs.Covered.{IsCovered, WorldComes}
 use Rattle.wit_growth.specs.CoveredIsValid.{IsGoodWhere-of_covered}
-use Rattle.wit_growth.specs.Cut.{IsGoodWhere, StaysIn}
+use Rattle.wit_growth.specs.Cut.{IsGoodWhere}
 use Rattle.wit_growth.specs.ElaboratedCome.{elaborated_comes}
-use Rattle.wit_growth.specs.GraphSource.{graph_stands}
 use Rattle.wit_growth.specs.Kept.{everything}
 use Rattle.wit_growth.specs.ListFacts.{Contains-map, at_map, contained_at, found_at, from_map, place_of, some_at}
 use Rattle.wit_growth.specs.NamedUses.{IsUsed_named}
@@ -44,7 +40,7 @@ use Rattle.wit_merging_laws.specs.InterfacesStand as interfaces
 use Rattle.wit_merging_laws.specs.ListedStand.{worlds_come}
 use Rattle.wit_merging_laws.specs.MergingLaws.{AreGood, CanElaborate}
 use Rattle.wit_merging_laws.specs.TypesStand as types
-use Rattle.wit_merging_laws.specs.WorldsStand.{entry, graph_stays, joined_covered, joined_stands, listed_by, lists_it, sources_good}
+use Rattle.wit_merging_laws.specs.WorldsStand.{entry, joined_covered, joined_stands, listed_by, lists_it, sources_good}
 
 -- an exported key is that of an interface with a name
 named_key : (interfaces : List Interface) (k : WorldKey) (held : WorldItem) (j : ℕ) → Contains (id_of k) j → IsExport interfaces k held → IsNamed interfaces j

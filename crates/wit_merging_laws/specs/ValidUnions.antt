@@ -1,9 +1,8 @@
 -- What is united of two valid graphs is valid: what is shown of its types, interfaces, worlds and packages, joined.
-use Rattle.wit_graph.specs.Valid.{IsValid}
 use Rattle.wit_growth.specs.CoveredIsValid.{IsValid-of_covered}
 use Rattle.wit_growth.specs.Good.{IsGoodAsAWhole}
 use Rattle.wit_growth.specs.Operations.{merge_sources}
-use Rattle.wit_adding_laws.specs.WorldFacts.{WorldLaws}
+use Rattle.wit_including_laws.specs.WorldLaws.{WorldLaws}
 use Rattle.wit_merging.specs.Moved.{merge_maps}
 use Rattle.wit_merging.specs.United.{united}
 use Rattle.wit_merging_laws.specs.MergingLaws.{CanElaborate, UnionsStayValid}

@@ -1,5 +1,5 @@
 -- Of a valid graph all takes part, so what is cut to what takes part is as it was.
-use Rattle.std.proofs.Common.{◌≡◌, ◌∙◌, ℕ, ◌<◌, suc, Bool, true, List, [], ◌∷◌, cond, filter, length, Some, slice_get, refl, sym, ap}
+use Rattle.std.proofs.Common.{◌≡◌, ◌∙◌, ℕ, suc, Bool, true, List, [], ◌∷◌, cond, filter, length, Some, slice_get, refl, sym, ap}
 use Rattle.std.proofs.lemmas.Bool.{lt-ltb}
 use Rattle.std.proofs.lemmas.Option.{slice_get_within}
 use Rattle.wit_items.specs.Each.{Each}

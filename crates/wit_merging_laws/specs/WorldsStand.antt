@@ -1,6 +1,6 @@
 -- Where matched things differ in nothing, the worlds of the other graph stand among those of the two as one, as they are
 -- listed; so the two graphs stand in it.
-use Rattle.std.proofs.Common.{◌≡◌, ◌∙◌, inl, inr, ℕ, zero, suc, Bool, true, false, not, List, [], ◌∷◌, ◌++◌, map, filter, is_some, Option, None, Some, option_and_then, IsSome, slice_get, refl, sym, ap, subst, Contains}
+use Rattle.std.proofs.Common.{◌≡◌, ◌∙◌, inl, inr, ℕ, zero, suc, true, false, List, [], map, filter, Option, None, Some, IsSome, slice_get, refl, sym, ap, subst, Contains}
 use Rattle.std.specs.Prelude.{codes}
 use Rattle.std.specs.Map.{lookup}
 use Rattle.std.specs.Option.{option_map_or}
@@ -24,23 +24,21 @@ use Rattle.wit_items.specs.declared.world.WorldKey.TheVariants as key
 use Rattle.wit_graph.proofs.FreshEntries.{same_key-true}
 use Rattle.wit_graph.specs.Entries.{same_key}
 use Rattle.wit_graph.specs.Valid.{IsValid}
-use Rattle.wit_graph.specs.declared.graph.Graph.{Graph}
 use Rattle.wit_graph.specs.declared.graph.Package.{Package}
 use Rattle.wit_growth.specs.Covered.{IsCovered}
 use Rattle.wit_growth.specs.Cut.{StaysIn, mapped_source}
-use Rattle.wit_growth.specs.Good.{HasGoodThings}
 use Rattle.wit_growth.specs.GoodIsValid.{good_things}
 use Rattle.wit_growth.specs.GraphSource.{graph_stands, mapped_is_good}
 use Rattle.wit_growth.specs.Image.{entry_image, identity, world_image}
 use Rattle.wit_growth.specs.Kept.{everything}
-use Rattle.wit_growth.specs.ListFacts.{Contains-map, found_at, place_of, some_at}
+use Rattle.wit_growth.specs.ListFacts.{Contains-map, found_at, some_at}
 use Rattle.wit_growth.specs.Operations.{merge_sources}
-use Rattle.wit_growth.specs.Sources.{Carries, IsGoodSource, InterfaceStands, Source, WorldStands}
+use Rattle.wit_growth.specs.Sources.{Carries, IsGoodSource, WorldStands}
 use Rattle.wit_adding.specs.Include.{joined_entry, joined_item}
 use Rattle.wit_merging.specs.Agreement.{same_sort}
 use Rattle.wit_merging.specs.Agreement as differ
 use Rattle.wit_merging.specs.Joined.{is_under_id, joined_world, with_world}
-use Rattle.wit_merging.specs.Matches.{Merging, found_by, found_item, found_type, found_world, partner, world_beside}
+use Rattle.wit_merging.specs.Matches.{Merging, found_by, found_type, found_world, partner, world_beside}
 use Rattle.wit_merging.specs.Moved.{merge_maps, moves_world, type_place, world_place}
 use Rattle.wit_merging.specs.Reasons.{AreOne}
 use Rattle.wit_merging.specs.United.{joined_graph}
