@@ -6,7 +6,6 @@ use wit_items::{
     AstItem, Docs, Interface, InterfaceId, Items, Names, PackageId, PackageName, SourceMap, Span,
     Stability, Table, Text, UnresolvedPackage, UnresolvedPackageGroup,
 };
-use wit_link::is_supported_group;
 use wit_resolve_graph::{Resolve, SourceFault};
 
 fn text(rt: &impl Abort, alloc: Global, text: &str) -> Text {
@@ -127,8 +126,6 @@ fn push_two(
 ) -> ResolveResult<PackageId> {
     assert!(rt; main.is_shaped(alloc).expect(rt, "memory"));
     assert!(rt; dep.is_shaped(alloc).expect(rt, "memory"));
-    assert!(rt; is_supported_group(&main));
-    assert!(rt; is_supported_group(&dep));
     let mut deps = Items::new(alloc);
     deps.push(dep).expect(rt, "memory");
     resolve.push_groups(alloc, main, deps)
@@ -199,7 +196,6 @@ fn pushed_nested(rt: &impl Abort, alloc: Global) -> (Result<usize, u32>, usize, 
     let mut group = group(rt, alloc, "main.wit", package(rt, alloc, "b", "i"));
     group.nested.push(nested).expect(rt, "memory");
     assert!(rt; group.is_shaped(alloc).expect(rt, "memory"));
-    assert!(rt; is_supported_group(&group));
     let answer = resolve.push_group(alloc, group);
     told(&resolve, answer)
 }
