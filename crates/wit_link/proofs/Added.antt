@@ -13,6 +13,7 @@ use Rattle.wit_graph.specs.declared.error_kind.ResolveErrorKind.{ResolveErrorKin
 use Rattle.wit_graph.specs.declared.error_kind.ResolveErrorKind.TheVariants.{OffsetOverflow, OutOfMemory}
 use Rattle.wit_growth.specs.Image.{world_image}
 use Rattle.wit_growth.specs.ListFacts.{contained_at, place_of}
+use Rattle.wit_graph.proofs.Filters.{Contains-filter}
 use Rattle.wit_adding.specs.Addition.{Addition, active_includes, addition_maps, own_worlds, taken_world, world_place}
 use Rattle.wit_adding.specs.Adding.{places_of}
 use Rattle.wit_adding.specs.Cause.{IsAccepted, IsCause, borrow_in_result_15, conflict_4, duplicate_5, excluded_11, excluded_owner_12, gate_unreleased_10, gate_without_version_9, interface_not_found_3, mismatch_8, no_getter_18, not_a_resource_14, not_strongly_unique_17, offset_overflow_27, package_not_found_1, rename_unmatched_16, shadowing_7, type_not_defined_13, world_not_found_2}

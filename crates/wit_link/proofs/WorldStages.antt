@@ -37,10 +37,10 @@ adding-none a g is = record { graph = is; fine = λ i before. absurd (omega (ari
 
 module _ (a : Addition) (done rest : List PlacedWorld) (placed : PlacedWorld) (g : Graph) (is : IsAdding a done g) (are : done ++ placed ∷ rest ≡ ready_worlds a) where
   -- the world whose turn it is
-  from : (e : ℕ × World) × (slice_get (own_worlds a) (length done) ≡ Some e) × (ready_world a e ≡ placed)
+  abbrev from : (e : ℕ × World) × (slice_get (own_worlds a) (length done) ≡ Some e) × (ready_world a e ≡ placed)
   from = from_map (ready_world a) (own_worlds a) (length done) placed (subst (λ (l : List PlacedWorld). slice_get l (length done) ≡ Some placed) are (slice_get-behind done rest placed))
 
-  turn : AtWorld a (length done)
+  abbrev turn : AtWorld a (length done)
   turn = record { place = from.0.0; world = from.0.1; is = from.1 }
 
   -- what is told of the stage is told of the graph and the world

@@ -1,5 +1,5 @@
 use Rattle.std.proofs.Common.{rules, ◌≡◌, ◌∙◌, ◌⊎◌, ◌++◌, ◌∷◌, [], ℕ, List, IfErr, IsErrAnd, Result, Ok, Err, length, ap, subst, sym}
-use Rattle.std.proofs.lemmas.List.{append_assoc}
+use Rattle.std.proofs.lemmas.List.{append_assoc, append-nil}
 use Rattle.std.specs.Vec.Iter.{into_iter_items}
 use Rattle.wit_graph.specs.Valid.{IsValid}
 use Rattle.wit_graph.specs.declared.error_kind.ResolveErrorKind.{ResolveErrorKind}
@@ -8,6 +8,7 @@ use Rattle.wit_graph.specs.declared.graph.Graph.{Graph}
 use Rattle.wit_adding.specs.Cause.{IsCause}
 use Rattle.wit_including.specs.Included as local
 use Rattle.wit_placing.specs.GrownFacts.{Grown-then}
+use Rattle.wit_placing.specs.declared.worlds.PlacedWorld.{PlacedWorld}
 use Rattle.wit_link.specs.Appending.{IsAdded, addition}
 use Rattle.wit_link.specs.Including.{ready_worlds}
 use Rattle.wit_link.proofs.Added.{checked_image, is_added}
@@ -55,7 +56,8 @@ loop-placed-preserved c =
 pub returns-clause-ok : goal.returns-clause-ok
 returns-clause-ok c =
     let a = addition c.args.features.now c.args.graph.now c.args.package c.args.span_offset in
-    let are : c.loop-placed.yielded ≡ ready_worlds a = search rules in
+    let none : into_iter_items c.loop-placed.placed-iterator ≡ [] = search rules in
+    let are : c.loop-placed.yielded ≡ ready_worlds a = sym (append-nil c.loop-placed.yielded) ∙ ap (λ (l : List PlacedWorld). c.loop-placed.yielded ++ l) (sym none) ∙ c.loop-placed.invariant.left in
     let id : c.from_index-id.result ≡ length c.args.graph.now.packages = search rules in
     let reached = all_reached a c.loop-placed.yielded c.loop-placed.graph c.loop-placed.invariant.adding are in
     subst (IsAdded a c.loop-placed.graph) (sym id)
@@ -64,7 +66,8 @@ returns-clause-ok c =
 pub returns-clause-valid : goal.returns-clause-valid
 returns-clause-valid c =
     let a = addition c.args.features.now c.args.graph.now c.args.package c.args.span_offset in
-    let are : c.loop-placed.yielded ≡ ready_worlds a = search rules in
+    let none : into_iter_items c.loop-placed.placed-iterator ≡ [] = search rules in
+    let are : c.loop-placed.yielded ≡ ready_worlds a = sym (append-nil c.loop-placed.yielded) ∙ ap (λ (l : List PlacedWorld). c.loop-placed.yielded ++ l) (sym none) ∙ c.loop-placed.invariant.left in
     let reached = all_reached a c.loop-placed.yielded c.loop-placed.graph c.loop-placed.invariant.adding are in
     subst IsValid (sym (all_pushed a c.loop-placed.yielded c.loop-placed.graph c.loop-placed.invariant.adding are))
     (c.pushes_stay_valid.ensures a c.requires.valid c.requires.shaped (checked_image a c.requires.checked) c.requires.new.absent reached)
