@@ -72,24 +72,24 @@ module _ (offset : ℕ) where
   abbrev AllFit : List Place → Type 0
   AllFit spans = Each (Fits offset) spans
 
-  all_kind : (k : TypeDefKind) → KindFits offset k → AllFit (kind_spans k)
+  all_kind : (k : TypeDefKind) → KindFits (Fits offset) k → AllFit (kind_spans k)
   all_kind (kind.Record fields) fits = Each-map (λ (f : Field). f.span) (Fits offset) fields fits
   all_kind (kind.Variant cases) fits = Each-map (λ (c : Case). c.span) (Fits offset) cases fits
   all_kind (kind.Flags flags) fits = Each-map (λ (f : Flag). f.span) (Fits offset) flags fits
   all_kind (kind.Enum cases) fits = Each-map (λ (c : EnumCase). c.span) (Fits offset) cases fits
   all_kind other fits = λ i place at. cc
 
-  kind_fits : (k : TypeDefKind) → AllFit (kind_spans k) → KindFits offset k
+  kind_fits : (k : TypeDefKind) → AllFit (kind_spans k) → KindFits (Fits offset) k
   kind_fits (kind.Record fields) all = Each-unmapped (Fits offset) (λ (f : Field). Fits offset f.span) (λ (f : Field). f.span) fields (λ f h. h) all
   kind_fits (kind.Variant cases) all = Each-unmapped (Fits offset) (λ (c : Case). Fits offset c.span) (λ (c : Case). c.span) cases (λ c h. h) all
   kind_fits (kind.Flags flags) all = Each-unmapped (Fits offset) (λ (f : Flag). Fits offset f.span) (λ (f : Flag). f.span) flags (λ f h. h) all
   kind_fits (kind.Enum cases) all = Each-unmapped (Fits offset) (λ (c : EnumCase). Fits offset c.span) (λ (c : EnumCase). c.span) cases (λ c h. h) all
   kind_fits other all = tt
 
-  all_type : (def : TypeDef) → TypeFits offset def → AllFit (type_spans def)
+  all_type : (def : TypeDef) → TypeFits (Fits offset) def → AllFit (type_spans def)
   all_type def fits = Each-cons (Fits offset) def.span (kind_spans def.kind) fits.own (all_kind def.kind fits.parts)
 
-  type_fits : (def : TypeDef) → AllFit (type_spans def) → TypeFits offset def
+  type_fits : (def : TypeDef) → AllFit (type_spans def) → TypeFits (Fits offset) def
   type_fits def all = record {
     own = Each-head (Fits offset) def.span (kind_spans def.kind) all;
     parts = kind_fits def.kind (Each-tail (Fits offset) def.span (kind_spans def.kind) all);
@@ -98,10 +98,10 @@ module _ (offset : ℕ) where
   abbrev param_spans : Function → List Place
   param_spans f = map (λ (p : Param). p.span) f.params
 
-  all_function : (f : Function) → FunctionFits offset f → AllFit (function_spans f)
+  all_function : (f : Function) → FunctionFits (Fits offset) f → AllFit (function_spans f)
   all_function f fits = Each-cons (Fits offset) f.span (param_spans f) fits.own (Each-map (λ (p : Param). p.span) (Fits offset) f.params fits.params)
 
-  function_fits : (f : Function) → AllFit (function_spans f) → FunctionFits offset f
+  function_fits : (f : Function) → AllFit (function_spans f) → FunctionFits (Fits offset) f
   function_fits f all = record {
     own = Each-head (Fits offset) f.span (param_spans f) all;
     params = Each-unmapped (Fits offset) (λ (p : Param). Fits offset p.span) (λ (p : Param). p.span) f.params (λ p h. h) (Each-tail (Fits offset) f.span (param_spans f) all);
@@ -111,14 +111,14 @@ module _ (offset : ℕ) where
   named_spans e = function_spans e.1
 
   abbrev NamedFits : List ℕ × Function → Type 0
-  NamedFits e = FunctionFits offset e.1
+  NamedFits e = FunctionFits (Fits offset) e.1
 
-  all_interface : (interface : Interface) → InterfaceFits offset interface → AllFit (interface_spans interface)
+  all_interface : (interface : Interface) → InterfaceFits (Fits offset) interface → AllFit (interface_spans interface)
   all_interface interface fits =
       Each-cons (Fits offset) interface.span (flat_map named_spans interface.functions) fits.own
       (Each-flat (Fits offset) NamedFits named_spans (λ e h. all_function e.1 h) interface.functions fits.functions)
 
-  interface_fits : (interface : Interface) → AllFit (interface_spans interface) → InterfaceFits offset interface
+  interface_fits : (interface : Interface) → AllFit (interface_spans interface) → InterfaceFits (Fits offset) interface
   interface_fits interface all = record {
     own = Each-head (Fits offset) interface.span (flat_map named_spans interface.functions) all;
     functions =
@@ -126,12 +126,12 @@ module _ (offset : ℕ) where
         (Each-tail (Fits offset) interface.span (flat_map named_spans interface.functions) all);
   }
 
-  all_item : (held : WorldItem) → ItemFits offset held → AllFit (item_spans held)
+  all_item : (held : WorldItem) → ItemFits (Fits offset) held → AllFit (item_spans held)
   all_item (item.Interface id stability docs span external_id) fits = Each-cons (Fits offset) span [] fits (λ i place at. cc)
   all_item (item.Function f) fits = all_function f fits
   all_item (item.Type_ id span) fits = Each-cons (Fits offset) span [] fits (λ i place at. cc)
 
-  item_fits : (held : WorldItem) → AllFit (item_spans held) → ItemFits offset held
+  item_fits : (held : WorldItem) → AllFit (item_spans held) → ItemFits (Fits offset) held
   item_fits (item.Interface id stability docs span external_id) all = Each-head (Fits offset) span [] all
   item_fits (item.Function f) all = function_fits f all
   item_fits (item.Type_ id span) all = Each-head (Fits offset) span [] all
@@ -140,7 +140,7 @@ module _ (offset : ℕ) where
   entry_spans e = item_spans e.1
 
   abbrev EntryFits : Entry → Type 0
-  EntryFits e = ItemFits offset e.1
+  EntryFits e = ItemFits (Fits offset) e.1
 
   abbrev include_spans : List WorldInclude → List Place
   include_spans includes = map (λ (i : WorldInclude). i.span) includes
@@ -148,10 +148,10 @@ module _ (offset : ℕ) where
   abbrev IncludeFits : WorldInclude → Type 0
   IncludeFits i = Fits offset i.span
 
-  all_entries : (entries : List Entry) → EntriesFit offset entries → AllFit (flat_map entry_spans entries)
+  all_entries : (entries : List Entry) → EntriesFit (Fits offset) entries → AllFit (flat_map entry_spans entries)
   all_entries entries fits = Each-flat (Fits offset) EntryFits entry_spans (λ e h. all_item e.1 h) entries fits
 
-  entries_fit : (entries : List Entry) → AllFit (flat_map entry_spans entries) → EntriesFit offset entries
+  entries_fit : (entries : List Entry) → AllFit (flat_map entry_spans entries) → EntriesFit (Fits offset) entries
   entries_fit entries all = Each-unflat (Fits offset) EntryFits entry_spans (λ e h. item_fits e.1 h) entries all
 
   abbrev world_rest : World → List Place
@@ -205,8 +205,8 @@ module _ (offset : ℕ) where
 
   all_package : (u : UnresolvedPackage) → PackageFits offset u → AllFit (package_spans u)
   all_package u fits =
-      let types = Each-flat (Fits offset) (TypeFits offset) type_spans all_type u.types fits.types in
-      let interfaces = Each-flat (Fits offset) (InterfaceFits offset) interface_spans all_interface u.interfaces fits.interfaces in
+      let types = Each-flat (Fits offset) (TypeFits (Fits offset)) type_spans all_type u.types fits.types in
+      let interfaces = Each-flat (Fits offset) (InterfaceFits (Fits offset)) interface_spans all_interface u.interfaces fits.interfaces in
       let worlds = Each-flat (Fits offset) (WholeWorldFits offset) world_spans all_world u.worlds fits.worlds in
       let required : AllFit (required_spans u) = Each-map (λ (r : ℕ × Place). r.1) (Fits offset) u.required_resource_types fits.foreign.required in
       Each-cons (Fits offset) u.package_name_span (after_name u) fits.name
@@ -232,9 +232,9 @@ module _ (offset : ℕ) where
               Each-unmapped (Fits offset) RequiredFit (λ (r : ℕ × Place). r.1) u.required_resource_types (λ r h. h)
               (Each-left (Fits offset) (required_spans u) (after_required u) behind_unknown);
         };
-        types = Each-unflat (Fits offset) (TypeFits offset) type_spans type_fits u.types (Each-left (Fits offset) (flat_map type_spans u.types) (after_types u) behind_required);
+        types = Each-unflat (Fits offset) (TypeFits (Fits offset)) type_spans type_fits u.types (Each-left (Fits offset) (flat_map type_spans u.types) (after_types u) behind_required);
         interfaces =
-            Each-unflat (Fits offset) (InterfaceFits offset) interface_spans interface_fits u.interfaces
+            Each-unflat (Fits offset) (InterfaceFits (Fits offset)) interface_spans interface_fits u.interfaces
             (Each-left (Fits offset) (flat_map interface_spans u.interfaces) (flat_map world_spans u.worlds) behind_types);
         worlds =
             Each-unflat (Fits offset) (WholeWorldFits offset) world_spans world_fits u.worlds

@@ -13,7 +13,7 @@ use Rattle.wit_placing.specs.Fits.{Fits, InterfaceFits, TypeFits, WorldFits}
 
 -- those of a world with its entries, and of its includes
 pub record WholeWorldFits (offset : ℕ) (world : World) : Type 0 where
-  pub entries : WorldFits offset world
+  pub entries : WorldFits (Fits offset) world
   pub includes : Each (λ (i : WorldInclude). Fits offset i.span) world.includes
 
 -- that of a type that has to be a resource
@@ -30,8 +30,8 @@ pub record ForeignFits (offset : ℕ) (u : UnresolvedPackage) : Type 0 where
 pub record PackageFits (offset : ℕ) (u : UnresolvedPackage) : Type 0 where
   pub name : Fits offset u.package_name_span
   pub foreign : ForeignFits offset u
-  pub types : Each (TypeFits offset) u.types
-  pub interfaces : Each (InterfaceFits offset) u.interfaces
+  pub types : Each (TypeFits (Fits offset)) u.types
+  pub interfaces : Each (InterfaceFits (Fits offset)) u.interfaces
   pub worlds : Each (WholeWorldFits offset) u.worlds
 
 -- the refusal of a package whose name is there: that it is there, with the place of the name, or that this

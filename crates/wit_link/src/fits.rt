@@ -72,20 +72,20 @@ fn required_fit(required: &[(TypeId, Span)], offset: u32) -> bool
 }
 
 fn types_fit(types: &[TypeDef], offset: u32) -> bool
-    ensures { IsTrue result ↔ Each (TypeFits offset) types.now }
+    ensures { IsTrue result ↔ Each (TypeFits (Fits offset)) types.now }
 {
     types.iter().all(|def| type_fits(def, offset))
 }
 
 fn type_fits(def: &TypeDef, offset: u32) -> bool
-    ensures { IsTrue result ↔ TypeFits offset def.now }
+    ensures { IsTrue result ↔ TypeFits (Fits offset) def.now }
 {
     fits(def.span, offset) && kind_fits(&def.kind, offset)
 }
 
 /// Whether the spans of the parts of a kind fit.
 fn kind_fits(kind: &TypeDefKind, offset: u32) -> bool
-    ensures { IsTrue result ↔ KindFits offset kind.now }
+    ensures { IsTrue result ↔ KindFits (Fits offset) kind.now }
 {
     match kind {
         TypeDefKind::Record { fields } => fields_fit(fields.as_slice(), offset),
@@ -121,7 +121,7 @@ fn enum_cases_fit(cases: &[EnumCase], offset: u32) -> bool
 }
 
 fn interfaces_fit(interfaces: &[Interface], offset: u32) -> bool
-    ensures { IsTrue result ↔ Each (InterfaceFits offset) interfaces.now }
+    ensures { IsTrue result ↔ Each (InterfaceFits (Fits offset)) interfaces.now }
 {
     interfaces
         .iter()
@@ -129,13 +129,13 @@ fn interfaces_fit(interfaces: &[Interface], offset: u32) -> bool
 }
 
 fn interface_fits(interface: &Interface, offset: u32) -> bool
-    ensures { IsTrue result ↔ InterfaceFits offset interface.now }
+    ensures { IsTrue result ↔ InterfaceFits (Fits offset) interface.now }
 {
     fits(interface.span, offset) && functions_fit(interface, offset)
 }
 
 fn functions_fit(interface: &Interface, offset: u32) -> bool
-    ensures { IsTrue result ↔ Each (λ (e : List ℕ × Function). FunctionFits offset e.1) interface.now.functions }
+    ensures { IsTrue result ↔ Each (λ (e : List ℕ × Function). FunctionFits (Fits offset) e.1) interface.now.functions }
 {
     for index in 0..interface.functions.len() {
         let (_, function) = interface.functions.entry_at(index);
@@ -147,7 +147,7 @@ fn functions_fit(interface: &Interface, offset: u32) -> bool
 }
 
 fn function_fits(function: &Function, offset: u32) -> bool
-    ensures { IsTrue result ↔ FunctionFits offset function.now }
+    ensures { IsTrue result ↔ FunctionFits (Fits offset) function.now }
 {
     fits(function.span, offset) && params_fit(function.params.as_slice(), offset)
 }
@@ -171,7 +171,7 @@ fn world_fits(world: &World, offset: u32) -> bool
 }
 
 fn world_and_entries_fit(world: &World, offset: u32) -> bool
-    ensures { IsTrue result ↔ WorldFits offset world.now }
+    ensures { IsTrue result ↔ WorldFits (Fits offset) world.now }
 {
     fits(world.span, offset)
         && entries_fit(&world.imports, offset)
@@ -179,7 +179,7 @@ fn world_and_entries_fit(world: &World, offset: u32) -> bool
 }
 
 fn entries_fit(entries: &Table<WorldKey, WorldItem>, offset: u32) -> bool
-    ensures { IsTrue result ↔ EntriesFit offset entries.now }
+    ensures { IsTrue result ↔ EntriesFit (Fits offset) entries.now }
 {
     for index in 0..entries.len() {
         let (_, item) = entries.entry_at(index);
@@ -191,7 +191,7 @@ fn entries_fit(entries: &Table<WorldKey, WorldItem>, offset: u32) -> bool
 }
 
 fn item_fits(item: &WorldItem, offset: u32) -> bool
-    ensures { IsTrue result ↔ ItemFits offset item.now }
+    ensures { IsTrue result ↔ ItemFits (Fits offset) item.now }
 {
     match item {
         WorldItem::Interface { span, .. } => fits(*span, offset),
