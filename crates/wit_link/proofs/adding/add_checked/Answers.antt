@@ -76,3 +76,15 @@ returns-clause-valid c =
     let reached = all_reached a c.loop-placed.yielded c.loop-placed.graph c.loop-placed.invariant.adding are in
     subst IsValid (sym (all_pushed a c.loop-placed.yielded c.loop-placed.graph c.loop-placed.invariant.adding are))
     (c.pushes_stay_valid.ensures a c.requires.valid c.requires.shaped (checked_image a c.requires.checked) c.requires.new.absent reached)
+
+pub returns-in_err-elaborator-2-clause-cause : goal.returns-in_err-elaborator-2-clause-cause
+returns-in_err-elaborator-2-clause-cause c =
+    let a = addition c.args.features.now c.args.graph.now c.args.package c.args.span_offset in
+    let are : c.loop-placed.yielded ++ c.in-Some.placed ∷ into_iter_items c.next.new.self ≡ ready_worlds a = search rules in
+    let id : c.from_index-id.result ≡ length c.args.graph.now.packages = search rules in
+    told_err c.from_residual-in_err-elaborator-2.result c.from_residual-in_err-elaborator-2.ensures.1
+    (λ e is.
+    let same : e ≡ c.in_err-elaborator-2.field-0.0 = is in
+    subst (λ (x : ResolveErrorKind). (x ≡ OutOfMemory) ⊎ IsCause a x) (sym same)
+    (refused_here a c.loop-placed.yielded (into_iter_items c.next.new.self) c.in-Some.placed c.loop-placed.graph c.loop-placed.invariant.adding are (checked_image a c.requires.checked) c.in_err-elaborator-2.field-0.0
+    (subst (λ (home : ℕ). (c.in_err-elaborator-2.field-0.0 ≡ OutOfMemory) ⊎ local.IsWorldCause home c.loop-placed.graph c.in-Some.placed.world c.in-Some.placed.includes c.in_err-elaborator-2.field-0.0) id c.in_err-elaborator-2.ensures.cause)))
