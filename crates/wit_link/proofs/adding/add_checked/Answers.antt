@@ -1,6 +1,7 @@
-use Rattle.std.proofs.Common.{rules, ◌≡◌, ◌∙◌, ◌⊎◌, ◌++◌, ◌∷◌, [], ℕ, List, IfErr, IsErrAnd, Result, Ok, Err, length, ap, subst, sym}
+use Rattle.std.proofs.Common.{rules, arith, ◌≡◌, ◌∙◌, ◌⊎◌, ◌++◌, ◌∷◌, [], ℕ, List, IfErr, IsErrAnd, Result, Ok, Err, length, ap, subst, sym}
 use Rattle.std.proofs.lemmas.List.{append_assoc, append-nil}
 use Rattle.std.specs.Vec.Iter.{into_iter_items}
+use Rattle.wit_items.specs.EachFacts.{nil_from_length}
 use Rattle.wit_graph.specs.Valid.{IsValid}
 use Rattle.wit_graph.specs.declared.error_kind.ResolveErrorKind.{ResolveErrorKind}
 use Rattle.wit_graph.specs.declared.error_kind.ResolveErrorKind.TheVariants.{OutOfMemory}
@@ -56,7 +57,9 @@ loop-placed-preserved c =
 pub returns-clause-ok : goal.returns-clause-ok
 returns-clause-ok c =
     let a = addition c.args.features.now c.args.graph.now c.args.package c.args.span_offset in
-    let none : into_iter_items c.loop-placed.placed-iterator ≡ [] = search rules in
+    let over = c.in-None.ensures.steps.0 in
+    let long = c.loop-placed.placed-iterator.rest.ok.0 in
+    let none : into_iter_items c.loop-placed.placed-iterator ≡ [] = nil_from_length (into_iter_items c.loop-placed.placed-iterator) (omega (arith, over, long)) in
     let are : c.loop-placed.yielded ≡ ready_worlds a = sym (append-nil c.loop-placed.yielded) ∙ ap (λ (l : List PlacedWorld). c.loop-placed.yielded ++ l) (sym none) ∙ c.loop-placed.invariant.left in
     let id : c.from_index-id.result ≡ length c.args.graph.now.packages = search rules in
     let reached = all_reached a c.loop-placed.yielded c.loop-placed.graph c.loop-placed.invariant.adding are in
@@ -66,8 +69,22 @@ returns-clause-ok c =
 pub returns-clause-valid : goal.returns-clause-valid
 returns-clause-valid c =
     let a = addition c.args.features.now c.args.graph.now c.args.package c.args.span_offset in
-    let none : into_iter_items c.loop-placed.placed-iterator ≡ [] = search rules in
+    let over = c.in-None.ensures.steps.0 in
+    let long = c.loop-placed.placed-iterator.rest.ok.0 in
+    let none : into_iter_items c.loop-placed.placed-iterator ≡ [] = nil_from_length (into_iter_items c.loop-placed.placed-iterator) (omega (arith, over, long)) in
     let are : c.loop-placed.yielded ≡ ready_worlds a = sym (append-nil c.loop-placed.yielded) ∙ ap (λ (l : List PlacedWorld). c.loop-placed.yielded ++ l) (sym none) ∙ c.loop-placed.invariant.left in
     let reached = all_reached a c.loop-placed.yielded c.loop-placed.graph c.loop-placed.invariant.adding are in
     subst IsValid (sym (all_pushed a c.loop-placed.yielded c.loop-placed.graph c.loop-placed.invariant.adding are))
     (c.pushes_stay_valid.ensures a c.requires.valid c.requires.shaped (checked_image a c.requires.checked) c.requires.new.absent reached)
+
+pub returns-in_err-elaborator-2-clause-cause : goal.returns-in_err-elaborator-2-clause-cause
+returns-in_err-elaborator-2-clause-cause c =
+    let a = addition c.args.features.now c.args.graph.now c.args.package c.args.span_offset in
+    let are : c.loop-placed.yielded ++ c.in-Some.placed ∷ into_iter_items c.next.new.self ≡ ready_worlds a = search rules in
+    let id : c.from_index-id.result ≡ length c.args.graph.now.packages = search rules in
+    told_err c.from_residual-in_err-elaborator-2.result c.from_residual-in_err-elaborator-2.ensures.1
+    (λ e is.
+    let same : e ≡ c.in_err-elaborator-2.field-0.0 = is in
+    subst (λ (x : ResolveErrorKind). (x ≡ OutOfMemory) ⊎ IsCause a x) (sym same)
+    (refused_here a c.loop-placed.yielded (into_iter_items c.next.new.self) c.in-Some.placed c.loop-placed.graph c.loop-placed.invariant.adding are (checked_image a c.requires.checked) c.in_err-elaborator-2.field-0.0
+    (subst (λ (home : ℕ). (c.in_err-elaborator-2.field-0.0 ≡ OutOfMemory) ⊎ local.IsWorldCause home c.loop-placed.graph c.in-Some.placed.world c.in-Some.placed.includes c.in_err-elaborator-2.field-0.0) id c.in_err-elaborator-2.ensures.cause)))
