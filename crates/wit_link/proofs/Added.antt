@@ -22,7 +22,7 @@ use Rattle.wit_adding.specs.Pushed.{pushed}
 use Rattle.wit_adding.specs.WorldReasons.{WorldIsFine}
 use Rattle.wit_adding.specs.Passed.{has_image}
 use Rattle.wit_adding.specs.Reasons.{HasImage, HasPackage, PassesTheEnd}
-use Rattle.wit_adding_laws.specs.OwnThings.{own_world_from}
+use Rattle.wit_adding.specs.OwnThingFacts.{own_world_from}
 use Rattle.wit_including.specs.AdditionFacts.{placed_include, placed_includes}
 use Rattle.wit_placing.specs.Added.{added_world}
 use Rattle.wit_placing.specs.Movers.{goes, id_or}
