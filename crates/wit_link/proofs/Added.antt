@@ -1,54 +1,47 @@
--- An addition that passes each of its steps is accepted, and what comes of it is valid.
-use Rattle.std.proofs.Common.{◌≡◌, ◌≢◌, ◌∙◌, ◌⊎◌, inl, inr, ℕ, ◌+◌, ◌<◌, ◌^◌, zero, suc, true, false, List, [], ◌∷◌, Option, None, Some, length, map, slice_get, refl, sym, ap, subst, is_some}
-use Rattle.std.specs.List.{AllByRecursion}
+-- An addition that passes each of its steps is accepted.
+use Rattle.std.proofs.Common.{◌≡◌, ◌≢◌, ◌∙◌, ◌⊎◌, inl, inr, ℕ, ◌+◌, ◌<◌, ◌^◌, zero, suc, true, false, List, [], ◌∷◌, Option, None, Some, unwrap_or, length, map, slice_get, refl, sym, ap, subst, is_some, arith, Contains}
+use Rattle.std.proofs.lemmas.List.FromFn.{get_or-map-range_with_len, length-map-range_with_len}
+use Rattle.std.proofs.lemmas.Option.{slice_get-get_or, slice_get_within}
 use Rattle.std.specs.Map.{lookup}
+use Rattle.wit_sources.specs.Span.{moved_by}
 use Rattle.wit_items.specs.PackageOrder.{same_package}
 use Rattle.wit_items.specs.Shape.{IsShaped}
 use Rattle.wit_items.specs.declared.world.World.{World}
-use Rattle.wit_relations.specs.Relation.{IsAcyclic}
-use Rattle.wit_graph.specs.Elaboration.{graph_uses}
-use Rattle.wit_graph.specs.Listed.{IsListed}
-use Rattle.wit_graph.specs.Valid.{IsValid}
+use Rattle.wit_items.specs.declared.world.WorldInclude.{WorldInclude}
 use Rattle.wit_graph.specs.declared.graph.Graph.{Graph}
 use Rattle.wit_graph.specs.declared.error_kind.ResolveErrorKind.{ResolveErrorKind}
 use Rattle.wit_graph.specs.declared.error_kind.ResolveErrorKind.TheVariants.{OffsetOverflow, OutOfMemory}
-use Rattle.wit_growth.specs.ListFacts.{from_map}
-use Rattle.wit_labels.specs.Setters.{placed}
-use Rattle.wit_values.specs.Lists.{AllByRecursion-at}
-use Rattle.wit_adding.specs.Addition.{Addition, own_worlds}
+use Rattle.wit_growth.specs.Image.{world_image}
+use Rattle.wit_growth.specs.ListFacts.{contained_at, place_of}
+use Rattle.wit_graph.proofs.Filters.{Contains-filter}
+use Rattle.wit_adding.specs.Addition.{Addition, active_includes, addition_maps, own_worlds, taken_world, world_place}
+use Rattle.wit_adding.specs.Adding.{places_of}
 use Rattle.wit_adding.specs.Cause.{IsAccepted, IsCause, borrow_in_result_15, conflict_4, duplicate_5, excluded_11, excluded_owner_12, gate_unreleased_10, gate_without_version_9, interface_not_found_3, mismatch_8, no_getter_18, not_a_resource_14, not_strongly_unique_17, offset_overflow_27, package_not_found_1, rename_unmatched_16, shadowing_7, type_not_defined_13, world_not_found_2}
-use Rattle.wit_adding.specs.Pushed.{with_parts}
+use Rattle.wit_adding.specs.Gates.{include_is_active}
+use Rattle.wit_adding.specs.Pushed.{pushed}
 use Rattle.wit_adding.specs.WorldReasons.{WorldIsFine}
 use Rattle.wit_adding.specs.Passed.{has_image}
 use Rattle.wit_adding.specs.Reasons.{HasImage, HasPackage, PassesTheEnd}
-use Rattle.wit_adding_laws.specs.AcyclicFacts.{added_uses_acyclic}
-use Rattle.wit_adding_laws.specs.ListedWorlds.{listed_worlds}
-use Rattle.wit_adding_laws.specs.Parts.{HasParts}
-use Rattle.wit_adding_laws.specs.StageFacts.{PushesStayValid}
-use Rattle.wit_finishing.specs.Finished.{CanFinish, StopsAt, with_all_finished}
+use Rattle.wit_adding_laws.specs.OwnThings.{own_world_from}
+use Rattle.wit_including.specs.AdditionFacts.{placed_include, placed_includes}
 use Rattle.wit_placing.specs.Added.{added_world}
+use Rattle.wit_placing.specs.Movers.{goes, id_or}
 use Rattle.wit_placing.specs.declared.worlds.PlacedWorld.{PlacedWorld}
 use Rattle.wit_link.specs.Appending.{IsAdded}
 use Rattle.wit_link.specs.Checked.{IsChecked, IsNew}
 use Rattle.wit_link.specs.Fits.{IsNameTaken, PackageFits}
-use Rattle.wit_link.specs.Images.{image_of, images}
-use Rattle.wit_link.specs.Supported.{IsSupported}
-use Rattle.wit_link.proofs.WorldsAreFine.{image_at, includes_are_fine, stop_is_cause, world_is_fine}
+use Rattle.wit_link.specs.Including.{include_at, ready_world, ready_worlds, world_with}
 use Rattle.wit_link.proofs.FitsIsExact.{fitting_passes_not, passes-of_not_fitting}
-use Rattle.wit_link.proofs.Stages.{pushed_is}
 
-module _ (a : Addition) (supported : IsSupported a.handed) (is_new : IsNew a) (checked : IsChecked a) (fine : AllByRecursion (CanFinish (with_parts a)) (images a)) where
-  each_world : (k : ℕ) → WorldIsFine a k
-  each_world k = world_is_fine a supported k (λ at. AllByRecursion-at (CanFinish (with_parts a)) (images a) k (image_of a (at.place, at.world)) fine (image_at a supported k at))
-
+module _ (a : Addition) (is_new : IsNew a) (checked : IsChecked a) (each_world : (k : ℕ) → WorldIsFine a k) where
   pub is_accepted : IsAccepted a
   is_accepted _ (package_not_found_1 span requested known is) = checked.found.packages span requested known is
   is_accepted _ (world_not_found_2 span requested home is) = checked.found.worlds span requested home is
   is_accepted _ (interface_not_found_3 span requested home is) = checked.found.interfaces span requested home is
   is_accepted _ (conflict_4 k span name reached is) = (each_world k).exports span name is
   is_accepted _ (duplicate_5 name span1 span2 is) = is_new.absent is.there
-  is_accepted _ (shadowing_7 k j span word name reached is) = (includes_are_fine a supported k j).unshadowed span word name is
-  is_accepted _ (mismatch_8 k j span from into reached is) = (includes_are_fine a supported k j).agrees span from into is
+  is_accepted _ (shadowing_7 k j span word name reached is) = ((each_world k).includes j).unshadowed span word name is
+  is_accepted _ (mismatch_8 k j span from into reached is) = ((each_world k).includes j).agrees span from into is
   is_accepted _ (gate_without_version_9 span message is) = checked.met.version span message is
   is_accepted _ (gate_unreleased_10 span message is) = checked.met.released span message is
   is_accepted _ (excluded_11 span message is) = checked.needs.references span message is
@@ -56,14 +49,14 @@ module _ (a : Addition) (supported : IsSupported a.handed) (is_new : IsNew a) (c
   is_accepted _ (type_not_defined_13 span message is) = checked.found.types span message is
   is_accepted _ (not_a_resource_14 span message is) = checked.resources span message is
   is_accepted _ (borrow_in_result_15 span message is) = checked.no_borrow span message is
-  is_accepted _ (rename_unmatched_16 k j span message reached is) = (includes_are_fine a supported k j).renames span message is
+  is_accepted _ (rename_unmatched_16 k j span message reached is) = ((each_world k).includes j).renames span message is
   is_accepted _ (not_strongly_unique_17 k span message reached is) = (each_world k).labels span message is
   is_accepted _ (no_getter_18 k span message reached is) = (each_world k).setters span message is
   is_accepted _ (offset_overflow_27 is) = is_new.fits is
 
   -- and it is added
-  pub is_added : IsAdded a (with_all_finished (with_parts a) (images a)) (length a.graph.packages)
-  is_added = record { accepted = is_accepted; graph_is = sym (pushed_is a supported); id_is = refl }
+  pub is_added : (new : Graph) → new ≡ pushed a → IsAdded a new (length a.graph.packages)
+  is_added new is = record { accepted = is_accepted; graph_is = is; id_is = refl }
 
 -- ---- refusals before anything else is looked at
 
@@ -97,39 +90,45 @@ checked_image a checked = has_image a checked.met checked.needs checked.found
 
 -- ---- the worlds at their places
 
-map_twice : {X Y Z : Type 0} (f : Y → Z) (g : X → Y) (xs : List X) → map f (map g xs) ≡ map (λ x. f (g x)) xs
-map_twice f g [] = refl
-map_twice f g (x ∷ xs) = ap (λ l. f (g x) ∷ l) (map_twice f g xs)
+map_twice : {X Y Z : Type 0} (f : Y → Z) (g : X → Y) (h : X → Z) (xs : List X) → ((i : ℕ) (x : X) → slice_get xs i ≡ Some x → f (g x) ≡ h x) → map f (map g xs) ≡ map h xs
+map_twice f g h [] each = refl
+map_twice f g h (x ∷ xs) each = rw (each 0 x refl, map_twice f g h xs (λ i. each (suc i))) refl
 
-pub placed_images : (a : Addition) → map (λ (p : PlacedWorld). p.world) (map (added_world a) (own_worlds a)) ≡ images a
-placed_images a = map_twice (λ (p : PlacedWorld). p.world) (added_world a) (own_worlds a)
+-- a world that the package has goes where it goes
+place_is : (a : Addition) (w : ℕ) → w < length a.handed.worlds → goes (places_of a).worlds w ≡ world_place a w
+place_is a w within =
+    let n = length a.handed.worlds in
+    let long : length (places_of a).worlds ≡ length a.handed.worlds = length-map-range_with_len (taken_world a) 0 (length a.handed.worlds) in
+    let inside : w < length (places_of a).worlds = omega (arith, long, within) in
+    let at : slice_get (places_of a).worlds w ≡ Some (taken_world a w) =
+    slice_get-get_or (places_of a).worlds w None inside ∙ ap Some (get_or-map-range_with_len (taken_world a) 0 (length a.handed.worlds) w w None within (omega arith)) in
+    ap (id_or w) at ∙ by (taken_world a w)
+  where
+    by : (o : Option ℕ) → id_or w (Some o) ≡ unwrap_or o w
+    by None = refl
+    by (Some p) = refl
 
-each_of : {X : Type 0} (P : X → Type 0) (xs : List X) → ((k : ℕ) (x : X) → slice_get xs k ≡ Some x → P x) → AllByRecursion P xs
-each_of P [] each = tt
-each_of P (x ∷ xs) each = (each zero x refl, each_of P xs (λ k y at. each (suc k) y at))
+module _ (a : Addition) (shaped : IsShaped a.handed) where
+  includes_go : (k : ℕ) (e : ℕ × World) → slice_get (own_worlds a) k ≡ Some e → map (include_at (places_of a) a.offset) (active_includes a e.1) ≡ placed_includes a e.1
+  includes_go k e at =
+      let own = own_world_from a k e at in
+      agree (active_includes a e.1) (λ i include on.
+      let parts = Contains-filter (include_is_active a.features) e.1.includes include (contained_at (active_includes a e.1) i include on) in
+      let listed : Contains own.world.includes include = subst (λ (world : World). Contains world.includes include) (sym own.is) parts.0 in
+      let place = place_of own.world.includes include listed in
+      let earlier : include.id < e.0 = shaped.worlds.includes e.0 own.world own.there place.0 include place.1 in
+      let within : e.0 < length a.handed.worlds = slice_get_within a.handed.worlds e.0 own.world own.there in
+      place_is a include.id (omega (arith, earlier, within)))
+    where
+      agree : (xs : List WorldInclude) → ((i : ℕ) (include : WorldInclude) → slice_get xs i ≡ Some include → goes (places_of a).worlds include.id ≡ world_place a include.id)
+          → map (include_at (places_of a) a.offset) xs ≡ map (placed_include a) xs
+      agree [] each = refl
+      agree (x ∷ xs) each =
+          ap (λ (id : ℕ). (record x { id = id; span = moved_by a.offset x.span }) ∷ map (include_at (places_of a) a.offset) xs) (each 0 x refl)
+          ∙ ap (λ (l : List WorldInclude). placed_include a x ∷ l) (agree xs (λ i. each (suc i)))
 
-module _ (a : Addition) (valid : IsValid a.graph) (shaped : IsShaped a.handed) (image : HasImage a) where
-  parts : HasParts a (with_parts a).types (with_parts a).interfaces
-  parts = record { types_are = refl; interfaces_are = refl }
-
-  pub uses_are_acyclic : IsAcyclic (graph_uses (with_parts a))
-  uses_are_acyclic = added_uses_acyclic a valid shaped image (with_parts a).types (with_parts a).interfaces parts
-
-  pub images_are_listed : AllByRecursion (λ (world : World). IsListed (with_parts a).types (length (with_parts a).interfaces) (placed world.imports) (placed world.exports)) (images a)
-  images_are_listed =
-      each_of (λ (world : World). IsListed (with_parts a).types (length (with_parts a).interfaces) (placed world.imports) (placed world.exports)) (images a) (λ k world at.
-      let from = from_map (image_of a) (own_worlds a) k world at in
-      subst (λ (w : World). IsListed (with_parts a).types (length (with_parts a).interfaces) (placed w.imports) (placed w.exports)) from.2
-      (listed_worlds a valid shaped image (with_parts a).types (with_parts a).interfaces parts k from.0 from.1))
-
-  -- what comes of the graph is valid
-  pub stays_valid : PushesStayValid → IsSupported a.handed → IsNew a → AllByRecursion (CanFinish (with_parts a)) (images a) → IsValid (with_all_finished (with_parts a) (images a))
-  stays_valid law supported new fine =
-      subst IsValid (pushed_is a supported)
-      (law a valid shaped image new.absent (λ k below.
-      world_is_fine a supported k (λ at. AllByRecursion-at (CanFinish (with_parts a)) (images a) k (image_of a (at.place, at.world)) fine (image_at a supported k at))))
-
-  -- why a world can't be finished is a reason
-  pub stopping_cause : IsSupported a.handed → (kind : ResolveErrorKind) → (kind ≡ OutOfMemory) ⊎ ((k : ℕ) × StopsAt (with_parts a) (images a) kind k) → (kind ≡ OutOfMemory) ⊎ IsCause a kind
-  stopping_cause supported kind (inl memory) = inl memory
-  stopping_cause supported kind (inr stops) = inr (stop_is_cause a supported image kind stops.0 stops.1)
+  -- the worlds are as they are added
+  pub worlds_ready : map (world_with (places_of a) a.offset) (map (added_world a) (own_worlds a)) ≡ ready_worlds a
+  worlds_ready =
+      map_twice (world_with (places_of a) a.offset) (added_world a) (ready_world a) (own_worlds a)
+      (λ k e at. ap (λ (l : List WorldInclude). let p : PlacedWorld = record { place = e.0; world = world_image (addition_maps a) e.0 e.1; includes = l } in p) (includes_go k e at))

@@ -2,5 +2,4 @@ mod Added
 mod Checks
 mod FitsIsExact
 mod OneAfterAnother
-mod Stages
-mod WorldsAreFine
+mod WorldStages

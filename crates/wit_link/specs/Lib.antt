@@ -2,6 +2,5 @@ pub mod Appending
 pub mod Checked
 pub mod Fits
 pub mod Groups
-pub mod Images
+pub mod Including
 pub mod Several
-pub mod Supported

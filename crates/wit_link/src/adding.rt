@@ -1,5 +1,5 @@
 //! Adding a package to a graph.
-ghost use Rattle.std.specs.Prelude.{◌≡◌, ◌⊎◌, IfErr, IfOk, OnErr, OnOk, map};
+ghost use Rattle.std.specs.Prelude.{◌≡◌, ◌⊎◌, IfErr, IfOk, OnErr, OnOk};
 ghost use Rattle.wit_adding.specs.Adding.{activity_of, places_of, values_of};
 ghost use Rattle.wit_adding.specs.Cause.{IsCause};
 ghost use Rattle.wit_graph.specs.Valid.{IsValid};
@@ -9,28 +9,29 @@ ghost use Rattle.wit_items.specs.Shape.{IsShaped};
 ghost use Rattle.wit_link.specs.Appending.{IsAdded, addition};
 ghost use Rattle.wit_link.specs.Checked.{IsChecked, IsNew};
 ghost use Rattle.wit_link.specs.Fits.{IsNameTaken};
-ghost use Rattle.wit_link.specs.Supported.{IsSupported};
 ghost use Rattle.wit_adding.specs.Pushed.{with_parts};
-ghost use Rattle.wit_link.specs.Images.{images};
+ghost use Rattle.wit_link.specs.Including.{ready_worlds};
 ghost use Rattle.wit_placing.specs.Grown.{Grown};
-ghost use Rattle.wit_placing.specs.declared.worlds.PlacedWorld.{PlacedWorld};
 
 use crate::checking::{Checked, check};
 use crate::fits::spans_fit;
+use crate::including::place_includes;
 use std::alloc::{AllocError, Global};
 use wit_adding::Adding;
-use wit_adding_laws::laws::pushes_stay_valid;
-use wit_finishing::finish_worlds;
-use wit_graph::{Features, Graph, ResolveError, ResolveErrorKind, ResolveResult};
-use wit_items::{Items, PackageId, Span, UnresolvedPackage, World};
+use wit_adding_laws::laws::{
+    included_are_there, includes_can_be, pushes_stay_valid, worlds_can_be,
+};
+use wit_graph::{Elaborator, Features, Graph, ResolveError, ResolveErrorKind, ResolveResult};
+use wit_including::add_world;
+use wit_items::{Items, PackageId, Span, UnresolvedPackage};
 use wit_placing::{Mark, Part, PlacedWorld, add_parts};
 
 /// Adds a package to a graph under features, its spans moved by an offset, and answers its id.
 ///
-/// So far it takes packages whose worlds include no other. Refused with a written reason: where a package of that
-/// name is there (5), where what is named of other packages isn't there (1, 2, 3, 13) or is no resource (14), where a
+/// Refused with a written reason: where a package of that name is there (5), where what is named of other packages isn't there (1, 2, 3, 13) or is no resource (14), where a
 /// gate can't be met (9, 10), where what takes part needs what is left out (11, 12), where a result holds a borrow
-/// (15), where labels are too alike (17) or a setter has no getter (18), where what exports need from outside is
+/// (15), where an include brings a label that is there (7) or a stability that disagrees (8), or renames nothing (16),
+/// where labels are too alike (17) or a setter has no getter (18), where what exports need from outside is
 /// exported (4), where a span would pass 4294967295 (27), and for memory (28). After a refusal the graph is as
 /// before.
 ///
@@ -43,7 +44,6 @@ pub fn append(
     span_offset: u32,
 ) -> ResolveResult<PackageId>
     requires shaped { IsShaped «package» }
-    requires supported { IsSupported «package» }
     requires valid { IsValid graph.old }
     ensures ok { IfOk result (λ id. IsAdded (addition features.now graph.old «package» span_offset) graph.new id) }
     ensures valid { IsValid graph.new }
@@ -100,7 +100,6 @@ fn add_checked(
     span_offset: u32,
 ) -> ResolveResult<PackageId>
     requires shaped { IsShaped «package» }
-    requires supported { IsSupported «package» }
     requires valid { IsValid graph.old }
     requires new { IsNew (addition features.now graph.old «package» span_offset) }
     requires checked { IsChecked (addition features.now graph.old «package» span_offset) }
@@ -113,9 +112,21 @@ fn add_checked(
     ensures cause { IfErr result (λ kind. (kind ≡ OutOfMemory) ⊎ IsCause (addition features.now graph.old «package» span_offset) kind) }
 {
     pushes_stay_valid();
+    includes_can_be();
+    worlds_can_be();
+    included_are_there();
     let id = PackageId::from_index(graph.packages.len());
     let worlds = add_placed(alloc, graph, features, checked, package, span_offset)?;
-    finish_worlds(alloc, graph, worlds)?;
+    let types = graph.types.as_slice();
+    let mut elaborator = Elaborator::new(alloc, types, graph.interfaces.as_slice())?;
+    for placed in worlds.into_vec() {
+        let PlacedWorld {
+            place: _,
+            world,
+            includes,
+        } = placed;
+        elaborator = add_world(alloc, graph, elaborator, world, &includes, id)?;
+    }
     Ok(id)
 }
 
@@ -127,7 +138,7 @@ fn add_placed(
     checked: Checked,
     package: UnresolvedPackage,
     span_offset: u32,
-) -> Result<Items<World>, AllocError>
+) -> Result<Items<PlacedWorld>, AllocError>
     requires shaped { IsShaped «package» }
     requires valid { IsValid graph.old }
     requires new { IsNew (addition features.now graph.old «package» span_offset) }
@@ -136,7 +147,7 @@ fn add_placed(
     requires places { checked.places ≡ places_of (addition features.now graph.old «package» span_offset) }
     requires values { checked.values ≡ values_of (addition features.now graph.old «package» span_offset) }
     ensures ok { OnOk result (graph.new ≡ with_parts (addition features.now graph.old «package» span_offset)) }
-    ensures worlds { IfOk result (λ worlds. worlds ≡ images (addition features.now graph.old «package» span_offset)) }
+    ensures worlds { IfOk result (λ worlds. worlds ≡ ready_worlds (addition features.now graph.old «package» span_offset)) }
     ensures grown { Grown graph.old graph.new }
 {
     let Checked {
@@ -149,16 +160,5 @@ fn add_placed(
         activity: &activity,
     };
     let placed = add_parts(alloc, graph, &part, &places, values, package, span_offset)?;
-    worlds_of(alloc, placed)
-}
-
-/// The worlds alone.
-fn worlds_of(alloc: Global, placed: Items<PlacedWorld>) -> Result<Items<World>, AllocError>
-    ensures { IfOk result (λ worlds. worlds ≡ map (λ (p : PlacedWorld). p.world) placed) }
-{
-    let mut worlds = Items::new(alloc);
-    for placed in placed.into_vec() {
-        worlds.push(placed.world)?;
-    }
-    Ok(worlds)
+    place_includes(alloc, placed, &places, span_offset)
 }

@@ -4,8 +4,7 @@ ghost use Rattle.std.specs.List.{AllByRecursion};
 ghost use Rattle.wit_graph.specs.Valid.{IsValid};
 ghost use Rattle.wit_graph.specs.declared.error_kind.ResolveErrorKind.{ResolveErrorKind};
 ghost use Rattle.wit_graph.specs.declared.error_kind.ResolveErrorKind.TheVariants.{OutOfMemory};
-ghost use Rattle.wit_link.specs.Several.{ArePushed, IsOneRefused};
-ghost use Rattle.wit_link.specs.Supported.{CanAppend};
+ghost use Rattle.wit_link.specs.Several.{ArePushed, CanAppend, IsOneRefused};
 ghost use Rattle.wit_placing.specs.Grown.{Grown};
 
 use crate::adding::append;

@@ -1,67 +1,90 @@
-use Rattle.std.proofs.Common.{rules, ◌≡◌, ◌∙◌, ◌⊎◌, ℕ, List, IfErr, IsErrAnd, Result, Ok, Err, length, ap, subst, sym}
-use Rattle.std.specs.List.{AllByRecursion}
-use Rattle.wit_items.specs.declared.world.World.{World}
-use Rattle.wit_relations.specs.Relation.{IsAcyclic}
-use Rattle.wit_graph.specs.Elaboration.{graph_uses}
-use Rattle.wit_graph.specs.Listed.{IsListed}
+use Rattle.std.proofs.Common.{rules, arith, ◌≡◌, ◌∙◌, ◌⊎◌, ◌++◌, ◌∷◌, [], ℕ, List, IfErr, IsErrAnd, Result, Ok, Err, length, ap, subst, sym}
+use Rattle.std.proofs.lemmas.List.{append_assoc, append-nil}
+use Rattle.std.specs.Vec.Iter.{into_iter_items}
+use Rattle.wit_items.specs.EachFacts.{nil_from_length}
 use Rattle.wit_graph.specs.Valid.{IsValid}
 use Rattle.wit_graph.specs.declared.error_kind.ResolveErrorKind.{ResolveErrorKind}
 use Rattle.wit_graph.specs.declared.error_kind.ResolveErrorKind.TheVariants.{OutOfMemory}
 use Rattle.wit_graph.specs.declared.graph.Graph.{Graph}
-use Rattle.wit_labels.specs.Setters.{placed}
-use Rattle.wit_adding.specs.Addition.{Addition}
 use Rattle.wit_adding.specs.Cause.{IsCause}
-use Rattle.wit_adding.specs.Pushed.{with_parts}
-use Rattle.wit_finishing.specs.Finished.{CanFinish, StopsAt, with_all_finished}
+use Rattle.wit_including.specs.Included as local
+use Rattle.wit_placing.specs.GrownFacts.{Grown-then}
+use Rattle.wit_placing.specs.declared.worlds.PlacedWorld.{PlacedWorld}
 use Rattle.wit_link.specs.Appending.{IsAdded, addition}
-use Rattle.wit_link.specs.Images.{images}
-use Rattle.wit_link.proofs.Added.{checked_image, images_are_listed, is_added, stays_valid, stopping_cause, uses_are_acyclic}
+use Rattle.wit_link.specs.Including.{ready_worlds}
+use Rattle.wit_link.proofs.Added.{checked_image, is_added}
+use Rattle.wit_link.proofs.WorldStages.{adding-next, adding-none, all_pushed, all_reached, each_fine, is_ready, refused_here}
 use Rattle.wit_link.proofs.adding.add_checked.Goals as goal
 
 told_err : {T E : Type 0} {P Q : E → Type 0} (r : Result T E) → IsErrAnd r P → ((e : E) → P e → Q e) → IfErr r Q
 told_err (Ok v) is gives = tt
 told_err (Err e) is gives = gives e is
 
--- the worlds over one graph, where both are known
-moved : (P : Graph → List World → Type 0) (g g' : Graph) (ws ws' : List World) → g ≡ g' → ws ≡ ws' → P g ws → P g' ws'
-moved P g g' ws ws' same worlds p = subst (λ (x : Graph). P x ws') same (subst (P g) worlds p)
-
-pub finish_worlds-requires-clause-acyclic : goal.finish_worlds-requires-clause-acyclic
-finish_worlds-requires-clause-acyclic c =
+pub loop-placed-init : goal.loop-placed-init
+loop-placed-init c =
     let a = addition c.args.features.now c.args.graph.now c.args.package c.args.span_offset in
-    subst (λ (g : Graph). IsAcyclic (graph_uses g)) (sym c.in_ok-worlds.ensures.ok) (uses_are_acyclic a c.requires.valid c.requires.shaped (checked_image a c.requires.checked))
+    record {
+      adding = adding-none a c.add_placed.new.graph c.in_ok-worlds.ensures.ok;
+      uses = search rules;
+      grown = c.add_placed.ensures.grown;
+      left = search rules;
+    }
 
-pub finish_worlds-requires-clause-listed : goal.finish_worlds-requires-clause-listed
-finish_worlds-requires-clause-listed c =
+pub add_world-requires-clause-can : goal.add_world-requires-clause-can
+add_world-requires-clause-can c =
     let a = addition c.args.features.now c.args.graph.now c.args.package c.args.span_offset in
-    moved (λ (g : Graph) (ws : List World). AllByRecursion (λ (world : World). IsListed g.types (length g.interfaces) (placed world.imports) (placed world.exports)) ws) (with_parts a) c.add_placed.new.graph (images a) c.in_ok-worlds.worlds
-    (sym c.in_ok-worlds.ensures.ok) (sym c.in_ok-worlds.ensures.worlds) (images_are_listed a c.requires.valid c.requires.shaped (checked_image a c.requires.checked))
+    let are : c.loop-placed.yielded ++ c.in-Some.placed ∷ into_iter_items c.next.new.self ≡ ready_worlds a = search rules in
+    let id : c.from_index-id.result ≡ length c.args.graph.now.packages = search rules in
+    subst (λ (home : ℕ). local.CanBeAdded home c.loop-placed.graph c.in-Some.placed.world c.in-Some.placed.includes) (sym id)
+    (is_ready a c.loop-placed.yielded (into_iter_items c.next.new.self) c.in-Some.placed c.loop-placed.graph c.loop-placed.invariant.adding are
+    c.included_are_there.ensures c.includes_can_be.ensures c.worlds_can_be.ensures c.requires.valid c.requires.shaped (checked_image a c.requires.checked))
 
-pub returns-in_err-finish_worlds-clause-cause : goal.returns-in_err-finish_worlds-clause-cause
-returns-in_err-finish_worlds-clause-cause c =
+pub loop-placed-preserved : goal.loop-placed-preserved
+loop-placed-preserved c =
     let a = addition c.args.features.now c.args.graph.now c.args.package c.args.span_offset in
-    told_err c.from_residual-in_err-finish_worlds.result c.from_residual-in_err-finish_worlds.ensures.1
-    (λ e is.
-    let same : e ≡ c.in_err-finish_worlds.field-0.0 = is in
-    subst (λ (x : ResolveErrorKind). (x ≡ OutOfMemory) ⊎ IsCause a x) (sym same)
-    (stopping_cause a c.requires.valid c.requires.shaped (checked_image a c.requires.checked) c.requires.supported c.in_err-finish_worlds.field-0.0
-    (moved (λ (g : Graph) (ws : List World). (c.in_err-finish_worlds.field-0.0 ≡ OutOfMemory) ⊎ ((k : ℕ) × StopsAt g ws c.in_err-finish_worlds.field-0.0 k)) c.add_placed.new.graph (with_parts a) c.in_ok-worlds.worlds (images a)
-    c.in_ok-worlds.ensures.ok c.in_ok-worlds.ensures.worlds c.in_err-finish_worlds.ensures.cause)))
+    let are : c.loop-placed.yielded ++ c.in-Some.placed ∷ into_iter_items c.next.new.self ≡ ready_worlds a = search rules in
+    let id : c.from_index-id.result ≡ length c.args.graph.now.packages = search rules in
+    record {
+      adding =
+          adding-next a c.loop-placed.yielded (into_iter_items c.next.new.self) c.in-Some.placed c.loop-placed.graph c.loop-placed.invariant.adding are c.add_world.new.graph
+          (c.in_ok-elaborator-2.ensures.ok ∙ ap (λ (home : ℕ). local.with_including home c.loop-placed.graph c.in-Some.placed.world c.in-Some.placed.includes) id)
+          (subst (λ (home : ℕ). local.IsFineWorld home c.loop-placed.graph c.in-Some.placed.world c.in-Some.placed.includes) id c.in_ok-elaborator-2.ensures.fine);
+      uses = c.in_ok-elaborator-2.ensures.uses;
+      grown = Grown-then c.args.graph.now c.loop-placed.graph c.add_world.new.graph c.loop-placed.invariant.grown c.add_world.ensures.grown;
+      left = append_assoc c.loop-placed.yielded (c.in-Some.placed ∷ []) (into_iter_items c.next.new.self) ∙ are;
+    }
 
 pub returns-clause-ok : goal.returns-clause-ok
 returns-clause-ok c =
     let a = addition c.args.features.now c.args.graph.now c.args.package c.args.span_offset in
-    let fine = moved (λ (g : Graph) (ws : List World). AllByRecursion (CanFinish g) ws) c.add_placed.new.graph (with_parts a) c.in_ok-worlds.worlds (images a) c.in_ok-worlds.ensures.ok c.in_ok-worlds.ensures.worlds c.in_ok-finish_worlds.ensures.fine in
-    let new : c.finish_worlds.new.graph ≡ with_all_finished (with_parts a) (images a) =
-    c.in_ok-finish_worlds.ensures.ok ∙ (ap (λ (g : Graph). with_all_finished g c.in_ok-worlds.worlds) c.in_ok-worlds.ensures.ok ∙ ap (with_all_finished (with_parts a)) c.in_ok-worlds.ensures.worlds) in
+    let over = c.in-None.ensures.steps.0 in
+    let long = c.loop-placed.placed-iterator.rest.ok.0 in
+    let none : into_iter_items c.loop-placed.placed-iterator ≡ [] = nil_from_length (into_iter_items c.loop-placed.placed-iterator) (omega (arith, over, long)) in
+    let are : c.loop-placed.yielded ≡ ready_worlds a = sym (append-nil c.loop-placed.yielded) ∙ ap (λ (l : List PlacedWorld). c.loop-placed.yielded ++ l) (sym none) ∙ c.loop-placed.invariant.left in
     let id : c.from_index-id.result ≡ length c.args.graph.now.packages = search rules in
-    subst (λ (g : Graph). IsAdded a g c.from_index-id.result) (sym new)
-    (subst (IsAdded a (with_all_finished (with_parts a) (images a))) (sym id) (is_added a c.requires.supported c.requires.new c.requires.checked fine))
+    let reached = all_reached a c.loop-placed.yielded c.loop-placed.graph c.loop-placed.invariant.adding are in
+    subst (IsAdded a c.loop-placed.graph) (sym id)
+    (is_added a c.requires.new c.requires.checked (each_fine a reached) c.loop-placed.graph (all_pushed a c.loop-placed.yielded c.loop-placed.graph c.loop-placed.invariant.adding are))
 
 pub returns-clause-valid : goal.returns-clause-valid
 returns-clause-valid c =
     let a = addition c.args.features.now c.args.graph.now c.args.package c.args.span_offset in
-    let fine = moved (λ (g : Graph) (ws : List World). AllByRecursion (CanFinish g) ws) c.add_placed.new.graph (with_parts a) c.in_ok-worlds.worlds (images a) c.in_ok-worlds.ensures.ok c.in_ok-worlds.ensures.worlds c.in_ok-finish_worlds.ensures.fine in
-    let new : c.finish_worlds.new.graph ≡ with_all_finished (with_parts a) (images a) =
-    c.in_ok-finish_worlds.ensures.ok ∙ (ap (λ (g : Graph). with_all_finished g c.in_ok-worlds.worlds) c.in_ok-worlds.ensures.ok ∙ ap (with_all_finished (with_parts a)) c.in_ok-worlds.ensures.worlds) in
-    subst IsValid (sym new) (stays_valid a c.requires.valid c.requires.shaped (checked_image a c.requires.checked) c.pushes_stay_valid.ensures c.requires.supported c.requires.new fine)
+    let over = c.in-None.ensures.steps.0 in
+    let long = c.loop-placed.placed-iterator.rest.ok.0 in
+    let none : into_iter_items c.loop-placed.placed-iterator ≡ [] = nil_from_length (into_iter_items c.loop-placed.placed-iterator) (omega (arith, over, long)) in
+    let are : c.loop-placed.yielded ≡ ready_worlds a = sym (append-nil c.loop-placed.yielded) ∙ ap (λ (l : List PlacedWorld). c.loop-placed.yielded ++ l) (sym none) ∙ c.loop-placed.invariant.left in
+    let reached = all_reached a c.loop-placed.yielded c.loop-placed.graph c.loop-placed.invariant.adding are in
+    subst IsValid (sym (all_pushed a c.loop-placed.yielded c.loop-placed.graph c.loop-placed.invariant.adding are))
+    (c.pushes_stay_valid.ensures a c.requires.valid c.requires.shaped (checked_image a c.requires.checked) c.requires.new.absent reached)
+
+pub returns-in_err-elaborator-2-clause-cause : goal.returns-in_err-elaborator-2-clause-cause
+returns-in_err-elaborator-2-clause-cause c =
+    let a = addition c.args.features.now c.args.graph.now c.args.package c.args.span_offset in
+    let are : c.loop-placed.yielded ++ c.in-Some.placed ∷ into_iter_items c.next.new.self ≡ ready_worlds a = search rules in
+    let id : c.from_index-id.result ≡ length c.args.graph.now.packages = search rules in
+    told_err c.from_residual-in_err-elaborator-2.result c.from_residual-in_err-elaborator-2.ensures.1
+    (λ e is.
+    let same : e ≡ c.in_err-elaborator-2.field-0.0 = is in
+    subst (λ (x : ResolveErrorKind). (x ≡ OutOfMemory) ⊎ IsCause a x) (sym same)
+    (refused_here a c.loop-placed.yielded (into_iter_items c.next.new.self) c.in-Some.placed c.loop-placed.graph c.loop-placed.invariant.adding are (checked_image a c.requires.checked) c.in_err-elaborator-2.field-0.0
+    (subst (λ (home : ℕ). (c.in_err-elaborator-2.field-0.0 ≡ OutOfMemory) ⊎ local.IsWorldCause home c.loop-placed.graph c.in-Some.placed.world c.in-Some.placed.includes c.in_err-elaborator-2.field-0.0) id c.in_err-elaborator-2.ensures.cause)))

@@ -2,8 +2,7 @@ use Rattle.std.proofs.Common.{◌≡◌, ◌++◌}
 use Rattle.std.specs.List.{AllByRecursion}
 use Rattle.std.specs.Vec.Iter.{into_iter_items}
 use Rattle.wit_graph.specs.Valid.{IsValid}
-use Rattle.wit_link.specs.Several.{ArePushed}
-use Rattle.wit_link.specs.Supported.{CanAppend}
+use Rattle.wit_link.specs.Several.{ArePushed, CanAppend}
 use Rattle.wit_placing.specs.Grown.{Grown}
 use Rattle.wit_link.proofs.several.append_each.Given as goal
 

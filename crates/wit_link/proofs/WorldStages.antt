@@ -1,0 +1,113 @@
+-- The worlds of an addition, one after another: each is ready when its turn comes, and leads to the next stage.
+use Rattle.std.proofs.Common.{◌≡◌, ◌∙◌, ◌⊎◌, inl, inr, ℕ, ◌+◌, ◌<◌, ◌≤◌, zero, suc, List, [], ◌∷◌, ◌++◌, map, filter, fold, length, take, Option, None, Some, slice_get, refl, sym, ap, subst, arith, below_more}
+use Rattle.std.proofs.lemmas.Bool.{cases_lt}
+use Rattle.std.proofs.lemmas.List.{length-map, length_push}
+use Rattle.std.proofs.lemmas.Option.{slice_get_within}
+use Rattle.std.specs.List.{range_with_len}
+use Rattle.wit_values.specs.Lists.{slice_get-behind}
+use Rattle.wit_sources.specs.Span.{moved_by}
+use Rattle.wit_items.specs.Shape.{IsShaped}
+use Rattle.wit_items.specs.declared.world.World.{World}
+use Rattle.wit_items.specs.declared.world.WorldInclude.{WorldInclude}
+use Rattle.wit_graph.specs.Valid.{IsValid}
+use Rattle.wit_graph.specs.declared.error_kind.ResolveErrorKind.{ResolveErrorKind}
+use Rattle.wit_graph.specs.declared.error_kind.ResolveErrorKind.TheVariants.{OutOfMemory}
+use Rattle.wit_graph.specs.declared.graph.Graph.{Graph}
+use Rattle.wit_growth.specs.ListFacts.{from_map}
+use Rattle.wit_adding.specs.Addition.{Addition, own_worlds}
+use Rattle.wit_adding.specs.Cause.{IsCause, IsReached}
+use Rattle.wit_adding.specs.Include.{Lists}
+use Rattle.wit_adding.specs.Pushed.{pushed, with_parts, with_world, with_worlds}
+use Rattle.wit_adding.specs.Reasons.{HasImage}
+use Rattle.wit_adding.specs.WorldReasons.{AtWorld, HaveLists, IncludeIsFine, WorldIsFine, made, written}
+use Rattle.wit_adding_laws.specs.StageFacts.{IncludedAreThere, IncludesCanBe, WorldsCanBe}
+use Rattle.wit_including.specs.AdditionFacts.{home, image_at, next_stage, placed_includes, reached_fine, world_cause}
+use Rattle.wit_including.specs.Included as local
+use Rattle.wit_including.specs.ReadyFacts.{can_be_added}
+use Rattle.wit_placing.specs.declared.worlds.PlacedWorld.{PlacedWorld}
+use Rattle.wit_link.specs.Including.{ready_world, ready_worlds}
+
+-- so many worlds are added, and nothing speaks against them
+pub record IsAdding (a : Addition) (done : List PlacedWorld) (g : Graph) : Type 0 where
+  pub graph : g ≡ with_worlds a (length done)
+  pub fine : IsReached a (length done)
+
+pub adding-none : (a : Addition) (g : Graph) → g ≡ with_parts a → IsAdding a [] g
+adding-none a g is = record { graph = is; fine = λ i before. absurd (omega (arith, before)) }
+
+module _ (a : Addition) (done rest : List PlacedWorld) (placed : PlacedWorld) (g : Graph) (is : IsAdding a done g) (are : done ++ placed ∷ rest ≡ ready_worlds a) where
+  -- the world whose turn it is
+  abbrev from : (e : ℕ × World) × (slice_get (own_worlds a) (length done) ≡ Some e) × (ready_world a e ≡ placed)
+  from = from_map (ready_world a) (own_worlds a) (length done) placed (subst (λ (l : List PlacedWorld). slice_get l (length done) ≡ Some placed) are (slice_get-behind done rest placed))
+
+  abbrev turn : AtWorld a (length done)
+  turn = record { place = from.0.0; world = from.0.1; is = from.1 }
+
+  -- what is told of the stage is told of the graph and the world
+  told : (P : Graph → World → List WorldInclude → Type 0) → P (with_worlds a (length done)) (image_at a turn.place turn.world) (placed_includes a turn.world) → P g placed.world placed.includes
+  told P p = subst (λ (x : PlacedWorld). P g x.world x.includes) from.2 (subst (λ (h : Graph). P h (image_at a turn.place turn.world) (placed_includes a turn.world)) (sym is.graph) p)
+
+  back : (P : Graph → World → List WorldInclude → Type 0) → P g placed.world placed.includes → P (with_worlds a (length done)) (image_at a turn.place turn.world) (placed_includes a turn.world)
+  back P p = subst (λ (h : Graph). P h (image_at a turn.place turn.world) (placed_includes a turn.world)) is.graph (subst (λ (x : PlacedWorld). P g x.world x.includes) (sym from.2) p)
+
+  pub is_ready : IncludedAreThere → IncludesCanBe → WorldsCanBe → IsValid a.graph → IsShaped a.handed → HasImage a → local.CanBeAdded (home a) g placed.world placed.includes
+  is_ready there includes worlds valid shaped image = told (local.CanBeAdded (home a)) (can_be_added there includes worlds a valid shaped image (length done) is.fine turn)
+
+  pub adding-next : (new : Graph) → new ≡ local.with_including (home a) g placed.world placed.includes → local.IsFineWorld (home a) g placed.world placed.includes → IsAdding a (done ++ placed ∷ []) new
+  adding-next new new_is fine =
+      let long : length (done ++ placed ∷ []) ≡ length done + 1 = length_push done placed in
+      let one : WorldIsFine a (length done) = reached_fine a (length done) turn (back (local.IsFineWorld (home a)) fine) in
+      record {
+        graph = back (λ (h : Graph) (w : World) (l : List WorldInclude). new ≡ local.with_including (home a) h w l) new_is ∙ sym (next_stage a (length done) turn) ∙ ap (with_worlds a) (sym long);
+        fine = subst (IsReached a) (sym long) (below_more (WorldIsFine a) (length done) is.fine one);
+      }
+
+  pub refused_here : HasImage a → (kind : ResolveErrorKind) → (kind ≡ OutOfMemory) ⊎ local.IsWorldCause (home a) g placed.world placed.includes kind → (kind ≡ OutOfMemory) ⊎ IsCause a kind
+  refused_here image kind (inl memory) = inl memory
+  refused_here image kind (inr why) =
+      inr (world_cause a (length done) turn image is.fine kind (back (λ (h : Graph) (w : World) (l : List WorldInclude). local.IsWorldCause (home a) h w l kind) why))
+
+-- ---- all of them
+
+module _ (a : Addition) (k : ℕ) (past : length (own_worlds a) ≤ k) where
+  no_world : AtWorld a k → ⊥
+  no_world at = let within : k < length (own_worlds a) = slice_get_within (own_worlds a) k (at.place, at.world) at.is in omega arith
+
+  no_lists : (world : World) (lists : Lists) (moves : ℕ) → HaveLists a k world lists moves → ⊥
+  no_lists world lists moves (made at image fine) = no_world at
+  no_lists world lists moves (written at none) = no_world at
+
+  -- where there is no world nothing speaks against it
+  pub none_fine : WorldIsFine a k
+  none_fine = record {
+    includes = λ j. record {
+        unshadowed = λ span word name is. no_world is.at.at;
+        agrees = λ span brings has is. no_world is.at.at;
+        renames = λ span message is. no_world is.at.at;
+      };
+    labels = λ span message is. no_lists is.world is.lists is.moves is.have;
+    setters = λ span message is. no_lists is.world is.lists is.moves is.have;
+    exports = λ span name is. no_world is.at;
+  }
+
+pub each_fine : (a : Addition) → IsReached a (length (own_worlds a)) → (k : ℕ) → WorldIsFine a k
+each_fine a fine k = elim (below_or_not k (length (own_worlds a))) [ inl below ↦ fine k below | inr past ↦ none_fine a k past ]
+  where
+    below_or_not : (i n : ℕ) → (i < n) ⊎ (n ≤ i)
+    below_or_not i n = cases_lt i n
+
+take-all : (xs : List (ℕ × World)) (n : ℕ) → length xs ≤ n → take n xs ≡ xs
+take-all [] zero within = refl
+take-all [] (suc n) within = refl
+take-all (x ∷ xs) zero within = absurd (omega arith)
+take-all (x ∷ xs) (suc n) within = ap (λ (l : List (ℕ × World)). x ∷ l) (take-all xs n (omega arith))
+
+module _ (a : Addition) (done : List PlacedWorld) (g : Graph) (is : IsAdding a done g) (are : done ≡ ready_worlds a) where
+  all_long : length done ≡ length (own_worlds a)
+  all_long = ap length are ∙ length-map (own_worlds a) (ready_world a)
+
+  pub all_pushed : g ≡ pushed a
+  all_pushed = is.graph ∙ ap (with_worlds a) all_long ∙ ap (fold (with_world a) (with_parts a)) (take-all (own_worlds a) (length (own_worlds a)) (omega arith))
+
+  pub all_reached : IsReached a (length (own_worlds a))
+  all_reached = subst (IsReached a) all_long is.fine

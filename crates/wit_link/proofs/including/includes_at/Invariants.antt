@@ -1,0 +1,7 @@
+use Rattle.std.proofs.Common.{◌≡◌, ◌++◌, map}
+use Rattle.std.specs.Vec.Iter.{into_iter_items}
+use Rattle.wit_link.specs.Including.{include_at}
+use Rattle.wit_link.proofs.including.includes_at.Given as goal
+
+abbrev pub invariant-loop-include : goal.invariant-loop-include
+invariant-loop-include l = l.new ≡ map (include_at l.places l.offset) l.yielded

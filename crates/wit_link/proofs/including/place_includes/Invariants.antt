@@ -1,0 +1,7 @@
+use Rattle.std.proofs.Common.{◌≡◌, ◌++◌, map}
+use Rattle.std.specs.Vec.Iter.{into_iter_items}
+use Rattle.wit_link.specs.Including.{world_with}
+use Rattle.wit_link.proofs.including.place_includes.Given as goal
+
+abbrev pub invariant-loop-world : goal.invariant-loop-world
+invariant-loop-world l = l.new ≡ map (world_with l.places l.offset) l.yielded
