@@ -18,7 +18,5 @@ pub fn excluded_owner_message(alloc: Global, sort: &str) -> Result<String, Alloc
     ensures { IfOk result (λ message. string_bytes message ≡ excluded_owner_text sort.now) }
 {
     let excluded = excluded_message(alloc, sort)?;
-    format!(in alloc;
-        "{excluded}; this type is not gated by a feature but its {sort} is"
-    )
+    format!(in alloc; "{excluded}; this type is not gated by a feature but its {sort} is")
 }

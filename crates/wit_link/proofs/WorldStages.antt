@@ -81,10 +81,10 @@ module _ (a : Addition) (k : ℕ) (past : length (own_worlds a) ≤ k) where
   pub none_fine : WorldIsFine a k
   none_fine = record {
     includes = λ j. record {
-        unshadowed = λ span word name is. no_world is.at.at;
-        agrees = λ span brings has is. no_world is.at.at;
-        renames = λ span message is. no_world is.at.at;
-      };
+      unshadowed = λ span word name is. no_world is.at.at;
+      agrees = λ span brings has is. no_world is.at.at;
+      renames = λ span message is. no_world is.at.at;
+    };
     labels = λ span message is. no_lists is.world is.lists is.moves is.have;
     setters = λ span message is. no_lists is.world is.lists is.moves is.have;
     exports = λ span name is. no_world is.at;
