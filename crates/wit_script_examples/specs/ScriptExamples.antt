@@ -85,6 +85,7 @@ pub record ExamplesOfScripts : Type 0 where
   pub unended : IsNotUnderstood (codes "package a:b\ninterface i\n\n# end\n") 2
   -- the key of an interface of another package twice
   pub foreign_twice : IsNotUnderstood (codes "package a:b\nworld w\nimport c:d/e\nimport c:d/e\n") 4
-  -- not accepted so far: a world of another package, another graph
-  pub foreign_world : IsNotUnderstood (codes "package a:b\nworld w\nimport c:d/e\ninclude c:d/v\n") 4
+  -- one thing of another package as an interface and as a world
+  pub foreign_twofold : IsNotUnderstood (codes "package a:b\nworld w\nimport c:d/e\ninclude c:d/e\n") 4
+  -- not accepted so far: another graph
   pub other_line : IsNotUnderstood (codes "feature f\nother\nmerge\n") 2

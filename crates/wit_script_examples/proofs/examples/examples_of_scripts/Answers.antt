@@ -19,6 +19,6 @@ returns c = record {
   among_lines = inl (record { before = 1; reading = after (codes "package a:b"); read = refl; ready = tt; there = lit< tt; bad = tt; counted = refl });
   unended = inr (record { reading = after (codes "package a:b\ninterface i"); read = refl; ready = tt; waits = refl; counted = refl });
   foreign_twice = inl (record { before = 3; reading = before 3 (codes "package a:b\nworld w\nimport c:d/e\nimport c:d/e\n"); read = refl; ready = tt; there = lit< tt; bad = tt; counted = refl });
-  foreign_world = inl (record { before = 3; reading = before 3 (codes "package a:b\nworld w\nimport c:d/e\ninclude c:d/v\n"); read = refl; ready = tt; there = lit< tt; bad = tt; counted = refl });
+  foreign_twofold = inl (record { before = 3; reading = before 3 (codes "package a:b\nworld w\nimport c:d/e\ninclude c:d/e\n"); read = refl; ready = tt; there = lit< tt; bad = tt; counted = refl });
   other_line = inl (record { before = 1; reading = after (codes "feature f"); read = refl; ready = (refl, tt); there = lit< tt; bad = tt; counted = refl });
 }
