@@ -185,8 +185,7 @@ fn lists_of(
     ensures exports { IfOk result (λ lists. lists.exports ≡ elaborated_exports types.now uses.now world.now.exports) }
     ensures nodes { HaveNodes marks.new (length uses.now) }
 {
-    // `len` tells that the keys of the exports differ.
-    let _count = world.exports.len();
+    world.exports.keys_differ();
     marks.walked.clear();
     let imports = import_listed(alloc, types, uses, &mut marks.walked, &world.imports)?;
     marks.walked.clear();

@@ -5,10 +5,11 @@ ghost use Rattle.wit_graph.specs.ErrorText.{kind_text, known_text, stability_tex
 ghost use Rattle.wit_graph.specs.declared.error_kind.ResolveErrorKind.TheVariants as kinds;
 
 use crate::cause::Cause;
+use crate::error_copies as copies;
 use std::alloc::AllocError;
 use std::fmt;
 use wit_items::{PackageName, Span, Stability};
-use wit_values::{Items, Text, TryClone, try_clone_two};
+use wit_values::{Items, Text, TryClone};
 
 /// What went wrong, with what wit-parser 0.263.0 tells of it. `Cause`, `OffsetOverflow` and
 /// `OutOfMemory` are not of wit-parser.
@@ -102,82 +103,33 @@ impl TryClone for ResolveErrorKind {
                 span,
                 requested,
                 known,
-            } => {
-                let (requested, known) = try_clone_two(requested, known)?;
-                Ok(Self::PackageNotFound {
-                    span: *span,
-                    requested,
-                    known,
-                })
-            }
+            } => copies::package_not_found(*span, requested, known),
             Self::WorldNotFound {
                 span,
                 requested,
                 package,
-            } => {
-                let (requested, package) = try_clone_two(requested, package)?;
-                Ok(Self::WorldNotFound {
-                    span: *span,
-                    requested,
-                    package,
-                })
-            }
+            } => copies::world_not_found(*span, requested, package),
             Self::InterfaceNotFound {
                 span,
                 requested,
                 package,
-            } => {
-                let (requested, package) = try_clone_two(requested, package)?;
-                Ok(Self::InterfaceNotFound {
-                    span: *span,
-                    requested,
-                    package,
-                })
-            }
-            Self::InvalidTransitiveDependency { span, name } => {
-                Ok(Self::InvalidTransitiveDependency {
-                    span: *span,
-                    name: name.try_clone()?,
-                })
-            }
-            Self::DuplicatePackage { name, span1, span2 } => Ok(Self::DuplicatePackage {
-                name: name.try_clone()?,
-                span1: *span1,
-                span2: *span2,
-            }),
-            Self::PackageCycle { span, package } => Ok(Self::PackageCycle {
-                span: *span,
-                package: package.try_clone()?,
-            }),
+            } => copies::interface_not_found(*span, requested, package),
+            Self::InvalidTransitiveDependency { span, name } => copies::transitive(*span, name),
+            Self::DuplicatePackage { name, span1, span2 } => copies::duplicate(
+                name, *span1, *span2,
+            ),
+            Self::PackageCycle { span, package } => copies::cycle(*span, package),
             Self::ItemShadowing {
                 span,
                 item_type,
                 name,
-            } => {
-                let (item_type, name) = try_clone_two(item_type, name)?;
-                Ok(Self::ItemShadowing {
-                    span: *span,
-                    item_type,
-                    name,
-                })
-            }
-            Self::StabilityMismatch { span, from, into } => {
-                let (from, into) = try_clone_two(from, into)?;
-                Ok(Self::StabilityMismatch {
-                    span: *span,
-                    from,
-                    into,
-                })
-            }
+            } => copies::shadowing(*span, item_type, name),
+            Self::StabilityMismatch { span, from, into } => copies::mismatch(*span, from, into),
             Self::Semantic {
                 span,
                 message,
                 cause,
-            } => Ok(Self::Semantic {
-                span: *span,
-                message: message.try_clone()?,
-                cause: *cause,
-            }),
+            } => copies::semantic(*span, message, *cause),
             Self::OffsetOverflow => Ok(Self::OffsetOverflow),
             Self::OutOfMemory => Ok(Self::OutOfMemory),
         }

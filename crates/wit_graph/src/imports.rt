@@ -179,7 +179,7 @@ pub(crate) fn sorted_by_class(
 ) -> Result<Table<WorldKey, WorldItem>, AllocError>
     ensures { IfOk result (λ sorted. sorted ≡ by_class types.now entries.now) }
 {
-    let _count = entries.len();
+    entries.keys_differ();
     let mut sorted = Table::new(alloc);
     for class in 0..CLASSES {
         add_class(types, &mut sorted, entries, class)?;

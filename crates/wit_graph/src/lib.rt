@@ -7,6 +7,7 @@ pub mod elaborable;
 pub mod elaboration;
 pub mod entries;
 pub mod error;
+mod error_copies;
 pub mod error_kind;
 mod exports;
 pub mod features;

@@ -21,7 +21,7 @@ pub fn place_setters(
 ) -> Result<Table<WorldKey, WorldItem>, AllocError>
     ensures { IfOk result (λ new. new ≡ placed entries) }
 {
-    let _count = entries.len();
+    entries.keys_differ();
     let map = entries.into_map();
     let getters = getters_of(alloc, &map)?;
     let order = placed_order(alloc, &getters)?;

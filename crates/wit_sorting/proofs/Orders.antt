@@ -1,5 +1,5 @@
 -- Which handed package depends on which, and what an order of them lists.
-use Rattle.std.proofs.Common.{◌≡◌, ◌∙◌, ◌⊎◌, ◌<◌, ◌+◌, ℕ, zero, suc, false, List, [], ◌∷◌, ◌++◌, length, take, refl, ap, sym, subst, inl, inr, arith, Option, Some, None, map, slice_get, get_or, Contains, All, IsPermutation, nat_eq}
+use Rattle.std.proofs.Common.{◌≡◌, ◌∙◌, ◌⊎◌, ◌<◌, ◌+◌, ℕ, zero, suc, false, List, [], ◌∷◌, ◌++◌, length, refl, ap, sym, subst, inl, inr, arith, Option, Some, None, map, slice_get, get_or, Contains, All, IsPermutation, nat_eq}
 use Rattle.std.proofs.lemmas.Bool.{cases_lt, false≢true}
 use Rattle.std.proofs.lemmas.List.{get_or_past, length-map}
 use Rattle.std.proofs.lemmas.List.Elements.{All-contains, Contains-get_or, filter_map-append}
@@ -8,7 +8,6 @@ use Rattle.std.proofs.lemmas.List.Quantifiers.{position-Some}
 use Rattle.std.proofs.lemmas.List.Sorted.{All-permutation}
 use Rattle.std.specs.Option.{option_to_list}
 use Rattle.std.specs.Prelude.{position}
-use Rattle.wit_values.specs.Lists.{take-next_at}
 use Rattle.std.specs.List.{IsDistinct, cons_option, filter_map, flat_map, range_with_len}
 use Rattle.std.specs.Map.{keys_of}
 use Rattle.wit_relations.specs.Cycles.{IsOnCycle}
@@ -188,15 +187,14 @@ found-order handed uses roots order is listed =
       differ = apart names (subst (IsDistinct same_package) (keys-places names) is.differ);
     }
 
--- of the first packages and one more, those that are found
+-- those that are found of the first package, and of the others
 one_found : (o : Option ℕ) → cons_option o [] ≡ option_to_list o
 one_found None = refl
 one_found (Some x) = refl
 
-pub found-next : (f : PackageName × List ForeignItem → Option ℕ) (xs : List (PackageName × List ForeignItem)) (i : ℕ) (x : PackageName × List ForeignItem) → slice_get xs i ≡ Some x
-    → filter_map f (take (i + 1) xs) ≡ filter_map f (take i xs) ++ option_to_list (f x)
-found-next f xs i x at =
-    ap (filter_map f) (take-next_at xs i x at) ∙ filter_map-append f (take i xs) (x ∷ []) ∙ ap (λ (l : List ℕ). filter_map f (take i xs) ++ l) (one_found (f x))
+pub found-first : (f : PackageName × List ForeignItem → Option ℕ) (es : List (PackageName × List ForeignItem)) (x : PackageName × List ForeignItem) (xs : List (PackageName × List ForeignItem)) → es ≡ x ∷ xs
+    → filter_map f es ≡ option_to_list (f x) ++ filter_map f xs
+found-first f es x xs first = ap (filter_map f) first ∙ (filter_map-append f (x ∷ []) xs ∙ ap (λ (l : List ℕ). l ++ filter_map f xs) (one_found (f x)))
 
 -- where one more hasn't the name either
 pub unnamed-next : (es : List (PackageName × List ForeignItem)) (n : ℕ) (name : PackageName) (x : PackageName × List ForeignItem) → slice_get es n ≡ Some x → same_package x.0 name ≡ false

@@ -32,8 +32,7 @@ fn deps_of(
     ensures { IfOk result (λ deps. deps ≡ found_deps places.now «package».now) }
 {
     let mut deps = Items::new(alloc);
-    for index in 0..package.foreign_deps.len() {
-        let name = package.foreign_deps.entry_at(index).0;
+    for (name, _) in package.foreign_deps.iter() {
         push_found(&mut deps, places.get(name).copied())?;
     }
     Ok(deps)

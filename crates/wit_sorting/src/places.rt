@@ -46,8 +46,8 @@ fn values_of(alloc: Global, places: &Table<PackageName, usize>) -> Result<Items<
     ensures { IfOk result (λ values. values ≡ values_of places.now) }
 {
     let mut values = Items::new(alloc);
-    for index in 0..places.len() {
-        values.push(*places.entry_at(index).1)?;
+    for (_, place) in places.iter() {
+        values.push(*place)?;
     }
     Ok(values)
 }

@@ -41,7 +41,7 @@ fn group_order(
     ensures cause { IfErr result (λ kind. (kind ≡ OutOfMemory) ⊎ IsSortCause handed.now kind) }
 {
     let places = places_by_name(alloc, handed)?;
-    let _count = places.len();
+    places.keys_differ();
     let uses = uses_of_handed(alloc, handed, &places)?;
     if let Some(found) = find_cycle(alloc, uses.as_slice())? {
         return Err(handed_in_cycle(handed, found));

@@ -34,8 +34,7 @@ fn is_other(id: WorldId, world: WorldId) -> bool
 pub(crate) fn is_taken(home: &Package, world: WorldId, name: &str) -> bool
     ensures { IsTrue result ↔ IsTakenIn home.now world name.now }
 {
-    // `len` tells that the names of the worlds differ.
-    let _count = home.worlds.len();
+    home.worlds.keys_differ();
     match home.worlds.get(name) {
         Some(id) => is_other(*id, world),
         None => false,

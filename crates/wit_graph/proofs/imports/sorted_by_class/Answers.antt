@@ -11,4 +11,4 @@ pub returns : goal.returns
 returns c =
     c.loop-class.invariant
     ∙ ap (λ (es : List Entry). fresh_entries [] es) (first_classes-all c.args.types.now c.loop-class.class c.args.entries.now (omega arith))
-    ∙ sorted_all c.args.types.now c.args.entries.now c.len-count.ensures.distinct
+    ∙ sorted_all c.args.types.now c.args.entries.now c.keys_differ.ensures.test

@@ -21,7 +21,7 @@ table_of-requires c =
     placing-differ c.args.entries c.in_ok-items_of.field-0 c.in_ok-items.items c.as_slice.result.now
     (placing-of c.args.entries c.into_map-map.result.entries c.in_ok-items_of.field-0 c.in_ok-getters.getters c.in_ok-order.order c.as_slice.result.now
     c.into_map-map.ensures c.in_ok-getters.ensures c.in_ok-order.ensures c.in_ok-items_of.ensures c.as_slice.ensures)
-    c.len-count.ensures.distinct c.in_ok-items.ensures
+    c.keys_differ.ensures.test c.in_ok-items.ensures
 
 pub returns : goal.returns
 returns c =

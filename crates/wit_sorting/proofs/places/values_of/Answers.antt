@@ -1,14 +1,17 @@
-use Rattle.std.proofs.Common.{◌∙◌, ◌++◌, ◌∷◌, [], ap, sym, ℕ, List, arith}
-use Rattle.std.proofs.lemmas.List.{take_all}
+use Rattle.std.proofs.Common.{◌∙◌, ◌++◌, ◌∷◌, [], ap, sym, append_assoc}
+use Rattle.std.proofs.lemmas.List.{append-nil}
+use Rattle.std.proofs.lemmas.Map.Iter.{rest_more, rest_all}
 use Rattle.std.specs.Map.{values_of}
-use Rattle.wit_values.specs.Lists.{map-next}
-use Rattle.wit_items.specs.declared.package_name.PackageName.{PackageName}
+use Rattle.std.specs.Map.Iter.{deref_pair}
 use Rattle.wit_sorting.proofs.places.values_of.Goals as goal
 
-pub loop-index-preserved : goal.loop-index-preserved
-loop-index-preserved c =
-    c.in_ok-push.ensures.ok ∙ ap (λ (l : List ℕ). l ++ c.entry_at.result.1.now ∷ []) c.loop-index.invariant
-    ∙ sym (map-next (λ (e : PackageName × ℕ). e.1) c.args.places.now c.loop-index.index (c.entry_at.result.0.now, c.entry_at.result.1.now) c.entry_at.ensures)
+pub loop-place-preserved : goal.loop-place-preserved
+loop-place-preserved c =
+    let more = rest_more deref_pair _ _ _ _ c.in-Some.is c.next.ensures.steps in
+    rw c.in_ok-push.ensures.ok
+    (append_assoc c.loop-place.values (c.in-Some.place.now ∷ []) (values_of c.next.new.self) ∙ ap (λ l. c.loop-place.values ++ values_of l) (sym more) ∙ c.loop-place.invariant)
 
 pub returns : goal.returns
-returns c = c.loop-index.invariant ∙ ap (λ (es : List (PackageName × ℕ)). values_of es) (take_all c.loop-index.index c.args.places.now (omega (arith, c.loop-index-test.false)))
+returns c =
+    let none = rest_all deref_pair _ _ _ c.in-None.is c.next.ensures.steps in
+    sym (append-nil c.loop-place.values) ∙ ap (λ l. c.loop-place.values ++ values_of l) (sym none) ∙ c.loop-place.invariant

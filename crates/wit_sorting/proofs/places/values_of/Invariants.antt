@@ -1,7 +1,7 @@
-use Rattle.std.proofs.Common.{◌≡◌, take}
+use Rattle.std.proofs.Common.{◌≡◌, ◌++◌}
 use Rattle.std.specs.Map.{values_of}
 use Rattle.wit_sorting.proofs.places.values_of.Given as goal
 
--- those so far
-abbrev pub invariant-loop-index : goal.invariant-loop-index
-invariant-loop-index l = l.values ≡ values_of (take l.index l.places)
+-- those so far, and those that are left
+abbrev pub invariant-loop-place : goal.invariant-loop-place
+invariant-loop-place l = l.values ++ values_of l.place-iterator ≡ values_of l.places

@@ -33,6 +33,6 @@ returns-clause-ok c =
     (subst (λ (ps : List (PackageName × ℕ)). AreByName ps c.in_ok-roots.roots) c.in_ok-places.ensures.ok c.in_ok-roots.ensures) in
     let acyclic : IsAcyclic c.as_slice-2.result.now = search rules in
     let differ : IsDistinct same_package (keys_of (places_of (names_of c.args.handed.now))) =
-    subst (λ (ps : List (PackageName × ℕ)). IsDistinct same_package (keys_of ps)) c.in_ok-places.ensures.ok c.len-count.ensures.distinct in
+    subst (λ (ps : List (PackageName × ℕ)). IsDistinct same_package (keys_of ps)) c.in_ok-places.ensures.ok c.keys_differ.ensures.test in
     found-order c.args.handed.now c.as_slice-2.result.now c.as_slice-3.result.now c.in_ok-walk_order.field-0
     (record { uses_are = c.as_slice-2.ensures ∙ c.in_ok-uses.ensures; acyclic = acyclic; by_name = by_name; differ = differ }) c.in_ok-walk_order.ensures
