@@ -5,6 +5,7 @@ pub mod Cut
 pub mod CutIsGood
 pub mod DependencyFacts
 pub mod ElaboratedCome
+pub mod EntryFacts
 pub mod Good
 pub mod GoodInterfaces
 pub mod GoodIsValid
@@ -24,6 +25,8 @@ pub mod OnePlaceFrom
 pub mod OperationFacts
 pub mod Operations
 pub mod OwnedFacts
+pub mod PackageCycleFacts
+pub mod PackageCycles
 pub mod PackagesAcyclic
 pub mod Referred
 pub mod ReferredFacts
