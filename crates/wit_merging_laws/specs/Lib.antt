@@ -5,6 +5,7 @@ pub mod ListedStand
 pub mod MatchFacts
 pub mod MatchedOnce
 pub mod MergingLaws
+pub mod Names
 pub mod NoCycles
 pub mod NothingFacts
 pub mod OnceStand

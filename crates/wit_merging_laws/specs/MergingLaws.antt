@@ -1,24 +1,29 @@
 -- Laws of merging.
-use Rattle.std.specs.Prelude.{◌≡◌, ℕ}
+use Rattle.std.specs.Prelude.{◌≡◌, ◌⊎◌, ◌↔◌, ℕ}
 use Rattle.wit_graph.specs.Examples.{empty_graph}
 use Rattle.wit_graph.specs.Valid.{IsValid}
 use Rattle.wit_graph.specs.declared.graph.Graph.{Graph}
 use Rattle.wit_merging.specs.Cause.{CanMerge}
 use Rattle.wit_merging.specs.Matches.{Merging}
 use Rattle.wit_merging.specs.United.{united}
+use Rattle.wit_merging_laws.specs.Names.{HasName, HaveSameNames, Name}
 
--- ---- nothing comes
+-- one graph goes into another
+abbrev pub merging : Graph → Graph → ℕ → Merging
+merging g other offset = record { graph = g; other = other; offset = offset }
 
--- an empty graph goes into a graph
-abbrev pub nothing_into : Graph → ℕ → Merging
-nothing_into g offset = record { graph = g; other = empty_graph; offset = offset }
-
--- nothing speaks against it where the graph is valid, and nothing changes
+-- where an empty graph goes into a valid one, nothing speaks against it and nothing changes
 abbrev pub NothingComes : Type 0
-NothingComes = (g : Graph) (offset : ℕ) → IsValid g → CanMerge (nothing_into g offset) × (united (nothing_into g offset) ≡ g)
+NothingComes = (g : Graph) (offset : ℕ) → IsValid g → CanMerge (merging g empty_graph offset) × (united (merging g empty_graph offset) ≡ g)
 
--- ---- what is united is valid
-
--- of two valid graphs where nothing speaks against the merge
+-- what is united of two valid graphs is valid, where nothing speaks against the merge
 abbrev pub UnionsStayValid : Type 0
 UnionsStayValid = (m : Merging) → IsValid m.graph → IsValid m.other → CanMerge m → IsValid (united m)
+
+-- it has the names of both graphs, and no others
+abbrev pub UnionsHaveBothNames : Type 0
+UnionsHaveBothNames = (m : Merging) (name : Name) → IsValid m.graph → IsValid m.other → CanMerge m → HasName (united m) name ↔ (HasName m.graph name ⊎ HasName m.other name)
+
+-- so merging in either order gives the same names
+abbrev pub NamesInEitherOrder : Type 0
+NamesInEitherOrder = (g h : Graph) (offset back : ℕ) → IsValid g → IsValid h → CanMerge (merging g h offset) → CanMerge (merging h g back) → HaveSameNames (united (merging g h offset)) (united (merging h g back))

@@ -9,6 +9,7 @@ use Rattle.wit_items.specs.Each.{Each}
 use Rattle.wit_items.specs.declared.stability.Stability.{Stability}
 use Rattle.wit_items.specs.declared.world.World.{World}
 use Rattle.wit_graph.specs.Elaboration.{graph_uses}
+use Rattle.wit_graph.specs.Examples.{empty_graph}
 use Rattle.wit_graph.specs.Imported.{HasConflict}
 use Rattle.wit_graph.specs.Valid.{IsValid}
 use Rattle.wit_graph.specs.declared.graph.Graph.{Graph}
@@ -19,7 +20,7 @@ use Rattle.wit_merging.specs.Cause.{CanMerge, borrow_in_result_15, conflict_4, i
 use Rattle.wit_merging.specs.Matches.{Merging, Pair, found_interface, found_type, found_world}
 use Rattle.wit_merging.specs.Reasons.{AreJoined, entries, graph_package_uses, interfaces, types, worlds}
 use Rattle.wit_merging.specs.United.{all_elaborated, elaborated_world, joined_graph}
-use Rattle.wit_merging_laws.specs.MergingLaws.{NothingComes, nothing_into}
+use Rattle.wit_merging_laws.specs.MergingLaws.{NothingComes, merging}
 
 -- the elements of a numbered list are the list
 pub unnumbered : {X : Type 0} (n : ℕ) (xs : List X) → map (λ (e : ℕ × X). e.1) (enumerate_from n xs) ≡ xs
@@ -31,7 +32,7 @@ pub map_same : {X : Type 0} (f : X → X) (xs : List X) → Each (λ x. f x ≡ 
 map_same f [] same = refl
 map_same f (x ∷ xs) same = λ i. same 0 x refl i ∷ map_same f xs (λ k y at. same (suc k) y at) i
 
-same_lists : (g : Graph) (offset : ℕ) → joined_graph (nothing_into g offset) ≡ g
+same_lists : (g : Graph) (offset : ℕ) → joined_graph (merging g empty_graph offset) ≡ g
 same_lists g offset = λ i. record {
   types = (append-nil (map (λ e. e.1) (enumerate_from 0 g.types)) ∙ unnumbered 0 g.types) i;
   interfaces = (append-nil (map (λ e. e.1) (enumerate_from 0 g.interfaces)) ∙ unnumbered 0 g.interfaces) i;
@@ -58,7 +59,7 @@ no_cycle rows acyclic p q cycle = acyclic.no_cycle p q cycle.leads_back.0 (cycle
 
 module _ (g : Graph) (offset : ℕ) (valid : IsValid g) where
   abbrev m : Merging
-  m = nothing_into g offset
+  m = merging g empty_graph offset
 
   -- what holds of the graph holds of the two as one
   abbrev so : (P : Graph → Type 0) → P g → P (joined_graph m)

@@ -65,14 +65,14 @@ module _ (g : Graph) (valid : IsValid g) where
 
   -- what stands under a label stands nowhere else
   pub spot_key : (i w v : ℕ) (b c : Bool) (j : ℕ) (world : World) (label : List ℕ) (held : WorldItem) → is_unnamed g.interfaces i ≡ true → slice_get g.worlds w ≡ Some world
-      → Contains (entries_of b world) (key.Name label, held) → item_interface held ≡ i ∷ [] → (h : Holds g.worlds v c j i) → (w ≡ v) × (key.Name label ≡ h.entry.0)
+      → Contains (entries_of b world) (key.Name label, held) → item_interface held ≡ i ∷ [] → (h : Holds g.worlds v c j i) → (w ≡ v) × (key.Name label ≡ h.entry.0) × (b ≡ c)
   spot_key i w v b c j world label held unnamed there listed is h =
       let place = place_of (entries_of b world) (key.Name label, held) listed in
       let places = one_place g valid i w v b c place.0 j unnamed (record { world = world; there = there; entry = (key.Name label, held); at = place.1; held = is }) h in
       let worlds = same_at g.worlds w v world h.world places.0 there h.there in
       let lists : entries_of b world ≡ entries_of c h.world = λ k. entries_of (places.1 k) (worlds k) in
       let entries = same_at (entries_of c h.world) place.0 j (key.Name label, held) h.entry places.2 (subst (λ (es : List Entry). slice_get es place.0 ≡ Some (key.Name label, held)) lists place.1) h.at in
-      (places.0, ap (λ (e : Entry). e.0) entries)
+      (places.0, ap (λ (e : Entry). e.0) entries, places.1)
 
 -- the places of one source
 same_origin : (s : Source) (f' w' v' : ℕ) (c d : WorldKey) → ((f e : ℕ) → s.maps.interfaces f ≡ s.maps.interfaces e → f ≡ e) → HasOnePlace s.graph.interfaces s.graph.worlds → Origin s f' w' c → Origin s f' v' d
@@ -142,7 +142,7 @@ module _ (m : Merging) (valid : IsValid m.graph) (valid_other : IsValid m.other)
 
 -- ---- on one side
 
-settled_interface : (held : WorldItem) → item_interface (settled_item held) ≡ item_interface held
+pub settled_interface : (held : WorldItem) → item_interface (settled_item held) ≡ item_interface held
 settled_interface (item.Interface i stability docs span external_id) = refl
 settled_interface (item.Function f) = refl
 settled_interface (item.Type_ t span) = refl

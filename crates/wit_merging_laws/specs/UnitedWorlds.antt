@@ -22,7 +22,6 @@ use Rattle.wit_graph.specs.Listed.{IsListed}
 use Rattle.wit_graph.specs.Valid.{IsValid}
 use Rattle.wit_graph.specs.declared.graph.Graph.{Graph}
 use Rattle.wit_growth.specs.Covered.{IsCovered, WorldComes}
-use Rattle.wit_growth.specs.CoveredIsValid.{IsGoodWhere-of_covered}
 use Rattle.wit_growth.specs.ElaboratedCome.{elaborated_comes}
 use Rattle.wit_growth.specs.Kept.{everything}
 use Rattle.wit_growth.specs.ListFacts.{Contains-map, at_map, contained_at, found_at, from_map, place_of, some_at}
@@ -38,7 +37,7 @@ use Rattle.wit_merging_laws.specs.InterfacesStand as interfaces
 use Rattle.wit_merging_laws.specs.JoinedGood.{CanElaborate, aliases, in_order, listed_exports}
 use Rattle.wit_merging_laws.specs.ListedStand.{worlds_come}
 use Rattle.wit_merging_laws.specs.TypesStand as types
-use Rattle.wit_merging_laws.specs.WorldsStand.{entry, joined_stands, listed_by, lists_it, sources_good}
+use Rattle.wit_merging_laws.specs.WorldsStand.{entry, joined_stands, listed_by, lists_it}
 
 -- an exported key is that of an interface with a name
 named_key : (interfaces : List Interface) (k : WorldKey) (held : WorldItem) (j : ℕ) → Contains (id_of k) j → IsExport interfaces k held → IsNamed interfaces j

@@ -42,7 +42,7 @@ use Rattle.wit_merging_laws.specs.TypesStand.{matched_some}
 use Rattle.wit_merging_laws.specs.UsesFrom.{UseOfOther, use_from}
 use Rattle.wit_merging_laws.specs.WorldsStand.{entry_there}
 
-abbrev entry : WorldKey → WorldItem → Entry
+abbrev pub entry : WorldKey → WorldItem → Entry
 entry k held = (k, held)
 
 -- ---- keys that a world lists
@@ -102,17 +102,17 @@ valid_lists least g valid w world there =
 
 -- ---- a world with stabilities joined to its entries keeps their keys and what they hold
 
-record KeepsEntries (old new : World) : Type 0 where
-  from : (exported : Bool) (e : Entry) → Contains (entries_of exported new) e → (d : Entry) × Contains (entries_of exported old) d × (e.0 ≡ d.0) × (item_interface e.1 ≡ item_interface d.1)
-  into : (exported : Bool) (d : Entry) → Contains (entries_of exported old) d → (held : WorldItem) × Contains (entries_of exported new) (entry d.0 held)
+pub record KeepsEntries (old new : World) : Type 0 where
+  pub from : (exported : Bool) (e : Entry) → Contains (entries_of exported new) e → (d : Entry) × Contains (entries_of exported old) d × (e.0 ≡ d.0) × (item_interface e.1 ≡ item_interface d.1)
+  pub into : (exported : Bool) (d : Entry) → Contains (entries_of exported old) d → (held : WorldItem) × Contains (entries_of exported new) (entry d.0 held) × (item_interface held ≡ item_interface d.1)
 
 entries_from : (brought es : List Entry) (e : Entry) → Contains (map (joined_entry false brought) es) e → (d : Entry) × Contains es d × (e.0 ≡ d.0) × (item_interface e.1 ≡ item_interface d.1)
 entries_from brought es e has =
     let from = Contains-map_cases (joined_entry false brought) es e has in
     (from.0, from.1, ap (λ (x : Entry). x.0) (sym from.2), ap (λ (x : Entry). item_interface x.1) (sym from.2) ∙ entry_held brought from.0)
 
-entries_into : (brought es : List Entry) (d : Entry) → Contains es d → (held : WorldItem) × Contains (map (joined_entry false brought) es) (entry d.0 held)
-entries_into brought es d has = ((joined_entry false brought d).1, Contains-map (joined_entry false brought) es d has)
+entries_into : (brought es : List Entry) (d : Entry) → Contains es d → (held : WorldItem) × Contains (map (joined_entry false brought) es) (entry d.0 held) × (item_interface held ≡ item_interface d.1)
+entries_into brought es d has = ((joined_entry false brought d).1, Contains-map (joined_entry false brought) es d has, entry_held brought d)
 
 pub world_keeps_entries : (m : Merging) (e : ℕ × World) → KeepsEntries e.1 (joined_world m e)
 world_keeps_entries m e = by (partner (found_world m) m.other.worlds e.0)
@@ -122,12 +122,12 @@ world_keeps_entries m e = by (partner (found_world m) m.other.worlds e.0)
     some_from p false x has = entries_from (map (entry_image (merge_maps m) p.0) (filter (λ (x : Entry). is_under_id x.0) p.1.imports)) e.1.imports x has
     some_from p true x has = entries_from (map (entry_image (merge_maps m) p.0) (filter (λ (x : Entry). is_under_id x.0) p.1.exports)) e.1.exports x has
 
-    some_into : (p : ℕ × World) (exported : Bool) (d : Entry) → Contains (entries_of exported e.1) d → (held : WorldItem) × Contains (entries_of exported (with_world m p e.1)) (entry d.0 held)
+    some_into : (p : ℕ × World) (exported : Bool) (d : Entry) → Contains (entries_of exported e.1) d → (held : WorldItem) × Contains (entries_of exported (with_world m p e.1)) (entry d.0 held) × (item_interface held ≡ item_interface d.1)
     some_into p false d has = entries_into (map (entry_image (merge_maps m) p.0) (filter (λ (x : Entry). is_under_id x.0) p.1.imports)) e.1.imports d has
     some_into p true d has = entries_into (map (entry_image (merge_maps m) p.0) (filter (λ (x : Entry). is_under_id x.0) p.1.exports)) e.1.exports d has
 
     by : (o : Option (ℕ × World)) → KeepsEntries e.1 (option_map_or (λ (p : ℕ × World). with_world m p e.1) o e.1)
-    by None = record { from = λ exported x has. (x, has, refl, refl); into = λ exported d has. (d.1, has) }
+    by None = record { from = λ exported x has. (x, has, refl, refl); into = λ exported d has. (d.1, has, refl) }
     by (Some p) = record { from = some_from p; into = some_into p }
 
 -- ---- the worlds of the two as one
@@ -199,7 +199,7 @@ module _ (least : ImportsAreLeast) (m : Merging) (valid : IsValid m.graph) (vali
   -- a world that moves
   module _ (w : ℕ) (old : World) (there : slice_get m.other.worlds w ≡ Some old) (moves : moves_world m w ≡ true) where
     -- no interface without a name in it is matched
-    unmatched : (exported : Bool) (d : Entry) (i : ℕ) → Contains (entries_of exported old) d → item_interface d.1 ≡ i ∷ [] → is_unnamed m.other.interfaces i ≡ true → moves_interface m i ≡ true
+    pub unmatched : (exported : Bool) (d : Entry) (i : ℕ) → Contains (entries_of exported old) d → item_interface d.1 ≡ i ∷ [] → is_unnamed m.other.interfaces i ≡ true → moves_interface m i ≡ true
     unmatched exported d i has held unnamed = elim (cases_Bool (moves_interface m i)) [
       | inl goes ↦ goes
       | inr stays ↦
@@ -216,11 +216,11 @@ module _ (least : ImportsAreLeast) (m : Merging) (valid : IsValid m.graph) (vali
         found_moves None x is moves = cc
         found_moves (Some y) x is moves = cc
 
-    image_entry : (exported : Bool) (e : Entry) → Contains (entries_of exported (world_image (merge_maps m) w old)) e → (d : Entry) × Contains (entries_of exported old) d × (entry_image (merge_maps m) w d ≡ e)
+    pub image_entry : (exported : Bool) (e : Entry) → Contains (entries_of exported (world_image (merge_maps m) w old)) e → (d : Entry) × Contains (entries_of exported old) d × (entry_image (merge_maps m) w d ≡ e)
     image_entry false e has = Contains-map_cases (entry_image (merge_maps m) w) old.imports e has
     image_entry true e has = Contains-map_cases (entry_image (merge_maps m) w) old.exports e has
 
-    entry_imaged : (exported : Bool) (d : Entry) → Contains (entries_of exported old) d → Contains (entries_of exported (world_image (merge_maps m) w old)) (entry_image (merge_maps m) w d)
+    pub entry_imaged : (exported : Bool) (d : Entry) → Contains (entries_of exported old) d → Contains (entries_of exported (world_image (merge_maps m) w old)) (entry_image (merge_maps m) w d)
     entry_imaged false d has = Contains-map (entry_image (merge_maps m) w) old.imports d has
     entry_imaged true d has = Contains-map (entry_image (merge_maps m) w) old.exports d has
 

@@ -45,7 +45,7 @@ module _ (laws : WorldLaws) (refused : ConflictsAreRefused) (least : ImportsAreL
   -- no package depends on itself, with worlds as they are listed
   listed_packages : IsAcyclic (graph_package_uses g)
   listed_packages =
-      acyclic_packages g.types g.interfaces g.worlds g.packages (interfaces_in_tables m valid valid_other) (λ p q home there cycle.
+      acyclic_packages g.types g.interfaces g.packages (interfaces_in_tables m valid valid_other) g.worlds (λ p q home there cycle.
       can (PackageCycle None home.name)
       (package_cycle_6 home.name (record { one = one; p = p; q = q; on_cycle = cycle; is = some_at (λ (there : Package). home.name ≡ there.name) g.packages p home there refl })))
 
