@@ -9,7 +9,7 @@ use Rattle.wit_items.specs.declared.world.WorldKey.{WorldKey}
 use Rattle.wit_items.specs.declared.world.WorldKey.TheVariants as key
 use Rattle.wit_graph.proofs.Classes.{in_by_class}
 use Rattle.wit_graph.proofs.Filters.{Contains-filter, Contains-filtered}
-use Rattle.wit_graph.specs.Elaborated.{Carried, dependency_of, settled_item}
+use Rattle.wit_graph.specs.Elaborated.{settled_item}
 use Rattle.wit_graph.specs.Elaboration.{graph_uses}
 use Rattle.wit_graph.specs.Entries.{by_class}
 use Rattle.wit_graph.specs.KeptByElaboration.{ExportKeysStay, is_label, labelled, settled}
@@ -29,8 +29,8 @@ use Rattle.wit_merging_laws.specs.UnitedWorlds.{entries_from, is_elaborated}
 use Rattle.wit_merging_laws.specs.UsesListed.{entry}
 
 -- what elaboration adds stands under no label
-no_label : (label : List ℕ) (held : WorldItem) (carried : Carried) (j : ℕ) → entry (key.Name label) held ≡ dependency_of carried j → ⊥
-no_label label held carried j same = let keys : key.Name label ≡ key.Interface j = ap (λ (e : Entry). e.0) same in cc
+no_label : (label : List ℕ) (j : ℕ) → key.Name label ≡ key.Interface j → ⊥
+no_label label j same = cc
 
 -- an item that stands under a key where another stood, with the same interface if it is one
 pub record Beside (entries : List Entry) (k : WorldKey) (held : WorldItem) : Type 0 where
@@ -66,11 +66,11 @@ module _ (laws : WorldLaws) (keys : ExportKeysStay) (m : Merging) (valid : IsVal
             has = subst (λ (k : WorldKey). Contains listed.imports (entry k stays.0.1)) same_key stays.1;
             same = sym (settled_interface stays.0.1) ∙ ap item_interface same_held;
           }
-      | inr made ↦ absurd (no_label label held made.0 made.1 made.2)
+      | inr made ↦ absurd (no_label label made.1 (ap (λ (e : Entry). e.0) made.2))
     ]
     label_from true label held has = elim ((entries_from laws m valid valid_other one can w' listed there (entry (key.Name label) held)).1 has) [
       | inl stays ↦ record { there = held; has = stays; same = refl }
-      | inr made ↦ absurd (no_label label held made.0 made.1 made.2)
+      | inr made ↦ absurd (no_label label made.1 (ap (λ (e : Entry). e.0) made.2))
     ]
 
     export_stays : (k : WorldKey) → (Contains (keys_of done.exports) k → Contains (keys_of listed.exports) k) × (Contains (keys_of listed.exports) k → Contains (keys_of done.exports) k)

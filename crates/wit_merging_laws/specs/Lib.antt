@@ -1,6 +1,7 @@
 pub mod InterfacesStand
 pub mod JoinedGood
 pub mod KeptFacts
+pub mod LabelsStay
 pub mod ListedStand
 pub mod MatchFacts
 pub mod MatchedOnce

@@ -129,32 +129,32 @@ module _ (m : Merging) (valid : IsValid m.graph) (valid_other : IsValid m.other)
   abbrev one : AreOne m
   one = are_one m can
 
-  abbrev g : Graph
-  g = joined_graph m
+  abbrev joined : Graph
+  joined = joined_graph m
 
   abbrev uses : List (List ℕ)
-  uses = graph_uses g
+  uses = graph_uses joined
 
-  named_is_used : (i j : ℕ) → Contains (direct uses i) j → IsNamed g.interfaces j
-  named_is_used i j has = used_is_named g.types g.interfaces (aliases m valid valid_other one) i j has
+  named_is_used : (i j : ℕ) → Contains (direct uses i) j → IsNamed joined.interfaces j
+  named_is_used i j has = used_is_named joined.types joined.interfaces (aliases m valid valid_other one) i j has
 
   -- the end of a path along uses has a name
-  end_named : (i k : ℕ) (path : List ℕ) (j : ℕ) → IsPath uses i (k ∷ path) j → IsNamed g.interfaces j
-  end_named i k [] j leads = subst (IsNamed g.interfaces) leads.1 (named_is_used i k leads.0)
+  end_named : (i k : ℕ) (path : List ℕ) (j : ℕ) → IsPath uses i (k ∷ path) j → IsNamed joined.interfaces j
+  end_named i k [] j leads = subst (IsNamed joined.interfaces) leads.1 (named_is_used i k leads.0)
   end_named i k (x ∷ path) j leads = end_named k x path j leads.1
 
-  id_of_named : (i : ℕ) → IsNamed g.interfaces i → (id : List ℕ) × (interface_id_at g.packages g.interfaces i ≡ Some id)
+  id_of_named : (i : ℕ) → IsNamed joined.interfaces i → (id : List ℕ) × (interface_id_at joined.packages joined.interfaces i ≡ Some id)
   id_of_named i named =
-      let found = found_at (λ (interface : Interface). IsSome interface.name) g.interfaces i named in
+      let found = found_at (λ (interface : Interface). IsSome interface.name) joined.interfaces i named in
       let name = has_name found.0.name found.2 in
       let home = has_home _ found.0.package (interfaces_in_tables m valid valid_other i found.0 found.1) in
-      (id_text g.packages home.0 name.0, whole (slice_get g.interfaces i) found.0 found.1 name.0 home.0 name.1 home.1)
+      (id_text joined.packages home.0 name.0, whole (slice_get joined.interfaces i) found.0 found.1 name.0 home.0 name.1 home.1)
     where
       whole : (o : Option Interface) (interface : Interface) → o ≡ Some interface → (name : List ℕ) (p : ℕ) → interface.name ≡ Some name → interface.package ≡ Some p
-          → option_and_then (interface_id_text g.packages) o ≡ Some (id_text g.packages p name)
+          → option_and_then (interface_id_text joined.packages) o ≡ Some (id_text joined.packages p name)
       whole o interface at name p named of =
-          ap (option_and_then (interface_id_text g.packages)) at ∙ ap (option_and_then (λ (n : List ℕ). option_map (λ (q : ℕ). id_text g.packages q n) interface.package)) named
-          ∙ ap (option_map (λ (q : ℕ). id_text g.packages q name)) of
+          ap (option_and_then (interface_id_text joined.packages)) at ∙ ap (option_and_then (λ (n : List ℕ). option_map (λ (q : ℕ). id_text joined.packages q n) interface.package)) named
+          ∙ ap (option_map (λ (q : ℕ). id_text joined.packages q name)) of
 
   no_interface_cycle : (message : List ℕ) → UsesItself m message → ⊥
   no_interface_cycle message is = can (Semantic None message cause.InterfaceCycle) (interface_cycle_22 message is)
@@ -164,18 +164,18 @@ module _ (m : Merging) (valid : IsValid m.graph) (valid_other : IsValid m.other)
   joined_uses_acyclic = record {
     in_range = λ i k d inside.
         let has = Contains-get_or (direct uses i) k d inside in
-        let within = named_within g.interfaces (get_or (direct uses i) k d) (named_is_used i (get_or (direct uses i) k d) has) in
-        omega (arith, within, length-map g.interfaces (interface_uses g.types));
+        let within = named_within joined.interfaces (get_or (direct uses i) k d) (named_is_used i (get_or (direct uses i) k d) has) in
+        omega (arith, within, length-map joined.interfaces (interface_uses joined.types));
     no_cycle = λ i k path leads.
         let id = id_of_named i (end_named i k path i leads) in
         no_interface_cycle (interface_cycle_text id.0) (record { one = one; i = i; j = k; on_cycle = record { is_used = leads.0; leads_back = (path, leads.1) }; id = id.0; id_is = id.1; message_is = refl });
   }
 
   -- no world is in conflict
-  pub joined_clear : ConflictsAreRefused → (world : World) → Contains g.worlds world → HasConflict uses world.exports → ⊥
+  pub joined_clear : ConflictsAreRefused → (world : World) → Contains joined.worlds world → HasConflict uses world.exports → ⊥
   joined_clear refused world there conflict =
-      let place = place_of g.worlds world there in
-      let k = (refused g.types uses world.imports world.exports joined_uses_acyclic (in_order m valid valid_other one place.0 world place.1)).0 conflict in
-      let name = key_text g.packages g.interfaces k.0 in
+      let place = place_of joined.worlds world there in
+      let k = (refused joined.types uses world.imports world.exports joined_uses_acyclic (in_order m valid valid_other one place.0 world place.1)).0 conflict in
+      let name = key_text joined.packages joined.interfaces k.0 in
       can (InvalidTransitiveDependency world.span name)
       (conflict_4 world.span name (record { one = one; acyclic = no_interface_cycle; world = world; there = there; conflict = conflict; name_is = (k.0, k.1, refl); span_is = refl }))

@@ -69,7 +69,7 @@ module _ (g : Graph) (offset : ℕ) (valid : IsValid g) where
   none_joined from into (types p) = no_pair (found_type m) g.types p
   none_joined from into (interfaces p) = no_pair (found_interface m) g.interfaces p
   none_joined from into (worlds p) = no_pair (found_world m) g.worlds p
-  none_joined from into (entries p exported i i' from into same has has_so) = no_pair (found_world m) g.worlds p
+  none_joined from into (entries p exported i i' one other same has has_so) = no_pair (found_world m) g.worlds p
 
   none_differ : (message : List ℕ) → GraphsDiffer m message → ⊥
   none_differ message (differ.interfaces p home there name text called of at other) = no_pair (found_interface m) g.interfaces p

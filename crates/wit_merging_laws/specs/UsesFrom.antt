@@ -113,7 +113,8 @@ module _ (m : Merging) (valid : IsValid m.graph) (valid_other : IsValid m.other)
         let same_named = same_at g.types (type_place m target.0) needs.target stands.0 needs.named (sym target.2) stands.1 needs.target_there in
         let mine : needs.alias.owner ≡ owner.Interface (interface_place m by.0) = by_is ∙ ap (λ (x : ℕ). owner.Interface x) by.2 in
         let theirs : needs.named.owner ≡ owner_image (merge_maps m) named.0.owner = ap (λ (d : TypeDef). d.owner) (sym same_named) ∙ stands.2.owner in
-        let other = other_from (merge_maps m) by.0 named.0.owner j' ((λ k. other_owner (sym mine k) (sym theirs k)) ∙ needs.other) in
+        let needs_other : other_owner (owner.Interface (interface_place m by.0)) (owner_image (merge_maps m) named.0.owner) ≡ Some j' = (λ k. other_owner (sym mine k) (sym theirs k)) ∙ needs.other in
+        let other = other_from (merge_maps m) by.0 named.0.owner j' needs_other in
         record {
           i = by.0;
           j = other.0;

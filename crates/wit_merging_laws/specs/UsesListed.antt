@@ -143,7 +143,7 @@ module _ (least : ImportsAreLeast) (m : Merging) (valid : IsValid m.graph) (vali
       let here = entry_there m valid valid_other one w w' from into there found into_there listed.exported (key.Interface j) listed.held listed.has in
       let goes = under (found_interface m j) refl here.k' here.key_is in
       lists_key listed.exported into (interface_place m j) here.here
-      (subst (λ (k : WorldKey). Contains (entries_of listed.exported into) (entry k here.here)) goes (Contains-from_lookup same_key-true here.k' here.here (entries_of listed.exported into) here.found))
+      (subst (λ (k : WorldKey). Contains (entries_of listed.exported into) (entry k here.here)) goes (Contains-from_lookup same_key-true here.k' here.here (entries_of listed.exported into) here.looked))
     where
       under : (o : Option ℕ) → found_interface m j ≡ o → (k : WorldKey) → option_map (λ i'. key.Interface i') o ≡ Some k → k ≡ key.Interface (interface_place m j)
       under None is k looked = cc
@@ -154,30 +154,30 @@ module _ (least : ImportsAreLeast) (m : Merging) (valid : IsValid m.graph) (vali
     -- a use that comes with the other graph
     brought_listed : (exported : Bool) (d : Entry) (f j : ℕ) → Contains (entries_of exported old) d → item_interface d.1 ≡ f ∷ [] → is_unnamed m.graph.interfaces f ≡ true → f < length m.graph.interfaces → UseOfOther m valid valid_other one f j
         → ListsKey old j
-    brought_listed exported d f j has held unnamed within use = elim (cases_Bool (moves_interface m use.i)) [
+    brought_listed exported d f j has held unnamed within brought = elim (cases_Bool (moves_interface m brought.i)) [
       | inl goes ↦
-          let place = use.place in
-          let next = moved_interface_goes m use.i goes in
+          let place = brought.place in
+          let next = moved_interface_goes m brought.i goes in
           absurd (omega (arith, within, place, next))
       | inr stays ↦
-          let some = matched_some (found_interface m use.i) stays in
-          let same : some.0 ≡ f = sym (goes_to (found_interface m use.i) _ some.0 some.1) ∙ sym use.place in
+          let some = matched_some (found_interface m brought.i) stays in
+          let same : some.0 ≡ f = sym (goes_to (found_interface m brought.i) _ some.0 some.1) ∙ sym brought.place in
           by (some.1 ∙ ap (λ (x : ℕ). Some x) same)
     ]
       where
-        by : found_interface m use.i ≡ Some f → ListsKey old j
+        by : found_interface m brought.i ≡ Some f → ListsKey old j
         by found =
-            let is = interface_is m valid valid_other use.i f found in
-            let nameless : is_unnamed m.other.interfaces use.i ≡ true = sym (unnamed_same m.other.interfaces m.graph.interfaces use.i f is.from is.into is.from_is is.into_is is.called) ∙ unnamed in
-            let spot = spot_of m valid valid_other use.i f nameless found in
-            let stands = stands_at m.other.worlds use.i spot.spot (Contains-from_lookup (λ a b. eqb-true a b) use.i spot.spot (spots m.other.worlds) spot.spot_is) in
+            let is = interface_is m valid valid_other brought.i f found in
+            let nameless : is_unnamed m.other.interfaces brought.i ≡ true = sym (unnamed_same m.other.interfaces m.graph.interfaces brought.i f is.from is.into is.from_is is.into_is is.called) ∙ unnamed in
+            let spot = spot_of m valid valid_other brought.i f nameless found in
+            let stands = stands_at m.other.worlds brought.i spot.spot (Contains-from_lookup (λ a b. eqb-true a b) brought.i spot.spot (spots m.other.worlds) spot.spot_is) in
             let place = place_of (entries_of exported old) d has in
             let mine = spot_key m.graph valid f spot.w' w' spot.spot.exported exported place.0 spot.there spot.spot.label spot.held unnamed spot.there_is
             (Contains-from_lookup same_key-true (key.Name spot.spot.label) spot.held (entries_of spot.spot.exported spot.there) spot.listed) spot.is
             (record { world = old; there = there; entry = d; at = place.1; held = held }) in
-            let listed = valid_lists least m.other valid_other spot.spot.world stands.world stands.there spot.spot.exported (entry (key.Name spot.spot.label) stands.held) use.i use.j stands.listed stands.is nameless use.used in
-            subst (ListsKey old) (sym use.used_place)
-            (partner_lists_key spot.spot.world w' stands.world old use.j stands.there (spot.matched ∙ ap (λ (x : ℕ). Some x) mine.0) there listed)
+            let listed = valid_lists least m.other valid_other spot.spot.world stands.world stands.there spot.spot.exported (entry (key.Name spot.spot.label) stands.held) brought.i brought.j stands.listed stands.is nameless brought.used in
+            subst (ListsKey old) (sym brought.used_place)
+            (partner_lists_key spot.spot.world w' stands.world old brought.j stands.there (spot.matched ∙ ap (λ (x : ℕ). Some x) mine.0) there listed)
 
     old_lists : ListsUse g.interfaces (graph_uses g) old
     old_lists exported d f j has held unnamed edge =
@@ -185,7 +185,7 @@ module _ (least : ImportsAreLeast) (m : Merging) (valid : IsValid m.graph) (vali
         let nameless : is_unnamed m.graph.interfaces f ≡ true = sym (unnamed_same m.graph.interfaces g.interfaces f f here.0 (joined_interface m (f, here.0)) here.1 (old_interface_at m f here.0 here.1) (joined_keeps m (f, here.0)).name) ∙ unnamed in
         elim (use_from m valid valid_other one f j edge) [
           | inl used ↦ valid_lists least m.graph valid w' old there exported d f j has held nameless used
-          | inr use ↦ brought_listed exported d f j has held nameless (slice_get_within m.graph.interfaces f here.0 here.1) use
+          | inr brought ↦ brought_listed exported d f j has held nameless (slice_get_within m.graph.interfaces f here.0 here.1) brought
         ]
 
     joined_lists : ListsUse g.interfaces (graph_uses g) (joined_world m (w', old))
@@ -239,13 +239,13 @@ module _ (least : ImportsAreLeast) (m : Merging) (valid : IsValid m.graph) (vali
               let next = moved_interface_goes m i (unmatched exported from.0 i from.1 is.1 nameless) in
               let place = is.2 in
               absurd (omega (arith, within, next, place))
-          | inr use ↦
-              let same : use.i ≡ i = interfaces_apart m valid valid_other use.i i (sym use.place ∙ is.2) in
-              let edge_there : Contains (direct (graph_uses m.other) i) use.j = subst (λ (x : ℕ). Contains (direct (graph_uses m.other) x) use.j) same use.used in
-              let listed = keyed old use.j (valid_lists least m.other valid_other w old there exported from.0 i use.j from.1 is.1 nameless edge_there) in
-              subst (ListsKey (world_image (merge_maps m) w old)) (sym use.used_place)
-              (lists_key listed.exported (world_image (merge_maps m) w old) (interface_place m use.j) (entry_image (merge_maps m) w (entry (key.Interface use.j) listed.held)).1
-              (entry_imaged listed.exported (entry (key.Interface use.j) listed.held) listed.has))
+          | inr brought ↦
+              let same : brought.i ≡ i = interfaces_apart m valid valid_other brought.i i (sym brought.place ∙ is.2) in
+              let edge_there : Contains (direct (graph_uses m.other) i) brought.j = subst (λ (x : ℕ). Contains (direct (graph_uses m.other) x) brought.j) same brought.used in
+              let listed = keyed old brought.j (valid_lists least m.other valid_other w old there exported from.0 i brought.j from.1 is.1 nameless edge_there) in
+              subst (ListsKey (world_image (merge_maps m) w old)) (sym brought.used_place)
+              (lists_key listed.exported (world_image (merge_maps m) w old) (interface_place m brought.j) (entry_image (merge_maps m) w (entry (key.Interface brought.j) listed.held)).1
+              (entry_imaged listed.exported (entry (key.Interface brought.j) listed.held) listed.has))
         ]
 
   pub joined_lists_uses : (w' : ℕ) (world : World) → slice_get g.worlds w' ≡ Some world → ListsUses g.interfaces (graph_uses g) world

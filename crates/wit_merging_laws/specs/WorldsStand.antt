@@ -134,7 +134,7 @@ module _ (m : Merging) (valid : IsValid m.graph) (valid_other : IsValid m.other)
       pub k' : WorldKey
       pub here : WorldItem
       pub key_is : found_key m k ≡ Some k'
-      pub found : lookup (same_key k') (entries_of exported into) ≡ Some here
+      pub looked : lookup (same_key k') (entries_of exported into) ≡ Some here
       pub same : same_sort held here ≡ true
 
     same_old : is.from ≡ old
@@ -155,9 +155,9 @@ module _ (m : Merging) (valid : IsValid m.graph) (valid_other : IsValid m.other)
         by : (o : Option WorldItem) → found_item m (entries_of exported into) k ≡ o → EntryThere exported k held
         by None none = absurd (differs exported (differ.absent (entry k held) has none))
         by (Some here) at =
-            let looked = some_of (λ (k' : WorldKey). lookup (same_key k') (entries_of exported into)) (found_key m k) here at in
+            let at_key = some_of (λ (k' : WorldKey). lookup (same_key k') (entries_of exported into)) (found_key m k) here at in
             elim (cases_Bool (same_sort held here)) [
-              | inl same ↦ record { k' = looked.0; here = here; key_is = looked.1; found = looked.2; same = same }
+              | inl same ↦ record { k' = at_key.0; here = here; key_is = at_key.1; looked = at_key.2; same = same }
               | inr other ↦ absurd (differs exported (differ.apart (entry k held) here _ has at (differ.sorts other)))
             ]
 
@@ -169,7 +169,7 @@ module _ (m : Merging) (valid : IsValid m.graph) (valid_other : IsValid m.other)
         let same_label : here.k' ≡ key.Name name = some_same here.k' (key.Name name) (sym here.key_is) in
         let stands : Contains into.imports (entry (key.Name name) (item.Type_ sort.0 sort.1)) =
         subst (λ (k : WorldKey). Contains into.imports (entry k (item.Type_ sort.0 sort.1))) same_label
-        (subst (λ (x : WorldItem). Contains into.imports (entry here.k' x)) sort.2 (Contains-from_lookup same_key-true here.k' here.here into.imports here.found)) in
+        (subst (λ (x : WorldItem). Contains into.imports (entry here.k' x)) sort.2 (Contains-from_lookup same_key-true here.k' here.here into.imports here.looked)) in
         let listed : Contains (world_types into) (name, sort.0) = lists_it into name sort.0 sort.1 stands in
         let some = has_one (lookup (bytes_eq name) (world_types into)) (IsSome-lookup_from_Contains nat_list_eq_equiv name (world_types into) (Contains-map (λ (e : List ℕ × ℕ). e.0) (world_types into) (name, sort.0) listed)) in
         let own = found_at (λ (def : TypeDef). (def.name ≡ Some name) × (def.owner ≡ owner.World w)) m.other.types t (world_type_is m.other valid_other w old name t there has) in
