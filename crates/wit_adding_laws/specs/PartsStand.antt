@@ -1,26 +1,19 @@
 -- What takes part of a package stands among the types and interfaces of the graph behind which it is put: types,
 -- values and interfaces.
-use Rattle.std.proofs.Common.{◌≡◌, ◌∙◌, ℕ, zero, suc, ◌+◌, ◌<◌, ◌&&◌, ◌||◌, Bool, true, false, List, [], ◌∷◌, ◌++◌, ◌⊎◌, inl, inr, map, filter, length, cond, nat_eq, Option, None, Some, option_and_then, option_map, IsSome, slice_get, refl, sym, ap, subst, arith, Contains, if◌then◌else◌}
-use Rattle.std.specs.List.{enumerate_from, flat_map, list_any, range_with_len}
+use Rattle.std.proofs.Common.{◌≡◌, ◌∙◌, ℕ, ◌+◌, ◌<◌, ◌&&◌, Bool, true, false, List, ◌++◌, ◌⊎◌, inl, inr, map, filter, length, nat_eq, Option, None, Some, option_and_then, option_map, IsSome, slice_get, refl, sym, ap, subst, arith, Contains, if◌then◌else◌}
+use Rattle.std.specs.List.{list_any, range_with_len}
 use Rattle.std.specs.Map.{lookup}
-use Rattle.std.specs.Option.{option_map_or, option_to_list}
 use Rattle.std.proofs.lemmas.List.{length-map}
-use Rattle.std.proofs.lemmas.Option.{get_or_from_slice_get}
 use Rattle.std.specs.Str.{bytes_eq}
 use Rattle.std.proofs.lemmas.Bool.{cases_Bool, false≢true, lt-ltb, ltb-true}
 use Rattle.std.proofs.lemmas.Map.Views.{Contains-from_lookup}
 use Rattle.std.proofs.lemmas.Slice.Eq.{bytes_eq-Decides}
 use Rattle.wit_values.specs.Lists.{slice_get-append}
-use Rattle.wit_relations.specs.Relation.{direct}
-use Rattle.wit_relations.specs.Walks.{walk, walk_within}
 use Rattle.wit_items.specs.Each.{SomeAt}
-use Rattle.wit_items.specs.Ownership.{IsPlain}
 use Rattle.wit_items.specs.Shape.{IsShaped}
-use Rattle.wit_items.specs.Uses.{alias_target}
 use Rattle.wit_items.specs.declared.interface.Interface.{Interface}
 use Rattle.wit_items.specs.declared.types.Handle.TheVariants.{Own}
 use Rattle.wit_items.specs.declared.types.TypeDef.{TypeDef}
-use Rattle.wit_items.specs.declared.types.TypeDefKind.{TypeDefKind}
 use Rattle.wit_items.specs.declared.types.TypeDefKind.TheVariants as kind
 use Rattle.wit_items.specs.declared.types.TypeOwner.{TypeOwner}
 use Rattle.wit_items.specs.declared.types.TypeOwner.TheVariants as owner
@@ -32,7 +25,7 @@ use Rattle.wit_growth.specs.ImagesCome.{interface_image_stands}
 use Rattle.wit_growth.specs.Image.{interface_image, name_image, owner_image, type_image}
 use Rattle.wit_growth.specs.ListFacts.{at_map, at_new, found_at, place_of, some_at}
 use Rattle.wit_growth.specs.ReferredFacts.{plain_image}
-use Rattle.wit_growth.specs.Sources.{InterfaceStands, IsOwnOf, Stands, alias_rows}
+use Rattle.wit_growth.specs.Sources.{InterfaceStands, IsOwnOf, Stands}
 use Rattle.wit_adding.specs.Addition.{Addition, added_owns, addition_maps, needs_own, own_interface, own_interfaces, own_type, own_types, part, positions, plain_maps, plain_types, type_place, interface_place, value_place}
 use Rattle.wit_adding.specs.Gates.{interface_is_active, is_foreign_interface, type_is_active}
 use Rattle.wit_adding.specs.Lookup.{is_foreign_type, listed_type}
@@ -40,8 +33,9 @@ use Rattle.wit_adding.specs.OwnThingFacts.{own_of_both}
 use Rattle.wit_adding.specs.RankFacts.{taken-at, taken_places-at}
 use Rattle.wit_adding.specs.Ranks.{rank, taken, taken_places}
 use Rattle.wit_adding.specs.Reasons.{HasImage}
-use Rattle.wit_adding.specs.Resources.{is_resource, is_resource_kind, leads_to_resource, own_of}
+use Rattle.wit_adding.specs.Resources.{leads_to_resource, own_of}
 use Rattle.wit_adding.specs.Standing.{ForeignType, foreign_interface_goes, foreign_type, listed_is, own_interface_goes, own_type_goes}
+use Rattle.wit_adding_laws.specs.LeadFacts.{filtered_range, leads_nowhere}
 use Rattle.wit_adding_laws.specs.Parts.{HasParts}
 use Rattle.wit_adding_laws.specs.SourcesGood.{package_source}
 
@@ -141,72 +135,6 @@ module _ (a : Addition) (valid : IsValid a.graph) (shaped : IsShaped a.handed) (
   ]
 
 -- ---- values
-
--- a type that is neither an alias nor a resource leads to none
-plain_alias : (k : TypeDefKind) → IsPlain k → alias_target k ≡ None
-plain_alias (kind.Record fields) plain = refl
-plain_alias kind.Resource plain = absurd plain
-plain_alias (kind.Handle handle) plain = refl
-plain_alias (kind.Flags flags) plain = refl
-plain_alias (kind.Tuple types) plain = refl
-plain_alias (kind.Variant cases) plain = refl
-plain_alias (kind.Enum cases) plain = refl
-plain_alias (kind.Option ty) plain = refl
-plain_alias (kind.Result_ ok err) plain = refl
-plain_alias (kind.List ty) plain = refl
-plain_alias (kind.Map k v) plain = refl
-plain_alias (kind.FixedLengthList ty len) plain = refl
-plain_alias (kind.Future ty) plain = refl
-plain_alias (kind.Stream ty) plain = refl
-plain_alias (kind.Type_ ty) plain = absurd plain
-plain_alias kind.Unknown plain = refl
-
-plain_resource : (k : TypeDefKind) → IsPlain k → is_resource_kind k ≡ false
-plain_resource (kind.Record fields) plain = refl
-plain_resource kind.Resource plain = absurd plain
-plain_resource (kind.Handle handle) plain = refl
-plain_resource (kind.Flags flags) plain = refl
-plain_resource (kind.Tuple types) plain = refl
-plain_resource (kind.Variant cases) plain = refl
-plain_resource (kind.Enum cases) plain = refl
-plain_resource (kind.Option ty) plain = refl
-plain_resource (kind.Result_ ok err) plain = refl
-plain_resource (kind.List ty) plain = refl
-plain_resource (kind.Map k v) plain = refl
-plain_resource (kind.FixedLengthList ty len) plain = refl
-plain_resource (kind.Future ty) plain = refl
-plain_resource (kind.Stream ty) plain = refl
-plain_resource (kind.Type_ ty) plain = absurd plain
-plain_resource kind.Unknown plain = refl
-
-leads_nowhere : (types : List TypeDef) (t : ℕ) (def : TypeDef) → slice_get types t ≡ Some def → IsPlain def.kind → leads_to_resource types t ≡ false
-unfolding walk walk_within
-leads_nowhere types t def at plain = within (length (alias_rows types))
-  where
-    none : direct (alias_rows types) t ≡ []
-    none =
-        get_or_from_slice_get (alias_rows types) t (option_to_list (alias_target def.kind)) [] (at_map (λ (def : TypeDef). option_to_list (alias_target def.kind)) types t def at)
-        ∙ ap (λ (o : Option ℕ). option_to_list o) (plain_alias def.kind plain)
-
-    here : is_resource types t ≡ false
-    here = ap (λ (o : Option TypeDef). option_map_or (λ (def : TypeDef). is_resource_kind def.kind) o false) at ∙ plain_resource def.kind plain
-
-    within : (members : ℕ) → list_any (is_resource types) (walk_within (alias_rows types) members t) ≡ false
-    within zero = refl
-    within (suc members) =
-        ap (λ (d : List ℕ). list_any (is_resource types) (flat_map (walk_within (alias_rows types) members) d ++ t ∷ [])) none
-        ∙ ap (λ (b : Bool). b || false) here
-
--- the places of what passes, one after another
-filtered_range : {X : Type 0} (p : ℕ → Bool) (xs : List X) (n : ℕ) → filter p (range_with_len n (length xs)) ≡ map (λ (e : ℕ × X). e.0) (filter (λ (e : ℕ × X). p e.0) (enumerate_from n xs))
-filtered_range p [] n = refl
-filtered_range {X} p (x ∷ xs) n = by (p n) (filtered_range p xs (n + 1))
-  where
-    by : (b : Bool) → filter p (range_with_len (n + 1) (length xs)) ≡ map (λ (e : ℕ × X). e.0) (filter (λ (e : ℕ × X). p e.0) (enumerate_from (n + 1) xs))
-        → cond b (n ∷ filter p (range_with_len (n + 1) (length xs))) (filter p (range_with_len (n + 1) (length xs)))
-        ≡ map (λ (e : ℕ × X). e.0) (cond b ((n, x) ∷ filter (λ (e : ℕ × X). p e.0) (enumerate_from (n + 1) xs)) (filter (λ (e : ℕ × X). p e.0) (enumerate_from (n + 1) xs)))
-    by true old = ap (λ l. n ∷ l) old
-    by false old = old
 
 module _ (a : Addition) (valid : IsValid a.graph) (shaped : IsShaped a.handed) (image : HasImage a) (types : List TypeDef) (interfaces : List Interface) (are : HasParts a types interfaces) where
   -- the `own` of a type that needs one stands at its place

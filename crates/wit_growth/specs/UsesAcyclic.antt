@@ -36,7 +36,7 @@ differ m f j true j' same is alike = let eq = alike (same refl) in absurd (none_
     none_some h = cc
 
 -- whose image is another interface than f's image is another interface than f
-other_from : (m : Maps) (f : ℕ) (by : TypeOwner) (j' : ℕ) → other_owner (owner.Interface (m.interfaces f)) (owner_image m by) ≡ Some j'
+pub other_from : (m : Maps) (f : ℕ) (by : TypeOwner) (j' : ℕ) → other_owner (owner.Interface (m.interfaces f)) (owner_image m by) ≡ Some j'
     → (j : ℕ) × (by ≡ owner.Interface j) × (j' ≡ m.interfaces j) × (other_owner (owner.Interface f) by ≡ Some j)
 other_from m f (owner.World w) j' is = cc
 other_from m f owner.None j' is = cc

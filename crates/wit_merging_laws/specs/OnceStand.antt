@@ -35,17 +35,17 @@ use Rattle.wit_merging.specs.Moved.{interface_place, merge_maps, moves_interface
 use Rattle.wit_merging.specs.Reasons.{AreOne}
 use Rattle.wit_merging.specs.United.{elaborated_world, joined_graph, united}
 use Rattle.wit_merging_laws.specs.InterfacesStand.{interface_stands, joined_keeps, moved_interface_goes, old_interface_at}
+use Rattle.wit_merging_laws.specs.JoinedGood.{CanElaborate}
 use Rattle.wit_merging_laws.specs.ListedStand.{WorldFrom, interfaces_apart, of_graph, of_other, world_at_from}
 use Rattle.wit_merging_laws.specs.MatchFacts.{SpotMatch, goes_to, no_name, some_of, some_same, spot_home, spot_match, stands_at}
 use Rattle.wit_merging_laws.specs.MatchedOnce.{lists_distinct, one_place}
-use Rattle.wit_merging_laws.specs.MergingLaws.{CanElaborate}
 use Rattle.wit_merging_laws.specs.TypesStand.{matched_some}
 use Rattle.wit_merging_laws.specs.UnitedWorlds.{entries_from, exported_is_named, united_covered, united_stands, used_is_named}
 use Rattle.wit_merging_laws.specs.WholeFacts.{world_from}
 use Rattle.wit_merging_laws.specs.WorldsStand.{sources_good}
 
 -- one that stands under another's name has a name if that has one
-unnamed_same : (xs ys : List Interface) (f f' : ℕ) (x y : Interface) → slice_get xs f ≡ Some x → slice_get ys f' ≡ Some y → y.name ≡ x.name → is_unnamed ys f' ≡ is_unnamed xs f
+pub unnamed_same : (xs ys : List Interface) (f f' : ℕ) (x y : Interface) → slice_get xs f ≡ Some x → slice_get ys f' ≡ Some y → y.name ≡ x.name → is_unnamed ys f' ≡ is_unnamed xs f
 unnamed_same xs ys f f' x y at at' name =
     ap (λ (o : Option Interface). option_map_or (λ (i : Interface). not (is_some i.name)) o false) at' ∙ ap (λ (n : Option (List ℕ)). not (is_some n)) name
     ∙ sym (ap (λ (o : Option Interface). option_map_or (λ (i : Interface). not (is_some i.name)) o false) at)
@@ -64,15 +64,15 @@ module _ (g : Graph) (valid : IsValid g) where
   holds_from m w b i f h = record { world = h.world; there = world_from g valid m w h.world h.there; entry = h.entry; at = h.at; held = h.held }
 
   -- what stands under a label stands nowhere else
-  spot_key : (i w v : ℕ) (b c : Bool) (j : ℕ) (world : World) (label : List ℕ) (held : WorldItem) → is_unnamed g.interfaces i ≡ true → slice_get g.worlds w ≡ Some world
-      → Contains (entries_of b world) (key.Name label, held) → item_interface held ≡ i ∷ [] → (h : Holds g.worlds v c j i) → (w ≡ v) × (key.Name label ≡ h.entry.0)
+  pub spot_key : (i w v : ℕ) (b c : Bool) (j : ℕ) (world : World) (label : List ℕ) (held : WorldItem) → is_unnamed g.interfaces i ≡ true → slice_get g.worlds w ≡ Some world
+      → Contains (entries_of b world) (key.Name label, held) → item_interface held ≡ i ∷ [] → (h : Holds g.worlds v c j i) → (w ≡ v) × (key.Name label ≡ h.entry.0) × (b ≡ c)
   spot_key i w v b c j world label held unnamed there listed is h =
       let place = place_of (entries_of b world) (key.Name label, held) listed in
       let places = one_place g valid i w v b c place.0 j unnamed (record { world = world; there = there; entry = (key.Name label, held); at = place.1; held = is }) h in
       let worlds = same_at g.worlds w v world h.world places.0 there h.there in
       let lists : entries_of b world ≡ entries_of c h.world = λ k. entries_of (places.1 k) (worlds k) in
       let entries = same_at (entries_of c h.world) place.0 j (key.Name label, held) h.entry places.2 (subst (λ (es : List Entry). slice_get es place.0 ≡ Some (key.Name label, held)) lists place.1) h.at in
-      (places.0, ap (λ (e : Entry). e.0) entries)
+      (places.0, ap (λ (e : Entry). e.0) entries, places.1)
 
 -- the places of one source
 same_origin : (s : Source) (f' w' v' : ℕ) (c d : WorldKey) → ((f e : ℕ) → s.maps.interfaces f ≡ s.maps.interfaces e → f ≡ e) → HasOnePlace s.graph.interfaces s.graph.worlds → Origin s f' w' c → Origin s f' v' d
@@ -98,7 +98,7 @@ module _ (m : Merging) (valid : IsValid m.graph) (valid_other : IsValid m.other)
   injective (suc k) f e same = interfaces_apart m valid valid_other f e same
 
   -- what the spot of a matched interface without a name says of both its places
-  spot_of : (i i' : ℕ) → is_unnamed m.other.interfaces i ≡ true → found_interface m i ≡ Some i' → SpotMatch m i i'
+  pub spot_of : (i i' : ℕ) → is_unnamed m.other.interfaces i ≡ true → found_interface m i ≡ Some i' → SpotMatch m i i'
   spot_of i i' unnamed found =
       let from = some_of (λ (interface : Interface). found_as m i interface.package interface.name) (slice_get m.other.interfaces i) i' found in
       let none = no_name m.other.interfaces i unnamed in
@@ -142,7 +142,7 @@ module _ (m : Merging) (valid : IsValid m.graph) (valid_other : IsValid m.other)
 
 -- ---- on one side
 
-settled_interface : (held : WorldItem) → item_interface (settled_item held) ≡ item_interface held
+pub settled_interface : (held : WorldItem) → item_interface (settled_item held) ≡ item_interface held
 settled_interface (item.Interface i stability docs span external_id) = refl
 settled_interface (item.Function f) = refl
 settled_interface (item.Type_ t span) = refl
@@ -158,7 +158,7 @@ joined_held (item.Type_ t span) (item.Interface i' stability' docs' span' extern
 joined_held (item.Type_ t span) (item.Function f') = refl
 joined_held (item.Type_ t span) (item.Type_ t' span') = refl
 
-entry_held : (brought : List Entry) (e : Entry) → item_interface (joined_entry false brought e).1 ≡ item_interface e.1
+pub entry_held : (brought : List Entry) (e : Entry) → item_interface (joined_entry false brought e).1 ≡ item_interface e.1
 entry_held brought e = by (lookup (same_key e.0) brought)
   where
     by : (o : Option WorldItem) → item_interface (option_map_or (λ (from : WorldItem). joined_item false from e.1) o e.1) ≡ item_interface e.1
@@ -171,7 +171,7 @@ old_held brought es d has =
     let from = Contains-map_cases (joined_entry false brought) es d has in
     (from.0, from.1, ap (λ (e : Entry). item_interface e.1) (sym from.2) ∙ entry_held brought from.0)
 
-image_held : (m : Maps) (w : ℕ) (held : WorldItem) (f' : ℕ) → item_interface (item_image m w held) ≡ f' ∷ [] → (f : ℕ) × (item_interface held ≡ f ∷ []) × (f' ≡ m.interfaces f)
+pub image_held : (m : Maps) (w : ℕ) (held : WorldItem) (f' : ℕ) → item_interface (item_image m w held) ≡ f' ∷ [] → (f : ℕ) × (item_interface held ≡ f ∷ []) × (f' ≡ m.interfaces f)
 image_held m w (item.Interface i stability docs span external_id) f' is = (i, refl, sym (same_one (m.interfaces i) f' is))
 image_held m w (item.Function f) f' is = cc
 image_held m w (item.Type_ t span) f' is = cc

@@ -1,6 +1,6 @@
 -- The types of two graphs that are one: those of the graph stay but for their stability, those of the other stand at
 -- their places, and there are no others but the `own`s that values ask for.
-use Rattle.std.proofs.Common.{◌≡◌, ◌∙◌, ℕ, ◌+◌, ◌&&◌, Bool, true, false, not, List, ◌++◌, ◌⊎◌, inl, inr, map, filter, length, is_some, nat_eq, Option, None, Some, option_map, unwrap_or, IsSome, slice_get, refl, sym, ap, subst, arith, if◌then◌else◌}
+use Rattle.std.proofs.Common.{◌≡◌, ◌∙◌, ℕ, ◌+◌, ◌<◌, ◌&&◌, Bool, true, false, not, List, ◌++◌, ◌⊎◌, inl, inr, map, filter, length, is_some, nat_eq, Option, None, Some, option_map, unwrap_or, IsSome, slice_get, refl, sym, ap, subst, arith, if◌then◌else◌}
 use Rattle.std.specs.List.{enumerate_from, list_any, range_with_len}
 use Rattle.std.specs.Option.{option_map_or}
 use Rattle.std.proofs.lemmas.Bool.{cases_Bool, false≢true, lt-ltb}
@@ -30,12 +30,12 @@ use Rattle.wit_growth.specs.Sources.{IsCarriedType, IsOwnOf, Source, Stands}
 use Rattle.wit_adding.specs.RankFacts.{taken-at, taken_places-at, taken_places-from}
 use Rattle.wit_adding.specs.Ranks.{rank, taken_places}
 use Rattle.wit_adding.specs.Resources.{leads_to_resource, own_of}
+use Rattle.wit_adding_laws.specs.LeadFacts.{filtered_range, leads_nowhere}
 use Rattle.wit_growth.specs.ReferredFacts.{plain_image}
 use Rattle.wit_merging.specs.Joined.{joined_type, with_type}
 use Rattle.wit_merging.specs.Matches.{Merging, found_type, partner}
 use Rattle.wit_merging.specs.Moved.{added_owns, merge_maps, moved_types, moves_type, needs_own, plain_maps, plain_types, positions, type_place, value_place}
 use Rattle.wit_merging.specs.United.{joined_graph}
-use Rattle.wit_merging_laws.specs.LeadFacts.{filtered_range, leads_nowhere}
 use Rattle.wit_merging_laws.specs.MatchFacts.{goes_to, type_is}
 
 -- ---- what moves, and what is matched
@@ -79,13 +79,13 @@ carried_so s g old def new keeps carried = record {
 -- ---- where types stand
 
 module _ (m : Merging) where
-  abbrev old_types : List TypeDef
+  abbrev pub old_types : List TypeDef
   old_types = map (joined_type m) (enumerate_from 0 m.graph.types)
 
-  abbrev images : List TypeDef
+  abbrev pub images : List TypeDef
   images = map (type_image (merge_maps m)) (moved_types m)
 
-  long_old : length old_types ≡ length m.graph.types
+  pub long_old : length old_types ≡ length m.graph.types
   long_old = length-map (enumerate_from 0 m.graph.types) (joined_type m) ∙ length-numbered 0 m.graph.types
 
   -- a type of the graph stays at its place
@@ -120,6 +120,42 @@ module _ (m : Merging) where
       at_new old_types (images ++ added_owns m) (length (moved_types m) + rank (needs_own m) t) (value_place m t) (own_of (type_place m t)) (omega (arith, goes, long))
       (at_new images (added_owns m) (rank (needs_own m) t) (length (moved_types m) + rank (needs_own m) t) (own_of (type_place m t)) (omega (arith, many))
       (at_map (λ (t : ℕ). own_of (type_place m t)) (filter (needs_own m) (range_with_len 0 (length m.other.types))) (rank (needs_own m) t) t listed))
+
+  -- what stands there is one of these
+  pub data TypeFrom (t' : ℕ) (new : TypeDef) : Type 0 where
+    of_graph : (old : TypeDef) → slice_get m.graph.types t' ≡ Some old → joined_type m (t', old) ≡ new → TypeFrom t' new
+    of_other : (t : ℕ) (old : TypeDef) → slice_get m.other.types t ≡ Some old → moves_type m t ≡ true → t' ≡ type_place m t → type_image (merge_maps m) old ≡ new → TypeFrom t' new
+    an_own : (t : ℕ) → t < length m.other.types → own_of (type_place m t) ≡ new → TypeFrom t' new
+
+  own_from : (t' k : ℕ) (new : TypeDef) → slice_get (added_owns m) k ≡ Some new → TypeFrom t' new
+  own_from t' k new at =
+      let from = from_map (λ (t : ℕ). own_of (type_place m t)) (filter (needs_own m) (range_with_len 0 (length m.other.types))) k new at in
+      let listed : slice_get (map (λ (e : ℕ × TypeDef). e.0) (taken_places (needs_own m) m.other.types)) k ≡ Some from.0 = ap (λ (l : List ℕ). slice_get l k) (sym (filtered_range (needs_own m) m.other.types 0)) ∙ from.1 in
+      let e = from_map (λ (e : ℕ × TypeDef). e.0) (taken_places (needs_own m) m.other.types) k from.0 listed in
+      let is = taken_places-from (needs_own m) m.other.types k e.0 e.1 in
+      an_own from.0 (slice_get_within m.other.types from.0 e.0.1 (ap (slice_get m.other.types) (sym e.2) ∙ is.0)) from.2
+
+  pub type_at_from : (t' : ℕ) (new : TypeDef) → slice_get (joined_graph m).types t' ≡ Some new → TypeFrom t' new
+  type_at_from t' new at =
+      elim (old_or_new old_types (images ++ added_owns m) t' new at) [
+        | inl old ↦
+            let from = from_map (joined_type m) (enumerate_from 0 m.graph.types) t' new old in
+            let is = numbered_from 0 m.graph.types t' from.0 from.1 in
+            let place : from.0.0 ≡ t' = let n = is.0 in omega (arith, n) in
+            of_graph from.0.1 is.1 (ap (λ (k : ℕ). joined_type m (k, from.0.1)) (sym place) ∙ from.2)
+        | inr behind ↦ elim (old_or_new images (added_owns m) behind.0 new behind.2) [
+          | inl image ↦
+              let from = from_map (type_image (merge_maps m)) (moved_types m) behind.0 new image in
+              let taken_from = from_map (λ (e : ℕ × TypeDef). e.1) (taken_places (moves_type m) m.other.types) behind.0 from.0 from.1 in
+              let is = taken_places-from (moves_type m) m.other.types behind.0 taken_from.0 taken_from.1 in
+              let goes = moved_type_goes taken_from.0.0 is.1 in
+              let long = long_old in
+              let n = behind.1 in
+              let r = is.2 in
+              of_other taken_from.0.0 from.0 (is.0 ∙ ap (λ (d : TypeDef). Some d) taken_from.2) is.1 (omega (arith, goes, long, n, r)) from.2
+          | inr own ↦ own_from t' own.0 new own.2
+        ]
+      ]
 
 -- ---- they stand, and come of the two
 
@@ -188,55 +224,32 @@ module _ (m : Merging) (valid : IsValid m.graph) (valid_other : IsValid m.other)
   -- each type of the two graphs as one comes of a type of one of them, or is an `own`
   pub types_come : (g : Graph) (t' : ℕ) (new : TypeDef) → slice_get (joined_graph m).types t' ≡ Some new
       → TypeComes (merge_sources m.graph m.other (merge_maps m)) g t' new ⊎ IsOwnMade (merge_sources m.graph m.other (merge_maps m)) new
-  types_come g t' new at =
-      elim (old_or_new (old_types m) (images m ++ added_owns m) t' new at) [
-        | inl old ↦
-            let from = from_map (joined_type m) (enumerate_from 0 m.graph.types) t' new old in
-            let is = numbered_from 0 m.graph.types t' from.0 from.1 in
-            let place : from.0.0 ≡ t' = let n = is.0 in omega (arith, n) in
-            inl (record {
-              source = 0;
-              t = t';
-              old = from.0.1;
-              there = is.1;
-              takes = lt-ltb t' (length m.graph.types) (slice_get_within m.graph.types t' from.0.1 is.1);
-              place = refl;
-              carried = carried_so (graph_source m.graph) g from.0.1 from.0.1 new (subst (λ (d : TypeDef). KeepsType from.0.1 d) from.2 (joined_keeps m from.0)) (itself_carried (graph_source m.graph) g from.0.1 refl (valid.known t' from.0.1 is.1));
-            })
-        | inr behind ↦ elim (old_or_new (images m) (added_owns m) behind.0 new behind.2) [
-          | inl image ↦
-              let from = from_map (type_image (merge_maps m)) (moved_types m) behind.0 new image in
-              let taken_from = from_map (λ (e : ℕ × TypeDef). e.1) (taken_places (moves_type m) m.other.types) behind.0 from.0 from.1 in
-              let is = taken_places-from (moves_type m) m.other.types behind.0 taken_from.0 taken_from.1 in
-              let there : slice_get m.other.types taken_from.0.0 ≡ Some from.0 = is.0 ∙ ap (λ (d : TypeDef). Some d) taken_from.2 in
-              let goes = moved_type_goes m taken_from.0.0 is.1 in
-              let long = long_old m in
-              let n = behind.1 in
-              let r = is.2 in
-              inl (record {
-                source = 1;
-                t = taken_from.0.0;
-                old = from.0;
-                there = there;
-                takes = lt-ltb taken_from.0.0 (length m.other.types) (slice_get_within m.other.types taken_from.0.0 from.0 there);
-                place = omega (arith, goes, long, n, r);
-                carried = subst (λ (d : TypeDef). IsCarriedType (merge_sources m.graph m.other (merge_maps m) 1) g from.0 d) from.2 (image_carried (merge_sources m.graph m.other (merge_maps m) 1) g from.0 (valid_other.known taken_from.0.0 from.0 there));
-              })
-          | inr own ↦ inr (own_made own.0 own.2)
-        ]
-      ]
+  types_come g t' new at = by (type_at_from m t' new at)
     where
-      own_made : (k : ℕ) → slice_get (added_owns m) k ≡ Some new → IsOwnMade (merge_sources m.graph m.other (merge_maps m)) new
-      own_made k at =
-          let from = from_map (λ (t : ℕ). own_of (type_place m t)) (filter (needs_own m) (range_with_len 0 (length m.other.types))) k new at in
-          let listed : slice_get (map (λ (e : ℕ × TypeDef). e.0) (taken_places (needs_own m) m.other.types)) k ≡ Some from.0 = ap (λ (l : List ℕ). slice_get l k) (sym (filtered_range (needs_own m) m.other.types 0)) ∙ from.1 in
-          let e = from_map (λ (e : ℕ × TypeDef). e.0) (taken_places (needs_own m) m.other.types) k from.0 listed in
-          let is = taken_places-from (needs_own m) m.other.types k e.0 e.1 in
-          record {
-            source = 1;
-            t = from.0;
-            takes = lt-ltb from.0 (length m.other.types) (slice_get_within m.other.types from.0 e.0.1 (ap (slice_get m.other.types) (sym e.2) ∙ is.0));
-            name = ap (λ (d : TypeDef). d.name) (sym from.2);
-            owner = ap (λ (d : TypeDef). d.owner) (sym from.2);
-            kind = ap (λ (d : TypeDef). d.kind) (sym from.2);
-          }
+      by : TypeFrom m t' new → TypeComes (merge_sources m.graph m.other (merge_maps m)) g t' new ⊎ IsOwnMade (merge_sources m.graph m.other (merge_maps m)) new
+      by (of_graph old is same) = inl (record {
+        source = 0;
+        t = t';
+        old = old;
+        there = is;
+        takes = lt-ltb t' (length m.graph.types) (slice_get_within m.graph.types t' old is);
+        place = refl;
+        carried = carried_so (graph_source m.graph) g old old new (subst (λ (d : TypeDef). KeepsType old d) same (joined_keeps m (t', old))) (itself_carried (graph_source m.graph) g old refl (valid.known t' old is));
+      })
+      by (of_other t old is moves place same) = inl (record {
+        source = 1;
+        t = t;
+        old = old;
+        there = is;
+        takes = lt-ltb t (length m.other.types) (slice_get_within m.other.types t old is);
+        place = place;
+        carried = subst (λ (d : TypeDef). IsCarriedType (merge_sources m.graph m.other (merge_maps m) 1) g old d) same (image_carried (merge_sources m.graph m.other (merge_maps m) 1) g old (valid_other.known t old is));
+      })
+      by (an_own t within same) = inr (record {
+        source = 1;
+        t = t;
+        takes = lt-ltb t (length m.other.types) within;
+        name = ap (λ (d : TypeDef). d.name) (sym same);
+        owner = ap (λ (d : TypeDef). d.owner) (sym same);
+        kind = ap (λ (d : TypeDef). d.kind) (sym same);
+      })

@@ -3,8 +3,8 @@
 use Rattle.std.proofs.Common.{◌≡◌, ◌⊎◌, inl, inr, ℕ, List, [], length, Some, slice_get, refl, sym, subst, Contains}
 use Rattle.wit_relations.specs.MemberFacts.{Contains-cons_cases, Contains-flat_map_cases, Contains-nil}
 use Rattle.wit_items.specs.Each.{Each, SomeAt}
-use Rattle.wit_items.specs.Entries.{Entry, HasExports, HasImports, IsExport}
-use Rattle.wit_items.specs.Ownership.{AliasesNamed, IsNamed, world_types}
+use Rattle.wit_items.specs.Entries.{Entry, IsExport}
+use Rattle.wit_items.specs.Ownership.{IsNamed, world_types}
 use Rattle.wit_items.specs.declared.interface.Interface.{Interface}
 use Rattle.wit_items.specs.declared.world.World.{World}
 use Rattle.wit_items.specs.declared.world.WorldItem.{WorldItem}
@@ -19,12 +19,9 @@ use Rattle.wit_graph.specs.Entries.{by_class, id_of}
 use Rattle.wit_graph.specs.Imported.{exported_keys}
 use Rattle.wit_graph.specs.KeptByElaboration.{IsMadeExport, IsMadeImport, IsSettled, IsUsed, is_label, labelled, settled}
 use Rattle.wit_graph.specs.Listed.{IsListed}
-use Rattle.wit_graph.specs.ListedFacts.{lists_in_order}
 use Rattle.wit_graph.specs.Valid.{IsValid}
 use Rattle.wit_graph.specs.declared.graph.Graph.{Graph}
 use Rattle.wit_growth.specs.Covered.{IsCovered, WorldComes}
-use Rattle.wit_growth.specs.CoveredIsValid.{IsGoodWhere-of_covered}
-use Rattle.wit_growth.specs.Cut.{IsGoodWhere}
 use Rattle.wit_growth.specs.ElaboratedCome.{elaborated_comes}
 use Rattle.wit_growth.specs.Kept.{everything}
 use Rattle.wit_growth.specs.ListFacts.{Contains-map, at_map, contained_at, found_at, from_map, place_of, some_at}
@@ -37,10 +34,10 @@ use Rattle.wit_merging.specs.Moved.{merge_maps}
 use Rattle.wit_merging.specs.Reasons.{AreOne}
 use Rattle.wit_merging.specs.United.{elaborated_world, joined_graph, united}
 use Rattle.wit_merging_laws.specs.InterfacesStand as interfaces
+use Rattle.wit_merging_laws.specs.JoinedGood.{CanElaborate, aliases, in_order, listed_exports}
 use Rattle.wit_merging_laws.specs.ListedStand.{worlds_come}
-use Rattle.wit_merging_laws.specs.MergingLaws.{AreGood, CanElaborate}
 use Rattle.wit_merging_laws.specs.TypesStand as types
-use Rattle.wit_merging_laws.specs.WorldsStand.{entry, joined_covered, joined_stands, listed_by, lists_it, sources_good}
+use Rattle.wit_merging_laws.specs.WorldsStand.{entry, joined_stands, listed_by, lists_it}
 
 -- an exported key is that of an interface with a name
 named_key : (interfaces : List Interface) (k : WorldKey) (held : WorldItem) (j : ℕ) → Contains (id_of k) j → IsExport interfaces k held → IsNamed interfaces j
@@ -59,22 +56,9 @@ module _ (laws : WorldLaws) (m : Merging) (valid : IsValid m.graph) (valid_other
   abbrev at : ℕ → Source
   at = merge_sources m.graph m.other (merge_maps m)
 
-  -- the things of the two as one are good
-  pub joined_good : IsGoodWhere everything g.types g.interfaces g.worlds
-  joined_good = IsGoodWhere-of_covered at g (sources_good m valid valid_other one) (joined_stands m valid valid_other one) everything (joined_covered m valid valid_other one)
-
-  pub aliases : Each (AliasesNamed g.types g.interfaces) g.types
-  aliases t def there = (joined_good.types_are t def there refl).alias
-
   module _ (w' : ℕ) (listed : World) (there : slice_get g.worlds w' ≡ Some listed) where
-    listed_imports : HasImports g.interfaces g.types w' listed
-    listed_imports i e on = (joined_good.imports_are w' listed there refl i e on).is
-
-    listed_exports : HasExports g.interfaces listed
-    listed_exports i e on = (joined_good.exports_are w' listed there refl i e on).is
-
-    in_order : IsListed g.types (length (graph_uses g)) listed.imports listed.exports
-    in_order = lists_in_order g.types g.interfaces aliases w' listed listed_imports listed_exports
+    abbrev order : IsListed g.types (length (graph_uses g)) listed.imports listed.exports
+    order = in_order m valid valid_other one w' listed there
 
     pub is_elaborated : Elaborated g.types (graph_uses g) listed (elaborated_world g listed)
     is_elaborated = record { no_conflict = can.clear listed (contained_at g.worlds w' listed there); world_is = refl }
@@ -87,34 +71,34 @@ module _ (laws : WorldLaws) (m : Merging) (valid : IsValid m.graph) (valid_other
         let e : Entry = entry (key.Name name) (item.Type_ t by.span) in
         let sorted = in_by_class g.types listed.imports e by.has in
         let under : Contains (labelled (by_class g.types listed.imports)) e = Contains-filtered (λ (d : Entry). is_label d.0) (by_class g.types listed.imports) e sorted refl in
-        let stays = laws.labels g.types (graph_uses g) listed done can.acyclic in_order (worlds_come m valid valid_other w' listed there).distinct_imports is_elaborated in
+        let stays = laws.labels g.types (graph_uses g) listed done can.acyclic order (worlds_come m valid valid_other w' listed there).distinct_imports is_elaborated in
         let among : Contains (labelled done.imports) (settled e) = subst (λ (es : List Entry). Contains es (settled e)) (sym stays) (Contains-map settled (labelled (by_class g.types listed.imports)) e under) in
         lists_it done name t by.span (Contains-filter (λ (d : Entry). is_label d.0) done.imports (settled e) among).0
 
     -- what elaboration adds has a name
     pub used_is_named : (j : ℕ) → IsUsed g.types (graph_uses g) listed.imports j → IsNamed g.interfaces j
-    used_is_named j used = IsUsed_named g.types g.interfaces aliases listed.imports j used
+    used_is_named j used = IsUsed_named g.types g.interfaces (aliases m valid valid_other one) listed.imports j used
 
     pub exported_is_named : (j : ℕ) → Contains (exported_keys listed.exports) j → IsNamed g.interfaces j
     exported_is_named j has =
         let from = Contains-flat_map_cases (λ (e : Entry). id_of e.0) listed.exports j has in
         let place = place_of listed.exports from.0 from.1.0 in
-        named_key g.interfaces from.0.0 from.0.1 j from.1.1 (listed_exports place.0 from.0 place.1)
+        named_key g.interfaces from.0.0 from.0.1 j from.1.1 (listed_exports m valid valid_other one w' listed there place.0 from.0 place.1)
 
     -- an entry was listed, or is added
     pub entries_from : (e : Entry) → (Contains (elaborated_world g listed).imports e → IsSettled listed.imports e ⊎ IsMadeImport g.types (graph_uses g) listed.imports listed.exports e)
         × (Contains (elaborated_world g listed).exports e → Contains listed.exports e ⊎ IsMadeExport listed.exports e)
-    entries_from e = laws.entries g.types (graph_uses g) listed (elaborated_world g listed) e can.acyclic in_order is_elaborated
+    entries_from e = laws.entries g.types (graph_uses g) listed (elaborated_world g listed) e can.acyclic order is_elaborated
 
     -- it comes of the two graphs
     pub elaborated_world_comes : WorldComes at g w' (elaborated_world g listed)
     elaborated_world_comes =
-        elaborated_comes at g w' listed (elaborated_world g listed) laws.entries laws.once can.acyclic in_order used_is_named exported_is_named
+        elaborated_comes at g w' listed (elaborated_world g listed) laws.entries laws.once can.acyclic order used_is_named exported_is_named
         (worlds_come m valid valid_other w' listed there) is_elaborated (worlds_come m valid valid_other w' listed there).no_includes
 
     -- and is its own elaboration
     pub is_canonical : Elaborated g.types (graph_uses g) (elaborated_world g listed) (elaborated_world g listed)
-    is_canonical = laws.again g.types (graph_uses g) listed (elaborated_world g listed) can.acyclic in_order is_elaborated
+    is_canonical = laws.again g.types (graph_uses g) listed (elaborated_world g listed) can.acyclic order is_elaborated
 
   -- ---- the united graph
 
@@ -146,7 +130,3 @@ module _ (laws : WorldLaws) (m : Merging) (valid : IsValid m.graph) (valid_other
         let comes = subst (WorldComes at g w') from.2 (elaborated_world_comes w' from.0 from.1) in
         record { imports = comes.imports; exports = comes.exports; distinct_imports = comes.distinct_imports; distinct_exports = comes.distinct_exports; no_includes = comes.no_includes };
   }
-
-  -- its things are good
-  pub united_good : AreGood (united m)
-  united_good = record { things = IsGoodWhere-of_covered at (united m) (sources_good m valid valid_other one) united_stands everything united_covered; canonical = united_canonical }

@@ -1,24 +1,85 @@
--- What is united of two valid graphs is valid: what is shown of its types, interfaces, worlds and packages, joined.
+-- What is united of two valid graphs against which nothing speaks is valid: what is shown of its types, interfaces,
+-- worlds and packages, joined.
+use Rattle.std.proofs.Common.{◌≡◌, None, refl, subst}
+use Rattle.wit_relations.specs.Relation.{IsAcyclic}
+use Rattle.wit_items.specs.declared.world.World.{World}
+use Rattle.wit_graph.specs.Elaborated.{Elaborated}
+use Rattle.wit_graph.specs.Elaboration.{graph_uses}
+use Rattle.wit_graph.specs.ElaborationLaws.{ConflictsAreRefused}
+use Rattle.wit_graph.specs.KeptByElaboration.{ImportsAreLeast}
+use Rattle.wit_graph.specs.Valid.{IsValid}
+use Rattle.wit_graph.specs.declared.error_kind.ResolveErrorKind.TheVariants.{PackageCycle}
+use Rattle.wit_graph.specs.declared.graph.Graph.{Graph}
+use Rattle.wit_graph.specs.declared.graph.Package.{Package}
 use Rattle.wit_growth.specs.CoveredIsValid.{IsValid-of_covered}
 use Rattle.wit_growth.specs.Good.{IsGoodAsAWhole}
+use Rattle.wit_growth.specs.ListFacts.{from_map, some_at}
 use Rattle.wit_growth.specs.Operations.{merge_sources}
+use Rattle.wit_growth.specs.PackageCycleFacts.{acyclic_packages, packages_stay_acyclic}
+use Rattle.wit_growth.specs.PackageCycles.{AreElaborated}
 use Rattle.wit_including_laws.specs.WorldLaws.{WorldLaws}
+use Rattle.wit_merging.specs.Cause.{CanMerge, package_cycle_6}
+use Rattle.wit_merging.specs.Matches.{Merging}
 use Rattle.wit_merging.specs.Moved.{merge_maps}
-use Rattle.wit_merging.specs.United.{united}
-use Rattle.wit_merging_laws.specs.MergingLaws.{CanElaborate, UnionsStayValid}
+use Rattle.wit_merging.specs.Reasons.{AreOne, graph_package_uses}
+use Rattle.wit_merging.specs.United.{elaborated_world, joined_graph, united}
+use Rattle.wit_merging_laws.specs.JoinedGood.{CanElaborate, aliases, listed_exports, listed_imports}
+use Rattle.wit_merging_laws.specs.MergingLaws.{UnionsStayValid}
+use Rattle.wit_merging_laws.specs.NoCycles.{are_one, joined_clear, joined_types_acyclic, joined_uses_acyclic}
 use Rattle.wit_merging_laws.specs.OnceStand.{stand_once}
-use Rattle.wit_merging_laws.specs.PackagesStand.{good_names, good_tables}
-use Rattle.wit_merging_laws.specs.UnitedWorlds.{united_canonical, united_covered, united_stands}
+use Rattle.wit_merging_laws.specs.PackagesStand.{good_names, good_tables, interfaces_in_tables}
+use Rattle.wit_merging_laws.specs.UnitedWorlds.{is_elaborated, united_canonical, united_covered, united_stands}
+use Rattle.wit_merging_laws.specs.UsesListed.{joined_lists_uses}
 use Rattle.wit_merging_laws.specs.WorldsStand.{sources_good}
 
-pub valid_unions : WorldLaws → UnionsStayValid
-valid_unions laws m valid valid_other one clear no_cycles =
-    let can : CanElaborate m = record { acyclic = no_cycles.uses; clear = clear } in
-    let whole : IsGoodAsAWhole (united m) = record {
-      package_names = good_names m valid valid_other;
-      once = stand_once laws m valid valid_other one can;
-      no_cycles = no_cycles;
-      canonical = united_canonical laws m valid valid_other one can;
-    } in
-    IsValid-of_covered (merge_sources m.graph m.other (merge_maps m)) (united m) (sources_good m valid valid_other one) (united_stands laws m valid valid_other one can) (united_covered laws m valid valid_other one can)
-    (good_tables m valid valid_other) whole
+module _ (laws : WorldLaws) (refused : ConflictsAreRefused) (least : ImportsAreLeast) (m : Merging) (valid : IsValid m.graph) (valid_other : IsValid m.other) (can : CanMerge m) where
+  abbrev g : Graph
+  g = joined_graph m
+
+  abbrev one : AreOne m
+  one = are_one m can
+
+  can_elaborate : CanElaborate m
+  can_elaborate = record { acyclic = joined_uses_acyclic m valid valid_other can; clear = joined_clear m valid valid_other can refused }
+
+  -- no package depends on itself, with worlds as they are listed
+  listed_packages : IsAcyclic (graph_package_uses g)
+  listed_packages =
+      acyclic_packages g.types g.interfaces g.packages (interfaces_in_tables m valid valid_other) g.worlds (λ p q home there cycle.
+      can (PackageCycle None home.name)
+      (package_cycle_6 home.name (record { one = one; p = p; q = q; on_cycle = cycle; is = some_at (λ (there : Package). home.name ≡ there.name) g.packages p home there refl })))
+
+  are_elaborated : AreElaborated g.types g.interfaces g.packages g.worlds (united m).worlds
+  are_elaborated = record {
+    aliases = aliases m valid valid_other one;
+    uses = can_elaborate.acyclic;
+    tables = interfaces_in_tables m valid valid_other;
+    worlds = λ w new there.
+        let from = from_map (elaborated_world g) g.worlds w new there in
+        record {
+          old = from.0;
+          at = from.1;
+          imports = listed_imports m valid valid_other one w from.0 from.1;
+          exports = listed_exports m valid valid_other one w from.0 from.1;
+          lists_uses = joined_lists_uses least m valid valid_other one w from.0 from.1;
+          elaborated = subst (λ (x : World). Elaborated g.types (graph_uses g) from.0 x) from.2 (is_elaborated laws m valid valid_other one can_elaborate w from.0 from.1);
+        };
+  }
+
+  -- nor with elaborated ones
+  packages_acyclic : IsAcyclic (graph_package_uses (united m))
+  packages_acyclic = packages_stay_acyclic laws.entries g.types g.interfaces g.packages g.worlds (united m).worlds are_elaborated listed_packages
+
+  pub united_valid : IsValid (united m)
+  united_valid =
+      let whole : IsGoodAsAWhole (united m) = record {
+        package_names = good_names m valid valid_other;
+        once = stand_once laws m valid valid_other one can_elaborate;
+        no_cycles = record { uses = can_elaborate.acyclic; types = joined_types_acyclic m valid valid_other one; packages = packages_acyclic };
+        canonical = united_canonical laws m valid valid_other one can_elaborate;
+      } in
+      IsValid-of_covered (merge_sources m.graph m.other (merge_maps m)) (united m) (sources_good m valid valid_other one) (united_stands laws m valid valid_other one can_elaborate)
+      (united_covered laws m valid valid_other one can_elaborate) (good_tables m valid valid_other) whole
+
+pub valid_unions : WorldLaws → ConflictsAreRefused → ImportsAreLeast → UnionsStayValid
+valid_unions laws refused least m valid valid_other can = united_valid laws refused least m valid valid_other can

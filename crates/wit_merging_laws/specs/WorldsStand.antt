@@ -1,7 +1,6 @@
 -- Where matched things differ in nothing, the worlds of the other graph stand among those of the two as one, as they are
 -- listed; so the two graphs stand in it.
-use Rattle.std.proofs.Common.{◌≡◌, ◌∙◌, inl, inr, ℕ, zero, suc, true, false, List, [], map, filter, Option, None, Some, IsSome, slice_get, refl, sym, ap, subst, Contains}
-use Rattle.std.specs.Prelude.{codes}
+use Rattle.std.proofs.Common.{◌≡◌, ◌∙◌, inl, inr, ℕ, Bool, zero, suc, true, false, List, [], map, filter, Option, None, Some, IsSome, slice_get, refl, sym, ap, subst, Contains}
 use Rattle.std.specs.Map.{lookup}
 use Rattle.std.specs.Option.{option_map_or}
 use Rattle.std.specs.Str.{bytes_eq}
@@ -32,20 +31,21 @@ use Rattle.wit_growth.specs.GraphSource.{graph_stands, mapped_is_good}
 use Rattle.wit_growth.specs.Image.{entry_image, identity, world_image}
 use Rattle.wit_growth.specs.Kept.{everything}
 use Rattle.wit_growth.specs.ListFacts.{Contains-map, found_at, some_at}
+use Rattle.wit_growth.specs.OnePlace.{entries_of}
 use Rattle.wit_growth.specs.Operations.{merge_sources}
 use Rattle.wit_growth.specs.Sources.{Carries, IsGoodSource, WorldStands}
 use Rattle.wit_adding.specs.Include.{joined_entry, joined_item}
-use Rattle.wit_merging.specs.Agreement.{same_sort}
+use Rattle.wit_merging.specs.Agreement.{same_sort, side_word}
 use Rattle.wit_merging.specs.Agreement as differ
 use Rattle.wit_merging.specs.Joined.{is_under_id, joined_world, with_world}
-use Rattle.wit_merging.specs.Matches.{Merging, found_by, found_type, found_world, partner, world_beside}
+use Rattle.wit_merging.specs.Matches.{Merging, found_by, found_item, found_key, found_type, found_world, partner, world_beside}
 use Rattle.wit_merging.specs.Moved.{merge_maps, moves_world, type_place, world_place}
 use Rattle.wit_merging.specs.Reasons.{AreOne}
 use Rattle.wit_merging.specs.United.{joined_graph}
 use Rattle.wit_merging_laws.specs.InterfacesStand as interfaces
 use Rattle.wit_merging_laws.specs.InterfacesStand.{partner_is}
 use Rattle.wit_merging_laws.specs.ListedStand.{new_world_at, old_world_at, worlds_come}
-use Rattle.wit_merging_laws.specs.MatchFacts.{WorldMatch, goes_to, some_by, some_same, world_is, world_type_is}
+use Rattle.wit_merging_laws.specs.MatchFacts.{WorldMatch, goes_to, some_by, some_of, some_same, world_is, world_type_is}
 use Rattle.wit_merging_laws.specs.MatchedOnce.{world_in_table, world_once}
 use Rattle.wit_merging_laws.specs.TypesStand as types
 use Rattle.wit_merging_laws.specs.TypesStand.{matched_some}
@@ -129,40 +129,48 @@ module _ (m : Merging) (valid : IsValid m.graph) (valid_other : IsValid m.other)
     abbrev home : (there : Package) × (slice_get m.other.packages is.at.p ≡ Some there) × Contains there.worlds (is.from.name, w)
     home = world_in_table m.other valid_other w is.from is.at.p is.from_is is.at.home_is
 
-    -- an import of it stands under its label there
-    import_there : (name : List ℕ) (held : WorldItem) → Contains old.imports (entry (key.Name name) held) → (here : WorldItem) × (lookup (same_key (key.Name name)) into.imports ≡ Some here) × (same_sort held here ≡ true)
-    import_there name held has = by (lookup (same_key (key.Name name)) into.imports) refl
+    -- an entry of it stands under its key there, and is of the same sort
+    pub record EntryThere (exported : Bool) (k : WorldKey) (held : WorldItem) : Type 0 where
+      pub k' : WorldKey
+      pub here : WorldItem
+      pub key_is : found_key m k ≡ Some k'
+      pub looked : lookup (same_key k') (entries_of exported into) ≡ Some here
+      pub same : same_sort held here ≡ true
+
+    same_old : is.from ≡ old
+    same_old = some_same is.from old (sym is.from_is ∙ there)
+
+    same_into : is.into ≡ into
+    same_into = some_same is.into into (sym is.into_is ∙ into_there)
+
+    differs : (exported : Bool) {text : List ℕ} → differ.EntriesDiffer m (side_word exported) (entries_of exported old) (entries_of exported into) text → ⊥
+    differs exported {text} other =
+        one _ (differ.worlds (record { x = w; from = is.from; x' = w'; into = is.into; from_is = is.from_is; matched = found; into_is = is.into_is }) is.at.p home.0 exported text is.at.home_is home.1
+        (subst (λ (x : World). differ.EntriesDiffer m (side_word exported) (entries_of exported x) (entries_of exported is.into) text) (sym same_old)
+        (subst (λ (x : World). differ.EntriesDiffer m (side_word exported) (entries_of exported old) (entries_of exported x) text) (sym same_into) other)))
+
+    pub entry_there : (exported : Bool) (k : WorldKey) (held : WorldItem) → Contains (entries_of exported old) (entry k held) → EntryThere exported k held
+    entry_there exported k held has = by (found_item m (entries_of exported into) k) refl
       where
-        same_old : is.from ≡ old
-        same_old = some_same is.from old (sym is.from_is ∙ there)
-
-        same_into : is.into ≡ into
-        same_into = some_same is.into into (sym is.into_is ∙ into_there)
-
-        differs : {text : List ℕ} → differ.EntriesDiffer m (codes "import") is.from.imports is.into.imports text → ⊥
-        differs other = one _ (differ.worlds (record { x = w; from = is.from; x' = w'; into = is.into; from_is = is.from_is; matched = found; into_is = is.into_is }) is.at.p home.0 false _ is.at.home_is home.1 other)
-
-        listed : Contains is.from.imports (entry (key.Name name) held)
-        listed = subst (λ (x : World). Contains x.imports (entry (key.Name name) held)) (sym same_old) has
-
-        looked : lookup (same_key (key.Name name)) is.into.imports ≡ lookup (same_key (key.Name name)) into.imports
-        looked = ap (λ (x : World). lookup (same_key (key.Name name)) x.imports) same_into
-
-        by : (o : Option WorldItem) → lookup (same_key (key.Name name)) into.imports ≡ o → (here : WorldItem) × (lookup (same_key (key.Name name)) into.imports ≡ Some here) × (same_sort held here ≡ true)
-        by None none = absurd (differs (differ.absent (entry (key.Name name) held) listed (looked ∙ none)))
-        by (Some here) at = elim (cases_Bool (same_sort held here)) [
-          | inl same ↦ (here, at, same)
-          | inr other ↦ absurd (differs (differ.apart (entry (key.Name name) held) here _ listed (looked ∙ at) (differ.sorts other)))
-        ]
+        by : (o : Option WorldItem) → found_item m (entries_of exported into) k ≡ o → EntryThere exported k held
+        by None none = absurd (differs exported (differ.absent (entry k held) has none))
+        by (Some here) at =
+            let at_key = some_of (λ (k' : WorldKey). lookup (same_key k') (entries_of exported into)) (found_key m k) here at in
+            elim (cases_Bool (same_sort held here)) [
+              | inl same ↦ record { k' = at_key.0; here = here; key_is = at_key.1; looked = at_key.2; same = same }
+              | inr other ↦ absurd (differs exported (differ.apart (entry k held) here _ has at (differ.sorts other)))
+            ]
 
     partner_lists : (name : List ℕ) (t : ℕ) → Contains (world_types old) (name, t) → Contains (world_types into) (name, type_place m t)
     partner_lists name t has =
         let by = listed_by old name t has in
-        let here = import_there name (item.Type_ t by.span) by.has in
-        let sort = type_sort t by.span here.0 here.2 in
-        let entry_there : Contains into.imports (entry (key.Name name) (item.Type_ sort.0 sort.1)) =
-        subst (λ (x : WorldItem). Contains into.imports (entry (key.Name name) x)) sort.2 (Contains-from_lookup same_key-true (key.Name name) here.0 into.imports here.1) in
-        let listed : Contains (world_types into) (name, sort.0) = lists_it into name sort.0 sort.1 entry_there in
+        let here = entry_there false (key.Name name) (item.Type_ t by.span) by.has in
+        let sort = type_sort t by.span here.here here.same in
+        let same_label : here.k' ≡ key.Name name = some_same here.k' (key.Name name) (sym here.key_is) in
+        let stands : Contains into.imports (entry (key.Name name) (item.Type_ sort.0 sort.1)) =
+        subst (λ (k : WorldKey). Contains into.imports (entry k (item.Type_ sort.0 sort.1))) same_label
+        (subst (λ (x : WorldItem). Contains into.imports (entry here.k' x)) sort.2 (Contains-from_lookup same_key-true here.k' here.here into.imports here.looked)) in
+        let listed : Contains (world_types into) (name, sort.0) = lists_it into name sort.0 sort.1 stands in
         let some = has_one (lookup (bytes_eq name) (world_types into)) (IsSome-lookup_from_Contains nat_list_eq_equiv name (world_types into) (Contains-map (λ (e : List ℕ × ℕ). e.0) (world_types into) (name, sort.0) listed)) in
         let own = found_at (λ (def : TypeDef). (def.name ≡ Some name) × (def.owner ≡ owner.World w)) m.other.types t (world_type_is m.other valid_other w old name t there has) in
         let beside : world_beside m w ≡ Some into = some_by (slice_get m.graph.worlds) (found_world m w) w' found ∙ into_there in

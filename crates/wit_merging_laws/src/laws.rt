@@ -1,27 +1,17 @@
 //! Laws of merging: the contract of each function is what is proved.
-ghost use Rattle.wit_merging_laws.specs.MergingLaws.{NothingComes, UnionsAreGood, UnionsStayValid};
+ghost use Rattle.wit_merging_laws.specs.MergingLaws.{NothingComes, UnionsStayValid};
 
 use wit_graph::laws::{
-    elaborated_entries, elaborated_once, elaborates_once, elaboration_is_local, labels_stay,
+    conflicts_are_refused, elaborated_entries, elaborated_once, elaborates_once,
+    elaboration_is_local, imports_are_least, labels_stay,
 };
 
-/// Where an empty graph goes into a valid one, nothing changes.
+/// Where an empty graph goes into a valid one, nothing speaks against it, and nothing changes.
 pub fn nothing_comes()
     ensures { NothingComes }
 {}
 
-/// The things of two valid graphs that differ in nothing are good in the graph that is made of them.
-pub fn unions_are_good()
-    ensures { UnionsAreGood }
-{
-    elaborates_once();
-    elaboration_is_local();
-    elaborated_entries();
-    elaborated_once();
-    labels_stay();
-}
-
-/// What is united of two valid graphs that differ in nothing is valid, where nothing comes to depend on itself.
+/// What is united of two valid graphs is valid, where nothing speaks against the merge.
 pub fn unions_stay_valid()
     ensures { UnionsStayValid }
 {
@@ -30,4 +20,6 @@ pub fn unions_stay_valid()
     elaborated_entries();
     elaborated_once();
     labels_stay();
+    conflicts_are_refused();
+    imports_are_least();
 }

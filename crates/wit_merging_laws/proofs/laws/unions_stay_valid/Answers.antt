@@ -9,4 +9,4 @@ returns c =
       entries = c.elaborated_entries.ensures;
       once = c.elaborated_once.ensures;
       labels = c.labels_stay.ensures;
-    })
+    }) c.conflicts_are_refused.ensures c.imports_are_least.ensures

@@ -1,4 +1,4 @@
--- Facts on what leads to resources, and on places that pass, as wit_adding_laws has them for itself.
+-- Facts on what leads to resources, and on places that pass.
 use Rattle.std.proofs.Common.{◌≡◌, ◌∙◌, ℕ, zero, suc, ◌+◌, ◌||◌, Bool, true, false, List, [], ◌∷◌, ◌++◌, map, filter, length, cond, Option, None, Some, slice_get, refl, ap}
 use Rattle.std.specs.List.{enumerate_from, flat_map, list_any, range_with_len}
 use Rattle.std.specs.Option.{option_map_or, option_to_list}
