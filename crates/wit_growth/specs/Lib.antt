@@ -1,3 +1,4 @@
+pub mod AllElaborated
 pub mod CarriedImages
 pub mod Covered
 pub mod CoveredIsValid
@@ -5,6 +6,7 @@ pub mod Cut
 pub mod CutIsGood
 pub mod DependencyFacts
 pub mod ElaboratedCome
+pub mod FunctionMismatch
 pub mod Good
 pub mod GoodInterfaces
 pub mod GoodIsValid
@@ -30,6 +32,7 @@ pub mod ReferredFacts
 pub mod RowFacts
 pub mod ShapeIsGood
 pub mod Sources
+pub mod TestFacts
 pub mod Theory
 pub mod TypesAcyclic
 pub mod UsesAcyclic
