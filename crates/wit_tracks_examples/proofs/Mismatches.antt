@@ -6,7 +6,7 @@ use Rattle.wit_items.specs.declared.function.Param.{Param}
 use Rattle.wit_items.specs.declared.types.Type_.{Type_}
 use Rattle.wit_items.specs.declared.types.Type_.TheVariants as type
 use Rattle.wit_growth.specs.ListFacts.{same_at}
-use Rattle.wit_unite.specs.FunctionMismatch.{AreOfOneKind, AreOfOneSort, FunctionMismatch, kinds_differ, parameter_counts_differ, parameter_names_differ, parameter_names_text, parameter_types_differ, result_counts_differ, results_differ}
+use Rattle.wit_growth.specs.FunctionMismatch.{AreOfOneKind, AreOfOneSort, FunctionMismatch, kinds_differ, parameter_counts_differ, parameter_names_differ, parameter_names_text, parameter_types_differ, result_counts_differ, results_differ}
 use Rattle.wit_tracks_examples.specs.CauseExamples.{ExamplesOfMismatches, f_kind, f_of}
 
 -- what two functions have to agree in
