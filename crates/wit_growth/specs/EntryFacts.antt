@@ -64,6 +64,13 @@ key_entry es j has =
     is (key.Name name) none = absurd (Contains-nil none)
     is (key.Interface i) one = ap key.Interface (one_of i j one)
 
+-- and an exported key is that of an interface with a name
+pub named_export : (interfaces : List Interface) (k : WorldKey) (held : WorldItem) (j : ℕ) → k ≡ key.Interface j → IsExport interfaces k held → IsNamed interfaces j
+named_export interfaces (key.Name name) held j same is = cc
+named_export interfaces (key.Interface f) (item.Interface i stability docs span external_id) j same is = let one : f ≡ j = cc in subst (IsNamed interfaces) one is.1
+named_export interfaces (key.Interface f) (item.Function fn) j same is = absurd is
+named_export interfaces (key.Interface f) (item.Type_ t span) j same is = absurd is
+
 -- what an entry names is there
 pub export_there : (interfaces : List Interface) (types : List TypeDef) (k : WorldKey) (held : WorldItem) (i : ℕ) → IsExport interfaces k held → entry_interface types held ≡ Some i → i < length interfaces
 export_there interfaces types (key.Interface f) (item.Interface id stability docs span external_id) i is names = let same : id ≡ i = cc in subst (λ (x : ℕ). x < length interfaces) (sym is.0 ∙ same) (named_within interfaces f is.1)
