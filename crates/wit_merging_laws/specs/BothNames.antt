@@ -11,7 +11,7 @@ use Rattle.wit_merging_laws.specs.JoinedGood.{CanElaborate}
 use Rattle.wit_merging_laws.specs.MergingLaws.{NamesInEitherOrder, UnionsHaveBothNames, merging}
 use Rattle.wit_merging_laws.specs.NamesCome.{names_come}
 use Rattle.wit_merging_laws.specs.NamesGo.{names_go}
-use Rattle.wit_merging_laws.specs.NamesParts.{graph_part, other_part}
+use Rattle.wit_merging_laws.specs.NamesParts.{going_to, graph_part, other_part, staying}
 use Rattle.wit_merging_laws.specs.NoCycles.{are_one, joined_clear, joined_uses_acyclic}
 
 swapped : {A B : Type 0} → A ⊎ B → B ⊎ A
@@ -28,8 +28,8 @@ module _ (laws : WorldLaws) (keys : ExportKeysStay) (refused : ConflictsAreRefus
       let elaborates = can_elaborate m valid valid_other can in (
         λ has. names_come laws keys m valid valid_other one elaborates name has,
         λ has. elim has [
-          | inl mine ↦ names_go m.graph (united m) (graph_part laws keys m valid valid_other one elaborates) name mine
-          | inr theirs ↦ names_go m.other (united m) (other_part laws keys m valid valid_other one elaborates) name theirs
+          | inl mine ↦ names_go m.graph (united m) staying (graph_part laws keys m valid valid_other one elaborates) name mine
+          | inr theirs ↦ names_go m.other (united m) (going_to m) (other_part laws keys m valid valid_other one elaborates) name theirs
         ],
       )
 

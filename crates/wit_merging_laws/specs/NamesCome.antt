@@ -37,7 +37,7 @@ use Rattle.wit_merging_laws.specs.ListedStand as worlds
 use Rattle.wit_merging_laws.specs.MatchFacts.{goes_to, no_name, spot_home, stands_at}
 use Rattle.wit_merging_laws.specs.Names.{HasLabel, HasName, InterfaceName, IsInterface, IsNamedSo, IsPackage, IsUnnamedAt, IsWorld, Label, Name, at_label, in_package, of_export, of_function, of_interface, of_label, of_package, of_type, of_world}
 use Rattle.wit_merging_laws.specs.NamesGo.{Part, interface_back, package_back, unnamed_back, world_back}
-use Rattle.wit_merging_laws.specs.NamesParts.{graph_part, other_part}
+use Rattle.wit_merging_laws.specs.NamesParts.{going_to, graph_part, other_part, staying}
 use Rattle.wit_merging_laws.specs.OnceStand.{image_held, spot_key, spot_of}
 use Rattle.wit_merging_laws.specs.PackagesStand.{package_at_from}
 use Rattle.wit_merging_laws.specs.PackagesStand as packages
@@ -80,10 +80,10 @@ module _ (laws : WorldLaws) (keys : ExportKeysStay) (m : Merging) (valid : IsVal
   abbrev g : Graph
   g = joined_graph m
 
-  abbrev mine : Part m.graph (united m)
+  abbrev mine : Part m.graph (united m) staying
   mine = graph_part laws keys m valid valid_other one can
 
-  abbrev theirs : Part m.other (united m)
+  abbrev theirs : Part m.other (united m) (going_to m)
   theirs = other_part laws keys m valid valid_other one can
 
   -- ---- what stands under a label of a united world
@@ -118,16 +118,16 @@ module _ (laws : WorldLaws) (keys : ExportKeysStay) (m : Merging) (valid : IsVal
       by : LabelFrom is.w l.exported l.label is.held → IsUnnamedAt m.graph l i
       by (under_graph world d there has same) = record {
         w = is.w;
-        of = world_back m.graph (united m) mine valid l.home l.world is.w world there is.of;
+        of = world_back m.graph (united m) staying mine valid l.home l.world is.w world there is.of;
         held = d;
         stands = some_at (λ (x : World). Contains (entries_of l.exported x) (entry (key.Name l.label) d)) m.graph.worlds is.w world there has;
         is = sym same ∙ is.is;
-        unnamed = unnamed_back m.graph (united m) mine valid i old at is.unnamed;
+        unnamed = unnamed_back m.graph (united m) staying mine valid i old at is.unnamed;
       }
       by (under_other w world d there moves place has goes) =
           let from = goes i is.is in
           let here = held_there m.other valid_other w world l.exported l.label d from.0 there has from.1 in
-          let unnamed = unnamed_back m.other (united m) theirs valid_other from.0 here.0 here.1 (subst (λ (x : ℕ). is_unnamed (united m).interfaces x ≡ true) from.2 is.unnamed) in
+          let unnamed = unnamed_back m.other (united m) (going_to m) theirs valid_other from.0 here.0 here.1 (subst (λ (x : ℕ). is_unnamed (united m).interfaces x ≡ true) from.2 is.unnamed) in
           let next = moved_interface_goes m from.0 (unmatched m valid valid_other one w world there moves l.exported (entry (key.Name l.label) d) from.0 has from.1 unnamed) in
           let within = slice_get_within m.graph.interfaces i old at in
           let goes_there = from.2 in
@@ -137,7 +137,7 @@ module _ (laws : WorldLaws) (keys : ExportKeysStay) (m : Merging) (valid : IsVal
   unnamed_in_other l i old at is = by (stands_from is.w l.exported l.label is.held is.stands)
     where
       unnamed : is_unnamed m.other.interfaces i ≡ true
-      unnamed = unnamed_back m.other (united m) theirs valid_other i old at is.unnamed
+      unnamed = unnamed_back m.other (united m) (going_to m) theirs valid_other i old at is.unnamed
 
       -- it stands in a world of the graph, so it is matched
       matched : (i' : ℕ) → found_interface m i ≡ Some i' → (world : World) (d : WorldItem) → slice_get m.graph.worlds is.w ≡ Some world → Contains (entries_of l.exported world) (entry (key.Name l.label) d) → item_interface d ≡ i' ∷ []
@@ -154,7 +154,7 @@ module _ (laws : WorldLaws) (keys : ExportKeysStay) (m : Merging) (valid : IsVal
           let label : spot.spot.label ≡ l.label = same_label spot.spot.label l.label same.1 in
           record {
             w = w;
-            of = world_back m.other (united m) theirs valid_other l.home l.world w stands.world stands.there (subst (IsWorld (united m) l.home l.world) goes is.of);
+            of = world_back m.other (united m) (going_to m) theirs valid_other l.home l.world w stands.world stands.there (subst (IsWorld (united m) l.home l.world) goes is.of);
             held = stands.held;
             stands = some_at (λ (x : World). Contains (entries_of l.exported x) (entry (key.Name l.label) stands.held)) m.other.worlds w stands.world stands.there
                 (subst (λ (b : Bool). Contains (entries_of b stands.world) (entry (key.Name l.label) stands.held)) same.2
@@ -169,7 +169,7 @@ module _ (laws : WorldLaws) (keys : ExportKeysStay) (m : Merging) (valid : IsVal
           let same : from.0 ≡ i = interfaces_apart m valid valid_other from.0 i (sym from.2) in
           record {
             w = w;
-            of = world_back m.other (united m) theirs valid_other l.home l.world w world there (subst (IsWorld (united m) l.home l.world) place is.of);
+            of = world_back m.other (united m) (going_to m) theirs valid_other l.home l.world w world there (subst (IsWorld (united m) l.home l.world) place is.of);
             held = d;
             stands = some_at (λ (x : World). Contains (entries_of l.exported x) (entry (key.Name l.label) d)) m.other.worlds w world there has;
             is = from.1 ∙ ap (λ (x : ℕ). x ∷ []) same;
@@ -189,11 +189,11 @@ module _ (laws : WorldLaws) (keys : ExportKeysStay) (m : Merging) (valid : IsVal
   -- ---- interfaces
 
   named_in_graph : (name : InterfaceName) (i : ℕ) (old : Interface) → slice_get m.graph.interfaces i ≡ Some old → IsNamedSo (united m) name i → IsNamedSo m.graph name i
-  named_in_graph (in_package home name) i old at is = interface_back m.graph (united m) mine valid home name i old at is
+  named_in_graph (in_package home name) i old at is = interface_back m.graph (united m) staying mine valid home name i old at is
   named_in_graph (at_label l) i old at is = unnamed_in_graph l i old at is
 
   named_in_other : (name : InterfaceName) (i : ℕ) (old : Interface) → slice_get m.other.interfaces i ≡ Some old → IsNamedSo (united m) name (interface_place m i) → IsNamedSo m.other name i
-  named_in_other (in_package home name) i old at is = interface_back m.other (united m) theirs valid_other home name i old at is
+  named_in_other (in_package home name) i old at is = interface_back m.other (united m) (going_to m) theirs valid_other home name i old at is
   named_in_other (at_label l) i old at is = unnamed_in_other l i old at is
 
   named_there : (name : InterfaceName) (i' : ℕ) → IsNamedSo (united m) name i' → (interface : Interface) × (slice_get (united m).interfaces i' ≡ Some interface)
@@ -211,8 +211,8 @@ module _ (laws : WorldLaws) (keys : ExportKeysStay) (m : Merging) (valid : IsVal
       by new.0 (package_at_from m p' new.0 new.1)
     where
       by : (new : Package) → packages.PackageFrom m p' new → FromEither (of_package home)
-      by new (packages.of_graph old at same) = inl (p', package_back m.graph (united m) mine valid home p' old at is)
-      by new (packages.of_other p old at moves place same) = inr (p, package_back m.other (united m) theirs valid_other home p old at (subst (IsPackage (united m) home) place is))
+      by new (packages.of_graph old at same) = inl (p', package_back m.graph (united m) staying mine valid home p' old at is)
+      by new (packages.of_other p old at moves place same) = inr (p, package_back m.other (united m) (going_to m) theirs valid_other home p old at (subst (IsPackage (united m) home) place is))
 
   interface_comes : (name : InterfaceName) (i' : ℕ) → IsNamedSo (united m) name i' → FromEither (of_interface name)
   interface_comes name i' is = let new = named_there name i' is in by new.0 (interface_at_from m i' new.0 new.1)
@@ -228,8 +228,8 @@ module _ (laws : WorldLaws) (keys : ExportKeysStay) (m : Merging) (valid : IsVal
       by listed.0 (world_at_from m w' listed.0 listed.1)
     where
       by : (listed : World) → worlds.WorldFrom m w' listed → FromEither (of_world home name)
-      by listed (worlds.of_graph old at same) = inl (w', world_back m.graph (united m) mine valid home name w' old at is)
-      by listed (worlds.of_other w old at moves place same) = inr (w, world_back m.other (united m) theirs valid_other home name w old at (subst (IsWorld (united m) home name) place is))
+      by listed (worlds.of_graph old at same) = inl (w', world_back m.graph (united m) staying mine valid home name w' old at is)
+      by listed (worlds.of_other w old at moves place same) = inr (w, world_back m.other (united m) (going_to m) theirs valid_other home name w old at (subst (IsWorld (united m) home name) place is))
 
   abbrev at : ℕ → Source
   at = merge_sources m.graph m.other (merge_maps m)
@@ -252,12 +252,12 @@ module _ (laws : WorldLaws) (keys : ExportKeysStay) (m : Merging) (valid : IsVal
 
   label_comes : (l : Label) (w' : ℕ) (held : WorldItem) → IsWorld (united m) l.home l.world w' → LabelFrom w' l.exported l.label held → FromEither (of_label l)
   label_comes l w' held is (under_graph old d there has same) =
-      inl (w', d, world_back m.graph (united m) mine valid l.home l.world w' old there is, some_at (λ (x : World). Contains (entries_of l.exported x) (entry (key.Name l.label) d)) m.graph.worlds w' old there has)
+      inl (w', d, world_back m.graph (united m) staying mine valid l.home l.world w' old there is, some_at (λ (x : World). Contains (entries_of l.exported x) (entry (key.Name l.label) d)) m.graph.worlds w' old there has)
   label_comes l w' held is (under_other w old d there moves place has goes) =
       inr (
         w,
         d,
-        world_back m.other (united m) theirs valid_other l.home l.world w old there (subst (IsWorld (united m) l.home l.world) place is),
+        world_back m.other (united m) (going_to m) theirs valid_other l.home l.world w old there (subst (IsWorld (united m) l.home l.world) place is),
         some_at (λ (x : World). Contains (entries_of l.exported x) (entry (key.Name l.label) d)) m.other.worlds w old there has,
       )
 
@@ -271,8 +271,8 @@ module _ (laws : WorldLaws) (keys : ExportKeysStay) (m : Merging) (valid : IsVal
         w',
         i',
         from.0.1,
-        world_back m.graph (united m) mine valid home world w' old at is,
-        interface_back m.graph (united m) mine valid of name i' there.0 there.1 named,
+        world_back m.graph (united m) staying mine valid home world w' old at is,
+        interface_back m.graph (united m) staying mine valid of name i' there.0 there.1 named,
         some_at (λ (x : World). Contains x.exports (entry (key.Interface i') from.0.1)) m.graph.worlds w' old at has,
       )
   export_comes home world of name w' i' listed d is named stands (worlds.of_other w old at moves place same) =
@@ -284,8 +284,8 @@ module _ (laws : WorldLaws) (keys : ExportKeysStay) (m : Merging) (valid : IsVal
         w,
         at_key.0,
         from.0.1,
-        world_back m.other (united m) theirs valid_other home world w old at (subst (IsWorld (united m) home world) place is),
-        interface_back m.other (united m) theirs valid_other of name at_key.0 there.0 there.1 (subst (IsInterface (united m) of name) at_key.2 named),
+        world_back m.other (united m) (going_to m) theirs valid_other home world w old at (subst (IsWorld (united m) home world) place is),
+        interface_back m.other (united m) (going_to m) theirs valid_other of name at_key.0 there.0 there.1 (subst (IsInterface (united m) of name) at_key.2 named),
         some_at (λ (x : World). Contains x.exports (entry (key.Interface at_key.0) from.0.1)) m.other.worlds w old at has,
       )
 

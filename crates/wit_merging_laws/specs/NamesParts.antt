@@ -1,5 +1,5 @@
 -- The two graphs are parts of a united graph.
-use Rattle.std.proofs.Common.{◌≡◌, ◌∙◌, ℕ, Bool, true, false, not, List, [], ◌∷◌, inl, inr, map, is_some, nat_eq, Option, None, Some, option_map, slice_get, refl, sym, ap, subst, Contains}
+use Rattle.std.proofs.Common.{◌≡◌, ◌∙◌, ℕ, Bool, true, false, not, List, [], ◌∷◌, ◌++◌, inl, inr, map, is_some, nat_eq, Option, None, Some, option_map, slice_get, refl, sym, ap, subst, Contains}
 use Rattle.std.specs.Map.{lookup}
 use Rattle.std.specs.Option.{option_eq, option_map_or}
 use Rattle.std.specs.Str.{bytes_eq}
@@ -40,12 +40,19 @@ use Rattle.wit_merging_laws.specs.JoinedGood.{CanElaborate}
 use Rattle.wit_merging_laws.specs.LabelsStay.{export_into, label_into}
 use Rattle.wit_merging_laws.specs.ListedStand.{new_world_at, old_world_at}
 use Rattle.wit_merging_laws.specs.MatchFacts.{goes_to, interface_is, some_same, world_is}
-use Rattle.wit_merging_laws.specs.NamesGo.{InterfaceGoes, ItemGoes, Part, WorldGoes}
+use Rattle.wit_merging_laws.specs.NamesGo.{InterfaceGoes, ItemGoes, Part, Places, WorldGoes}
 use Rattle.wit_merging_laws.specs.PackagesStand.{ListsMoved, old_package_at, package_keeps, package_stands, world_keeps}
 use Rattle.wit_merging_laws.specs.TypesStand.{matched_some}
 use Rattle.wit_merging_laws.specs.UsesListed.{entry, key_goes, world_keeps_entries}
 use Rattle.wit_merging_laws.specs.WholeFacts.{types_within}
 use Rattle.wit_merging_laws.specs.WorldsStand.{entry_there}
+
+-- the places of the things of the graph, which stay, and of those of the other
+abbrev pub staying : Places
+staying = record { packages = λ p. p; interfaces = λ i. i; worlds = λ w. w }
+
+abbrev pub going_to : Merging → Places
+going_to m = record { packages = package_place m; interfaces = interface_place m; worlds = world_place m }
 
 -- ---- interfaces
 
@@ -68,19 +75,20 @@ image_goes m old = record {
   functions = λ name f has. (function_image (merge_maps m) f, Contains-map (λ (e : List ℕ × Function). let r : List ℕ × Function = (e.0, function_image (merge_maps m) e.1) in r) old.functions (name, f) has);
 }
 
+-- a function under its name, as its image
+abbrev imaged : Merging → List ℕ × Function → List ℕ × Function
+imaged m e = (e.0, function_image (merge_maps m) e.1)
+
 -- a function of another interface is there, or comes
 function_comes : (m : Merging) (from into : Interface) (name : List ℕ) (f : Function) → Contains from.functions (name, f) → (f' : Function) × Contains (with_interface m from into).functions (name, f')
 function_comes m from into name f has = by (lookup (bytes_eq name) into.functions) refl
   where
-    abbrev imaged : List ℕ × Function → List ℕ × Function
-    imaged e = (e.0, function_image (merge_maps m) e.1)
-
     by : (o : Option Function) → lookup (bytes_eq name) into.functions ≡ o → (f' : Function) × Contains (with_interface m from into).functions (name, f')
     by (Some f') is = (f', Contains-append_left into.functions _ (name, f') (Contains-from_lookup (λ a b. (bytes_eq-Decides a b).0) name f' into.functions is))
     by None is = (
       function_image (merge_maps m) f,
-      Contains-append_right into.functions (map imaged (brought_functions from into)) (name, function_image (merge_maps m) f)
-      (Contains-map imaged (brought_functions from into) (name, f) (Contains-filtered (λ (e : List ℕ × Function). not (is_some (lookup (bytes_eq e.0) into.functions))) from.functions (name, f) has (ap (λ (o : Option Function). not (is_some o)) is))),
+      Contains-append_right into.functions (map (imaged m) (brought_functions from into)) (name, function_image (merge_maps m) f)
+          (Contains-map (imaged m) (brought_functions from into) (name, f) (Contains-filtered (λ (e : List ℕ × Function). not (is_some (lookup (bytes_eq e.0) into.functions))) from.functions (name, f) has (ap (λ (o : Option Function). not (is_some o)) is))),
     )
 
 -- ---- worlds
@@ -140,11 +148,8 @@ module _ (laws : WorldLaws) (keys : ExportKeysStay) (m : Merging) (valid : IsVal
 
   -- ---- the graph is a part
 
-  pub graph_part : Part m.graph (united m)
+  pub graph_part : Part m.graph (united m) staying
   graph_part = record {
-    packages = λ p. p;
-    interfaces = λ i. i;
-    worlds = λ w. w;
     packages_go = λ p old there. some_at (λ (new : Package). new.name ≡ old.name) (united m).packages p _ (old_package_at m p old there) (package_keeps m (p, old)).name;
     interfaces_go = λ i old there. some_at (InterfaceGoes (λ p. p) old) (united m).interfaces i (joined_interface m (i, old)) (interfaces.old_interface_at m i old there) (joined_goes m (i, old));
     worlds_go = λ w old there. elaborated_goes (λ p. p) (λ i. i) old w (joined_world m (w, old)) (old_world_at m w old there) (keeps_labels m (w, old));
@@ -239,11 +244,8 @@ module _ (laws : WorldLaws) (keys : ExportKeysStay) (m : Merging) (valid : IsVal
           subst (λ (x : ℕ). SomeAt (united m).worlds x (WorldGoes (package_place m) (interface_place m) old)) (sym (goes_to (found_world m w) _ w' found))
           (elaborated_goes (package_place m) (interface_place m) old w' (joined_world m (w', is.into)) (old_world_at m w' is.into is.into_is) (matched_goes w w' old is.into there found is.into_is))
 
-  pub other_part : Part m.other (united m)
+  pub other_part : Part m.other (united m) (going_to m)
   other_part = record {
-    packages = package_place m;
-    interfaces = interface_place m;
-    worlds = world_place m;
     packages_go = λ p old there.
         let stands = found_at (ListsMoved m valid valid_other old) (united m).packages (package_place m p) (package_stands m valid valid_other p old there) in
         some_at (λ (new : Package). new.name ≡ old.name) (united m).packages (package_place m p) stands.0 stands.1 stands.2.name;
