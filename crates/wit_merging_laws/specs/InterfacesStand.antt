@@ -48,11 +48,11 @@ use Rattle.wit_merging_laws.specs.WholeFacts.{interface_at, types_within}
 
 -- ---- partners
 
-option_is : (o : Option ℕ) (x : ℕ) → option_eq nat_eq o (Some x) ≡ true → o ≡ Some x
+pub option_is : (o : Option ℕ) (x : ℕ) → option_eq nat_eq o (Some x) ≡ true → o ≡ Some x
 option_is None x same = absurd (false≢true same)
 option_is (Some y) x same = ap (λ (z : ℕ). Some z) (eqb-true y x same)
 
-option_so : (o : Option ℕ) (x : ℕ) → o ≡ Some x → option_eq nat_eq o (Some x) ≡ true
+pub option_so : (o : Option ℕ) (x : ℕ) → o ≡ Some x → option_eq nat_eq o (Some x) ≡ true
 option_so o x is = ap (λ (p : Option ℕ). option_eq nat_eq p (Some x)) is ∙ eq-eqb x x refl
 
 module _ {X : Type 0} (found : ℕ → Option ℕ) (others : List X) (x' : ℕ) where

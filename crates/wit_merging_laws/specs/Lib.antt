@@ -1,3 +1,4 @@
+pub mod BothNames
 pub mod InterfacesStand
 pub mod JoinedGood
 pub mod KeptFacts
@@ -7,6 +8,9 @@ pub mod MatchFacts
 pub mod MatchedOnce
 pub mod MergingLaws
 pub mod Names
+pub mod NamesCome
+pub mod NamesGo
+pub mod NamesParts
 pub mod NoCycles
 pub mod NothingFacts
 pub mod OnceStand

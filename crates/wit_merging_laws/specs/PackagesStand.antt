@@ -89,11 +89,11 @@ module _ (m : Merging) where
       at_new old_packages images (rank (moves_package m) p) (package_place m p) (package_image m home) (omega (arith, goes, long))
       (at_map (package_image m) (taken (moves_package m) m.other.packages) (rank (moves_package m) p) home (taken-at (moves_package m) m.other.packages p home at moves))
 
-  data PackageFrom (p' : ℕ) (new : Package) : Type 0 where
+  pub data PackageFrom (p' : ℕ) (new : Package) : Type 0 where
     of_graph : (old : Package) → slice_get m.graph.packages p' ≡ Some old → joined_package m (p', old) ≡ new → PackageFrom p' new
     of_other : (p : ℕ) (old : Package) → slice_get m.other.packages p ≡ Some old → moves_package m p ≡ true → p' ≡ package_place m p → package_image m old ≡ new → PackageFrom p' new
 
-  package_at_from : (p' : ℕ) (new : Package) → slice_get (united m).packages p' ≡ Some new → PackageFrom p' new
+  pub package_at_from : (p' : ℕ) (new : Package) → slice_get (united m).packages p' ≡ Some new → PackageFrom p' new
   package_at_from p' new at =
       elim (old_or_new old_packages images p' new at) [
         | inl old ↦
@@ -113,19 +113,19 @@ module _ (m : Merging) where
       ]
 
   -- what a joined package keeps
-  record KeepsPackage (old new : Package) : Type 0 where
-    name : new.name ≡ old.name
+  pub record KeepsPackage (old new : Package) : Type 0 where
+    pub name : new.name ≡ old.name
     interfaces : (e : List ℕ × ℕ) → Contains old.interfaces e → Contains new.interfaces e
     worlds : (e : List ℕ × ℕ) → Contains old.worlds e → Contains new.worlds e
 
-  package_keeps : (e : ℕ × Package) → KeepsPackage e.1 (joined_package m e)
+  pub package_keeps : (e : ℕ × Package) → KeepsPackage e.1 (joined_package m e)
   package_keeps e = by (partner (found_package m) m.other.packages e.0)
     where
       by : (o : Option (ℕ × Package)) → KeepsPackage e.1 (option_map_or (λ (p : ℕ × Package). with_package m p.1 e.1) o e.1)
       by None = record { name = refl; interfaces = λ x has. has; worlds = λ x has. has }
       by (Some p) = record { name = refl; interfaces = λ x has. Contains-append_left e.1.interfaces _ x has; worlds = λ x has. Contains-append_left e.1.worlds _ x has }
 
-  world_keeps : (e : ℕ × World) → ((joined_world m e).name ≡ e.1.name) × ((joined_world m e).package ≡ e.1.package)
+  pub world_keeps : (e : ℕ × World) → ((joined_world m e).name ≡ e.1.name) × ((joined_world m e).package ≡ e.1.package)
   world_keeps e = by (partner (found_world m) m.other.worlds e.0)
     where
       by : (o : Option (ℕ × World)) → ((option_map_or (λ (p : ℕ × World). with_world m p e.1) o e.1).name ≡ e.1.name) × ((option_map_or (λ (p : ℕ × World). with_world m p e.1) o e.1).package ≡ e.1.package)
@@ -316,12 +316,12 @@ module _ (m : Merging) (valid : IsValid m.graph) (valid_other : IsValid m.other)
   -- ---- what stands in tables
 
   -- a package of the other graph stands at its place, and lists what moves
-  record ListsMoved (old new : Package) : Type 0 where
-    name : new.name ≡ old.name
+  pub record ListsMoved (old new : Package) : Type 0 where
+    pub name : new.name ≡ old.name
     interfaces : (e : List ℕ × ℕ) → Contains old.interfaces e → moves_interface m e.1 ≡ true → Contains new.interfaces (typed (interface_place m) e)
     worlds : (e : List ℕ × ℕ) → Contains old.worlds e → moves_world m e.1 ≡ true → Contains new.worlds (typed (world_place m) e)
 
-  package_stands : (p : ℕ) (old : Package) → slice_get m.other.packages p ≡ Some old → SomeAt (united m).packages (package_place m p) (ListsMoved old)
+  pub package_stands : (p : ℕ) (old : Package) → slice_get m.other.packages p ≡ Some old → SomeAt (united m).packages (package_place m p) (ListsMoved old)
   package_stands p old there = elim (cases_Bool (moves_package m p)) [
     | inl goes ↦
         some_at (ListsMoved old) (united m).packages (package_place m p) (package_image m old) (new_package_at m p old there goes)

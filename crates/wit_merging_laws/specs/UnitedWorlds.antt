@@ -41,7 +41,7 @@ use Rattle.wit_merging_laws.specs.TypesStand as types
 use Rattle.wit_merging_laws.specs.WorldsStand.{entry, joined_stands, listed_by, lists_it}
 
 -- an exported key is that of an interface with a name
-named_key : (interfaces : List Interface) (k : WorldKey) (held : WorldItem) (j : ℕ) → Contains (id_of k) j → IsExport interfaces k held → IsNamed interfaces j
+pub named_key : (interfaces : List Interface) (k : WorldKey) (held : WorldItem) (j : ℕ) → Contains (id_of k) j → IsExport interfaces k held → IsNamed interfaces j
 named_key interfaces (key.Name name) held j has is = absurd (Contains-nil has)
 named_key interfaces (key.Interface f) (item.Interface i stability docs span external_id) j has is = elim (Contains-cons_cases f j [] has) [
   | inl same ↦ subst (IsNamed interfaces) same is.1

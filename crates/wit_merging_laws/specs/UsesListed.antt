@@ -30,7 +30,7 @@ use Rattle.wit_growth.specs.PackageCycles.{ListsKey, ListsUses}
 use Rattle.wit_growth.specs.Sources.{InterfaceStands}
 use Rattle.wit_adding.specs.Include.{joined_entry}
 use Rattle.wit_merging.specs.Joined.{is_under_id, joined_interface, joined_world, with_world}
-use Rattle.wit_merging.specs.Matches.{Merging, found_interface, found_world, partner, spots}
+use Rattle.wit_merging.specs.Matches.{Merging, found_interface, found_key, found_world, partner, spots}
 use Rattle.wit_merging.specs.Moved.{interface_place, merge_maps, moves_interface, moves_world}
 use Rattle.wit_merging.specs.Reasons.{AreOne}
 use Rattle.wit_merging.specs.United.{joined_graph}
@@ -44,6 +44,14 @@ use Rattle.wit_merging_laws.specs.WorldsStand.{entry_there}
 
 abbrev pub entry : WorldKey → WorldItem → Entry
 entry k held = (k, held)
+
+-- the key of an interface is looked for as the key of that at its place
+pub key_goes : (m : Merging) (j : ℕ) (k : WorldKey) → found_key m (key.Interface j) ≡ Some k → k ≡ key.Interface (interface_place m j)
+key_goes m j k = by (found_interface m j) refl
+  where
+    by : (o : Option ℕ) → found_interface m j ≡ o → option_map (λ i'. key.Interface i') o ≡ Some k → k ≡ key.Interface (interface_place m j)
+    by None is looked = cc
+    by (Some j') is looked = let same : key.Interface j' ≡ k = cc in sym same ∙ ap (λ (x : ℕ). key.Interface x) (sym (goes_to (found_interface m j) _ j' is))
 
 -- ---- keys that a world lists
 
@@ -130,71 +138,16 @@ world_keeps_entries m e = by (partner (found_world m) m.other.worlds e.0)
     by None = record { from = λ exported x has. (x, has, refl, refl); into = λ exported d has. (d.1, has, refl) }
     by (Some p) = record { from = some_from p; into = some_into p }
 
--- ---- the worlds of the two as one
+-- ---- worlds of the other graph
 
-module _ (least : ImportsAreLeast) (m : Merging) (valid : IsValid m.graph) (valid_other : IsValid m.other) (one : AreOne m) where
-  abbrev g : Graph
-  g = joined_graph m
-
+module _ (m : Merging) (valid : IsValid m.graph) (valid_other : IsValid m.other) (one : AreOne m) where
   -- what a matched world lists, its partner lists at its place
   partner_lists_key : (w w' : ℕ) (from into : World) (j : ℕ) → slice_get m.other.worlds w ≡ Some from → found_world m w ≡ Some w' → slice_get m.graph.worlds w' ≡ Some into → ListsKey from j → ListsKey into (interface_place m j)
   partner_lists_key w w' from into j there found into_there lists =
       let listed = keyed from j lists in
       let here = entry_there m valid valid_other one w w' from into there found into_there listed.exported (key.Interface j) listed.held listed.has in
-      let goes = under (found_interface m j) refl here.k' here.key_is in
       lists_key listed.exported into (interface_place m j) here.here
-      (subst (λ (k : WorldKey). Contains (entries_of listed.exported into) (entry k here.here)) goes (Contains-from_lookup same_key-true here.k' here.here (entries_of listed.exported into) here.looked))
-    where
-      under : (o : Option ℕ) → found_interface m j ≡ o → (k : WorldKey) → option_map (λ i'. key.Interface i') o ≡ Some k → k ≡ key.Interface (interface_place m j)
-      under None is k looked = cc
-      under (Some j') is k looked = let same : key.Interface j' ≡ k = cc in sym same ∙ ap (λ (x : ℕ). key.Interface x) (sym (goes_to (found_interface m j) _ j' is))
-
-  -- a world of the graph
-  module _ (w' : ℕ) (old : World) (there : slice_get m.graph.worlds w' ≡ Some old) where
-    -- a use that comes with the other graph
-    brought_listed : (exported : Bool) (d : Entry) (f j : ℕ) → Contains (entries_of exported old) d → item_interface d.1 ≡ f ∷ [] → is_unnamed m.graph.interfaces f ≡ true → f < length m.graph.interfaces → UseOfOther m valid valid_other one f j
-        → ListsKey old j
-    brought_listed exported d f j has held unnamed within brought = elim (cases_Bool (moves_interface m brought.i)) [
-      | inl goes ↦
-          let place = brought.place in
-          let next = moved_interface_goes m brought.i goes in
-          absurd (omega (arith, within, place, next))
-      | inr stays ↦
-          let some = matched_some (found_interface m brought.i) stays in
-          let same : some.0 ≡ f = sym (goes_to (found_interface m brought.i) _ some.0 some.1) ∙ sym brought.place in
-          by (some.1 ∙ ap (λ (x : ℕ). Some x) same)
-    ]
-      where
-        by : found_interface m brought.i ≡ Some f → ListsKey old j
-        by found =
-            let is = interface_is m valid valid_other brought.i f found in
-            let nameless : is_unnamed m.other.interfaces brought.i ≡ true = sym (unnamed_same m.other.interfaces m.graph.interfaces brought.i f is.from is.into is.from_is is.into_is is.called) ∙ unnamed in
-            let spot = spot_of m valid valid_other brought.i f nameless found in
-            let stands = stands_at m.other.worlds brought.i spot.spot (Contains-from_lookup (λ a b. eqb-true a b) brought.i spot.spot (spots m.other.worlds) spot.spot_is) in
-            let place = place_of (entries_of exported old) d has in
-            let mine = spot_key m.graph valid f spot.w' w' spot.spot.exported exported place.0 spot.there spot.spot.label spot.held unnamed spot.there_is
-            (Contains-from_lookup same_key-true (key.Name spot.spot.label) spot.held (entries_of spot.spot.exported spot.there) spot.listed) spot.is
-            (record { world = old; there = there; entry = d; at = place.1; held = held }) in
-            let listed = valid_lists least m.other valid_other spot.spot.world stands.world stands.there spot.spot.exported (entry (key.Name spot.spot.label) stands.held) brought.i brought.j stands.listed stands.is nameless brought.used in
-            subst (ListsKey old) (sym brought.used_place)
-            (partner_lists_key spot.spot.world w' stands.world old brought.j stands.there (spot.matched ∙ ap (λ (x : ℕ). Some x) mine.0) there listed)
-
-    old_lists : ListsUse g.interfaces (graph_uses g) old
-    old_lists exported d f j has held unnamed edge =
-        let here = found_at (λ (interface : Interface). (interface.name ≡ None) → interface.package ≡ old.package) m.graph.interfaces f (spot_home m.graph valid w' old exported d.0 d.1 f there has held) in
-        let nameless : is_unnamed m.graph.interfaces f ≡ true = sym (unnamed_same m.graph.interfaces g.interfaces f f here.0 (joined_interface m (f, here.0)) here.1 (old_interface_at m f here.0 here.1) (joined_keeps m (f, here.0)).name) ∙ unnamed in
-        elim (use_from m valid valid_other one f j edge) [
-          | inl used ↦ valid_lists least m.graph valid w' old there exported d f j has held nameless used
-          | inr brought ↦ brought_listed exported d f j has held nameless (slice_get_within m.graph.interfaces f here.0 here.1) brought
-        ]
-
-    joined_lists : ListsUse g.interfaces (graph_uses g) (joined_world m (w', old))
-    joined_lists exported e f j has held unnamed edge =
-        let keeps = world_keeps_entries m (w', old) in
-        let from = keeps.from exported e has in
-        let listed = keyed old j (old_lists exported from.0 f j from.1 (sym from.3 ∙ held) unnamed edge) in
-        let into = keeps.into listed.exported (entry (key.Interface j) listed.held) listed.has in
-        lists_key listed.exported (joined_world m (w', old)) j into.0 into.1
+      (subst (λ (k : WorldKey). Contains (entries_of listed.exported into) (entry k here.here)) (key_goes m j here.k' here.key_is) (Contains-from_lookup same_key-true here.k' here.here (entries_of listed.exported into) here.looked))
 
   -- a world that moves
   module _ (w : ℕ) (old : World) (there : slice_get m.other.worlds w ≡ Some old) (moves : moves_world m w ≡ true) where
@@ -224,9 +177,64 @@ module _ (least : ImportsAreLeast) (m : Merging) (valid : IsValid m.graph) (vali
     entry_imaged false d has = Contains-map (entry_image (merge_maps m) w) old.imports d has
     entry_imaged true d has = Contains-map (entry_image (merge_maps m) w) old.exports d has
 
+-- ---- the worlds of the two as one
+
+module _ (least : ImportsAreLeast) (m : Merging) (valid : IsValid m.graph) (valid_other : IsValid m.other) (one : AreOne m) where
+  abbrev g : Graph
+  g = joined_graph m
+
+  -- a world of the graph
+  module _ (w' : ℕ) (old : World) (there : slice_get m.graph.worlds w' ≡ Some old) where
+    -- a use that comes with the other graph
+    brought_listed : (exported : Bool) (d : Entry) (f j : ℕ) → Contains (entries_of exported old) d → item_interface d.1 ≡ f ∷ [] → is_unnamed m.graph.interfaces f ≡ true → f < length m.graph.interfaces → UseOfOther m valid valid_other one f j
+        → ListsKey old j
+    brought_listed exported d f j has held unnamed within brought = elim (cases_Bool (moves_interface m brought.i)) [
+      | inl goes ↦
+          let place = brought.place in
+          let next = moved_interface_goes m brought.i goes in
+          absurd (omega (arith, within, place, next))
+      | inr stays ↦
+          let some = matched_some (found_interface m brought.i) stays in
+          let same : some.0 ≡ f = sym (goes_to (found_interface m brought.i) _ some.0 some.1) ∙ sym brought.place in
+          by (some.1 ∙ ap (λ (x : ℕ). Some x) same)
+    ]
+      where
+        by : found_interface m brought.i ≡ Some f → ListsKey old j
+        by found =
+            let is = interface_is m valid valid_other brought.i f found in
+            let nameless : is_unnamed m.other.interfaces brought.i ≡ true = sym (unnamed_same m.other.interfaces m.graph.interfaces brought.i f is.from is.into is.from_is is.into_is is.called) ∙ unnamed in
+            let spot = spot_of m valid valid_other brought.i f nameless found in
+            let stands = stands_at m.other.worlds brought.i spot.spot (Contains-from_lookup (λ a b. eqb-true a b) brought.i spot.spot (spots m.other.worlds) spot.spot_is) in
+            let place = place_of (entries_of exported old) d has in
+            let mine = spot_key m.graph valid f spot.w' w' spot.spot.exported exported place.0 spot.there spot.spot.label spot.held unnamed spot.there_is
+            (Contains-from_lookup same_key-true (key.Name spot.spot.label) spot.held (entries_of spot.spot.exported spot.there) spot.listed) spot.is
+            (record { world = old; there = there; entry = d; at = place.1; held = held }) in
+            let listed = valid_lists least m.other valid_other spot.spot.world stands.world stands.there spot.spot.exported (entry (key.Name spot.spot.label) stands.held) brought.i brought.j stands.listed stands.is nameless brought.used in
+            subst (ListsKey old) (sym brought.used_place)
+            (partner_lists_key m valid valid_other one spot.spot.world w' stands.world old brought.j stands.there (spot.matched ∙ ap (λ (x : ℕ). Some x) mine.0) there listed)
+
+    old_lists : ListsUse g.interfaces (graph_uses g) old
+    old_lists exported d f j has held unnamed edge =
+        let here = found_at (λ (interface : Interface). (interface.name ≡ None) → interface.package ≡ old.package) m.graph.interfaces f (spot_home m.graph valid w' old exported d.0 d.1 f there has held) in
+        let nameless : is_unnamed m.graph.interfaces f ≡ true = sym (unnamed_same m.graph.interfaces g.interfaces f f here.0 (joined_interface m (f, here.0)) here.1 (old_interface_at m f here.0 here.1) (joined_keeps m (f, here.0)).name) ∙ unnamed in
+        elim (use_from m valid valid_other one f j edge) [
+          | inl used ↦ valid_lists least m.graph valid w' old there exported d f j has held nameless used
+          | inr brought ↦ brought_listed exported d f j has held nameless (slice_get_within m.graph.interfaces f here.0 here.1) brought
+        ]
+
+    joined_lists : ListsUse g.interfaces (graph_uses g) (joined_world m (w', old))
+    joined_lists exported e f j has held unnamed edge =
+        let keeps = world_keeps_entries m (w', old) in
+        let from = keeps.from exported e has in
+        let listed = keyed old j (old_lists exported from.0 f j from.1 (sym from.3 ∙ held) unnamed edge) in
+        let into = keeps.into listed.exported (entry (key.Interface j) listed.held) listed.has in
+        lists_key listed.exported (joined_world m (w', old)) j into.0 into.1
+
+  -- a world that moves
+  module _ (w : ℕ) (old : World) (there : slice_get m.other.worlds w ≡ Some old) (moves : moves_world m w ≡ true) where
     image_lists : ListsUse g.interfaces (graph_uses g) (world_image (merge_maps m) w old)
     image_lists exported e f j has held unnamed edge =
-        let from = image_entry exported e has in
+        let from = image_entry m valid valid_other one w old there moves exported e has in
         let is = image_held (merge_maps m) w from.0.1 f (ap (λ (x : Entry). item_interface x.1) from.2 ∙ held) in
         let i = is.0 in
         let here = found_at (λ (interface : Interface). (interface.name ≡ None) → interface.package ≡ old.package) m.other.interfaces i (spot_home m.other valid_other w old exported from.0.0 from.0.1 i there from.1 is.1) in
@@ -236,7 +244,7 @@ module _ (least : ImportsAreLeast) (m : Merging) (valid : IsValid m.graph) (vali
           | inl used ↦
               let row = from_row (interface_uses m.graph.types) m.graph.interfaces f j used in
               let within = slice_get_within m.graph.interfaces f row.0 row.1 in
-              let next = moved_interface_goes m i (unmatched exported from.0 i from.1 is.1 nameless) in
+              let next = moved_interface_goes m i (unmatched m valid valid_other one w old there moves exported from.0 i from.1 is.1 nameless) in
               let place = is.2 in
               absurd (omega (arith, within, next, place))
           | inr brought ↦
@@ -245,7 +253,7 @@ module _ (least : ImportsAreLeast) (m : Merging) (valid : IsValid m.graph) (vali
               let listed = keyed old brought.j (valid_lists least m.other valid_other w old there exported from.0 i brought.j from.1 is.1 nameless edge_there) in
               subst (ListsKey (world_image (merge_maps m) w old)) (sym brought.used_place)
               (lists_key listed.exported (world_image (merge_maps m) w old) (interface_place m brought.j) (entry_image (merge_maps m) w (entry (key.Interface brought.j) listed.held)).1
-              (entry_imaged listed.exported (entry (key.Interface brought.j) listed.held) listed.has))
+              (entry_imaged m valid valid_other one w old there moves listed.exported (entry (key.Interface brought.j) listed.held) listed.has))
         ]
 
   pub joined_lists_uses : (w' : ℕ) (world : World) → slice_get g.worlds w' ≡ Some world → ListsUses g.interfaces (graph_uses g) world

@@ -137,6 +137,7 @@ module _ (m : Merging) (valid : IsValid m.graph) (valid_other : IsValid m.other)
       pub key_is : found_key m k ≡ Some k'
       pub looked : lookup (same_key k') (entries_of exported into) ≡ Some here
       pub same : same_sort held here ≡ true
+      pub agrees : (text : List ℕ) → differ.ItemsDiffer m held here text → ⊥
 
     same_old : is.from ≡ old
     same_old = some_same is.from old (sym is.from_is ∙ there)
@@ -158,7 +159,7 @@ module _ (m : Merging) (valid : IsValid m.graph) (valid_other : IsValid m.other)
         by (Some here) at =
             let at_key = some_of (λ (k' : WorldKey). lookup (same_key k') (entries_of exported into)) (found_key m k) here at in
             elim (cases_Bool (same_sort held here)) [
-              | inl same ↦ record { k' = at_key.0; here = here; key_is = at_key.1; looked = at_key.2; same = same }
+              | inl same ↦ record { k' = at_key.0; here = here; key_is = at_key.1; looked = at_key.2; same = same; agrees = λ text other. differs exported (differ.apart (entry k held) here text has at other) }
               | inr other ↦ absurd (differs exported (differ.apart (entry k held) here _ has at (differ.sorts other)))
             ]
 

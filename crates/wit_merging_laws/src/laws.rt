@@ -1,9 +1,9 @@
 //! Laws of merging: the contract of each function is what is proved.
-ghost use Rattle.wit_merging_laws.specs.MergingLaws.{NothingComes, UnionsStayValid};
+ghost use Rattle.wit_merging_laws.specs.MergingLaws.{NamesInEitherOrder, NothingComes, UnionsHaveBothNames, UnionsStayValid};
 
 use wit_graph::laws::{
     conflicts_are_refused, elaborated_entries, elaborated_once, elaborates_once,
-    elaboration_is_local, imports_are_least, labels_stay,
+    elaboration_is_local, export_keys_stay, imports_are_least, labels_stay,
 };
 
 /// Where an empty graph goes into a valid one, nothing speaks against it, and nothing changes.
@@ -22,4 +22,30 @@ pub fn unions_stay_valid()
     labels_stay();
     conflicts_are_refused();
     imports_are_least();
+}
+
+/// It has the names of both graphs, and no others.
+pub fn unions_have_both_names()
+    ensures { UnionsHaveBothNames }
+{
+    elaborates_once();
+    elaboration_is_local();
+    elaborated_entries();
+    elaborated_once();
+    labels_stay();
+    conflicts_are_refused();
+    export_keys_stay();
+}
+
+/// Merging in either order gives the same names.
+pub fn names_in_either_order()
+    ensures { NamesInEitherOrder }
+{
+    elaborates_once();
+    elaboration_is_local();
+    elaborated_entries();
+    elaborated_once();
+    labels_stay();
+    conflicts_are_refused();
+    export_keys_stay();
 }
