@@ -1,3 +1,4 @@
+pub mod AgreementFacts
 pub mod AllElaborated
 pub mod CarriedImages
 pub mod Covered
