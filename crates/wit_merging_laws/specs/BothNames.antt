@@ -19,7 +19,7 @@ swapped (inl a) = inr a
 swapped (inr b) = inl b
 
 module _ (laws : WorldLaws) (keys : ExportKeysStay) (refused : ConflictsAreRefused) where
-  can_elaborate : (m : Merging) → IsValid m.graph → IsValid m.other → CanMerge m → CanElaborate m
+  pub can_elaborate : (m : Merging) → IsValid m.graph → IsValid m.other → CanMerge m → CanElaborate m
   can_elaborate m valid valid_other can = record { acyclic = joined_uses_acyclic m valid valid_other can; clear = joined_clear m valid valid_other can refused }
 
   pub both_names : UnionsHaveBothNames

@@ -1,5 +1,5 @@
 //! Laws of merging: the contract of each function is what is proved.
-ghost use Rattle.wit_merging_laws.specs.MergingLaws.{NamesInEitherOrder, NothingComes, UnionsHaveBothNames, UnionsStayValid};
+ghost use Rattle.wit_merging_laws.specs.MergingLaws.{NamesInEitherOrder, NothingComes, SharedWorldsKeepImports, UnionsHaveBothNames, UnionsStayValid};
 
 use wit_graph::laws::{
     conflicts_are_refused, elaborated_entries, elaborated_once, elaborates_once,
@@ -48,4 +48,18 @@ pub fn names_in_either_order()
     labels_stay();
     conflicts_are_refused();
     export_keys_stay();
+}
+
+/// A world that both graphs have imports the same interfaces under their own keys in both, and in what is made of them.
+pub fn shared_worlds_keep_imports()
+    ensures { SharedWorldsKeepImports }
+{
+    elaborates_once();
+    elaboration_is_local();
+    elaborated_entries();
+    elaborated_once();
+    labels_stay();
+    conflicts_are_refused();
+    export_keys_stay();
+    imports_are_least();
 }
