@@ -37,9 +37,9 @@ pub fn unions_have_both_names()
     export_keys_stay();
 }
 
-/// Merging in either order gives the same names.
-pub fn names_in_either_order()
-    ensures { NamesInEitherOrder }
+/// A world that both graphs have imports the same interfaces under their own keys in both, and in what is made of them.
+pub fn shared_worlds_keep_imports()
+    ensures { SharedWorldsKeepImports }
 {
     elaborates_once();
     elaboration_is_local();
@@ -48,11 +48,12 @@ pub fn names_in_either_order()
     labels_stay();
     conflicts_are_refused();
     export_keys_stay();
+    imports_are_least();
 }
 
-/// A world that both graphs have imports the same interfaces under their own keys in both, and in what is made of them.
-pub fn shared_worlds_keep_imports()
-    ensures { SharedWorldsKeepImports }
+/// Merging in either order gives the same names.
+pub fn names_in_either_order()
+    ensures { NamesInEitherOrder }
 {
     elaborates_once();
     elaboration_is_local();
