@@ -1,5 +1,5 @@
--- A merge has the names of both graphs and no others, so it has the same names in either order.
-use Rattle.std.proofs.Common.{◌⊎◌, inl, inr}
+-- A merge has the names of both graphs and no others.
+use Rattle.std.proofs.Common.{inl, inr}
 use Rattle.wit_graph.specs.ElaborationLaws.{ConflictsAreRefused}
 use Rattle.wit_graph.specs.KeptByElaboration.{ExportKeysStay}
 use Rattle.wit_graph.specs.Valid.{IsValid}
@@ -8,18 +8,14 @@ use Rattle.wit_merging.specs.Cause.{CanMerge}
 use Rattle.wit_merging.specs.Matches.{Merging}
 use Rattle.wit_merging.specs.United.{united}
 use Rattle.wit_merging_laws.specs.JoinedGood.{CanElaborate}
-use Rattle.wit_merging_laws.specs.MergingLaws.{NamesInEitherOrder, UnionsHaveBothNames, merging}
+use Rattle.wit_merging_laws.specs.MergingLaws.{UnionsHaveBothNames}
 use Rattle.wit_merging_laws.specs.NamesCome.{names_come}
 use Rattle.wit_merging_laws.specs.NamesGo.{names_go}
 use Rattle.wit_merging_laws.specs.NamesParts.{going_to, graph_part, other_part, staying}
 use Rattle.wit_merging_laws.specs.NoCycles.{are_one, joined_clear, joined_uses_acyclic}
 
-swapped : {A B : Type 0} → A ⊎ B → B ⊎ A
-swapped (inl a) = inr a
-swapped (inr b) = inl b
-
 module _ (laws : WorldLaws) (keys : ExportKeysStay) (refused : ConflictsAreRefused) where
-  can_elaborate : (m : Merging) → IsValid m.graph → IsValid m.other → CanMerge m → CanElaborate m
+  pub can_elaborate : (m : Merging) → IsValid m.graph → IsValid m.other → CanMerge m → CanElaborate m
   can_elaborate m valid valid_other can = record { acyclic = joined_uses_acyclic m valid valid_other can; clear = joined_clear m valid valid_other can refused }
 
   pub both_names : UnionsHaveBothNames
@@ -32,9 +28,3 @@ module _ (laws : WorldLaws) (keys : ExportKeysStay) (refused : ConflictsAreRefus
           | inr theirs ↦ names_go m.other (united m) (going_to m) (other_part laws keys m valid valid_other one elaborates) name theirs
         ],
       )
-
-  pub either_order : NamesInEitherOrder
-  either_order g h offset back valid valid_other can can_back name =
-      let there = both_names (merging g h offset) name valid valid_other can in
-      let here = both_names (merging h g back) name valid_other valid can_back in
-      (λ has. here.1 (swapped (there.0 has)), λ has. there.1 (swapped (here.0 has)))

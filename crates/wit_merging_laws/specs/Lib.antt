@@ -1,4 +1,6 @@
 pub mod BothNames
+pub mod Covering
+pub mod EitherOrder
 pub mod InterfacesStand
 pub mod JoinedGood
 pub mod KeptFacts
@@ -15,6 +17,8 @@ pub mod NoCycles
 pub mod NothingFacts
 pub mod OnceStand
 pub mod PackagesStand
+pub mod SharedImports
+pub mod SharedWorlds
 pub mod TypesStand
 pub mod UnitedWorlds
 pub mod UsesFrom

@@ -90,3 +90,10 @@ HasName g (of_export home world of name) =
 -- two graphs have the same names
 abbrev pub HaveSameNames : Graph → Graph → Type 0
 HaveSameNames g h = (name : Name) → HasName g name ↔ HasName h name
+
+-- ---- imports
+
+-- a world imports an interface of this name under its own key
+abbrev pub HasImport : Graph → PackageName → List ℕ → PackageName → List ℕ → Type 0
+HasImport g home world of name =
+    (w : ℕ) × (i : ℕ) × (held : WorldItem) × IsWorld g home world w × IsInterface g of name i × SomeAt g.worlds w (λ (there : World). Contains there.imports (key.Interface i, held))

@@ -21,6 +21,7 @@ use Rattle.wit_graph.specs.KeptByElaboration.{ExportKeysStay}
 use Rattle.wit_graph.specs.Valid.{IsValid}
 use Rattle.wit_graph.specs.declared.graph.Graph.{Graph}
 use Rattle.wit_graph.specs.declared.graph.Package.{Package}
+use Rattle.wit_growth.specs.AllElaborated.{elaborated_world}
 use Rattle.wit_growth.specs.Cut.{mapped_source}
 use Rattle.wit_growth.specs.Image.{entry_image, function_image, interface_image, item_image, world_image}
 use Rattle.wit_growth.specs.ListFacts.{Contains-map, at_map, found_at, place_of, same_at, some_at}
@@ -33,7 +34,7 @@ use Rattle.wit_merging.specs.Joined.{joined_interface, joined_world, with_interf
 use Rattle.wit_merging.specs.Matches.{Merging, found_interface, found_world, partner}
 use Rattle.wit_merging.specs.Moved.{brought_functions, interface_place, merge_maps, moves_interface, moves_world, package_place, type_place, world_place}
 use Rattle.wit_merging.specs.Reasons.{AreOne}
-use Rattle.wit_merging.specs.United.{elaborated_world, joined_graph, united}
+use Rattle.wit_merging.specs.United.{joined_graph, united}
 use Rattle.wit_merging_laws.specs.InterfacesStand as interfaces
 use Rattle.wit_merging_laws.specs.InterfacesStand.{option_is, option_so}
 use Rattle.wit_merging_laws.specs.JoinedGood.{CanElaborate}
@@ -126,6 +127,21 @@ world_image_goes m w old = record {
     labels false label held has = (item_image (merge_maps m) w held, Contains-map (entry_image (merge_maps m) w) old.imports (entry (key.Name label) held) has, image_item_goes m w held)
     labels true label held has = (item_image (merge_maps m) w held, Contains-map (entry_image (merge_maps m) w) old.exports (entry (key.Name label) held) has, image_item_goes m w held)
 
+-- an interface in a matched world is matched with the one under its key there
+pub item_matched : (m : Merging) (held here : WorldItem) → same_sort held here ≡ true → ((text : List ℕ) → differ.ItemsDiffer m held here text → ⊥) → ItemGoes (interface_place m) held here
+item_matched m (item.Interface j stability docs span external_id) (item.Interface j' stability' docs' span' external_id') sort agrees i is =
+    elim (cases_Bool (option_eq nat_eq (found_interface m j) (Some j'))) [
+      | inl same ↦ ap (λ (x : ℕ). x ∷ []) (sym (goes_to (found_interface m j) _ j' (option_is (found_interface m j) j' same)) ∙ ap (interface_place m) (one_same j i is))
+      | inr other ↦ absurd (agrees _ (differ.interfaces j j' refl refl (λ same. false≢true (sym other ∙ option_so (found_interface m j) j' same))))
+    ]
+  where
+    one_same : (a b : ℕ) → a ∷ [] ≡ b ∷ [] → a ≡ b
+    one_same a b same = cc
+item_matched m (item.Interface j stability docs span external_id) (item.Function f) sort agrees i is = absurd (false≢true sort)
+item_matched m (item.Interface j stability docs span external_id) (item.Type_ t span') sort agrees i is = absurd (false≢true sort)
+item_matched m (item.Function f) here sort agrees i is = cc
+item_matched m (item.Type_ t span) here sort agrees i is = cc
+
 -- what goes to a listed world goes to the elaborated one
 module _ (laws : WorldLaws) (keys : ExportKeysStay) (m : Merging) (valid : IsValid m.graph) (valid_other : IsValid m.other) (one : AreOne m) (can : CanElaborate m) where
   abbrev g : Graph
@@ -181,21 +197,6 @@ module _ (laws : WorldLaws) (keys : ExportKeysStay) (m : Merging) (valid : IsVal
             functions = function_comes m old is.into;
           })
 
-  -- an interface under a label of a matched world is matched with the one there
-  item_matched : (held here : WorldItem) → same_sort held here ≡ true → ((text : List ℕ) → differ.ItemsDiffer m held here text → ⊥) → ItemGoes (interface_place m) held here
-  item_matched (item.Interface j stability docs span external_id) (item.Interface j' stability' docs' span' external_id') sort agrees i is =
-      elim (cases_Bool (option_eq nat_eq (found_interface m j) (Some j'))) [
-        | inl same ↦ ap (λ (x : ℕ). x ∷ []) (sym (goes_to (found_interface m j) _ j' (option_is (found_interface m j) j' same)) ∙ ap (interface_place m) (one_same j i is))
-        | inr other ↦ absurd (agrees _ (differ.interfaces j j' refl refl (λ same. false≢true (sym other ∙ option_so (found_interface m j) j' same))))
-      ]
-    where
-      one_same : (a b : ℕ) → a ∷ [] ≡ b ∷ [] → a ≡ b
-      one_same a b same = cc
-  item_matched (item.Interface j stability docs span external_id) (item.Function f) sort agrees i is = absurd (false≢true sort)
-  item_matched (item.Interface j stability docs span external_id) (item.Type_ t span') sort agrees i is = absurd (false≢true sort)
-  item_matched (item.Function f) here sort agrees i is = cc
-  item_matched (item.Type_ t span) here sort agrees i is = cc
-
   module _ (w w' : ℕ) (old into : World) (there : slice_get m.other.worlds w ≡ Some old) (found : found_world m w ≡ Some w') (into_there : slice_get m.graph.worlds w' ≡ Some into) where
     abbrev joined : World
     joined = joined_world m (w', into)
@@ -207,7 +208,7 @@ module _ (laws : WorldLaws) (keys : ExportKeysStay) (m : Merging) (valid : IsVal
         let same_label : at.k' ≡ key.Name label = some_key at.k' (key.Name label) (sym at.key_is) in
         let stands = subst (λ (k : WorldKey). Contains (entries_of exported into) (entry k at.here)) same_label (Contains-from_lookup same_key-true at.k' at.here (entries_of exported into) at.looked) in
         let now = (world_keeps_entries m (w', into)).into exported (entry (key.Name label) at.here) stands in
-        (now.0, now.1, λ i is. now.2 ∙ item_matched held at.here at.same at.agrees i is)
+        (now.0, now.1, λ i is. now.2 ∙ item_matched m held at.here at.same at.agrees i is)
       where
         some_key : (a b : WorldKey) → Some a ≡ Some b → a ≡ b
         some_key a b same = cc

@@ -83,25 +83,32 @@ module _ (m : Merging) (valid : IsValid m.graph) (valid_other : IsValid m.other)
     pub used_place : j' ≡ interface_place m j
     pub used : Contains (direct (graph_uses m.other) i) j
 
+  -- what a type of the graph needs in the two as one it needed
+  pub old_needs : (t' j' : ℕ) (old : TypeDef) → slice_get m.graph.types t' ≡ Some old → Needs g.types t' j' → Needs m.graph.types t' j'
+  old_needs t' j' old is needs =
+      let keeps = joined_keeps m (t', old) in
+      let same = same_at g.types t' t' (joined_type m (t', old)) needs.alias refl (old_type_at m t' old is) needs.there in
+      let names : alias_target old.kind ≡ Some needs.target = ap alias_target (sym keeps.kind) ∙ (ap (λ (d : TypeDef). alias_target d.kind) same ∙ needs.names) in
+      let target = target_there m.graph valid t' old needs.target is names in
+      let target_keeps = joined_keeps m (needs.target, target.0) in
+      let named = same_at g.types needs.target needs.target (joined_type m (needs.target, target.0)) needs.named refl (old_type_at m needs.target target.0 target.1) needs.target_there in
+      let mine : old.owner ≡ needs.alias.owner = sym keeps.owner ∙ ap (λ (d : TypeDef). d.owner) same in
+      let theirs : target.0.owner ≡ needs.named.owner = sym target_keeps.owner ∙ ap (λ (d : TypeDef). d.owner) named in
+      record { alias = old; there = is; target = needs.target; names = names; named = target.0; target_there = target.1; other = (λ k. other_owner (mine k) (theirs k)) ∙ needs.other }
+
   -- the type of the two as one that makes a use: of interface f' under this name
   module _ (f' j' t' : ℕ) (name : List ℕ) (needs : Needs g.types t' j') (called : needs.alias.name ≡ Some name) (by_is : needs.alias.owner ≡ owner.Interface f') where
     old_use : (old : TypeDef) → slice_get m.graph.types t' ≡ Some old → joined_type m (t', old) ≡ needs.alias → Contains (direct (graph_uses m.graph) f') j'
     old_use old is same =
         let keeps = joined_keeps m (t', old) in
-        let names : alias_target old.kind ≡ Some needs.target = ap alias_target (sym keeps.kind) ∙ (ap (λ (d : TypeDef). alias_target d.kind) same ∙ needs.names) in
-        let target = target_there m.graph valid t' old needs.target is names in
-        let target_keeps = joined_keeps m (needs.target, target.0) in
-        let named = same_at g.types needs.target needs.target (joined_type m (needs.target, target.0)) needs.named refl (old_type_at m needs.target target.0 target.1) needs.target_there in
-        let mine : old.owner ≡ needs.alias.owner = sym keeps.owner ∙ ap (λ (d : TypeDef). d.owner) same in
-        let theirs : target.0.owner ≡ needs.named.owner = sym target_keeps.owner ∙ ap (λ (d : TypeDef). d.owner) named in
         listing_uses m.graph valid f' j' (record {
           t = t';
           def = old;
           name = name;
           there = is;
           called = sym keeps.name ∙ (ap (λ (d : TypeDef). d.name) same ∙ called);
-          by = mine ∙ by_is;
-          needs = record { alias = old; there = is; target = needs.target; names = names; named = target.0; target_there = target.1; other = (λ k. other_owner (mine k) (theirs k)) ∙ needs.other };
+          by = sym keeps.owner ∙ (ap (λ (d : TypeDef). d.owner) same ∙ by_is);
+          needs = old_needs t' j' old is needs;
         })
 
     new_use : (t : ℕ) (old : TypeDef) → slice_get m.other.types t ≡ Some old → type_image (merge_maps m) old ≡ needs.alias → UseOfOther f' j'

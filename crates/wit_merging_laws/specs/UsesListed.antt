@@ -55,7 +55,7 @@ key_goes m j k = by (found_interface m j) refl
 
 -- ---- keys that a world lists
 
-key_in : (es : List Entry) (j : ℕ) (held : WorldItem) → Contains es (entry (key.Interface j) held) → Contains (ids_of es) j
+pub key_in : (es : List Entry) (j : ℕ) (held : WorldItem) → Contains es (entry (key.Interface j) held) → Contains (ids_of es) j
 key_in es j held has = Contains-flat_map (λ (e : Entry). id_of e.0) es (entry (key.Interface j) held) j has (Contains-here j [])
 
 lists_key : (exported : Bool) (world : World) (j : ℕ) (held : WorldItem) → Contains (entries_of exported world) (entry (key.Interface j) held) → ListsKey world j
@@ -76,12 +76,12 @@ keyed_by exported world j has =
 keyed : (world : World) (j : ℕ) → ListsKey world j → Keyed world j
 keyed world j lists = elim lists [ inl has ↦ keyed_by false world j has | inr has ↦ keyed_by true world j has ]
 
-held_one : (held : WorldItem) (f : ℕ) → Contains (instance_of held) f → item_interface held ≡ f ∷ []
+pub held_one : (held : WorldItem) (f : ℕ) → Contains (instance_of held) f → item_interface held ≡ f ∷ []
 held_one (item.Interface i stability docs span external_id) f has = elim (Contains-cons_cases i f [] has) [ inl same ↦ ap (λ (x : ℕ). x ∷ []) same | inr none ↦ absurd (Contains-nil none) ]
 held_one (item.Function fn) f has = absurd (Contains-nil has)
 held_one (item.Type_ t span) f has = absurd (Contains-nil has)
 
-one_held : (held : WorldItem) (f : ℕ) → item_interface held ≡ f ∷ [] → Contains (instance_of held) f
+pub one_held : (held : WorldItem) (f : ℕ) → item_interface held ≡ f ∷ [] → Contains (instance_of held) f
 one_held (item.Interface i stability docs span external_id) f is = subst (λ (x : List ℕ). Contains x f) (sym is) (Contains-here f [])
 one_held (item.Function fn) f is = cc
 one_held (item.Type_ t span) f is = cc
@@ -142,7 +142,7 @@ world_keeps_entries m e = by (partner (found_world m) m.other.worlds e.0)
 
 module _ (m : Merging) (valid : IsValid m.graph) (valid_other : IsValid m.other) (one : AreOne m) where
   -- what a matched world lists, its partner lists at its place
-  partner_lists_key : (w w' : ℕ) (from into : World) (j : ℕ) → slice_get m.other.worlds w ≡ Some from → found_world m w ≡ Some w' → slice_get m.graph.worlds w' ≡ Some into → ListsKey from j → ListsKey into (interface_place m j)
+  pub partner_lists_key : (w w' : ℕ) (from into : World) (j : ℕ) → slice_get m.other.worlds w ≡ Some from → found_world m w ≡ Some w' → slice_get m.graph.worlds w' ≡ Some into → ListsKey from j → ListsKey into (interface_place m j)
   partner_lists_key w w' from into j there found into_there lists =
       let listed = keyed from j lists in
       let here = entry_there m valid valid_other one w w' from into there found into_there listed.exported (key.Interface j) listed.held listed.has in

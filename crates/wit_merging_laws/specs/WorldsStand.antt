@@ -145,7 +145,7 @@ module _ (m : Merging) (valid : IsValid m.graph) (valid_other : IsValid m.other)
     same_into : is.into ≡ into
     same_into = some_same is.into into (sym is.into_is ∙ into_there)
 
-    differs : (exported : Bool) {text : List ℕ} → differ.EntriesDiffer m (side_word exported) (entries_of exported old) (entries_of exported into) text → ⊥
+    pub differs : (exported : Bool) {text : List ℕ} → differ.EntriesDiffer m (side_word exported) (entries_of exported old) (entries_of exported into) text → ⊥
     differs exported {text} other =
         one _ (differ.worlds (record { x = w; from = is.from; x' = w'; into = is.into; from_is = is.from_is; matched = found; into_is = is.into_is }) is.at.p home.0 exported text is.at.home_is home.1
         (subst (λ (x : World). differ.EntriesDiffer m (side_word exported) (entries_of exported x) (entries_of exported is.into) text) (sym same_old)

@@ -1,5 +1,5 @@
 //! Laws of merging: the contract of each function is what is proved.
-ghost use Rattle.wit_merging_laws.specs.MergingLaws.{NamesInEitherOrder, NothingComes, UnionsHaveBothNames, UnionsStayValid};
+ghost use Rattle.wit_merging_laws.specs.MergingLaws.{NamesInEitherOrder, NothingComes, SharedWorldsKeepImports, UnionsHaveBothNames, UnionsStayValid};
 
 use wit_graph::laws::{
     conflicts_are_refused, elaborated_entries, elaborated_once, elaborates_once,
@@ -37,6 +37,20 @@ pub fn unions_have_both_names()
     export_keys_stay();
 }
 
+/// A world that both graphs have imports the same interfaces under their own keys in both, and in what is made of them.
+pub fn shared_worlds_keep_imports()
+    ensures { SharedWorldsKeepImports }
+{
+    elaborates_once();
+    elaboration_is_local();
+    elaborated_entries();
+    elaborated_once();
+    labels_stay();
+    conflicts_are_refused();
+    export_keys_stay();
+    imports_are_least();
+}
+
 /// Merging in either order gives the same names.
 pub fn names_in_either_order()
     ensures { NamesInEitherOrder }
@@ -48,4 +62,5 @@ pub fn names_in_either_order()
     labels_stay();
     conflicts_are_refused();
     export_keys_stay();
+    imports_are_least();
 }

@@ -1,4 +1,4 @@
-use Rattle.wit_merging_laws.specs.BothNames.{either_order}
+use Rattle.wit_merging_laws.specs.EitherOrder.{either_order}
 use Rattle.wit_merging_laws.proofs.laws.names_in_either_order.Goals as goal
 
 pub returns : goal.returns
@@ -9,4 +9,4 @@ returns c =
       entries = c.elaborated_entries.ensures;
       once = c.elaborated_once.ensures;
       labels = c.labels_stay.ensures;
-    }) c.export_keys_stay.ensures c.conflicts_are_refused.ensures
+    }) c.export_keys_stay.ensures c.conflicts_are_refused.ensures c.imports_are_least.ensures
