@@ -1,3 +1,4 @@
 pub mod Graphs
+pub mod NamesHeld
 pub mod Refusals
 pub mod Unions
