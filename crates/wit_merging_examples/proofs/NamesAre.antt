@@ -2,7 +2,6 @@
 use Rattle.std.proofs.Common.{◌≡◌, ℕ, zero, suc, true, [], ◌∷◌, List, None, Some, codes, refl, ap}
 use Rattle.wit_values.specs.Lists.{differ}
 use Rattle.wit_relations.specs.MemberFacts.{Contains-here, Contains-nil, Contains-there}
-use Rattle.wit_items.specs.declared.interface.Interface.{Interface}
 use Rattle.wit_items.specs.declared.package_name.PackageName.{PackageName}
 use Rattle.wit_items.specs.declared.types.Type_.TheVariants as type
 use Rattle.wit_items.specs.declared.world.WorldItem.{WorldItem}
