@@ -64,6 +64,13 @@ key_entry es j has =
     is (key.Name name) none = absurd (Contains-nil none)
     is (key.Interface i) one = ap key.Interface (one_of i j one)
 
+-- and an exported key is that of an interface with a name
+pub named_export : (interfaces : List Interface) (k : WorldKey) (held : WorldItem) (j : ℕ) → k ≡ key.Interface j → IsExport interfaces k held → IsNamed interfaces j
+named_export interfaces (key.Name name) held j same is = cc
+named_export interfaces (key.Interface f) (item.Interface i stability docs span external_id) j same is = let one : f ≡ j = cc in subst (IsNamed interfaces) one is.1
+named_export interfaces (key.Interface f) (item.Function fn) j same is = absurd is
+named_export interfaces (key.Interface f) (item.Type_ t span) j same is = absurd is
+
 -- what an entry names is there
 pub export_there : (interfaces : List Interface) (types : List TypeDef) (k : WorldKey) (held : WorldItem) (i : ℕ) → IsExport interfaces k held → entry_interface types held ≡ Some i → i < length interfaces
 export_there interfaces types (key.Interface f) (item.Interface id stability docs span external_id) i is names = let same : id ≡ i = cc in subst (λ (x : ℕ). x < length interfaces) (sym is.0 ∙ same) (named_within interfaces f is.1)
@@ -131,15 +138,12 @@ type_root uses (Some x) (key.Name name) r has = ap Some (one_of x r has)
 type_root uses (Some x) (key.Interface f) r has = ap Some (one_of x r has)
 
 -- those of an entry begin at what it names, or at what an interface uses that stands there
-pub data Begins (types : List TypeDef) (uses : List (List ℕ)) (held : WorldItem) (r : ℕ) : Type 0 where
-  at_named : entry_interface types held ≡ Some r → Begins types uses held r
-  at_use : (i : ℕ) → Contains (instance_of held) i → Contains (direct uses i) r → Begins types uses held r
-
-pub begins : (types : List TypeDef) (uses : List (List ℕ)) (k : WorldKey) (held : WorldItem) (r : ℕ) → Contains (roots_of uses k (role_of types held)) r → Begins types uses held r
-begins types uses (key.Interface f) (item.Interface id stability docs span external_id) r has = at_named (ap Some (one_of id r has))
-begins types uses (key.Name name) (item.Interface id stability docs span external_id) r has = at_use id (Contains-here id []) has
-begins types uses k (item.Function f) r has = absurd (no_function_root uses (resource_of f.kind) k r has)
-begins types uses k (item.Type_ t span) r has = at_named (type_root uses (type_interface_dep types t) k r has)
+pub root_interface : (types : List TypeDef) (uses : List (List ℕ)) (k : WorldKey) (held : WorldItem) (r : ℕ) → Contains (roots_of uses k (role_of types held)) r
+    → (i : ℕ) × (entry_interface types held ≡ Some i) × ((i ≡ r) ⊎ (Contains (instance_of held) i × Contains (direct uses i) r))
+root_interface types uses (key.Interface f) (item.Interface id stability docs span external_id) r has = (id, refl, inl (one_of id r has))
+root_interface types uses (key.Name name) (item.Interface id stability docs span external_id) r has = (id, refl, inr (Contains-here id [], has))
+root_interface types uses k (item.Function f) r has = absurd (no_function_root uses (resource_of f.kind) k r has)
+root_interface types uses k (item.Type_ t span) r has = (r, type_root uses (type_interface_dep types t) k r has, inl refl)
 
 -- and there is an interface with a name
 pub root_named : (types : List TypeDef) (interfaces : List Interface) → Each (AliasesNamed types interfaces) types → (w : ℕ) (k : WorldKey) (held : WorldItem) (r : ℕ) → IsImport interfaces types w k held

@@ -13,6 +13,8 @@ use Rattle.wit_items.specs.declared.world.WorldItem.{WorldItem}
 use Rattle.wit_items.specs.declared.world.WorldItem.TheVariants as item
 use Rattle.wit_items.specs.declared.world.WorldKey.{WorldKey}
 use Rattle.wit_items.specs.declared.world.WorldKey.TheVariants as key
+use Rattle.wit_graph.specs.Elaborated.{settled_item}
+use Rattle.wit_graph.specs.KeptByElaboration.{settled}
 use Rattle.wit_graph.specs.Valid.{IsOfPackage}
 use Rattle.wit_graph.specs.declared.graph.Graph.{Graph}
 use Rattle.wit_growth.specs.Covered.{EntryComes, IsDependency, IsNoType, ItemComes, WorldComes}
@@ -40,6 +42,33 @@ export_from_import interfaces types w (key.Interface f) held is no_type = is
 
 pub same_one : (i j : ℕ) → i ∷ [] ≡ j ∷ [] → i ≡ j
 same_one i j same = cc
+
+-- ---- an interface without its span is as good
+
+settled_import : (interfaces : List Interface) (types : List TypeDef) (w : ℕ) (k : WorldKey) (held : WorldItem) → IsImport interfaces types w k held → IsImport interfaces types w k (settled_item held)
+settled_import interfaces types w (key.Interface f) (item.Interface i stability docs span external_id) is = is
+settled_import interfaces types w (key.Interface f) (item.Function fn) is = is
+settled_import interfaces types w (key.Interface f) (item.Type_ t span) is = is
+settled_import interfaces types w (key.Name name) (item.Interface i stability docs span external_id) is = is
+settled_import interfaces types w (key.Name name) (item.Function fn) is = is
+settled_import interfaces types w (key.Name name) (item.Type_ t span) is = is
+
+settled_own : (types : List TypeDef) (w : ℕ) (held : WorldItem) → ItemUsesOwn types w held → ItemUsesOwn types w (settled_item held)
+settled_own types w (item.Interface i stability docs span external_id) own = own
+settled_own types w (item.Function fn) own = own
+settled_own types w (item.Type_ t span) own = own
+
+settled_home : (interfaces : List Interface) (home : Option ℕ) (held : WorldItem) → IsOfPackage interfaces home held → IsOfPackage interfaces home (settled_item held)
+settled_home interfaces home (item.Interface i stability docs span external_id) of = of
+settled_home interfaces home (item.Function fn) of = of
+settled_home interfaces home (item.Type_ t span) of = of
+
+pub settled_is_good : (types : List TypeDef) (interfaces : List Interface) (w : ℕ) (world : World) (e : Entry) → IsGoodImport types interfaces w world e → IsGoodImport types interfaces w world (settled e)
+settled_is_good types interfaces w world e good = record {
+  is = settled_import interfaces types w e.0 e.1 good.is;
+  own = settled_own types w e.1 good.own;
+  home = settled_home interfaces world.package e.1 good.home;
+}
 
 -- ---- from a source
 

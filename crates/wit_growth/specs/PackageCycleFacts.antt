@@ -24,7 +24,7 @@ use Rattle.wit_graph.specs.Relations.{entry_interface, entry_interfaces, other_p
 use Rattle.wit_graph.specs.Valid.{IsInTable}
 use Rattle.wit_graph.specs.declared.graph.Package.{Package}
 use Rattle.wit_growth.specs.DependencyFacts.{filter_map_from, filter_map_into, some_parts, some_whole}
-use Rattle.wit_growth.specs.EntryFacts.{Begins, at_named, at_use, begins, export_named, export_there, import_named, import_there, instance_interface, key_named, root_named, settled_interface}
+use Rattle.wit_growth.specs.EntryFacts.{export_named, export_there, import_named, import_there, instance_interface, key_named, root_interface, root_named, settled_interface}
 use Rattle.wit_growth.specs.ListFacts.{found_at, from_row, get_at, in_row, place_of, same_at, some_at}
 use Rattle.wit_growth.specs.NamedUses.{used_is_named}
 use Rattle.wit_growth.specs.PackageCycles.{AreElaborated, IsElaboratedFrom, ListsKey}
@@ -241,12 +241,13 @@ module _ (entries : ElaboratedEntries) (types : List TypeDef) (interfaces : List
         let d = Contains-flat_map_cases (λ (d : Entry). roots_of uses d.0 (role_of types d.1)) old.imports reached.0 reached.1 in
         let place = place_of old.imports d.0 d.1.0 in
         let is_named = root_named types interfaces are.aliases e.1 d.0.0 d.0.1 reached.0 (from.imports place.0 d.0 place.1) d.1.1 in
-        leads_along p reached.0 reached.2.0 j (by d.0 d.1.0 reached.0 (begins types uses d.0.0 d.0.1 reached.0 d.1.1)) is_named reached.2.1
-      where
-        by : (d : Entry) → Contains old.imports d → (r : ℕ) → Begins types uses d.1 r → Leads p r
-        by d has r (at_named is) = listed_leads r (import_named types old d r has is)
-        by d has r (at_use i instance edge) =
-            use_leads i r (import_named types old d i has (instance_interface types d.1 i instance)) (λ unnamed. from.lists_uses.imports d i r has instance unnamed edge) edge
+        let root = root_interface types uses d.0.0 d.0.1 reached.0 d.1.1 in
+        let names = import_named types old d.0 root.0 d.1.0 root.1 in
+        let first : Leads p reached.0 = elim root.2 [
+          | inl same ↦ subst (Leads p) same (listed_leads root.0 names)
+          | inr user ↦ use_leads root.0 reached.0 names (λ unnamed. from.lists_uses.imports d.0 root.0 reached.0 d.1.0 user.0 unnamed user.1) user.1
+        ] in
+        leads_along p reached.0 reached.2.0 j first is_named reached.2.1
 
     -- what the elaborated world names
     new_leads : (i : ℕ) → Contains (world_interfaces types new) i → Leads p i

@@ -25,12 +25,13 @@ use Rattle.wit_graph.specs.KeptByElaboration.{ExportKeysStay, is_label, labelled
 use Rattle.wit_graph.specs.Valid.{IsValid}
 use Rattle.wit_graph.specs.declared.error_kind.ResolveErrorKind.{ResolveErrorKind}
 use Rattle.wit_graph.specs.declared.graph.Graph.{Graph}
+use Rattle.wit_growth.specs.EntryFacts.{instance_interface, key_entry, one_of, root_interface}
 use Rattle.wit_growth.specs.ListFacts.{Contains-map, Contains-map_cases, contained_at, get_at, place_of, same_at}
 use Rattle.wit_unite.proofs.Accepted.{IsAcceptedTurn, exportized_accepted, importized_accepted, importized_valid}
 use Rattle.wit_unite.proofs.Distinct.{entry_of_key, key_of_entry}
 use Rattle.wit_unite.proofs.ListsFrom.{answered_from, answered_into}
-use Rattle.wit_unite.proofs.NamedInterfaces.{import_uses, instance_interface, one_of, root_interface}
-use Rattle.wit_unite.proofs.TurnedWorlds.{Laws, exported_entry, in_order, is_elaborated, listed}
+use Rattle.wit_unite.proofs.NamedInterfaces.{import_uses}
+use Rattle.wit_unite.proofs.TurnedWorlds.{Laws, in_order, is_elaborated, listed}
 use Rattle.wit_unite.specs.TurnCause.{IsExportizeCause, imports_at}
 use Rattle.wit_unite.specs.TurnLaws.{ExportizedImportsNothing, ImportizedExportsNothing, IsBehind, TurnedTwice}
 use Rattle.wit_unite.specs.Turned.{Turn, answered, exportized, importized, turned, turned_at, turned_world, type_entries}
@@ -86,8 +87,8 @@ module _ (laws : Laws) (g : Graph) (valid : IsValid g) (w : ℕ) (answers : List
           | inl need ↦
               let x = Contains-flat_map_cases (λ (e : Entry). instance_of e.1) turn.exports need.0 need.2 in
               let user = answered_from true old.imports answers x.0 x.1.0 in
-              let used = import_uses g valid w old there turn accepted.from laws accepted.no_conflict x.0 (contained_at old.imports user.0 x.0 user.1) need.0 need.1 (instance_interface g.types x.0.1 need.0 x.1.1) need.3 in
-              let entry = exported_entry old.imports need.1 used in
+              let used = import_uses g valid w old there turn accepted.from laws accepted.no_conflict x.0 need.0 need.1 (contained_at old.imports user.0 x.0 user.1) (instance_interface g.types x.0.1 need.0 x.1.1) need.3 in
+              let entry = key_entry old.imports need.1 used in
               need.4 (Contains-flat_map (λ (e : Entry). id_of e.0) turn.exports entry.0 need.1 (all_true old.imports answers many all entry.0 entry.1)
               (subst (λ (k : WorldKey). Contains (id_of k) need.1) (sym entry.2) (Contains-here need.1 [])))
           | inr reached ↦
@@ -127,7 +128,7 @@ id_key es j = (
   λ has.
       let entry = entry_of_key es (key.Interface j) has in
       Contains-flat_map (λ (e : Entry). id_of e.0) es entry.0 j entry.1 (subst (λ (k : WorldKey). Contains (id_of k) j) (sym entry.2) (Contains-here j [])),
-  λ has. let entry = exported_entry es j has in subst (Contains (keys_of es)) entry.2 (key_of_entry es entry.0 entry.1),
+  λ has. let entry = key_entry es j has in subst (Contains (keys_of es)) entry.2 (key_of_entry es entry.0 entry.1),
 )
 
 module _ (laws : Laws) (keep : ExportKeysStay) (exact : ImportsAreExact) (g : Graph) (valid : IsValid g) (w : ℕ) (old : World) (there : slice_get g.worlds w ≡ Some old) (out : Option (List ℕ))

@@ -26,9 +26,10 @@ use Rattle.wit_graph.specs.ListedFacts.{IsListed-of_world}
 use Rattle.wit_graph.specs.Valid.{IsOfPackage, IsValid}
 use Rattle.wit_graph.specs.declared.graph.Graph.{Graph}
 use Rattle.wit_growth.specs.Covered.{IsDependency}
+use Rattle.wit_growth.specs.EntryFacts.{key_entry, named_export}
 use Rattle.wit_growth.specs.Good.{HasGoodThings, IsGoodExport, IsGoodImport, IsGoodWorld}
 use Rattle.wit_growth.specs.GoodIsValid.{good_things}
-use Rattle.wit_growth.specs.GoodWorlds.{dependency_export, dependency_import, export_from_import, import_from_export}
+use Rattle.wit_growth.specs.GoodWorlds.{dependency_export, dependency_import, export_from_import, import_from_export, settled_is_good}
 use Rattle.wit_growth.specs.ListFacts.{Contains-map, contained_at, place_of}
 use Rattle.wit_growth.specs.NamedUses.{IsUsed_named}
 use Rattle.wit_unite.proofs.ListsFrom.{ComesFrom}
@@ -43,26 +44,6 @@ pub record Laws : Type 0 where
   pub least : ImportsAreLeast
   pub refused : ConflictsAreRefused
 
--- ---- an interface without its span is as good
-
-settled_import : (interfaces : List Interface) (types : List TypeDef) (w : ℕ) (k : WorldKey) (held : WorldItem) → IsImport interfaces types w k held → IsImport interfaces types w k (settled_item held)
-settled_import interfaces types w (key.Interface f) (item.Interface i stability docs span external_id) is = is
-settled_import interfaces types w (key.Interface f) (item.Function fn) is = is
-settled_import interfaces types w (key.Interface f) (item.Type_ t span) is = is
-settled_import interfaces types w (key.Name name) (item.Interface i stability docs span external_id) is = is
-settled_import interfaces types w (key.Name name) (item.Function fn) is = is
-settled_import interfaces types w (key.Name name) (item.Type_ t span) is = is
-
-settled_own : (types : List TypeDef) (w : ℕ) (held : WorldItem) → ItemUsesOwn types w held → ItemUsesOwn types w (settled_item held)
-settled_own types w (item.Interface i stability docs span external_id) own = own
-settled_own types w (item.Function fn) own = own
-settled_own types w (item.Type_ t span) own = own
-
-settled_home : (interfaces : List Interface) (home : Option ℕ) (held : WorldItem) → IsOfPackage interfaces home held → IsOfPackage interfaces home (settled_item held)
-settled_home interfaces home (item.Interface i stability docs span external_id) of = of
-settled_home interfaces home (item.Function fn) of = of
-settled_home interfaces home (item.Type_ t span) of = of
-
 abbrev entry : WorldKey → WorldItem → Entry
 entry k held = (k, held)
 
@@ -75,22 +56,6 @@ listed_is e n has = by e.0 e.1 has
     by (key.Name name) (item.Interface i stability docs span external_id) has = absurd (Contains-nil has)
     by (key.Name name) (item.Function fn) has = absurd (Contains-nil has)
     by (key.Interface f) held has = absurd (Contains-nil has)
-
--- an exported key is that of an entry
-pub exported_entry : (es : List Entry) (j : ℕ) → Contains (exported_keys es) j → (e : Entry) × Contains es e × (e.0 ≡ key.Interface j)
-exported_entry es j has =
-    let from = Contains-flat_map_cases (λ (e : Entry). id_of e.0) es j has in
-    (from.0, from.1.0, is from.0.0 from.1.1)
-  where
-    is : (k : WorldKey) → Contains (id_of k) j → k ≡ key.Interface j
-    is (key.Name name) none = absurd (Contains-nil none)
-    is (key.Interface i) one = elim (Contains-cons_cases i j [] one) [ inl same ↦ ap key.Interface same | inr none ↦ absurd (Contains-nil none) ]
-
-named_export : (interfaces : List Interface) (k : WorldKey) (held : WorldItem) (j : ℕ) → k ≡ key.Interface j → IsExport interfaces k held → IsNamed interfaces j
-named_export interfaces (key.Name name) held j same is = cc
-named_export interfaces (key.Interface f) (item.Interface i stability docs span external_id) j same is = let one : f ≡ j = cc in subst (IsNamed interfaces) one is.1
-named_export interfaces (key.Interface f) (item.Function fn) j same is = absurd is
-named_export interfaces (key.Interface f) (item.Type_ t span) j same is = absurd is
 
 module _ (g : Graph) (valid : IsValid g) (w : ℕ) (old : World) (there : slice_get g.worlds w ≡ Some old) (turn : Turn) (from : ComesFrom old turn) where
   abbrev pub uses : List (List ℕ)
@@ -151,19 +116,14 @@ module _ (g : Graph) (valid : IsValid g) (w : ℕ) (old : World) (there : slice_
         elim ((laws.entries g.types uses listed done e valid.no_cycles.uses in_order is_elaborated).1 has) [
           | inl stays ↦ inl stays
           | inr made ↦
-              let entry = exported_entry turn.exports made.1 made.3 in
+              let entry = key_entry turn.exports made.1 made.3 in
               inr (subst (IsDependency g.interfaces) (sym made.2)
               (record { f = made.1; key = refl; held = refl; named = named_export g.interfaces entry.0.0 entry.0.1 made.1 entry.2 (exported entry.0 entry.1).is }))
         ]
 
     good_settled : (f : Entry) → Contains turn.imports f → IsGoodImport g.types g.interfaces w done (settled f)
     good_settled f has =
-        let good = old_entry f (from.imports f has) in
-        record {
-          is = settled_import g.interfaces g.types w f.0 f.1 good.is;
-          own = settled_own g.types w f.1 good.own;
-          home = settled_home g.interfaces old.package f.1 good.home;
-        }
+        let good = old_entry f (from.imports f has) in settled_is_good g.types g.interfaces w done f (record { is = good.is; own = good.own; home = good.home })
 
     -- the turned world is good
     pub done_is_good : IsGoodWorld g.types g.interfaces w done
