@@ -2,6 +2,7 @@ mod Accepted
 mod Computed
 mod Mismatches
 mod NamesAre
+mod Pairs
 mod Passing
 mod Refused
-mod Tests
+mod Stabilities

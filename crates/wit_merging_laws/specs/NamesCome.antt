@@ -17,6 +17,7 @@ use Rattle.wit_graph.specs.KeptByElaboration.{ExportKeysStay}
 use Rattle.wit_graph.specs.Valid.{IsValid}
 use Rattle.wit_graph.specs.declared.graph.Graph.{Graph}
 use Rattle.wit_graph.specs.declared.graph.Package.{Package}
+use Rattle.wit_growth.specs.AllElaborated.{elaborated_world}
 use Rattle.wit_growth.specs.Covered.{InterfaceAt}
 use Rattle.wit_growth.specs.Image.{identity, key_image}
 use Rattle.wit_growth.specs.ListFacts.{found_at, from_map, place_of, some_at}
@@ -27,7 +28,7 @@ use Rattle.wit_including_laws.specs.WorldLaws.{WorldLaws}
 use Rattle.wit_merging.specs.Matches.{Merging, found_interface, found_world, spots}
 use Rattle.wit_merging.specs.Moved.{interface_place, merge_maps, moves_interface, moves_world, world_place}
 use Rattle.wit_merging.specs.Reasons.{AreOne}
-use Rattle.wit_merging.specs.United.{elaborated_world, joined_graph, united}
+use Rattle.wit_merging.specs.United.{joined_graph, united}
 use Rattle.wit_merging_laws.specs.InterfacesStand.{interface_at_from, interfaces_come, moved_interface_goes}
 use Rattle.wit_merging_laws.specs.InterfacesStand as interfaces
 use Rattle.wit_merging_laws.specs.JoinedGood.{CanElaborate}

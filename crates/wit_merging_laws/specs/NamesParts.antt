@@ -21,6 +21,7 @@ use Rattle.wit_graph.specs.KeptByElaboration.{ExportKeysStay}
 use Rattle.wit_graph.specs.Valid.{IsValid}
 use Rattle.wit_graph.specs.declared.graph.Graph.{Graph}
 use Rattle.wit_graph.specs.declared.graph.Package.{Package}
+use Rattle.wit_growth.specs.AllElaborated.{elaborated_world}
 use Rattle.wit_growth.specs.Cut.{mapped_source}
 use Rattle.wit_growth.specs.Image.{entry_image, function_image, interface_image, item_image, world_image}
 use Rattle.wit_growth.specs.ListFacts.{Contains-map, at_map, found_at, place_of, same_at, some_at}
@@ -33,7 +34,7 @@ use Rattle.wit_merging.specs.Joined.{joined_interface, joined_world, with_interf
 use Rattle.wit_merging.specs.Matches.{Merging, found_interface, found_world, partner}
 use Rattle.wit_merging.specs.Moved.{brought_functions, interface_place, merge_maps, moves_interface, moves_world, package_place, type_place, world_place}
 use Rattle.wit_merging.specs.Reasons.{AreOne}
-use Rattle.wit_merging.specs.United.{elaborated_world, joined_graph, united}
+use Rattle.wit_merging.specs.United.{joined_graph, united}
 use Rattle.wit_merging_laws.specs.InterfacesStand as interfaces
 use Rattle.wit_merging_laws.specs.InterfacesStand.{option_is, option_so}
 use Rattle.wit_merging_laws.specs.JoinedGood.{CanElaborate}

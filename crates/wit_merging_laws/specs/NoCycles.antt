@@ -25,6 +25,7 @@ use Rattle.wit_graph.specs.Valid.{IsValid}
 use Rattle.wit_graph.specs.declared.cause.Cause.TheVariants as cause
 use Rattle.wit_graph.specs.declared.error_kind.ResolveErrorKind.TheVariants.{InvalidTransitiveDependency, Semantic}
 use Rattle.wit_graph.specs.declared.graph.Graph.{Graph}
+use Rattle.wit_growth.specs.AllElaborated.{RefersToItself, UsesItself, interface_cycle_text}
 use Rattle.wit_growth.specs.Growth.{TypesGrow}
 use Rattle.wit_growth.specs.ListFacts.{at_below, found_at, in_row, place_of, some_at}
 use Rattle.wit_growth.specs.NamedUses.{used_is_named}
@@ -37,9 +38,8 @@ use Rattle.wit_growth.specs.TypesAcyclic.{types_acyclic}
 use Rattle.wit_merging.specs.Cause.{CanMerge, conflict_4, interface_cycle_22, merge_mismatch_24}
 use Rattle.wit_merging.specs.Joined.{joined_type}
 use Rattle.wit_merging.specs.Matches.{Merging, found_type}
-use Rattle.wit_merging.specs.MismatchText.{interface_cycle_text}
 use Rattle.wit_merging.specs.Moved.{added_owns, merge_maps, moves_type, type_place}
-use Rattle.wit_merging.specs.Reasons.{AreOne, UsesItself}
+use Rattle.wit_merging.specs.Reasons.{AreOne}
 use Rattle.wit_merging.specs.United.{joined_graph}
 use Rattle.wit_merging_laws.specs.JoinedGood.{CanElaborate, aliases, in_order}
 use Rattle.wit_merging_laws.specs.MatchFacts.{goes_to, type_is}
@@ -156,8 +156,11 @@ module _ (m : Merging) (valid : IsValid m.graph) (valid_other : IsValid m.other)
           ap (option_and_then (interface_id_text joined.packages)) at ∙ ap (option_and_then (λ (n : List ℕ). option_map (λ (q : ℕ). id_text joined.packages q n) interface.package)) named
           ∙ ap (option_map (λ (q : ℕ). id_text joined.packages q name)) of
 
-  no_interface_cycle : (message : List ℕ) → UsesItself m message → ⊥
-  no_interface_cycle message is = can (Semantic None message cause.InterfaceCycle) (interface_cycle_22 message is)
+  no_interface_cycle : (message : List ℕ) → UsesItself joined message → ⊥
+  no_interface_cycle message is = can (Semantic None message cause.InterfaceCycle) (interface_cycle_22 message one is)
+
+  no_type_cycle : (message : List ℕ) → RefersToItself joined message → ⊥
+  no_type_cycle message is = (joined_types_acyclic m valid valid_other one).no_cycle is.t is.u is.on_cycle.leads_back.0 (is.on_cycle.is_used, is.on_cycle.leads_back.1)
 
   -- no interface uses itself
   joined_uses_acyclic : IsAcyclic uses
@@ -168,7 +171,7 @@ module _ (m : Merging) (valid : IsValid m.graph) (valid_other : IsValid m.other)
         omega (arith, within, length-map joined.interfaces (interface_uses joined.types));
     no_cycle = λ i k path leads.
         let id = id_of_named i (end_named i k path i leads) in
-        no_interface_cycle (interface_cycle_text id.0) (record { one = one; i = i; j = k; on_cycle = record { is_used = leads.0; leads_back = (path, leads.1) }; id = id.0; id_is = id.1; message_is = refl });
+        no_interface_cycle (interface_cycle_text id.0) (record { i = i; j = k; on_cycle = record { is_used = leads.0; leads_back = (path, leads.1) }; id = id.0; id_is = id.1; message_is = refl });
   }
 
   -- no world is in conflict
@@ -178,7 +181,7 @@ module _ (m : Merging) (valid : IsValid m.graph) (valid_other : IsValid m.other)
       let k = (refused joined.types uses world.imports world.exports joined_uses_acyclic (in_order m valid valid_other one place.0 world place.1)).0 conflict in
       let name = key_text joined.packages joined.interfaces k.0 in
       can (InvalidTransitiveDependency world.span name)
-      (conflict_4 world.span name (record { one = one; acyclic = no_interface_cycle; world = world; there = there; conflict = conflict; name_is = (k.0, k.1, refl); span_is = refl }))
+      (conflict_4 world.span name one (record { interfaces = no_interface_cycle; types = no_type_cycle; world = world; there = there; conflict = conflict; name_is = (k.0, k.1, refl); span_is = refl }))
 
   -- so all of it can be elaborated
   pub can_elaborate : ConflictsAreRefused → CanElaborate m

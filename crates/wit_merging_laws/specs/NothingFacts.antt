@@ -1,5 +1,5 @@
 -- Where an empty graph goes into a valid one, nothing speaks against it, and nothing changes.
-use Rattle.std.proofs.Common.{◌≡◌, ◌∙◌, ℕ, ◌+◌, suc, List, [], ◌∷◌, map, Option, refl, sym, ap, subst, Contains}
+use Rattle.std.proofs.Common.{◌≡◌, ◌∙◌, ℕ, ◌+◌, suc, List, [], ◌∷◌, ◌++◌, map, Option, refl, sym, ap, subst, Contains}
 use Rattle.std.proofs.lemmas.List.{append-nil}
 use Rattle.std.specs.List.{enumerate_from}
 use Rattle.wit_relations.specs.Cycles.{IsOnCycle}
@@ -13,13 +13,15 @@ use Rattle.wit_graph.specs.Examples.{empty_graph}
 use Rattle.wit_graph.specs.Imported.{HasConflict}
 use Rattle.wit_graph.specs.Valid.{IsValid}
 use Rattle.wit_graph.specs.declared.graph.Graph.{Graph}
+use Rattle.wit_growth.specs.AllElaborated.{all_elaborated, elaborated_world, graph_package_uses}
 use Rattle.wit_growth.specs.ListFacts.{place_of}
 use Rattle.wit_merging.specs.Agreement as differ
 use Rattle.wit_merging.specs.Agreement.{GraphsDiffer}
 use Rattle.wit_merging.specs.Cause.{CanMerge, borrow_in_result_15, conflict_4, interface_cycle_22, merge_mismatch_24, mismatch_8, offset_overflow_27, package_cycle_6}
 use Rattle.wit_merging.specs.Matches.{Merging, Pair, found_interface, found_type, found_world}
-use Rattle.wit_merging.specs.Reasons.{AreJoined, entries, graph_package_uses, interfaces, types, worlds}
-use Rattle.wit_merging.specs.United.{all_elaborated, elaborated_world, joined_graph}
+use Rattle.wit_merging.specs.Reasons.{AreJoined, entries, interfaces, types, worlds}
+use Rattle.wit_merging.specs.TypePairs.{TypePair}
+use Rattle.wit_merging.specs.United.{joined_graph}
 use Rattle.wit_merging_laws.specs.MergingLaws.{NothingComes, merging}
 
 -- the elements of a numbered list are the list
@@ -51,6 +53,10 @@ valid_is_elaborated g valid =
 no_pair : {X : Type 0} (found : ℕ → Option ℕ) (ours : List X) → Pair found [] ours → ⊥
 no_pair found ours p = let is = p.from_is in cc
 
+no_first : (before : List TypePair) (pair : TypePair) (after : List TypePair) → [] ≡ before ++ (pair ∷ after) → ⊥
+no_first [] pair after same = cc
+no_first (p ∷ before) pair after same = cc
+
 clear : (g : Graph) → IsValid g → (world : World) → Contains g.worlds world → HasConflict (graph_uses g) world.exports → ⊥
 clear g valid world there conflict = let place = place_of g.worlds world there in (valid.canonical place.0 world place.1).no_conflict conflict
 
@@ -74,13 +80,14 @@ module _ (g : Graph) (offset : ℕ) (valid : IsValid g) where
   none_differ : (message : List ℕ) → GraphsDiffer m message → ⊥
   none_differ message (differ.interfaces p home there name text called of at other) = no_pair (found_interface m) g.interfaces p
   none_differ message (differ.worlds p home there exported text of at other) = no_pair (found_world m) g.worlds p
+  none_differ message (differ.types message first) = no_first first.before first.pair first.after first.pairs_are
 
   pub nothing_speaks : CanMerge m
-  nothing_speaks error (conflict_4 span name is) = so (λ h. (world : World) → Contains h.worlds world → HasConflict (graph_uses h) world.exports → ⊥) (clear g valid) is.world is.there is.conflict
-  nothing_speaks error (package_cycle_6 home is) = no_cycle (graph_package_uses (joined_graph m)) (so (λ h. IsAcyclic (graph_package_uses h)) valid.no_cycles.packages) is.p is.q is.on_cycle
+  nothing_speaks error (conflict_4 span name one is) = so (λ h. (world : World) → Contains h.worlds world → HasConflict (graph_uses h) world.exports → ⊥) (clear g valid) is.world is.there is.conflict
+  nothing_speaks error (package_cycle_6 home one is) = no_cycle (graph_package_uses (joined_graph m)) (so (λ h. IsAcyclic (graph_package_uses h)) valid.no_cycles.packages) is.p is.q is.on_cycle
   nothing_speaks error (mismatch_8 from into is) = none_joined from into is.joined
-  nothing_speaks error (borrow_in_result_15 message is) = Contains-nil is.moved
-  nothing_speaks error (interface_cycle_22 message is) = no_cycle (graph_uses (joined_graph m)) (so (λ h. IsAcyclic (graph_uses h)) valid.no_cycles.uses) is.i is.j is.on_cycle
+  nothing_speaks error (borrow_in_result_15 message one is) = Contains-nil is.moved
+  nothing_speaks error (interface_cycle_22 message one is) = no_cycle (graph_uses (joined_graph m)) (so (λ h. IsAcyclic (graph_uses h)) valid.no_cycles.uses) is.i is.j is.on_cycle
   nothing_speaks error (merge_mismatch_24 message differ) = none_differ message differ
   nothing_speaks error (offset_overflow_27 is) = Contains-nil is.known
 

@@ -25,6 +25,7 @@ use Rattle.wit_graph.specs.KeptByElaboration.{ExportKeysStay, ImportsAreLeast}
 use Rattle.wit_graph.specs.Valid.{IsValid}
 use Rattle.wit_graph.specs.declared.graph.Graph.{Graph}
 use Rattle.wit_graph.specs.declared.graph.Package.{Package}
+use Rattle.wit_growth.specs.AllElaborated.{elaborated_world}
 use Rattle.wit_growth.specs.EntryFacts.{key_entry}
 use Rattle.wit_growth.specs.ListFacts.{at_map, found_at, place_of, same_at, some_at}
 use Rattle.wit_including_laws.specs.WorldLaws.{WorldLaws}
@@ -33,7 +34,7 @@ use Rattle.wit_merging.specs.Joined.{joined_world}
 use Rattle.wit_merging.specs.Matches.{Merging, found_world}
 use Rattle.wit_merging.specs.Moved.{interface_place, moves_world, world_place}
 use Rattle.wit_merging.specs.Reasons.{AreOne}
-use Rattle.wit_merging.specs.United.{elaborated_world, joined_graph, united}
+use Rattle.wit_merging.specs.United.{joined_graph, united}
 use Rattle.wit_merging_laws.specs.ElaborationFacts.{ElaborationFacts}
 use Rattle.wit_merging_laws.specs.JoinedGood.{CanElaborate, in_order, listed_imports}
 use Rattle.wit_merging_laws.specs.ListedStand.{moved_world_goes, old_world_at}

@@ -28,7 +28,7 @@ use Rattle.wit_graph.specs.KeptByElaboration.{HoldsImports, ImportsAreLeast}
 use Rattle.wit_graph.specs.Valid.{IsValid}
 use Rattle.wit_graph.specs.declared.graph.Graph.{Graph}
 use Rattle.wit_growth.specs.DependencyFacts.{needs_from, needs_into}
-use Rattle.wit_growth.specs.EntryFacts.{Begins, at_named, at_use, begins, export_uses, import_uses, instance_interface, key_entry, one_of}
+use Rattle.wit_growth.specs.EntryFacts.{export_uses, import_uses, instance_interface, key_entry, one_of, root_interface}
 use Rattle.wit_growth.specs.EntryFacts as entries
 use Rattle.wit_growth.specs.ListFacts.{Contains-map_cases, found_at, place_of, same_at}
 use Rattle.wit_growth.specs.OnePlace.{entries_of}
@@ -294,16 +294,10 @@ module _ (least : ImportsAreLeast) (m : Merging) (valid : IsValid m.graph) (vali
     root (key.Name label) (item.Interface id stability docs span external_id) r has root_is =
         let from = (world_keeps_entries m (w', into)).from false (entry (key.Name label) (item.Interface id stability docs span external_id)) has in
         used false from.0 id r from.1 (sym from.3) root_is
-    root k (item.Function fn) r has root_is = by (begins g.types uses k (item.Function fn) r root_is)
-      where
-        by : Begins g.types uses (item.Function fn) r → Contains (ids_of into.imports) r
-        by (at_named is) = cc
-        by (at_use i among edge) = absurd (Contains-nil among)
-    root k (item.Type_ t span) r has root_is = by (begins g.types uses k (item.Type_ t span) r root_is)
-      where
-        by : Begins g.types uses (item.Type_ t span) r → Contains (ids_of into.imports) r
-        by (at_named dep) = type_root k t span r has dep
-        by (at_use i among edge) = absurd (Contains-nil among)
+    root k (item.Function fn) r has root_is = let named = (root_interface g.types uses k (item.Function fn) r root_is).1 in cc
+    root k (item.Type_ t span) r has root_is =
+        let from = root_interface g.types uses k (item.Type_ t span) r root_is in
+        elim from.2 [ inl same ↦ type_root k t span r has (from.1 ∙ ap (λ (x : ℕ). Some x) same) | inr other ↦ absurd (Contains-nil other.0) ]
 
     roots : (r : ℕ) → Contains (flat_map (λ (e : Entry). roots_of uses e.0 (role_of g.types e.1)) listed.imports) r → Contains (ids_of into.imports) r
     roots r has = let from = Contains-flat_map_cases (λ (e : Entry). roots_of uses e.0 (role_of g.types e.1)) listed.imports r has in root from.0.0 from.0.1 r from.1.0 from.1.1

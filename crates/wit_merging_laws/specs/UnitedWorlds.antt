@@ -21,6 +21,7 @@ use Rattle.wit_graph.specs.KeptByElaboration.{IsMadeExport, IsMadeImport, IsSett
 use Rattle.wit_graph.specs.Listed.{IsListed}
 use Rattle.wit_graph.specs.Valid.{IsValid}
 use Rattle.wit_graph.specs.declared.graph.Graph.{Graph}
+use Rattle.wit_growth.specs.AllElaborated.{elaborated_world}
 use Rattle.wit_growth.specs.Covered.{IsCovered, WorldComes}
 use Rattle.wit_growth.specs.ElaboratedCome.{elaborated_comes}
 use Rattle.wit_growth.specs.Kept.{everything}
@@ -32,7 +33,7 @@ use Rattle.wit_including_laws.specs.WorldLaws.{WorldLaws}
 use Rattle.wit_merging.specs.Matches.{Merging}
 use Rattle.wit_merging.specs.Moved.{merge_maps}
 use Rattle.wit_merging.specs.Reasons.{AreOne}
-use Rattle.wit_merging.specs.United.{elaborated_world, joined_graph, united}
+use Rattle.wit_merging.specs.United.{joined_graph, united}
 use Rattle.wit_merging_laws.specs.InterfacesStand as interfaces
 use Rattle.wit_merging_laws.specs.JoinedGood.{CanElaborate, aliases, in_order, listed_exports}
 use Rattle.wit_merging_laws.specs.ListedStand.{worlds_come}

@@ -1,6 +1,6 @@
 -- What is united of two valid graphs against which nothing speaks is valid: what is shown of its types, interfaces,
 -- worlds and packages, joined.
-use Rattle.std.proofs.Common.{◌≡◌, None, refl, subst}
+use Rattle.std.proofs.Common.{None, refl, subst}
 use Rattle.wit_relations.specs.Relation.{IsAcyclic}
 use Rattle.wit_items.specs.declared.world.World.{World}
 use Rattle.wit_graph.specs.Elaborated.{Elaborated}
@@ -10,10 +10,10 @@ use Rattle.wit_graph.specs.KeptByElaboration.{ImportsAreLeast}
 use Rattle.wit_graph.specs.Valid.{IsValid}
 use Rattle.wit_graph.specs.declared.error_kind.ResolveErrorKind.TheVariants.{PackageCycle}
 use Rattle.wit_graph.specs.declared.graph.Graph.{Graph}
-use Rattle.wit_graph.specs.declared.graph.Package.{Package}
+use Rattle.wit_growth.specs.AllElaborated.{elaborated_world, graph_package_uses}
 use Rattle.wit_growth.specs.CoveredIsValid.{IsValid-of_covered}
 use Rattle.wit_growth.specs.Good.{IsGoodAsAWhole}
-use Rattle.wit_growth.specs.ListFacts.{from_map, some_at}
+use Rattle.wit_growth.specs.ListFacts.{from_map}
 use Rattle.wit_growth.specs.Operations.{merge_sources}
 use Rattle.wit_growth.specs.PackageCycleFacts.{acyclic_packages, packages_stay_acyclic}
 use Rattle.wit_growth.specs.PackageCycles.{AreElaborated}
@@ -21,8 +21,8 @@ use Rattle.wit_including_laws.specs.WorldLaws.{WorldLaws}
 use Rattle.wit_merging.specs.Cause.{CanMerge, package_cycle_6}
 use Rattle.wit_merging.specs.Matches.{Merging}
 use Rattle.wit_merging.specs.Moved.{merge_maps}
-use Rattle.wit_merging.specs.Reasons.{AreOne, graph_package_uses}
-use Rattle.wit_merging.specs.United.{elaborated_world, joined_graph, united}
+use Rattle.wit_merging.specs.Reasons.{AreOne}
+use Rattle.wit_merging.specs.United.{joined_graph, united}
 use Rattle.wit_merging_laws.specs.ElaborationFacts.{ElaborationFacts}
 use Rattle.wit_merging_laws.specs.JoinedGood.{CanElaborate, aliases, listed_exports, listed_imports}
 use Rattle.wit_merging_laws.specs.MergingLaws.{UnionsStayValid}
@@ -48,7 +48,7 @@ module _ (laws : WorldLaws) (refused : ConflictsAreRefused) (least : ImportsAreL
   listed_packages =
       acyclic_packages g.types g.interfaces g.packages (interfaces_in_tables m valid valid_other) g.worlds (λ p q home there cycle.
       can (PackageCycle None home.name)
-      (package_cycle_6 home.name (record { one = one; p = p; q = q; on_cycle = cycle; is = some_at (λ (there : Package). home.name ≡ there.name) g.packages p home there refl })))
+      (package_cycle_6 home.name one (record { p = p; q = q; on_cycle = cycle; there = home; is = there; home_is = refl })))
 
   are_elaborated : AreElaborated g.types g.interfaces g.packages g.worlds (united m).worlds
   are_elaborated = record {

@@ -35,10 +35,11 @@ use Rattle.wit_growth.specs.OnePlace.{entries_of}
 use Rattle.wit_growth.specs.Operations.{merge_sources}
 use Rattle.wit_growth.specs.Sources.{Carries, IsGoodSource, WorldStands}
 use Rattle.wit_adding.specs.Include.{joined_entry, joined_item}
-use Rattle.wit_merging.specs.Agreement.{same_sort, side_word}
+use Rattle.wit_merging.specs.Agreement.{same_sort}
 use Rattle.wit_merging.specs.Agreement as differ
 use Rattle.wit_merging.specs.Joined.{is_under_id, joined_world, with_world}
 use Rattle.wit_merging.specs.Matches.{Merging, found_by, found_item, found_key, found_type, found_world, partner, world_beside}
+use Rattle.wit_merging.specs.MismatchText.{side_word}
 use Rattle.wit_merging.specs.Moved.{merge_maps, moves_world, type_place, world_place}
 use Rattle.wit_merging.specs.Reasons.{AreOne}
 use Rattle.wit_merging.specs.United.{joined_graph}

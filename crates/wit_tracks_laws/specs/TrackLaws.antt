@@ -13,7 +13,7 @@ use Rattle.wit_graph.specs.KeptByElaboration.{labelled}
 use Rattle.wit_graph.specs.Valid.{IsValid}
 use Rattle.wit_graph.specs.declared.graph.Graph.{Graph}
 use Rattle.wit_relations.specs.Relation.{IsAcyclic}
-use Rattle.wit_unite.specs.AllElaborated.{graph_package_uses}
+use Rattle.wit_growth.specs.AllElaborated.{graph_package_uses}
 use Rattle.wit_tracks.specs.Rewritten.{relisted, rewritten}
 use Rattle.wit_tracks.specs.TrackCause.{IsAccepted}
 use Rattle.wit_tracks.specs.Tracks.{Versioned, are_on_one_track, versioned}
