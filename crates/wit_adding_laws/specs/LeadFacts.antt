@@ -15,41 +15,23 @@ use Rattle.wit_growth.specs.Sources.{alias_rows}
 use Rattle.wit_adding.specs.Resources.{is_resource, is_resource_kind, leads_to_resource}
 
 -- a type that is neither an alias nor a resource leads to none
-plain_alias : (k : TypeDefKind) → IsPlain k → alias_target k ≡ None
-plain_alias (kind.Record fields) plain = refl
-plain_alias kind.Resource plain = absurd plain
-plain_alias (kind.Handle handle) plain = refl
-plain_alias (kind.Flags flags) plain = refl
-plain_alias (kind.Tuple types) plain = refl
-plain_alias (kind.Variant cases) plain = refl
-plain_alias (kind.Enum cases) plain = refl
-plain_alias (kind.Option ty) plain = refl
-plain_alias (kind.Result_ ok err) plain = refl
-plain_alias (kind.List ty) plain = refl
-plain_alias (kind.Map k v) plain = refl
-plain_alias (kind.FixedLengthList ty len) plain = refl
-plain_alias (kind.Future ty) plain = refl
-plain_alias (kind.Stream ty) plain = refl
-plain_alias (kind.Type_ ty) plain = absurd plain
-plain_alias kind.Unknown plain = refl
-
-plain_resource : (k : TypeDefKind) → IsPlain k → is_resource_kind k ≡ false
-plain_resource (kind.Record fields) plain = refl
-plain_resource kind.Resource plain = absurd plain
-plain_resource (kind.Handle handle) plain = refl
-plain_resource (kind.Flags flags) plain = refl
-plain_resource (kind.Tuple types) plain = refl
-plain_resource (kind.Variant cases) plain = refl
-plain_resource (kind.Enum cases) plain = refl
-plain_resource (kind.Option ty) plain = refl
-plain_resource (kind.Result_ ok err) plain = refl
-plain_resource (kind.List ty) plain = refl
-plain_resource (kind.Map k v) plain = refl
-plain_resource (kind.FixedLengthList ty len) plain = refl
-plain_resource (kind.Future ty) plain = refl
-plain_resource (kind.Stream ty) plain = refl
-plain_resource (kind.Type_ ty) plain = absurd plain
-plain_resource kind.Unknown plain = refl
+plain_is : (k : TypeDefKind) → IsPlain k → (alias_target k ≡ None) × (is_resource_kind k ≡ false)
+plain_is (kind.Record fields) plain = (refl, refl)
+plain_is kind.Resource plain = absurd plain
+plain_is (kind.Handle handle) plain = (refl, refl)
+plain_is (kind.Flags flags) plain = (refl, refl)
+plain_is (kind.Tuple types) plain = (refl, refl)
+plain_is (kind.Variant cases) plain = (refl, refl)
+plain_is (kind.Enum cases) plain = (refl, refl)
+plain_is (kind.Option ty) plain = (refl, refl)
+plain_is (kind.Result_ ok err) plain = (refl, refl)
+plain_is (kind.List ty) plain = (refl, refl)
+plain_is (kind.Map k v) plain = (refl, refl)
+plain_is (kind.FixedLengthList ty len) plain = (refl, refl)
+plain_is (kind.Future ty) plain = (refl, refl)
+plain_is (kind.Stream ty) plain = (refl, refl)
+plain_is (kind.Type_ ty) plain = absurd plain
+plain_is kind.Unknown plain = (refl, refl)
 
 pub leads_nowhere : (types : List TypeDef) (t : ℕ) (def : TypeDef) → slice_get types t ≡ Some def → IsPlain def.kind → leads_to_resource types t ≡ false
 unfolding walk walk_within
@@ -58,10 +40,10 @@ leads_nowhere types t def at plain = within (length (alias_rows types))
     none : direct (alias_rows types) t ≡ []
     none =
         get_or_from_slice_get (alias_rows types) t (option_to_list (alias_target def.kind)) [] (at_map (λ (def : TypeDef). option_to_list (alias_target def.kind)) types t def at)
-        ∙ ap (λ (o : Option ℕ). option_to_list o) (plain_alias def.kind plain)
+        ∙ ap (λ (o : Option ℕ). option_to_list o) (plain_is def.kind plain).0
 
     here : is_resource types t ≡ false
-    here = ap (λ (o : Option TypeDef). option_map_or (λ (def : TypeDef). is_resource_kind def.kind) o false) at ∙ plain_resource def.kind plain
+    here = ap (λ (o : Option TypeDef). option_map_or (λ (def : TypeDef). is_resource_kind def.kind) o false) at ∙ (plain_is def.kind plain).1
 
     within : (members : ℕ) → list_any (is_resource types) (walk_within (alias_rows types) members t) ≡ false
     within zero = refl

@@ -1,6 +1,7 @@
 mod Accepted
 mod Computed
 mod Mismatches
+mod NamesAre
 mod Pairs
 mod Passing
 mod Refused

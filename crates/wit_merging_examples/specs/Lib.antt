@@ -1,4 +1,5 @@
 pub mod Graphs
+pub mod NamesHeld
 pub mod Pairs
 pub mod Refusals
 pub mod Stabilities

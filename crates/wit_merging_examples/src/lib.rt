@@ -2,5 +2,6 @@
 //! They stand beside the crates, so that none waits for them.
 #![tactic(auto)]
 
+pub mod names;
 pub mod refusals;
 pub mod unions;

@@ -15,12 +15,12 @@ use Rattle.wit_graph.specs.Entries.{by_class}
 use Rattle.wit_graph.specs.KeptByElaboration.{ExportKeysStay, is_label, labelled, settled}
 use Rattle.wit_graph.specs.Valid.{IsValid}
 use Rattle.wit_graph.specs.declared.graph.Graph.{Graph}
+use Rattle.wit_growth.specs.AllElaborated.{elaborated_world}
 use Rattle.wit_growth.specs.ListFacts.{Contains-map, Contains-map_cases}
 use Rattle.wit_growth.specs.OnePlace.{entries_of}
 use Rattle.wit_including_laws.specs.WorldLaws.{WorldLaws}
 use Rattle.wit_merging.specs.Matches.{Merging}
 use Rattle.wit_merging.specs.Reasons.{AreOne}
-use Rattle.wit_growth.specs.AllElaborated.{elaborated_world}
 use Rattle.wit_merging.specs.United.{joined_graph}
 use Rattle.wit_merging_laws.specs.JoinedGood.{CanElaborate, in_order}
 use Rattle.wit_merging_laws.specs.ListedStand.{worlds_come}

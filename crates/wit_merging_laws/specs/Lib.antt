@@ -1,6 +1,7 @@
 pub mod BothNames
 pub mod Covering
 pub mod EitherOrder
+pub mod ElaborationFacts
 pub mod InterfacesStand
 pub mod JoinedGood
 pub mod KeptFacts

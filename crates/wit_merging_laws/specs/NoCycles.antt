@@ -41,7 +41,7 @@ use Rattle.wit_merging.specs.Matches.{Merging, found_type}
 use Rattle.wit_merging.specs.Moved.{added_owns, merge_maps, moves_type, type_place}
 use Rattle.wit_merging.specs.Reasons.{AreOne}
 use Rattle.wit_merging.specs.United.{joined_graph}
-use Rattle.wit_merging_laws.specs.JoinedGood.{aliases, in_order}
+use Rattle.wit_merging_laws.specs.JoinedGood.{CanElaborate, aliases, in_order}
 use Rattle.wit_merging_laws.specs.MatchFacts.{goes_to, type_is}
 use Rattle.wit_merging_laws.specs.PackagesStand.{interfaces_in_tables}
 use Rattle.wit_merging_laws.specs.TypesStand.{images, joined_keeps, long_old, matched_some, new_type_at, old_types}
@@ -163,7 +163,7 @@ module _ (m : Merging) (valid : IsValid m.graph) (valid_other : IsValid m.other)
   no_type_cycle message is = (joined_types_acyclic m valid valid_other one).no_cycle is.t is.u is.on_cycle.leads_back.0 (is.on_cycle.is_used, is.on_cycle.leads_back.1)
 
   -- no interface uses itself
-  pub joined_uses_acyclic : IsAcyclic uses
+  joined_uses_acyclic : IsAcyclic uses
   joined_uses_acyclic = record {
     in_range = λ i k d inside.
         let has = Contains-get_or (direct uses i) k d inside in
@@ -175,10 +175,14 @@ module _ (m : Merging) (valid : IsValid m.graph) (valid_other : IsValid m.other)
   }
 
   -- no world is in conflict
-  pub joined_clear : ConflictsAreRefused → (world : World) → Contains joined.worlds world → HasConflict uses world.exports → ⊥
+  joined_clear : ConflictsAreRefused → (world : World) → Contains joined.worlds world → HasConflict uses world.exports → ⊥
   joined_clear refused world there conflict =
       let place = place_of joined.worlds world there in
       let k = (refused joined.types uses world.imports world.exports joined_uses_acyclic (in_order m valid valid_other one place.0 world place.1)).0 conflict in
       let name = key_text joined.packages joined.interfaces k.0 in
       can (InvalidTransitiveDependency world.span name)
       (conflict_4 world.span name one (record { interfaces = no_interface_cycle; types = no_type_cycle; world = world; there = there; conflict = conflict; name_is = (k.0, k.1, refl); span_is = refl }))
+
+  -- so all of it can be elaborated
+  pub can_elaborate : ConflictsAreRefused → CanElaborate m
+  can_elaborate refused = record { acyclic = joined_uses_acyclic; clear = joined_clear refused }

@@ -1,5 +1,5 @@
 -- Where an empty graph goes into a valid one, nothing speaks against it, and nothing changes.
-use Rattle.std.proofs.Common.{◌≡◌, ◌∙◌, ℕ, ◌+◌, suc, List, [], ◌∷◌, map, Option, refl, sym, ap, subst, Contains}
+use Rattle.std.proofs.Common.{◌≡◌, ◌∙◌, ℕ, ◌+◌, suc, List, [], ◌∷◌, ◌++◌, map, Option, refl, sym, ap, subst, Contains}
 use Rattle.std.proofs.lemmas.List.{append-nil}
 use Rattle.std.specs.List.{enumerate_from}
 use Rattle.wit_relations.specs.Cycles.{IsOnCycle}
@@ -20,6 +20,7 @@ use Rattle.wit_merging.specs.Agreement.{GraphsDiffer}
 use Rattle.wit_merging.specs.Cause.{CanMerge, borrow_in_result_15, conflict_4, interface_cycle_22, merge_mismatch_24, mismatch_8, offset_overflow_27, package_cycle_6}
 use Rattle.wit_merging.specs.Matches.{Merging, Pair, found_interface, found_type, found_world}
 use Rattle.wit_merging.specs.Reasons.{AreJoined, entries, interfaces, types, worlds}
+use Rattle.wit_merging.specs.TypePairs.{TypePair}
 use Rattle.wit_merging.specs.United.{joined_graph}
 use Rattle.wit_merging_laws.specs.MergingLaws.{NothingComes, merging}
 
@@ -52,6 +53,10 @@ valid_is_elaborated g valid =
 no_pair : {X : Type 0} (found : ℕ → Option ℕ) (ours : List X) → Pair found [] ours → ⊥
 no_pair found ours p = let is = p.from_is in cc
 
+no_first : (before : List TypePair) (pair : TypePair) (after : List TypePair) → [] ≡ before ++ (pair ∷ after) → ⊥
+no_first [] pair after same = cc
+no_first (p ∷ before) pair after same = cc
+
 clear : (g : Graph) → IsValid g → (world : World) → Contains g.worlds world → HasConflict (graph_uses g) world.exports → ⊥
 clear g valid world there conflict = let place = place_of g.worlds world there in (valid.canonical place.0 world place.1).no_conflict conflict
 
@@ -75,7 +80,7 @@ module _ (g : Graph) (offset : ℕ) (valid : IsValid g) where
   none_differ : (message : List ℕ) → GraphsDiffer m message → ⊥
   none_differ message (differ.interfaces p home there name text called of at other) = no_pair (found_interface m) g.interfaces p
   none_differ message (differ.worlds p home there exported text of at other) = no_pair (found_world m) g.worlds p
-  none_differ message (differ.types text first) = first.differs
+  none_differ message (differ.types message first) = no_first first.before first.pair first.after first.pairs_are
 
   pub nothing_speaks : CanMerge m
   nothing_speaks error (conflict_4 span name one is) = so (λ h. (world : World) → Contains h.worlds world → HasConflict (graph_uses h) world.exports → ⊥) (clear g valid) is.world is.there is.conflict

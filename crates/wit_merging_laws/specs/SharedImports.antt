@@ -35,7 +35,7 @@ use Rattle.wit_merging.specs.Matches.{Merging, found_world}
 use Rattle.wit_merging.specs.Moved.{interface_place, moves_world, world_place}
 use Rattle.wit_merging.specs.Reasons.{AreOne}
 use Rattle.wit_merging.specs.United.{joined_graph, united}
-use Rattle.wit_merging_laws.specs.BothNames.{can_elaborate}
+use Rattle.wit_merging_laws.specs.ElaborationFacts.{ElaborationFacts}
 use Rattle.wit_merging_laws.specs.JoinedGood.{CanElaborate, in_order, listed_imports}
 use Rattle.wit_merging_laws.specs.ListedStand.{moved_world_goes, old_world_at}
 use Rattle.wit_merging_laws.specs.MatchFacts.{goes_to, some_same}
@@ -44,7 +44,7 @@ use Rattle.wit_merging_laws.specs.MergingLaws.{SharedWorldsKeepImports}
 use Rattle.wit_merging_laws.specs.Names.{HasImport, IsInterface, IsPackage, IsWorld}
 use Rattle.wit_merging_laws.specs.NamesGo.{Part, interface_back, interface_goes, world_goes}
 use Rattle.wit_merging_laws.specs.NamesParts.{going_to, graph_part, other_part, staying}
-use Rattle.wit_merging_laws.specs.NoCycles.{are_one}
+use Rattle.wit_merging_laws.specs.NoCycles.{are_one, can_elaborate}
 use Rattle.wit_merging_laws.specs.SharedWorlds.{holds_test, import_from, import_into, key_interface}
 use Rattle.wit_merging_laws.specs.TypesStand.{matched_some}
 use Rattle.wit_merging_laws.specs.UnitedWorlds.{is_elaborated, named_key}
@@ -113,7 +113,7 @@ module _ (laws : WorldLaws) (keys : ExportKeysStay) (refused : ConflictsAreRefus
   one = are_one m can
 
   abbrev elaborates : CanElaborate m
-  elaborates = can_elaborate laws keys refused m valid valid_other can
+  elaborates = can_elaborate m valid valid_other can refused
 
   abbrev g : Graph
   g = joined_graph m
@@ -203,16 +203,16 @@ module _ (laws : WorldLaws) (keys : ExportKeysStay) (refused : ConflictsAreRefus
           let by = imports_it (united m) w' done i done_at (holds.roots i root) in
           (w', i, by.held, world_goes m.graph (united m) staying mine home world w' is_mine, interface_goes m.graph (united m) staying mine of name i is_interface, by.has)
 
-pub shared_imports : WorldLaws → ExportKeysStay → ConflictsAreRefused → ImportsAreLeast → SharedWorldsKeepImports
-shared_imports laws keys refused least m home of world name valid valid_other can (w', is_mine) (w, is_theirs) =
+pub shared_imports : ElaborationFacts → SharedWorldsKeepImports
+shared_imports facts m home of world name valid valid_other can (w', is_mine) (w, is_theirs) =
     let into = found_at (λ (x : World). (x.name ≡ world) × (x.package ≡ Some is_mine.p)) m.graph.worlds w' is_mine.is in
     let old = found_at (λ (x : World). (x.name ≡ world) × (x.package ≡ Some is_theirs.p)) m.other.worlds w is_theirs.is in (
       (
-        from_united laws keys refused least m valid valid_other can home of world name w w' is_mine is_theirs into.0 old.0 into.1 old.1,
-        into_united laws keys refused least m valid valid_other can home of world name w w' is_mine is_theirs into.0 old.0 into.1 old.1,
+        from_united facts.worlds facts.keys facts.refused facts.least m valid valid_other can home of world name w w' is_mine is_theirs into.0 old.0 into.1 old.1,
+        into_united facts.worlds facts.keys facts.refused facts.least m valid valid_other can home of world name w w' is_mine is_theirs into.0 old.0 into.1 old.1,
       ),
       (
-        from_other laws keys refused least m valid valid_other can home of world name w w' is_mine is_theirs into.0 old.0 into.1 old.1,
-        into_other laws keys refused least m valid valid_other can home of world name w w' is_mine is_theirs into.0 old.0 into.1 old.1,
+        from_other facts.worlds facts.keys facts.refused facts.least m valid valid_other can home of world name w w' is_mine is_theirs into.0 old.0 into.1 old.1,
+        into_other facts.worlds facts.keys facts.refused facts.least m valid valid_other can home of world name w w' is_mine is_theirs into.0 old.0 into.1 old.1,
       ),
     )

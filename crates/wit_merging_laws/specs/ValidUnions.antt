@@ -1,6 +1,6 @@
 -- What is united of two valid graphs against which nothing speaks is valid: what is shown of its types, interfaces,
 -- worlds and packages, joined.
-use Rattle.std.proofs.Common.{◌≡◌, None, refl, subst}
+use Rattle.std.proofs.Common.{None, refl, subst}
 use Rattle.wit_relations.specs.Relation.{IsAcyclic}
 use Rattle.wit_items.specs.declared.world.World.{World}
 use Rattle.wit_graph.specs.Elaborated.{Elaborated}
@@ -10,7 +10,7 @@ use Rattle.wit_graph.specs.KeptByElaboration.{ImportsAreLeast}
 use Rattle.wit_graph.specs.Valid.{IsValid}
 use Rattle.wit_graph.specs.declared.error_kind.ResolveErrorKind.TheVariants.{PackageCycle}
 use Rattle.wit_graph.specs.declared.graph.Graph.{Graph}
-use Rattle.wit_graph.specs.declared.graph.Package.{Package}
+use Rattle.wit_growth.specs.AllElaborated.{elaborated_world, graph_package_uses}
 use Rattle.wit_growth.specs.CoveredIsValid.{IsValid-of_covered}
 use Rattle.wit_growth.specs.Good.{IsGoodAsAWhole}
 use Rattle.wit_growth.specs.ListFacts.{from_map}
@@ -22,11 +22,11 @@ use Rattle.wit_merging.specs.Cause.{CanMerge, package_cycle_6}
 use Rattle.wit_merging.specs.Matches.{Merging}
 use Rattle.wit_merging.specs.Moved.{merge_maps}
 use Rattle.wit_merging.specs.Reasons.{AreOne}
-use Rattle.wit_growth.specs.AllElaborated.{elaborated_world, graph_package_uses}
 use Rattle.wit_merging.specs.United.{joined_graph, united}
+use Rattle.wit_merging_laws.specs.ElaborationFacts.{ElaborationFacts}
 use Rattle.wit_merging_laws.specs.JoinedGood.{CanElaborate, aliases, listed_exports, listed_imports}
 use Rattle.wit_merging_laws.specs.MergingLaws.{UnionsStayValid}
-use Rattle.wit_merging_laws.specs.NoCycles.{are_one, joined_clear, joined_types_acyclic, joined_uses_acyclic}
+use Rattle.wit_merging_laws.specs.NoCycles.{are_one, can_elaborate, joined_types_acyclic}
 use Rattle.wit_merging_laws.specs.OnceStand.{stand_once}
 use Rattle.wit_merging_laws.specs.PackagesStand.{good_names, good_tables, interfaces_in_tables}
 use Rattle.wit_merging_laws.specs.UnitedWorlds.{is_elaborated, united_canonical, united_covered, united_stands}
@@ -40,8 +40,8 @@ module _ (laws : WorldLaws) (refused : ConflictsAreRefused) (least : ImportsAreL
   abbrev one : AreOne m
   one = are_one m can
 
-  can_elaborate : CanElaborate m
-  can_elaborate = record { acyclic = joined_uses_acyclic m valid valid_other can; clear = joined_clear m valid valid_other can refused }
+  elaborates : CanElaborate m
+  elaborates = can_elaborate m valid valid_other can refused
 
   -- no package depends on itself, with worlds as they are listed
   listed_packages : IsAcyclic (graph_package_uses g)
@@ -53,7 +53,7 @@ module _ (laws : WorldLaws) (refused : ConflictsAreRefused) (least : ImportsAreL
   are_elaborated : AreElaborated g.types g.interfaces g.packages g.worlds (united m).worlds
   are_elaborated = record {
     aliases = aliases m valid valid_other one;
-    uses = can_elaborate.acyclic;
+    uses = elaborates.acyclic;
     tables = interfaces_in_tables m valid valid_other;
     worlds = λ w new there.
         let from = from_map (elaborated_world g) g.worlds w new there in
@@ -63,7 +63,7 @@ module _ (laws : WorldLaws) (refused : ConflictsAreRefused) (least : ImportsAreL
           imports = listed_imports m valid valid_other one w from.0 from.1;
           exports = listed_exports m valid valid_other one w from.0 from.1;
           lists_uses = joined_lists_uses least m valid valid_other one w from.0 from.1;
-          elaborated = subst (λ (x : World). Elaborated g.types (graph_uses g) from.0 x) from.2 (is_elaborated laws m valid valid_other one can_elaborate w from.0 from.1);
+          elaborated = subst (λ (x : World). Elaborated g.types (graph_uses g) from.0 x) from.2 (is_elaborated laws m valid valid_other one elaborates w from.0 from.1);
         };
   }
 
@@ -75,12 +75,12 @@ module _ (laws : WorldLaws) (refused : ConflictsAreRefused) (least : ImportsAreL
   united_valid =
       let whole : IsGoodAsAWhole (united m) = record {
         package_names = good_names m valid valid_other;
-        once = stand_once laws m valid valid_other one can_elaborate;
-        no_cycles = record { uses = can_elaborate.acyclic; types = joined_types_acyclic m valid valid_other one; packages = packages_acyclic };
-        canonical = united_canonical laws m valid valid_other one can_elaborate;
+        once = stand_once laws m valid valid_other one elaborates;
+        no_cycles = record { uses = elaborates.acyclic; types = joined_types_acyclic m valid valid_other one; packages = packages_acyclic };
+        canonical = united_canonical laws m valid valid_other one elaborates;
       } in
-      IsValid-of_covered (merge_sources m.graph m.other (merge_maps m)) (united m) (sources_good m valid valid_other one) (united_stands laws m valid valid_other one can_elaborate)
-      (united_covered laws m valid valid_other one can_elaborate) (good_tables m valid valid_other) whole
+      IsValid-of_covered (merge_sources m.graph m.other (merge_maps m)) (united m) (sources_good m valid valid_other one) (united_stands laws m valid valid_other one elaborates)
+      (united_covered laws m valid valid_other one elaborates) (good_tables m valid valid_other) whole
 
-pub valid_unions : WorldLaws → ConflictsAreRefused → ImportsAreLeast → UnionsStayValid
-valid_unions laws refused least m valid valid_other can = united_valid laws refused least m valid valid_other can
+pub valid_unions : ElaborationFacts → UnionsStayValid
+valid_unions facts m valid valid_other can = united_valid facts.worlds facts.refused facts.least m valid valid_other can
