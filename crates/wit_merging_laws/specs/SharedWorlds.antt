@@ -1,6 +1,6 @@
 -- A world that both graphs have imports the same interfaces under their own keys in both, and in what is made of them:
 -- matched worlds have matched entries, so what is used there by either is imported by both.
-use Rattle.std.proofs.Common.{◌≡◌, ◌∙◌, inl, inr, ℕ, Bool, true, false, List, [], ◌∷◌, length, nat_eq, Option, None, Some, slice_get, refl, sym, ap, subst, arith, Contains}
+use Rattle.std.proofs.Common.{◌≡◌, ◌∙◌, ◌⊎◌, inl, inr, ℕ, Bool, true, false, List, [], ◌∷◌, length, nat_eq, Option, None, Some, slice_get, refl, sym, ap, subst, arith, Contains}
 use Rattle.std.specs.List.{flat_map, list_any}
 use Rattle.std.specs.Map.{lookup}
 use Rattle.std.specs.Option.{option_map_or}
@@ -25,6 +25,7 @@ use Rattle.wit_graph.specs.Elaboration.{graph_uses}
 use Rattle.wit_graph.specs.Entries.{ids_of, instance_of, role_of, same_key, type_role}
 use Rattle.wit_graph.specs.Imported.{Needed, roots_of}
 use Rattle.wit_graph.specs.KeptByElaboration.{HoldsImports, ImportsAreLeast}
+use Rattle.wit_graph.specs.Relations.{entry_interface}
 use Rattle.wit_graph.specs.Valid.{IsValid}
 use Rattle.wit_graph.specs.declared.graph.Graph.{Graph}
 use Rattle.wit_growth.specs.DependencyFacts.{needs_from, needs_into}
@@ -294,10 +295,12 @@ module _ (least : ImportsAreLeast) (m : Merging) (valid : IsValid m.graph) (vali
     root (key.Name label) (item.Interface id stability docs span external_id) r has root_is =
         let from = (world_keeps_entries m (w', into)).from false (entry (key.Name label) (item.Interface id stability docs span external_id)) has in
         used false from.0 id r from.1 (sym from.3) root_is
-    root k (item.Function fn) r has root_is = let named = (root_interface g.types uses k (item.Function fn) r root_is).1 in cc
-    root k (item.Type_ t span) r has root_is =
-        let from = root_interface g.types uses k (item.Type_ t span) r root_is in
-        elim from.2 [ inl same ↦ type_root k t span r has (from.1 ∙ ap (λ (x : ℕ). Some x) same) | inr other ↦ absurd (Contains-nil other.0) ]
+    root k (item.Function fn) r has root_is = let at = root_interface g.types uses k (item.Function fn) r root_is in let is = at.1 in cc
+    root k (item.Type_ t span) r has root_is = by (root_interface g.types uses k (item.Type_ t span) r root_is)
+      where
+        by : (i : ℕ) × (entry_interface g.types (item.Type_ t span) ≡ Some i) × ((i ≡ r) ⊎ (Contains (instance_of (item.Type_ t span)) i × Contains (direct uses i) r)) → Contains (ids_of into.imports) r
+        by (i, is, inl same) = type_root k t span r has (is ∙ ap Some same)
+        by (i, is, inr used) = absurd (Contains-nil used.0)
 
     roots : (r : ℕ) → Contains (flat_map (λ (e : Entry). roots_of uses e.0 (role_of g.types e.1)) listed.imports) r → Contains (ids_of into.imports) r
     roots r has = let from = Contains-flat_map_cases (λ (e : Entry). roots_of uses e.0 (role_of g.types e.1)) listed.imports r has in root from.0.0 from.0.1 r from.1.0 from.1.1
