@@ -27,7 +27,7 @@ pub(crate) fn renamed(
 fn is_other(id: WorldId, world: WorldId) -> bool
     ensures { result ≡ not (nat_eq id world) }
 {
-    id.index() != world.index() || id.index() == 0
+    id.index() != world.index()
 }
 
 /// Whether a package has another world of this name.

@@ -53,7 +53,7 @@ fn free_name(
     let current = graph.worlds.at(world.index());
     let home = graph.packages.at(home_of(current).index());
     let name = renamed(alloc, &current.name, out, suffix)?;
-    if is_taken(home, world, name.as_str()) && name.is_empty() {
+    if is_taken(home, world, name.as_str()) {
         return Err(name_taken(alloc, &name, home)?);
     }
     Ok(name)
@@ -93,7 +93,7 @@ fn elaborated(alloc: Global, graph: &Graph, world: World) -> ResolveResult<World
     let interfaces = graph.interfaces.as_slice();
     let mut elaborator = Elaborator::new(alloc, types, interfaces)?;
     let lists = elaborator.lists_for(alloc, graph, &world)?;
-    drop(lists.imports);
+    drop(mem::replace(&mut world.imports, lists.imports));
     drop(mem::replace(&mut world.exports, lists.exports));
     Ok(world)
 }
@@ -185,7 +185,7 @@ fn answer_of<F: Fn(&WorldKey, &WorldItem) -> bool>(
     ensures { MayAnswer F.Fn filter.now (key.now, item.now) result }
 {
     match filter {
-        Some(_) => true,
+        Some(filter) => answer(filter, key, item),
         None => true,
     }
 }
