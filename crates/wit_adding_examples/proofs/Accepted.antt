@@ -14,6 +14,7 @@ use Rattle.wit_items.specs.declared.world.WorldItem.{WorldItem}
 use Rattle.wit_items.specs.declared.world.WorldItem.TheVariants as item
 use Rattle.wit_graph.specs.Examples.{empty_graph}
 use Rattle.wit_graph.specs.Imported.{exported_keys}
+use Rattle.wit_growth.specs.TestFacts.{all_are, all_at, at_are, none_in, not_passed}
 use Rattle.wit_labels.specs.Setters.{placed}
 use Rattle.wit_adding.specs.Addition.{Addition, own_worlds}
 use Rattle.wit_adding.specs.Cause.{IsAccepted}
@@ -26,7 +27,6 @@ use Rattle.wit_adding.specs.Spans.{package_spans}
 use Rattle.wit_adding.specs.WorldReasons.{AreTooAlike, AtInclude, AtWorld, IncludeIsFine, IsInConflict, LacksGetter, Mismatches, RenamesNothing, Shadows}
 use Rattle.wit_adding_examples.proofs.AtWorlds.{all_fine, at_of, fine_without, no_include, of_first}
 use Rattle.wit_adding_examples.proofs.HasImage.{image}
-use Rattle.wit_adding_examples.proofs.Tests.{all_are, all_at, at_are, none_in, not_passed}
 use Rattle.wit_adding_examples.proofs.WorldTests.{all_differ, conflict_of, fine, getters_there, has_getters, list_passes, no_clash}
 use Rattle.wit_adding_examples.specs.IncludedWorlds.{including}
 use Rattle.wit_adding_examples.specs.Packages.{adding, first_package, include_with, no_features}

@@ -2,12 +2,12 @@
 use Rattle.std.proofs.Common.{◌≡◌, ◌∙◌, ◌⊎◌, ℕ, zero, suc, [], take, Some, None, slice_get, sym, ap, subst, inl, inr}
 use Rattle.wit_items.specs.declared.world.World.{World}
 use Rattle.wit_items.specs.declared.world.WorldInclude.{WorldInclude}
+use Rattle.wit_growth.specs.TestFacts.{none_some, some_same}
 use Rattle.wit_adding.specs.Addition.{Addition, active_includes, own_worlds, world_place}
 use Rattle.wit_adding.specs.Include.{Begun, Lists, lists_of}
 use Rattle.wit_adding.specs.Pushed.{begun, begun_with, with_worlds}
 use Rattle.wit_adding.specs.WorldReasons.{AtInclude, AtWorld, HaveLists, IncludeIsFine}
 use Rattle.wit_adding.specs.WorldReasons as reason
-use Rattle.wit_adding_examples.proofs.Tests.{none_some, some_same}
 
 module _ (a : Addition) (k : ℕ) where
   pub world_same : (x y : AtWorld a k) → (x.place ≡ y.place) × (x.world ≡ y.world)

@@ -14,18 +14,18 @@ use Rattle.wit_items.specs.declared.world.WorldItem.TheVariants as item
 use Rattle.wit_items.specs.declared.world.WorldKey.TheVariants as key
 use Rattle.wit_graph.specs.Imported.{HasConflict}
 use Rattle.wit_graph.specs.Samples.{entry_of, no_docs, sample}
+use Rattle.wit_growth.specs.TestFacts.{none_in, only_one}
 use Rattle.wit_labels.specs.Examples.{function_entry}
 use Rattle.wit_adding.specs.Addition.{Addition}
 use Rattle.wit_adding.specs.Cause as reason
 use Rattle.wit_adding.specs.Gates.{Place}
 use Rattle.wit_adding.specs.Include.{include_stability, is_other_package, lists_of}
 use Rattle.wit_adding.specs.Reasons.{HasImage}
-use Rattle.wit_adding.specs.WorldReasons.{AreTooAlike, AtInclude, AtWorld, HasStability, IncludeIsFine, IsInConflict, LacksGetter, Mismatches, Shadows}
+use Rattle.wit_adding.specs.WorldReasons.{AreTooAlike, AtInclude, HasStability, IncludeIsFine, IsInConflict, LacksGetter, Mismatches, Shadows}
 use Rattle.wit_adding.specs.WorldReasons as world_reason
 use Rattle.wit_adding_examples.proofs.AtWorlds.{all_fine, at_of, include_same, of_first, of_first_include}
 use Rattle.wit_adding_examples.proofs.HasImage.{image}
 use Rattle.wit_adding_examples.proofs.Matching.{of_alike, of_conflict, of_getter, of_mismatch, of_shadowing}
-use Rattle.wit_adding_examples.proofs.Tests.{none_in, only_one}
 use Rattle.wit_adding_examples.proofs.WorldCauses.{first_reached, include_reached, label_same, other_feature, which}
 use Rattle.wit_adding_examples.proofs.WorldTests.{Passes, all_differ, conflict_of, fine, getters_there, has_getters, list_passes, no_clash, one_list, unshadowed}
 use Rattle.wit_adding_examples.specs.Packages.{adding, exporting_c, gate_f, gate_g, gated_entry, including_lists, no_features, since_one, three, three_exporting}

@@ -15,10 +15,10 @@ use Rattle.wit_items.specs.declared.world.WorldKey.TheVariants as key
 use Rattle.wit_items.specs.Entries.{Entry}
 use Rattle.wit_graph.specs.Elaborated.{import_steps, import_steps_within}
 use Rattle.wit_graph.specs.declared.graph.Graph.{Graph}
+use Rattle.wit_growth.specs.TestFacts.{only_one}
 use Rattle.wit_adding.specs.Addition.{function_positions}
 use Rattle.wit_adding.specs.Include.{Lists}
 use Rattle.wit_adding_examples.proofs.Accepted.{accepted, including_accepted}
-use Rattle.wit_adding_examples.proofs.Tests.{only_one}
 use Rattle.wit_adding_examples.specs.Gates.{ExamplesOfGates}
 use Rattle.wit_adding_examples.specs.IncludedWorlds.{ExamplesOfIncludedWorlds}
 use Rattle.wit_adding_examples.specs.Includes.{ExamplesOfIncluded, ExamplesOfIncludes}

@@ -15,6 +15,7 @@ use Rattle.wit_items.specs.declared.types.Type_.TheVariants as type
 use Rattle.wit_graph.specs.Examples.{empty_graph}
 use Rattle.wit_graph.specs.Questions.{held_rows}
 use Rattle.wit_graph.specs.Samples.{foo_bar, function_of, no_docs}
+use Rattle.wit_growth.specs.TestFacts.{none_in, none_some, only_one}
 use Rattle.wit_adding.specs.Addition.{Addition}
 use Rattle.wit_adding.specs.Cause as reason
 use Rattle.wit_adding.specs.Gates.{Place, function_is_active}
@@ -23,7 +24,6 @@ use Rattle.wit_adding.specs.Reasons.{AType, AWorld, AnInterface, HasImage, IsAct
 use Rattle.wit_adding.specs.Reasons as part
 use Rattle.wit_adding_examples.proofs.HasImage.{image}
 use Rattle.wit_adding_examples.proofs.Matching.{no_memory, of_borrow, of_excluded, of_excluded_owner, of_overflow, of_unreleased, of_version}
-use Rattle.wit_adding_examples.proofs.Tests.{none_in, none_some, only_one}
 use Rattle.wit_adding_examples.specs.Causes.{ExamplesOfCauses, returning_under}
 use Rattle.wit_adding_examples.specs.Packages.{adding, adding_at, bare, feature_f, gate_f, gated, gated_owner, loose_interface, no_features, returning, since_one}
 

@@ -31,13 +31,13 @@ use Rattle.wit_items.specs.declared.world.WorldInclude.{WorldInclude}
 use Rattle.wit_items.specs.declared.world.WorldItem.{WorldItem}
 use Rattle.wit_items.specs.declared.world.WorldItem.TheVariants as item
 use Rattle.wit_growth.specs.ListFacts.{contained_at}
+use Rattle.wit_growth.specs.TestFacts.{all_are, all_at, at_are, implied, implies, not_passed}
 use Rattle.wit_adding.specs.Addition.{Addition}
 use Rattle.wit_adding.specs.Gates.{HasEntry, HasNote, IsAsked, Place, asked_notes, function_is_active, include_is_active, interface_is_active, interface_notes, is_active, type_is_active, world_is_active, world_notes}
 use Rattle.wit_adding.specs.Gates as asked
 use Rattle.wit_adding.specs.Lookup.{find_interface, find_world, found_interface, found_type, is_foreign_type, listed_type, named_items, owning_interface}
-use Rattle.wit_adding.specs.Reasons.{AnInterface, AType, AWorld, HasImage, IsActiveFunction, IsExcluded, LacksPackage, LacksType, LacksVersion, IsUnreleased, RefersTo, Thing, kind_references, owner_thing}
+use Rattle.wit_adding.specs.Reasons.{AnInterface, AType, AWorld, HasImage, IsActiveFunction, IsExcluded, RefersTo, Thing, kind_references, owner_thing}
 use Rattle.wit_adding.specs.Reasons as reason
-use Rattle.wit_adding_examples.proofs.Tests.{all_are, all_at, at_are, implied, implies, not_passed}
 
 abbrev is_at_least : Ordering → Bool
 is_at_least Less = false

@@ -11,10 +11,11 @@ use Rattle.wit_items.specs.declared.world.WorldKey.TheVariants as key
 use Rattle.wit_graph.specs.Elaborated.{import_steps, import_steps_within}
 use Rattle.wit_graph.specs.Imported.{exported_interfaces}
 use Rattle.wit_graph.specs.Samples.{no_docs}
+use Rattle.wit_growth.specs.TestFacts.{none_in, only_one}
 use Rattle.wit_labels.specs.Examples.{function_entry}
 use Rattle.wit_labels.specs.Setters.{placed}
 use Rattle.wit_adding.specs.Addition.{Addition, active_includes}
-use Rattle.wit_adding.specs.Cause.{IncludeIsReached, IsReached}
+use Rattle.wit_adding.specs.Cause.{IsReached}
 use Rattle.wit_adding.specs.Cause as reason
 use Rattle.wit_adding.specs.Gates.{Place}
 use Rattle.wit_adding.specs.Gates as asked
@@ -26,7 +27,6 @@ use Rattle.wit_adding.specs.WorldReasons as world_reason
 use Rattle.wit_adding_examples.proofs.AtWorlds.{at_of, fine_without, no_include, of_first, world_same}
 use Rattle.wit_adding_examples.proofs.HasImage.{image}
 use Rattle.wit_adding_examples.proofs.Matching.{of_alike}
-use Rattle.wit_adding_examples.proofs.Tests.{none_in, only_one}
 use Rattle.wit_adding_examples.proofs.WorldCauses.{first_reached, label_same, other_feature}
 use Rattle.wit_adding_examples.proofs.WorldTests.{all_differ, conflict_of, fine, getters_there, has_getters, list_passes, no_clash}
 use Rattle.wit_adding_examples.specs.LaterWorlds.{ExamplesOfLaterWorlds, alike_unversioned, before_alike, include_of, including_unversioned, two_gates}

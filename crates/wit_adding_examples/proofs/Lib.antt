@@ -8,7 +8,6 @@ mod LaterWorlds
 mod Matching
 mod Names
 mod Orders
-mod Tests
 mod WorkedGraphs
 mod WorldCauses
 mod WorldTests

@@ -7,6 +7,7 @@ use Rattle.wit_relations.specs.Walks.{walk, walk_within}
 use Rattle.wit_items.specs.declared.package_name.PackageName.{PackageName}
 use Rattle.wit_graph.specs.Examples.{empty_graph}
 use Rattle.wit_graph.specs.Samples.{foo_bar, sample}
+use Rattle.wit_growth.specs.TestFacts.{only_one, some_same}
 use Rattle.wit_adding.specs.Addition.{Addition}
 use Rattle.wit_adding.specs.Cause as reason
 use Rattle.wit_adding.specs.Gates.{Place}
@@ -15,7 +16,6 @@ use Rattle.wit_adding.specs.Reasons.{HasImage, IsNoResource}
 use Rattle.wit_adding.specs.Resources.{leads_to_resource}
 use Rattle.wit_adding_examples.proofs.HasImage.{image}
 use Rattle.wit_adding_examples.proofs.Matching.{of_duplicate, of_interface, of_package, of_resource, of_type, of_world}
-use Rattle.wit_adding_examples.proofs.Tests.{only_one, some_same}
 use Rattle.wit_adding_examples.specs.Causes.{ExamplesOfNames, finding}
 use Rattle.wit_adding_examples.specs.Packages.{adding, adding_at, bare, gate_f, naming, naming_type, no_features}
 use Rattle.wit_adding_examples.specs.Values.{with_resource}

@@ -14,9 +14,9 @@ use Rattle.wit_items.specs.declared.stability.Stability.TheVariants.{Unknown}
 use Rattle.wit_graph.specs.Samples.{foo_bar}
 use Rattle.wit_graph.specs.declared.error_kind.ResolveErrorKind.{ResolveErrorKind}
 use Rattle.wit_graph.specs.declared.error_kind.ResolveErrorKind.TheVariants.{DuplicatePackage, OffsetOverflow, PackageCycle}
+use Rattle.wit_growth.specs.TestFacts.{none_in, only_one}
 use Rattle.wit_adding.specs.Gates.{Place}
 use Rattle.wit_sorting.specs.Sorting.{AreSorted, Handed, IsGroupOrder, IsHandedTwice, IsSortCause, IsTooFar, TellsTooFar, handed_uses, names_of}
-use Rattle.wit_adding_examples.proofs.Tests.{none_in, only_one}
 use Rattle.wit_adding_examples.specs.Orders.{ExamplesOfGroups, ExamplesOfOrders, dep_on_main, main_and_dep, one_alone, twice_at, two_alone}
 use Rattle.wit_adding_examples.specs.Packages.{bare, dep_name, main_name, naming}
 

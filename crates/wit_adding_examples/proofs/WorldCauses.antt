@@ -17,6 +17,7 @@ use Rattle.wit_items.specs.declared.world.WorldItem.TheVariants as item
 use Rattle.wit_items.specs.declared.world.WorldKey.TheVariants as key
 use Rattle.wit_graph.specs.Imported.{HasConflict, IsInConflict}
 use Rattle.wit_graph.specs.Samples.{entry_of, no_docs, world_of}
+use Rattle.wit_growth.specs.TestFacts.{none_in, only_one}
 use Rattle.wit_labels.specs.Examples.{function_entry, named_as}
 use Rattle.wit_labels.specs.Rename.{renamed_by}
 use Rattle.wit_adding.specs.Addition.{Addition}
@@ -26,12 +27,11 @@ use Rattle.wit_adding.specs.Gates.{Place}
 use Rattle.wit_adding.specs.Gates as asked
 use Rattle.wit_adding.specs.Include.{Lists, lists_of}
 use Rattle.wit_adding.specs.Reasons.{HasImage, LacksVersion}
-use Rattle.wit_adding.specs.WorldReasons.{AreTooAlike, AtInclude, AtWorld, HasStability, IncludeIsFine, IsRenamed, LacksGetter, Mismatches, RenamesNothing, Shadows}
+use Rattle.wit_adding.specs.WorldReasons.{AreTooAlike, AtInclude, AtWorld, HasStability, IsRenamed, LacksGetter, Mismatches, RenamesNothing, Shadows}
 use Rattle.wit_adding.specs.WorldReasons as world_reason
 use Rattle.wit_adding_examples.proofs.AtWorlds.{at_of, fine_without, include_same, no_include, of_first, of_first_include}
 use Rattle.wit_adding_examples.proofs.HasImage.{image}
 use Rattle.wit_adding_examples.proofs.Matching.{of_alike, of_conflict, of_getter, of_mismatch, of_rename, of_shadowing}
-use Rattle.wit_adding_examples.proofs.Tests.{none_in, only_one}
 use Rattle.wit_adding_examples.proofs.WorldTests.{all_differ, conflict_of, getters_there, has_getters, list_passes, no_clash, one_list, unshadowed}
 use Rattle.wit_adding_examples.specs.Packages.{adding, all_features, exporting_with, gate_f, gate_g, gated_entry, including_package, no_features, since_one, since_package, three, with_world}
 use Rattle.wit_adding_examples.specs.WorldCauses.{ExamplesOfWorldCauses, importing}

@@ -20,6 +20,7 @@ use Rattle.wit_items.specs.declared.world.WorldItem.TheVariants as item
 use Rattle.wit_items.specs.declared.world.WorldKey.{WorldKey}
 use Rattle.wit_items.specs.declared.world.WorldKey.TheVariants as key
 use Rattle.wit_growth.specs.ListFacts.{Contains-map, contained_at}
+use Rattle.wit_growth.specs.TestFacts.{all_are, implied, implies, some_same}
 use Rattle.wit_graph.specs.Elaboration.{graph_uses}
 use Rattle.wit_graph.specs.Imported.{HasConflict}
 use Rattle.wit_labels.specs.Setters.{IsSetter, getter_label, is_setter_label, placed}
@@ -31,7 +32,6 @@ use Rattle.wit_adding.specs.Include.{Begun, Lists, lists_of}
 use Rattle.wit_adding.specs.WorldReasons.{AtInclude, AtWorld, HasStability, HaveLists, IncludeIsFine, IsInConflict, IsListCalled, IsShadowed, Mismatches, RenamesNothing, Shadows, renamed_key}
 use Rattle.wit_adding.specs.Pushed.{begun, with_worlds}
 use Rattle.wit_adding_examples.proofs.AtWorlds.{include_same, lists_are, world_same}
-use Rattle.wit_adding_examples.proofs.Tests.{all_are, implied, implies, some_same}
 
 -- ---- labels that come
 

@@ -1,3 +1,5 @@
+pub mod AgreementFacts
+pub mod AllElaborated
 pub mod CarriedImages
 pub mod Covered
 pub mod CoveredIsValid
@@ -6,6 +8,7 @@ pub mod CutIsGood
 pub mod DependencyFacts
 pub mod ElaboratedCome
 pub mod EntryFacts
+pub mod FunctionMismatch
 pub mod Good
 pub mod GoodInterfaces
 pub mod GoodIsValid
@@ -33,6 +36,7 @@ pub mod ReferredFacts
 pub mod RowFacts
 pub mod ShapeIsGood
 pub mod Sources
+pub mod TestFacts
 pub mod Theory
 pub mod TypesAcyclic
 pub mod UsesAcyclic

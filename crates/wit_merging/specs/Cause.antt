@@ -11,17 +11,19 @@ use Rattle.wit_items.specs.declared.stability.Stability.{Stability}
 use Rattle.wit_graph.specs.declared.cause.Cause.TheVariants as cause
 use Rattle.wit_graph.specs.declared.error_kind.ResolveErrorKind.{ResolveErrorKind}
 use Rattle.wit_graph.specs.declared.error_kind.ResolveErrorKind.TheVariants.{InvalidTransitiveDependency, PackageCycle, StabilityMismatch, Semantic, OffsetOverflow}
+use Rattle.wit_growth.specs.AllElaborated.{DependsOnItself, IsInConflict, UsesItself}
 use Rattle.wit_adding.specs.Gates.{Place}
 use Rattle.wit_merging.specs.Agreement.{GraphsDiffer}
 use Rattle.wit_merging.specs.Matches.{Merging}
-use Rattle.wit_merging.specs.Reasons.{DependsOnItself, IsInConflict, Mismatches, PassesTheEnd, ReturnsBorrow, UsesItself}
+use Rattle.wit_merging.specs.Reasons.{AreOne, Mismatches, PassesTheEnd, ReturnsBorrow}
+use Rattle.wit_merging.specs.United.{joined_graph}
 
 pub data IsMergeCause (m : Merging) : ResolveErrorKind → Type 0 where
-  conflict_4 : (span : Place) (name : List ℕ) → IsInConflict m span name → IsMergeCause m (InvalidTransitiveDependency span name)
-  package_cycle_6 : (home : PackageName) → DependsOnItself m home → IsMergeCause m (PackageCycle None home)
+  conflict_4 : (span : Place) (name : List ℕ) → AreOne m → IsInConflict (joined_graph m) span name → IsMergeCause m (InvalidTransitiveDependency span name)
+  package_cycle_6 : (home : PackageName) → AreOne m → DependsOnItself (joined_graph m) home → IsMergeCause m (PackageCycle None home)
   mismatch_8 : (from into : Stability) → Mismatches m from into → IsMergeCause m (StabilityMismatch None from into)
-  borrow_in_result_15 : (message : List ℕ) → ReturnsBorrow m message → IsMergeCause m (Semantic None message cause.BorrowInResult)
-  interface_cycle_22 : (message : List ℕ) → UsesItself m message → IsMergeCause m (Semantic None message cause.InterfaceCycle)
+  borrow_in_result_15 : (message : List ℕ) → AreOne m → ReturnsBorrow m message → IsMergeCause m (Semantic None message cause.BorrowInResult)
+  interface_cycle_22 : (message : List ℕ) → AreOne m → UsesItself (joined_graph m) message → IsMergeCause m (Semantic None message cause.InterfaceCycle)
   merge_mismatch_24 : (message : List ℕ) → GraphsDiffer m message → IsMergeCause m (Semantic None message cause.MergeMismatch)
   offset_overflow_27 : PassesTheEnd m → IsMergeCause m OffsetOverflow
 

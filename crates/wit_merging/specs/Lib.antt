@@ -6,4 +6,5 @@ pub mod MismatchText
 pub mod Moved
 pub mod Reasons
 pub mod Staying
+pub mod TypePairs
 pub mod United

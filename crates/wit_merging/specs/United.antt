@@ -6,10 +6,9 @@ use Rattle.std.specs.Prelude.{ℕ, List, ◌++◌, map, filter}
 use Rattle.std.specs.List.{enumerate_from}
 use Rattle.wit_items.specs.declared.package_name.PackageName.{PackageName}
 use Rattle.wit_items.specs.declared.world.World.{World}
-use Rattle.wit_graph.specs.Elaborated.{elaborated_exports, elaborated_imports}
-use Rattle.wit_graph.specs.Elaboration.{graph_uses}
 use Rattle.wit_graph.specs.declared.graph.Graph.{Graph}
 use Rattle.wit_graph.specs.declared.graph.Package.{Package}
+use Rattle.wit_growth.specs.AllElaborated.{all_elaborated}
 use Rattle.wit_growth.specs.Image.{interface_image, type_image, world_image}
 use Rattle.wit_adding.specs.Ranks.{taken}
 use Rattle.wit_merging.specs.Joined.{joined_interface, joined_package, joined_type, joined_world}
@@ -32,17 +31,6 @@ joined_graph m = record {
   packages = map (joined_package m) (enumerate_from 0 m.graph.packages) ++ map (package_image m) (taken (moves_package m) m.other.packages);
   package_names = m.graph.package_names ++ map (λ (e : PackageName × ℕ). (e.0, package_place m e.1)) (filter (λ (e : PackageName × ℕ). moves_package m e.1) m.other.package_names);
 }
-
--- a world of a graph, elaborated
-abbrev pub elaborated_world : Graph → World → World
-elaborated_world g world = record world {
-  imports = elaborated_imports g.types (graph_uses g) world.imports world.exports;
-  exports = elaborated_exports g.types (graph_uses g) world.exports;
-}
-
--- a graph with all its worlds elaborated
-abbrev pub all_elaborated : Graph → Graph
-all_elaborated g = record g { worlds = map (elaborated_world g) g.worlds }
 
 -- the graph with the other one
 abbrev pub united : Merging → Graph

@@ -7,11 +7,11 @@ use Rattle.wit_merging_examples.specs.Refusals.{ExamplesOfAccepted}
 pub accepted : ExamplesOfAccepted
 unfolding walk walk_within
 accepted = record {
-  nothing_comes = can_merge _ (record { interfaces = refl; worlds = refl; rank = λ i. i; uses = refl; packages = refl; exports = refl; gates = refl; results = refl; spans = refl });
-  itself = can_merge _ (record { interfaces = refl; worlds = refl; rank = λ i. i; uses = refl; packages = refl; exports = refl; gates = refl; results = refl; spans = refl });
-  grown = can_merge _ (record { interfaces = refl; worlds = refl; rank = λ i. i; uses = refl; packages = refl; exports = refl; gates = refl; results = refl; spans = refl });
-  resource = can_merge _ (record { interfaces = refl; worlds = refl; rank = λ i. i; uses = refl; packages = refl; exports = refl; gates = refl; results = refl; spans = refl });
-  first_order = can_merge _ (record { interfaces = refl; worlds = refl; rank = λ i. i; uses = refl; packages = refl; exports = refl; gates = refl; results = refl; spans = refl });
-  second_order = can_merge _ (record { interfaces = refl; worlds = refl; rank = λ i. i; uses = refl; packages = refl; exports = refl; gates = refl; results = refl; spans = refl });
-  elaborated = can_merge _ (record { interfaces = refl; worlds = refl; rank = λ i. 1 - i; uses = refl; packages = refl; exports = refl; gates = refl; results = refl; spans = refl });
+  nothing_comes = can_merge _ (record { interfaces = refl; worlds = refl; rank = λ i. i; uses = refl; packages = refl; exports = refl; gates = record { types = refl; interfaces = refl; worlds = refl }; results = refl; spans = refl });
+  itself = can_merge _ (record { interfaces = refl; worlds = refl; rank = λ i. i; uses = refl; packages = refl; exports = refl; gates = record { types = refl; interfaces = refl; worlds = refl }; results = refl; spans = refl });
+  grown = can_merge _ (record { interfaces = refl; worlds = refl; rank = λ i. i; uses = refl; packages = refl; exports = refl; gates = record { types = refl; interfaces = refl; worlds = refl }; results = refl; spans = refl });
+  resource = can_merge _ (record { interfaces = refl; worlds = refl; rank = λ i. i; uses = refl; packages = refl; exports = refl; gates = record { types = refl; interfaces = refl; worlds = refl }; results = refl; spans = refl });
+  first_order = can_merge _ (record { interfaces = refl; worlds = refl; rank = λ i. i; uses = refl; packages = refl; exports = refl; gates = record { types = refl; interfaces = refl; worlds = refl }; results = refl; spans = refl });
+  second_order = can_merge _ (record { interfaces = refl; worlds = refl; rank = λ i. i; uses = refl; packages = refl; exports = refl; gates = record { types = refl; interfaces = refl; worlds = refl }; results = refl; spans = refl });
+  elaborated = can_merge _ (record { interfaces = refl; worlds = refl; rank = λ i. 1 - i; uses = refl; packages = refl; exports = refl; gates = record { types = refl; interfaces = refl; worlds = refl }; results = refl; spans = refl });
 }

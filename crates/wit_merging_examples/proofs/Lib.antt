@@ -1,6 +1,7 @@
 mod Accepted
 mod Computed
 mod Mismatches
+mod Pairs
 mod Passing
 mod Refused
-mod Tests
+mod Stabilities

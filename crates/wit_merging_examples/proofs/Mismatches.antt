@@ -1,53 +1,61 @@
 -- The examples of what differs.
-use Rattle.std.proofs.Common.{◌≡◌, ℕ, true, false, List, [], ◌∷◌, None, Some, refl, lit<, arith}
+use Rattle.std.proofs.Common.{◌≡◌, ℕ, true, false, List, [], ◌∷◌, None, Some, refl, subst, lit<, arith, Contains}
 use Rattle.std.proofs.lemmas.Bool.{false≢true}
 use Rattle.std.specs.Prelude.{codes}
 use Rattle.wit_values.specs.Lists.{differ}
 use Rattle.wit_items.specs.Entries.{Entry}
 use Rattle.wit_items.specs.declared.function.Function.{Function}
 use Rattle.wit_items.specs.declared.function.FunctionKind.TheVariants as function
+use Rattle.wit_items.specs.declared.interface.Interface.{Interface}
 use Rattle.wit_items.specs.declared.types.Type_.TheVariants as type
 use Rattle.wit_items.specs.declared.world.WorldItem.TheVariants as item
 use Rattle.wit_items.specs.declared.world.WorldKey.TheVariants as key
 use Rattle.wit_graph.specs.Samples.{entry_of, foo_bar, function_of, instance}
 use Rattle.wit_graph.specs.declared.cause.Cause.TheVariants as cause
 use Rattle.wit_graph.specs.declared.error_kind.ResolveErrorKind.TheVariants.{Semantic}
-use Rattle.wit_merging.specs.Agreement.{EntriesDiffer, FunctionsDiffer, side_word}
+use Rattle.wit_growth.specs.FunctionMismatch.{FunctionMismatch, HaveFunctionMismatch, function_mismatch_text, kinds_differ, parameter_counts_differ, parameter_names_differ, parameter_types_differ, result_counts_differ, results_differ}
+use Rattle.wit_merging.specs.Agreement.{EntriesDiffer}
 use Rattle.wit_merging.specs.Agreement as mismatch
 use Rattle.wit_merging.specs.Cause.{IsMergeCause}
 use Rattle.wit_merging.specs.Cause as reason
-use Rattle.wit_merging.specs.MismatchText.{merge_text, mismatch_text}
+use Rattle.wit_merging.specs.MismatchText.{linked, part_links, side_word}
 use Rattle.wit_merging_examples.proofs.Passing.{differs_in_nothing}
 use Rattle.wit_merging_examples.specs.Graphs.{merging, taking}
 use Rattle.wit_merging_examples.specs.Refusals.{ExamplesOfMismatches, holding, importing, returning, taking_x}
 
+-- a function of one name in which two interfaces disagree
+disagreeing : (from into : Interface) (f g : Function) (text : List ℕ) → f.name ≡ g.name → Contains from.functions (g.name, g) → Contains into.functions (f.name, f) → FunctionMismatch g f text
+    → HaveFunctionMismatch from into (function_mismatch_text g.name text)
+disagreeing from into f g text same has there apart =
+    record { name = g.name; function = g; other = f; has = has; other_has = subst (λ (n : List ℕ). Contains into.functions (n, f)) same there; ending = text; mismatch = apart; text_is = refl }
+
 -- a difference of the function of i is told of i
-of_function : (f g : Function) (text : List ℕ) → f.name ≡ g.name → FunctionsDiffer g f text
-    → IsMergeCause (merging (holding f) (holding g)) (Semantic None (merge_text foo_bar (codes "interface") (codes "i") (mismatch_text (codes "function") g.name text)) cause.MergeMismatch)
+of_function : (f g : Function) (text : List ℕ) → f.name ≡ g.name → FunctionMismatch g f text
+    → IsMergeCause (merging (holding f) (holding g)) (Semantic None (linked (part_links foo_bar (codes "interface") (codes "i")) (function_mismatch_text g.name text)) cause.MergeMismatch)
 of_function f g text same apart =
     reason.merge_mismatch_24 _
     (mismatch.interfaces (record { x = 0; from = _; x' = 0; into = _; from_is = refl; matched = refl; into_is = refl }) 0 _ (codes "i") _ refl refl refl
-    (mismatch.functions g.name text g f (0, lit< tt, refl) (0, lit< tt, λ i. (same i, f)) apart))
+    (disagreeing _ _ f g text same (0, lit< tt, refl) (0, lit< tt, refl) apart))
 
 -- a difference of the imports of w is told of w
 of_imports : (into from : List Entry) (text : List ℕ) → EntriesDiffer (merging (importing into) (importing from)) (side_word false) from into text
-    → IsMergeCause (merging (importing into) (importing from)) (Semantic None (merge_text foo_bar (codes "world") (codes "w") text) cause.MergeMismatch)
+    → IsMergeCause (merging (importing into) (importing from)) (Semantic None (linked (part_links foo_bar (codes "world") (codes "w")) text) cause.MergeMismatch)
 of_imports into from text differs =
     reason.merge_mismatch_24 _ (mismatch.worlds (record { x = 0; from = _; x' = 0; into = _; from_is = refl; matched = refl; into_is = refl }) 0 _ false _ refl refl differs)
 
 pub mismatches : ExamplesOfMismatches
 mismatches = record {
-  param_names = of_function (taking_x type.U32) (taking (codes "f") (codes "y") type.U32) _ refl (mismatch.param_names 0 _ _ refl refl (differ (codes "y") (codes "x") refl));
+  param_names = of_function (taking_x type.U32) (taking (codes "f") (codes "y") type.U32) _ refl (parameter_names_differ 0 _ _ refl refl (differ (codes "y") (codes "x") refl) refl);
   same = differs_in_nothing _ refl refl;
   other_function = differs_in_nothing _ refl refl;
-  kinds = of_function (returning None) (record (returning None) { kind = function.Getter }) _ refl (mismatch.kinds (λ same. cc));
+  kinds = of_function (returning None) (record (returning None) { kind = function.Getter }) _ refl (kinds_differ (λ same. cc) refl);
   methods = differs_in_nothing _ refl refl;
-  counts = of_function (returning None) (taking_x type.U32) _ refl (mismatch.param_count (λ same. absurd (omega (arith, same))));
-  param_types = of_function (taking_x type.U32) (taking_x type.U8) _ refl (mismatch.param_types 0 _ _ refl refl (λ same. cc));
-  number_and_id = of_function (taking_x type.U32) (taking_x (type.Id 0)) _ refl (mismatch.param_types 0 _ _ refl refl (λ same. cc));
+  counts = of_function (returning None) (taking_x type.U32) _ refl (parameter_counts_differ (λ same. absurd (omega (arith, same))) refl);
+  param_types = of_function (taking_x type.U32) (taking_x type.U8) _ refl (parameter_types_differ 0 _ _ refl refl (λ same. cc) refl);
+  number_and_id = of_function (taking_x type.U32) (taking_x (type.Id 0)) _ refl (parameter_types_differ 0 _ _ refl refl (λ same. cc) refl);
   ids = differs_in_nothing _ refl refl;
-  result_types = of_function (returning (Some type.U32)) (returning (Some type.U8)) _ refl (mismatch.result_types type.U8 type.U32 refl refl (λ same. cc));
-  result_counts = of_function (returning (Some type.U32)) (returning None) _ refl (mismatch.result_count (λ same. false≢true same));
+  result_types = of_function (returning (Some type.U32)) (returning (Some type.U8)) _ refl (results_differ type.U8 type.U32 refl refl (λ same. cc) refl);
+  result_counts = of_function (returning (Some type.U32)) (returning None) _ refl (result_counts_differ (λ same. false≢true same) refl);
   resource_and_number = differs_in_nothing _ refl refl;
   import_counts = of_imports (entry_of 0 ∷ []) [] _ (mismatch.count (λ same. absurd (omega (arith, same))));
   export_counts =
@@ -65,7 +73,7 @@ mismatches = record {
       (mismatch.worlds (record { x = 0; from = _; x' = 0; into = _; from_is = refl; matched = refl; into_is = refl }) 0 _ false _ refl refl
       (mismatch.apart _ _ _ (0, lit< tt, refl) refl
       (mismatch.unnamed _ (record { x = 0; from = _; x' = 0; into = _; from_is = refl; matched = refl; into_is = refl }) refl refl refl
-      (mismatch.functions (codes "f") _ (taking_x type.U32) (returning None) (0, lit< tt, refl) (0, lit< tt, refl) (mismatch.param_count (λ same. absurd (omega (arith, same))))))));
+      (disagreeing _ _ (returning None) (taking_x type.U32) _ refl (0, lit< tt, refl) (0, lit< tt, refl) (parameter_counts_differ (λ same. absurd (omega (arith, same))) refl)))));
   unnamed_agree = differs_in_nothing _ refl refl;
 }
   where

@@ -1,22 +1,14 @@
 -- Tests of small merges that compute: what passes has no reason of that kind.
-use Rattle.std.proofs.Common.{◌≡◌, ◌∙◌, ℕ, ◌+◌, ◌<◌, ◌≤◌, zero, suc, Bool, true, false, not, ◌&&◌, List, [], ◌∷◌, length, nat_eq, nat_lt, get_or, Option, Some, None, slice_get, option_and_then, refl, sym, ap, subst, inl, inr, arith, Contains}
-use Rattle.std.proofs.lemmas.Bool.{and_parts, cases_lt, eqb-true, false≢true, ltb-true}
-use Rattle.std.proofs.lemmas.List.{get_or_past}
-use Rattle.std.proofs.lemmas.Option.{slice_get-get_or}
+use Rattle.std.proofs.Common.{◌≡◌, ◌∙◌, ℕ, ◌+◌, ◌<◌, ◌≤◌, Bool, true, false, not, ◌&&◌, List, [], ◌∷◌, length, nat_eq, nat_lt, Option, Some, None, slice_get, option_and_then, refl, sym, ap, subst, arith, Contains}
+use Rattle.std.proofs.lemmas.Bool.{and_parts, eq-eqb, eqb-true, false≢true, ltb-true}
 use Rattle.std.proofs.lemmas.Slice.Eq.{bytes_eq-Decides}
-use Rattle.std.specs.Cmp.Lexicographic.{nat_list_eq_equiv}
 use Rattle.std.specs.List.{list_all}
 use Rattle.std.specs.Option.{option_eq, option_map_or}
-use Rattle.std.specs.Prelude.{is_some}
 use Rattle.std.specs.Str.{bytes_eq}
-use Rattle.wit_relations.specs.Cycles.{IsOnCycle}
-use Rattle.wit_relations.specs.Relation.{IsPath, direct}
+use Rattle.wit_relations.specs.Relation.{direct}
 use Rattle.wit_items.specs.Entries.{Entry, item_interface}
 use Rattle.wit_items.specs.Reference.{named_option}
 use Rattle.wit_items.specs.declared.function.Function.{Function}
-use Rattle.wit_items.specs.declared.function.FunctionKind.{FunctionKind}
-use Rattle.wit_items.specs.declared.function.FunctionKind.TheVariants.{Freestanding, AsyncFreestanding, Method, AsyncMethod, Static, AsyncStatic, Constructor, Getter, Setter, MethodGetter, MethodSetter, StaticGetter, StaticSetter}
-use Rattle.wit_items.specs.declared.function.Param.{Param}
 use Rattle.wit_items.specs.declared.interface.Interface.{Interface}
 use Rattle.wit_items.specs.declared.stability.Stability.{Stability}
 use Rattle.wit_items.specs.declared.stability.Stability.TheVariants.{Unknown, Stable, Unstable}
@@ -25,196 +17,37 @@ use Rattle.wit_items.specs.declared.types.TypeDef.{TypeDef}
 use Rattle.wit_items.specs.declared.types.TypeDefKind.{TypeDefKind}
 use Rattle.wit_items.specs.declared.types.TypeDefKind.TheVariants as kind
 use Rattle.wit_items.specs.declared.types.Type_.{Type_}
-use Rattle.wit_items.specs.declared.types.Type_.TheVariants as type
 use Rattle.wit_items.specs.declared.world.World.{World}
 use Rattle.wit_items.specs.declared.world.WorldItem.{WorldItem}
 use Rattle.wit_items.specs.declared.world.WorldItem.TheVariants as item
+use Rattle.wit_items.specs.declared.world.WorldKey.TheVariants as key
 use Rattle.wit_graph.specs.Elaboration.{graph_uses}
 use Rattle.wit_graph.specs.Imported.{exported_interfaces}
 use Rattle.wit_graph.specs.Questions.{held_rows}
 use Rattle.wit_graph.specs.declared.cause.Cause.TheVariants as cause
 use Rattle.wit_graph.specs.declared.error_kind.ResolveErrorKind.TheVariants.{Semantic}
+use Rattle.wit_growth.specs.AgreementFacts.{functions_pass, interfaces_fine}
+use Rattle.wit_growth.specs.AllElaborated.{IsInConflict, graph_package_uses}
+use Rattle.wit_growth.specs.FunctionMismatch.{HaveFunctionMismatch}
 use Rattle.wit_growth.specs.Image.{function_image}
 use Rattle.wit_growth.specs.ListFacts.{contained_at, found_at}
 use Rattle.wit_growth.specs.OnePlace.{entries_of}
+use Rattle.wit_growth.specs.TestFacts.{all_are, all_at, all_uses, at_are, falls, implied, implies, is_empty, no_cycle, none_some, nothing_in, some_passes}
 use Rattle.wit_adding.specs.Gates.{Place}
 use Rattle.wit_adding.specs.Reasons.{HoldsBorrow}
-use Rattle.wit_adding.specs.WorldReasons.{HasStability}
-use Rattle.wit_merging.specs.Agreement.{EntriesDiffer, FunctionsDiffer, GraphsDiffer, InterfacesDiffer, ItemsDiffer, kind_alone, same_sort, side_word, sort_alone}
+use Rattle.wit_adding.specs.WorldReasons.{Disagree, HasStability}
+use Rattle.wit_merging.specs.Agreement.{EntriesDiffer, ItemsDiffer, same_sort}
 use Rattle.wit_merging.specs.Agreement as differ
 use Rattle.wit_merging.specs.Cause.{CanMerge, IsMergeCause}
 use Rattle.wit_merging.specs.Cause as reason
-use Rattle.wit_merging.specs.Matches.{Merging, Pair, found_interface, found_item, interface_beside, world_beside}
+use Rattle.wit_merging.specs.Matches.{Merging, Pair, found_interface, found_item, found_type, found_world, interface_beside, world_beside}
+use Rattle.wit_merging.specs.MismatchText.{side_word}
 use Rattle.wit_merging.specs.Moved.{merge_maps, moved_functions}
-use Rattle.wit_merging.specs.Reasons.{AreJoined, AreOne, DependsOnItself, IsInConflict, Mismatches, PassesTheEnd, ReturnsBorrow, UsesItself, graph_package_uses, graph_spans}
+use Rattle.wit_merging.specs.Reasons.{AreJoined, AreOne, Mismatches, PassesTheEnd, ReturnsBorrow, graph_spans}
 use Rattle.wit_merging.specs.Reasons as joins
 use Rattle.wit_merging.specs.United.{joined_graph}
-use Rattle.wit_merging_examples.proofs.Tests.{all_are, all_at, at_are, implied, implies, is_empty, none_some, nothing_in, some_passes, some_same}
-
--- ---- functions
-
--- the kinds of functions by number
-abbrev kind_number : FunctionKind → ℕ
-kind_number Freestanding = 0
-kind_number AsyncFreestanding = 1
-kind_number (Method r) = 2
-kind_number (AsyncMethod r) = 3
-kind_number (Static r) = 4
-kind_number (AsyncStatic r) = 5
-kind_number (Constructor r) = 6
-kind_number Getter = 7
-kind_number Setter = 8
-kind_number (MethodGetter r) = 9
-kind_number (MethodSetter r) = 10
-kind_number (StaticGetter r) = 11
-kind_number (StaticSetter r) = 12
-
-abbrev kind_numbered : ℕ → FunctionKind
-kind_numbered n =
-    get_or
-    (Freestanding ∷ AsyncFreestanding ∷ Method 0 ∷ AsyncMethod 0 ∷ Static 0 ∷ AsyncStatic 0 ∷ Constructor 0 ∷ Getter ∷ Setter ∷ MethodGetter 0 ∷ MethodSetter 0 ∷ StaticGetter 0 ∷ StaticSetter 0 ∷ [])
-    n Freestanding
-
-numbered_kind : (k : FunctionKind) → kind_alone k ≡ kind_numbered (kind_number k)
-numbered_kind Freestanding = refl
-numbered_kind AsyncFreestanding = refl
-numbered_kind (Method r) = refl
-numbered_kind (AsyncMethod r) = refl
-numbered_kind (Static r) = refl
-numbered_kind (AsyncStatic r) = refl
-numbered_kind (Constructor r) = refl
-numbered_kind Getter = refl
-numbered_kind Setter = refl
-numbered_kind (MethodGetter r) = refl
-numbered_kind (MethodSetter r) = refl
-numbered_kind (StaticGetter r) = refl
-numbered_kind (StaticSetter r) = refl
-
-same_kinds : (k l : FunctionKind) → kind_number k ≡ kind_number l → kind_alone k ≡ kind_alone l
-same_kinds k l same = numbered_kind k ∙ (ap kind_numbered same ∙ sym (numbered_kind l))
-
--- the sorts of types by number
-abbrev sort_number : Type_ → ℕ
-sort_number type.Bool = 0
-sort_number type.U8 = 1
-sort_number type.U16 = 2
-sort_number type.U32 = 3
-sort_number type.U64 = 4
-sort_number type.S8 = 5
-sort_number type.S16 = 6
-sort_number type.S32 = 7
-sort_number type.S64 = 8
-sort_number type.F32 = 9
-sort_number type.F64 = 10
-sort_number type.Char = 11
-sort_number type.String = 12
-sort_number type.ErrorContext = 13
-sort_number (type.Id t) = 14
-
-abbrev sort_numbered : ℕ → Type_
-sort_numbered n =
-    get_or
-    (type.Bool ∷ type.U8 ∷ type.U16 ∷ type.U32 ∷ type.U64 ∷ type.S8 ∷ type.S16 ∷ type.S32 ∷ type.S64 ∷ type.F32 ∷ type.F64 ∷ type.Char ∷ type.String ∷ type.ErrorContext ∷ type.Id 0 ∷ [])
-    n type.Bool
-
-numbered_sort : (ty : Type_) → sort_alone ty ≡ sort_numbered (sort_number ty)
-numbered_sort type.Bool = refl
-numbered_sort type.U8 = refl
-numbered_sort type.U16 = refl
-numbered_sort type.U32 = refl
-numbered_sort type.U64 = refl
-numbered_sort type.S8 = refl
-numbered_sort type.S16 = refl
-numbered_sort type.S32 = refl
-numbered_sort type.S64 = refl
-numbered_sort type.F32 = refl
-numbered_sort type.F64 = refl
-numbered_sort type.Char = refl
-numbered_sort type.String = refl
-numbered_sort type.ErrorContext = refl
-numbered_sort (type.Id t) = refl
-
-same_sorts : (ty ty' : Type_) → nat_eq (sort_number ty) (sort_number ty') ≡ true → sort_alone ty ≡ sort_alone ty'
-same_sorts ty ty' same = numbered_sort ty ∙ (ap sort_numbered (eqb-true (sort_number ty) (sort_number ty') same) ∙ sym (numbered_sort ty'))
-
--- do the parameters agree?
-abbrev params_agree : List Param → List Param → Bool
-params_agree [] [] = true
-params_agree (p ∷ ps) (q ∷ qs) = bytes_eq p.name q.name && (nat_eq (sort_number p.ty) (sort_number q.ty) && params_agree ps qs)
-params_agree [] (q ∷ qs) = false
-params_agree (p ∷ ps) [] = false
-
-as_long : (ps qs : List Param) → params_agree ps qs ≡ true → length ps ≡ length qs
-as_long [] [] all = refl
-as_long (p ∷ ps) (q ∷ qs) all =
-    let rest = (and_parts (nat_eq (sort_number p.ty) (sort_number q.ty)) (params_agree ps qs) (and_parts (bytes_eq p.name q.name) _ all).1).1 in
-    ap suc (as_long ps qs rest)
-as_long [] (q ∷ qs) all = absurd (false≢true all)
-as_long (p ∷ ps) [] all = absurd (false≢true all)
-
-params_at : (ps qs : List Param) → params_agree ps qs ≡ true → (i : ℕ) (p q : Param) → slice_get ps i ≡ Some p → slice_get qs i ≡ Some q → (p.name ≡ q.name) × (sort_alone p.ty ≡ sort_alone q.ty)
-params_at [] qs all i p q at there = absurd (none_some p at)
-params_at (a ∷ ps) [] all i p q at there = absurd (none_some q there)
-params_at (a ∷ ps) (b ∷ qs) all zero p q at there =
-    let first : a ≡ p = some_same a p at in
-    let second : b ≡ q = some_same b q there in
-    let parts = and_parts (bytes_eq a.name b.name) _ all in (
-      sym (ap (λ (x : Param). x.name) first) ∙ ((bytes_eq-Decides a.name b.name).0 parts.0 ∙ ap (λ (x : Param). x.name) second),
-      sym (ap (λ (x : Param). sort_alone x.ty) first) ∙ (same_sorts a.ty b.ty (and_parts _ (params_agree ps qs) parts.1).0 ∙ ap (λ (x : Param). sort_alone x.ty) second),
-    )
-params_at (a ∷ ps) (b ∷ qs) all (suc i) p q at there =
-    params_at ps qs (and_parts (nat_eq (sort_number a.ty) (sort_number b.ty)) (params_agree ps qs) (and_parts (bytes_eq a.name b.name) _ all).1).1 i p q at there
-
-abbrev results_agree : Option Type_ → Option Type_ → Bool
-results_agree None None = true
-results_agree (Some ty) (Some ty') = nat_eq (sort_number ty) (sort_number ty')
-results_agree None (Some ty') = false
-results_agree (Some ty) None = false
-
-results_at : (a b : Option Type_) → results_agree a b ≡ true → (ty ty' : Type_) → a ≡ Some ty → b ≡ Some ty' → sort_alone ty ≡ sort_alone ty'
-results_at None b all ty ty' at there = absurd (none_some ty at)
-results_at (Some x) None all ty ty' at there = absurd (none_some ty' there)
-results_at (Some x) (Some y) all ty ty' at there = sym (ap sort_alone (some_same x ty at)) ∙ (same_sorts x y all ∙ ap sort_alone (some_same y ty' there))
-
-both_there : (a b : Option Type_) → results_agree a b ≡ true → is_some a ≡ is_some b
-both_there None None all = refl
-both_there (Some x) (Some y) all = refl
-both_there None (Some y) all = absurd (false≢true all)
-both_there (Some x) None all = absurd (false≢true all)
-
--- do two functions agree?
-abbrev agree : Function → Function → Bool
-agree f g = nat_eq (kind_number f.kind) (kind_number g.kind) && (params_agree f.params g.params && results_agree f.result_ g.result_)
-
-functions_fine : (f g : Function) → agree f g ≡ true → (text : List ℕ) → FunctionsDiffer f g text → ⊥
-functions_fine f g all text c = by c
-  where
-    first : (nat_eq (kind_number f.kind) (kind_number g.kind) ≡ true) × (params_agree f.params g.params && results_agree f.result_ g.result_ ≡ true)
-    first = and_parts _ _ all
-
-    rest : (params_agree f.params g.params ≡ true) × (results_agree f.result_ g.result_ ≡ true)
-    rest = and_parts _ _ first.1
-
-    by : {text : List ℕ} → FunctionsDiffer f g text → ⊥
-    by (differ.kinds apart) = apart (same_kinds f.kind g.kind (eqb-true _ _ first.0))
-    by (differ.param_count apart) = apart (as_long f.params g.params rest.0)
-    by (differ.param_names i p q at there apart) = apart (params_at f.params g.params rest.0 i p q at there).0
-    by (differ.param_types i p q at there apart) = apart (params_at f.params g.params rest.0 i p q at there).1
-    by (differ.result_types ty ty' at there apart) = apart (results_at f.result_ g.result_ rest.1 ty ty' at there)
-    by (differ.result_count apart) = apart (both_there f.result_ g.result_ rest.1)
 
 -- ---- interfaces
-
--- do the functions of one name agree?
-abbrev functions_pass : Interface → Interface → Bool
-functions_pass from into = list_all (λ (e : List ℕ × Function). list_all (λ (e' : List ℕ × Function). implies (bytes_eq e.0 e'.0) (agree e.1 e'.1)) into.functions) from.functions
-
-interfaces_fine : (m : Merging) (from into : Interface) → functions_pass from into ≡ true → (text : List ℕ) → InterfacesDiffer m from into text → ⊥
-interfaces_fine m from into all _ (differ.types name text t t' listed there apart) = apart
-interfaces_fine m from into all _ (differ.functions name text f f' listed there apart) =
-    let one = all_are (λ (e : List ℕ × Function). list_all (λ (e' : List ℕ × Function). implies (bytes_eq e.0 e'.0) (agree e.1 e'.1)) into.functions) from.functions all (name, f) listed in
-    let two = all_are (λ (e' : List ℕ × Function). implies (bytes_eq name e'.0) (agree f e'.1)) into.functions one (name, f') there in
-    functions_fine f f' (implied (bytes_eq name name) (agree f f') two (nat_list_eq_equiv.refl name)) text apart
 
 abbrev interface_test : Merging → ℕ → Interface → Bool
 interface_test m i from = option_map_or (functions_pass from) (interface_beside m i) true
@@ -223,10 +56,10 @@ abbrev interfaces_pass : Merging → Bool
 interfaces_pass m = all_at (interface_test m) m.other.interfaces
 
 module _ (m : Merging) (all : interfaces_pass m ≡ true) where
-  pair_fine : (p : Pair (found_interface m) m.other.interfaces m.graph.interfaces) (text : List ℕ) → InterfacesDiffer m p.from p.into text → ⊥
+  pair_fine : (p : Pair (found_interface m) m.other.interfaces m.graph.interfaces) (text : List ℕ) → HaveFunctionMismatch p.from p.into text → ⊥
   pair_fine p text apart =
       let beside : interface_beside m p.x ≡ Some p.into = ap (λ (o : Option ℕ). option_and_then (slice_get m.graph.interfaces) o) p.matched ∙ p.into_is in
-      interfaces_fine m p.from p.into (some_passes (functions_pass p.from) true (interface_beside m p.x) p.into beside (at_are (interface_test m) m.other.interfaces all p.x p.from p.from_is)) text apart
+      interfaces_fine p.from p.into (some_passes (functions_pass p.from) true (interface_beside m p.x) p.into beside (at_are (interface_test m) m.other.interfaces all p.x p.from p.from_is)) text apart
 
 -- ---- worlds
 
@@ -262,7 +95,6 @@ module _ (m : Merging) (interfaces : interfaces_pass m ≡ true) where
       let two = all_are (λ i'. option_eq nat_eq (found_interface m i) (Some i')) (item_interface there) one i' (one_in (item_interface there) i' there_is) in
       apart (option_is (found_interface m i) i' two)
   items_fine from there all _ (differ.unnamed text p from_is there_is nameless apart) = pair_fine m interfaces p text apart
-  items_fine from there all _ (differ.types text t t' span span' from_is there_is apart) = apart
 
   entries_fine : (word : List ℕ) (from into : List Entry) → entries_pass m from into ≡ true → (text : List ℕ) → EntriesDiffer m word from into text → ⊥
   entries_fine word from into all _ (differ.count apart) = apart (eqb-true _ _ (and_parts (nat_eq (length from) (length into)) _ all).0)
@@ -277,6 +109,7 @@ module _ (m : Merging) (interfaces : interfaces_pass m ≡ true) where
     -- what passes differs in nothing
     pub are_one : AreOne m
     are_one _ (differ.interfaces p home there name text named of is differs) = pair_fine m interfaces p text differs
+    are_one _ (differ.types message first) = first.differs
     are_one _ (differ.worlds p home there exported text of is differs) = by exported differs
       where
         beside : world_beside m p.x ≡ Some p.into
@@ -289,29 +122,6 @@ module _ (m : Merging) (interfaces : interfaces_pass m ≡ true) where
         by false differs = entries_fine (side_word false) p.from.imports p.into.imports both.0 text differs
         by true differs = entries_fine (side_word true) p.from.exports p.into.exports both.1 text differs
 
--- ---- cycles
-
--- does each node use nodes of smaller rank alone?
-abbrev pub falls : (ℕ → ℕ) → List (List ℕ) → Bool
-falls rank rows = all_at (λ i (row : List ℕ). list_all (λ j. nat_lt (rank j) (rank i)) row) rows
-
-module _ (rank : ℕ → ℕ) (rows : List (List ℕ)) (all : falls rank rows ≡ true) where
-  down : (i j : ℕ) → Contains (direct rows i) j → rank j < rank i
-  down i j has =
-      elim (cases_lt i (length rows)) [
-        | inl there ↦
-            ltb-true (rank j) (rank i)
-            (all_are (λ j. nat_lt (rank j) (rank i)) (direct rows i) (at_are (λ i (row : List ℕ). list_all (λ j. nat_lt (rank j) (rank i)) row) rows all i (direct rows i) (slice_get-get_or rows i [] there)) j has)
-        | inr past ↦ absurd (nothing_in [] j refl (subst (λ (row : List ℕ). Contains row j) (get_or_past rows i [] past) has))
-      ]
-
-  along : (i : ℕ) (path : List ℕ) (j : ℕ) → IsPath rows i path j → rank j ≤ rank i
-  along i [] j same = let is = ap rank same in omega (arith, is)
-  along i (k ∷ path) j leads = let first = down i k leads.0 in let rest = along k path j leads.1 in omega (arith, first, rest)
-
-  pub no_cycle : (i j : ℕ) → IsOnCycle rows i j → ⊥
-  no_cycle i j c = let first = down i j c.is_used in let rest = along j c.leads_back.0 i c.leads_back.1 in absurd (omega (arith, first, rest))
-
 -- ---- a conflict
 
 -- the exported interfaces use nothing
@@ -321,7 +131,7 @@ exports_fine uses world = list_all (λ x. is_empty (direct uses x)) (exported_in
 abbrev pub no_needs : Merging → Bool
 no_needs m = list_all (exports_fine (graph_uses (joined_graph m))) (joined_graph m).worlds
 
-pub in_no_conflict : (m : Merging) → no_needs m ≡ true → (span : Place) (name : List ℕ) → IsInConflict m span name → ⊥
+pub in_no_conflict : (m : Merging) → no_needs m ≡ true → (span : Place) (name : List ℕ) → IsInConflict (joined_graph m) span name → ⊥
 in_no_conflict m all span name c =
     let world = all_are (exports_fine (graph_uses (joined_graph m))) (joined_graph m).worlds all c.world c.there in
     let need = c.conflict.1 in
@@ -330,57 +140,74 @@ in_no_conflict m all span name c =
 
 -- ---- stabilities
 
-abbrev is_none : Stability → Bool
-is_none Unknown = true
-is_none (Stable since deprecated) = false
-is_none (Unstable feature deprecated) = false
+-- one of two is unknown, or both are the same gate
+abbrev may_join : Stability → Stability → Bool
+may_join Unknown into = true
+may_join from Unknown = true
+may_join (Unstable feature None) (Unstable other None) = bytes_eq feature other
+may_join from into = false
 
-none_is : (s : Stability) → is_none s ≡ true → s ≡ Unknown
-none_is Unknown is = refl
-none_is (Stable since deprecated) is = absurd (false≢true is)
-none_is (Unstable feature deprecated) is = absurd (false≢true is)
+join : (from into : Stability) → may_join from into ≡ true → Disagree from into → ⊥
+join Unknown into all apart = apart.from_known refl
+join (Stable since deprecated) Unknown all apart = apart.into_known refl
+join (Unstable feature deprecated) Unknown all apart = apart.into_known refl
+join (Unstable feature None) (Unstable other None) all apart = apart.differ (ap (λ (f : List ℕ). Unstable f None) ((bytes_eq-Decides feature other).0 all))
+join (Unstable feature (Some version)) (Unstable other deprecated) all apart = absurd (false≢true all)
+join (Unstable feature None) (Unstable other (Some version)) all apart = absurd (false≢true all)
+join (Unstable feature deprecated) (Stable since deprecated') all apart = absurd (false≢true all)
+join (Stable since deprecated) (Stable other deprecated') all apart = absurd (false≢true all)
+join (Stable since deprecated) (Unstable other deprecated') all apart = absurd (false≢true all)
 
-abbrev item_without : WorldItem → Bool
-item_without (item.Interface i note docs span external_id) = is_none note
-item_without (item.Function f) = true
-item_without (item.Type_ t span) = true
+-- do the stabilities of two entries join, where they stand under the keys of matched interfaces?
+abbrev keyed_join : Merging → Entry → Entry → Bool
+keyed_join m (key.Interface i, item.Interface j from docs span external_id) (key.Interface i', item.Interface j' into docs' span' external_id') =
+    implies (option_eq nat_eq (found_interface m i) (Some i')) (may_join from into)
+keyed_join m e e' = true
 
-abbrev entries_without : List Entry → Bool
-entries_without entries = list_all (λ (e : Entry). item_without e.1) entries
+abbrev entries_join : Merging → List Entry → List Entry → Bool
+entries_join m from into = list_all (λ (e : Entry). list_all (keyed_join m e) into) from
 
--- nothing of the graph that is handed in has a stability
-abbrev pub without_gates : Merging → Bool
-without_gates m =
-    all_at (λ t (def : TypeDef). is_none def.stability) m.other.types
-    && (all_at (λ i (interface : Interface). is_none interface.stability) m.other.interfaces
-    && all_at (λ w (world : World). is_none world.stability && (entries_without world.imports && entries_without world.exports)) m.other.worlds)
+abbrev worlds_join : Merging → World → World → Bool
+worlds_join m from into = may_join from.stability into.stability && (entries_join m from.imports into.imports && entries_join m from.exports into.exports)
 
-pub joined_fine : (m : Merging) → without_gates m ≡ true → (from into : Stability) → Mismatches m from into → ⊥
-joined_fine m all from into c = c.apart.from_known (by from into c.joined)
+-- does each thing pass with the one that is matched with it?
+abbrev pairs_pass : {X : Type 0} → (X → X → Bool) → (ℕ → Option ℕ) → List X → List X → Bool
+pairs_pass test found others ours = all_at (λ x from. option_map_or (test from) (option_and_then (slice_get ours) (found x)) true) others
+
+pair_passes : {X : Type 0} (test : X → X → Bool) (found : ℕ → Option ℕ) (others ours : List X) → pairs_pass test found others ours ≡ true → (p : Pair found others ours) → test p.from p.into ≡ true
+pair_passes {X} test found others ours all p =
+    some_passes (test p.from) true (option_and_then (slice_get ours) (found p.x)) p.into (ap (λ (o : Option ℕ). option_and_then (slice_get ours) o) p.matched ∙ p.into_is)
+    (at_are (λ x (from : X). option_map_or (test from) (option_and_then (slice_get ours) (found x)) true) others all p.x p.from p.from_is)
+
+-- do all the stabilities of matched things join?
+pub record GatesJoin (m : Merging) : Type 0 where
+  pub types : pairs_pass (λ (from into : TypeDef). may_join from.stability into.stability) (found_type m) m.other.types m.graph.types ≡ true
+  pub interfaces : pairs_pass (λ (from into : Interface). may_join from.stability into.stability) (found_interface m) m.other.interfaces m.graph.interfaces ≡ true
+  pub worlds : pairs_pass (worlds_join m) (found_world m) m.other.worlds m.graph.worlds ≡ true
+
+option_same : (o : Option ℕ) (i : ℕ) → o ≡ Some i → option_eq nat_eq o (Some i) ≡ true
+option_same o i is = ap (λ (x : Option ℕ). option_eq nat_eq x (Some i)) is ∙ eq-eqb i i refl
+
+entries_fit : (m : Merging) (from into : List Entry) → entries_join m from into ≡ true → (i i' : ℕ) (brings has : Stability) → found_interface m i ≡ Some i' → HasStability from i brings → HasStability into i' has → may_join brings has ≡ true
+entries_fit m from into all i i' brings has matched comes there =
+    let e : Entry = (key.Interface i, item.Interface i brings comes.0 comes.1 comes.2) in
+    let e' : Entry = (key.Interface i', item.Interface i' has there.0 there.1 there.2) in
+    implied (option_eq nat_eq (found_interface m i) (Some i')) (may_join brings has)
+    (all_are (keyed_join m e) into (all_are (λ (d : Entry). list_all (keyed_join m d) into) from all e comes.3) e' there.3) (option_same (found_interface m i) i' matched)
+
+pub joined_fine : (m : Merging) → GatesJoin m → (from into : Stability) → Mismatches m from into → ⊥
+joined_fine m all from into c = join from into (by from into c.joined) c.apart
   where
-    parts : (all_at (λ t (def : TypeDef). is_none def.stability) m.other.types ≡ true) × (all_at (λ i (interface : Interface). is_none interface.stability) m.other.interfaces
-        && all_at (λ w (world : World). is_none world.stability && (entries_without world.imports && entries_without world.exports)) m.other.worlds ≡ true)
-    parts = and_parts _ _ all
+    sides : (from into : World) → worlds_join m from into ≡ true → (exported : Bool) → entries_join m (entries_of exported from) (entries_of exported into) ≡ true
+    sides from into both false = (and_parts _ _ (and_parts (may_join from.stability into.stability) _ both).1).0
+    sides from into both true = (and_parts _ _ (and_parts (may_join from.stability into.stability) _ both).1).1
 
-    rest : (all_at (λ i (interface : Interface). is_none interface.stability) m.other.interfaces ≡ true)
-        × (all_at (λ w (world : World). is_none world.stability && (entries_without world.imports && entries_without world.exports)) m.other.worlds ≡ true)
-    rest = and_parts _ _ parts.1
-
-    of_entries : (entries : List Entry) (i : ℕ) (from : Stability) → entries_without entries ≡ true → HasStability entries i from → from ≡ Unknown
-    of_entries entries i from all (docs, place, external_id, there) = none_is from (all_are (λ (e : Entry). item_without e.1) entries all _ there)
-
-    of_world : (exported : Bool) (world : World) (i : ℕ) (from : Stability) → entries_without world.imports ≡ true → entries_without world.exports ≡ true → HasStability (entries_of exported world) i from → from ≡ Unknown
-    of_world false world i from imports exports has = of_entries world.imports i from imports has
-    of_world true world i from imports exports has = of_entries world.exports i from exports has
-
-    by : (from into : Stability) → AreJoined m from into → from ≡ Unknown
-    by _ _ (joins.types p) = none_is p.from.stability (at_are (λ t (def : TypeDef). is_none def.stability) m.other.types parts.0 p.x p.from p.from_is)
-    by _ _ (joins.interfaces p) = none_is p.from.stability (at_are (λ i (interface : Interface). is_none interface.stability) m.other.interfaces rest.0 p.x p.from p.from_is)
-    by _ _ (joins.worlds p) =
-        none_is p.from.stability (and_parts _ _ (at_are (λ w (world : World). is_none world.stability && (entries_without world.imports && entries_without world.exports)) m.other.worlds rest.1 p.x p.from p.from_is)).0
-    by from _ (joins.entries p exported i i' _ into matched comes there) =
-        let lists = and_parts _ _ (and_parts (is_none p.from.stability) _ (at_are (λ w (world : World). is_none world.stability && (entries_without world.imports && entries_without world.exports)) m.other.worlds rest.1 p.x p.from p.from_is)).1 in
-        of_world exported p.from i from lists.0 lists.1 comes
+    by : (from into : Stability) → AreJoined m from into → may_join from into ≡ true
+    by _ _ (joins.types p) = pair_passes (λ (from into : TypeDef). may_join from.stability into.stability) (found_type m) m.other.types m.graph.types all.types p
+    by _ _ (joins.interfaces p) = pair_passes (λ (from into : Interface). may_join from.stability into.stability) (found_interface m) m.other.interfaces m.graph.interfaces all.interfaces p
+    by _ _ (joins.worlds p) = (and_parts (may_join p.from.stability p.into.stability) _ (pair_passes (worlds_join m) (found_world m) m.other.worlds m.graph.worlds all.worlds p)).0
+    by _ _ (joins.entries p exported i i' from into matched comes there) =
+        entries_fit m (entries_of exported p.from) (entries_of exported p.into) (sides p.from p.into (pair_passes (worlds_join m) (found_world m) m.other.worlds m.graph.worlds all.worlds p) exported) i i' from into matched comes there
 
 -- ---- results
 
@@ -445,19 +272,19 @@ pub record Passes (m : Merging) : Type 0 where
   pub interfaces : interfaces_pass m ≡ true
   pub worlds : worlds_pass m ≡ true
   pub rank : ℕ → ℕ
-  pub uses : falls rank (graph_uses (joined_graph m)) ≡ true
-  pub packages : falls (λ p. p) (graph_package_uses (joined_graph m)) ≡ true
+  pub uses : all_uses (falls rank) (graph_uses (joined_graph m)) ≡ true
+  pub packages : all_uses (falls (λ p. p)) (graph_package_uses (joined_graph m)) ≡ true
   pub exports : no_needs m ≡ true
-  pub gates : without_gates m ≡ true
+  pub gates : GatesJoin m
   pub results : returns_none m ≡ true
   pub spans : all_fit m ≡ true
 
 pub can_merge : (m : Merging) → Passes m → CanMerge m
-can_merge m p _ (reason.conflict_4 span name c) = in_no_conflict m p.exports span name c
-can_merge m p _ (reason.package_cycle_6 home c) = no_cycle (λ p. p) (graph_package_uses (joined_graph m)) p.packages c.p c.q c.on_cycle
+can_merge m p _ (reason.conflict_4 span name one c) = in_no_conflict m p.exports span name c
+can_merge m p _ (reason.package_cycle_6 home one c) = no_cycle (λ p. p) (graph_package_uses (joined_graph m)) p.packages c.p c.q c.on_cycle
 can_merge m p _ (reason.mismatch_8 from into c) = joined_fine m p.gates from into c
-can_merge m p _ (reason.borrow_in_result_15 message c) = results_fine m p.results message c
-can_merge m p _ (reason.interface_cycle_22 message c) = no_cycle p.rank (graph_uses (joined_graph m)) p.uses c.i c.j c.on_cycle
+can_merge m p _ (reason.borrow_in_result_15 message one c) = results_fine m p.results message c
+can_merge m p _ (reason.interface_cycle_22 message one c) = no_cycle p.rank (graph_uses (joined_graph m)) p.uses c.i c.j c.on_cycle
 can_merge m p _ (reason.merge_mismatch_24 message c) = are_one m p.interfaces p.worlds message c
 can_merge m p _ (reason.offset_overflow_27 c) = fits m p.spans c
 

@@ -20,7 +20,7 @@ use Rattle.wit_graph.specs.declared.graph.Graph.{Graph}
 use Rattle.wit_adding.specs.Gates.{Place}
 use Rattle.wit_merging.specs.Cause.{CanMerge, IsMergeCause}
 use Rattle.wit_merging.specs.Matches.{Merging}
-use Rattle.wit_merging_examples.specs.Graphs.{a_uses_b, alias_in, b_uses_a, foo_bar_alone, foo_named, gate_f, gate_g, i_uses_j, inner, merging, more, number_in, one_number, only_c, record_x, resource_t, taking, three, two_numbers, with_functions, world_of_i}
+use Rattle.wit_merging_examples.specs.Graphs.{a_uses_b, alias_in, b_uses_a, field_a, foo_bar_alone, foo_named, gate_f, gate_g, i_uses_j, inner, merging, more, number_in, one_number, only_c, record_x, resource_t, taking, three, two_numbers, with_functions, world_of_i}
 use Rattle.wit_merging_examples.specs.Unions.{gated}
 
 -- ---- graphs
@@ -86,6 +86,14 @@ b_alone = record c_uses_b { types = number_in 0 (codes "t") ∷ alias_in 1 (code
 -- i stands at this place, handed in to be moved by an offset
 abbrev pub placed_at : ℕ → ℕ → ℕ → Merging
 placed_at from to offset = record { graph = one_number; other = record one_number { interfaces = record (interface_of (Some (codes "i")) ((codes "t", 0) ∷ [])) { span = Some (from, to) } ∷ [] }; offset = offset }
+
+-- so the field of record x, which moves
+abbrev pub field_at : ℕ → ℕ → ℕ → Merging
+field_at from to offset = record {
+  graph = one_number;
+  other = record record_x { types = number_in 0 (codes "t") ∷ type_in 0 (codes "x") (kind.Record (record (field_a (type.Id 0)) { span = Some (from, to) } ∷ [])) ∷ [] };
+  offset = offset;
+}
 
 -- ---- 24: what differs
 
@@ -157,6 +165,10 @@ pub record ExamplesOfRefusals : Type 0 where
   -- 27: a place that would end past the last position, and one that just fits
   pub too_far : IsMergeCause (placed_at 5 10 4294967286) OffsetOverflow
   pub just_fits : IsMergeCause (placed_at 5 10 4294967285) OffsetOverflow → ⊥
+  -- the same of a field of a type that moves; a place that isn't known is no reason
+  pub field_too_far : IsMergeCause (field_at 5 10 4294967286) OffsetOverflow
+  pub field_fits : IsMergeCause (field_at 5 10 4294967285) OffsetOverflow → ⊥
+  pub unknown_fits : IsMergeCause (record { graph = one_number; other = record_x; offset = 4294967295 }) OffsetOverflow → ⊥
   -- want of memory is no reason
   pub no_memory : (m : Merging) → IsMergeCause m OutOfMemory → ⊥
 

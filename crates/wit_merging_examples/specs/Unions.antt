@@ -1,13 +1,16 @@
 -- Worked merges: which things are matched, where things go, and the whole graph that is made.
-use Rattle.std.specs.Prelude.{◌≡◌, ℕ, List, [], ◌∷◌, Some, None, codes}
+use Rattle.std.specs.Prelude.{◌≡◌, ℕ, suc, List, [], ◌∷◌, Some, None, codes}
 use Rattle.wit_items.specs.declared.stability.Stability.{Stability}
 use Rattle.wit_items.specs.declared.types.Handle.TheVariants as handle
+use Rattle.wit_items.specs.declared.types.TypeDef.{TypeDef}
 use Rattle.wit_items.specs.declared.types.TypeDefKind.TheVariants as kind
+use Rattle.wit_items.specs.declared.types.TypeOwner.TheVariants as owner
 use Rattle.wit_items.specs.declared.types.Type_.TheVariants as type
+use Rattle.wit_items.specs.declared.world.World.{World}
 use Rattle.wit_items.specs.declared.world.WorldItem.TheVariants as item
 use Rattle.wit_items.specs.declared.world.WorldKey.TheVariants as key
 use Rattle.wit_graph.specs.Examples.{empty_graph}
-use Rattle.wit_graph.specs.Samples.{entry_of, function_of, interface_of, no_docs, type_in, unnamed, world_of}
+use Rattle.wit_graph.specs.Samples.{entry_of, foo_bar_of, function_of, interface_of, no_docs, type_in, type_of, unnamed, world_of}
 use Rattle.wit_graph.specs.declared.graph.Graph.{Graph}
 use Rattle.wit_merging.specs.Matches.{found_interface, found_package, found_type, found_world}
 use Rattle.wit_merging.specs.Moved.{going}
@@ -49,6 +52,16 @@ gated note = record one_number { types = record (number_in 0 (codes "t")) { stab
 abbrev pub world_function : Graph
 world_function = foo_bar_alone [] [] (world_of (codes "w") ((key.Name (codes "f"), item.Function (function_of (codes "f") [] None)) ∷ []) [] ∷ []) [] ((codes "w", 0) ∷ [])
 
+-- world v with a number k of its own, another name s of it and a function f of s; it is world w, its types from t on
+abbrev pub types_of_v : ℕ → ℕ → List TypeDef
+types_of_v w t = type_of (Some (codes "k")) (kind.Type_ type.U32) (owner.World w) ∷ type_of (Some (codes "s")) (kind.Type_ (type.Id t)) (owner.World w) ∷ []
+
+abbrev pub v_of : ℕ → World
+v_of t = world_of (codes "v") ((key.Name (codes "k"), item.Type_ t None) ∷ (key.Name (codes "s"), item.Type_ (suc t) None) ∷ (key.Name (codes "f"), item.Function (function_of (codes "f") (type.Id (suc t) ∷ []) None)) ∷ []) []
+
+abbrev pub v_alone : Graph
+v_alone = foo_bar_alone (types_of_v 0 0) [] (v_of 0 ∷ []) [] ((codes "v", 0) ∷ [])
+
 -- whole graphs
 pub record ExamplesOfUnions : Type 0 where
   -- nothing into a graph, a graph into nothing, a graph into itself
@@ -75,6 +88,15 @@ pub record ExamplesOfUnions : Type 0 where
       ≡ inner ((codes "t", 0) ∷ (codes "u", 1) ∷ []) (number_in 0 (codes "t") ∷ number_in 0 (codes "u") ∷ []) (function_of (codes "f") (type.Id 1 ∷ []) None ∷ [])
   -- a function of a matched world doesn't come again
   pub function_once : united (merging world_function world_function) ≡ world_function
+  -- a world comes with its own types, at the next ids, and they are of it, not of the world that had its id
+  pub world_comes : united (merging world_of_i v_alone) ≡ record world_of_i {
+    types = number_in 0 (codes "t") ∷ types_of_v 1 1;
+    worlds = world_of (codes "w") (entry_of 0 ∷ []) [] ∷ v_of 1 ∷ [];
+    packages = foo_bar_of ((codes "i", 0) ∷ []) ((codes "w", 0) ∷ (codes "v", 1) ∷ []) ∷ [];
+  }
+  pub not_of_another : (united (merging world_of_i v_alone)).types ≡ number_in 0 (codes "t") ∷ types_of_v 0 1 → ⊥
+  -- a matched world takes none
+  pub types_once : united (merging v_alone v_alone) ≡ v_alone
   -- packages: what each has joins under its name, and one that isn't there comes last
   pub packages : (united (merging b_uses_a a_uses_b)).packages ≡ package_named (codes "a") ((codes "i", 0) ∷ (codes "h", 3) ∷ []) ∷ package_named (codes "b") ((codes "j", 1) ∷ (codes "k", 2) ∷ []) ∷ []
   pub package_comes : (united (merging b_uses_a only_c)).packages

@@ -10,12 +10,13 @@ use Rattle.wit_items.specs.declared.package_name.PackageName.{PackageName}
 use Rattle.wit_items.specs.declared.types.TypeDef.{TypeDef}
 use Rattle.wit_items.specs.declared.world.World.{World}
 use Rattle.wit_graph.specs.declared.graph.Package.{Package}
+use Rattle.wit_growth.specs.AllElaborated.{elaborated_world}
 use Rattle.wit_growth.specs.ListFacts.{at_map, some_at}
 use Rattle.wit_growth.specs.PackagesAcyclic.{numbered_into}
 use Rattle.wit_merging.specs.Joined.{joined_interface, joined_package, joined_type, joined_world, with_interface, with_package, with_type, with_world}
 use Rattle.wit_merging.specs.Matches.{Merging, found_interface, found_package, found_type, found_world, partner}
 use Rattle.wit_merging.specs.Staying.{SameHome, SameInterface, SamePackage, SameType}
-use Rattle.wit_merging.specs.United.{elaborated_world, joined_graph, united}
+use Rattle.wit_merging.specs.United.{joined_graph, united}
 
 -- what stands in front of a numbered list that is changed
 front_at : {X : Type 0} (f : ℕ × X → X) (xs ys : List X) (i : ℕ) (x : X) → slice_get xs i ≡ Some x → slice_get (map f (enumerate_from 0 xs) ++ ys) i ≡ Some (f (i, x))

@@ -7,8 +7,9 @@ use Rattle.wit_items.specs.declared.world.World.{World}
 use Rattle.wit_graph.specs.Examples.{empty_graph}
 use Rattle.wit_graph.specs.Valid.{IsValid}
 use Rattle.wit_graph.specs.declared.graph.Graph.{Graph}
+use Rattle.wit_growth.specs.AllElaborated.{all_elaborated, elaborated_world}
 use Rattle.wit_merging.specs.Matches.{Merging}
-use Rattle.wit_merging.specs.United.{all_elaborated, elaborated_world, joined_graph}
+use Rattle.wit_merging.specs.United.{joined_graph}
 use Rattle.wit_merging_laws.specs.MergingLaws.{NothingComes}
 
 -- the elements of a numbered list are the list

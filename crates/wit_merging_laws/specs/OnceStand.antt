@@ -17,6 +17,7 @@ use Rattle.wit_graph.specs.Elaborated.{settled_item}
 use Rattle.wit_graph.specs.Entries.{same_key}
 use Rattle.wit_graph.specs.Valid.{IsValid}
 use Rattle.wit_graph.specs.declared.graph.Graph.{Graph}
+use Rattle.wit_growth.specs.AllElaborated.{elaborated_world}
 use Rattle.wit_growth.specs.Cut.{cut_interface, kept_whole, mapped_source}
 use Rattle.wit_growth.specs.GoodWorlds.{same_one}
 use Rattle.wit_growth.specs.Image.{Maps, entry_image, identity, item_image, key_image, world_image}
@@ -33,7 +34,7 @@ use Rattle.wit_merging.specs.Joined.{is_under_id, joined_interface, with_world}
 use Rattle.wit_merging.specs.Matches.{Merging, found_as, found_interface, found_world, partner, spots}
 use Rattle.wit_merging.specs.Moved.{interface_place, merge_maps, moves_interface, world_place}
 use Rattle.wit_merging.specs.Reasons.{AreOne}
-use Rattle.wit_merging.specs.United.{elaborated_world, joined_graph, united}
+use Rattle.wit_merging.specs.United.{joined_graph, united}
 use Rattle.wit_merging_laws.specs.InterfacesStand.{interface_stands, joined_keeps, moved_interface_goes, old_interface_at}
 use Rattle.wit_merging_laws.specs.ListedStand.{WorldFrom, interfaces_apart, of_graph, of_other, world_at_from}
 use Rattle.wit_merging_laws.specs.MatchFacts.{SpotMatch, goes_to, no_name, some_of, some_same, spot_home, spot_match, stands_at}

@@ -21,6 +21,7 @@ use Rattle.wit_items.specs.declared.world.World.{World}
 use Rattle.wit_graph.proofs.Filters.{Contains-filter, Contains-filtered}
 use Rattle.wit_graph.specs.Valid.{HasPackageNames, IsInTable, IsInterfaceOf, IsValid, IsWorldInTable, IsWorldOf}
 use Rattle.wit_graph.specs.declared.graph.Package.{Package}
+use Rattle.wit_growth.specs.AllElaborated.{elaborated_world}
 use Rattle.wit_growth.specs.CutIsGood.{distinct_kept}
 use Rattle.wit_growth.specs.Good.{IsGoodPackage}
 use Rattle.wit_growth.specs.Image.{interface_image, world_image}
@@ -33,7 +34,7 @@ use Rattle.wit_including_laws.specs.KeysApart.{joined_apart}
 use Rattle.wit_merging.specs.Joined.{joined_interface, joined_package, joined_world, with_package, with_world}
 use Rattle.wit_merging.specs.Matches.{Merging, found_as, found_in, found_interface, found_package, found_world, partner}
 use Rattle.wit_merging.specs.Moved.{interface_place, merge_maps, moves_interface, moves_package, moves_world, package_place, world_place}
-use Rattle.wit_merging.specs.United.{elaborated_world, joined_graph, package_image, united}
+use Rattle.wit_merging.specs.United.{joined_graph, package_image, united}
 use Rattle.wit_merging_laws.specs.InterfacesStand as interfaces
 use Rattle.wit_merging_laws.specs.InterfacesStand.{distinct_under, partner_from, partner_is}
 use Rattle.wit_merging_laws.specs.ListedStand as worlds

@@ -22,6 +22,7 @@ use Rattle.wit_graph.specs.Listed.{IsListed}
 use Rattle.wit_graph.specs.ListedFacts.{lists_in_order}
 use Rattle.wit_graph.specs.Valid.{IsValid}
 use Rattle.wit_graph.specs.declared.graph.Graph.{Graph}
+use Rattle.wit_growth.specs.AllElaborated.{elaborated_world}
 use Rattle.wit_growth.specs.Covered.{IsCovered, WorldComes}
 use Rattle.wit_growth.specs.CoveredIsValid.{IsGoodWhere-of_covered}
 use Rattle.wit_growth.specs.Cut.{IsGoodWhere}
@@ -35,7 +36,7 @@ use Rattle.wit_including_laws.specs.WorldLaws.{WorldLaws}
 use Rattle.wit_merging.specs.Matches.{Merging}
 use Rattle.wit_merging.specs.Moved.{merge_maps}
 use Rattle.wit_merging.specs.Reasons.{AreOne}
-use Rattle.wit_merging.specs.United.{elaborated_world, joined_graph, united}
+use Rattle.wit_merging.specs.United.{joined_graph, united}
 use Rattle.wit_merging_laws.specs.InterfacesStand as interfaces
 use Rattle.wit_merging_laws.specs.ListedStand.{worlds_come}
 use Rattle.wit_merging_laws.specs.MergingLaws.{AreGood, CanElaborate}

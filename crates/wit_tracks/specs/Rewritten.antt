@@ -17,7 +17,7 @@ use Rattle.wit_items.specs.declared.world.World.{World}
 use Rattle.wit_items.specs.declared.world.WorldItem.TheVariants as item
 use Rattle.wit_graph.specs.Entries.{Entry, id_of}
 use Rattle.wit_graph.specs.declared.graph.Graph.{Graph}
-use Rattle.wit_unite.specs.AllElaborated.{all_elaborated}
+use Rattle.wit_growth.specs.AllElaborated.{all_elaborated}
 use Rattle.wit_tracks.specs.Upgrade.{Upgrade, is_replaced, newest}
 
 -- ---- the world's list

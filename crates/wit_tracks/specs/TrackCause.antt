@@ -14,8 +14,8 @@ use Rattle.wit_graph.specs.declared.cause.Cause.TheVariants as cause
 use Rattle.wit_graph.specs.declared.error_kind.ResolveErrorKind.{ResolveErrorKind}
 use Rattle.wit_graph.specs.declared.error_kind.ResolveErrorKind.TheVariants.{InvalidTransitiveDependency, PackageCycle, Semantic}
 use Rattle.wit_graph.specs.declared.graph.Graph.{Graph}
-use Rattle.wit_unite.specs.AllElaborated.{DependsOnItself, IsInConflict, RefersToItself, UsesItself}
-use Rattle.wit_unite.specs.FunctionMismatch.{HaveFunctionMismatch}
+use Rattle.wit_growth.specs.AllElaborated.{DependsOnItself, IsInConflict, RefersToItself, UsesItself}
+use Rattle.wit_growth.specs.FunctionMismatch.{HaveFunctionMismatch}
 use Rattle.wit_tracks.specs.Rewritten.{following, relisted_at, replaced_use, target_name, type_named}
 use Rattle.wit_tracks.specs.Upgrade.{Upgrade, is_replaced, newest}
 

@@ -12,11 +12,11 @@ use Rattle.wit_graph.specs.Elaboration.{graph_uses}
 use Rattle.wit_graph.specs.Imported.{HasConflict}
 use Rattle.wit_graph.specs.declared.error_kind.ResolveErrorKind.{ResolveErrorKind}
 use Rattle.wit_graph.specs.declared.graph.Graph.{Graph}
-use Rattle.wit_unite.specs.AllElaborated.{graph_package_uses}
+use Rattle.wit_growth.specs.AllElaborated.{graph_package_uses}
+use Rattle.wit_growth.specs.TestFacts.{all_are, some_same}
 use Rattle.wit_tracks.specs.Rewritten.{following, relisted_at, replaced_use, target_name, type_named}
 use Rattle.wit_tracks.specs.TrackCause.{Disagrees, IsComplete, IsTrackCause, UpgradeCause, conflict_4, functions_disagree_25, interface_cycle_22, package_cycle_6, type_cycle_23, type_missing_25}
 use Rattle.wit_tracks.specs.Upgrade.{Upgrade, newest}
-use Rattle.wit_tracks_examples.proofs.Tests.{all_are, some_same}
 
 module _ (u : Upgrade) where
   -- does the newest have the type of this name?

@@ -2,4 +2,3 @@ mod Reasons
 mod Fine
 mod Mismatches
 mod Rows
-mod Tests

@@ -26,14 +26,15 @@ use Rattle.wit_items.specs.declared.world.WorldKey.TheVariants as key
 use Rattle.wit_growth.specs.ListFacts.{contained_at}
 use Rattle.wit_graph.specs.declared.graph.Graph.{Graph}
 use Rattle.wit_graph.specs.declared.graph.Package.{Package}
-use Rattle.wit_unite.specs.AllElaborated.{DependsOnItself, graph_package_uses}
-use Rattle.wit_unite.specs.FunctionMismatch.{FunctionMismatch, parameter_names_differ}
+use Rattle.wit_growth.specs.AgreementFacts.{functions_fine}
+use Rattle.wit_growth.specs.AllElaborated.{DependsOnItself, graph_package_uses}
+use Rattle.wit_growth.specs.FunctionMismatch.{FunctionMismatch, parameter_names_differ}
+use Rattle.wit_growth.specs.TestFacts.{all_are, all_uses, falls, no_cycle, not_on_cycle, only_one, some_same}
 use Rattle.wit_tracks.specs.Rewritten.{following, listed_world, relisted_at}
 use Rattle.wit_tracks.specs.TrackCause.{Disagrees, IsComplete, LacksType, UpgradeCause, conflict_4, functions_disagree_25, interface_cycle_22, package_cycle_6, type_cycle_23, type_missing_25}
 use Rattle.wit_tracks.specs.Upgrade.{Upgrade, is_replaced, newest}
 use Rattle.wit_tracks_examples.proofs.Fine.{Clear, complete, has_target, is_fine}
-use Rattle.wit_tracks_examples.proofs.Mismatches.{own_mismatch, x_is_not_y, x_of, y_of}
-use Rattle.wit_tracks_examples.proofs.Tests.{all_are, all_uses, falls, no_cycle, not_on_cycle, only_one, some_same}
+use Rattle.wit_tracks_examples.proofs.Mismatches.{x_is_not_y, x_of, y_of}
 use Rattle.wit_tracks_examples.specs.CauseExamples.{ExamplesOfCauses, IsFine, Speaks, around_main, around_z, exporting, f_of, failed, foo_app, newer_x, older_x, with_functions, with_newer, without_type, without_type_but_cycle}
 use Rattle.wit_tracks_examples.specs.Releases.{alias_in, called, foo_main, foo_x, keyed, number_in, package_of, release, with_function, world_in}
 use Rattle.wit_tracks_examples.specs.RewrittenExamples.{of_three}
@@ -407,7 +408,7 @@ agreement =
     (λ message d.
     let one = only_one (codes "f", f_of (codes "x") type.U32) (d.have.name, d.have.function) (subst (λ (fs : List (List ℕ × Function)). Contains fs (d.have.name, d.have.function)) (sym (its_functions d.f d.old d.old_is)) d.have.has) in
     let other = only_one (codes "f", f_of (codes "x") type.U32) (d.have.name, d.have.other) (subst (λ (fs : List (List ℕ × Function)). Contains fs (d.have.name, d.have.other)) (sym (its_functions (newest u d.f) d.new d.new_is)) d.have.other_has) in
-    own_mismatch (f_of (codes "x") type.U32) d.have.ending
+    functions_fine (f_of (codes "x") type.U32) (f_of (codes "x") type.U32) refl d.have.ending
     (subst (λ (f : Function). FunctionMismatch f (f_of (codes "x") type.U32) d.have.ending) (sym (ap (λ (e : List ℕ × Function). e.1) one))
     (subst (λ (f : Function). FunctionMismatch d.have.function f d.have.ending) (sym (ap (λ (e : List ℕ × Function). e.1) other)) d.have.mismatch)))
     refl refl refl (no_exports (relisted_at u 0) refl))

@@ -12,6 +12,7 @@ use Rattle.wit_graph.specs.Elaborated.{import_steps, import_steps_within}
 use Rattle.wit_graph.specs.Entries.{Entry, instance_of}
 use Rattle.wit_graph.specs.declared.graph.Graph.{Graph}
 use Rattle.wit_tracks_examples.specs.RewrittenExamples.{ExamplesOfRewriting, ExamplesOfRules}
+use Rattle.wit_tracks_examples.specs.TrackExamples.{ExamplesOfTracks}
 
 -- ---- what tells graphs apart
 
@@ -67,4 +68,21 @@ examples_of_rules = record {
   other_major = refl;
   below_patch = refl;
   not_ignored = λ same. let apart : 1 ≡ 2 = ap (import_count 0) same in absurd (omega (arith, apart));
+}
+
+pub examples_of_tracks : ExamplesOfTracks
+unfolding walk walk_within import_steps import_steps_within strip_zeros imports_at import_at import_count export_count target
+examples_of_tracks = record {
+  one_name = refl;
+  other_interface = refl;
+  other_package = refl;
+  other_namespace = refl;
+  without_version = refl;
+  greatest_of_three = refl;
+  not_the_next = λ same. let apart : 2 ≡ 1 = ap (target 3) same in absurd (omega (arith, apart));
+  labelled_newer = refl;
+  type_use = refl;
+  not_left = λ same. let apart : 1 ≡ 0 = ap (target 2) same in absurd (omega (arith, apart));
+  of_another_world = refl;
+  not_following = λ same. let apart : 0 ≡ 1 = ap (target 2) same in absurd (omega (arith, apart));
 }

@@ -15,7 +15,7 @@ use Rattle.wit_graph.specs.declared.cause.Cause.TheVariants.{InterfaceCycle, Typ
 use Rattle.wit_graph.specs.declared.error_kind.ResolveErrorKind.{ResolveErrorKind}
 use Rattle.wit_graph.specs.declared.error_kind.ResolveErrorKind.TheVariants.{InvalidTransitiveDependency, PackageCycle, Semantic}
 use Rattle.wit_graph.specs.declared.graph.Graph.{Graph}
-use Rattle.wit_unite.specs.FunctionMismatch.{FunctionMismatch}
+use Rattle.wit_growth.specs.FunctionMismatch.{FunctionMismatch}
 use Rattle.wit_tracks.specs.TrackCause.{IsTrackCause}
 use Rattle.wit_tracks_examples.specs.Releases.{Names, alias_in, called, foo_main, foo_x, graph_of, interface_in, keyed, number_in, package_of, release, two, with_function, world_in}
 use Rattle.wit_tracks_examples.specs.RewrittenExamples.{of_three}

@@ -1,3 +1,4 @@
 pub mod CauseExamples
 pub mod Releases
 pub mod RewrittenExamples
+pub mod TrackExamples

@@ -1,5 +1,6 @@
 -- Worked merges of imports by tracks, and what they aren't.
 use Rattle.std.specs.Prelude.{ℕ, ◌≡◌, List, [], ◌∷◌, ◌++◌, codes}
+use Rattle.wit_values.specs.Version.{Parts}
 use Rattle.wit_items.specs.declared.track.TrackRule.TheVariants.{Published, WithPrereleases}
 use Rattle.wit_graph.specs.Entries.{Entry}
 use Rattle.wit_graph.specs.Samples.{labelled_entry}
@@ -9,14 +10,18 @@ use Rattle.wit_tracks_examples.specs.Releases.{alias_in, called, graph_of, impor
 
 -- ---- three versions, and an interface that uses one
 
--- foo:x@0.2.0, @0.2.1 and @0.3.0; y of foo:main has another name t of a type of theirs, and world w imports these
-abbrev pub three : ℕ → List ℕ → Graph
-three target imports =
-    graph_of (release 0 2 0 ∷ release 0 2 1 ∷ release 0 3 0 ∷ [])
+-- three versions of foo:x; y of foo:main has another name t of a type of theirs, and world w imports these
+abbrev pub with_versions : List Parts → ℕ → List ℕ → Graph
+with_versions versions target imports =
+    graph_of versions
     (number_in 0 (codes "t") ∷ number_in 1 (codes "t") ∷ number_in 2 (codes "t") ∷ alias_in 3 (codes "t") target ∷ [])
     (interface_in 0 (codes "x") (called (codes "t") 0 ∷ []) ∷ interface_in 1 (codes "x") (called (codes "t") 1 ∷ [])
     ∷ interface_in 2 (codes "x") (called (codes "t") 2 ∷ []) ∷ interface_in 3 (codes "y") (called (codes "t") 3 ∷ []) ∷ [])
     (world_in 3 (codes "w") (keyed imports) [] ∷ []) (called (codes "y") 3 ∷ []) (called (codes "w") 0 ∷ [])
+
+-- 0.2.0, 0.2.1 and 0.3.0
+abbrev pub three : ℕ → List ℕ → Graph
+three target imports = with_versions (release 0 2 0 ∷ release 0 2 1 ∷ release 0 3 0 ∷ []) target imports
 
 -- y uses x@0.2.0
 abbrev pub of_three : Graph

@@ -36,7 +36,7 @@ use Rattle.wit_growth.specs.EntryFacts.{key_entry}
 use Rattle.wit_growth.specs.ListFacts.{at_map, contained_at, found_at, place_of, some_at}
 use Rattle.wit_growth.specs.NamedUses.{used_is_named}
 use Rattle.wit_unite.proofs.OnePlaceTurned.{set_split}
-use Rattle.wit_unite.specs.AllElaborated.{DependsOnItself, RefersToItself, UsesItself, all_elaborated, elaborated_world, interface_cycle_text}
+use Rattle.wit_growth.specs.AllElaborated.{DependsOnItself, RefersToItself, UsesItself, all_elaborated, elaborated_world, interface_cycle_text}
 use Rattle.wit_tracks.specs.Rewritten.{listed_world, new_target, relisted_at, retargeted, rewritten, rewritten_types}
 use Rattle.wit_tracks.specs.TrackCause.{IsAccepted, IsComplete, conflict_4, interface_cycle_22, package_cycle_6, type_cycle_23, type_missing_25}
 use Rattle.wit_tracks.specs.Upgrade.{Upgrade, is_replaced, newest}

@@ -9,7 +9,7 @@ use Rattle.wit_graph.specs.ElaborationLaws.{ConflictsAreRefused}
 use Rattle.wit_graph.specs.Valid.{IsValid}
 use Rattle.wit_graph.specs.declared.graph.Graph.{Graph}
 use Rattle.wit_growth.specs.ListFacts.{at_map}
-use Rattle.wit_unite.specs.AllElaborated.{all_elaborated, elaborated_world}
+use Rattle.wit_growth.specs.AllElaborated.{all_elaborated, elaborated_world}
 use Rattle.wit_tracks.specs.Rewritten.{relisted, relisted_at, rewritten}
 use Rattle.wit_tracks.specs.TrackCause.{IsAccepted}
 use Rattle.wit_tracks.specs.Upgrade.{Upgrade}

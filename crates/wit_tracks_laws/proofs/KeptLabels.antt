@@ -22,7 +22,7 @@ use Rattle.wit_graph.specs.declared.graph.Graph.{Graph}
 use Rattle.wit_growth.specs.CutIsGood.{distinct_kept}
 use Rattle.wit_growth.specs.DependencyFacts.{needs_from, needs_into}
 use Rattle.wit_growth.specs.ListFacts.{found_at, place_of, same_at}
-use Rattle.wit_unite.specs.AllElaborated.{elaborated_world}
+use Rattle.wit_growth.specs.AllElaborated.{elaborated_world}
 use Rattle.wit_tracks.specs.Rewritten.{is_replaced_entry, listed_world, new_target, relisted_at, retargeted, rewritten_types, staying}
 use Rattle.wit_tracks.specs.TrackCause.{IsComplete}
 use Rattle.wit_tracks.specs.Upgrade.{Upgrade, newest}

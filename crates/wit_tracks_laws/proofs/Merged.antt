@@ -24,7 +24,7 @@ use Rattle.wit_relations.specs.Relation.{IsAcyclic}
 use Rattle.wit_graph.specs.declared.graph.Graph.{Graph}
 use Rattle.wit_graph.specs.declared.graph.Package.{Package}
 use Rattle.wit_growth.specs.ListFacts.{found_at, place_of, same_at}
-use Rattle.wit_unite.specs.AllElaborated.{elaborated_world}
+use Rattle.wit_growth.specs.AllElaborated.{elaborated_world}
 use Rattle.wit_tracks.specs.Rewritten.{listed_world, relisted_at, rewritten}
 use Rattle.wit_tracks.specs.Tracks.{Versioned, are_on_one_track, have_one_track, is_below, versioned, versioned_in, versioned_of}
 use Rattle.wit_tracks.specs.Upgrade.{Upgrade, is_replaced}

@@ -22,7 +22,7 @@ use Rattle.wit_growth.specs.GoodIsValid.{IsValid-from_good, good_things}
 use Rattle.wit_growth.specs.ListFacts.{at_map, found_at, same_at, some_at}
 use Rattle.wit_growth.specs.OnePlaceFacts.{StandOnce-from_places}
 use Rattle.wit_growth.specs.PackageCycleFacts.{acyclic_packages, packages_stay_acyclic}
-use Rattle.wit_unite.specs.AllElaborated.{elaborated_world, graph_package_uses, type_cycle_text}
+use Rattle.wit_growth.specs.AllElaborated.{elaborated_world, graph_package_uses, type_cycle_text}
 use Rattle.wit_tracks.specs.Rewritten.{listed_world, new_target, relisted_at, rewritten}
 use Rattle.wit_tracks.specs.TrackCause.{IsAccepted}
 use Rattle.wit_tracks.specs.Upgrade.{Upgrade}

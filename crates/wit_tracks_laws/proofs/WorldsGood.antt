@@ -32,7 +32,7 @@ use Rattle.wit_growth.specs.NamedUses.{IsUsed_named}
 use Rattle.wit_growth.specs.OnePlace.{HasOnePlace, entries_of}
 use Rattle.wit_growth.specs.OnePlaceCarried.{named_not}
 use Rattle.wit_growth.specs.OnePlaceFrom.{HasOnePlace-from_once}
-use Rattle.wit_unite.specs.AllElaborated.{all_elaborated, elaborated_world}
+use Rattle.wit_growth.specs.AllElaborated.{all_elaborated, elaborated_world}
 use Rattle.wit_tracks.specs.Rewritten.{is_replaced_entry, relisted_at}
 use Rattle.wit_tracks.specs.TrackCause.{IsAccepted}
 use Rattle.wit_tracks.specs.Upgrade.{Upgrade, is_replaced}

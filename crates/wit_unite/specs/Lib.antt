@@ -1,5 +1,3 @@
-pub mod AllElaborated
-pub mod FunctionMismatch
 pub mod TurnCause
 pub mod TurnExamples
 pub mod TurnLaws

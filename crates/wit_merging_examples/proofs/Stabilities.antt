@@ -1,0 +1,68 @@
+-- The examples of stabilities.
+use Rattle.std.proofs.Common.{◌≡◌, ℕ, false, true, List, [], refl, ap, lit<}
+use Rattle.std.specs.Prelude.{codes}
+use Rattle.wit_values.specs.Lists.{differ}
+use Rattle.wit_relations.specs.Walks.{walk, walk_within}
+use Rattle.wit_items.specs.declared.stability.Stability.{Stability}
+use Rattle.wit_items.specs.declared.stability.Stability.TheVariants.{Unknown, Stable, Unstable}
+use Rattle.wit_graph.specs.Elaborated.{import_steps, import_steps_within}
+use Rattle.wit_graph.specs.declared.error_kind.ResolveErrorKind.TheVariants.{StabilityMismatch}
+use Rattle.wit_graph.specs.declared.graph.Graph.{Graph}
+use Rattle.wit_adding.specs.Gates.{Place}
+use Rattle.wit_adding.specs.WorldReasons.{Disagree}
+use Rattle.wit_merging.specs.Cause.{IsMergeCause}
+use Rattle.wit_merging.specs.Cause as reason
+use Rattle.wit_merging.specs.Matches.{Merging}
+use Rattle.wit_merging.specs.Reasons.{AreJoined, Mismatches}
+use Rattle.wit_merging.specs.Reasons as joins
+use Rattle.wit_merging_examples.proofs.Passing.{GatesJoin, joined_fine}
+use Rattle.wit_merging_examples.specs.Graphs.{gate_f, gate_g, merging}
+use Rattle.wit_merging_examples.specs.Stabilities.{Disagrees, DisagreesNowhere, ExamplesOfStabilities}
+
+feature_of : Stability → List ℕ
+feature_of Unknown = []
+feature_of (Stable since deprecated) = []
+feature_of (Unstable feature deprecated) = feature
+
+other_feature : gate_g ≡ gate_f → ⊥
+unfolding feature_of
+other_feature same = differ (codes "g") (codes "f") refl (ap feature_of same)
+
+-- the two gates disagree
+pub gates_apart : Disagree gate_g gate_f
+gates_apart = record { from_known = λ same. cc; into_known = λ same. cc; differ = other_feature }
+
+-- where they are joined 8 is told
+pub disagreeing : (g other : Graph) → AreJoined (merging g other) gate_g gate_f → Disagrees g other
+disagreeing g other joined = reason.mismatch_8 gate_g gate_f (record { joined = joined; apart = gates_apart })
+
+of_mismatch : (m : Merging) (span : Place) (from into : Stability) → IsMergeCause m (StabilityMismatch span from into) → Mismatches m from into
+of_mismatch m _ _ _ (reason.mismatch_8 from into c) = c
+
+-- where all are joined it isn't
+pub nowhere : (g other : Graph) → GatesJoin (merging g other) → DisagreesNowhere g other
+nowhere g other all span from into c = joined_fine (merging g other) all from into (of_mismatch (merging g other) span from into c)
+
+pub stabilities : ExamplesOfStabilities
+unfolding walk walk_within import_steps import_steps_within
+stabilities = record {
+  interfaces = disagreeing _ _ (joins.interfaces (record { x = 0; from = _; x' = 0; into = _; from_is = refl; matched = refl; into_is = refl }));
+  same_interface = nowhere _ _ (record { types = refl; interfaces = refl; worlds = refl });
+  other_interface = nowhere _ _ (record { types = refl; interfaces = refl; worlds = refl });
+  interface_without = nowhere _ _ (record { types = refl; interfaces = refl; worlds = refl });
+  interface_with = nowhere _ _ (record { types = refl; interfaces = refl; worlds = refl });
+  worlds = disagreeing _ _ (joins.worlds (record { x = 0; from = _; x' = 0; into = _; from_is = refl; matched = refl; into_is = refl }));
+  same_world = nowhere _ _ (record { types = refl; interfaces = refl; worlds = refl });
+  other_world = nowhere _ _ (record { types = refl; interfaces = refl; worlds = refl });
+  imports = disagreeing _ _ (joins.entries (record { x = 0; from = _; x' = 0; into = _; from_is = refl; matched = refl; into_is = refl }) false 0 0 _ _ refl (_, _, _, (0, lit< tt, refl)) (_, _, _, (0, lit< tt, refl)));
+  exports = disagreeing _ _ (joins.entries (record { x = 0; from = _; x' = 0; into = _; from_is = refl; matched = refl; into_is = refl }) true 0 0 _ _ refl (_, _, _, (0, lit< tt, refl)) (_, _, _, (0, lit< tt, refl)));
+  same_import = nowhere _ _ (record { types = refl; interfaces = refl; worlds = refl });
+  under_a_label = nowhere _ _ (record { types = refl; interfaces = refl; worlds = refl });
+  functions = nowhere _ _ (record { types = refl; interfaces = refl; worlds = refl });
+  interface_takes = refl;
+  interface_keeps = refl;
+  world_takes = refl;
+  import_takes = refl;
+  label_keeps = refl;
+  function_keeps = refl;
+}
