@@ -10,6 +10,7 @@ use Rattle.wit_items.specs.Entries.{HasExports, HasImports, IsImport}
 use Rattle.wit_items.specs.Ownership.{AliasesNamed, IsNamed, IsNamedInterface}
 use Rattle.wit_items.specs.Uses.{alias_target, interface_uses, uses_of}
 use Rattle.wit_items.specs.declared.interface.Interface.{Interface}
+use Rattle.wit_items.specs.declared.package_name.PackageName.{PackageName}
 use Rattle.wit_items.specs.declared.track.TrackRule.{TrackRule}
 use Rattle.wit_items.specs.declared.types.TypeDef.{TypeDef}
 use Rattle.wit_items.specs.declared.types.TypeOwner.{TypeOwner}
@@ -29,17 +30,17 @@ use Rattle.wit_graph.specs.Listed.{IsListed}
 use Rattle.wit_graph.specs.ListedFacts.{lists_in_order, named_within}
 use Rattle.wit_graph.specs.Valid.{IsValid}
 use Rattle.wit_graph.specs.declared.cause.Cause.TheVariants as cause
-use Rattle.wit_graph.specs.declared.error_kind.ResolveErrorKind.TheVariants.{InvalidTransitiveDependency, Semantic}
+use Rattle.wit_graph.specs.declared.error_kind.ResolveErrorKind.TheVariants.{InvalidTransitiveDependency, PackageCycle, Semantic}
 use Rattle.wit_graph.specs.declared.graph.Graph.{Graph}
+use Rattle.wit_growth.specs.EntryFacts.{key_entry}
 use Rattle.wit_growth.specs.ListFacts.{at_map, contained_at, found_at, place_of, some_at}
 use Rattle.wit_growth.specs.NamedUses.{used_is_named}
 use Rattle.wit_unite.proofs.OnePlaceTurned.{set_split}
-use Rattle.wit_growth.specs.AllElaborated.{RefersToItself, UsesItself, all_elaborated, elaborated_world, interface_cycle_text}
+use Rattle.wit_growth.specs.AllElaborated.{DependsOnItself, RefersToItself, UsesItself, all_elaborated, elaborated_world, interface_cycle_text}
 use Rattle.wit_tracks.specs.Rewritten.{listed_world, new_target, relisted_at, retargeted, rewritten, rewritten_types}
-use Rattle.wit_tracks.specs.TrackCause.{IsAccepted, IsComplete, conflict_4, interface_cycle_22, type_cycle_23, type_missing_25}
+use Rattle.wit_tracks.specs.TrackCause.{IsAccepted, IsComplete, conflict_4, interface_cycle_22, package_cycle_6, type_cycle_23, type_missing_25}
 use Rattle.wit_tracks.specs.Upgrade.{Upgrade, is_replaced, newest}
 use Rattle.wit_tracks_laws.proofs.Greatest.{newest_stays}
-use Rattle.wit_tracks_laws.proofs.KeptKeys.{key_entry}
 use Rattle.wit_tracks_laws.proofs.TypesAfter.{retargeted_name, retargeted_owner, turned_from, turned_type, type_after, type_into}
 
 some_same : {X : Type 0} (x y : X) → Some x ≡ Some y → x ≡ y
@@ -174,6 +175,9 @@ module _ (u : Upgrade) (valid : IsValid u.graph) (w : ℕ) (there : slice_get u.
 
     no_interface_cycle : (message : List ℕ) → UsesItself (relisted_at u w) message → ⊥
     no_interface_cycle message is = accepted (Semantic None message cause.InterfaceCycle) (u.world, there, interface_cycle_22 message complete is)
+
+    pub no_package_cycle : (home : PackageName) → DependsOnItself (relisted_at u w) home → ⊥
+    no_package_cycle home is = accepted (PackageCycle None home) (u.world, there, package_cycle_6 home complete is)
 
     pub no_type_cycle : (message : List ℕ) → RefersToItself (relisted_at u w) message → ⊥
     no_type_cycle message is = accepted (Semantic None message cause.TypeCycle) (u.world, there, type_cycle_23 message complete is)

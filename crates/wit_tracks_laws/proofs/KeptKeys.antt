@@ -19,21 +19,20 @@ use Rattle.wit_items.specs.declared.world.WorldKey.{WorldKey}
 use Rattle.wit_items.specs.declared.world.WorldKey.TheVariants as key
 use Rattle.wit_graph.proofs.Filters.{Contains-filter, Contains-filtered}
 use Rattle.wit_graph.specs.Entries.{Entry, function_role, id_of, ids_of, instance_of, role_of, type_role}
-use Rattle.wit_graph.specs.Imported.{Needed, roots_of}
+use Rattle.wit_graph.specs.Imported.{Needed, exported_keys, roots_of}
 use Rattle.wit_graph.specs.KeptByElaboration.{HoldsImports, ImportsAreLeast}
 use Rattle.wit_graph.specs.ListedFacts.{lists_in_order}
 use Rattle.wit_graph.specs.Valid.{IsValid}
 use Rattle.wit_growth.specs.DependencyFacts.{filter_map_from, filter_map_into}
+use Rattle.wit_growth.specs.EntryFacts.{holds as old_holds, import_uses as import_uses_imported, instance_interface, key_entry, one_of}
 use Rattle.wit_growth.specs.ListFacts.{Contains-map, from_row, in_row, place_of}
+use Rattle.wit_growth.specs.PackageCycles.{ListsKey, ListsUses}
 use Rattle.wit_growth.specs.PackagesAcyclic.{is_there}
-use Rattle.wit_tracks.specs.Rewritten.{entry_types, following, is_replaced_entry, rewritten_types, staying, types_of}
+use Rattle.wit_tracks.specs.Rewritten.{entry_types, following, is_replaced_entry, listed_world, rewritten_types, staying, types_of}
 use Rattle.wit_tracks.specs.TrackCause.{IsComplete}
 use Rattle.wit_tracks.specs.Upgrade.{Upgrade, imported, is_replaced, newest}
 use Rattle.wit_tracks_laws.proofs.Greatest.{newest_stays}
 use Rattle.wit_tracks_laws.proofs.TypesAfter.{needs_after}
-
-one_of : (i j : ℕ) → Contains (i ∷ []) j → i ≡ j
-one_of i j has = elim (Contains-cons_cases i j [] has) [ inl same ↦ same | inr none ↦ absurd (Contains-nil none) ]
 
 both_true : (a b : Bool) → a ≡ true → b ≡ true → (a && b) ≡ true
 both_true true b on also = also
@@ -52,16 +51,7 @@ held_of_key interfaces types w (key.Interface f) (item.Interface id stability do
 held_of_key interfaces types w (key.Interface f) (item.Function fn) i same is = absurd is
 held_of_key interfaces types w (key.Interface f) (item.Type_ t span) i same is = absurd is
 
--- an id among the keys is that of an entry
-pub key_entry : (es : List Entry) (j : ℕ) → Contains (ids_of es) j → (e : Entry) × Contains es e × (e.0 ≡ key.Interface j)
-key_entry es j has =
-    let from = Contains-flat_map_cases (λ (e : Entry). id_of e.0) es j has in
-    (from.0, from.1.0, is from.0.0 from.1.1)
-  where
-    is : (k : WorldKey) → Contains (id_of k) j → k ≡ key.Interface j
-    is (key.Name name) none = absurd (Contains-nil none)
-    is (key.Interface i) one = ap key.Interface (one_of i j one)
-
+-- an entry's key is among the ids
 key_into : (es : List Entry) (e : Entry) (j : ℕ) → Contains es e → e.0 ≡ key.Interface j → Contains (ids_of es) j
 key_into es e j has is = Contains-flat_map (λ (e : Entry). id_of e.0) es e j has (subst (λ (k : WorldKey). Contains (id_of k) j) (sym is) (Contains-here j []))
 
@@ -112,12 +102,7 @@ begins interfaces types w uses (key.Name name) (item.Interface id stability docs
 begins interfaces types w uses k (item.Function fn) r now is has = absurd (no_function_root uses (resource_of fn.kind) k r has)
 begins interfaces types w uses k (item.Type_ t span) r now is has = at_type t span refl (type_root uses (type_interface_dep now t) k r has)
 
--- a labelled instance begins at its uses
-label_root : (types : List TypeDef) (uses : List (List ℕ)) (name : List ℕ) (held : WorldItem) (i j : ℕ) → Contains (instance_of held) i → Contains (direct uses i) j → Contains (roots_of uses (key.Name name) (role_of types held)) j
-label_root types uses name (item.Interface id stability docs span external_id) i j holds edge = subst (λ (x : ℕ). Contains (direct uses x) j) (sym (one_of id i holds)) edge
-label_root types uses name (item.Function fn) i j holds edge = absurd (Contains-nil holds)
-label_root types uses name (item.Type_ t span) i j holds edge = absurd (Contains-nil holds)
-
+-- under its own key an interface begins at itself
 key_root : (interfaces : List Interface) (typedefs types : List TypeDef) (uses : List (List ℕ)) (w : ℕ) (k : WorldKey) (held : WorldItem) (i : ℕ) → k ≡ key.Interface i → IsImport interfaces typedefs w k held → Contains (roots_of uses k (role_of types held)) i
 key_root interfaces typedefs types uses w (key.Name name) held i same is = cc
 key_root interfaces typedefs types uses w (key.Interface f) (item.Interface id stability docs span external_id) i same is = let one : f ≡ i = cc in subst (λ (x : ℕ). Contains (id ∷ []) x) (is.0 ∙ one) (Contains-here id [])
@@ -145,8 +130,8 @@ module _ (least : ImportsAreLeast) (u : Upgrade) (valid : IsValid u.graph) (w : 
   -- the old world imports all that it needs
   holds : HoldsImports u.graph.types rows old.imports old.exports (Contains (imported u))
   holds =
-      (least u.graph.types rows old old valid.no_cycles.uses
-      (lists_in_order u.graph.types u.graph.interfaces valid.well_formed.references.aliases w old (valid.well_formed.worlds.imports w old there) (valid.well_formed.worlds.exports w old there)) (valid.canonical w old there)).0
+      old_holds least u.graph.types u.graph.interfaces valid.well_formed.references.aliases valid.no_cycles.uses w old (valid.well_formed.worlds.imports w old there) (valid.well_formed.worlds.exports w old there)
+      (valid.canonical w old there)
 
   -- ---- the imports that stay
 
@@ -196,7 +181,7 @@ module _ (least : ImportsAreLeast) (u : Upgrade) (valid : IsValid u.graph) (w : 
             let stays : is_replaced u needs.f ≡ false =
             elim (cases_Bool (is_replaced u needs.f)) [ inl on ↦ absurd (same.1 on (any_from_contains t (following u) has)) | inr off ↦ off ] in
             record { was = subst (Contains (imported u)) (sym same.0) imported_f; stays = subst (λ (x : ℕ). is_replaced u x ≡ false) (sym same.0) stays }
-        | inr turned ↦ subst IsKept (sym turned.1) (newest_kept needs.f turned.0)
+        | inr turned ↦ subst IsKept (sym turned.2) (newest_kept needs.f turned.0)
       ]
 
   -- the edge of an interface, by the type that makes it
@@ -231,14 +216,9 @@ module _ (least : ImportsAreLeast) (u : Upgrade) (valid : IsValid u.graph) (w : 
 
   -- an old import's instance uses what was imported
   uses_imported : (e : Entry) (i f : ℕ) → Contains old.imports e → Contains (instance_of e.1) i → Contains (direct rows i) f → Contains (imported u) f
-  uses_imported e i f has holds_i edge = by e.0 refl
-    where
-      by : (k : WorldKey) → e.0 ≡ k → Contains (imported u) f
-      by (key.Name name) is = root_into e f has (subst (λ (k : WorldKey). Contains (roots_of rows k (role_of u.graph.types e.1)) f) (sym is) (label_root u.graph.types rows name e.1 i f holds_i edge))
-      by (key.Interface g) is =
-          let held = held_of_key u.graph.interfaces u.graph.types w e.0 e.1 g is (import_is e has) in
-          let same : g ≡ i = same_instance e.1 g i held holds_i in
-          holds.closed g f (root_into e g has (key_root u.graph.interfaces u.graph.types u.graph.types rows w e.0 e.1 g is (import_is e has))) (subst (λ (x : ℕ). Contains (direct rows x) f) (sym same) edge)
+  uses_imported e i f has holds_i edge =
+      import_uses_imported least u.graph.types u.graph.interfaces valid.well_formed.references.aliases valid.no_cycles.uses w old (valid.well_formed.worlds.imports w old there)
+      (valid.well_formed.worlds.exports w old there) (valid.canonical w old there) e i f has (instance_interface u.graph.types e.1 i holds_i) edge
 
   kept_roots : (r : ℕ) → Contains (flat_map (λ (e : Entry). roots_of new_rows e.0 (role_of (rewritten_types u) e.1)) (staying u)) r → IsKept r
   kept_roots r has =
@@ -276,7 +256,7 @@ module _ (least : ImportsAreLeast) (u : Upgrade) (valid : IsValid u.graph) (w : 
             let one : f ≡ needs.f = some_same f needs.f (sym dep ∙ needs.needed) in
             let place : f ≡ need.1 = one ∙ sym same.0 in
             subst (Contains (imported u)) (sym place) (holds.needed need.1 (need.0, need.1, need.2, subst (λ (x : ℕ). Contains (direct rows need.0) x) place (of.before f dep), need.4, ([], refl))))
-        | inr turned ↦ subst IsKept (sym turned.1) (newest_kept needs.f turned.0)
+        | inr turned ↦ subst IsKept (sym turned.2) (newest_kept needs.f turned.0)
       ] in
       reached_kept need.1 need.5.0 j first need.5.1
     where
@@ -310,3 +290,19 @@ module _ (least : ImportsAreLeast) (u : Upgrade) (valid : IsValid u.graph) (w : 
       let before = staying_from entry.0 entry.1 in
       Contains-flat_map (λ (e : Entry). roots_of new_rows e.0 (role_of (rewritten_types u) e.1)) (staying u) entry.0 j entry.1
       (key_root u.graph.interfaces u.graph.types (rewritten_types u) new_rows w entry.0.0 entry.0.1 j entry.2 (import_is entry.0 before.0))
+
+  -- what the interfaces of the listed world use it lists
+  kept_key : (j : ℕ) → IsKept j → Contains (ids_of (staying u)) j
+  kept_key j kept = let entry = kept_into j kept in key_into (staying u) entry.0 j entry.1 entry.2
+
+  pub named_lists_uses : ListsUses u.graph.interfaces new_rows (listed_world u)
+  named_lists_uses = record {
+    imports = λ e f j has holds_f unnamed edge. inl (kept_key j (import_uses e f j has holds_f edge (λ x before. uses_imported e f x (staying_from e has).0 holds_f before)));
+    exports = λ e f j has holds_f unnamed edge. exported e f j has holds_f edge (list_any (nat_eq j) (exported_keys old.exports)) refl;
+  }
+    where
+      exported : (e : Entry) (f j : ℕ) → Contains old.exports e → Contains (instance_of e.1) f → Contains (direct new_rows f) j → (b : Bool) → list_any (nat_eq j) (exported_keys old.exports) ≡ b → ListsKey (listed_world u) j
+      exported e f j has holds_f edge true is = inr (contains_from_any j (exported_keys old.exports) is)
+      exported e f j has holds_f edge false is =
+          inl (kept_key j (needed_kept j
+          (f, j, Contains-flat_map (λ (e : Entry). instance_of e.1) old.exports e f has holds_f, edge, (λ among. let yes = any_from_contains j (exported_keys old.exports) among in cc), ([], refl))))

@@ -3,6 +3,7 @@ mod EachElaborated
 mod Greatest
 mod KeptKeys
 mod KeptLabels
+mod ListedUses
 mod Merged
 mod TypesAfter
 mod TypesGood

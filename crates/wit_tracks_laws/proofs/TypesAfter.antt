@@ -138,11 +138,11 @@ module _ (u : Upgrade) where
 
     -- ---- which interface a type needs after it
 
-    -- what it needed, which isn't turned; or the newest where that is replaced
+    -- what it needed, which isn't turned; or the newest where that is replaced and the type follows
     pub record NeedsAfter (t j : ℕ) : Type 0 where
       pub f : ℕ
       pub needed : type_interface_dep types t ≡ Some f
-      pub is : ((j ≡ f) × ((is_replaced u f ≡ true) → (list_any (nat_eq t) (following u) ≡ true) → ⊥)) ⊎ ((is_replaced u f ≡ true) × (j ≡ newest u f))
+      pub is : ((j ≡ f) × ((is_replaced u f ≡ true) → (list_any (nat_eq t) (following u) ≡ true) → ⊥)) ⊎ ((is_replaced u f ≡ true) × (list_any (nat_eq t) (following u) ≡ true) × (j ≡ newest u f))
 
     -- the target of an alias has a name
     target_named : (t : ℕ) (def : TypeDef) (target : ℕ) (named : TypeDef) → slice_get types t ≡ Some def → alias_target def.kind ≡ Some target → slice_get types target ≡ Some named
@@ -224,5 +224,5 @@ module _ (u : Upgrade) where
                 let found = found_at (λ (named : TypeDef). (named.name ≡ Some turned.name) × (named.owner ≡ owner.Interface (newest u turned.f))) types some.0 (turned_type t from.0 some.0 turned) in
                 let one = same_at types needs.target some.0 target.0 found.0 same target.1 found.1 in
                 let owned : target.0.owner ≡ owner.Interface (newest u turned.f) = ap (λ (d : TypeDef). d.owner) one ∙ found.2.1 in
-                record { f = turned.f; needed = turned.uses; is = inr (turned.replaced, other_is_interface from.0.owner (newest u turned.f) j (subst (λ (o : TypeOwner). other_owner from.0.owner o ≡ Some j) owned other)) }
+                record { f = turned.f; needed = turned.uses; is = inr (turned.replaced, turned.follows, other_is_interface from.0.owner (newest u turned.f) j (subst (λ (o : TypeOwner). other_owner from.0.owner o ≡ Some j) owned other)) }
           ]

@@ -21,11 +21,13 @@ use Rattle.wit_growth.specs.Good.{HasGoodThings, IsGoodAsAWhole, IsGoodWorld}
 use Rattle.wit_growth.specs.GoodIsValid.{IsValid-from_good, good_things}
 use Rattle.wit_growth.specs.ListFacts.{at_map, found_at, same_at, some_at}
 use Rattle.wit_growth.specs.OnePlaceFacts.{StandOnce-from_places}
+use Rattle.wit_growth.specs.PackageCycleFacts.{acyclic_packages, packages_stay_acyclic}
 use Rattle.wit_growth.specs.AllElaborated.{elaborated_world, graph_package_uses, type_cycle_text}
-use Rattle.wit_tracks.specs.Rewritten.{listed_world, new_target, rewritten}
+use Rattle.wit_tracks.specs.Rewritten.{listed_world, new_target, relisted_at, rewritten}
 use Rattle.wit_tracks.specs.TrackCause.{IsAccepted}
 use Rattle.wit_tracks.specs.Upgrade.{Upgrade}
-use Rattle.wit_tracks_laws.proofs.Accepting.{listed_there, new_aliases, no_type_cycle, relisted_worlds, rewritten_is, uses_acyclic}
+use Rattle.wit_tracks_laws.proofs.Accepting.{complete, elaborates, listed_there, new_aliases, new_exports, new_imports, no_package_cycle, no_type_cycle, relisted_worlds, rewritten_is, uses_acyclic}
+use Rattle.wit_tracks_laws.proofs.ListedUses.{listed_lists_uses}
 use Rattle.wit_tracks_laws.proofs.Merged.{Laws}
 use Rattle.wit_tracks_laws.proofs.TypesAfter.{retargeted_name, retargeted_owner, type_after}
 use Rattle.wit_tracks_laws.proofs.TypesGood.{interface_after, known_after, on_the_way, refers_in_range, refers_to_own, unnamed_plain}
@@ -147,20 +149,46 @@ module _ (laws : Laws) (u : Upgrade) (valid : IsValid u.graph) (w : ℕ) (there 
     ];
   }
 
-  whole_made : IsAcyclic (graph_package_uses made) → IsGoodAsAWhole made
-  whole_made packages = record {
+  -- ---- no package depends on itself
+
+  -- nor did one before the worlds were elaborated
+  listed_acyclic : IsAcyclic (graph_package_uses (relisted_at u w))
+  listed_acyclic =
+      acyclic_packages made.types made.interfaces made.packages things.interfaces_in_tables (relisted_worlds u valid w there) (λ p q home at on.
+      no_package_cycle u valid w there accepted home.name (record { p = p; q = q; on_cycle = on; there = home; is = at; home_is = refl }))
+
+  packages_acyclic : IsAcyclic (graph_package_uses made)
+  packages_acyclic =
+      packages_stay_acyclic laws.entries made.types made.interfaces made.packages (relisted_worlds u valid w there) made.worlds (record {
+        aliases = new_aliases u valid w there;
+        uses = uses_acyclic u valid w there accepted;
+        tables = things.interfaces_in_tables;
+        worlds = λ v world at.
+            let it = world_from laws u valid w there accepted v world at in
+            record {
+              old = it.listed;
+              at = it.at;
+              imports = new_imports u valid w there v it.listed it.at;
+              exports = new_exports u valid w there v it.listed it.at;
+              lists_uses = listed_lists_uses laws.least u valid w there (complete u valid w there accepted) v it.listed it.at;
+              elaborated = subst (Elaborated made.types (uses_of made.types made.interfaces) it.listed) it.is (elaborates u valid w there accepted laws.refused v it.listed it.at);
+            };
+      }) listed_acyclic
+
+  whole_made : IsGoodAsAWhole made
+  whole_made = record {
     package_names = valid.well_formed.package_names;
     once = StandOnce-from_places g.interfaces made.worlds (one_place_new laws u valid w there accepted);
-    no_cycles = record { uses = uses_acyclic u valid w there accepted; types = types_acyclic; packages = packages };
+    no_cycles = record { uses = uses_acyclic u valid w there accepted; types = types_acyclic; packages = packages_acyclic };
     canonical = λ v world at.
         let it = world_from laws u valid w there accepted v world at in
         subst (λ (x : World). Elaborated made.types (uses_of made.types made.interfaces) x x) it.is (done_is_canonical laws u valid w there accepted v it.listed it.at);
   }
 
-  pub valid_made : IsAcyclic (graph_package_uses made) → IsValid made
-  valid_made packages = IsValid-from_good made good_made (whole_made packages)
+  pub valid_made : IsValid made
+  valid_made = IsValid-from_good made good_made whole_made
 
-pub rewritten_is_valid : (laws : Laws) (rule : TrackRule) (g : Graph) (w : ℕ) (old : World) → IsValid g → slice_get g.worlds w ≡ Some old → IsAccepted rule g w → IsAcyclic (graph_package_uses (rewritten rule g w)) → IsValid (rewritten rule g w)
-rewritten_is_valid laws rule g w old valid there accepted packages =
+pub rewritten_is_valid : (laws : Laws) (rule : TrackRule) (g : Graph) (w : ℕ) (old : World) → IsValid g → slice_get g.worlds w ≡ Some old → IsAccepted rule g w → IsValid (rewritten rule g w)
+rewritten_is_valid laws rule g w old valid there accepted =
     let u : Upgrade = record { rule = rule; graph = g; world = old } in
-    subst IsValid (sym (rewritten_is rule g w old there)) (valid_made laws u valid w there accepted (subst (λ (x : Graph). IsAcyclic (graph_package_uses x)) (rewritten_is rule g w old there) packages))
+    subst IsValid (sym (rewritten_is rule g w old there)) (valid_made laws u valid w there accepted)

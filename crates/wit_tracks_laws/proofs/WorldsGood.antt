@@ -23,9 +23,10 @@ use Rattle.wit_graph.specs.Valid.{IsOfPackage, IsValid}
 use Rattle.wit_graph.specs.declared.graph.Graph.{Graph}
 use Rattle.wit_growth.specs.Covered.{IsDependency}
 use Rattle.wit_growth.specs.CutIsGood.{distinct_kept}
+use Rattle.wit_growth.specs.EntryFacts.{key_entry, named_export}
 use Rattle.wit_growth.specs.Good.{HasGoodThings, IsGoodExport, IsGoodImport, IsGoodWorld}
 use Rattle.wit_growth.specs.GoodIsValid.{good_things}
-use Rattle.wit_growth.specs.GoodWorlds.{dependency_export, dependency_import, same_one}
+use Rattle.wit_growth.specs.GoodWorlds.{dependency_export, dependency_import, same_one, settled_is_good}
 use Rattle.wit_growth.specs.ListFacts.{Contains-map, contained_at, from_map, place_of, same_at}
 use Rattle.wit_growth.specs.NamedUses.{IsUsed_named}
 use Rattle.wit_growth.specs.OnePlace.{HasOnePlace, entries_of}
@@ -36,40 +37,13 @@ use Rattle.wit_tracks.specs.Rewritten.{is_replaced_entry, relisted_at}
 use Rattle.wit_tracks.specs.TrackCause.{IsAccepted}
 use Rattle.wit_tracks.specs.Upgrade.{Upgrade, is_replaced}
 use Rattle.wit_tracks_laws.proofs.Accepting.{Relisted, elaborates, in_order, new_aliases, new_exports, new_imports, new_types, new_uses, relisted_from, relisted_worlds, uses_acyclic}
-use Rattle.wit_tracks_laws.proofs.KeptKeys.{key_entry}
 use Rattle.wit_tracks_laws.proofs.Merged.{Laws}
 use Rattle.wit_tracks_laws.proofs.TypesGood.{item_own_after}
-
--- ---- an interface without its span is as good
-
-settled_import : (interfaces : List Interface) (types : List TypeDef) (w : ℕ) (k : WorldKey) (held : WorldItem) → IsImport interfaces types w k held → IsImport interfaces types w k (settled_item held)
-settled_import interfaces types w (key.Interface f) (item.Interface i stability docs span external_id) is = is
-settled_import interfaces types w (key.Interface f) (item.Function fn) is = is
-settled_import interfaces types w (key.Interface f) (item.Type_ t span) is = is
-settled_import interfaces types w (key.Name name) (item.Interface i stability docs span external_id) is = is
-settled_import interfaces types w (key.Name name) (item.Function fn) is = is
-settled_import interfaces types w (key.Name name) (item.Type_ t span) is = is
-
-settled_own : (types : List TypeDef) (w : ℕ) (held : WorldItem) → ItemUsesOwn types w held → ItemUsesOwn types w (settled_item held)
-settled_own types w (item.Interface i stability docs span external_id) own = own
-settled_own types w (item.Function fn) own = own
-settled_own types w (item.Type_ t span) own = own
-
-settled_home : (interfaces : List Interface) (home : Option ℕ) (held : WorldItem) → IsOfPackage interfaces home held → IsOfPackage interfaces home (settled_item held)
-settled_home interfaces home (item.Interface i stability docs span external_id) of = of
-settled_home interfaces home (item.Function fn) of = of
-settled_home interfaces home (item.Type_ t span) of = of
 
 settled_instance : (held : WorldItem) → item_interface (settled_item held) ≡ item_interface held
 settled_instance (item.Interface i stability docs span external_id) = refl
 settled_instance (item.Function f) = refl
 settled_instance (item.Type_ t span) = refl
-
-named_export : (interfaces : List Interface) (k : WorldKey) (held : WorldItem) (j : ℕ) → k ≡ key.Interface j → IsExport interfaces k held → IsNamed interfaces j
-named_export interfaces (key.Name name) held j same is = cc
-named_export interfaces (key.Interface f) (item.Interface i stability docs span external_id) j same is = let one : f ≡ j = cc in subst (IsNamed interfaces) one is.1
-named_export interfaces (key.Interface f) (item.Function fn) j same is = absurd is
-named_export interfaces (key.Interface f) (item.Type_ t span) j same is = absurd is
 
 abbrev entry : WorldKey → WorldItem → Entry
 entry k held = (k, held)
@@ -168,9 +142,7 @@ module _ (laws : Laws) (u : Upgrade) (valid : IsValid u.graph) (w : ℕ) (there 
         ]
 
     good_settled : (f : Entry) → Contains listed.imports f → IsGoodImport types interfaces v done (settled f)
-    good_settled f has =
-        let good = good_listed f has in
-        record { is = settled_import interfaces types v f.0 f.1 good.is; own = settled_own types v f.1 good.own; home = settled_home interfaces done.package f.1 good.home }
+    good_settled f has = settled_is_good types interfaces v done f (good_listed f has)
 
     listed_distinct : HasDistinctKeys listed.imports
     listed_distinct = elim from.either [

@@ -12,8 +12,6 @@ use Rattle.wit_graph.specs.Entries.{ids_of}
 use Rattle.wit_graph.specs.KeptByElaboration.{labelled}
 use Rattle.wit_graph.specs.Valid.{IsValid}
 use Rattle.wit_graph.specs.declared.graph.Graph.{Graph}
-use Rattle.wit_relations.specs.Relation.{IsAcyclic}
-use Rattle.wit_growth.specs.AllElaborated.{graph_package_uses}
 use Rattle.wit_tracks.specs.Rewritten.{relisted, rewritten}
 use Rattle.wit_tracks.specs.TrackCause.{IsAccepted}
 use Rattle.wit_tracks.specs.Tracks.{Versioned, are_on_one_track, versioned}
@@ -63,7 +61,6 @@ WorldsAreElaborated = (rule : TrackRule) (g : Graph) (w : ℕ) (old : World) (v 
     → slice_get (relisted rule g w).worlds v ≡ Some listed → slice_get (rewritten rule g w).worlds v ≡ Some new
     → Elaborated (rewritten rule g w).types (graph_uses (rewritten rule g w)) listed new
 
--- and the graph stays valid, where no package depends on itself after it
+-- and the graph stays valid
 abbrev pub RewrittenStayValid : Type 0
-RewrittenStayValid = (rule : TrackRule) (g : Graph) (w : ℕ) (old : World) → IsValid g → slice_get g.worlds w ≡ Some old → IsAccepted rule g w
-    → IsAcyclic (graph_package_uses (rewritten rule g w)) → IsValid (rewritten rule g w)
+RewrittenStayValid = (rule : TrackRule) (g : Graph) (w : ℕ) (old : World) → IsValid g → slice_get g.worlds w ≡ Some old → IsAccepted rule g w → IsValid (rewritten rule g w)

@@ -63,7 +63,7 @@ pub fn exports_are_kept()
     export_keys_stay();
 }
 
-/// A valid graph stays valid, where no package depends on itself after it.
+/// A valid graph stays valid.
 pub fn rewritten_stay_valid()
     ensures { RewrittenStayValid }
 {
