@@ -176,9 +176,9 @@ pub record IsInConflict (a : Addition) (k : ℕ) (span : Place) (name : List ℕ
 
 -- ---- a world without any
 
--- world k is refused for nothing
+-- world k is refused for nothing; of its includes this is asked where the package has an image
 pub record WorldIsFine (a : Addition) (k : ℕ) : Type 0 where
-  pub includes : (j : ℕ) → IncludeIsFine a k j
+  pub includes : HasImage a → (j : ℕ) → IncludeIsFine a k j
   pub labels : (span : Place) (message : List ℕ) → AreTooAlike a k span message → ⊥
   pub setters : (span : Place) (message : List ℕ) → LacksGetter a k span message → ⊥
   pub exports : (span : Place) (name : List ℕ) → IsInConflict a k span name → ⊥

@@ -14,7 +14,7 @@ use Rattle.wit_graph.specs.Samples.{no_docs}
 use Rattle.wit_growth.specs.TestFacts.{none_in, only_one}
 use Rattle.wit_labels.specs.Examples.{function_entry}
 use Rattle.wit_labels.specs.Setters.{placed}
-use Rattle.wit_adding.specs.Addition.{Addition, active_includes}
+use Rattle.wit_adding.specs.Addition.{Addition, active_includes, own_worlds}
 use Rattle.wit_adding.specs.Cause.{IsReached}
 use Rattle.wit_adding.specs.Cause as reason
 use Rattle.wit_adding.specs.Gates.{Place}
@@ -22,15 +22,15 @@ use Rattle.wit_adding.specs.Gates as asked
 use Rattle.wit_adding.specs.Include.{Lists}
 use Rattle.wit_adding.specs.Pushed.{begun, with_worlds}
 use Rattle.wit_adding.specs.Reasons.{HasImage, LacksVersion}
-use Rattle.wit_adding.specs.WorldReasons.{AreTooAlike, AtInclude, AtWorld, HaveLists, IncludeIsFine, LacksGetter, Mismatches, WorldIsFine}
+use Rattle.wit_adding.specs.WorldReasons.{AreTooAlike, AtInclude, AtWorld, HaveLists, IncludeIsFine, LacksGetter, Mismatches, Shadows, WorldIsFine}
 use Rattle.wit_adding.specs.WorldReasons as world_reason
 use Rattle.wit_adding_examples.proofs.AtWorlds.{at_of, fine_without, no_include, of_first, world_same}
 use Rattle.wit_adding_examples.proofs.HasImage.{image}
 use Rattle.wit_adding_examples.proofs.Matching.{of_alike}
 use Rattle.wit_adding_examples.proofs.WorldCauses.{first_reached, label_same, other_feature}
 use Rattle.wit_adding_examples.proofs.WorldTests.{all_differ, conflict_of, fine, getters_there, has_getters, list_passes, no_clash}
-use Rattle.wit_adding_examples.specs.LaterWorlds.{ExamplesOfLaterWorlds, alike_unversioned, before_alike, include_of, including_unversioned, two_gates}
-use Rattle.wit_adding_examples.specs.Packages.{gate_f, gate_g, since_one}
+use Rattle.wit_adding_examples.specs.LaterWorlds.{ExamplesOfLaterWorlds, alike_unversioned, w_of_alike, before_alike, include_of, including_unversioned, shadowing_first, two_gates}
+use Rattle.wit_adding_examples.specs.Packages.{gate_f, gate_g, loose_interface, since_one}
 
 -- ---- a world with which nothing is wrong
 
@@ -47,7 +47,7 @@ record IsPlain (a : Addition) (k : ℕ) (y : AtWorld a k) : Type 0 where
 
 plain_is_fine : (a : Addition) (k : ℕ) (y : AtWorld a k) → IsPlain a k y → WorldIsFine a k
 plain_is_fine a k y p = record {
-  includes = λ j. fine_without a k j (no_include a k y j (p.no_includes j));
+  includes = λ image j. fine_without a k j (no_include a k y j (p.no_includes j));
   labels = λ span message c.
       no_clash (keys_of c.entries) c.clash.0 c.clash.1 c.n c.m c.clash.2 c.clash.3 c.clash.4 c.clash.5
       (list_passes a k y (λ (es : List Entry). all_differ (keys_of es)) p.import_labels p.export_labels (λ none. p.written_labels) c.world c.lists c.moves c.have c.word c.entries c.list);
@@ -125,6 +125,24 @@ mismatch = record {
 
 -- ---- labels of a world behind another
 
+-- world w as it is written, with the labels that are too alike
+written_alike : (a : Addition) (k place : ℕ) → slice_get (own_worlds a) k ≡ Some (place, w_of_alike)
+    → AreTooAlike a k None (codes "import `AB` in world `w` conflicts with import `ab` (names must be strongly unique)")
+written_alike a k place is = record {
+  world = w_of_alike;
+  lists = _;
+  moves = a.offset;
+  have = world_reason.written (record { place = place; world = w_of_alike; is = is }) refl;
+  word = codes "import";
+  entries = _;
+  list = inl (refl, refl);
+  n = codes "AB";
+  m = codes "ab";
+  clash = (0, 1, lit< tt, refl, refl, refl);
+  span_is = refl;
+  message_is = refl;
+}
+
 abbrev empty_first : AtWorld (before_alike []) 0
 empty_first = record { place = 0; world = _; is = refl }
 
@@ -187,39 +205,86 @@ no_lists : (world : World) (lists : Lists) (moves : ℕ) → HaveLists including
 no_lists _ _ _ (world_reason.made at has fine) = has.version None (codes "package [foo:main] contains a feature gate with a version specifier, so it must have a version") lacks_version
 no_lists _ _ _ (world_reason.written at none) = some_includes (include_of 0) (subst (λ (w : World). w.includes ≡ []) (world_same including_unversioned 0 at unmade_world).1 none)
 
+-- ---- a world behind one whose include is refused
+
+abbrev unmade : Addition
+unmade = shadowing_first (loose_interface (codes "i") [] since_one ∷ [])
+
+unversioned_too : LacksVersion unmade None (codes "package [foo:bar] contains a feature gate with a version specifier, so it must have a version")
+unversioned_too = record { note = since_one; place = None; asked = asked.of_interface 0 _ _ refl (0, lit< tt, refl); stable = tt; no_version = refl; span_is = refl; message_is = refl }
+
+no_image : HasImage unmade → ⊥
+no_image has = has.version None (codes "package [foo:bar] contains a feature gate with a version specifier, so it must have a version") unversioned_too
+
+abbrev including_second : AtWorld unmade 1
+including_second = record { place = 1; world = _; is = refl }
+
+unmade_lists : (world : World) (lists : Lists) (moves : ℕ) → HaveLists unmade 1 world lists moves → ⊥
+unmade_lists _ _ _ (world_reason.made at has fine) = no_image has
+unmade_lists _ _ _ (world_reason.written at none) = some_includes (include_of 0) (subst (λ (w : World). w.includes ≡ []) (world_same unmade 1 at including_second).1 none)
+
+fine_unmade : (i : ℕ) → i < 2 → WorldIsFine unmade i
+fine_unmade zero below = plain_is_fine unmade 0 (record { place = 0; world = _; is = refl }) (record {
+  no_includes = λ j. refl;
+  import_labels = refl;
+  export_labels = refl;
+  written_labels = (refl, refl);
+  import_getters = refl;
+  export_getters = refl;
+  written_getters = (refl, refl);
+  no_exports = refl;
+})
+fine_unmade (suc zero) below = record {
+  includes = λ has j. absurd (no_image has);
+  labels = λ span message c. unmade_lists c.world c.lists c.moves c.have;
+  setters = λ span message c. unmade_lists c.world c.lists c.moves c.have;
+  exports = λ span name c. no_image c.has_image;
+}
+fine_unmade (suc (suc i)) below = absurd (omega (arith, below))
+
+shadowing_image : HasImage (shadowing_first [])
+shadowing_image = image (shadowing_first []) (record { packages = refl; items = refl; types = refl; interfaces = refl; worlds = refl })
+
+abbrev shadowing_world : AtWorld (shadowing_first []) 1
+shadowing_world = record { place = 1; world = _; is = refl }
+
+abbrev shadowing_include : AtInclude (shadowing_first []) 1 0
+shadowing_include = record { at = shadowing_world; include = include_of 0; is = refl; before = _; before_is = refl; old = _; old_is = refl }
+
+shadows : Shadows (shadowing_first []) 1 0 (Some (50, 60)) (codes "import") (codes "f")
+unfolding walk walk_within import_steps import_steps_within
+shadows = record {
+  at = shadowing_include;
+  current = _;
+  brought = _;
+  list = (inl (refl, refl), inl (refl, refl));
+  shadowed = record { before = []; after = []; are = refl; there = (0, lit< tt, refl) };
+  span_is = refl;
+}
+
+refused_lists : (world : World) (lists : Lists) (moves : ℕ) → HaveLists (shadowing_first []) 1 world lists moves → ⊥
+refused_lists _ _ _ (world_reason.made at has fine) = (fine 0).unshadowed (Some (50, 60)) (codes "import") (codes "f") shadows
+refused_lists _ _ _ (world_reason.written at none) = some_includes (include_of 0) (subst (λ (w : World). w.includes ≡ []) (world_same (shadowing_first []) 1 at shadowing_world).1 none)
+
+behind_shadowing : (span : Place) (message : List ℕ) (k : ℕ) → IsReached (shadowing_first []) k → AreTooAlike (shadowing_first []) k span message → ⊥
+behind_shadowing span message zero reached c =
+    let passes : all_differ (keys_of c.entries) ≡ true =
+    list_passes (shadowing_first []) 0 (record { place = 0; world = _; is = refl }) (λ (es : List Entry). all_differ (keys_of es)) refl refl (λ none. (refl, refl)) c.world c.lists c.moves c.have c.word c.entries c.list in
+    no_clash (keys_of c.entries) c.clash.0 c.clash.1 c.n c.m c.clash.2 c.clash.3 c.clash.4 c.clash.5 passes
+behind_shadowing span message (suc zero) reached c = refused_lists c.world c.lists c.moves c.have
+behind_shadowing span message (suc (suc k)) reached c =
+    let below : 1 < suc (suc k) = omega arith in
+    ((reached 1 below).includes shadowing_image 0).unshadowed (Some (50, 60)) (codes "import") (codes "f") shadows
+
 pub later_worlds : ExamplesOfLaterWorlds
 later_worlds = record {
   second_include = reason.mismatch_8 2 1 _ _ _ (record { has_image = gates_image; worlds = fine_before; includes = include_fine }) mismatch;
-  second_world = reason.not_strongly_unique_17 1 _ _ nothing_before (record {
-    world = _;
-    lists = _;
-    moves = 0;
-    have = world_reason.written (record { place = 1; world = _; is = refl }) refl;
-    word = codes "import";
-    entries = _;
-    list = inl (refl, refl);
-    n = codes "AB";
-    m = codes "ab";
-    clash = (0, 1, lit< tt, refl, refl, refl);
-    span_is = refl;
-    message_is = refl;
-  });
+  second_world = reason.not_strongly_unique_17 1 _ _ nothing_before (written_alike (before_alike []) 1 1 refl);
   first_told = λ span message c. let found = of_alike setter_first span message c in first_told span message found.0 found.1 found.2;
-  unversioned = reason.not_strongly_unique_17 0 _ _ (first_reached alike_unversioned) (record {
-    world = _;
-    lists = _;
-    moves = 0;
-    have = world_reason.written (record { place = 0; world = _; is = refl }) refl;
-    word = codes "import";
-    entries = _;
-    list = inl (refl, refl);
-    n = codes "AB";
-    m = codes "ab";
-    clash = (0, 1, lit< tt, refl, refl, refl);
-    span_is = refl;
-    message_is = refl;
-  });
+  unversioned = reason.not_strongly_unique_17 0 _ _ (first_reached alike_unversioned) (written_alike alike_unversioned 0 0 refl);
   including = λ span message c.
       let found = of_alike including_unversioned span message c in
       of_first including_unversioned (λ k. refl) (λ (k : ℕ). AreTooAlike including_unversioned k span message) (λ k x. at_of _ k x.world x.lists x.moves x.have) (λ x. no_lists x.world x.lists x.moves x.have) found.0 found.2;
+  behind_unmade = reason.not_strongly_unique_17 2 _ _ fine_unmade (written_alike unmade 2 2 refl);
+  behind_shadowing = λ span message c. let found = of_alike (shadowing_first []) span message c in behind_shadowing span message found.0 found.1 found.2;
 }

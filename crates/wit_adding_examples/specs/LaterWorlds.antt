@@ -1,7 +1,9 @@
 -- Which world of a package is told of, and what is told of a package without an image.
 use Rattle.std.specs.Prelude.{ℕ, List, [], ◌∷◌, Some, None, codes}
 use Rattle.wit_items.specs.Entries.{Entry}
+use Rattle.wit_items.specs.declared.interface.Interface.{Interface}
 use Rattle.wit_items.specs.declared.stability.Stability.TheVariants.{Unknown}
+use Rattle.wit_items.specs.declared.world.World.{World}
 use Rattle.wit_items.specs.declared.world.WorldInclude.{WorldInclude}
 use Rattle.wit_graph.specs.Examples.{empty_graph}
 use Rattle.wit_graph.specs.Samples.{sample}
@@ -28,9 +30,13 @@ two_gates = adding all_features empty_graph (package_of [] (loose_interface (cod
 abbrev pub alike_entries : List Entry
 alike_entries = function_entry (codes "ab") ∷ function_entry (codes "AB") ∷ []
 
--- a world v of these imports, and a world w whose labels are too alike
+-- world w with them
+abbrev pub w_of_alike : World
+w_of_alike = loose_world (codes "w") alike_entries [] []
+
+-- a world v of these imports, and w
 abbrev pub before_alike : List Entry → Addition
-before_alike imports = adding no_features empty_graph (package_of [] [] (loose_world (codes "v") imports [] [] ∷ loose_world (codes "w") alike_entries [] [] ∷ []))
+before_alike imports = adding no_features empty_graph (package_of [] [] (loose_world (codes "v") imports [] [] ∷ w_of_alike ∷ []))
 
 -- the error that tells of w
 abbrev pub w_is_alike : ResolveErrorKind
@@ -45,6 +51,11 @@ abbrev pub including_unversioned : Addition
 including_unversioned =
     adding no_features (sample [] []) (record (including_lists alike_entries []) { interfaces = loose_interface (codes "a") [] Unknown ∷ loose_interface (codes "i") [] since_one ∷ [] })
 
+-- worlds b and d with a function f each, of which d includes b, which brings f again, and w, beside these interfaces
+abbrev pub shadowing_first : List Interface → Addition
+shadowing_first interfaces = adding no_features empty_graph (package_of [] interfaces
+    (loose_world (codes "b") (function_entry (codes "f") ∷ []) [] [] ∷ loose_world (codes "d") (function_entry (codes "f") ∷ []) [] (include_of 0 ∷ []) ∷ w_of_alike ∷ []))
+
 -- worlds one after another, and packages without an image
 pub record ExamplesOfLaterWorlds : Type 0 where
   -- 8: at the second include of the third world
@@ -55,3 +66,6 @@ pub record ExamplesOfLaterWorlds : Type 0 where
   -- 17 without an image: of a world that includes nothing, and not of one that does
   pub unversioned : IsCause alike_unversioned w_is_alike
   pub including : (span : Place) (message : List ℕ) → IsCause including_unversioned (Semantic span message cause.NotStronglyUnique) → ⊥
+  -- nor is it asked then what worlds before it include; where there is an image, 7 is told of d, and 17 of none
+  pub behind_unmade : IsCause (shadowing_first (loose_interface (codes "i") [] since_one ∷ [])) w_is_alike
+  pub behind_shadowing : (span : Place) (message : List ℕ) → IsCause (shadowing_first []) (Semantic span message cause.NotStronglyUnique) → ⊥

@@ -152,14 +152,14 @@ module _ (a : Addition) where
     module _ (laws : LawsUsed) (image : HasImage a) (stands : StandsSoFar (stage a k)) (fine : WorldIsFine a k) where
       no_conflict : HasConflict (graph_uses whole.graph) (placed whole.lists.exports) → ⊥
       no_conflict conflict =
-          let so_far = whole_stands stands fine.includes in
+          let so_far = whole_stands stands (fine.includes image) in
           let there = slice_get-behind before (drop (suc k) (listed_images a)) (begun_world a e whole.lists) in
           let refused = (laws.refused whole.graph.types (graph_uses whole.graph) (placed whole.lists.imports) (placed whole.lists.exports) so_far.uses
           (placed_in_order (staged a before k e whole) so_far (length before) (begun_world a e whole.lists) there)).0 conflict in
           fine.exports (moved_by a.offset e.1.span) (key_text whole.graph.packages whole.graph.interfaces refused.0) (record {
             at = record { place = e.0; world = e.1; is = at };
             has_image = image;
-            includes_are_fine = fine.includes;
+            includes_are_fine = fine.includes image;
             b = whole;
             is = refl;
             conflict = conflict;
@@ -168,7 +168,7 @@ module _ (a : Addition) where
           })
 
       pub next_stands : StandsSoFar (stage a (suc k))
-      next_stands = subst StandsSoFar (sym stage_next) (finish_step laws.worlds a before k e whole (whole_stands stands fine.includes) no_conflict)
+      next_stands = subst StandsSoFar (sym stage_next) (finish_step laws.worlds a before k e whole (whole_stands stands (fine.includes image)) no_conflict)
 
       -- worlds stay canonical, and the new one is
       pub next_canonical : Each (λ (world : World). Elaborated (with_worlds a k).types (graph_uses (with_worlds a k)) world world) before
@@ -178,7 +178,7 @@ module _ (a : Addition) where
           (subst (λ (ws : List World). Each (λ (world : World). Elaborated whole.graph.types (graph_uses whole.graph) world world) (ws ++ finished a e.0 e.1 whole ∷ [])) (sym whole_more.worlds_are) all)
         where
           so_far : StandsSoFar (staged a before k e whole)
-          so_far = whole_stands stands fine.includes
+          so_far = whole_stands stands (fine.includes image)
 
           old_one : (w : ℕ) (world : World) → slice_get before w ≡ Some world → Elaborated whole.graph.types (graph_uses whole.graph) world world
           old_one w world there =

@@ -301,7 +301,7 @@ module _ (a : Addition) where
   -- a world of which its stage is fine is fine
   pub world_is_fine : (k : ℕ) → ((at : AtWorld a k) → local.IsFineWorld home (with_worlds a k) (image_at at.place at.world) (placed_includes a at.world)) → WorldIsFine a k
   world_is_fine k fine = record {
-    includes = λ j. include_is_fine k j (λ at. (fine at).includes_are j);
+    includes = λ image j. include_is_fine k j (λ at. (fine at).includes_are j);
     labels = λ span message is.
         let two = alike k is.world is.lists is.moves is.word is.entries is.n is.m is.have is.list is.clash in
         (fine two.at).finished.no_cause _ (finish_not_strongly_unique_17 two.word two.n two.m two.clash);

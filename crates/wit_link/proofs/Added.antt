@@ -40,8 +40,8 @@ module _ (a : Addition) (is_new : IsNew a) (checked : IsChecked a) (each_world :
   is_accepted _ (interface_not_found_3 span requested home is) = checked.found.interfaces span requested home is
   is_accepted _ (conflict_4 k span name reached is) = (each_world k).exports span name is
   is_accepted _ (duplicate_5 name span1 span2 is) = is_new.absent is.there
-  is_accepted _ (shadowing_7 k j span word name reached is) = ((each_world k).includes j).unshadowed span word name is
-  is_accepted _ (mismatch_8 k j span from into reached is) = ((each_world k).includes j).agrees span from into is
+  is_accepted _ (shadowing_7 k j span word name reached is) = ((each_world k).includes reached.has_image j).unshadowed span word name is
+  is_accepted _ (mismatch_8 k j span from into reached is) = ((each_world k).includes reached.has_image j).agrees span from into is
   is_accepted _ (gate_without_version_9 span message is) = checked.met.version span message is
   is_accepted _ (gate_unreleased_10 span message is) = checked.met.released span message is
   is_accepted _ (excluded_11 span message is) = checked.needs.references span message is
@@ -49,7 +49,7 @@ module _ (a : Addition) (is_new : IsNew a) (checked : IsChecked a) (each_world :
   is_accepted _ (type_not_defined_13 span message is) = checked.found.types span message is
   is_accepted _ (not_a_resource_14 span message is) = checked.resources span message is
   is_accepted _ (borrow_in_result_15 span message is) = checked.no_borrow span message is
-  is_accepted _ (rename_unmatched_16 k j span message reached is) = ((each_world k).includes j).renames span message is
+  is_accepted _ (rename_unmatched_16 k j span message reached is) = ((each_world k).includes reached.has_image j).renames span message is
   is_accepted _ (not_strongly_unique_17 k span message reached is) = (each_world k).labels span message is
   is_accepted _ (no_getter_18 k span message reached is) = (each_world k).setters span message is
   is_accepted _ (offset_overflow_27 is) = is_new.fits is

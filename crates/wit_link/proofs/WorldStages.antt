@@ -80,7 +80,7 @@ module _ (a : Addition) (k : ℕ) (past : length (own_worlds a) ≤ k) where
   -- where there is no world nothing speaks against it
   pub none_fine : WorldIsFine a k
   none_fine = record {
-    includes = λ j. record {
+    includes = λ image j. record {
       unshadowed = λ span word name is. no_world is.at.at;
       agrees = λ span brings has is. no_world is.at.at;
       renames = λ span message is. no_world is.at.at;

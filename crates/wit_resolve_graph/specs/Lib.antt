@@ -1,4 +1,5 @@
 pub mod Examples
+pub mod FilesExamples
 pub mod Merging
 pub mod Grouping
 pub mod Named

@@ -1,5 +1,6 @@
 //! A law of runs, and examples of the definitions: the contract of each function is what is proved.
 ghost use Rattle.wit_resolve_graph.specs.Examples.{ExamplesOfRuns, ExamplesOfSelection};
+ghost use Rattle.wit_resolve_graph.specs.FilesExamples.{ExamplesOfFiles};
 ghost use Rattle.wit_resolve_graph.specs.SourcesExamples.{ExamplesOfSources};
 ghost use Rattle.wit_resolve_graph.specs.RunLaws.{RunsKeep};
 
@@ -21,4 +22,9 @@ pub fn examples_of_runs()
 /// Of a source that can't be read after one that is there.
 pub fn examples_of_sources()
     ensures { ExamplesOfSources }
+{}
+
+/// Files that fit behind others up to the last position.
+pub fn examples_of_files()
+    ensures { ExamplesOfFiles }
 {}
