@@ -367,10 +367,10 @@ module _ (old : State) (main : Group) (deps : List Group) (packages : List Hande
       from.1 ∙ ap (λ (i : ℕ). Some i) (one_place handed (differ handed sortable) from.0 (length main.nested) main.main.name own (main_name old.source_map.end main deps))
 
   -- the packages are added
-  pub pushes : (new : State) (r : Result ℕ ResolveErrorKind) → files_end old.source_map.end (main ∷ deps) < 2 ^ 32 → new.features ≡ old.features → new.source_map ≡ with_files old.source_map (main ∷ deps)
+  pub pushes : (new : State) (r : Result ℕ ResolveErrorKind) → files_end old.source_map.end (main ∷ deps) < 2 ^ 32 → new.features ≡ old.features → new.track_rule ≡ old.track_rule → new.source_map ≡ with_files old.source_map (main ∷ deps)
       → IfOk r (λ id. AreAdded old.features old.graph packages name id new.graph) → IfOk r (λ id. PushesGroups old main deps id new)
-  pushes new (Err kind) fits features files are = tt
-  pushes new (Ok id) fits features files are =
+  pushes new (Err kind) fits features rule files are = tt
+  pushes new (Ok id) fits features rule files are =
       let added : AreAdded old.features old.graph handed main.main.name id new.graph =
       subst (λ (l : List Handed). AreAdded old.features old.graph l main.main.name id new.graph) taken (subst (λ (n : PackageName). AreAdded old.features old.graph packages n id new.graph) named are) in
       record {
@@ -385,6 +385,7 @@ module _ (old : State) (main : Group) (deps : List Group) (packages : List Hande
         main_is = main_first added.order added.sorted added.place added.sortable added.are_sorted added.name_is;
         id_is = added.id_is;
         features = features;
+        rule = rule;
         files = files;
       }
 
@@ -393,23 +394,24 @@ module _ (old : State) (main : Group) (deps : List Group) (packages : List Hande
   never_pushed new (Err kind) far = tt
 
   -- they are refused, and the files stay
-  pub refuses : (new : State) (r : Result ℕ ResolveErrorKind) → (r ≡ Err OffsetOverflow → ⊥) → OnErr r (new.graph ≡ old.graph) → new.features ≡ old.features → new.source_map ≡ with_files old.source_map (main ∷ deps)
+  pub refuses : (new : State) (r : Result ℕ ResolveErrorKind) → (r ≡ Err OffsetOverflow → ⊥) → OnErr r (new.graph ≡ old.graph) → new.features ≡ old.features → new.track_rule ≡ old.track_rule → new.source_map ≡ with_files old.source_map (main ∷ deps)
       → IfErr r (λ kind. (kind ≡ OutOfMemory) ⊎ Speaks packages kind) → IfErr r (λ kind. RefusesGroups old main deps kind new)
-  refuses new (Ok id) other graph features files cause = tt
-  refuses new (Err kind) other graph features files cause = record {
+  refuses new (Ok id) other graph features rule files cause = tt
+  refuses new (Err kind) other graph features rule files cause = record {
     cause = groups_cause kind cause;
     graph = graph;
     features = features;
+    rule = rule;
     files = files_after kind old.source_map (main ∷ deps) new.source_map (λ e. other (ap Err e)) files;
   }
 
   -- or they are taken back
-  pub takes_back : (new : State) (r : Result ℕ ResolveErrorKind) → r ≡ Err OffsetOverflow → OnErr r (new.graph ≡ old.graph) → new.features ≡ old.features → new.source_map ≡ old.source_map
+  pub takes_back : (new : State) (r : Result ℕ ResolveErrorKind) → r ≡ Err OffsetOverflow → OnErr r (new.graph ≡ old.graph) → new.features ≡ old.features → new.track_rule ≡ old.track_rule → new.source_map ≡ old.source_map
       → IfErr r (λ kind. (kind ≡ OutOfMemory) ⊎ Speaks packages kind) → IfErr r (λ kind. RefusesGroups old main deps kind new)
-  takes_back new (Ok id) far graph features files cause = tt
-  takes_back new (Err kind) far graph features files cause =
+  takes_back new (Ok id) far graph features rule files cause = tt
+  takes_back new (Err kind) far graph features rule files cause =
       let overflow : kind ≡ OffsetOverflow = cc in
-      record { cause = groups_cause kind cause; graph = graph; features = features; files = files_stay kind old.source_map (main ∷ deps) new.source_map (inr overflow) files }
+      record { cause = groups_cause kind cause; graph = graph; features = features; rule = rule; files = files_stay kind old.source_map (main ∷ deps) new.source_map (inr overflow) files }
 
   -- what speaks against the groups refuses them
   pub must_refuse : (P : Type 0) → files_end old.source_map.end (main ∷ deps) < 2 ^ 32 → ((kind : ResolveErrorKind) → Speaks packages kind → P)

@@ -6,7 +6,9 @@ use Rattle.wit_values.specs.Lists.{kept-cases, slice_get-append, slice_get-set}
 use Rattle.wit_items.specs.Each.{EachAt, SomeAt}
 use Rattle.wit_graph.specs.declared.features.Features.{Features}
 use Rattle.wit_items.specs.declared.interface.Interface.{Interface}
+use Rattle.wit_items.specs.declared.stability.Stability.{Stability}
 use Rattle.wit_items.specs.declared.types.TypeDef.{TypeDef}
+use Rattle.wit_items.specs.declared.types.TypeDefKind.{TypeDefKind}
 use Rattle.wit_items.specs.declared.world.World.{World}
 use Rattle.wit_items.specs.declared.world.WorldInclude.{WorldInclude}
 use Rattle.wit_graph.specs.declared.graph.Graph.{Graph}
@@ -23,13 +25,16 @@ use Rattle.wit_merging.specs.Matches.{Merging}
 use Rattle.wit_merging.specs.Staying.{SameHome, SameInterface, SamePackage, SameType}
 use Rattle.wit_merging.specs.United.{united}
 use Rattle.wit_merging_laws.specs.KeptFacts.{interfaces_stay, names_stay, packages_stay, types_stay, worlds_stay}
+use Rattle.wit_tracks.specs.Rewritten.{rewritten}
+use Rattle.wit_tracks.specs.Staying.{IsAlias, SameButLists, SameButTarget, SameKind}
+use Rattle.wit_tracks_laws.specs.TrackLaws.{KeepsThings, RewrittenKeep}
 use Rattle.wit_resolve_graph.specs.Merging.{merging}
-use Rattle.wit_resolve_graph.specs.RunLaws.{Keeps, RunsKeep}
+use Rattle.wit_resolve_graph.specs.RunLaws.{Keeps, KeepsType, RunsKeep}
 use Rattle.wit_resolve_graph.specs.State.{State}
 use Rattle.wit_resolve_graph.specs.Step.{Step, answers_at}
 use Rattle.wit_unite.specs.Turned.{Turn, exportized, importized, put_last, turned, turned_at, turned_world, with_renamed}
 use Rattle.wit_resolve_graph.specs.declared.command.Command.{Command}
-use Rattle.wit_resolve_graph.specs.declared.command.Command.TheVariants.{AddFeature, SetAllFeatures, PushGroups, Merge, Importize, Exportize, Semver}
+use Rattle.wit_resolve_graph.specs.declared.command.Command.TheVariants.{AddFeature, SetAllFeatures, SetTrackRule, PushGroups, Merge, Importize, Exportize, Semver}
 use Rattle.wit_resolve_graph.specs.declared.command.Reply.{Reply}
 use Rattle.wit_resolve_graph.specs.declared.command.Reply.TheVariants as reply
 
@@ -43,9 +48,24 @@ more_again {X} xs ys zs first second =
 same_interface : (interface : Interface) → SameInterface interface interface
 same_interface interface = record { name = refl; home = refl; types = nothing_more interface.types; functions = nothing_more interface.functions }
 
+same_type : (def : TypeDef) → KeepsType def def
+same_type def = record { rest = refl; kind = inl refl }
+
+kind_again : (a b c : TypeDefKind) → SameKind a b → SameKind b c → SameKind a c
+kind_again a b c (inl first) (inl second) = inl (second ∙ first)
+kind_again a b c (inl first) (inr second) = inr (subst IsAlias first second.0, second.1)
+kind_again a b c (inr first) (inl second) = inr (first.0, subst IsAlias (sym second) first.1)
+kind_again a b c (inr first) (inr second) = inr (first.0, second.1)
+
+type_again : (a b c : TypeDef) → KeepsType a b → KeepsType b c → KeepsType a c
+type_again a b c first second = record {
+  rest = second.rest ∙ ap (λ (d : TypeDef). record d { kind = c.kind; stability = c.stability }) first.rest;
+  kind = kind_again a.kind b.kind c.kind first.kind second.kind;
+}
+
 keeps_all : (g : Graph) → Keeps g g
 keeps_all g = record {
-  types = λ t def at. some_at (SameType def) g.types t def at refl;
+  types = λ t def at. some_at (KeepsType def) g.types t def at (same_type def);
   interfaces = λ i interface at. some_at (SameInterface interface) g.interfaces i interface at (same_interface interface);
   worlds = λ w world at. some_at (SameHome world) g.worlds w world at refl;
   packages = λ p home at. some_at (SamePackage home) g.packages p home at (refl, nothing_more home.interfaces);
@@ -55,9 +75,9 @@ keeps_all g = record {
 keeps_on : (g h k : Graph) → Keeps g h → Keeps h k → Keeps g k
 keeps_on g h k first second = record {
   types = λ t def at.
-      let mid = found_at (SameType def) h.types t (first.types t def at) in
-      let last = found_at (SameType mid.0) k.types t (second.types t mid.0 mid.1) in
-      some_at (SameType def) k.types t last.0 last.1 (last.2 ∙ ap (λ (d : TypeDef). record d { stability = last.0.stability }) mid.2);
+      let mid = found_at (KeepsType def) h.types t (first.types t def at) in
+      let last = found_at (KeepsType mid.0) k.types t (second.types t mid.0 mid.1) in
+      some_at (KeepsType def) k.types t last.0 last.1 (type_again def mid.0 last.0 mid.2 last.2);
   interfaces = λ i interface at.
       let mid = found_at (SameInterface interface) h.interfaces i (first.interfaces i interface at) in
       let last = found_at (SameInterface mid.0) k.interfaces i (second.interfaces i mid.0 mid.1) in
@@ -89,8 +109,8 @@ keeps_with_worlds g worlds = record {
 }
 
 -- types and interfaces with others behind them
-types_behind : (xs ys : List TypeDef) → EachAt (λ t (def : TypeDef). SomeAt (xs ++ ys) t (SameType def)) xs
-types_behind xs ys t def at = some_at (SameType def) (xs ++ ys) t def (slice_get-append xs ys t def at) refl
+types_behind : (xs ys : List TypeDef) → EachAt (λ t (def : TypeDef). SomeAt (xs ++ ys) t (KeepsType def)) xs
+types_behind xs ys t def at = some_at (KeepsType def) (xs ++ ys) t def (slice_get-append xs ys t def at) (same_type def)
 
 interfaces_behind : (xs ys : List Interface) → EachAt (λ i (interface : Interface). SomeAt (xs ++ ys) i (SameInterface interface)) xs
 interfaces_behind xs ys i interface at = some_at (SameInterface interface) (xs ++ ys) i interface (slice_get-append xs ys i interface at) (same_interface interface)
@@ -191,9 +211,42 @@ keeps_turned g w f = by (slice_get g.worlds w) refl
     by None none = keeps_all g
     by (Some old) there = keeps_turned_at g w old (f old) there
 
+-- all but the stability, or all but what an alias names, is kept
+but_stability : (old new : TypeDef) → SameType old new → KeepsType old new
+but_stability old new same =
+    let kinds : new.kind ≡ old.kind = ap (λ (d : TypeDef). d.kind) same in
+    record { rest = same ∙ ap (λ (k : TypeDefKind). record old { kind = k; stability = new.stability }) (sym kinds); kind = inl kinds }
+
+but_target : (old new : TypeDef) → SameButTarget old new → KeepsType old new
+but_target old new same =
+    let stabilities : new.stability ≡ old.stability = ap (λ (d : TypeDef). d.stability) same.0 in
+    record { rest = same.0 ∙ ap (λ (s : Stability). record old { kind = new.kind; stability = s }) (sym stabilities); kind = same.1 }
+
 -- a merge keeps it
 keeps_united : (m : Merging) → Keeps m.graph (united m)
-keeps_united m = record { types = types_stay m; interfaces = interfaces_stay m; worlds = worlds_stay m; packages = packages_stay m; names = names_stay m }
+keeps_united m = record {
+  types = λ t def at.
+      let there = found_at (SameType def) (united m).types t (types_stay m t def at) in
+      some_at (KeepsType def) (united m).types t there.0 there.1 (but_stability def there.0 there.2);
+  interfaces = interfaces_stay m;
+  worlds = worlds_stay m;
+  packages = packages_stay m;
+  names = names_stay m;
+}
+
+-- so does what keeps all but the lists of worlds and what aliases name
+keeps_things : (g h : Graph) → KeepsThings g h → Keeps g h
+keeps_things g h kept = record {
+  types = λ t def at.
+      let there = found_at (SameButTarget def) h.types t (kept.types t def at) in
+      some_at (KeepsType def) h.types t there.0 there.1 (but_target def there.0 there.2);
+  interfaces = λ i interface at. some_at (SameInterface interface) h.interfaces i interface (ap (λ (l : List Interface). slice_get l i) kept.interfaces ∙ at) (same_interface interface);
+  worlds = λ w world at.
+      let there = found_at (SameButLists world) h.worlds w (kept.worlds w world at) in
+      some_at (SameHome world) h.worlds w there.0 there.1 (ap (λ (x : World). x.package) there.2);
+  packages = λ p home at. some_at (SamePackage home) h.packages p home (ap (λ (l : List Package). slice_get l p) kept.packages ∙ at) (refl, nothing_more home.interfaces);
+  names = ([], kept.names ∙ sym (append-nil g.package_names));
+}
 
 same_graph : (old new : State) → new.graph ≡ old.graph → Keeps old.graph new.graph
 same_graph old new same = subst (Keeps old.graph) (sym same) (keeps_all old.graph)
@@ -201,48 +254,54 @@ same_graph old new same = subst (Keeps old.graph) (sym same) (keeps_all old.grap
 unchanged : (old new : State) → new ≡ old → Keeps old.graph new.graph
 unchanged old new same = same_graph old new (ap (λ (s : State). s.graph) same)
 
-keeps_step : (old : State) (command : Command) (answer : Reply) (new : State) → Step old command answer new → Keeps old.graph new.graph
-keeps_step old (AddFeature name) reply.Done new step = same_graph old new (ap (λ (s : State). s.graph) step)
-keeps_step old (AddFeature name) (reply.Pushed id) new step = absurd step
-keeps_step old (AddFeature name) (reply.Merged remap) new step = absurd step
-keeps_step old (AddFeature name) reply.NoWorld new step = absurd step
-keeps_step old (AddFeature name) (reply.Refused error) new step = unchanged old new step.1
-keeps_step old (SetAllFeatures all) reply.Done new step = same_graph old new (ap (λ (s : State). s.graph) step)
-keeps_step old (SetAllFeatures all) (reply.Pushed id) new step = absurd step
-keeps_step old (SetAllFeatures all) (reply.Merged remap) new step = absurd step
-keeps_step old (SetAllFeatures all) reply.NoWorld new step = absurd step
-keeps_step old (SetAllFeatures all) (reply.Refused error) new step = absurd step
-keeps_step old (PushGroups main deps) reply.Done new step = absurd step
-keeps_step old (PushGroups main deps) (reply.Pushed id) new step = keeps_pushes old.features old.graph step.sorted new.graph step.ids step.are_pushed
-keeps_step old (PushGroups main deps) (reply.Merged remap) new step = absurd step
-keeps_step old (PushGroups main deps) reply.NoWorld new step = absurd step
-keeps_step old (PushGroups main deps) (reply.Refused error) new step = same_graph old new step.graph
-keeps_step old (Merge other) reply.Done new step = absurd step
-keeps_step old (Merge other) (reply.Pushed id) new step = absurd step
-keeps_step old (Merge other) (reply.Merged remap) new step = subst (Keeps old.graph) (sym step.graph) (keeps_united (merging old other))
-keeps_step old (Merge other) reply.NoWorld new step = absurd step
-keeps_step old (Merge other) (reply.Refused error) new step = same_graph old new step.graph
-keeps_step old (Importize home world out) reply.Done new step =
-    subst (λ (s : State). Keeps old.graph s.graph) (sym step.is_turned) (keeps_turned old.graph step.w (importized out))
-keeps_step old (Importize home world out) (reply.Pushed id) new step = absurd step
-keeps_step old (Importize home world out) (reply.Merged remap) new step = absurd step
-keeps_step old (Importize home world out) reply.NoWorld new step = unchanged old new step.1
-keeps_step old (Importize home world out) (reply.Refused error) new step = unchanged old new step.same
-keeps_step old (Exportize home world out keys) reply.Done new step =
-    subst (λ (s : State). Keeps old.graph s.graph) (sym step.is_turned) (keeps_turned old.graph step.w (exportized (answers_at old keys step.w) out))
-keeps_step old (Exportize home world out keys) (reply.Pushed id) new step = absurd step
-keeps_step old (Exportize home world out keys) (reply.Merged remap) new step = absurd step
-keeps_step old (Exportize home world out keys) reply.NoWorld new step = unchanged old new step.1
-keeps_step old (Exportize home world out keys) (reply.Refused error) new step = unchanged old new step.same
-keeps_step old (Semver home world) reply.Done new step = absurd step
-keeps_step old (Semver home world) (reply.Pushed id) new step = absurd step
-keeps_step old (Semver home world) (reply.Merged remap) new step = absurd step
-keeps_step old (Semver home world) reply.NoWorld new step = unchanged old new step.1
-keeps_step old (Semver home world) (reply.Refused error) new step = absurd step
+keeps_step : RewrittenKeep → (old : State) (command : Command) (answer : Reply) (new : State) → Step old command answer new → Keeps old.graph new.graph
+keeps_step kept old (AddFeature name) reply.Done new step = same_graph old new (ap (λ (s : State). s.graph) step)
+keeps_step kept old (AddFeature name) (reply.Pushed id) new step = absurd step
+keeps_step kept old (AddFeature name) (reply.Merged remap) new step = absurd step
+keeps_step kept old (AddFeature name) reply.NoWorld new step = absurd step
+keeps_step kept old (AddFeature name) (reply.Refused error) new step = unchanged old new step.1
+keeps_step kept old (SetAllFeatures all) reply.Done new step = same_graph old new (ap (λ (s : State). s.graph) step)
+keeps_step kept old (SetAllFeatures all) (reply.Pushed id) new step = absurd step
+keeps_step kept old (SetAllFeatures all) (reply.Merged remap) new step = absurd step
+keeps_step kept old (SetAllFeatures all) reply.NoWorld new step = absurd step
+keeps_step kept old (SetAllFeatures all) (reply.Refused error) new step = absurd step
+keeps_step kept old (SetTrackRule rule) reply.Done new step = same_graph old new (ap (λ (s : State). s.graph) step)
+keeps_step kept old (SetTrackRule rule) (reply.Pushed id) new step = absurd step
+keeps_step kept old (SetTrackRule rule) (reply.Merged remap) new step = absurd step
+keeps_step kept old (SetTrackRule rule) reply.NoWorld new step = absurd step
+keeps_step kept old (SetTrackRule rule) (reply.Refused error) new step = absurd step
+keeps_step kept old (PushGroups main deps) reply.Done new step = absurd step
+keeps_step kept old (PushGroups main deps) (reply.Pushed id) new step = keeps_pushes old.features old.graph step.sorted new.graph step.ids step.are_pushed
+keeps_step kept old (PushGroups main deps) (reply.Merged remap) new step = absurd step
+keeps_step kept old (PushGroups main deps) reply.NoWorld new step = absurd step
+keeps_step kept old (PushGroups main deps) (reply.Refused error) new step = same_graph old new step.graph
+keeps_step kept old (Merge other) reply.Done new step = absurd step
+keeps_step kept old (Merge other) (reply.Pushed id) new step = absurd step
+keeps_step kept old (Merge other) (reply.Merged remap) new step = subst (Keeps old.graph) (sym step.graph) (keeps_united (merging old other))
+keeps_step kept old (Merge other) reply.NoWorld new step = absurd step
+keeps_step kept old (Merge other) (reply.Refused error) new step = same_graph old new step.graph
+keeps_step kept old (Importize home world out) reply.Done new step =
+    subst (λ (s : State). Keeps old.graph s.graph) (sym step.is_changed) (keeps_turned old.graph step.w (importized out))
+keeps_step kept old (Importize home world out) (reply.Pushed id) new step = absurd step
+keeps_step kept old (Importize home world out) (reply.Merged remap) new step = absurd step
+keeps_step kept old (Importize home world out) reply.NoWorld new step = unchanged old new step.1
+keeps_step kept old (Importize home world out) (reply.Refused error) new step = unchanged old new step.same
+keeps_step kept old (Exportize home world out keys) reply.Done new step =
+    subst (λ (s : State). Keeps old.graph s.graph) (sym step.is_changed) (keeps_turned old.graph step.w (exportized (answers_at old keys step.w) out))
+keeps_step kept old (Exportize home world out keys) (reply.Pushed id) new step = absurd step
+keeps_step kept old (Exportize home world out keys) (reply.Merged remap) new step = absurd step
+keeps_step kept old (Exportize home world out keys) reply.NoWorld new step = unchanged old new step.1
+keeps_step kept old (Exportize home world out keys) (reply.Refused error) new step = unchanged old new step.same
+keeps_step kept old (Semver home world) reply.Done new step =
+    subst (λ (s : State). Keeps old.graph s.graph) (sym step.is_changed) (keeps_things old.graph (rewritten old.track_rule old.graph step.w) (kept old.track_rule old.graph step.w))
+keeps_step kept old (Semver home world) (reply.Pushed id) new step = absurd step
+keeps_step kept old (Semver home world) (reply.Merged remap) new step = absurd step
+keeps_step kept old (Semver home world) reply.NoWorld new step = unchanged old new step.1
+keeps_step kept old (Semver home world) (reply.Refused error) new step = unchanged old new step.same
 
-pub runs_keep : RunsKeep
-runs_keep old new [] [] run = unchanged old new run
-runs_keep old new (command ∷ commands) (answer ∷ answers) run =
-    keeps_on old.graph run.0.graph new.graph (keeps_step old command answer run.0 run.1) (runs_keep run.0 new commands answers run.2)
-runs_keep old new [] (answer ∷ answers) run = absurd run
-runs_keep old new (command ∷ commands) [] run = absurd run
+pub runs_keep : RewrittenKeep → RunsKeep
+runs_keep kept old new [] [] run = unchanged old new run
+runs_keep kept old new (command ∷ commands) (answer ∷ answers) run =
+    keeps_on old.graph run.0.graph new.graph (keeps_step kept old command answer run.0 run.1) (runs_keep kept run.0 new commands answers run.2)
+runs_keep kept old new [] (answer ∷ answers) run = absurd run
+runs_keep kept old new (command ∷ commands) [] run = absurd run

@@ -1,6 +1,7 @@
 -- What the definitions say of small graphs and short runs.
 use Rattle.std.specs.Prelude.{◌≡◌, ℕ, true, List, [], ◌∷◌, Some, None, Ok, Err, codes}
 use Rattle.wit_items.specs.declared.package_name.PackageName.{PackageName}
+use Rattle.wit_items.specs.declared.track.TrackRule.TheVariants.{WithPrereleases}
 use Rattle.wit_items.specs.declared.world.World.{World}
 use Rattle.wit_items.specs.declared.unresolved.UnresolvedPackageGroup.{UnresolvedPackageGroup}
 use Rattle.wit_graph.specs.Samples.{foo_bar, no_docs, world_of}
@@ -10,7 +11,7 @@ use Rattle.wit_graph.specs.declared.graph.Package.{Package}
 use Rattle.wit_resolve_graph.specs.Selection.{selected_world}
 use Rattle.wit_resolve_graph.specs.State.{State, new_state}
 use Rattle.wit_resolve_graph.specs.Step.{Run}
-use Rattle.wit_resolve_graph.specs.declared.command.Command.TheVariants.{AddFeature, Exportize, Importize, PushGroups, SetAllFeatures, Semver}
+use Rattle.wit_resolve_graph.specs.declared.command.Command.TheVariants.{AddFeature, Exportize, Importize, PushGroups, SetAllFeatures, SetTrackRule, Semver}
 use Rattle.wit_resolve_graph.specs.declared.command.Reply.TheVariants.{Done, NoWorld, Pushed}
 
 -- ---- selection
@@ -60,6 +61,10 @@ pub record ExamplesOfSelection : Type 0 where
 abbrev pub with_f : State
 with_f = record new_state { features = record { names = codes "f" ∷ []; all = true } }
 
+-- the state with the other rule of tracks
+abbrev pub with_rule : State
+with_rule = record new_state { track_rule = WithPrereleases }
+
 -- a package of nothing
 abbrev pub first_package : UnresolvedPackage
 first_package = record {
@@ -105,6 +110,10 @@ pub record ExamplesOfRuns : Type 0 where
   pub push_done : Run new_state (PushGroups first_group [] ∷ []) (Done ∷ []) with_first → ⊥
   pub no_world : Run new_state (Semver foo_bar (codes "w") ∷ []) (NoWorld ∷ []) new_state
   pub no_turn : Run new_state (Importize foo_bar (codes "w") None ∷ Exportize foo_bar (codes "w") None None ∷ []) (NoWorld ∷ NoWorld ∷ []) new_state
+  pub not_merged : Run new_state (Semver foo_bar (codes "w") ∷ []) (Done ∷ []) new_state → ⊥
+  pub rule : Run new_state (SetTrackRule WithPrereleases ∷ []) (Done ∷ []) with_rule
+  pub rule_not_left : Run new_state (SetTrackRule WithPrereleases ∷ []) (Done ∷ []) new_state → ⊥
+  pub rule_stays : Run with_f (SetAllFeatures true ∷ []) (Done ∷ []) (record with_f { track_rule = WithPrereleases }) → ⊥
   pub turn_not_done : Run new_state (Importize foo_bar (codes "w") None ∷ []) (Done ∷ []) new_state → ⊥
   pub reply_missing : Run new_state (SetAllFeatures true ∷ []) [] new_state → ⊥
   pub wrong_reply : Run new_state (SetAllFeatures true ∷ []) (NoWorld ∷ []) new_state → ⊥

@@ -24,12 +24,13 @@ FilesPass old other OffsetOverflow = 2 ^ 32 ≤ old.source_map.end + other.sourc
 FilesPass old other _ = ⊥
 
 -- another state is merged: its files fit and nothing speaks against it, the graphs are one, its files stand at the end,
--- the features stay, and the answer is where its things went
+-- the features and the rule of tracks stay, and the answer is where its things went
 pub record Merges (old other : State) (remap : Remap) (new : State) : Type 0 where
   pub fits : old.source_map.end + other.source_map.end < 2 ^ 32
   pub accepted : CanMerge (merging old other)
   pub graph : new.graph ≡ united (merging old other)
   pub features : new.features ≡ old.features
+  pub rule : new.track_rule ≡ old.track_rule
   pub files : new.source_map ≡ with_sources old.source_map other.source_map
   pub remap_is : remap ≡ answered (going (merging old other))
 
@@ -45,4 +46,5 @@ pub record RefusesMerge (old other : State) (error : ResolveErrorKind) (new : St
   pub cause : (error ≡ OutOfMemory) ⊎ (IsMergeCause (merging old other) error ⊎ FilesPass old other error)
   pub graph : new.graph ≡ old.graph
   pub features : new.features ≡ old.features
+  pub rule : new.track_rule ≡ old.track_rule
   pub files : HasSourcesAfter error old.source_map (with_sources old.source_map other.source_map) new.source_map

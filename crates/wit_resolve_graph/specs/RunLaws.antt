@@ -7,17 +7,22 @@ use Rattle.wit_items.specs.declared.types.TypeDef.{TypeDef}
 use Rattle.wit_items.specs.declared.world.World.{World}
 use Rattle.wit_graph.specs.declared.graph.Graph.{Graph}
 use Rattle.wit_graph.specs.declared.graph.Package.{Package}
-use Rattle.wit_merging.specs.Staying.{SameHome, SameInterface, SamePackage, SameType}
+use Rattle.wit_merging.specs.Staying.{SameHome, SameInterface, SamePackage}
+use Rattle.wit_tracks.specs.Staying.{SameKind}
 use Rattle.wit_resolve_graph.specs.State.{State}
 use Rattle.wit_resolve_graph.specs.Step.{Run}
 use Rattle.wit_resolve_graph.specs.declared.command.Command.{Command}
 use Rattle.wit_resolve_graph.specs.declared.command.Reply.{Reply}
 
--- everything of a graph is in another at its id: types as they were but for a stability, interfaces with what they had,
--- worlds of their packages (a turned world has another name and other lists), packages under their names with their
--- interfaces
+-- all of a type but its stability, which a merge joins, and what it names as an alias, which semver merging changes
+pub record KeepsType (old new : TypeDef) : Type 0 where
+  pub rest : new ≡ record old { kind = new.kind; stability = new.stability }
+  pub kind : SameKind old.kind new.kind
+
+-- everything of a graph is in another at its id: types as they were but for these, interfaces with what they had, worlds
+-- of their packages (a turned world has another name and other lists), packages under their names with their interfaces
 pub record Keeps (old new : Graph) : Type 0 where
-  pub types : EachAt (λ t (def : TypeDef). SomeAt new.types t (SameType def)) old.types
+  pub types : EachAt (λ t (def : TypeDef). SomeAt new.types t (KeepsType def)) old.types
   pub interfaces : EachAt (λ i (interface : Interface). SomeAt new.interfaces i (SameInterface interface)) old.interfaces
   pub worlds : EachAt (λ w (world : World). SomeAt new.worlds w (SameHome world)) old.worlds
   pub packages : EachAt (λ p (home : Package). SomeAt new.packages p (SamePackage home)) old.packages

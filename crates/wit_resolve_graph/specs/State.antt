@@ -2,17 +2,21 @@
 use Rattle.std.specs.Prelude.{[], false}
 use Rattle.wit_graph.specs.declared.features.Features.{Features}
 use Rattle.wit_graph.specs.declared.graph.Graph.{Graph}
+use Rattle.wit_items.specs.declared.track.TrackRule.{TrackRule}
+use Rattle.wit_items.specs.declared.track.TrackRule.TheVariants.{Published}
 use Rattle.wit_sources.specs.SourceMap.{Sources}
 
 pub record State : Type 0 where
   pub graph : Graph
   pub features : Features
   pub source_map : Sources
+  pub track_rule : TrackRule
 
--- no package, no feature, no file
+-- no package, no feature, no file, and the published rule of tracks
 abbrev pub new_state : State
 new_state = record {
   graph = record { types = []; interfaces = []; worlds = []; packages = []; package_names = [] };
   features = record { names = []; all = false };
   source_map = record { files = []; end = 0 };
+  track_rule = Published;
 }

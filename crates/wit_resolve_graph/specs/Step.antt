@@ -1,13 +1,12 @@
 -- What a command does, and runs of commands. A command changes the state and answers, or refuses with an
--- error that has a reason and then leaves graph and features as they were. Want of memory is no reason, but
--- may always be answered where memory is taken.
+-- error that has a reason and then leaves all but the sources as it was. Want of memory is no reason, but
+-- may always be answered where memory is taken. Only their own commands change features and the rule of tracks.
 use Rattle.std.specs.Prelude.{◌≡◌, ◌⊎◌, ◌<◌, ◌^◌, ℕ, Bool, true, List, [], ◌∷◌, ◌++◌, length, map, slice_get, Option, None, Some, if◌then◌else◌}
 use Rattle.std.specs.List.{list_any}
 use Rattle.std.specs.Str.{bytes_eq}
 use Rattle.wit_sources.specs.SourceMap.{Sources, with_sources}
 use Rattle.wit_items.specs.declared.package_name.PackageName.{PackageName}
 use Rattle.wit_items.specs.declared.unresolved.UnresolvedPackageGroup.{UnresolvedPackageGroup}
-use Rattle.wit_items.specs.declared.world.World.{World}
 use Rattle.wit_items.specs.declared.world.WorldKey.{WorldKey}
 use Rattle.wit_graph.specs.declared.graph.Graph.{Graph}
 use Rattle.wit_graph.specs.Entries.{Entry}
@@ -20,11 +19,13 @@ use Rattle.wit_link.specs.Several.{ArePushed}
 use Rattle.wit_sorting.specs.Sorting.{AreSorted, Handed, IsSortCause}
 use Rattle.wit_resolve_graph.specs.Merging.{Merges, RefusesMerge}
 use Rattle.wit_resolve_graph.specs.Named.{HasWorld}
+use Rattle.wit_tracks.specs.Rewritten.{rewritten}
+use Rattle.wit_tracks.specs.TrackCause.{IsTrackCause}
 use Rattle.wit_unite.specs.TurnCause.{IsExportizeCause, IsImportizeCause, imports_at}
-use Rattle.wit_unite.specs.Turned.{Turn, exportized, importized, turned}
+use Rattle.wit_unite.specs.Turned.{exportized, importized, turned}
 use Rattle.wit_resolve_graph.specs.State.{State}
 use Rattle.wit_resolve_graph.specs.declared.command.Command.{Command}
-use Rattle.wit_resolve_graph.specs.declared.command.Command.TheVariants.{AddFeature, SetAllFeatures, PushGroups, Merge, Importize, Exportize, Semver}
+use Rattle.wit_resolve_graph.specs.declared.command.Command.TheVariants.{AddFeature, SetAllFeatures, SetTrackRule, PushGroups, Merge, Importize, Exportize, Semver}
 use Rattle.wit_resolve_graph.specs.declared.command.Reply.{Reply}
 use Rattle.wit_resolve_graph.specs.declared.command.Reply.TheVariants.{Done, Pushed, Merged, NoWorld, Refused}
 
@@ -56,6 +57,7 @@ pub record PushesGroups (old : State) (main : UnresolvedPackageGroup) (deps : Li
   pub main_is : slice_get order place ≡ Some (length main.nested)
   pub id_is : slice_get ids place ≡ Some id
   pub features : new.features ≡ old.features
+  pub rule : new.track_rule ≡ old.track_rule
   pub files : new.source_map ≡ with_files old.source_map (main ∷ deps)
 
 -- where files are after a refusal: at the end, but after a position that is too large nowhere, and after
@@ -70,24 +72,25 @@ pub record RefusesGroups (old : State) (main : UnresolvedPackageGroup) (deps : L
   pub cause : (error ≡ OutOfMemory) ⊎ IsGroupsCause old.features old.graph old.source_map.end (main ∷ deps) error
   pub graph : new.graph ≡ old.graph
   pub features : new.features ≡ old.features
+  pub rule : new.track_rule ≡ old.track_rule
   pub files : HasFilesAfter error old.source_map (main ∷ deps) new.source_map
 
--- ---- other commands
+-- ---- commands on a world
 
 -- there is no world of this name in a package of that name
 abbrev pub IsAbsent : State → PackageName → List ℕ → Type 0
 IsAbsent state home name = (w : ℕ) → HasWorld state.graph home name w → ⊥
 
--- a turn of the world of a name in a package of a name is done: nothing speaks against it, and the graph is
--- turned, all else as it was
-pub record Turns (old : State) (home : PackageName) (world : List ℕ) (turn : ℕ → World → Turn) (Speaks : ℕ → ResolveErrorKind → Type 0) (new : State) : Type 0 where
+-- the graph is changed at the world of a name in a package of a name: nothing speaks against it, and all else is as
+-- it was
+pub record Changes (old : State) (home : PackageName) (world : List ℕ) (changed : ℕ → Graph) (Speaks : ℕ → ResolveErrorKind → Type 0) (new : State) : Type 0 where
   pub w : ℕ
   pub there : HasWorld old.graph home world w
   pub accepted : (error : ResolveErrorKind) → Speaks w error → ⊥
-  pub is_turned : new ≡ record old { graph = turned old.graph w (turn w) }
+  pub is_changed : new ≡ record old { graph = changed w }
 
--- a turn is refused, and nothing has changed
-pub record RefusesTurn (old : State) (home : PackageName) (world : List ℕ) (Speaks : ℕ → ResolveErrorKind → Type 0) (error : ResolveErrorKind) (new : State) : Type 0 where
+-- a change is refused, and nothing has changed
+pub record RefusesChange (old : State) (home : PackageName) (world : List ℕ) (Speaks : ℕ → ResolveErrorKind → Type 0) (error : ResolveErrorKind) (new : State) : Type 0 where
   pub w : ℕ
   pub there : HasWorld old.graph home world w
   pub cause : (error ≡ OutOfMemory) ⊎ Speaks w error
@@ -106,15 +109,11 @@ listed_answers g keys entries = map (λ (e : Entry). is_listed_key g keys e.0) e
 abbrev pub answers_at : State → Option (List (List ℕ)) → ℕ → List Bool
 answers_at state keys w = listed_answers state.graph keys (imports_at state.graph w)
 
--- what semver merging does isn't defined yet: no such answer is one of a run so far
-abbrev pub Waits : Type 0
-Waits = ⊥
+-- ---- steps
 
 -- the answer of a command that takes memory and changes nothing of the sources, where memory is refused
 abbrev pub LacksMemory : State → ResolveErrorKind → State → Type 0
 LacksMemory old error new = (error ≡ OutOfMemory) × (new ≡ old)
-
--- ---- steps
 
 -- from old, the command may be answered so and lead to new
 abbrev pub Step : State → Command → Reply → State → Type 0
@@ -123,6 +122,8 @@ Step old (AddFeature name) (Refused error) new = LacksMemory old error new
 Step old (AddFeature name) _ new = ⊥
 Step old (SetAllFeatures all) Done new = new ≡ record old { features = record old.features { all = all } }
 Step old (SetAllFeatures all) _ new = ⊥
+Step old (SetTrackRule rule) Done new = new ≡ record old { track_rule = rule }
+Step old (SetTrackRule rule) _ new = ⊥
 Step old (PushGroups main deps) (Pushed id) new = PushesGroups old main deps id new
 Step old (PushGroups main deps) (Refused error) new = RefusesGroups old main deps error new
 Step old (PushGroups main deps) _ new = ⊥
@@ -130,17 +131,17 @@ Step old (Merge other) (Merged remap) new = Merges old other remap new
 Step old (Merge other) (Refused error) new = RefusesMerge old other error new
 Step old (Merge other) _ new = ⊥
 Step old (Importize home world out) NoWorld new = IsAbsent old home world × (new ≡ old)
-Step old (Importize home world out) Done new = Turns old home world (λ w. importized out) (λ w. IsImportizeCause old.graph w out) new
-Step old (Importize home world out) (Refused error) new = RefusesTurn old home world (λ w. IsImportizeCause old.graph w out) error new
+Step old (Importize home world out) Done new = Changes old home world (λ w. turned old.graph w (importized out)) (λ w. IsImportizeCause old.graph w out) new
+Step old (Importize home world out) (Refused error) new = RefusesChange old home world (λ w. IsImportizeCause old.graph w out) error new
 Step old (Importize home world out) _ new = ⊥
 Step old (Exportize home world out keys) NoWorld new = IsAbsent old home world × (new ≡ old)
 Step old (Exportize home world out keys) Done new =
-    Turns old home world (λ w. exportized (answers_at old keys w) out) (λ w. IsExportizeCause old.graph w (answers_at old keys w) out) new
-Step old (Exportize home world out keys) (Refused error) new = RefusesTurn old home world (λ w. IsExportizeCause old.graph w (answers_at old keys w) out) error new
+    Changes old home world (λ w. turned old.graph w (exportized (answers_at old keys w) out)) (λ w. IsExportizeCause old.graph w (answers_at old keys w) out) new
+Step old (Exportize home world out keys) (Refused error) new = RefusesChange old home world (λ w. IsExportizeCause old.graph w (answers_at old keys w) out) error new
 Step old (Exportize home world out keys) _ new = ⊥
 Step old (Semver home world) NoWorld new = IsAbsent old home world × (new ≡ old)
-Step old (Semver home world) Done new = Waits
-Step old (Semver home world) (Refused error) new = Waits
+Step old (Semver home world) Done new = Changes old home world (rewritten old.track_rule old.graph) (IsTrackCause old.track_rule old.graph) new
+Step old (Semver home world) (Refused error) new = RefusesChange old home world (IsTrackCause old.track_rule old.graph) error new
 Step old (Semver home world) _ new = ⊥
 
 -- one step after another, with one reply to each command

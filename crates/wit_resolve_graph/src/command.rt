@@ -1,7 +1,7 @@
 //! Commands and their replies, as data.
 use crate::resolve::Resolve;
 use wit_graph::ResolveError;
-use wit_items::{Items, PackageId, PackageName, Text, UnresolvedPackageGroup};
+use wit_items::{Items, PackageId, PackageName, Text, TrackRule, UnresolvedPackageGroup};
 use wit_link::Remap;
 
 /// A change of a `Resolve`.
@@ -11,6 +11,8 @@ pub enum Command {
     AddFeature(Text),
     /// Turns all features on, or leaves those that are named.
     SetAllFeatures(bool),
+    /// Sets the rule by which versions stand on one track.
+    SetTrackRule(TrackRule),
     /// Adds the packages of groups, dependencies first.
     PushGroups {
         main: UnresolvedPackageGroup,

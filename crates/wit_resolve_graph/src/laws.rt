@@ -4,10 +4,14 @@ ghost use Rattle.wit_resolve_graph.specs.FilesExamples.{ExamplesOfFiles};
 ghost use Rattle.wit_resolve_graph.specs.SourcesExamples.{ExamplesOfSources};
 ghost use Rattle.wit_resolve_graph.specs.RunLaws.{RunsKeep};
 
+use wit_tracks_laws::laws::rewritten_keep;
+
 /// What was there before a run is there after it, with the same ids.
 pub fn runs_keep()
     ensures { RunsKeep }
-{}
+{
+    rewritten_keep();
+}
 
 /// Worlds that are chosen, and what is said where none is.
 pub fn examples_of_selection()

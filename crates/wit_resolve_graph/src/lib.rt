@@ -24,7 +24,7 @@ pub use wit_core_names::{
 pub use wit_graph::{
     Cause, Features, Graph, Package, ResolveError, ResolveErrorKind, ResolveResult,
 };
-pub use wit_items::{LiftLowerAbi, ManglingAndAbi};
+pub use wit_items::{LiftLowerAbi, ManglingAndAbi, TrackRule};
 pub use wit_link::Remap;
 pub use wit_package_sources::{PackageSourceNames, PackageSources};
 pub use wit_questions::{InterfaceDirectDeps, PackageDirectDeps};

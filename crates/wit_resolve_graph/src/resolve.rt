@@ -24,19 +24,21 @@ use std::fmt;
 use std::marker::Model;
 use wit_graph::{Features, Graph, Package, ResolveErrorKind, ResolveResult};
 use wit_items::{
-    Interface, InterfaceId, Items, PackageId, PackageName, SourceMap, Table, TryClone, TypeDef,
-    UnresolvedPackage, UnresolvedPackageGroup, World, WorldId, WorldItem, WorldKey,
+    Interface, InterfaceId, Items, PackageId, PackageName, SourceMap, Table, TrackRule, TryClone,
+    TypeDef, UnresolvedPackage, UnresolvedPackageGroup, World, WorldId, WorldItem, WorldKey,
 };
 use wit_link::append;
 use wit_unite::{exportize, exportize_answered, importize};
 use wit_valid::is_valid;
 use wit_values::try_clone_three;
 
-/// Packages whose names are resolved: a valid graph, the features that are on, and the sources.
+/// Packages whose names are resolved: a valid graph, the features that are on, the sources, and the rule by
+/// which versions stand on one track.
 pub struct Resolve {
     graph: Graph,
     features: Features,
     source_map: SourceMap,
+    track_rule: TrackRule,
 }
 
 impl Model for Resolve {
@@ -45,13 +47,13 @@ impl Model for Resolve {
 
     ghost Value = { State };
 
-    ghost view = { λ a. record { graph = a.graph; features = a.features; source_map = a.source_map } };
+    ghost view = { λ a. record { graph = a.graph; features = a.features; source_map = a.source_map; track_rule = a.track_rule } };
 
     ghost invariant = { λ a. IsValid a.graph };
 }
 
 impl Resolve {
-    /// Nothing: no package, no feature and no file. It takes no memory.
+    /// Nothing: no package, no feature, no file, and the published rule of tracks. It takes no memory.
     pub fn new(alloc: Global) -> Resolve
         ensures { result ≡ new_state }
     {
@@ -59,6 +61,7 @@ impl Resolve {
             graph: Graph::new(alloc),
             features: Features::new(alloc),
             source_map: SourceMap::new(alloc),
+            track_rule: TrackRule::Published,
         }
     }
 
@@ -127,6 +130,13 @@ impl Resolve {
     {
         &self.source_map
     }
+
+    /// The rule by which versions stand on one track.
+    pub fn track_rule(&self) -> TrackRule
+        ensures { result ≡ self.now.track_rule }
+    {
+        self.track_rule
+    }
 }
 
 impl Resolve {
@@ -145,6 +155,13 @@ impl Resolve {
         ensures { self.new ≡ record self.old { features = record self.old.features { all = all } } }
     {
         self.features.all = all;
+    }
+
+    /// Sets the rule by which versions stand on one track. It takes no memory.
+    pub fn set_track_rule(&mut self, rule: TrackRule)
+        ensures { self.new ≡ record self.old { track_rule = rule } }
+    {
+        self.track_rule = rule;
     }
 }
 
@@ -174,6 +191,7 @@ impl Resolve {
         ensures ok { IfOk result (λ id. IsAdded (addition self.old.features self.old.graph «package» span_offset) self.new.graph id) }
         ensures features { self.new.features ≡ self.old.features }
         ensures source_map { self.new.source_map ≡ self.old.source_map }
+        ensures track_rule { self.new.track_rule ≡ self.old.track_rule }
         ensures err { OnErr result (self.new ≡ self.old) }
         ensures cause { IfErr result (λ kind. (kind ≡ OutOfMemory) ⊎ IsCause (addition self.old.features self.old.graph «package» span_offset) kind) }
         ensures refuses { (kind : ResolveErrorKind) → IsCause (addition self.old.features self.old.graph «package» span_offset) kind → OnOk result ⊥ }
@@ -297,6 +315,7 @@ impl Resolve {
         ensures ok { OnOk result (Exportizes F.Fn filter self.old.graph world (option_map string_bytes out) self.new.graph) }
         ensures features { self.new.features ≡ self.old.features }
         ensures source_map { self.new.source_map ≡ self.old.source_map }
+        ensures track_rule { self.new.track_rule ≡ self.old.track_rule }
         ensures err { OnErr result (self.new ≡ self.old) }
         ensures cause { IfErr result (λ kind. (kind ≡ OutOfMemory) ⊎ RefusesExportize F.Fn filter self.old.graph world (option_map string_bytes out) kind) }
         ensures refuses { ((answers : List Bool) → AreAnswers F.Fn filter (imports_at self.old.graph world) answers → (kind : ResolveErrorKind) × IsExportizeCause self.old.graph world answers (option_map string_bytes out) kind) → OnOk result ⊥ }
@@ -351,6 +370,7 @@ impl Drop for Resolve {
             graph,
             features,
             source_map,
+            track_rule: _,
         } = self;
         drop(graph);
         drop(features);
@@ -369,6 +389,7 @@ impl TryClone for Resolve {
             graph,
             features,
             source_map,
+            track_rule: self.track_rule,
         })
     }
 }

@@ -16,7 +16,7 @@ use wit_items::Text;
 /// Runs commands in order, and answers a reply to each. Room for all replies is made first; where there
 /// is none, nothing has changed.
 ///
-/// So far a command turns features on or a world, or is `PushGroups` with packages that
+/// So far a command turns features on or a world, sets the rule of tracks, or is `PushGroups` with packages that
 /// `Resolve::push_groups` takes.
 pub fn run(
     alloc: Global,
@@ -45,6 +45,10 @@ fn step(alloc: Global, resolve: &mut Resolve, command: Command) -> Reply
         Command::AddFeature(name) => add_feature(alloc, resolve, name),
         Command::SetAllFeatures(all) => {
             resolve.set_all_features(all);
+            Reply::Done
+        }
+        Command::SetTrackRule(rule) => {
+            resolve.set_track_rule(rule);
             Reply::Done
         }
         Command::PushGroups { main, deps } => match resolve.push_groups(alloc, main, deps) {

@@ -99,7 +99,7 @@ push-goes-on r s new p groups answer last read commands other goes =
 pub taken-asked : (r : Reading) (asked : Request) (other : Bool) → is_taken asked ≡ true → with_asked r asked other ≡ Some (with_command r (asks.Request asked))
 taken-asked r (request.Feature name) other taken = refl
 taken-asked r request.AllFeatures other taken = refl
-taken-asked r (request.Tracks rule) other taken = cc
+taken-asked r (request.Tracks rule) other taken = refl
 taken-asked r request.Other other taken = cc
 taken-asked r request.Merge other taken = cc
 taken-asked r (request.Importize owner world out) other taken = refl

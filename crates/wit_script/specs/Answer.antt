@@ -20,7 +20,7 @@ use Rattle.wit_lines.specs.declared.request.Request.TheVariants as request
 use Rattle.wit_resolve_graph.specs.Selection.{IsSelection}
 use Rattle.wit_resolve_graph.specs.State.{State, new_state}
 use Rattle.wit_resolve_graph.specs.declared.command.Command.{Command}
-use Rattle.wit_resolve_graph.specs.declared.command.Command.TheVariants.{AddFeature, SetAllFeatures, PushGroups, Merge, Importize, Exportize, Semver}
+use Rattle.wit_resolve_graph.specs.declared.command.Command.TheVariants.{AddFeature, SetAllFeatures, SetTrackRule, PushGroups, Merge, Importize, Exportize, Semver}
 use Rattle.wit_resolve_graph.specs.declared.command.Reply.{Reply}
 use Rattle.wit_resolve_graph.specs.declared.command.Reply.TheVariants as reply
 use Rattle.wit_script.specs.World.{world_id_at, world_text_at}
@@ -113,10 +113,6 @@ abbrev pub IsOpened : Stage → Option State → List ℕ → Stage → Type 0
 IsOpened before None text after = (text ≡ []) × (after ≡ record { first = before.first; second = Some new_state })
 IsOpened before (Some second) text after = ⊥
 
--- `tracks`: no state has a rule of tracks yet, so that no answer to it is defined
-abbrev pub WaitsForTracks : Type 0
-WaitsForTracks = ⊥
-
 -- the package of this name
 abbrev pub package_named : Graph → PackageName → Option ℕ
 package_named g name = lookup (same_package name) g.package_names
@@ -156,7 +152,7 @@ IsSelected chooses g owner said text =
 abbrev pub Replies : Runs → Chooses → Stage → Request → List ℕ → Stage → Type 0
 Replies runs chooses before (request.Feature name) text after = Works runs quiet_text before (AddFeature name) text after
 Replies runs chooses before request.AllFeatures text after = Works runs quiet_text before (SetAllFeatures true) text after
-Replies runs chooses before (request.Tracks rule) text after = WaitsForTracks
+Replies runs chooses before (request.Tracks rule) text after = Works runs quiet_text before (SetTrackRule rule) text after
 Replies runs chooses before request.Other text after = IsOpened before before.second text after
 Replies runs chooses before request.Merge text after = IsMerged runs before before.second text after
 Replies runs chooses before (request.Importize owner world out) text after = Works runs reply_text before (Importize owner world out) text after

@@ -15,7 +15,7 @@ use Rattle.wit_script.specs.declared.ready.ScriptCommand.TheVariants as asks
 abbrev pub is_taken : Request → Bool
 is_taken (request.Feature name) = true
 is_taken request.AllFeatures = true
-is_taken (request.Tracks rule) = false
+is_taken (request.Tracks rule) = true
 is_taken request.Other = false
 is_taken request.Merge = false
 is_taken (request.Importize owner world out) = true

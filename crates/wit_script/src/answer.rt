@@ -104,6 +104,9 @@ fn reply_to(alloc: Global, stage: &mut Stage, request: Request) -> Result<String
         Request::AllFeatures => {
             stage.work(alloc, Command::SetAllFeatures(true), Telling::Quietly)
         }
+        Request::Tracks(rule) => {
+            stage.work(alloc, Command::SetTrackRule(rule), Telling::Quietly)
+        }
         Request::Importize {
             package,
             world,

@@ -23,7 +23,7 @@ fn is_taken(request: &Request) -> bool
     ensures { result ≡ is_taken request.now }
 {
     match request {
-        Request::Tracks(_) | Request::Other | Request::Merge | Request::Semver { .. } => false,
+        Request::Other | Request::Merge | Request::Semver { .. } => false,
         _ => true,
     }
 }

@@ -1,3 +1,4 @@
 pub mod LineExamples
 pub mod PackageExamples
 pub mod ScriptExamples
+pub mod StepExamples

@@ -2,6 +2,10 @@
 ghost use Rattle.wit_script_examples.specs.LineExamples.{ExamplesOfLines};
 ghost use Rattle.wit_script_examples.specs.PackageExamples.{ExamplesOfPackages};
 ghost use Rattle.wit_script_examples.specs.ScriptExamples.{ExamplesOfScripts};
+ghost use Rattle.wit_script_examples.specs.StepExamples.{ExamplesOfAnswers, ExamplesOfSteps};
+
+use wit_tracks_examples::causes::examples_of_causes;
+use wit_tracks_examples::rewriting::{examples_of_rewriting, examples_of_rules};
 
 /// What lines say by their tokens alone.
 pub fn examples_of_lines()
@@ -17,3 +21,21 @@ pub fn examples_of_packages()
 pub fn examples_of_scripts()
     ensures { ExamplesOfScripts }
 {}
+
+/// Steps that set the rule of tracks or merge imports by it, and what no step does.
+pub fn examples_of_steps()
+    ensures { ExamplesOfSteps }
+{
+    examples_of_rewriting();
+    examples_of_rules();
+    examples_of_causes();
+}
+
+/// What a script answers to them.
+pub fn examples_of_answers()
+    ensures { ExamplesOfAnswers }
+{
+    examples_of_rewriting();
+    examples_of_rules();
+    examples_of_causes();
+}

@@ -10,7 +10,7 @@ use Rattle.wit_relations.specs.Relation.{Reaches, direct}
 use Rattle.wit_items.specs.Reference.{type_references}
 use Rattle.wit_items.specs.declared.function.Function.{Function}
 use Rattle.wit_items.specs.declared.interface.Interface.{Interface}
-use Rattle.wit_items.specs.declared.track.TrackRule.TheVariants.{Published}
+use Rattle.wit_items.specs.declared.track.TrackRule.TheVariants.{Published, WithPrereleases}
 use Rattle.wit_items.specs.declared.types.Type_.TheVariants as type
 use Rattle.wit_items.specs.declared.world.World.{World}
 use Rattle.wit_graph.specs.Elaboration.{graph_uses}
@@ -31,13 +31,13 @@ use Rattle.wit_growth.specs.AllElaborated.{DependsOnItself, graph_package_uses}
 use Rattle.wit_growth.specs.FunctionMismatch.{FunctionMismatch, parameter_names_differ}
 use Rattle.wit_growth.specs.TestFacts.{all_are, all_uses, falls, no_cycle, not_on_cycle, only_one, some_same}
 use Rattle.wit_tracks.specs.Rewritten.{following, listed_world, relisted_at}
-use Rattle.wit_tracks.specs.TrackCause.{Disagrees, IsComplete, LacksType, UpgradeCause, conflict_4, functions_disagree_25, interface_cycle_22, package_cycle_6, type_cycle_23, type_missing_25}
+use Rattle.wit_tracks.specs.TrackCause.{Disagrees, IsComplete, IsTrackCause, LacksType, UpgradeCause, conflict_4, functions_disagree_25, interface_cycle_22, package_cycle_6, type_cycle_23, type_missing_25}
 use Rattle.wit_tracks.specs.Upgrade.{Upgrade, is_replaced, newest}
 use Rattle.wit_tracks_examples.proofs.Fine.{Clear, complete, has_target, is_fine}
 use Rattle.wit_tracks_examples.proofs.Mismatches.{x_is_not_y, x_of, y_of}
 use Rattle.wit_tracks_examples.specs.CauseExamples.{ExamplesOfCauses, IsFine, Speaks, around_main, around_z, exporting, f_of, failed, foo_app, newer_x, older_x, with_functions, with_newer, without_type, without_type_but_cycle}
 use Rattle.wit_tracks_examples.specs.Releases.{alias_in, called, foo_main, foo_x, keyed, number_in, package_of, release, with_function, world_in}
-use Rattle.wit_tracks_examples.specs.RewrittenExamples.{of_three}
+use Rattle.wit_tracks_examples.specs.RewrittenExamples.{first_release, of_three}
 
 abbrev upgrade : Graph → World → Upgrade
 upgrade g world = record { rule = Published; graph = g; world = world }
@@ -319,6 +319,22 @@ not_missing =
     is_fine Published of_three 0 world refl
     (clear_by u 0 (0 ∷ 1 ∷ 2 ∷ 3 ∷ []) (0 ∷ 1 ∷ 2 ∷ 3 ∷ []) (0 ∷ 1 ∷ 2 ∷ 3 ∷ []) refl (no_functions u refl) refl refl refl (no_exports (relisted_at u 0) refl))
 
+fine_apart : IsFine (first_release (0 ∷ 1 ∷ []))
+unfolding strip_zeros digits
+fine_apart =
+    let world = world_in 2 (codes "w") (keyed (0 ∷ 1 ∷ [])) [] in
+    let u = upgrade (first_release (0 ∷ 1 ∷ [])) world in
+    is_fine Published (first_release (0 ∷ 1 ∷ [])) 0 world refl
+    (clear_by u 0 (0 ∷ 1 ∷ 2 ∷ []) (0 ∷ 1 ∷ []) (0 ∷ 1 ∷ []) refl (no_functions u refl) refl refl refl (no_exports (relisted_at u 0) refl))
+
+fine_together : (error : ResolveErrorKind) → IsTrackCause WithPrereleases (first_release (0 ∷ 1 ∷ [])) 0 error → ⊥
+unfolding strip_zeros digits
+fine_together =
+    let world = world_in 2 (codes "w") (keyed (0 ∷ 1 ∷ [])) [] in
+    let u : Upgrade = record { rule = WithPrereleases; graph = first_release (0 ∷ 1 ∷ []); world = world } in
+    is_fine WithPrereleases (first_release (0 ∷ 1 ∷ [])) 0 world refl
+    (clear_by u 0 (0 ∷ 1 ∷ 2 ∷ []) (0 ∷ 1 ∷ []) (0 ∷ 1 ∷ []) refl (no_functions u refl) refl refl refl (no_exports (relisted_at u 0) refl))
+
 abbrev u_missing : World → Upgrade
 u_missing world = upgrade without_type_but_cycle world
 
@@ -468,6 +484,8 @@ causes = record {
   no_type_cycle = no_type_cycle;
   missing = missing;
   not_missing = not_missing;
+  fine_apart = fine_apart;
+  fine_together = fine_together;
   missing_beside_cycle = missing_beside_cycle;
   no_cycle_beside = λ message cause. no_cycle_in cause.0 message (Semantic None message TypeCycle) cause.2 (sym (some_same (w_of_main (0 ∷ 2 ∷ 1 ∷ [])) cause.0 cause.1)) refl;
   disagreement = disagreement;

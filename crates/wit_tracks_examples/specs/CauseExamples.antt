@@ -6,7 +6,7 @@ use Rattle.wit_items.specs.declared.function.FunctionKind.{FunctionKind}
 use Rattle.wit_items.specs.declared.function.FunctionKind.TheVariants as function
 use Rattle.wit_items.specs.declared.interface.Interface.{Interface}
 use Rattle.wit_items.specs.declared.package_name.PackageName.{PackageName}
-use Rattle.wit_items.specs.declared.track.TrackRule.TheVariants.{Published}
+use Rattle.wit_items.specs.declared.track.TrackRule.TheVariants.{Published, WithPrereleases}
 use Rattle.wit_items.specs.declared.types.TypeDef.{TypeDef}
 use Rattle.wit_items.specs.declared.types.Type_.{Type_}
 use Rattle.wit_items.specs.declared.types.Type_.TheVariants as type
@@ -18,7 +18,7 @@ use Rattle.wit_graph.specs.declared.graph.Graph.{Graph}
 use Rattle.wit_growth.specs.FunctionMismatch.{FunctionMismatch}
 use Rattle.wit_tracks.specs.TrackCause.{IsTrackCause}
 use Rattle.wit_tracks_examples.specs.Releases.{Names, alias_in, called, foo_main, foo_x, graph_of, interface_in, keyed, number_in, package_of, release, two, with_function, world_in}
-use Rattle.wit_tracks_examples.specs.RewrittenExamples.{of_three}
+use Rattle.wit_tracks_examples.specs.RewrittenExamples.{first_release, of_three}
 
 -- a reason to refuse the merge of the imports of world 0
 abbrev pub Speaks : Graph → ResolveErrorKind → Type 0
@@ -133,6 +133,9 @@ pub record ExamplesOfCauses : Type 0 where
   -- 25: x@0.2.1 lacks a type that y uses
   pub missing : Speaks without_type (failed (codes "type `t` is missing"))
   pub not_missing : IsFine of_three
+  -- a pre-release and its release are fine by either rule
+  pub fine_apart : IsFine (first_release (0 ∷ 1 ∷ []))
+  pub fine_together : (error : ResolveErrorKind) → IsTrackCause WithPrereleases (first_release (0 ∷ 1 ∷ [])) 0 error → ⊥
   -- and then no cycle is a reason
   pub missing_beside_cycle : Speaks without_type_but_cycle (failed (codes "type `u` is missing"))
   pub no_cycle_beside : (message : List ℕ) → Speaks without_type_but_cycle (Semantic None message TypeCycle) → ⊥

@@ -1,6 +1,7 @@
 mod Accepting
 mod EachElaborated
 mod Greatest
+mod Kept
 mod KeptKeys
 mod KeptLabels
 mod ListedUses

@@ -3,7 +3,9 @@ use Rattle.std.specs.Prelude.{◌≡◌, ◌↔◌, ℕ, true, false, Some, slic
 use Rattle.std.specs.Map.{keys_of}
 use Rattle.std.specs.declared.cmp.Ordering.TheVariants.{Greater}
 use Rattle.wit_values.specs.Version.{version_cmp}
+use Rattle.wit_items.specs.Each.{EachAt, SomeAt}
 use Rattle.wit_items.specs.declared.track.TrackRule.{TrackRule}
+use Rattle.wit_items.specs.declared.types.TypeDef.{TypeDef}
 use Rattle.wit_items.specs.declared.world.World.{World}
 use Rattle.wit_items.specs.declared.world.WorldKey.{WorldKey}
 use Rattle.wit_graph.specs.Elaborated.{Elaborated}
@@ -12,7 +14,8 @@ use Rattle.wit_graph.specs.Entries.{ids_of}
 use Rattle.wit_graph.specs.KeptByElaboration.{labelled}
 use Rattle.wit_graph.specs.Valid.{IsValid}
 use Rattle.wit_graph.specs.declared.graph.Graph.{Graph}
-use Rattle.wit_tracks.specs.Rewritten.{relisted, rewritten}
+use Rattle.wit_tracks.specs.Rewritten.{relisted, rewritten, target_name}
+use Rattle.wit_tracks.specs.Staying.{SameButLists, SameButTarget}
 use Rattle.wit_tracks.specs.TrackCause.{IsAccepted}
 use Rattle.wit_tracks.specs.Tracks.{Versioned, are_on_one_track, versioned}
 use Rattle.wit_tracks.specs.Upgrade.{Upgrade, imported, is_replaced, newest}
@@ -64,3 +67,21 @@ WorldsAreElaborated = (rule : TrackRule) (g : Graph) (w : ℕ) (old : World) (v 
 -- and the graph stays valid
 abbrev pub RewrittenStayValid : Type 0
 RewrittenStayValid = (rule : TrackRule) (g : Graph) (w : ℕ) (old : World) → IsValid g → slice_get g.worlds w ≡ Some old → IsAccepted rule g w → IsValid (rewritten rule g w)
+
+-- everything of a graph is in another at its id: types as they were but for what aliases name, worlds but for their
+-- lists, interfaces, packages and their names as they were
+pub record KeepsThings (old new : Graph) : Type 0 where
+  pub types : EachAt (λ t (def : TypeDef). SomeAt new.types t (SameButTarget def)) old.types
+  pub interfaces : new.interfaces ≡ old.interfaces
+  pub worlds : EachAt (λ v (world : World). SomeAt new.worlds v (SameButLists world)) old.worlds
+  pub packages : new.packages ≡ old.packages
+  pub names : new.package_names ≡ old.package_names
+
+-- so it is of any graph whatever
+abbrev pub RewrittenKeep : Type 0
+RewrittenKeep = (rule : TrackRule) (g : Graph) (w : ℕ) → KeepsThings g (rewritten rule g w)
+
+-- and what an alias of a valid graph comes to name has the name of what it named
+abbrev pub AliasesKeepNames : Type 0
+AliasesKeepNames = (rule : TrackRule) (g : Graph) (w : ℕ) → IsValid g
+    → EachAt (λ t (def : TypeDef). SomeAt (rewritten rule g w).types t (λ (new : TypeDef). target_name (rewritten rule g w).types new ≡ target_name g.types def)) g.types

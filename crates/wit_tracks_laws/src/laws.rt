@@ -1,5 +1,5 @@
 //! Laws of semver merging: the contract of each function is what is proved.
-ghost use Rattle.wit_tracks_laws.specs.TrackLaws.{ExportsAreKept, KeysAreExact, LabelsAreKept, NewestIsGreatest, OneOnEachTrack, RewrittenStayValid, WorldsAreElaborated};
+ghost use Rattle.wit_tracks_laws.specs.TrackLaws.{AliasesKeepNames, ExportsAreKept, KeysAreExact, LabelsAreKept, NewestIsGreatest, OneOnEachTrack, RewrittenKeep, RewrittenStayValid, WorldsAreElaborated};
 
 use wit_graph::laws::{
     conflicts_are_refused, elaborated_entries, elaborated_once, elaborates_once, export_keys_stay,
@@ -82,3 +82,13 @@ pub fn worlds_are_elaborated()
 {
     conflicts_are_refused();
 }
+
+/// Everything of a graph is there after it at its id; of types only what aliases name may have changed.
+pub fn rewritten_keep()
+    ensures { RewrittenKeep }
+{}
+
+/// What an alias of a valid graph comes to name has the name of what it named.
+pub fn aliases_keep_names()
+    ensures { AliasesKeepNames }
+{}

@@ -1,8 +1,18 @@
-use Rattle.std.proofs.Common.{◌≡◌, ◌∙◌, refl, ap, arith}
+use Rattle.std.proofs.Common.{◌≡◌, ◌∙◌, Bool, true, false, refl, sym, ap, arith}
 use Rattle.std.proofs.lemmas.Bool.{false≢true}
 use Rattle.wit_sources.specs.SourceMap.{Sources}
 use Rattle.wit_resolve_graph.proofs.laws.examples_of_runs.Goals as goal
 use Rattle.wit_resolve_graph.specs.State.{State}
+use Rattle.wit_items.specs.declared.track.TrackRule.{TrackRule}
+use Rattle.wit_items.specs.declared.track.TrackRule.TheVariants.{Published, WithPrereleases}
+
+-- is the rule not the published one?
+abbrev is_with_prereleases : TrackRule → Bool
+is_with_prereleases Published = false
+is_with_prereleases WithPrereleases = true
+
+abbrev is_other_rule : State → Bool
+is_other_rule s = is_with_prereleases s.track_rule
 
 pub returns : goal.returns
 returns c = record {
@@ -12,6 +22,10 @@ returns c = record {
   push_done = λ run. run.1;
   no_world = (_, (λ w there. absurd (omega (arith, there.1.1)), refl), refl);
   no_turn = (_, (λ w there. absurd (omega (arith, there.1.1)), refl), (_, (λ w there. absurd (omega (arith, there.1.1)), refl), refl));
+  not_merged = λ run. let there = run.1.there in absurd (omega (arith, there.1.1));
+  rule = (_, refl, refl);
+  rule_not_left = λ run. false≢true (ap is_other_rule (run.2 ∙ run.1));
+  rule_stays = λ run. false≢true (sym (ap is_other_rule (run.2 ∙ run.1)));
   turn_not_done = λ run. let there = run.1.there in absurd (omega (arith, there.1.1));
   reply_missing = λ run. run;
   wrong_reply = λ run. run.1;

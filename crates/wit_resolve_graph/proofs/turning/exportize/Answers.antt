@@ -16,7 +16,7 @@ returns-in-Ok c =
     let has : HasWorld c.args.resolve.now.graph c.args.package c.args.world c.in-Some.id =
     subst (λ (g : Graph). HasWorld g c.args.package c.args.world c.in-Some.id) c.graph.ensures.value
     (subst (λ (name : List ℕ). HasWorld c.graph.result.now c.args.package name c.in-Some.id) c.as_str.ensures c.in-Some.ensures.some) in
-    record { w = c.in-Some.id; there = has; accepted = c.in-Ok.ensures.refuses; is_turned = c.in-Ok.ensures.ok }
+    record { w = c.in-Some.id; there = has; accepted = c.in-Ok.ensures.refuses; is_changed = c.in-Ok.ensures.ok }
 
 pub returns : goal.returns
 returns c = (

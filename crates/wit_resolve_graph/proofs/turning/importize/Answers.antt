@@ -23,7 +23,7 @@ returns-in-Ok c =
       w = c.in-Some.id;
       there = has;
       accepted = λ error cause. c.in-Ok.ensures.refuses error (subst (λ (o : Option (List ℕ)). IsImportizeCause c.args.resolve.now.graph c.in-Some.id o error) (sym c.out_name.ensures) cause);
-      is_turned = c.in-Ok.ensures.ok ∙ ap (λ (o : Option (List ℕ)). let s : State = record c.args.resolve.now { graph = turned c.args.resolve.now.graph c.in-Some.id (importized o) } in s) c.out_name.ensures;
+      is_changed = c.in-Ok.ensures.ok ∙ ap (λ (o : Option (List ℕ)). let s : State = record c.args.resolve.now { graph = turned c.args.resolve.now.graph c.in-Some.id (importized o) } in s) c.out_name.ensures;
     }
 
 pub returns-in-Some : goal.returns-in-Some
