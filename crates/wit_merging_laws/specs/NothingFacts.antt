@@ -80,7 +80,7 @@ module _ (g : Graph) (offset : ℕ) (valid : IsValid g) where
   none_differ : (message : List ℕ) → GraphsDiffer m message → ⊥
   none_differ message (differ.interfaces p home there name text called of at other) = no_pair (found_interface m) g.interfaces p
   none_differ message (differ.worlds p home there exported text of at other) = no_pair (found_world m) g.worlds p
-  none_differ message (differ.types message first) = no_first first.before first.pair first.after first.pairs_are
+  none_differ message (differ.types told first) = no_first first.before first.pair first.after first.pairs_are
 
   pub nothing_speaks : CanMerge m
   nothing_speaks error (conflict_4 span name one is) = so (λ h. (world : World) → Contains h.worlds world → HasConflict (graph_uses h) world.exports → ⊥) (clear g valid) is.world is.there is.conflict

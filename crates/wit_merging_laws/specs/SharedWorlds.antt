@@ -1,6 +1,6 @@
 -- A world that both graphs have imports the same interfaces under their own keys in both, and in what is made of them:
 -- matched worlds have matched entries, so what is used there by either is imported by both.
-use Rattle.std.proofs.Common.{◌≡◌, ◌∙◌, inl, inr, ℕ, Bool, true, false, List, [], ◌∷◌, length, nat_eq, Option, None, Some, slice_get, refl, sym, ap, subst, arith, Contains}
+use Rattle.std.proofs.Common.{◌≡◌, ◌∙◌, ◌⊎◌, inl, inr, ℕ, Bool, true, false, List, [], ◌∷◌, length, nat_eq, Option, None, Some, slice_get, refl, sym, ap, subst, arith, Contains}
 use Rattle.std.specs.List.{flat_map, list_any}
 use Rattle.std.specs.Map.{lookup}
 use Rattle.std.specs.Option.{option_map_or}
@@ -63,6 +63,10 @@ interface_sort (item.Type_ t span) (item.Type_ t' span') i sort is = cc
 
 one_same : (a b : ℕ) → a ∷ [] ≡ b ∷ [] → a ≡ b
 one_same a b same = cc
+
+-- a type is no interface
+no_instance : (t : ℕ) (span : _) (i : ℕ) → Contains (instance_of (item.Type_ t span)) i → ⊥
+no_instance t span i has = Contains-nil has
 
 -- a type with a stability joined to its entry was that type
 type_before : (from held : WorldItem) (t : ℕ) (span : _) → joined_item false from held ≡ item.Type_ t span → held ≡ item.Type_ t span
@@ -295,9 +299,11 @@ module _ (least : ImportsAreLeast) (m : Merging) (valid : IsValid m.graph) (vali
         let from = (world_keeps_entries m (w', into)).from false (entry (key.Name label) (item.Interface id stability docs span external_id)) has in
         used false from.0 id r from.1 (sym from.3) root_is
     root k (item.Function fn) r has root_is = let named = (root_interface g.types uses k (item.Function fn) r root_is).1 in cc
-    root k (item.Type_ t span) r has root_is =
-        let from = root_interface g.types uses k (item.Type_ t span) r root_is in
-        elim from.2 [ inl same ↦ type_root k t span r has (from.1 ∙ ap (λ (x : ℕ). Some x) same) | inr other ↦ absurd (Contains-nil other.0) ]
+    root k (item.Type_ t span) r has root_is = let from = root_interface g.types uses k (item.Type_ t span) r root_is in by from.0 from.1 from.2
+      where
+        by : (i : ℕ) → type_interface_dep g.types t ≡ Some i → (i ≡ r) ⊎ (Contains (instance_of (item.Type_ t span)) i × Contains (direct uses i) r) → Contains (ids_of into.imports) r
+        by i dep (inl same) = type_root k t span r has (dep ∙ ap (λ (x : ℕ). Some x) same)
+        by i dep (inr other) = absurd (no_instance t span i other.0)
 
     roots : (r : ℕ) → Contains (flat_map (λ (e : Entry). roots_of uses e.0 (role_of g.types e.1)) listed.imports) r → Contains (ids_of into.imports) r
     roots r has = let from = Contains-flat_map_cases (λ (e : Entry). roots_of uses e.0 (role_of g.types e.1)) listed.imports r has in root from.0.0 from.0.1 r from.1.0 from.1.1
