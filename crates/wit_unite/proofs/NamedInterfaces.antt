@@ -29,8 +29,9 @@ use Rattle.wit_growth.specs.DependencyFacts.{filter_map_from, filter_map_into}
 use Rattle.wit_growth.specs.EntryFacts.{export_named, export_uses, import_interface, import_named, import_uses as canonical_import_uses, instance_interface, key_entry, key_named, root_interface, settled_interface}
 use Rattle.wit_growth.specs.ListFacts.{place_of}
 use Rattle.wit_growth.specs.PackageCycles.{ListsKey}
+use Rattle.wit_growth.specs.LawsOfElaboration.{LawsOfElaboration}
 use Rattle.wit_unite.proofs.ListsFrom.{ComesFrom}
-use Rattle.wit_unite.proofs.TurnedWorlds.{Laws, done, in_order, is_elaborated, listed, old_entry}
+use Rattle.wit_unite.proofs.TurnedWorlds.{done, in_order, is_elaborated, listed, old_entry}
 use Rattle.wit_unite.specs.Turned.{Turn}
 
 -- rows that lack some uses of acyclic ones
@@ -46,7 +47,7 @@ fewer_acyclic old rows same fewer acyclic = record {
     old_path i [] j leads = leads
     old_path i (k ∷ path) j leads = (fewer i k leads.0, old_path k path j leads.1)
 
-module _ (g : Graph) (valid : IsValid g) (w : ℕ) (old : World) (there : slice_get g.worlds w ≡ Some old) (turn : Turn) (from : ComesFrom old turn) (laws : Laws)
+module _ (g : Graph) (valid : IsValid g) (w : ℕ) (old : World) (there : slice_get g.worlds w ≡ Some old) (turn : Turn) (from : ComesFrom old turn) (laws : LawsOfElaboration)
     (no_conflict : HasConflict (graph_uses g) turn.exports → ⊥) where
   abbrev rows : List (List ℕ)
   rows = uses_of g.types g.interfaces

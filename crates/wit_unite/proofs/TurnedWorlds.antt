@@ -32,17 +32,9 @@ use Rattle.wit_growth.specs.GoodIsValid.{good_things}
 use Rattle.wit_growth.specs.GoodWorlds.{dependency_export, dependency_import, export_from_import, import_from_export, settled_is_good}
 use Rattle.wit_growth.specs.ListFacts.{Contains-map, contained_at, place_of}
 use Rattle.wit_growth.specs.NamedUses.{IsUsed_named}
+use Rattle.wit_growth.specs.LawsOfElaboration.{LawsOfElaboration}
 use Rattle.wit_unite.proofs.ListsFrom.{ComesFrom}
 use Rattle.wit_unite.specs.Turned.{Turn, is_type, listed_world, turned_world}
-
--- laws of elaboration
-pub record Laws : Type 0 where
-  pub once : ElaboratesOnce
-  pub entries : ElaboratedEntries
-  pub distinct : ElaboratedOnce
-  pub labels : LabelsStay
-  pub least : ImportsAreLeast
-  pub refused : ConflictsAreRefused
 
 abbrev entry : WorldKey → WorldItem → Entry
 entry k held = (k, held)
@@ -97,7 +89,7 @@ module _ (g : Graph) (valid : IsValid g) (w : ℕ) (old : World) (there : slice_
   pub in_order : IsListed g.types (length uses) turn.imports turn.exports
   in_order = in_order_over (length uses) (length-map g.interfaces (interface_uses g.types))
 
-  module _ (laws : Laws) (no_conflict : HasConflict (graph_uses g) turn.exports → ⊥) where
+  module _ (laws : LawsOfElaboration) (no_conflict : HasConflict (graph_uses g) turn.exports → ⊥) where
     pub is_elaborated : Elaborated g.types uses listed done
     is_elaborated = record { no_conflict = no_conflict; world_is = refl }
 
