@@ -15,9 +15,7 @@ use Rattle.wit_items.specs.declared.track.TrackRule.{TrackRule}
 use Rattle.wit_items.specs.declared.world.World.{World}
 use Rattle.wit_items.specs.declared.world.WorldKey.{WorldKey}
 use Rattle.wit_graph.specs.Elaborated.{Elaborated}
-use Rattle.wit_graph.specs.ElaborationLaws.{ConflictsAreRefused, ElaboratesOnce}
 use Rattle.wit_graph.specs.Entries.{ids_of}
-use Rattle.wit_graph.specs.KeptByElaboration.{ElaboratedEntries, ElaboratedOnce, ExportKeysStay, ImportsAreLeast, LabelsStay}
 use Rattle.wit_graph.specs.Listed.{IsListed}
 use Rattle.wit_graph.specs.Valid.{IsValid}
 use Rattle.wit_relations.specs.Relation.{IsAcyclic}

@@ -4,8 +4,8 @@ use Rattle.std.specs.List.{list_any}
 use Rattle.wit_values.specs.Table.{HasDistinctKeys}
 use Rattle.wit_relations.specs.MemberFacts.{Contains-flat_map, Contains-flat_map_cases, Contains-nil}
 use Rattle.wit_relations.specs.Relation.{IsAcyclic}
-use Rattle.wit_items.specs.Entries.{IsExport, IsImport, ItemUsesOwn, is_unnamed, item_interface}
-use Rattle.wit_items.specs.Ownership.{IsNamed, listed_type, world_types}
+use Rattle.wit_items.specs.Entries.{is_unnamed, item_interface}
+use Rattle.wit_items.specs.Ownership.{listed_type, world_types}
 use Rattle.wit_items.specs.declared.interface.Interface.{Interface}
 use Rattle.wit_items.specs.declared.types.TypeDef.{TypeDef}
 use Rattle.wit_items.specs.declared.world.World.{World}
