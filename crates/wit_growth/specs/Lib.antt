@@ -19,6 +19,7 @@ pub mod Growth
 pub mod Image
 pub mod ImagesCome
 pub mod Kept
+pub mod LawsOfElaboration
 pub mod ListFacts
 pub mod NamedUses
 pub mod OnePlace

@@ -5,7 +5,7 @@ use Rattle.std.specs.List.{flat_map, list_any}
 use Rattle.std.proofs.lemmas.Bool.{and_parts, cases_Bool, not_from_false}
 use Rattle.std.proofs.lemmas.List.Elements.{Contains-append_left, Contains-append_right}
 use Rattle.wit_relations.specs.FreshFacts.{any_from_contains, contains_from_any}
-use Rattle.wit_relations.specs.MemberFacts.{Contains-cons_cases, Contains-flat_map, Contains-flat_map_cases, Contains-here, Contains-nil}
+use Rattle.wit_relations.specs.MemberFacts.{Contains-flat_map, Contains-flat_map_cases, Contains-here, Contains-nil}
 use Rattle.wit_relations.specs.Relation.{IsPath, direct}
 use Rattle.wit_items.specs.Entries.{IsImport}
 use Rattle.wit_items.specs.Function.{resource_of}
@@ -21,7 +21,6 @@ use Rattle.wit_graph.proofs.Filters.{Contains-filter, Contains-filtered}
 use Rattle.wit_graph.specs.Entries.{Entry, function_role, id_of, ids_of, instance_of, role_of, type_role}
 use Rattle.wit_graph.specs.Imported.{Needed, exported_keys, roots_of}
 use Rattle.wit_graph.specs.KeptByElaboration.{HoldsImports, ImportsAreLeast}
-use Rattle.wit_graph.specs.ListedFacts.{lists_in_order}
 use Rattle.wit_graph.specs.Valid.{IsValid}
 use Rattle.wit_growth.specs.DependencyFacts.{filter_map_from, filter_map_into}
 use Rattle.wit_growth.specs.EntryFacts.{holds as old_holds, import_uses as import_uses_imported, instance_interface, key_entry, one_of}

@@ -23,11 +23,12 @@ use Rattle.wit_growth.specs.CutIsGood.{distinct_kept}
 use Rattle.wit_growth.specs.DependencyFacts.{needs_from, needs_into}
 use Rattle.wit_growth.specs.ListFacts.{found_at, place_of, same_at}
 use Rattle.wit_growth.specs.AllElaborated.{elaborated_world}
+use Rattle.wit_growth.specs.LawsOfElaboration.{LawsOfElaboration}
 use Rattle.wit_tracks.specs.Rewritten.{is_replaced_entry, listed_world, new_target, relisted_at, retargeted, rewritten_types, staying}
 use Rattle.wit_tracks.specs.TrackCause.{IsComplete}
 use Rattle.wit_tracks.specs.Upgrade.{Upgrade, newest}
 use Rattle.wit_tracks_laws.proofs.Accepting.{complete, elaborates, in_order, listed_there, new_types, new_uses, uses_acyclic}
-use Rattle.wit_tracks_laws.proofs.Merged.{Laws, is_done}
+use Rattle.wit_tracks_laws.proofs.Merged.{is_done}
 use Rattle.wit_tracks_laws.proofs.TypesAfter.{after, needs_after, retargeted_owner, turned_from, turned_type, type_into}
 use Rattle.wit_tracks_laws.specs.TrackLaws.{IsMerged}
 
@@ -136,7 +137,7 @@ kept_label : (u : Upgrade) (k : WorldKey) (held : WorldItem) → is_label k ≡ 
 kept_label u (key.Name name) held label = refl
 kept_label u (key.Interface i) held label = cc
 
-module _ (laws : Laws) (rule : TrackRule) (g : Graph) (w : ℕ) (old new : World) (merged : IsMerged rule g w old new) where
+module _ (laws : LawsOfElaboration) (rule : TrackRule) (g : Graph) (w : ℕ) (old new : World) (merged : IsMerged rule g w old new) where
   abbrev u : Upgrade
   u = record { rule = rule; graph = g; world = old }
 

@@ -15,9 +15,7 @@ use Rattle.wit_items.specs.declared.track.TrackRule.{TrackRule}
 use Rattle.wit_items.specs.declared.world.World.{World}
 use Rattle.wit_items.specs.declared.world.WorldKey.{WorldKey}
 use Rattle.wit_graph.specs.Elaborated.{Elaborated}
-use Rattle.wit_graph.specs.ElaborationLaws.{ConflictsAreRefused, ElaboratesOnce}
 use Rattle.wit_graph.specs.Entries.{ids_of}
-use Rattle.wit_graph.specs.KeptByElaboration.{ElaboratedEntries, ElaboratedOnce, ExportKeysStay, ImportsAreLeast, LabelsStay}
 use Rattle.wit_graph.specs.Listed.{IsListed}
 use Rattle.wit_graph.specs.Valid.{IsValid}
 use Rattle.wit_relations.specs.Relation.{IsAcyclic}
@@ -25,6 +23,7 @@ use Rattle.wit_graph.specs.declared.graph.Graph.{Graph}
 use Rattle.wit_graph.specs.declared.graph.Package.{Package}
 use Rattle.wit_growth.specs.ListFacts.{found_at, place_of, same_at}
 use Rattle.wit_growth.specs.AllElaborated.{elaborated_world}
+use Rattle.wit_growth.specs.LawsOfElaboration.{LawsOfElaboration}
 use Rattle.wit_tracks.specs.Rewritten.{listed_world, relisted_at, rewritten}
 use Rattle.wit_tracks.specs.Tracks.{Versioned, are_on_one_track, have_one_track, is_below, versioned, versioned_in, versioned_of}
 use Rattle.wit_tracks.specs.Upgrade.{Upgrade, is_replaced}
@@ -33,17 +32,7 @@ use Rattle.wit_tracks_laws.proofs.Greatest.{both_from, both_into, stays_from, tr
 use Rattle.wit_tracks_laws.proofs.KeptKeys.{IsKept, kept_holds, kept_root, kept_test, passed}
 use Rattle.wit_tracks_laws.specs.TrackLaws.{IsMerged}
 
--- laws of elaboration
-pub record Laws : Type 0 where
-  pub once : ElaboratesOnce
-  pub entries : ElaboratedEntries
-  pub distinct : ElaboratedOnce
-  pub labels : LabelsStay
-  pub least : ImportsAreLeast
-  pub refused : ConflictsAreRefused
-  pub exports : ExportKeysStay
-
-module _ (laws : Laws) (rule : TrackRule) (g : Graph) (w : ℕ) (old new : World) (merged : IsMerged rule g w old new) where
+module _ (laws : LawsOfElaboration) (rule : TrackRule) (g : Graph) (w : ℕ) (old new : World) (merged : IsMerged rule g w old new) where
   abbrev pub u : Upgrade
   u = record { rule = rule; graph = g; world = old }
 
@@ -202,7 +191,7 @@ module _ (g : Graph) (valid : IsValid g) where
           (ap (λ (n : PackageName). n.version) b.home_is ∙ b.has_version) versions in
           one_interface i j v x a b homes track.name
 
-module _ (laws : Laws) (rule : TrackRule) (g : Graph) (w : ℕ) (old new : World) (merged : IsMerged rule g w old new) where
+module _ (laws : LawsOfElaboration) (rule : TrackRule) (g : Graph) (w : ℕ) (old new : World) (merged : IsMerged rule g w old new) where
   not_outdone : (i j : ℕ) (v x : Versioned) → Contains (ids_of new.imports) i → Contains (ids_of new.imports) j → versioned g.packages g.interfaces i ≡ Some v → versioned g.packages g.interfaces j ≡ Some x
       → have_one_track rule v x ≡ true → is_below v x ≡ true → ⊥
   not_outdone i j v x has_i has_j at_i at_j on below =

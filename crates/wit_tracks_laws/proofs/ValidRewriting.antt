@@ -23,17 +23,17 @@ use Rattle.wit_growth.specs.ListFacts.{at_map, found_at, same_at, some_at}
 use Rattle.wit_growth.specs.OnePlaceFacts.{StandOnce-from_places}
 use Rattle.wit_growth.specs.PackageCycleFacts.{acyclic_packages, packages_stay_acyclic}
 use Rattle.wit_growth.specs.AllElaborated.{elaborated_world, graph_package_uses, type_cycle_text}
+use Rattle.wit_growth.specs.LawsOfElaboration.{LawsOfElaboration}
 use Rattle.wit_tracks.specs.Rewritten.{listed_world, new_target, relisted_at, rewritten}
 use Rattle.wit_tracks.specs.TrackCause.{IsAccepted}
 use Rattle.wit_tracks.specs.Upgrade.{Upgrade}
 use Rattle.wit_tracks_laws.proofs.Accepting.{complete, elaborates, listed_there, new_aliases, new_exports, new_imports, no_package_cycle, no_type_cycle, relisted_worlds, rewritten_is, uses_acyclic}
 use Rattle.wit_tracks_laws.proofs.ListedUses.{listed_lists_uses}
-use Rattle.wit_tracks_laws.proofs.Merged.{Laws}
 use Rattle.wit_tracks_laws.proofs.TypesAfter.{retargeted_name, retargeted_owner, type_after}
 use Rattle.wit_tracks_laws.proofs.TypesGood.{interface_after, known_after, on_the_way, refers_in_range, refers_to_own, unnamed_plain}
 use Rattle.wit_tracks_laws.proofs.WorldsGood.{done, done_is_canonical, done_is_good, from, new, one_place_new, relisted, same_name, same_package, types_stay, world_from}
 
-module _ (laws : Laws) (u : Upgrade) (valid : IsValid u.graph) (w : ℕ) (there : slice_get u.graph.worlds w ≡ Some u.world) (accepted : IsAccepted u.rule u.graph w) where
+module _ (laws : LawsOfElaboration) (u : Upgrade) (valid : IsValid u.graph) (w : ℕ) (there : slice_get u.graph.worlds w ≡ Some u.world) (accepted : IsAccepted u.rule u.graph w) where
   abbrev g : Graph
   g = u.graph
 
@@ -188,7 +188,7 @@ module _ (laws : Laws) (u : Upgrade) (valid : IsValid u.graph) (w : ℕ) (there 
   pub valid_made : IsValid made
   valid_made = IsValid-from_good made good_made whole_made
 
-pub rewritten_is_valid : (laws : Laws) (rule : TrackRule) (g : Graph) (w : ℕ) (old : World) → IsValid g → slice_get g.worlds w ≡ Some old → IsAccepted rule g w → IsValid (rewritten rule g w)
+pub rewritten_is_valid : (laws : LawsOfElaboration) (rule : TrackRule) (g : Graph) (w : ℕ) (old : World) → IsValid g → slice_get g.worlds w ≡ Some old → IsAccepted rule g w → IsValid (rewritten rule g w)
 rewritten_is_valid laws rule g w old valid there accepted =
     let u : Upgrade = record { rule = rule; graph = g; world = old } in
     subst IsValid (sym (rewritten_is rule g w old there)) (valid_made laws u valid w there accepted)

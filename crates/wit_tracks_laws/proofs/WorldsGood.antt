@@ -4,8 +4,8 @@ use Rattle.std.specs.List.{list_any}
 use Rattle.wit_values.specs.Table.{HasDistinctKeys}
 use Rattle.wit_relations.specs.MemberFacts.{Contains-flat_map, Contains-flat_map_cases, Contains-nil}
 use Rattle.wit_relations.specs.Relation.{IsAcyclic}
-use Rattle.wit_items.specs.Entries.{IsExport, IsImport, ItemUsesOwn, is_unnamed, item_interface}
-use Rattle.wit_items.specs.Ownership.{IsNamed, listed_type, world_types}
+use Rattle.wit_items.specs.Entries.{is_unnamed, item_interface}
+use Rattle.wit_items.specs.Ownership.{listed_type, world_types}
 use Rattle.wit_items.specs.declared.interface.Interface.{Interface}
 use Rattle.wit_items.specs.declared.types.TypeDef.{TypeDef}
 use Rattle.wit_items.specs.declared.world.World.{World}
@@ -33,11 +33,11 @@ use Rattle.wit_growth.specs.OnePlace.{HasOnePlace, entries_of}
 use Rattle.wit_growth.specs.OnePlaceCarried.{named_not}
 use Rattle.wit_growth.specs.OnePlaceFrom.{HasOnePlace-from_once}
 use Rattle.wit_growth.specs.AllElaborated.{all_elaborated, elaborated_world}
+use Rattle.wit_growth.specs.LawsOfElaboration.{LawsOfElaboration}
 use Rattle.wit_tracks.specs.Rewritten.{is_replaced_entry, relisted_at}
 use Rattle.wit_tracks.specs.TrackCause.{IsAccepted}
 use Rattle.wit_tracks.specs.Upgrade.{Upgrade, is_replaced}
 use Rattle.wit_tracks_laws.proofs.Accepting.{Relisted, elaborates, in_order, new_aliases, new_exports, new_imports, new_types, new_uses, relisted_from, relisted_worlds, uses_acyclic}
-use Rattle.wit_tracks_laws.proofs.Merged.{Laws}
 use Rattle.wit_tracks_laws.proofs.TypesGood.{item_own_after}
 
 settled_instance : (held : WorldItem) → item_interface (settled_item held) ≡ item_interface held
@@ -58,7 +58,7 @@ listed_is u e n has = by e.0 e.1 has
     by (key.Name name) (item.Function fn) has = absurd (Contains-nil has)
     by (key.Interface f) held has = absurd (Contains-nil has)
 
-module _ (laws : Laws) (u : Upgrade) (valid : IsValid u.graph) (w : ℕ) (there : slice_get u.graph.worlds w ≡ Some u.world) (accepted : IsAccepted u.rule u.graph w) where
+module _ (laws : LawsOfElaboration) (u : Upgrade) (valid : IsValid u.graph) (w : ℕ) (there : slice_get u.graph.worlds w ≡ Some u.world) (accepted : IsAccepted u.rule u.graph w) where
   abbrev types : List TypeDef
   types = new_types u valid w there
 

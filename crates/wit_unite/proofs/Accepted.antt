@@ -24,9 +24,10 @@ use Rattle.wit_graph.specs.IdText.{key_text}
 use Rattle.wit_graph.specs.Imported.{HasConflict}
 use Rattle.wit_graph.specs.Valid.{IsValid}
 use Rattle.wit_growth.specs.ListFacts.{found_at, get_at, place_of}
+use Rattle.wit_growth.specs.LawsOfElaboration.{LawsOfElaboration}
 use Rattle.wit_unite.proofs.Distinct.{entry_of_key}
 use Rattle.wit_unite.proofs.ListsFrom.{ComesFrom, exportized_comes, importized_comes}
-use Rattle.wit_unite.proofs.TurnedWorlds.{Laws, in_order}
+use Rattle.wit_unite.proofs.TurnedWorlds.{in_order}
 use Rattle.wit_unite.proofs.ValidTurns.{turned_is_valid}
 use Rattle.wit_unite.specs.TurnCause.{HasTypeAt, IsExportizeCause, IsImportizeCause, IsTaken, export_conflict, exportized_taken, imports_at, importized_taken, label_clash, label_clash_text, name_taken_text, type_exported, type_exported_text}
 use Rattle.wit_unite.specs.Turned.{AreUnderLabels, Turn, exportized, importized, is_type, turned, turned_at, type_entries}
@@ -65,7 +66,7 @@ pub record IsAcceptedTurn (g : Graph) (w : ℕ) (old : World) (turn : Turn) : Ty
   pub no_conflict : HasConflict (graph_uses g) turn.exports → ⊥
   pub free : (home : Package) → IsTaken g w old turn.name home → ⊥
 
-module _ (laws : Laws) (g : Graph) (valid : IsValid g) (w : ℕ) (out : Option (List ℕ)) where
+module _ (laws : LawsOfElaboration) (g : Graph) (valid : IsValid g) (w : ℕ) (out : Option (List ℕ)) where
   valid_turned : (old : World) (turn : Turn) → slice_get g.worlds w ≡ Some old → IsAcceptedTurn g w old turn → IsValid (turned_at g w old turn)
   valid_turned old turn there accepted =
       let home = home_at g valid w old there in

@@ -1,36 +1,28 @@
 -- What a turned world names, the old one named: so packages depend on no more than they did.
-use Rattle.std.proofs.Common.{◌≡◌, ◌∙◌, ◌⊎◌, inl, inr, ℕ, ◌<◌, Bool, true, false, List, [], ◌∷◌, ◌++◌, Option, None, Some, get_or, length, slice_get, refl, sym, ap, subst, Contains}
-use Rattle.std.specs.List.{list_any}
-use Rattle.std.specs.Prelude.{nat_eq}
-use Rattle.std.proofs.lemmas.List.Elements.{All-contains, Contains-append_cases, Contains-append_left, Contains-append_right, Contains-get_or}
-use Rattle.wit_relations.specs.FreshFacts.{any_from_contains, contains_from_any}
-use Rattle.wit_relations.specs.MemberFacts.{Contains-cons_cases, Contains-flat_map, Contains-flat_map_cases, Contains-here, Contains-nil}
+use Rattle.std.proofs.Common.{◌≡◌, ◌∙◌, inl, inr, ℕ, ◌<◌, List, [], ◌∷◌, ◌++◌, Some, get_or, length, slice_get, sym, ap, subst, Contains}
+use Rattle.std.proofs.lemmas.List.Elements.{All-contains, Contains-append_cases, Contains-get_or}
+use Rattle.wit_relations.specs.MemberFacts.{Contains-flat_map_cases, Contains-here}
 use Rattle.wit_relations.specs.Relation.{IsAcyclic, IsPath, direct}
 use Rattle.wit_items.specs.Entries.{HasExports, HasImports, IsExport}
-use Rattle.wit_items.specs.Function.{resource_of}
-use Rattle.wit_items.specs.Uses.{type_interface_dep, uses_of}
-use Rattle.wit_items.specs.declared.interface.Interface.{Interface}
-use Rattle.wit_items.specs.declared.types.TypeDef.{TypeDef}
+use Rattle.wit_items.specs.Uses.{uses_of}
 use Rattle.wit_items.specs.declared.world.World.{World}
 use Rattle.wit_items.specs.declared.world.WorldItem.{WorldItem}
 use Rattle.wit_items.specs.declared.world.WorldItem.TheVariants as item
 use Rattle.wit_items.specs.declared.world.WorldKey.{WorldKey}
 use Rattle.wit_items.specs.declared.world.WorldKey.TheVariants as key
-use Rattle.wit_graph.specs.Elaborated.{settled_item}
 use Rattle.wit_graph.specs.Elaboration.{graph_uses}
-use Rattle.wit_graph.specs.Entries.{Entry, function_role, ids_of, instance_of, role_of, type_role}
-use Rattle.wit_graph.specs.Imported.{HasConflict, IsImported, Needed, exported_interfaces, exported_keys, roots_of}
-use Rattle.wit_graph.specs.KeptByElaboration.{HoldsImports}
-use Rattle.wit_graph.specs.ListedFacts.{lists_in_order}
+use Rattle.wit_graph.specs.Entries.{Entry, ids_of, instance_of, role_of}
+use Rattle.wit_graph.specs.Imported.{HasConflict, IsImported, Needed, roots_of}
 use Rattle.wit_graph.specs.Relations.{entry_interface, entry_interfaces, world_interfaces}
 use Rattle.wit_graph.specs.Valid.{IsValid}
 use Rattle.wit_graph.specs.declared.graph.Graph.{Graph}
-use Rattle.wit_growth.specs.DependencyFacts.{filter_map_from, filter_map_into}
+use Rattle.wit_growth.specs.DependencyFacts.{filter_map_from}
 use Rattle.wit_growth.specs.EntryFacts.{export_named, export_uses, import_interface, import_named, import_uses as canonical_import_uses, instance_interface, key_entry, key_named, root_interface, settled_interface}
 use Rattle.wit_growth.specs.ListFacts.{place_of}
 use Rattle.wit_growth.specs.PackageCycles.{ListsKey}
+use Rattle.wit_growth.specs.LawsOfElaboration.{LawsOfElaboration}
 use Rattle.wit_unite.proofs.ListsFrom.{ComesFrom}
-use Rattle.wit_unite.proofs.TurnedWorlds.{Laws, done, in_order, is_elaborated, listed, old_entry}
+use Rattle.wit_unite.proofs.TurnedWorlds.{done, in_order, is_elaborated, listed, old_entry}
 use Rattle.wit_unite.specs.Turned.{Turn}
 
 -- rows that lack some uses of acyclic ones
@@ -46,7 +38,7 @@ fewer_acyclic old rows same fewer acyclic = record {
     old_path i [] j leads = leads
     old_path i (k ∷ path) j leads = (fewer i k leads.0, old_path k path j leads.1)
 
-module _ (g : Graph) (valid : IsValid g) (w : ℕ) (old : World) (there : slice_get g.worlds w ≡ Some old) (turn : Turn) (from : ComesFrom old turn) (laws : Laws)
+module _ (g : Graph) (valid : IsValid g) (w : ℕ) (old : World) (there : slice_get g.worlds w ≡ Some old) (turn : Turn) (from : ComesFrom old turn) (laws : LawsOfElaboration)
     (no_conflict : HasConflict (graph_uses g) turn.exports → ⊥) where
   abbrev rows : List (List ℕ)
   rows = uses_of g.types g.interfaces

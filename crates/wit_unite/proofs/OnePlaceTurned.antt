@@ -16,8 +16,9 @@ use Rattle.wit_growth.specs.GoodWorlds.{same_one}
 use Rattle.wit_growth.specs.ListFacts.{contained_at, place_of, same_at}
 use Rattle.wit_growth.specs.OnePlace.{HasOnePlace, Holds, entries_of}
 use Rattle.wit_growth.specs.OnePlaceCarried.{named_not}
+use Rattle.wit_growth.specs.LawsOfElaboration.{LawsOfElaboration}
 use Rattle.wit_unite.proofs.ListsFrom.{ComesFrom}
-use Rattle.wit_unite.proofs.TurnedWorlds.{Laws, done, done_is_good, export_from, import_from}
+use Rattle.wit_unite.proofs.TurnedWorlds.{done, done_is_good, export_from, import_from}
 use Rattle.wit_unite.specs.Turned.{Turn}
 
 -- what stands in a list after a write was written, or is old and elsewhere
@@ -52,7 +53,7 @@ stood_at old e has =
       | inr among ↦ let at = place_of old.exports e among in (true, at.0, at.1)
     ]
 
-module _ (laws : Laws) (g : Graph) (valid : IsValid g) (w : ℕ) (old : World) (there : slice_get g.worlds w ≡ Some old) (turn : Turn) (from : ComesFrom old turn)
+module _ (laws : LawsOfElaboration) (g : Graph) (valid : IsValid g) (w : ℕ) (old : World) (there : slice_get g.worlds w ≡ Some old) (turn : Turn) (from : ComesFrom old turn)
     (no_conflict : HasConflict (graph_uses g) turn.exports → ⊥) (one : HasOnePlace g.interfaces g.worlds) where
   abbrev new : World
   new = done g valid w old there turn from

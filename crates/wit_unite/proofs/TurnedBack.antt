@@ -18,20 +18,20 @@ use Rattle.wit_relations.specs.Relation.{IsPath, direct}
 use Rattle.wit_graph.proofs.Classes.{by_class_in, in_by_class}
 use Rattle.wit_graph.proofs.Filters.{Contains-filter, Contains-filtered}
 use Rattle.wit_graph.specs.Elaboration.{graph_uses}
-use Rattle.wit_graph.specs.ElaborationLaws.{ImportsAreExact}
 use Rattle.wit_graph.specs.Entries.{Entry, by_class, id_of, ids_of, instance_of, role_of}
 use Rattle.wit_graph.specs.Imported.{exported_interfaces, roots_of}
-use Rattle.wit_graph.specs.KeptByElaboration.{ExportKeysStay, is_label, labelled, settled}
+use Rattle.wit_graph.specs.KeptByElaboration.{is_label, labelled, settled}
 use Rattle.wit_graph.specs.Valid.{IsValid}
 use Rattle.wit_graph.specs.declared.error_kind.ResolveErrorKind.{ResolveErrorKind}
 use Rattle.wit_graph.specs.declared.graph.Graph.{Graph}
 use Rattle.wit_growth.specs.EntryFacts.{instance_interface, key_entry, one_of, root_interface}
 use Rattle.wit_growth.specs.ListFacts.{Contains-map, Contains-map_cases, contained_at, get_at, place_of, same_at}
+use Rattle.wit_growth.specs.LawsOfElaboration.{LawsOfElaboration}
 use Rattle.wit_unite.proofs.Accepted.{IsAcceptedTurn, exportized_accepted, importized_accepted, importized_valid}
 use Rattle.wit_unite.proofs.Distinct.{entry_of_key, key_of_entry}
 use Rattle.wit_unite.proofs.ListsFrom.{answered_from, answered_into}
 use Rattle.wit_unite.proofs.NamedInterfaces.{import_uses}
-use Rattle.wit_unite.proofs.TurnedWorlds.{Laws, in_order, is_elaborated, listed}
+use Rattle.wit_unite.proofs.TurnedWorlds.{in_order, is_elaborated, listed}
 use Rattle.wit_unite.specs.TurnCause.{IsExportizeCause, imports_at}
 use Rattle.wit_unite.specs.TurnLaws.{ExportizedImportsNothing, ImportizedExportsNothing, IsBehind, TurnedTwice}
 use Rattle.wit_unite.specs.Turned.{Turn, answered, exportized, importized, turned, turned_at, turned_world, type_entries}
@@ -72,7 +72,7 @@ module _ (es : List Entry) (answers : List Bool) (count : length answers ≡ len
       let answer = get_at answers place.0 (omega arith) in
       answered_into true es answers place.0 e place.1 (answer.1 ∙ ap Some (all place.0 answer.0 answer.1))
 
-module _ (laws : Laws) (g : Graph) (valid : IsValid g) (w : ℕ) (answers : List Bool) (out : Option (List ℕ)) (count : length answers ≡ length (imports_at g w)) (all : Each (λ (answer : Bool). answer ≡ true) answers)
+module _ (laws : LawsOfElaboration) (g : Graph) (valid : IsValid g) (w : ℕ) (answers : List Bool) (out : Option (List ℕ)) (count : length answers ≡ length (imports_at g w)) (all : Each (λ (answer : Bool). answer ≡ true) answers)
     (clear : (error : ResolveErrorKind) → IsExportizeCause g w answers out error → ⊥) where
   nothing_imported : (old : World) → slice_get g.worlds w ≡ Some old → (turned_world g old (exportized answers out old)).imports ≡ []
   nothing_imported old there =
@@ -97,7 +97,7 @@ module _ (laws : Laws) (g : Graph) (valid : IsValid g) (w : ℕ) (answers : List
         ]
       ])
 
-pub exportized_imports_nothing : Laws → ExportizedImportsNothing
+pub exportized_imports_nothing : LawsOfElaboration → ExportizedImportsNothing
 exportized_imports_nothing laws g w answers out new valid count all clear at =
     let from = world_at g w (exportized answers out) new at in
     ap (λ (world : World). world.imports) from.2 ∙ nothing_imported laws g valid w answers out count all clear from.0 from.1
@@ -131,7 +131,7 @@ id_key es j = (
   λ has. let entry = key_entry es j has in subst (Contains (keys_of es)) entry.2 (key_of_entry es entry.0 entry.1),
 )
 
-module _ (laws : Laws) (keep : ExportKeysStay) (exact : ImportsAreExact) (g : Graph) (valid : IsValid g) (w : ℕ) (old : World) (there : slice_get g.worlds w ≡ Some old) (out : Option (List ℕ))
+module _ (laws : LawsOfElaboration) (g : Graph) (valid : IsValid g) (w : ℕ) (old : World) (there : slice_get g.worlds w ≡ Some old) (out : Option (List ℕ))
     (no_types : type_entries old.imports ≡ []) (accepted : IsAcceptedTurn g w old (importized out old)) where
   abbrev turn : Turn
   turn = importized out old
@@ -181,7 +181,7 @@ module _ (laws : Laws) (keep : ExportKeysStay) (exact : ImportsAreExact) (g : Gr
   -- the interfaces under their own keys are those that were so exported, and what is behind
   id_kept : (j : ℕ) → Contains (ids_of mid.imports) j ↔ (Contains (keys_of old.exports) (key.Interface j) ⊎ IsBehind (graph_uses g) old.exports j)
   id_kept j =
-      let imported = exact g.types (graph_uses g) before mid j valid.no_cycles.uses (in_order g valid w old there turn accepted.from) (is_elaborated g valid w old there turn accepted.from laws accepted.no_conflict) in (
+      let imported = laws.exact g.types (graph_uses g) before mid j valid.no_cycles.uses (in_order g valid w old there turn accepted.from) (is_elaborated g valid w old there turn accepted.from laws accepted.no_conflict) in (
         λ has. elim (imported.0 has) [
           | inl need ↦ absurd (Contains-nil need.2)
           | inr reached ↦
@@ -261,7 +261,7 @@ module _ (laws : Laws) (keep : ExportKeysStay) (exact : ImportsAreExact) (g : Gr
         let from = world_at between w (exportized answers again) new at in
         let same : from.0 ≡ mid = same_at between.worlds w w from.0 mid refl from.1 mid_there in
         let new_is : new ≡ turned_world between mid (exportized answers again mid) = from.2 ∙ ap (λ (x : World). turned_world between x (exportized answers again x)) same in
-        let keys = keep between.types (graph_uses between) (listed between valid_between w mid mid_there (exportized answers again mid) second.from) (turned_world between mid (exportized answers again mid)) k valid_between.no_cycles.uses
+        let keys = laws.exports between.types (graph_uses between) (listed between valid_between w mid mid_there (exportized answers again mid) second.from) (turned_world between mid (exportized answers again mid)) k valid_between.no_cycles.uses
         (in_order between valid_between w mid mid_there (exportized answers again mid) second.from) (is_elaborated between valid_between w mid mid_there (exportized answers again mid) second.from laws second.no_conflict) in
         let moved = keys_all mid.imports answers many all k in
         let stay = kept k in (
@@ -269,12 +269,12 @@ module _ (laws : Laws) (keep : ExportKeysStay) (exact : ImportsAreExact) (g : Gr
           λ either. subst (λ (x : World). Contains (keys_of x.exports) k) (sym new_is) (keys.1 (moved.1 (stay.1 either))),
         )
 
-pub turned_twice : Laws → ExportKeysStay → ImportsAreExact → TurnedTwice
-turned_twice laws keep exact g w old new out again answers k valid there no_types clear =
+pub turned_twice : LawsOfElaboration → TurnedTwice
+turned_twice laws g w old new out again answers k valid there no_types clear =
     let accepted = importized_accepted laws g valid w out clear old there in
     let at = turned_is g w (importized out) old there in
     let valid_between = subst IsValid at (importized_valid laws g valid w out clear) in
     subst (λ (h : Graph). length answers ≡ length (imports_at h w) → Each (λ (answer : Bool). answer ≡ true) answers → ((error : ResolveErrorKind) → IsExportizeCause h w answers again error → ⊥)
     → slice_get (turned h w (exportized answers again)).worlds w ≡ Some new
     → Contains (keys_of new.exports) k ↔ (Contains (keys_of old.exports) k ⊎ ((j : ℕ) × (k ≡ key.Interface j) × IsBehind (graph_uses g) old.exports j))) (sym at)
-    (λ count all clear_again found. turned_back laws keep exact g valid w old there out no_types accepted valid_between answers again count all clear_again new found k)
+    (λ count all clear_again found. turned_back laws g valid w old there out no_types accepted valid_between answers again count all clear_again new found k)

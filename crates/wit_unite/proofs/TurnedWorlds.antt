@@ -1,29 +1,25 @@
 -- The turned world of a valid graph is good and canonical.
-use Rattle.std.proofs.Common.{◌≡◌, ◌⊎◌, inl, inr, ℕ, true, List, [], ◌++◌, length, Option, Some, slice_get, refl, sym, ap, subst, Contains}
+use Rattle.std.proofs.Common.{◌≡◌, ◌⊎◌, inl, inr, ℕ, true, List, ◌++◌, length, Some, slice_get, refl, sym, subst, Contains}
 use Rattle.std.proofs.lemmas.List.{length-map}
 use Rattle.std.proofs.lemmas.List.Elements.{Contains-append_cases}
-use Rattle.wit_items.specs.Entries.{IsExport, IsImport, ItemUsesOwn}
-use Rattle.wit_items.specs.Ownership.{IsNamed, listed_type, world_types}
+use Rattle.wit_items.specs.Ownership.{listed_type, world_types}
 use Rattle.wit_items.specs.Uses.{interface_uses, uses_of}
-use Rattle.wit_items.specs.declared.interface.Interface.{Interface}
-use Rattle.wit_items.specs.declared.types.TypeDef.{TypeDef}
 use Rattle.wit_items.specs.declared.world.World.{World}
 use Rattle.wit_items.specs.declared.world.WorldItem.{WorldItem}
 use Rattle.wit_items.specs.declared.world.WorldItem.TheVariants as item
 use Rattle.wit_items.specs.declared.world.WorldKey.{WorldKey}
 use Rattle.wit_items.specs.declared.world.WorldKey.TheVariants as key
-use Rattle.wit_relations.specs.MemberFacts.{Contains-cons_cases, Contains-flat_map, Contains-flat_map_cases, Contains-nil}
+use Rattle.wit_relations.specs.MemberFacts.{Contains-flat_map, Contains-flat_map_cases, Contains-nil}
 use Rattle.wit_graph.proofs.Classes.{in_by_class}
 use Rattle.wit_graph.proofs.Filters.{Contains-filter, Contains-filtered}
 use Rattle.wit_graph.specs.Elaborated.{Elaborated, settled_item}
 use Rattle.wit_graph.specs.Elaboration.{graph_uses}
-use Rattle.wit_graph.specs.ElaborationLaws.{ConflictsAreRefused, ElaboratesOnce}
-use Rattle.wit_graph.specs.Entries.{Entry, by_class, id_of}
-use Rattle.wit_graph.specs.Imported.{HasConflict, exported_keys}
-use Rattle.wit_graph.specs.KeptByElaboration.{ElaboratedEntries, ElaboratedOnce, ImportsAreLeast, IsSettled, LabelsStay, is_label, labelled, settled}
+use Rattle.wit_graph.specs.Entries.{Entry, by_class}
+use Rattle.wit_graph.specs.Imported.{HasConflict}
+use Rattle.wit_graph.specs.KeptByElaboration.{IsSettled, is_label, labelled, settled}
 use Rattle.wit_graph.specs.Listed.{IsListed}
 use Rattle.wit_graph.specs.ListedFacts.{IsListed-of_world}
-use Rattle.wit_graph.specs.Valid.{IsOfPackage, IsValid}
+use Rattle.wit_graph.specs.Valid.{IsValid}
 use Rattle.wit_graph.specs.declared.graph.Graph.{Graph}
 use Rattle.wit_growth.specs.Covered.{IsDependency}
 use Rattle.wit_growth.specs.EntryFacts.{key_entry, named_export}
@@ -32,17 +28,9 @@ use Rattle.wit_growth.specs.GoodIsValid.{good_things}
 use Rattle.wit_growth.specs.GoodWorlds.{dependency_export, dependency_import, export_from_import, import_from_export, settled_is_good}
 use Rattle.wit_growth.specs.ListFacts.{Contains-map, contained_at, place_of}
 use Rattle.wit_growth.specs.NamedUses.{IsUsed_named}
+use Rattle.wit_growth.specs.LawsOfElaboration.{LawsOfElaboration}
 use Rattle.wit_unite.proofs.ListsFrom.{ComesFrom}
 use Rattle.wit_unite.specs.Turned.{Turn, is_type, listed_world, turned_world}
-
--- laws of elaboration
-pub record Laws : Type 0 where
-  pub once : ElaboratesOnce
-  pub entries : ElaboratedEntries
-  pub distinct : ElaboratedOnce
-  pub labels : LabelsStay
-  pub least : ImportsAreLeast
-  pub refused : ConflictsAreRefused
 
 abbrev entry : WorldKey → WorldItem → Entry
 entry k held = (k, held)
@@ -97,7 +85,7 @@ module _ (g : Graph) (valid : IsValid g) (w : ℕ) (old : World) (there : slice_
   pub in_order : IsListed g.types (length uses) turn.imports turn.exports
   in_order = in_order_over (length uses) (length-map g.interfaces (interface_uses g.types))
 
-  module _ (laws : Laws) (no_conflict : HasConflict (graph_uses g) turn.exports → ⊥) where
+  module _ (laws : LawsOfElaboration) (no_conflict : HasConflict (graph_uses g) turn.exports → ⊥) where
     pub is_elaborated : Elaborated g.types uses listed done
     is_elaborated = record { no_conflict = no_conflict; world_is = refl }
 

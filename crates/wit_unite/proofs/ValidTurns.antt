@@ -31,12 +31,13 @@ use Rattle.wit_growth.specs.ListFacts.{contained_at, found_at, from_row, in_row,
 use Rattle.wit_growth.specs.OnePlaceFrom.{HasOnePlace-from_once}
 use Rattle.wit_growth.specs.OnePlaceFacts.{StandOnce-from_places}
 use Rattle.wit_growth.specs.PackagesAcyclic.{is_there, length-numbered, numbered_from, numbered_into, there_is}
+use Rattle.wit_growth.specs.LawsOfElaboration.{LawsOfElaboration}
 use Rattle.wit_unite.proofs.Distinct.{entry_of_key, joined_distinct, more_distinct}
 use Rattle.wit_unite.proofs.ListsFrom.{ComesFrom}
 use Rattle.wit_unite.proofs.Looked.{differs, is_other}
 use Rattle.wit_unite.proofs.NamedInterfaces.{done_named, fewer_acyclic}
 use Rattle.wit_unite.proofs.OnePlaceTurned.{one_place_turned, set_split}
-use Rattle.wit_unite.proofs.TurnedWorlds.{Laws, done, done_is_canonical, done_is_good, types_stay}
+use Rattle.wit_unite.proofs.TurnedWorlds.{done, done_is_canonical, done_is_good, types_stay}
 use Rattle.wit_unite.specs.TurnCause.{IsTakenIn}
 use Rattle.wit_unite.specs.Turned.{Turn, put_last, turned_at, with_renamed}
 
@@ -51,7 +52,7 @@ some_is P (Some q) p is h = let same : q ≡ p = cc in subst P same h
 some_of : (P : ℕ → Type 0) (o : Option ℕ) (p : ℕ) → o ≡ Some p → P p → IsSomeAnd o P
 some_of P o p is h = subst (λ (x : Option ℕ). IsSomeAnd x P) (sym is) h
 
-module _ (laws : Laws) (g : Graph) (valid : IsValid g) (w : ℕ) (old : World) (there : slice_get g.worlds w ≡ Some old) (turn : Turn) (from : ComesFrom old turn)
+module _ (laws : LawsOfElaboration) (g : Graph) (valid : IsValid g) (w : ℕ) (old : World) (there : slice_get g.worlds w ≡ Some old) (turn : Turn) (from : ComesFrom old turn)
     (no_conflict : HasConflict (graph_uses g) turn.exports → ⊥) (p : ℕ) (home : Package) (of : old.package ≡ Some p) (at_home : slice_get g.packages p ≡ Some home)
     (free : IsTakenIn home w turn.name → ⊥) where
   abbrev new_world : World

@@ -2,33 +2,20 @@
 ghost use Rattle.wit_unite.specs.TurnExamples.{ExamplesOfRefusedTurns, ExamplesOfTurns};
 ghost use Rattle.wit_unite.specs.TurnLaws.{ExportizedImportsNothing, ExportizedStayValid, ImportizedExportsNothing, ImportizedStayValid, TurnedTwice};
 
-use wit_graph::laws::{
-    conflicts_are_refused, elaborated_entries, elaborated_once, elaborates_once, export_keys_stay,
-    imports_are_exact, imports_are_least, labels_stay,
-};
+use wit_growth::laws::laws_of_elaboration;
 
 /// A valid graph with a world whose exports became imports is valid, where nothing speaks against it.
 pub fn importized_stay_valid()
     ensures { ImportizedStayValid }
 {
-    elaborates_once();
-    elaborated_entries();
-    elaborated_once();
-    labels_stay();
-    imports_are_least();
-    conflicts_are_refused();
+    laws_of_elaboration();
 }
 
 /// So is one with a world whose imports became exports.
 pub fn exportized_stay_valid()
     ensures { ExportizedStayValid }
 {
-    elaborates_once();
-    elaborated_entries();
-    elaborated_once();
-    labels_stay();
-    imports_are_least();
-    conflicts_are_refused();
+    laws_of_elaboration();
 }
 
 /// A world whose exports became its imports exports nothing.
@@ -40,12 +27,7 @@ pub fn importized_exports_nothing()
 pub fn exportized_imports_nothing()
     ensures { ExportizedImportsNothing }
 {
-    elaborates_once();
-    elaborated_entries();
-    elaborated_once();
-    labels_stay();
-    imports_are_least();
-    conflicts_are_refused();
+    laws_of_elaboration();
 }
 
 /// A world without types that is turned and turned back exports what it exported and, under its own key,
@@ -53,14 +35,7 @@ pub fn exportized_imports_nothing()
 pub fn turned_twice()
     ensures { TurnedTwice }
 {
-    elaborates_once();
-    elaborated_entries();
-    elaborated_once();
-    labels_stay();
-    imports_are_least();
-    conflicts_are_refused();
-    export_keys_stay();
-    imports_are_exact();
+    laws_of_elaboration();
 }
 
 /// Small graphs: what turns make of them, and what they don't.

@@ -4,11 +4,4 @@ use Rattle.wit_unite.proofs.laws.importized_stay_valid.Goals as goal
 pub returns : goal.returns
 returns c =
     λ g w out valid clear.
-    importized_valid (record {
-      once = c.elaborates_once.ensures;
-      entries = c.elaborated_entries.ensures;
-      distinct = c.elaborated_once.ensures;
-      labels = c.labels_stay.ensures;
-      least = c.imports_are_least.ensures;
-      refused = c.conflicts_are_refused.ensures;
-    }) g valid w out clear
+    importized_valid c.laws_of_elaboration.ensures g valid w out clear

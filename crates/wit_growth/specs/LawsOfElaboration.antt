@@ -1,0 +1,13 @@
+-- The laws of elaboration on which laws of the crates above stand, together.
+use Rattle.wit_graph.specs.ElaborationLaws.{ConflictsAreRefused, ElaboratesOnce, ImportsAreExact}
+use Rattle.wit_graph.specs.KeptByElaboration.{ElaboratedEntries, ElaboratedOnce, ExportKeysStay, ImportsAreLeast, LabelsStay}
+
+pub record LawsOfElaboration : Type 0 where
+  pub once : ElaboratesOnce
+  pub entries : ElaboratedEntries
+  pub distinct : ElaboratedOnce
+  pub labels : LabelsStay
+  pub least : ImportsAreLeast
+  pub exact : ImportsAreExact
+  pub refused : ConflictsAreRefused
+  pub exports : ExportKeysStay
