@@ -1,10 +1,11 @@
 -- Rising ids that are just those that take part are the places of what is taken.
-use Rattle.std.proofs.Common.{◌≡◌, ◌∙◌, ℕ, suc, ◌+◌, ◌<◌, inl, inr, Bool, true, false, List, [], ◌∷◌, Option, None, Some, Contains, is_some, nat_eq, option_map, slice_get, unwrap_or, refl, sym, ap, arith, if◌then◌else◌}
+use Rattle.std.proofs.Common.{◌≡◌, ◌∙◌, ℕ, suc, ◌+◌, ◌<◌, inl, inr, Bool, true, false, List, [], ◌∷◌, Option, None, Some, Contains, is_some, length, nat_eq, option_map, slice_get, unwrap_or, refl, sym, ap, arith, if◌then◌else◌}
 use Rattle.std.specs.List.{list_any}
 use Rattle.std.specs.List.Sorted.{IsStrictlySortedBy}
-use Rattle.std.specs.Map.{lookup}
+use Rattle.std.specs.Map.{keys_of, lookup}
 use Rattle.std.specs.Ordering.{nat_cmp}
 use Rattle.std.proofs.lemmas.Bool.{cases_lt, false≢true}
+use Rattle.std.proofs.lemmas.List.{length-map}
 use Rattle.std.proofs.lemmas.Option.{slice_get-map}
 use Rattle.wit_relations.specs.FreshFacts.{any_from_contains, contains_from_any}
 use Rattle.wit_relations.specs.MemberFacts.{Contains-cons_cases, Contains-here, Contains-nil, Contains-there}
@@ -119,3 +120,24 @@ module _ {X : Type 0} (kept : ℕ → Bool) (xs : List X) where
             ∙ sym is
         by false is =
             ap (λ (o : Option ℕ). is_some o) (numbered-none n (places kept xs) i (λ has. false≢true (sym is ∙ kept_in i has))) ∙ sym is
+
+-- ---- a table of which the keys are the places of what is taken: the key at a place
+
+key_at : (table : List (ℕ × ℕ)) (i k v : ℕ) → slice_get table i ≡ Some (k, v) → slice_get (keys_of table) i ≡ Some k
+key_at table i k v at = slice_get-map (λ (e : ℕ × ℕ). e.0) table i ∙ ap (option_map (λ (e : ℕ × ℕ). e.0)) at
+
+pub key_below : (table : List (ℕ × ℕ)) (n i k v : ℕ) → ((t : ℕ) → Contains (keys_of table) t → t < n) → slice_get table i ≡ Some (k, v) → k < n
+key_below table n i k v below at = below k (contained_at (keys_of table) i k (key_at table i k v at))
+
+-- what it names is taken at its place
+pub key_takes : {X : Type 0} (kept : ℕ → Bool) (xs : List X) (table : List (ℕ × ℕ)) (i k v : ℕ) (x : X) → keys_of table ≡ places kept xs → slice_get table i ≡ Some (k, v) → slice_get xs k ≡ Some x
+    → slice_get (taken kept xs) i ≡ Some x
+key_takes kept xs table i k v x keys at there =
+    let found = place_from kept xs i k (ap (λ (ks : List ℕ). slice_get ks i) (sym keys) ∙ key_at table i k v at) in
+    found.2 ∙ (sym found.1 ∙ there)
+
+-- as much is taken as it names
+pub takes_all : {X : Type 0} (kept : ℕ → Bool) (xs : List X) (table : List (ℕ × ℕ)) → keys_of table ≡ places kept xs → length (taken kept xs) ≡ length table
+takes_all {X} kept xs table keys =
+    length-map (taken_places kept xs) (λ (e : ℕ × X). e.1)
+    ∙ (sym (length-map (taken_places kept xs) (λ (e : ℕ × X). e.0)) ∙ (ap (λ (ks : List ℕ). length ks) (sym keys) ∙ length-map table (λ (e : ℕ × ℕ). e.0)))
