@@ -1,15 +1,20 @@
 #!/usr/bin/env python3
 """Runs `witgraph` on generated scripts of growing sizes, and shows how time and memory grow.
 
-    python3 bench/growth.py PATH/TO/witgraph [SIZE ..]
+    python3 bench/growth.py PATH/TO/witgraph [--kind KIND].. [SIZE ..]
 
-Each kind of script is run at each size, three times; the fastest run counts. The table shows the time
-of each size as a ratio to that of the size before, which for linear growth is the ratio of the sizes.
+Each kind of script (all, where none is named) is run at each size, three times (once where a run takes more
+than ten seconds); the fastest run counts. The table shows time and peak memory of each size, also as ratios
+to those of the size before: for linear growth they are the ratio of the bytes.
 """
-import resource
+import os
 import subprocess
 import sys
+import tempfile
 import time
+
+# sizes other than 1,000, 10,000 and 100,000
+SIZES = {"pushes": [1000, 10000]}
 
 
 def chain(size):
@@ -39,57 +44,150 @@ def separate(size):
 
 
 def worlds(size):
-    """One interface that uses another, and worlds that each import it."""
+    """Worlds that each import, and worlds that each export, the last of three interfaces in a chain."""
     yield "package foo:bar"
     yield "interface a"
     yield "type t u32"
     yield "interface b"
     yield "use a t"
+    yield "interface c"
+    yield "use b t"
     for number in range(size):
         yield f"world w{number}"
-        yield "import b"
+        yield "export c" if number % 2 else "import c"
     yield "push"
     yield f"print foo:bar w{size - 1}"
 
 
-KINDS = {"chain": chain, "separate": separate, "worlds": worlds}
+def aliases(size):
+    """One interface of types that are each an alias of the one before."""
+    yield "package foo:bar"
+    yield "interface a"
+    yield "type t0 u32"
+    for number in range(1, size):
+        yield f"type t{number} t{number - 1}"
+    yield "push"
 
 
-def run(program, script):
-    begin = time.perf_counter()
-    done = subprocess.run([program], input=script, capture_output=True, check=False)
-    return time.perf_counter() - begin, done
+def nested(size):
+    """One type in one line: a list of a list of a list, that deep."""
+    yield "package foo:bar"
+    yield "interface a"
+    yield "type t " + "list<" * size + "u32" + ">" * size
+    yield "push"
+
+
+def fields(size):
+    """A record of that many fields."""
+    yield "package foo:bar"
+    yield "interface a"
+    yield "record r " + " ".join(f"f{number}:u32" for number in range(size))
+    yield "push"
+
+
+def includes(size):
+    """A chain of worlds that each include the one before; the first has ten labels."""
+    yield "package foo:bar"
+    yield "world w0"
+    for number in range(10):
+        yield f"import-func f{number}()"
+    for number in range(1, size):
+        yield f"world w{number}"
+        yield f"include w{number - 1}"
+    yield "push"
+    yield f"print foo:bar w{size - 1}"
+
+
+def resources(size):
+    """Resources, and functions that take one each; each resource has one `own`, however often it is taken."""
+    yield "package foo:bar"
+    yield "interface a"
+    for number in range(size):
+        yield f"resource r{number}"
+        yield f"func f{number}(first:r{number},second:r{number // 2})"
+    yield "push"
+
+
+def members(size):
+    yield "package foo:p0"
+    yield "interface a"
+    yield "type t u32"
+    for number in range(1, size):
+        yield f"package foo:p{number}"
+        yield "interface a"
+        yield f"use foo:p{number - 1}/a t"
+
+
+def groups(size):
+    """Packages handed in together, each naming the one before."""
+    yield from members(size)
+    yield "push"
+
+
+def pushes(size):
+    """The same packages, pushed one after another."""
+    for number, line in enumerate(members(size)):
+        if number and line.startswith("package"):
+            yield "push"
+        yield line
+    yield "push"
+
+
+KINDS = {
+    it.__name__: it
+    for it in (chain, separate, worlds, aliases, nested, fields, includes, resources, groups, pushes)
+}
+
+
+def run(program, script, out):
+    """The seconds and the peak of memory, in MiB, of one run, which has to end well."""
+    with tempfile.TemporaryFile() as given:
+        given.write(script)
+        given.seek(0)
+        out.seek(0)
+        out.truncate()
+        begin = time.perf_counter()
+        child = subprocess.Popen([program], stdin=given, stdout=out)
+        _, status, usage = os.wait4(child.pid, 0)
+        seconds = time.perf_counter() - begin
+    child.returncode = status
+    if status != 0:
+        out.seek(0)
+        sys.exit(f"status {status}, {out.read(200)!r}")
+    return seconds, usage.ru_maxrss / 1024
 
 
 def measure(program, kind, size):
     script = ("\n".join(KINDS[kind](size)) + "\n").encode()
-    times = []
-    for _ in range(3):
-        seconds, done = run(program, script)
-        if done.returncode != 0:
-            sys.exit(f"{kind} of {size}: status {done.returncode}, {done.stdout[:200]!r}")
-        times.append(seconds)
-    return min(times), len(script), len(done.stdout)
+    with tempfile.TemporaryFile() as out:
+        runs = [run(program, script, out)]
+        while len(runs) < 3 and runs[0][0] < 10:
+            runs.append(run(program, script, out))
+    return len(script), min(it[0] for it in runs), min(it[1] for it in runs)
 
 
 def main():
-    if len(sys.argv) < 2:
+    words, kinds, sizes = sys.argv[1:], [], []
+    if not words:
         sys.exit(__doc__)
-    program = sys.argv[1]
-    sizes = [int(size) for size in sys.argv[2:]] or [1000, 10000, 100000]
-    print("| script | size | bytes | seconds | ratio of sizes | ratio of times |")
-    print("|---|---|---|---|---|---|")
-    for kind in KINDS:
+    program = words.pop(0)
+    while words:
+        word = words.pop(0)
+        if word == "--kind":
+            kinds.append(words.pop(0))
+        else:
+            sizes.append(int(word))
+    print("| script | size | bytes | seconds | MiB | ratio of bytes | of times | of memory |")
+    print("|---|---|---|---|---|---|---|---|")
+    for kind in kinds or KINDS:
         before = None
-        for size in sizes:
-            seconds, length, _ = measure(program, kind, size)
-            ratios = "| | |"
-            if before:
-                ratios = f"| {size / before[0]:.1f} | {seconds / before[1]:.1f} |"
-            print(f"| {kind} | {size} | {length} | {seconds:.3f} {ratios}", flush=True)
-            before = (size, seconds)
-    peak = resource.getrusage(resource.RUSAGE_CHILDREN).ru_maxrss // 1024
-    print(f"\nlargest memory of a run: {peak} MiB")
+        for size in sizes or SIZES.get(kind, [1000, 10000, 100000]):
+            now = measure(program, kind, size)
+            ratios = [f"{a / b:.1f}" for a, b in zip(now, before)] if before else ["", "", ""]
+            length, seconds, peak = now
+            row = [kind, f"{size:,}", f"{length:,}", f"{seconds:.3f}", f"{peak:.0f}", *ratios]
+            print("| " + " | ".join(row) + " |", flush=True)
+            before = now
 
 
 if __name__ == "__main__":

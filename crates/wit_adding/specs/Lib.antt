@@ -1,7 +1,6 @@
 pub mod Adding
 pub mod Addition
 pub mod ApartFacts
-pub mod Behind
 pub mod Cause
 pub mod CauseText
 pub mod ClosedCut

@@ -55,6 +55,10 @@ begun_with a w world includes g = fold (with_include a (length g.worlds)) (recor
 abbrev pub begun : Addition → ℕ → World → Graph → Begun
 begun a w world g = begun_with a w world (active_includes a world) g
 
+-- a world with its setters after their getters
+abbrev pub with_placed : World → World
+with_placed world = record world { imports = placed world.imports; exports = placed world.exports }
+
 -- the world with these lists, its setters after their getters, elaborated
 abbrev pub finished : Addition → ℕ → World → Begun → World
 finished a w world b = record (world_image (addition_maps a) w world) {

@@ -23,10 +23,10 @@ use Rattle.wit_growth.specs.ListFacts.{Contains-map_cases, at_map, contained_at,
 use Rattle.wit_growth.specs.Sources.{Stands}
 use Rattle.wit_adding.specs.Addition.{Addition, active, addition_maps, interface_place, own_world, own_worlds, part, type_place, world_place}
 use Rattle.wit_adding.specs.ApartFacts.{KeyTakesPart, keys_apart}
-use Rattle.wit_adding.specs.Behind.{with_placed}
 use Rattle.wit_adding.specs.ClosedCut.{closed_part}
 use Rattle.wit_adding.specs.Gates.{interface_is_active}
 use Rattle.wit_adding.specs.OwnThingFacts.{own_world_from}
+use Rattle.wit_adding.specs.Pushed.{with_placed}
 use Rattle.wit_adding.specs.RankFacts.{taken_places-at}
 use Rattle.wit_adding.specs.Ranks.{rank, taken_places}
 use Rattle.wit_adding.specs.Reasons.{HasImage}

@@ -14,9 +14,8 @@ use Rattle.wit_graph.specs.Imported.{HasConflict}
 use Rattle.wit_graph.specs.declared.graph.Graph.{Graph}
 use Rattle.wit_growth.specs.Image.{world_image}
 use Rattle.wit_adding.specs.Addition.{Addition, addition_maps, world_place}
-use Rattle.wit_adding.specs.Behind.{with_placed}
 use Rattle.wit_adding.specs.Include.{Begun, Lists, with_world_included}
-use Rattle.wit_adding.specs.Pushed.{finished, with_include}
+use Rattle.wit_adding.specs.Pushed.{finished, with_include, with_placed}
 use Rattle.wit_adding.specs.WorldReasons.{IsShadowed, renamed_key}
 use Rattle.wit_labels.specs.Setters.{placed}
 use Rattle.wit_adding_laws.specs.ListedStage.{listed_images}

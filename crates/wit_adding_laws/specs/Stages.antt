@@ -23,9 +23,8 @@ use Rattle.wit_graph.specs.declared.graph.Graph.{Graph}
 use Rattle.wit_growth.specs.Image.{world_image}
 use Rattle.wit_growth.specs.ListFacts.{at_map, get_at}
 use Rattle.wit_adding.specs.Addition.{Addition, active_includes, addition_maps, own_worlds, world_place}
-use Rattle.wit_adding.specs.Behind.{with_placed}
 use Rattle.wit_adding.specs.Include.{Begun}
-use Rattle.wit_adding.specs.Pushed.{begun, begun_with, finished, with_include, with_parts, with_world, with_worlds}
+use Rattle.wit_adding.specs.Pushed.{begun, begun_with, finished, with_include, with_parts, with_placed, with_world, with_worlds}
 use Rattle.wit_adding.specs.Reasons.{HasImage}
 use Rattle.wit_adding.specs.WorldReasons.{IncludeIsFine, WorldIsFine}
 use Rattle.wit_labels.specs.Setters.{placed}

@@ -1,10 +1,6 @@
 -- Why a world can't be finished, from what its steps tell.
-use Rattle.std.proofs.Common.{◌≡◌, ◌∙◌, ◌⊎◌, inl, inr, ℕ, List, [], ◌∷◌, ◌++◌, length, map, None, Some, Contains, codes, refl, sym, ap, subst, slice_get, take}
-use Rattle.std.proofs.Math.Seq.{take-append_seam}
-use Rattle.std.proofs.lemmas.List.{append_assoc, map-append}
-use Rattle.std.specs.List.{AllByRecursion}
+use Rattle.std.proofs.Common.{◌≡◌, ◌⊎◌, inl, inr, ℕ, List, None, Some, Contains, codes, refl, sym, subst, slice_get}
 use Rattle.std.specs.Map.{keys_of}
-use Rattle.wit_values.specs.Lists.{AllByRecursion-push, slice_get-behind}
 use Rattle.wit_items.specs.Entries.{Entry}
 use Rattle.wit_items.specs.declared.function.Function.{Function}
 use Rattle.wit_items.specs.declared.world.World.{World}
@@ -20,7 +16,7 @@ use Rattle.wit_growth.specs.ListFacts.{contained_at, same_at}
 use Rattle.wit_labels.specs.Setters.{IsSetter, LacksGetterAt, getter_label, placed}
 use Rattle.wit_labels.specs.Strong.{Clashes}
 use Rattle.wit_adding.specs.CauseText.{clash_text, getter_text}
-use Rattle.wit_finishing.specs.Finished.{CanFinish, IsFinishCause, StopsAt, finished_world, with_all_finished, with_finished, conflict_4, no_getter_18, not_strongly_unique_17}
+use Rattle.wit_finishing.specs.Finished.{CanFinish, IsFinishCause, conflict_4, no_getter_18, not_strongly_unique_17}
 use Rattle.wit_finishing.specs.Labels.{IsLabelError, IsListError, LabelsAreFine, ListIsFine, alone, clash}
 
 -- ---- labels
@@ -84,45 +80,3 @@ none g world fine no_conflict _ (no_getter_18 word label f is) = is.absent ((lis
 
 pub can_finish : (g : Graph) (world : World) → LabelsAreFine world → (HasConflict (graph_uses g) (placed world.exports) → ⊥) → CanFinish g world
 can_finish g world fine no_conflict = record { no_cause = none g world fine no_conflict; no_conflict = no_conflict }
-
--- ---- reasons don't look at the worlds of a graph
-
-pub cause_before : (g : Graph) (worlds : List World) (world : World) (kind : ResolveErrorKind) → IsFinishCause (record g { worlds = worlds }) world kind → IsFinishCause g world kind
-cause_before g worlds world _ (conflict_4 name is) = conflict_4 name (record { conflict = is.conflict; name_is = is.name_is })
-cause_before g worlds world _ (not_strongly_unique_17 word n m is) = not_strongly_unique_17 word n m is
-cause_before g worlds world _ (no_getter_18 word label f is) = no_getter_18 word label f is
-
-pub cause_behind : (g : Graph) (worlds : List World) (world : World) (kind : ResolveErrorKind) → IsFinishCause g world kind → IsFinishCause (record g { worlds = worlds }) world kind
-cause_behind g worlds world _ (conflict_4 name is) = conflict_4 name (record { conflict = is.conflict; name_is = is.name_is })
-cause_behind g worlds world _ (not_strongly_unique_17 word n m is) = not_strongly_unique_17 word n m is
-cause_behind g worlds world _ (no_getter_18 word label f is) = no_getter_18 word label f is
-
--- ---- several worlds
-
--- one world more is finished
-pub finished_more : (g : Graph) (worlds : List World) (world : World) → with_finished (with_all_finished g worlds) world ≡ with_all_finished g (worlds ++ world ∷ [])
-finished_more g worlds world =
-    ap (λ (ws : List World). record g { worlds = ws }) (append_assoc g.worlds (map (finished_world g) worlds) (finished_world g world ∷ []) ∙ ap (λ (ws : List World). g.worlds ++ ws) (sym (map-append (finished_world g) worlds (world ∷ []))))
-
-pub can_finish_more : (g : Graph) (worlds : List World) (world : World) → AllByRecursion (CanFinish g) worlds → CanFinish (with_all_finished g worlds) world → AllByRecursion (CanFinish g) (worlds ++ world ∷ [])
-can_finish_more g worlds world fine more =
-    AllByRecursion-push (CanFinish g) worlds world fine (record { no_cause = λ kind is. more.no_cause kind (cause_behind g (g.worlds ++ map (finished_world g) worlds) world kind is); no_conflict = more.no_conflict })
-
--- the worlds before the one that can't be finished are the first ones
-pub stopped : (g : Graph) (worlds before after : List World) (world : World) → before ++ world ∷ after ≡ worlds → (g' : Graph) → g' ≡ with_all_finished g before → (k : ℕ) × (g' ≡ with_all_finished g (take k worlds))
-stopped g worlds before after world are g' is =
-    (length before, is ∙ ap (with_all_finished g) (sym (take-append_seam before (world ∷ after)) ∙ ap (take (length before)) are))
-
-pub stop_cause : (g : Graph) (worlds before after : List World) (world : World) → before ++ world ∷ after ≡ worlds → AllByRecursion (CanFinish g) before → (kind : ResolveErrorKind)
-    → (kind ≡ OutOfMemory) ⊎ IsFinishCause (with_all_finished g before) world kind → (kind ≡ OutOfMemory) ⊎ ((k : ℕ) × StopsAt g worlds kind k)
-stop_cause g worlds before after world are fine kind (inl memory) = inl memory
-stop_cause g worlds before after world are fine kind (inr is) =
-    inr (
-      length before,
-      subst (λ (ws : List World). StopsAt g ws kind (length before)) are (record {
-        world = world;
-        is = slice_get-behind before after world;
-        earlier = subst (AllByRecursion (CanFinish g)) (sym (take-append_seam before (world ∷ after))) fine;
-        cause = cause_before g (g.worlds ++ map (finished_world g) before) world kind is;
-      }),
-    )

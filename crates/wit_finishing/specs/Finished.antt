@@ -1,8 +1,7 @@
 -- The last step of a world: its setters go after their getters, and it is elaborated; and why that is refused.
 -- Source: `process_world_includes`, `validate_world_strongly_unique_names` and `elaborate_world` of wit-parser
 -- 0.263.0.
-use Rattle.std.specs.Prelude.{◌≡◌, ℕ, List, [], ◌∷◌, ◌++◌, map, take, slice_get, Contains, None, Some}
-use Rattle.std.specs.List.{AllByRecursion}
+use Rattle.std.specs.Prelude.{ℕ, List, [], ◌∷◌, ◌++◌, Contains, None}
 use Rattle.std.specs.Map.{keys_of}
 use Rattle.wit_items.specs.Entries.{Entry}
 use Rattle.wit_items.specs.declared.function.Function.{Function}
@@ -62,16 +61,3 @@ pub data IsFinishCause (g : Graph) (world : World) : ResolveErrorKind → Type 0
 pub record CanFinish (g : Graph) (world : World) : Type 0 where
   pub no_cause : (kind : ResolveErrorKind) → IsFinishCause g world kind → ⊥
   pub no_conflict : HasConflict (graph_uses g) (placed world.exports) → ⊥
-
--- ---- several worlds
-
--- the graph with several finished worlds behind its worlds
-abbrev pub with_all_finished : Graph → List World → Graph
-with_all_finished g worlds = record g { worlds = g.worlds ++ map (finished_world g) worlds }
-
--- world k of several is the first that can't be finished, for this reason
-pub record StopsAt (g : Graph) (worlds : List World) (kind : ResolveErrorKind) (k : ℕ) : Type 0 where
-  pub world : World
-  pub is : slice_get worlds k ≡ Some world
-  pub earlier : AllByRecursion (CanFinish g) (take k worlds)
-  pub cause : IsFinishCause g world kind

@@ -1,11 +1,9 @@
 //! A world is finished.
-ghost use Rattle.std.specs.Prelude.{◌≡◌, ◌⊎◌, ℕ, IfErr, IfOk, OnOk, OnErr, length, take};
-ghost use Rattle.std.specs.List.{AllByRecursion};
-ghost use Rattle.wit_finishing.specs.Finished.{CanFinish, IsFinishCause, StopsAt, with_all_finished, with_finished};
+ghost use Rattle.std.specs.Prelude.{◌≡◌, ◌⊎◌, IfErr, IfOk, OnOk, OnErr, length};
+ghost use Rattle.wit_finishing.specs.Finished.{CanFinish, IsFinishCause, with_finished};
 ghost use Rattle.wit_graph.specs.Elaboration.{graph_uses};
 ghost use Rattle.wit_graph.specs.Listed.{IsListed};
 ghost use Rattle.wit_graph.specs.declared.error_kind.ResolveErrorKind.TheVariants.{OutOfMemory};
-ghost use Rattle.wit_items.specs.declared.world.World.{World};
 ghost use Rattle.wit_labels.specs.Setters.{placed};
 ghost use Rattle.wit_relations.specs.Relation.{IsAcyclic};
 
@@ -13,7 +11,7 @@ use crate::labels::check_labels;
 use std::alloc::{AllocError, Global};
 use std::mem;
 use wit_graph::{Elaborator, Graph, ResolveResult};
-use wit_items::{Items, Table, World};
+use wit_items::{Table, World};
 use wit_labels::place_setters;
 
 /// Finishes a world over the types and interfaces of a graph and puts it behind the graph's worlds: its setters
@@ -55,28 +53,4 @@ fn with_placed_setters(alloc: Global, world: World) -> Result<World, AllocError>
     drop(mem::replace(&mut world.imports, place_setters(alloc, imports)?));
     drop(mem::replace(&mut world.exports, place_setters(alloc, exports)?));
     Ok(world)
-}
-
-/// Finishes worlds, one after another, over the types and interfaces of a graph, and puts them behind the graph's
-/// worlds.
-///
-/// Refused where one of them can't be finished, as `finish_world`. After a refusal those before it stand behind the
-/// worlds of the graph.
-pub fn finish_worlds(alloc: Global, graph: &mut Graph, worlds: Items<World>) -> ResolveResult<()>
-    requires acyclic { IsAcyclic (graph_uses graph.old) }
-    requires listed { AllByRecursion (λ (world : World). IsListed graph.old.types (length graph.old.interfaces) (placed world.imports) (placed world.exports)) worlds }
-    ensures ok { OnOk result (graph.new ≡ with_all_finished graph.old worlds) }
-    ensures fine { OnOk result (AllByRecursion (CanFinish graph.old) worlds) }
-    ensures err { OnErr result ((k : ℕ) × (graph.new ≡ with_all_finished graph.old (take k worlds))) }
-    ensures cause { IfErr result (λ kind. (kind ≡ OutOfMemory) ⊎ ((k : ℕ) × StopsAt graph.old worlds kind k)) }
-{
-    let mut elaborator = Elaborator::new(
-        alloc,
-        graph.types.as_slice(),
-        graph.interfaces.as_slice(),
-    )?;
-    for world in worlds.into_vec() {
-        finish_world(alloc, graph, &mut elaborator, world)?;
-    }
-    Ok(())
 }

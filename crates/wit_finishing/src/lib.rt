@@ -5,4 +5,4 @@
 pub mod finishing;
 mod labels;
 
-pub use crate::finishing::{finish_world, finish_worlds};
+pub use crate::finishing::finish_world;

@@ -291,12 +291,12 @@ module _ (g : Graph) (include : WorldInclude) (home : ℕ) (world : World) (g' :
   told_of : (P : Bool → List Entry → Type 0) (l l' : List Entry) → l ≡ l' → P other l → P (is_other_package step.old.package home) l'
   told_of P l l' same p = subst (λ (b : Bool). P b l') step.other_is (subst (P other) same p)
 
-  pub step_fine : AreRenamed step.old include.names → CanJoin other world.imports imports → CanJoin other world.exports exports → IncludeIsFine home (before_includes g world) include
-  step_fine names of_imports of_exports =
+  pub step_fine : (old : World) → slice_get g.worlds include.id ≡ Some old → AreRenamed old include.names → CanJoin other world.imports imports → CanJoin other world.exports exports → IncludeIsFine home (before_includes g world) include
+  step_fine old at names of_imports of_exports =
       include_is_fine g include step.old world home step.at step.good (record {
         imports = told_of (λ (b : Bool) (l : List Entry). CanJoin b world.imports l) imports _ step.imports_are of_imports;
         exports = told_of (λ (b : Bool) (l : List Entry). CanJoin b world.exports l) exports _ step.exports_are of_exports;
-        names = names;
+        names = subst (λ (w : World). AreRenamed w include.names) (same_at g.worlds include.id include.id old step.old refl at step.at) names;
       })
 
   pub step_cause : HaveOwnKeys (lists_of world) → (kind : ResolveErrorKind)
@@ -325,13 +325,35 @@ module _ (g : Graph) (include : WorldInclude) (home : ℕ) (world : World) (g' :
   step_exports_once = subst (λ (l : List Entry). ComeOnce l) (sym step.exports_are) (come_once g include.id step.old include.names (length g.worlds) home step.old.exports (exports_keyed g include.id step.old step.good))
 
 -- the world that was looked at is the one that is there
-pub same_old : (g g' : Graph) (from : ℕ) (old old' : World) (m : Maps) → g' ≡ with_copies g from old m → slice_get g.worlds from ≡ Some old → slice_get g'.worlds from ≡ Some old' → old' ≡ old
+same_old : (g g' : Graph) (from : ℕ) (old old' : World) (m : Maps) → g' ≡ with_copies g from old m → slice_get g.worlds from ≡ Some old → slice_get g'.worlds from ≡ Some old' → old' ≡ old
 same_old g g' from old old' m is at at' = same_at g.worlds from from old' old refl (subst (λ (h : Graph). slice_get h.worlds from ≡ Some old') is at') at
 
 -- what is brought, by the maps of the copies
-pub brought_is : (m m' : Maps) (from from' : ℕ) (entries entries' new : List Entry) → m' ≡ m → from' ≡ from → entries' ≡ entries → new ≡ map (entry_image m' from') entries' → new ≡ map (entry_image m from) entries
+brought_is : (m m' : Maps) (from from' : ℕ) (entries entries' new : List Entry) → m' ≡ m → from' ≡ from → entries' ≡ entries → new ≡ map (entry_image m' from') entries' → new ≡ map (entry_image m from) entries
 brought_is m m' from from' entries entries' new maps froms same is =
     is ∙ ap (λ (x : Maps). map (entry_image x from') entries') maps ∙ ap (λ (x : ℕ). map (entry_image m x) entries') froms ∙ ap (map (entry_image m from)) same
+
+-- what the calls of an include answer, from the number of the world that includes on: the maps and the origin of the copies, the
+-- world as it is there again, and its entries under the maps
+module _ (g : Graph) (include : WorldInclude) (home into : ℕ) (old again : World) (g' : Graph) (m : Maps) (from : ℕ) (imports exports : List Entry) (other : Bool) where
+  pub answered : slice_get g.worlds include.id ≡ Some old → IsGoodWorld g.types g.interfaces include.id old → into ≡ length g.worlds
+      → g' ≡ with_copies g include.id old (go g include.id old include.names into home) → m ≡ go g include.id old include.names into home → from ≡ include.id
+      → slice_get g'.worlds include.id ≡ Some again → imports ≡ map (entry_image m from) again.imports → exports ≡ map (entry_image m from) again.exports → other ≡ is_other_package again.package home
+      → IsStep g include home g' imports exports other
+  answered at good into_is copied maps froms there imports_are exports_are other_is =
+      let maps_now : Maps = go g include.id old include.names (length g.worlds) home in
+      let graph_is : g' ≡ with_copies g include.id old maps_now = copied ∙ ap (λ (n : ℕ). with_copies g include.id old (go g include.id old include.names n home)) into_is in
+      let maps_are : m ≡ maps_now = maps ∙ ap (λ (n : ℕ). go g include.id old include.names n home) into_is in
+      let same : again ≡ old = same_old g g' include.id old again maps_now graph_is at there in
+      record {
+        old = old;
+        at = at;
+        good = good;
+        graph = graph_is;
+        imports_are = brought_is maps_now m include.id from old.imports again.imports imports maps_are froms (ap (λ (w : World). w.imports) same) imports_are;
+        exports_are = brought_is maps_now m include.id from old.exports again.exports exports maps_are froms (ap (λ (w : World). w.exports) same) exports_are;
+        other_is = other_is ∙ ap (λ (w : World). is_other_package w.package home) same;
+      }
 
 -- a renaming that is refused
 pub names_cause : (g : Graph) (include : WorldInclude) (home : ℕ) (world old : World) (kind : ResolveErrorKind) → slice_get g.worlds include.id ≡ Some old

@@ -33,7 +33,7 @@ use Rattle.wit_growth.specs.OnePlace.{HasOnePlace, Holds, Origin, StayApart, ent
 use Rattle.wit_growth.specs.OnePlaceCarried.{HasOnePlace-of_covered, named_not}
 use Rattle.wit_growth.specs.OnePlaceFrom.{cut_has_one_place}
 use Rattle.wit_growth.specs.Sources.{Carries, IsGoodSource, Source}
-use Rattle.wit_adding.specs.Behind.{with_placed}
+use Rattle.wit_adding.specs.Pushed.{with_placed}
 use Rattle.wit_labels.specs.Setters.{placed}
 use Rattle.wit_including_laws.specs.ListedTypes.{lists_type}
 use Rattle.wit_including_laws.specs.OnItsWay.{StandsSoFar}

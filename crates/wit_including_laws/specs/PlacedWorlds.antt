@@ -21,7 +21,7 @@ use Rattle.wit_graph.specs.ListedFacts.{IsListed-of_world, lists_in_order}
 use Rattle.wit_graph.specs.declared.graph.Graph.{Graph}
 use Rattle.wit_growth.specs.ListFacts.{contained_at, place_of}
 use Rattle.wit_growth.specs.NamedUses.{IsUsed_named}
-use Rattle.wit_adding.specs.Behind.{with_placed}
+use Rattle.wit_adding.specs.Pushed.{with_placed}
 use Rattle.wit_labels.specs.Setters.{placed}
 use Rattle.wit_including_laws.specs.OnItsWay.{StandsSoFar}
 use Rattle.wit_including_laws.specs.PlacedFacts.{placed_distinct, placed_in}

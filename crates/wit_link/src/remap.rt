@@ -1,5 +1,5 @@
 //! Where the things of a handed-in package or graph stand in the graph that took them.
-ghost use Rattle.std.specs.Prelude.{◌≡◌, ◌⊎◌, ◌<◌, ℕ, None, Some, Ok, IfErr, IfOk, OnOk, codes, length, slice_get, string_bytes};
+ghost use Rattle.std.specs.Prelude.{◌≡◌, ◌⊎◌, ◌<◌, ℕ, None, Some, Ok, IfErr, OnOk, codes, length, slice_get, string_bytes};
 ghost use Rattle.wit_adding.specs.CauseText.{excluded_owner_text, excluded_text};
 ghost use Rattle.wit_graph.specs.declared.cause.Cause.TheVariants as cause;
 ghost use Rattle.wit_graph.specs.declared.error_kind.ResolveErrorKind.TheVariants.{OutOfMemory, Semantic};
@@ -7,7 +7,7 @@ ghost use Rattle.wit_graph.specs.declared.error_kind.ResolveErrorKind.TheVariant
 use std::alloc::{AllocError, Global};
 use wit_gates::{excluded_message, excluded_owner_message};
 use wit_graph::{Cause, ResolveError, ResolveErrorKind, ResolveResult};
-use wit_items::{InterfaceId, Items, PackageId, Span, Text, TryClone, TypeId, WorldId};
+use wit_items::{Id, InterfaceId, Items, PackageId, Span, Text, TryClone, TypeId, WorldId};
 use wit_values::try_clone_four;
 
 /// The ids of the things that were handed in: for each place of the handed-in list the id in the
@@ -73,10 +73,7 @@ impl Remap {
         ensures refuses { slice_get self.now.types id ≡ Some None → OnOk result ⊥ }
         ensures cause { IfErr result (λ kind. (kind ≡ OutOfMemory) ⊎ (kind ≡ Semantic span (excluded_text (codes "type")) cause.Excluded)) }
     {
-        match self.types.at(id.index()) {
-            Some(new) => Ok(*new),
-            None => Err(excluded(alloc, "type", span)?),
-        }
+        new_id(alloc, *self.types.at(id.index()), "type", span)
     }
 
     /// Where an interface that was handed in is: as `map_type`, with `interfaces`.
@@ -91,10 +88,7 @@ impl Remap {
         ensures refuses { slice_get self.now.interfaces id ≡ Some None → OnOk result ⊥ }
         ensures cause { IfErr result (λ kind. (kind ≡ OutOfMemory) ⊎ (kind ≡ Semantic span (excluded_text (codes "interface")) cause.Excluded)) }
     {
-        match self.interfaces.at(id.index()) {
-            Some(new) => Ok(*new),
-            None => Err(excluded(alloc, "interface", span)?),
-        }
+        new_id(alloc, *self.interfaces.at(id.index()), "interface", span)
     }
 
     /// Where a world that was handed in is: as `map_type`, with `worlds`.
@@ -104,10 +98,7 @@ impl Remap {
         ensures refuses { slice_get self.now.worlds id ≡ Some None → OnOk result ⊥ }
         ensures cause { IfErr result (λ kind. (kind ≡ OutOfMemory) ⊎ (kind ≡ Semantic span (excluded_text (codes "world")) cause.Excluded)) }
     {
-        match self.worlds.at(id.index()) {
-            Some(new) => Ok(*new),
-            None => Err(excluded(alloc, "world", span)?),
-        }
+        new_id(alloc, *self.worlds.at(id.index()), "world", span)
     }
 
     /// Where the interface that owns a type is: as `map_interface`, but where it is left out the type that isn't is
@@ -123,10 +114,7 @@ impl Remap {
         ensures refuses { slice_get self.now.interfaces id ≡ Some None → OnOk result ⊥ }
         ensures cause { IfErr result (λ kind. (kind ≡ OutOfMemory) ⊎ (kind ≡ Semantic span (excluded_owner_text (codes "interface")) cause.ExcludedOwner)) }
     {
-        match self.interfaces.at(id.index()) {
-            Some(new) => Ok(*new),
-            None => Err(excluded_owner(alloc, "interface", span)?),
-        }
+        new_owner_id(alloc, *self.interfaces.at(id.index()), "interface", span)
     }
 
     /// Where the world that owns a type is: as `map_interface_for_type`, with `worlds`.
@@ -141,27 +129,42 @@ impl Remap {
         ensures refuses { slice_get self.now.worlds id ≡ Some None → OnOk result ⊥ }
         ensures cause { IfErr result (λ kind. (kind ≡ OutOfMemory) ⊎ (kind ≡ Semantic span (excluded_owner_text (codes "world")) cause.ExcludedOwner)) }
     {
-        match self.worlds.at(id.index()) {
-            Some(new) => Ok(*new),
-            None => Err(excluded_owner(alloc, "world", span)?),
-        }
+        new_owner_id(alloc, *self.worlds.at(id.index()), "world", span)
     }
 }
 
-/// 11: what is referred to is left out; `sort` is `type`, `interface` or `world`.
-fn excluded(alloc: Global, sort: &str, span: Span) -> Result<ResolveError, AllocError>
-    ensures { IfOk result (λ e. e ≡ Semantic span (excluded_text sort.now) cause.Excluded) }
+/// The id that takes the place of one that is referred to. Refused where that is left out (11), for which `sort` is
+/// `type`, `interface` or `world`, and for memory (28).
+fn new_id<S>(alloc: Global, new: Option<Id<S>>, sort: &str, span: Span) -> ResolveResult<Id<S>>
+    ensures found { (id : ℕ) → new ≡ Some id → result ≡ Ok id }
+    ensures refuses { new ≡ None → OnOk result ⊥ }
+    ensures cause { IfErr result (λ kind. (kind ≡ OutOfMemory) ⊎ (kind ≡ Semantic span (excluded_text sort.now) cause.Excluded)) }
 {
-    let message = excluded_message(alloc, sort)?;
-    Ok(refusal(message, span, Cause::Excluded))
+    match new {
+        Some(id) => Ok(id),
+        None => Err(refusal(excluded_message(alloc, sort)?, span, Cause::Excluded)),
+    }
 }
 
-/// 12: a type isn't left out, but its owner is; `sort` is `interface` or `world`.
-fn excluded_owner(alloc: Global, sort: &str, span: Span) -> Result<ResolveError, AllocError>
-    ensures { IfOk result (λ e. e ≡ Semantic span (excluded_owner_text sort.now) cause.ExcludedOwner) }
+/// The same of the owner of a type that isn't left out (12), for which `sort` is `interface` or `world`.
+fn new_owner_id<S>(
+    alloc: Global,
+    new: Option<Id<S>>,
+    sort: &str,
+    span: Span,
+) -> ResolveResult<Id<S>>
+    ensures found { (id : ℕ) → new ≡ Some id → result ≡ Ok id }
+    ensures refuses { new ≡ None → OnOk result ⊥ }
+    ensures cause { IfErr result (λ kind. (kind ≡ OutOfMemory) ⊎ (kind ≡ Semantic span (excluded_owner_text sort.now) cause.ExcludedOwner)) }
 {
-    let message = excluded_owner_message(alloc, sort)?;
-    Ok(refusal(message, span, Cause::ExcludedOwner))
+    match new {
+        Some(id) => Ok(id),
+        None => Err(refusal(
+            excluded_owner_message(alloc, sort)?,
+            span,
+            Cause::ExcludedOwner,
+        )),
+    }
 }
 
 /// A refusal with this message, at this place.

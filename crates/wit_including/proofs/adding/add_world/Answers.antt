@@ -1,7 +1,8 @@
-use Rattle.std.proofs.Common.{rules, ◌≡◌, ◌∙◌, ◌⊎◌, ℕ, List, ap, length, sym, subst, take, IfErr, IsErrAnd, Ok, Err, Result}
+use Rattle.std.proofs.Common.{rules, ◌≡◌, ◌∙◌, ◌⊎◌, ℕ, List, ap, length, sym, subst, take}
 use Rattle.wit_items.specs.Uses.{uses_of}
 use Rattle.wit_items.specs.declared.interface.Interface.{Interface}
 use Rattle.wit_items.specs.declared.types.TypeDef.{TypeDef}
+use Rattle.wit_graph.specs.AnswerFacts.{told_err}
 use Rattle.wit_graph.specs.Elaboration.{graph_uses}
 use Rattle.wit_graph.specs.declared.error_kind.ResolveErrorKind.{ResolveErrorKind}
 use Rattle.wit_graph.specs.declared.error_kind.ResolveErrorKind.TheVariants.{OutOfMemory}
@@ -12,10 +13,6 @@ use Rattle.wit_including.specs.Included.{IsWorldCause}
 use Rattle.wit_including.proofs.RowsStay.{rows_stay}
 use Rattle.wit_including.proofs.Several.{begun_acyclic, begun_listed, finished_grown, finishing_stops, include_stops, world_added, world_fine}
 use Rattle.wit_including.proofs.adding.add_world.Goals as goal
-
-told_err : {T E : Type 0} {P Q : E → Type 0} (r : Result T E) → IsErrAnd r P → ((e : E) → P e → Q e) → IfErr r Q
-told_err (Ok v) is gives = tt
-told_err (Err e) is gives = gives e is
 
 pub returns-in_err-world-clause-cause : goal.returns-in_err-world-clause-cause
 returns-in_err-world-clause-cause c =

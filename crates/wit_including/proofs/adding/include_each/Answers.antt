@@ -1,13 +1,10 @@
-use Rattle.std.proofs.Common.{◌≡◌, ◌⊎◌, ℕ, sym, subst, IfErr, IsErrAnd, Ok, Err, Result}
+use Rattle.std.proofs.Common.{◌≡◌, ◌⊎◌, ℕ, sym, subst}
+use Rattle.wit_graph.specs.AnswerFacts.{told_err}
 use Rattle.wit_graph.specs.declared.error_kind.ResolveErrorKind.{ResolveErrorKind}
 use Rattle.wit_graph.specs.declared.error_kind.ResolveErrorKind.TheVariants.{OutOfMemory}
 use Rattle.wit_including.specs.Included.{StopsAtInclude}
 use Rattle.wit_including.proofs.Several.{beginning-next, beginning-none, include_can, include_own, include_there, stops_here}
 use Rattle.wit_including.proofs.adding.include_each.Goals as goal
-
-told_err : {T E : Type 0} {P Q : E → Type 0} (r : Result T E) → IsErrAnd r P → ((e : E) → P e → Q e) → IfErr r Q
-told_err (Ok v) is gives = tt
-told_err (Err e) is gives = gives e is
 
 pub loop-place-init : goal.loop-place-init
 loop-place-init c = beginning-none c.args.home c.args.graph.now c.args.world c.args.includes.now c.requires.own_keys

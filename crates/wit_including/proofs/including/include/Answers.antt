@@ -1,17 +1,14 @@
-use Rattle.std.proofs.Common.{rules, ◌≡◌, ◌∙◌, ◌⊎◌, ℕ, length, slice_get, Some, ap, sym, subst, IfErr, IfOk, IsErrAnd, OnOk, Ok, Err, Result}
+use Rattle.std.proofs.Common.{rules, ◌≡◌, ◌⊎◌, length, slice_get, Some, sym, subst, IfErr, IfOk, OnOk, Ok, Err, Result}
+use Rattle.wit_graph.specs.AnswerFacts.{told_err}
 use Rattle.wit_graph.specs.declared.error_kind.ResolveErrorKind.{ResolveErrorKind}
 use Rattle.wit_graph.specs.declared.error_kind.ResolveErrorKind.TheVariants.{OutOfMemory}
 use Rattle.wit_items.specs.declared.world.World.{World}
-use Rattle.wit_adding.specs.Include.{is_other_package, with_copies}
+use Rattle.wit_adding.specs.Include.{is_other_package}
 use Rattle.wit_copying.specs.Copied.{maps_of}
 use Rattle.wit_including.specs.Included.{IsIncludeCause, IsIncluded, before_includes}
-use Rattle.wit_including.proofs.IncludeSteps.{IsStep, brought_is, go, names_cause, same_old, stay_apart, step_cause, step_exports_once, step_fine, step_graph, step_imports_once, step_world}
+use Rattle.wit_including.proofs.IncludeSteps.{answered, names_cause, stay_apart, step_cause, step_exports_once, step_fine, step_graph, step_imports_once, step_world}
 use Rattle.wit_including.proofs.NamesThere.{names_there}
 use Rattle.wit_including.proofs.including.include.Goals as goal
-
-told_err : {T E : Type 0} {P Q : E → Type 0} (r : Result T E) → IsErrAnd r P → ((e : E) → P e → Q e) → IfErr r Q
-told_err (Ok v) is gives = tt
-told_err (Err e) is gives = gives e is
 
 on_ok : {T E : Type 0} {P : Type 0} (r : Result T E) → P → OnOk r P
 on_ok (Ok v) p = p
@@ -47,137 +44,71 @@ add_copies-requires-clause-apart c = λ (old : World) at. stay_apart c.args.grap
 pub join_lists-requires-clause-imports : goal.join_lists-requires-clause-imports
 join_lists-requires-clause-imports c =
     let at : slice_get c.args.graph.now.worlds c.args.include.now.id ≡ Some c.at-included.result.now = search rules in
-    let can = c.requires.can c.at-included.result.now at in
     let into_is : c.from_index-into.result ≡ length c.args.graph.now.worlds = search rules in
-    let copied = c.in_ok-copies.ensures.ok c.at-included.result.now at ∙ ap (λ (n : ℕ). with_copies c.args.graph.now c.args.include.now.id c.at-included.result.now (go c.args.graph.now c.args.include.now.id c.at-included.result.now c.args.include.now.names n c.args.home)) into_is in
-    let maps = c.in_ok-copies.ensures.maps c.at-included.result.now at ∙ ap (λ (n : ℕ). go c.args.graph.now c.args.include.now.id c.at-included.result.now c.args.include.now.names n c.args.home) into_is in
     let again : slice_get c.add_copies.new.graph.worlds c.args.include.now.id ≡ Some c.at-included-2.result.now = search rules in
-    let same = same_old c.args.graph.now c.add_copies.new.graph c.args.include.now.id c.at-included.result.now c.at-included-2.result.now (go c.args.graph.now c.args.include.now.id c.at-included.result.now c.args.include.now.names (length c.args.graph.now.worlds) c.args.home) copied at again in
     let other_is : c.ne-other.result ≡ is_other_package c.at-included-2.result.now.package c.args.home = search rules in
-    let step : IsStep c.args.graph.now c.args.include.now c.args.home c.add_copies.new.graph c.in_ok-imports.imports c.in_ok-exports.exports c.ne-other.result = record {
-      old = c.at-included.result.now;
-      at = at;
-      good = can.world;
-      graph = copied;
-      imports_are = brought_is (go c.args.graph.now c.args.include.now.id c.at-included.result.now c.args.include.now.names (length c.args.graph.now.worlds) c.args.home) (maps_of c.in_ok-copies.copies) c.args.include.now.id c.in_ok-copies.copies.from
-          c.at-included.result.now.imports c.at-included-2.result.now.imports c.in_ok-imports.imports maps c.in_ok-copies.ensures.from (ap (λ (w : World). w.imports) same) c.in_ok-imports.ensures;
-      exports_are = brought_is (go c.args.graph.now c.args.include.now.id c.at-included.result.now c.args.include.now.names (length c.args.graph.now.worlds) c.args.home) (maps_of c.in_ok-copies.copies) c.args.include.now.id c.in_ok-copies.copies.from
-          c.at-included.result.now.exports c.at-included-2.result.now.exports c.in_ok-exports.exports maps c.in_ok-copies.ensures.from (ap (λ (w : World). w.exports) same) c.in_ok-exports.ensures;
-      other_is = other_is ∙ ap (λ (w : World). is_other_package w.package c.args.home) same;
-    } in
+    let copies = c.in_ok-copies.ensures in
+    let step = answered c.args.graph.now c.args.include.now c.args.home c.from_index-into.result c.at-included.result.now c.at-included-2.result.now c.add_copies.new.graph (maps_of c.in_ok-copies.copies) c.in_ok-copies.copies.from
+    c.in_ok-imports.imports c.in_ok-exports.exports c.ne-other.result at (c.requires.can c.at-included.result.now at).world into_is (copies.ok c.at-included.result.now at) (copies.maps c.at-included.result.now at) copies.from
+    again c.in_ok-imports.ensures c.in_ok-exports.ensures other_is in
     step_imports_once c.args.graph.now c.args.include.now c.args.home c.args.world c.add_copies.new.graph c.in_ok-imports.imports c.in_ok-exports.exports c.ne-other.result step
 
 pub join_lists-requires-clause-exports : goal.join_lists-requires-clause-exports
 join_lists-requires-clause-exports c =
     let at : slice_get c.args.graph.now.worlds c.args.include.now.id ≡ Some c.at-included.result.now = search rules in
-    let can = c.requires.can c.at-included.result.now at in
     let into_is : c.from_index-into.result ≡ length c.args.graph.now.worlds = search rules in
-    let copied = c.in_ok-copies.ensures.ok c.at-included.result.now at ∙ ap (λ (n : ℕ). with_copies c.args.graph.now c.args.include.now.id c.at-included.result.now (go c.args.graph.now c.args.include.now.id c.at-included.result.now c.args.include.now.names n c.args.home)) into_is in
-    let maps = c.in_ok-copies.ensures.maps c.at-included.result.now at ∙ ap (λ (n : ℕ). go c.args.graph.now c.args.include.now.id c.at-included.result.now c.args.include.now.names n c.args.home) into_is in
     let again : slice_get c.add_copies.new.graph.worlds c.args.include.now.id ≡ Some c.at-included-2.result.now = search rules in
-    let same = same_old c.args.graph.now c.add_copies.new.graph c.args.include.now.id c.at-included.result.now c.at-included-2.result.now (go c.args.graph.now c.args.include.now.id c.at-included.result.now c.args.include.now.names (length c.args.graph.now.worlds) c.args.home) copied at again in
     let other_is : c.ne-other.result ≡ is_other_package c.at-included-2.result.now.package c.args.home = search rules in
-    let step : IsStep c.args.graph.now c.args.include.now c.args.home c.add_copies.new.graph c.in_ok-imports.imports c.in_ok-exports.exports c.ne-other.result = record {
-      old = c.at-included.result.now;
-      at = at;
-      good = can.world;
-      graph = copied;
-      imports_are = brought_is (go c.args.graph.now c.args.include.now.id c.at-included.result.now c.args.include.now.names (length c.args.graph.now.worlds) c.args.home) (maps_of c.in_ok-copies.copies) c.args.include.now.id c.in_ok-copies.copies.from
-          c.at-included.result.now.imports c.at-included-2.result.now.imports c.in_ok-imports.imports maps c.in_ok-copies.ensures.from (ap (λ (w : World). w.imports) same) c.in_ok-imports.ensures;
-      exports_are = brought_is (go c.args.graph.now c.args.include.now.id c.at-included.result.now c.args.include.now.names (length c.args.graph.now.worlds) c.args.home) (maps_of c.in_ok-copies.copies) c.args.include.now.id c.in_ok-copies.copies.from
-          c.at-included.result.now.exports c.at-included-2.result.now.exports c.in_ok-exports.exports maps c.in_ok-copies.ensures.from (ap (λ (w : World). w.exports) same) c.in_ok-exports.ensures;
-      other_is = other_is ∙ ap (λ (w : World). is_other_package w.package c.args.home) same;
-    } in
+    let copies = c.in_ok-copies.ensures in
+    let step = answered c.args.graph.now c.args.include.now c.args.home c.from_index-into.result c.at-included.result.now c.at-included-2.result.now c.add_copies.new.graph (maps_of c.in_ok-copies.copies) c.in_ok-copies.copies.from
+    c.in_ok-imports.imports c.in_ok-exports.exports c.ne-other.result at (c.requires.can c.at-included.result.now at).world into_is (copies.ok c.at-included.result.now at) (copies.maps c.at-included.result.now at) copies.from
+    again c.in_ok-imports.ensures c.in_ok-exports.ensures other_is in
     step_exports_once c.args.graph.now c.args.include.now c.args.home c.args.world c.add_copies.new.graph c.in_ok-imports.imports c.in_ok-exports.exports c.ne-other.result step
 
 pub returns-clause-graph : goal.returns-clause-graph
 returns-clause-graph c =
     let at : slice_get c.args.graph.now.worlds c.args.include.now.id ≡ Some c.at-included.result.now = search rules in
-    let can = c.requires.can c.at-included.result.now at in
     let into_is : c.from_index-into.result ≡ length c.args.graph.now.worlds = search rules in
-    let copied = c.in_ok-copies.ensures.ok c.at-included.result.now at ∙ ap (λ (n : ℕ). with_copies c.args.graph.now c.args.include.now.id c.at-included.result.now (go c.args.graph.now c.args.include.now.id c.at-included.result.now c.args.include.now.names n c.args.home)) into_is in
-    let maps = c.in_ok-copies.ensures.maps c.at-included.result.now at ∙ ap (λ (n : ℕ). go c.args.graph.now c.args.include.now.id c.at-included.result.now c.args.include.now.names n c.args.home) into_is in
     let again : slice_get c.add_copies.new.graph.worlds c.args.include.now.id ≡ Some c.at-included-2.result.now = search rules in
-    let same = same_old c.args.graph.now c.add_copies.new.graph c.args.include.now.id c.at-included.result.now c.at-included-2.result.now (go c.args.graph.now c.args.include.now.id c.at-included.result.now c.args.include.now.names (length c.args.graph.now.worlds) c.args.home) copied at again in
     let other_is : c.ne-other.result ≡ is_other_package c.at-included-2.result.now.package c.args.home = search rules in
-    let step : IsStep c.args.graph.now c.args.include.now c.args.home c.add_copies.new.graph c.in_ok-imports.imports c.in_ok-exports.exports c.ne-other.result = record {
-      old = c.at-included.result.now;
-      at = at;
-      good = can.world;
-      graph = copied;
-      imports_are = brought_is (go c.args.graph.now c.args.include.now.id c.at-included.result.now c.args.include.now.names (length c.args.graph.now.worlds) c.args.home) (maps_of c.in_ok-copies.copies) c.args.include.now.id c.in_ok-copies.copies.from
-          c.at-included.result.now.imports c.at-included-2.result.now.imports c.in_ok-imports.imports maps c.in_ok-copies.ensures.from (ap (λ (w : World). w.imports) same) c.in_ok-imports.ensures;
-      exports_are = brought_is (go c.args.graph.now c.args.include.now.id c.at-included.result.now c.args.include.now.names (length c.args.graph.now.worlds) c.args.home) (maps_of c.in_ok-copies.copies) c.args.include.now.id c.in_ok-copies.copies.from
-          c.at-included.result.now.exports c.at-included-2.result.now.exports c.in_ok-exports.exports maps c.in_ok-copies.ensures.from (ap (λ (w : World). w.exports) same) c.in_ok-exports.ensures;
-      other_is = other_is ∙ ap (λ (w : World). is_other_package w.package c.args.home) same;
-    } in
+    let copies = c.in_ok-copies.ensures in
+    let step = answered c.args.graph.now c.args.include.now c.args.home c.from_index-into.result c.at-included.result.now c.at-included-2.result.now c.add_copies.new.graph (maps_of c.in_ok-copies.copies) c.in_ok-copies.copies.from
+    c.in_ok-imports.imports c.in_ok-exports.exports c.ne-other.result at (c.requires.can c.at-included.result.now at).world into_is (copies.ok c.at-included.result.now at) (copies.maps c.at-included.result.now at) copies.from
+    again c.in_ok-imports.ensures c.in_ok-exports.ensures other_is in
     on_ok c.join_lists.result (step_graph c.args.graph.now c.args.include.now c.args.home c.args.world c.add_copies.new.graph c.in_ok-imports.imports c.in_ok-exports.exports c.ne-other.result step)
 
 pub returns-clause-world : goal.returns-clause-world
 returns-clause-world c =
     let at : slice_get c.args.graph.now.worlds c.args.include.now.id ≡ Some c.at-included.result.now = search rules in
-    let can = c.requires.can c.at-included.result.now at in
     let into_is : c.from_index-into.result ≡ length c.args.graph.now.worlds = search rules in
-    let copied = c.in_ok-copies.ensures.ok c.at-included.result.now at ∙ ap (λ (n : ℕ). with_copies c.args.graph.now c.args.include.now.id c.at-included.result.now (go c.args.graph.now c.args.include.now.id c.at-included.result.now c.args.include.now.names n c.args.home)) into_is in
-    let maps = c.in_ok-copies.ensures.maps c.at-included.result.now at ∙ ap (λ (n : ℕ). go c.args.graph.now c.args.include.now.id c.at-included.result.now c.args.include.now.names n c.args.home) into_is in
     let again : slice_get c.add_copies.new.graph.worlds c.args.include.now.id ≡ Some c.at-included-2.result.now = search rules in
-    let same = same_old c.args.graph.now c.add_copies.new.graph c.args.include.now.id c.at-included.result.now c.at-included-2.result.now (go c.args.graph.now c.args.include.now.id c.at-included.result.now c.args.include.now.names (length c.args.graph.now.worlds) c.args.home) copied at again in
     let other_is : c.ne-other.result ≡ is_other_package c.at-included-2.result.now.package c.args.home = search rules in
-    let step : IsStep c.args.graph.now c.args.include.now c.args.home c.add_copies.new.graph c.in_ok-imports.imports c.in_ok-exports.exports c.ne-other.result = record {
-      old = c.at-included.result.now;
-      at = at;
-      good = can.world;
-      graph = copied;
-      imports_are = brought_is (go c.args.graph.now c.args.include.now.id c.at-included.result.now c.args.include.now.names (length c.args.graph.now.worlds) c.args.home) (maps_of c.in_ok-copies.copies) c.args.include.now.id c.in_ok-copies.copies.from
-          c.at-included.result.now.imports c.at-included-2.result.now.imports c.in_ok-imports.imports maps c.in_ok-copies.ensures.from (ap (λ (w : World). w.imports) same) c.in_ok-imports.ensures;
-      exports_are = brought_is (go c.args.graph.now c.args.include.now.id c.at-included.result.now c.args.include.now.names (length c.args.graph.now.worlds) c.args.home) (maps_of c.in_ok-copies.copies) c.args.include.now.id c.in_ok-copies.copies.from
-          c.at-included.result.now.exports c.at-included-2.result.now.exports c.in_ok-exports.exports maps c.in_ok-copies.ensures.from (ap (λ (w : World). w.exports) same) c.in_ok-exports.ensures;
-      other_is = other_is ∙ ap (λ (w : World). is_other_package w.package c.args.home) same;
-    } in
+    let copies = c.in_ok-copies.ensures in
+    let step = answered c.args.graph.now c.args.include.now c.args.home c.from_index-into.result c.at-included.result.now c.at-included-2.result.now c.add_copies.new.graph (maps_of c.in_ok-copies.copies) c.in_ok-copies.copies.from
+    c.in_ok-imports.imports c.in_ok-exports.exports c.ne-other.result at (c.requires.can c.at-included.result.now at).world into_is (copies.ok c.at-included.result.now at) (copies.maps c.at-included.result.now at) copies.from
+    again c.in_ok-imports.ensures c.in_ok-exports.ensures other_is in
     if_ok c.join_lists.result c.join_lists.ensures.ok (λ new is. step_world c.args.graph.now c.args.include.now c.args.home c.args.world c.add_copies.new.graph c.in_ok-imports.imports c.in_ok-exports.exports c.ne-other.result step new is)
 
 pub returns-clause-fine : goal.returns-clause-fine
 returns-clause-fine c =
     let at : slice_get c.args.graph.now.worlds c.args.include.now.id ≡ Some c.at-included.result.now = search rules in
-    let can = c.requires.can c.at-included.result.now at in
     let into_is : c.from_index-into.result ≡ length c.args.graph.now.worlds = search rules in
-    let copied = c.in_ok-copies.ensures.ok c.at-included.result.now at ∙ ap (λ (n : ℕ). with_copies c.args.graph.now c.args.include.now.id c.at-included.result.now (go c.args.graph.now c.args.include.now.id c.at-included.result.now c.args.include.now.names n c.args.home)) into_is in
-    let maps = c.in_ok-copies.ensures.maps c.at-included.result.now at ∙ ap (λ (n : ℕ). go c.args.graph.now c.args.include.now.id c.at-included.result.now c.args.include.now.names n c.args.home) into_is in
     let again : slice_get c.add_copies.new.graph.worlds c.args.include.now.id ≡ Some c.at-included-2.result.now = search rules in
-    let same = same_old c.args.graph.now c.add_copies.new.graph c.args.include.now.id c.at-included.result.now c.at-included-2.result.now (go c.args.graph.now c.args.include.now.id c.at-included.result.now c.args.include.now.names (length c.args.graph.now.worlds) c.args.home) copied at again in
     let other_is : c.ne-other.result ≡ is_other_package c.at-included-2.result.now.package c.args.home = search rules in
-    let step : IsStep c.args.graph.now c.args.include.now c.args.home c.add_copies.new.graph c.in_ok-imports.imports c.in_ok-exports.exports c.ne-other.result = record {
-      old = c.at-included.result.now;
-      at = at;
-      good = can.world;
-      graph = copied;
-      imports_are = brought_is (go c.args.graph.now c.args.include.now.id c.at-included.result.now c.args.include.now.names (length c.args.graph.now.worlds) c.args.home) (maps_of c.in_ok-copies.copies) c.args.include.now.id c.in_ok-copies.copies.from
-          c.at-included.result.now.imports c.at-included-2.result.now.imports c.in_ok-imports.imports maps c.in_ok-copies.ensures.from (ap (λ (w : World). w.imports) same) c.in_ok-imports.ensures;
-      exports_are = brought_is (go c.args.graph.now c.args.include.now.id c.at-included.result.now c.args.include.now.names (length c.args.graph.now.worlds) c.args.home) (maps_of c.in_ok-copies.copies) c.args.include.now.id c.in_ok-copies.copies.from
-          c.at-included.result.now.exports c.at-included-2.result.now.exports c.in_ok-exports.exports maps c.in_ok-copies.ensures.from (ap (λ (w : World). w.exports) same) c.in_ok-exports.ensures;
-      other_is = other_is ∙ ap (λ (w : World). is_other_package w.package c.args.home) same;
-    } in
-    on_ok_two c.join_lists.result c.join_lists.ensures.imports c.join_lists.ensures.exports (λ imports exports. step_fine c.args.graph.now c.args.include.now c.args.home c.args.world c.add_copies.new.graph c.in_ok-imports.imports c.in_ok-exports.exports c.ne-other.result step c.in_ok-check_names.ensures.fine imports exports)
+    let copies = c.in_ok-copies.ensures in
+    let step = answered c.args.graph.now c.args.include.now c.args.home c.from_index-into.result c.at-included.result.now c.at-included-2.result.now c.add_copies.new.graph (maps_of c.in_ok-copies.copies) c.in_ok-copies.copies.from
+    c.in_ok-imports.imports c.in_ok-exports.exports c.ne-other.result at (c.requires.can c.at-included.result.now at).world into_is (copies.ok c.at-included.result.now at) (copies.maps c.at-included.result.now at) copies.from
+    again c.in_ok-imports.ensures c.in_ok-exports.ensures other_is in
+    on_ok_two c.join_lists.result c.join_lists.ensures.imports c.join_lists.ensures.exports (λ imports exports. step_fine c.args.graph.now c.args.include.now c.args.home c.args.world c.add_copies.new.graph c.in_ok-imports.imports c.in_ok-exports.exports c.ne-other.result step c.at-included.result.now at c.in_ok-check_names.ensures.fine imports exports)
 
 pub returns-clause-cause : goal.returns-clause-cause
 returns-clause-cause c =
     let at : slice_get c.args.graph.now.worlds c.args.include.now.id ≡ Some c.at-included.result.now = search rules in
-    let can = c.requires.can c.at-included.result.now at in
     let into_is : c.from_index-into.result ≡ length c.args.graph.now.worlds = search rules in
-    let copied = c.in_ok-copies.ensures.ok c.at-included.result.now at ∙ ap (λ (n : ℕ). with_copies c.args.graph.now c.args.include.now.id c.at-included.result.now (go c.args.graph.now c.args.include.now.id c.at-included.result.now c.args.include.now.names n c.args.home)) into_is in
-    let maps = c.in_ok-copies.ensures.maps c.at-included.result.now at ∙ ap (λ (n : ℕ). go c.args.graph.now c.args.include.now.id c.at-included.result.now c.args.include.now.names n c.args.home) into_is in
     let again : slice_get c.add_copies.new.graph.worlds c.args.include.now.id ≡ Some c.at-included-2.result.now = search rules in
-    let same = same_old c.args.graph.now c.add_copies.new.graph c.args.include.now.id c.at-included.result.now c.at-included-2.result.now (go c.args.graph.now c.args.include.now.id c.at-included.result.now c.args.include.now.names (length c.args.graph.now.worlds) c.args.home) copied at again in
     let other_is : c.ne-other.result ≡ is_other_package c.at-included-2.result.now.package c.args.home = search rules in
-    let step : IsStep c.args.graph.now c.args.include.now c.args.home c.add_copies.new.graph c.in_ok-imports.imports c.in_ok-exports.exports c.ne-other.result = record {
-      old = c.at-included.result.now;
-      at = at;
-      good = can.world;
-      graph = copied;
-      imports_are = brought_is (go c.args.graph.now c.args.include.now.id c.at-included.result.now c.args.include.now.names (length c.args.graph.now.worlds) c.args.home) (maps_of c.in_ok-copies.copies) c.args.include.now.id c.in_ok-copies.copies.from
-          c.at-included.result.now.imports c.at-included-2.result.now.imports c.in_ok-imports.imports maps c.in_ok-copies.ensures.from (ap (λ (w : World). w.imports) same) c.in_ok-imports.ensures;
-      exports_are = brought_is (go c.args.graph.now c.args.include.now.id c.at-included.result.now c.args.include.now.names (length c.args.graph.now.worlds) c.args.home) (maps_of c.in_ok-copies.copies) c.args.include.now.id c.in_ok-copies.copies.from
-          c.at-included.result.now.exports c.at-included-2.result.now.exports c.in_ok-exports.exports maps c.in_ok-copies.ensures.from (ap (λ (w : World). w.exports) same) c.in_ok-exports.ensures;
-      other_is = other_is ∙ ap (λ (w : World). is_other_package w.package c.args.home) same;
-    } in
+    let copies = c.in_ok-copies.ensures in
+    let step = answered c.args.graph.now c.args.include.now c.args.home c.from_index-into.result c.at-included.result.now c.at-included-2.result.now c.add_copies.new.graph (maps_of c.in_ok-copies.copies) c.in_ok-copies.copies.from
+    c.in_ok-imports.imports c.in_ok-exports.exports c.ne-other.result at (c.requires.can c.at-included.result.now at).world into_is (copies.ok c.at-included.result.now at) (copies.maps c.at-included.result.now at) copies.from
+    again c.in_ok-imports.ensures c.in_ok-exports.ensures other_is in
     if_err c.join_lists.result c.join_lists.ensures.cause (λ kind is. step_cause c.args.graph.now c.args.include.now c.args.home c.args.world c.add_copies.new.graph c.in_ok-imports.imports c.in_ok-exports.exports c.ne-other.result step c.requires.own_keys kind is)

@@ -1,7 +1,8 @@
-use Rattle.std.proofs.Common.{rules, ◌≡◌, ◌∙◌, inr, ◌++◌, ◌∷◌, [], sym, subst, Result, Ok, Err, IfErr, IsErrAnd, None, Some, slice_get, position, Contains}
+use Rattle.std.proofs.Common.{rules, ◌≡◌, ◌∙◌, inr, ◌++◌, ◌∷◌, [], sym, subst, None, Some, slice_get, position, Contains}
 use Rattle.std.proofs.lemmas.List.{append_assoc}
 use Rattle.std.specs.Map.{keys_of, lookup}
 use Rattle.std.specs.Vec.Iter.{into_iter_items}
+use Rattle.wit_graph.specs.AnswerFacts.{told_err}
 use Rattle.wit_graph.specs.declared.error_kind.ResolveErrorKind.TheVariants.{ItemShadowing}
 use Rattle.wit_items.specs.WorldKeyFacts.{same_key}
 use Rattle.wit_items.specs.declared.world.WorldKey.{WorldKey}
@@ -10,10 +11,6 @@ use Rattle.wit_joining.specs.Joined.{IsJoinCause}
 use Rattle.wit_joining.proofs.JoinSteps.{IsJoining, differ-cause, joining-new, joining-none, joining-there, not-done, shadow-cause}
 use Rattle.wit_joining.proofs.Keys.{found_key, lacks_from}
 use Rattle.wit_joining.proofs.joining.join.Goals as goal
-
-told_err : {T E : Type 0} {P Q : E → Type 0} (r : Result T E) → IsErrAnd r P → ((e : E) → P e → Q e) → IfErr r Q
-told_err (Ok v) is gives = tt
-told_err (Err e) is gives = gives e is
 
 pub loop-key-init : goal.loop-key-init
 loop-key-init c = record {

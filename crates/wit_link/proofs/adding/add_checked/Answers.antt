@@ -1,7 +1,8 @@
-use Rattle.std.proofs.Common.{rules, arith, ◌≡◌, ◌∙◌, ◌⊎◌, ◌++◌, ◌∷◌, [], ℕ, List, IfErr, IsErrAnd, Result, Ok, Err, length, ap, subst, sym}
+use Rattle.std.proofs.Common.{rules, arith, ◌≡◌, ◌∙◌, ◌⊎◌, ◌++◌, ◌∷◌, [], ℕ, List, length, ap, subst, sym}
 use Rattle.std.proofs.lemmas.List.{append_assoc, append-nil}
 use Rattle.std.specs.Vec.Iter.{into_iter_items}
 use Rattle.wit_items.specs.EachFacts.{nil_from_length}
+use Rattle.wit_graph.specs.AnswerFacts.{told_err}
 use Rattle.wit_graph.specs.Valid.{IsValid}
 use Rattle.wit_graph.specs.declared.error_kind.ResolveErrorKind.{ResolveErrorKind}
 use Rattle.wit_graph.specs.declared.error_kind.ResolveErrorKind.TheVariants.{OutOfMemory}
@@ -15,10 +16,6 @@ use Rattle.wit_link.specs.Including.{ready_worlds}
 use Rattle.wit_link.proofs.Added.{checked_image, is_added}
 use Rattle.wit_link.proofs.WorldStages.{adding-next, adding-none, all_pushed, all_reached, each_fine, is_ready, refused_here}
 use Rattle.wit_link.proofs.adding.add_checked.Goals as goal
-
-told_err : {T E : Type 0} {P Q : E → Type 0} (r : Result T E) → IsErrAnd r P → ((e : E) → P e → Q e) → IfErr r Q
-told_err (Ok v) is gives = tt
-told_err (Err e) is gives = gives e is
 
 pub loop-placed-init : goal.loop-placed-init
 loop-placed-init c =
