@@ -1,31 +1,31 @@
--- One more element of a list that is gone through.
-use Rattle.std.proofs.Common.{◌≡◌, ◌∙◌, ℕ, ◌+◌, ◌||◌, Bool, List, [], ◌∷◌, ◌++◌, map, slice_get, take, Some, sym, ap, append_assoc, Result, Ok, Err, IfOk}
-use Rattle.std.specs.List.{flat_map, list_any}
-use Rattle.std.proofs.lemmas.Grind.{flat_map-append}
+-- Lists that are gone through.
+use Rattle.std.proofs.Common.{◌≡◌, ◌∙◌, ℕ, ◌+◌, List, [], ◌∷◌, ◌++◌, map, slice_get, take, Some, sym, ap, append_assoc, Result, Ok, Err, IfOk}
+use Rattle.std.specs.List.{flat_map}
 use Rattle.std.proofs.lemmas.List.{append-nil}
-use Rattle.std.proofs.lemmas.List.Folds.{list_any-append}
-use Rattle.wit_values.specs.Lists.{map-next, take-next_at}
+use Rattle.wit_values.specs.Lists.{map-next}
 
+-- a table that is gone through: what is there, with what is left, and one of it more
 module _ {X Y : Type 0} where
-  pub flat_map-next : (f : X → List Y) (xs : List X) (i : ℕ) (x : X) → slice_get xs i ≡ Some x → flat_map f (take (i + 1) xs) ≡ flat_map f (take i xs) ++ f x
-  flat_map-next f xs i x at =
-      ap (flat_map f) (take-next_at xs i x at) ∙ (flat_map-append f (take i xs) (x ∷ []) ∙ ap (λ (w : List Y). flat_map f (take i xs) ++ w) (append-nil (f x)))
+  pub flat_more : (f : X → List Y) (now next whole : List Y) (left : List X) (x : X) (others : List X) → left ≡ x ∷ others →
+      now ++ flat_map f left ≡ whole → next ≡ now ++ f x → next ++ flat_map f others ≡ whole
+  flat_more f now next whole left x others first so_far more =
+      ap (λ (w : List Y). w ++ flat_map f others) more ∙ (append_assoc now (f x) (flat_map f others) ∙ (ap (λ (w : List X). now ++ flat_map f w) (sym first) ∙ so_far))
 
-  -- what one more element gives is added
-  pub flat_added : (f : X → List Y) (xs : List X) (i : ℕ) (x : X) (old now next : List Y) → slice_get xs i ≡ Some x →
-      now ≡ old ++ flat_map f (take i xs) → next ≡ now ++ f x → next ≡ old ++ flat_map f (take (i + 1) xs)
-  flat_added f xs i x old now next at so_far more =
-      more ∙ (ap (λ (w : List Y). w ++ f x) so_far ∙ (append_assoc old (flat_map f (take i xs)) (f x) ∙ ap (λ (w : List Y). old ++ w) (sym (flat_map-next f xs i x at))))
+  pub map_more : (f : X → Y) (now next whole : List Y) (left : List X) (x : X) (others : List X) → left ≡ x ∷ others →
+      now ++ map f left ≡ whole → next ≡ now ++ f x ∷ [] → next ++ map f others ≡ whole
+  map_more f now next whole left x others first so_far more =
+      ap (λ (w : List Y). w ++ map f others) more ∙ (append_assoc now (f x ∷ []) (map f others) ∙ (ap (λ (w : List X). now ++ map f w) (sym first) ∙ so_far))
 
+  -- where nothing is left
+  pub nothing_left : (f : List X → List Y) (now whole : List Y) (left : List X) → left ≡ [] → f [] ≡ [] → now ++ f left ≡ whole → now ≡ whole
+  nothing_left f now whole left none nothing so_far =
+      sym (append-nil now) ∙ (ap (λ (w : List Y). now ++ w) (sym nothing) ∙ (ap (λ (w : List X). now ++ f w) (sym none) ∙ so_far))
+
+  -- a list of which the first ones are there, and one more
   pub map_added : (f : X → Y) (xs : List X) (i : ℕ) (x : X) (old now next : List Y) → slice_get xs i ≡ Some x →
       now ≡ old ++ map f (take i xs) → next ≡ now ++ f x ∷ [] → next ≡ old ++ map f (take (i + 1) xs)
   map_added f xs i x old now next at so_far more =
       more ∙ (ap (λ (w : List Y). w ++ f x ∷ []) so_far ∙ (append_assoc old (map f (take i xs)) (f x ∷ []) ∙ ap (λ (w : List Y). old ++ w) (sym (map-next f xs i x at))))
-
-module _ {X : Type 0} where
-  -- a test of one more element
-  pub any-next : (p : X → Bool) (xs : List X) (i : ℕ) (x : X) → slice_get xs i ≡ Some x → list_any p (take (i + 1) xs) ≡ (list_any p (take i xs) || list_any p (x ∷ []))
-  any-next p xs i x at = ap (list_any p) (take-next_at xs i x at) ∙ list_any-append p (take i xs) (x ∷ [])
 
 -- what follows of a success
 module _ {X : Type 0} {E : Type 0} (P Q : X → Type 0) where

@@ -1,10 +1,11 @@
 -- Rising ids that are just those that take part are the places of what is taken.
-use Rattle.std.proofs.Common.{◌≡◌, ◌∙◌, ℕ, suc, ◌+◌, ◌<◌, inl, inr, Bool, true, false, List, [], ◌∷◌, Option, None, Some, Contains, is_some, nat_eq, option_map, slice_get, unwrap_or, refl, sym, ap, arith, if◌then◌else◌}
+use Rattle.std.proofs.Common.{◌≡◌, ◌∙◌, ℕ, suc, ◌+◌, ◌<◌, inl, inr, Bool, true, false, List, [], ◌∷◌, Option, None, Some, Contains, is_some, length, nat_eq, option_map, slice_get, unwrap_or, refl, sym, ap, arith, if◌then◌else◌}
 use Rattle.std.specs.List.{list_any}
 use Rattle.std.specs.List.Sorted.{IsStrictlySortedBy}
 use Rattle.std.specs.Map.{keys_of, lookup}
 use Rattle.std.specs.Ordering.{nat_cmp}
 use Rattle.std.proofs.lemmas.Bool.{cases_lt, false≢true}
+use Rattle.std.proofs.lemmas.List.{length-map}
 use Rattle.std.proofs.lemmas.Option.{slice_get-map}
 use Rattle.wit_relations.specs.FreshFacts.{any_from_contains, contains_from_any}
 use Rattle.wit_relations.specs.MemberFacts.{Contains-cons_cases, Contains-here, Contains-nil, Contains-there}
@@ -134,3 +135,9 @@ pub key_takes : {X : Type 0} (kept : ℕ → Bool) (xs : List X) (table : List (
 key_takes kept xs table i k v x keys at there =
     let found = place_from kept xs i k (ap (λ (ks : List ℕ). slice_get ks i) (sym keys) ∙ key_at table i k v at) in
     found.2 ∙ (sym found.1 ∙ there)
+
+-- as much is taken as it names
+pub takes_all : {X : Type 0} (kept : ℕ → Bool) (xs : List X) (table : List (ℕ × ℕ)) → keys_of table ≡ places kept xs → length (taken kept xs) ≡ length table
+takes_all {X} kept xs table keys =
+    length-map (taken_places kept xs) (λ (e : ℕ × X). e.1)
+    ∙ (sym (length-map (taken_places kept xs) (λ (e : ℕ × X). e.0)) ∙ (ap (λ (ks : List ℕ). length ks) (sym keys) ∙ length-map table (λ (e : ℕ × ℕ). e.0)))

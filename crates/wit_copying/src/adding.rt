@@ -129,8 +129,7 @@ fn type_copies(
     ensures { (kept : ℕ → Bool) → keys_of copies.now.types ≡ places kept graph.now.types → IfOk result (λ types. types ≡ map (type_image (maps_of copies.now)) (taken kept graph.now.types)) }
 {
     let mut types = Items::new(alloc);
-    for index in 0..copies.types.len() {
-        let (id, _) = copies.types.entry_at(index);
+    for (id, _) in copies.types.iter() {
         types.push(copies.of_type(alloc, graph.types.at(id.index()))?)?;
     }
     Ok(types)
@@ -146,8 +145,7 @@ fn interface_copies(
     ensures { (kept : ℕ → Bool) → keys_of copies.now.interfaces ≡ places kept graph.now.interfaces → IfOk result (λ interfaces. interfaces ≡ map (interface_image (maps_of copies.now)) (taken kept graph.now.interfaces)) }
 {
     let mut interfaces = Items::new(alloc);
-    for index in 0..copies.interfaces.len() {
-        let (id, _) = copies.interfaces.entry_at(index);
+    for (id, _) in copies.interfaces.iter() {
         interfaces.push(copies.of_interface(graph.interfaces.at(id.index()))?)?;
     }
     Ok(interfaces)

@@ -128,8 +128,7 @@ impl<'a> Copies<'a> {
         ensures { IfOk result (λ copies. copies ≡ map (entry_image (maps_of self.now) self.now.from) entries.now) }
     {
         let mut copies = Items::new(alloc);
-        for index in 0..entries.len() {
-            let (key, item) = entries.entry_at(index);
+        for (key, item) in entries.iter() {
             copies.push(self.entry(alloc, key, item)?)?;
         }
         Ok(copies)

@@ -34,8 +34,7 @@ fn push_unnamed(
 ) -> Result<(), AllocError>
     ensures { OnOk result (ids.new ≡ ids.old ++ filter (is_unnamed graph.now.interfaces) (held_interfaces entries.now)) }
 {
-    for index in 0..entries.len() {
-        let (_, item) = entries.entry_at(index);
+    for (_, item) in entries.iter() {
         push_if_unnamed(ids, graph, item)?;
     }
     Ok(())

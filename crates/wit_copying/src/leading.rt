@@ -142,8 +142,7 @@ pub(crate) fn those_leading(
     ensures { IfOk result (λ ids. (t : ℕ) → list_any (nat_eq t) ids ≡ said known.now t) }
 {
     let mut ids = Items::new(alloc);
-    for index in 0..known.len() {
-        let (id, leads) = known.entry_at(index);
+    for (id, leads) in known.iter() {
         if *leads {
             ids.push(*id)?;
         }

@@ -34,8 +34,7 @@ fn push_entries(
     requires { IsOrigin origin.now }
     ensures { OnOk result (ids.new ≡ ids.old ++ flat_map (entry_mentions origin.now.graph.now origin.now.world.now) entries.now) }
 {
-    for index in 0..entries.len() {
-        let (_, item) = entries.entry_at(index);
+    for (_, item) in entries.iter() {
         push_item(alloc, ids, origin, item)?;
     }
     Ok(())
@@ -86,8 +85,7 @@ fn push_held(
 fn push_types(ids: &mut Items<TypeId>, interface: &Interface) -> Result<(), AllocError>
     ensures { OnOk result (ids.new ≡ ids.old ++ map (λ (e : List ℕ × ℕ). e.1) interface.now.types) }
 {
-    for index in 0..interface.types.len() {
-        let (_, id) = interface.types.entry_at(index);
+    for (_, id) in interface.types.iter() {
         ids.push(*id)?;
     }
     Ok(())
@@ -101,8 +99,7 @@ fn push_functions(
 ) -> Result<(), AllocError>
     ensures { OnOk result (ids.new ≡ ids.old ++ flat_map (λ (e : List ℕ × Function). function_references e.1) interface.now.functions) }
 {
-    for index in 0..interface.functions.len() {
-        let (_, function) = interface.functions.entry_at(index);
+    for (_, function) in interface.functions.iter() {
         ids.append(function_references(alloc, function)?)?;
     }
     Ok(())

@@ -1,4 +1,4 @@
-use Rattle.std.proofs.Common.{◌≡◌, ℕ, Bool, map, take}
+use Rattle.std.proofs.Common.{◌≡◌, ℕ, Bool, length, map, take}
 use Rattle.std.specs.Map.{keys_of}
 use Rattle.wit_growth.specs.Image.{interface_image}
 use Rattle.wit_adding.specs.Ranks.{taken}
@@ -6,5 +6,5 @@ use Rattle.wit_copying.specs.Copied.{maps_of, places}
 use Rattle.wit_copying.proofs.adding.interface_copies.Given as goal
 
 -- those of the first ones
-abbrev pub invariant-loop-index : goal.invariant-loop-index
-invariant-loop-index l = (kept : ℕ → Bool) → keys_of l.copies.interfaces ≡ places kept l.graph.interfaces → l.interfaces ≡ map (interface_image (maps_of l.copies)) (take l.index (taken kept l.graph.interfaces))
+abbrev pub invariant-loop-id : goal.invariant-loop-id
+invariant-loop-id l = (kept : ℕ → Bool) → keys_of l.copies.interfaces ≡ places kept l.graph.interfaces → l.interfaces ≡ map (interface_image (maps_of l.copies)) (take (length l.yielded) (taken kept l.graph.interfaces))

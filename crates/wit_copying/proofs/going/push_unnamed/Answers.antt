@@ -1,17 +1,22 @@
-use Rattle.std.proofs.Common.{◌≡◌, ◌∙◌, ◌++◌, ℕ, List, append_assoc, ap, sym, filter, take, ◌+◌}
+use Rattle.std.proofs.Common.{◌≡◌, ◌∙◌, ◌++◌, ℕ, List, append_assoc, ap, sym, filter, refl}
 use Rattle.std.proofs.lemmas.List.Elements.{filter-append}
+use Rattle.std.specs.Map.Iter.{deref_pair}
+use Rattle.std.proofs.lemmas.Map.Iter.{rest_more, rest_all}
 use Rattle.wit_items.specs.Entries.{Entry, held_interfaces, is_unnamed, item_interface}
-use Rattle.wit_copying.proofs.Steps.{flat_map-next}
+use Rattle.wit_copying.proofs.Steps.{nothing_left}
 use Rattle.wit_copying.proofs.going.push_unnamed.Goals as goal
 
-pub loop-index-preserved : goal.loop-index-preserved
-loop-index-preserved c =
+pub loop-item-preserved : goal.loop-item-preserved
+loop-item-preserved c =
     let p = is_unnamed c.args.graph.now.interfaces in
-    let held = held_interfaces (take c.loop-index.index c.args.entries.now) in
-    let new = item_interface c.entry_at.result.1.now in
-    let whole : held_interfaces (take (c.loop-index.index + 1) c.args.entries.now) ≡ held ++ new =
-    flat_map-next (λ (e : Entry). item_interface e.1) c.args.entries.now c.loop-index.index (c.entry_at.result.0.now, c.entry_at.result.1.now) c.entry_at.ensures in
-    c.in_ok-push_if_unnamed.ensures
-    ∙ (ap (λ (w : List ℕ). w ++ filter p new) c.loop-index.invariant
-    ∙ (append_assoc c.args.ids.now (filter p held) (filter p new)
-    ∙ ap (λ (w : List ℕ). c.args.ids.now ++ w) (sym (ap (filter p) whole ∙ filter-append p held new))))
+    let new : List ℕ = item_interface c.in-Some.item.now in
+    let others : List ℕ = held_interfaces c.next.new.self in
+    let left : held_interfaces c.loop-item.item-iterator ≡ new ++ others = ap (λ (es : List Entry). held_interfaces es) (rest_more deref_pair _ _ _ _ c.in-Some.is c.next.ensures.steps) in
+    ap (λ (w : List ℕ). w ++ filter p others) c.in_ok-push_if_unnamed.ensures
+    ∙ (append_assoc c.loop-item.ids (filter p new) (filter p others)
+    ∙ (ap (λ (w : List ℕ). c.loop-item.ids ++ w) (sym (ap (filter p) left ∙ filter-append p new others)) ∙ c.loop-item.invariant))
+
+pub returns : goal.returns
+returns c =
+    nothing_left (λ (es : List Entry). filter (is_unnamed c.args.graph.now.interfaces) (held_interfaces es)) c.loop-item.ids _ _
+    (rest_all deref_pair _ _ _ c.in-None.is c.next.ensures.steps) refl c.loop-item.invariant

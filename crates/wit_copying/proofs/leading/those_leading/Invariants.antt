@@ -1,11 +1,11 @@
-use Rattle.std.proofs.Common.{◌≡◌, ℕ, true, Contains, take}
+use Rattle.std.proofs.Common.{◌≡◌, ◌⊎◌, ℕ, true, Contains}
 use Rattle.std.specs.Map.{keys_of}
 use Rattle.wit_copying.specs.Copied.{said}
 use Rattle.wit_copying.proofs.leading.those_leading.Given as goal
 
--- of the first ones, those that lead there
-abbrev pub invariant-loop-index : goal.invariant-loop-index
-invariant-loop-index l = record {
+-- what has been added leads there; what leads there has been added or is left
+abbrev pub invariant-loop-id : goal.invariant-loop-id
+invariant-loop-id l = record {
   lead : (t : ℕ) → Contains l.ids t → said l.known t ≡ true;
-  all : (t : ℕ) → Contains (keys_of (take l.index l.known)) t → said l.known t ≡ true → Contains l.ids t;
+  all : (t : ℕ) → said l.known t ≡ true → Contains l.ids t ⊎ Contains (keys_of l.id-iterator) t;
 }

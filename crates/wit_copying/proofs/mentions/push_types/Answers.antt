@@ -1,8 +1,13 @@
-use Rattle.std.proofs.Common.{ℕ, List}
-use Rattle.wit_copying.proofs.Steps.{map_added}
+use Rattle.std.proofs.Common.{ℕ, List, map, refl}
+use Rattle.std.proofs.lemmas.Map.Iter.{rest_more, rest_all}
+use Rattle.wit_values.specs.Names.{deref_named}
+use Rattle.wit_copying.proofs.Steps.{map_more, nothing_left}
 use Rattle.wit_copying.proofs.mentions.push_types.Goals as goal
 
-pub loop-index-preserved : goal.loop-index-preserved
-loop-index-preserved c =
-    map_added (λ (e : List ℕ × ℕ). e.1) c.args.interface.now.types c.loop-index.index (c.entry_at.result.0.now, c.entry_at.result.1.now) c.args.ids.now c.loop-index.ids c.push.new.self
-    c.entry_at.ensures c.loop-index.invariant c.in_ok-push.ensures.ok
+pub loop-id-preserved : goal.loop-id-preserved
+loop-id-preserved c =
+    map_more (λ (e : List ℕ × ℕ). e.1) c.loop-id.ids c.push.new.self _ _ _ _ (rest_more deref_named _ _ _ _ c.in-Some.is c.next.ensures.steps) c.loop-id.invariant c.in_ok-push.ensures.ok
+
+pub returns : goal.returns
+returns c =
+    nothing_left (map (λ (e : List ℕ × ℕ). e.1)) c.loop-id.ids _ _ (rest_all deref_named _ _ _ c.in-None.is c.next.ensures.steps) refl c.loop-id.invariant
