@@ -16,7 +16,6 @@ use Rattle.wit_items.specs.declared.types.Handle.TheVariants.{Borrow, Own}
 use Rattle.wit_items.specs.declared.types.TypeDef.{TypeDef}
 use Rattle.wit_items.specs.declared.types.TypeDefKind.{TypeDefKind}
 use Rattle.wit_items.specs.declared.types.TypeDefKind.TheVariants as kind
-use Rattle.wit_items.specs.declared.types.Type_.{Type_}
 use Rattle.wit_items.specs.declared.world.World.{World}
 use Rattle.wit_items.specs.declared.world.WorldItem.{WorldItem}
 use Rattle.wit_items.specs.declared.world.WorldItem.TheVariants as item
