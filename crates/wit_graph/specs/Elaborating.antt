@@ -1,5 +1,5 @@
 -- States of an elaboration on its way.
-use Rattle.std.specs.Prelude.{ℕ, ◌≡◌, ◌++◌, ◌↔◌, Bool, true, false, List, [], ◌∷◌, Option, Some, None, length, map, filter, not, nat_eq, slice_get, take, Contains}
+use Rattle.std.specs.Prelude.{ℕ, ◌≡◌, ◌≤◌, ◌++◌, ◌↔◌, Bool, true, false, List, [], ◌∷◌, Option, Some, None, length, map, filter, not, nat_eq, slice_get, take, Contains}
 use Rattle.std.specs.List.{flat_map, list_any}
 use Rattle.std.specs.Map.{keys_of}
 use Rattle.wit_items.specs.declared.world.WorldKey.TheVariants.{Interface}
@@ -55,6 +55,14 @@ pub record HaveNodes (marks : Marks) (interfaces : ℕ) : Type 0 where
   pub reaching : marks.reaching.nodes ≡ interfaces
   pub outside : marks.outside.nodes ≡ interfaces
   pub leading : marks.leading.nodes ≡ interfaces
+
+-- each set of marks is one of so many interfaces, or of more
+pub record HaveAtLeast (marks : Marks) (interfaces : ℕ) : Type 0 where
+  pub walked : interfaces ≤ marks.walked.nodes
+  pub exported : interfaces ≤ marks.exported.nodes
+  pub reaching : interfaces ≤ marks.reaching.nodes
+  pub outside : interfaces ≤ marks.outside.nodes
+  pub leading : interfaces ≤ marks.leading.nodes
 
 -- is the interface listed?
 abbrev pub is_listed : Listed → ℕ → Bool

@@ -2,7 +2,7 @@
 //!
 //! A listed world says what it imports and exports; its elaboration adds what these need. Imports
 //! get what they use before them, exports too, and what exports need from outside is imported.
-ghost use Rattle.std.specs.Prelude.{◌≡◌, ◌<◌, IfOk, IfErr, OnOk, OnErr, length, take};
+ghost use Rattle.std.specs.Prelude.{◌≡◌, ◌<◌, ◌++◌, ◌∷◌, [], IfOk, IfErr, OnOk, OnErr, length, take};
 ghost use Rattle.wit_graph.specs.Elaborated.{elaborated_exports, elaborated_imports};
 ghost use Rattle.wit_graph.specs.Elaborating.{HaveNodes, TellsExported};
 ghost use Rattle.wit_graph.specs.Elaboration.{AreElaborated, ElaboratesWorld, HasConflictAt, IsConflictError, IsElaborationError, IsErrorAt, IsListedAt, graph_uses};
@@ -24,7 +24,7 @@ use std::alloc::{AllocError, Global};
 use std::marker::Model;
 use std::mem;
 use wit_items::{Interface, TypeDef, World, WorldId, interface_uses, uses_of};
-use wit_values::{Items, Table, Text};
+use wit_values::{Items, Table, Text, TryClone};
 
 /// What the elaboration of several worlds of one graph shares: which interfaces use which, and marks
 /// for them. A world then costs what it reaches.
@@ -46,6 +46,16 @@ impl Model for Elaborator {
 }
 
 impl Elaborator {
+    /// For worlds over no interfaces. It takes no memory.
+    pub fn empty(alloc: Global) -> Elaborator
+        ensures { result ≡ [] }
+    {
+        Elaborator {
+            uses: Items::new(alloc),
+            marks: Marks::empty(alloc),
+        }
+    }
+
     /// For worlds over these types and interfaces. It goes over all their types once.
     pub fn new(
         alloc: Global,
@@ -59,25 +69,52 @@ impl Elaborator {
         Ok(Elaborator { uses, marks })
     }
 
-    /// For worlds over these types and interfaces, of which it is for the first so many already. It goes over the
-    /// types of the others once.
-    pub fn grown(
-        self,
+    /// The same of interfaces of which it is for the first so many already. It goes over the types of the others once.
+    /// Where there is no memory it may be for some of them.
+    pub fn grow(
+        &mut self,
         alloc: Global,
         types: &[TypeDef],
         interfaces: &[Interface],
-    ) -> Result<Elaborator, AllocError>
-        requires { self ≡ uses_of types.now (take (length self) interfaces.now) }
-        ensures { IfOk result (λ elaborator. elaborator ≡ uses_of types.now interfaces.now) }
+    ) -> Result<(), AllocError>
+        requires { self.old ≡ uses_of types.now (take (length self.old) interfaces.now) }
+        ensures ok { OnOk result (self.new ≡ uses_of types.now interfaces.now) }
+        ensures begins { take (length self.old) self.new ≡ self.old }
     {
-        let Elaborator { uses, marks } = self;
-        let mut uses = uses;
-        let mut marks = marks;
-        for index in uses.len()..interfaces.len() {
-            uses.push(interface_uses(alloc, types, &interfaces[index])?)?;
-            marks.add_node()?;
+        for index in self.interfaces()..interfaces.len() {
+            self.add_row(interface_uses(alloc, types, &interfaces[index])?)?;
         }
-        Ok(Elaborator { uses, marks })
+        Ok(())
+    }
+
+    /// One interface more, which uses these. Where there is no memory it is as before.
+    fn add_row(&mut self, row: Items<usize>) -> Result<(), AllocError>
+        ensures ok { OnOk result (self.new ≡ self.old ++ row ∷ []) }
+        ensures err { OnErr result (self.new ≡ self.old) }
+    {
+        let interfaces = self.uses.len();
+        self.uses.push(row)?;
+        let added = self.marks.add_node();
+        if added.is_err() {
+            self.uses.truncate(interfaces);
+            self.marks.cut(interfaces);
+        }
+        added
+    }
+
+    /// Of the first so many interfaces alone, or of all where there are fewer. It takes no memory.
+    pub fn cut(&mut self, count: usize)
+        ensures { self.new ≡ take count self.old }
+    {
+        self.uses.truncate(count);
+        self.marks.cut(self.uses.len());
+    }
+
+    /// For how many interfaces it is.
+    pub fn interfaces(&self) -> usize
+        ensures { result ≡ length self.now }
+    {
+        self.uses.len()
     }
 
     /// Elaborates a world of a graph that has these types and interfaces, as the function of that name
@@ -145,6 +182,14 @@ impl Elaborator {
                 Ok(lists_of(alloc, types, uses, &mut self.marks, world)?)
             }
         }
+    }
+}
+
+impl TryClone for Elaborator {
+    fn try_clone(&self) -> Result<Elaborator, AllocError> {
+        let uses = self.uses.try_clone()?;
+        let marks = Marks::new(uses.allocator(), uses.len())?;
+        Ok(Elaborator { uses, marks })
     }
 }
 

@@ -1,6 +1,6 @@
 //! Marks of interfaces, for the elaboration of one world after another.
 ghost use Rattle.std.specs.Prelude.{◌≡◌, ℕ, ◌+◌, [], IfOk, OnOk};
-ghost use Rattle.wit_graph.specs.Elaborating.{HaveNodes};
+ghost use Rattle.wit_graph.specs.Elaborating.{HaveAtLeast, HaveNodes};
 
 use std::alloc::{AllocError, Global};
 use wit_relations::Listing;
@@ -40,6 +40,19 @@ impl Drop for Marks {
 }
 
 impl Marks {
+    /// No marks, for no interfaces. It takes no memory.
+    pub(crate) fn empty(alloc: Global) -> Marks
+        ensures { HaveNodes result 0 }
+    {
+        Marks {
+            walked: Listing::empty(alloc),
+            exported: Listing::empty(alloc),
+            reaching: Listing::empty(alloc),
+            outside: Listing::empty(alloc),
+            leading: Listing::empty(alloc),
+        }
+    }
+
     /// No marks, for so many interfaces.
     pub(crate) fn new(alloc: Global, interfaces: usize) -> Result<Marks, AllocError>
         ensures nodes { IfOk result (λ marks. HaveNodes marks interfaces) }
@@ -54,14 +67,27 @@ impl Marks {
         })
     }
 
-    /// One interface more, which isn't marked for anything.
+    /// One interface more, which isn't marked for anything. Where there is no memory, it may be there for some marks.
     pub(crate) fn add_node(&mut self) -> Result<(), AllocError>
-        ensures { OnOk result ((n : ℕ) → HaveNodes self.old n → HaveNodes self.new (n + 1)) }
+        ensures ok { OnOk result ((n : ℕ) → HaveNodes self.old n → HaveNodes self.new (n + 1)) }
+        ensures least { (n : ℕ) → HaveNodes self.old n → HaveAtLeast self.new n }
     {
         self.walked.add_node()?;
         self.exported.add_node()?;
         self.reaching.add_node()?;
         self.outside.add_node()?;
         self.leading.add_node()
+    }
+
+    /// No marks, for the first so many interfaces alone. It takes no memory.
+    pub(crate) fn cut(&mut self, interfaces: usize)
+        requires { HaveAtLeast self.old interfaces }
+        ensures { HaveNodes self.new interfaces }
+    {
+        self.walked.cut(interfaces);
+        self.exported.cut(interfaces);
+        self.reaching.cut(interfaces);
+        self.outside.cut(interfaces);
+        self.leading.cut(interfaces);
     }
 }

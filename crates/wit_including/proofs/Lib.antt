@@ -1,5 +1,4 @@
 pub mod IncludeSteps
 pub mod NamesThere
 pub mod OwnKeys
-pub mod RowsStay
 pub mod Several

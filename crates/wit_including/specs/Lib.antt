@@ -1,4 +1,5 @@
 pub mod AdditionFacts
 pub mod Included
 pub mod ReadyFacts
+pub mod RowsFacts
 pub mod SeveralFacts

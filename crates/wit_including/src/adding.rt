@@ -3,7 +3,7 @@ ghost use Rattle.std.specs.Prelude.{◌≡◌, ◌⊎◌, ℕ, IfErr, IfOk, OnOk
 ghost use Rattle.wit_graph.specs.Elaboration.{graph_uses};
 ghost use Rattle.wit_graph.specs.declared.error_kind.ResolveErrorKind.TheVariants.{OutOfMemory};
 ghost use Rattle.wit_including.specs.Included.{CanBeAdded, CanBeBegun, IsFineAt, IsFineWorld, IsWorldCause, StopsAtInclude, with_including, with_lists, with_several};
-ghost use Rattle.wit_placing.specs.Grown.{Grown};
+ghost use Rattle.wit_placing.specs.Grown.{Begins, Grown};
 
 use crate::including::include;
 use std::alloc::Global;
@@ -36,27 +36,28 @@ fn include_each(
 /// Puts a world behind the worlds of a graph: its includes one after another, its setters after their getters,
 /// elaborated.
 ///
-/// Refused as an include is (7, 8, 16) and as a world is that is finished (4, 17, 18), and for memory (28); the graph may
-/// then have grown at its ends.
+/// Refused as an include is (7, 8, 16) and as a world is that is finished (4, 17, 18), and for memory (28); the graph and
+/// the rows of the elaborator may then have grown at their ends.
 pub fn add_world(
     alloc: Global,
     graph: &mut Graph,
-    elaborator: Elaborator,
+    elaborator: &mut Elaborator,
     world: World,
     includes: &Items<WorldInclude>,
     home: PackageId,
-) -> ResolveResult<Elaborator>
-    requires uses { elaborator ≡ graph_uses graph.old }
+) -> ResolveResult<()>
+    requires uses { elaborator.old ≡ graph_uses graph.old }
     requires can { CanBeAdded home graph.old world includes.now }
     ensures ok { OnOk result (graph.new ≡ with_including home graph.old world includes.now) }
-    ensures uses { IfOk result (λ new. new ≡ graph_uses graph.new) }
+    ensures uses { OnOk result (elaborator.new ≡ graph_uses graph.new) }
+    ensures rows { Begins elaborator.old elaborator.new }
     ensures fine { OnOk result (IsFineWorld home graph.old world includes.now) }
     ensures cause { IfErr result (λ kind. (kind ≡ OutOfMemory) ⊎ IsWorldCause home graph.old world includes.now kind) }
     ensures grown { Grown graph.old graph.new }
 {
     let world = include_each(alloc, graph, world, includes, home)?;
     let types = graph.types.as_slice();
-    let mut elaborator = elaborator.grown(alloc, types, graph.interfaces.as_slice())?;
-    finish_world(alloc, graph, &mut elaborator, world)?;
-    Ok(elaborator)
+    elaborator.grow(alloc, types, graph.interfaces.as_slice())?;
+    finish_world(alloc, graph, elaborator, world)?;
+    Ok(())
 }

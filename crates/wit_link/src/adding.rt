@@ -2,6 +2,7 @@
 ghost use Rattle.std.specs.Prelude.{◌≡◌, ◌⊎◌, IfErr, IfOk, OnErr, OnOk};
 ghost use Rattle.wit_adding.specs.Adding.{activity_of, places_of, values_of};
 ghost use Rattle.wit_adding.specs.Cause.{IsCause};
+ghost use Rattle.wit_graph.specs.Elaboration.{graph_uses};
 ghost use Rattle.wit_graph.specs.Valid.{IsValid};
 ghost use Rattle.wit_graph.specs.declared.error_kind.ResolveErrorKind.{ResolveErrorKind};
 ghost use Rattle.wit_graph.specs.declared.error_kind.ResolveErrorKind.TheVariants.{OutOfMemory};
@@ -11,7 +12,7 @@ ghost use Rattle.wit_link.specs.Checked.{IsChecked, IsNew};
 ghost use Rattle.wit_link.specs.Fits.{IsNameTaken};
 ghost use Rattle.wit_adding.specs.Pushed.{with_parts};
 ghost use Rattle.wit_link.specs.Including.{ready_worlds};
-ghost use Rattle.wit_placing.specs.Grown.{Grown};
+ghost use Rattle.wit_placing.specs.Grown.{Begins, Grown};
 
 use crate::checking::{Checked, check};
 use crate::fits::spans_fit;
@@ -52,6 +53,39 @@ pub fn append(
     ensures cause { IfErr result (λ kind. (kind ≡ OutOfMemory) ⊎ IsCause (addition features.now graph.old «package» span_offset) kind) }
     ensures refuses { (kind : ResolveErrorKind) → IsCause (addition features.now graph.old «package» span_offset) kind → OnOk result ⊥ }
 {
+    let types = graph.types.as_slice();
+    let mut elaborator = Elaborator::new(alloc, types, graph.interfaces.as_slice())?;
+    append_with(
+        alloc,
+        graph,
+        &mut elaborator,
+        features,
+        package,
+        span_offset,
+    )
+}
+
+/// The same with an elaborator of the graph, which becomes one of the new graph. It costs what is added.
+pub fn append_with(
+    alloc: Global,
+    graph: &mut Graph,
+    elaborator: &mut Elaborator,
+    features: &Features,
+    package: UnresolvedPackage,
+    span_offset: u32,
+) -> ResolveResult<PackageId>
+    requires shaped { IsShaped «package» }
+    requires valid { IsValid graph.old }
+    requires uses { elaborator.old ≡ graph_uses graph.old }
+    ensures ok { IfOk result (λ id. IsAdded (addition features.now graph.old «package» span_offset) graph.new id) }
+    ensures valid { IsValid graph.new }
+    ensures uses { elaborator.new ≡ graph_uses graph.new }
+    ensures err { OnErr result (graph.new ≡ graph.old) }
+    ensures grown { Grown graph.old graph.new }
+    ensures rows { Begins elaborator.old elaborator.new }
+    ensures cause { IfErr result (λ kind. (kind ≡ OutOfMemory) ⊎ IsCause (addition features.now graph.old «package» span_offset) kind) }
+    ensures refuses { (kind : ResolveErrorKind) → IsCause (addition features.now graph.old «package» span_offset) kind → OnOk result ⊥ }
+{
     if graph.package_names.contains_key(&package.name) {
         return Err(name_taken(package, span_offset));
     }
@@ -68,9 +102,19 @@ pub fn append(
         },
     )?;
     let mark = Mark::of(graph);
-    let added = add_checked(alloc, graph, features, checked, package, span_offset);
+    let rows = elaborator.interfaces();
+    let added = add_checked(
+        alloc,
+        graph,
+        elaborator,
+        features,
+        checked,
+        package,
+        span_offset,
+    );
     if added.is_err() {
         mark.cut(graph);
+        elaborator.cut(rows);
     }
     added
 }
@@ -90,10 +134,11 @@ fn name_taken(package: UnresolvedPackage, span_offset: u32) -> ResolveError
 }
 
 /// Adds a package of which all has been looked at but its worlds. After a refusal the graph may have grown at its
-/// ends.
+/// ends, and the rows of the elaborator at theirs.
 fn add_checked(
     alloc: Global,
     graph: &mut Graph,
+    elaborator: &mut Elaborator,
     features: &Features,
     checked: Checked,
     package: UnresolvedPackage,
@@ -101,6 +146,7 @@ fn add_checked(
 ) -> ResolveResult<PackageId>
     requires shaped { IsShaped «package» }
     requires valid { IsValid graph.old }
+    requires uses { elaborator.old ≡ graph_uses graph.old }
     requires new { IsNew (addition features.now graph.old «package» span_offset) }
     requires checked { IsChecked (addition features.now graph.old «package» span_offset) }
     requires activity { checked.activity ≡ activity_of (addition features.now graph.old «package» span_offset) }
@@ -108,7 +154,9 @@ fn add_checked(
     requires values { checked.values ≡ values_of (addition features.now graph.old «package» span_offset) }
     ensures ok { IfOk result (λ id. IsAdded (addition features.now graph.old «package» span_offset) graph.new id) }
     ensures valid { OnOk result (IsValid graph.new) }
+    ensures uses { OnOk result (elaborator.new ≡ graph_uses graph.new) }
     ensures grown { Grown graph.old graph.new }
+    ensures rows { Begins elaborator.old elaborator.new }
     ensures cause { IfErr result (λ kind. (kind ≡ OutOfMemory) ⊎ IsCause (addition features.now graph.old «package» span_offset) kind) }
 {
     pushes_stay_valid();
@@ -118,14 +166,14 @@ fn add_checked(
     let id = PackageId::from_index(graph.packages.len());
     let worlds = add_placed(alloc, graph, features, checked, package, span_offset)?;
     let types = graph.types.as_slice();
-    let mut elaborator = Elaborator::new(alloc, types, graph.interfaces.as_slice())?;
+    elaborator.grow(alloc, types, graph.interfaces.as_slice())?;
     for placed in worlds.into_vec() {
         let PlacedWorld {
             place: _,
             world,
             includes,
         } = placed;
-        elaborator = add_world(alloc, graph, elaborator, world, &includes, id)?;
+        add_world(alloc, graph, elaborator, world, &includes, id)?;
     }
     Ok(id)
 }

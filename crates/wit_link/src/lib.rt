@@ -8,7 +8,7 @@ mod including;
 pub mod remap;
 pub mod several;
 
-pub use crate::adding::append;
+pub use crate::adding::{append, append_with};
 pub use crate::remap::Remap;
-pub use crate::several::append_all;
+pub use crate::several::{append_all, append_all_with};
 pub use wit_sorting::sort_groups;

@@ -1,15 +1,16 @@
 //! Adding packages one after another, all or none.
 ghost use Rattle.std.specs.Prelude.{◌≡◌, ◌⊎◌, IfErr, IfOk, OnErr, OnOk};
 ghost use Rattle.std.specs.List.{AllByRecursion};
+ghost use Rattle.wit_graph.specs.Elaboration.{graph_uses};
 ghost use Rattle.wit_graph.specs.Valid.{IsValid};
 ghost use Rattle.wit_graph.specs.declared.error_kind.ResolveErrorKind.{ResolveErrorKind};
 ghost use Rattle.wit_graph.specs.declared.error_kind.ResolveErrorKind.TheVariants.{OutOfMemory};
 ghost use Rattle.wit_link.specs.Several.{ArePushed, CanAppend, IsOneRefused};
-ghost use Rattle.wit_placing.specs.Grown.{Grown};
+ghost use Rattle.wit_placing.specs.Grown.{Begins, Grown};
 
-use crate::adding::append;
+use crate::adding::append_with;
 use std::alloc::Global;
-use wit_graph::{Features, Graph, ResolveResult};
+use wit_graph::{Elaborator, Features, Graph, ResolveResult};
 use wit_items::{Items, PackageId, UnresolvedPackage};
 use wit_placing::Mark;
 
@@ -30,10 +31,35 @@ pub fn append_all(
     ensures cause { IfErr result (λ kind. (kind ≡ OutOfMemory) ⊎ IsOneRefused features.now graph.old packages kind) }
     ensures refuses { (kind : ResolveErrorKind) → IsOneRefused features.now graph.old packages kind → OnOk result ⊥ }
 {
+    let types = graph.types.as_slice();
+    let mut elaborator = Elaborator::new(alloc, types, graph.interfaces.as_slice())?;
+    append_all_with(alloc, graph, &mut elaborator, features, packages)
+}
+
+/// The same with an elaborator of the graph, which becomes one of the new graph. It costs what is added.
+pub fn append_all_with(
+    alloc: Global,
+    graph: &mut Graph,
+    elaborator: &mut Elaborator,
+    features: &Features,
+    packages: Items<(UnresolvedPackage, u32)>,
+) -> ResolveResult<Items<PackageId>>
+    requires packages { AllByRecursion CanAppend packages }
+    requires valid { IsValid graph.old }
+    requires uses { elaborator.old ≡ graph_uses graph.old }
+    ensures ok { IfOk result (λ ids. ArePushed features.now graph.old packages graph.new ids) }
+    ensures valid { IsValid graph.new }
+    ensures uses { elaborator.new ≡ graph_uses graph.new }
+    ensures err { OnErr result (graph.new ≡ graph.old) }
+    ensures cause { IfErr result (λ kind. (kind ≡ OutOfMemory) ⊎ IsOneRefused features.now graph.old packages kind) }
+    ensures refuses { (kind : ResolveErrorKind) → IsOneRefused features.now graph.old packages kind → OnOk result ⊥ }
+{
     let mark = Mark::of(graph);
-    let added = append_each(alloc, graph, features, packages);
+    let rows = elaborator.interfaces();
+    let added = append_each(alloc, graph, elaborator, features, packages);
     if added.is_err() {
         mark.cut(graph);
+        elaborator.cut(rows);
     }
     added
 }
@@ -42,20 +68,25 @@ pub fn append_all(
 fn append_each(
     alloc: Global,
     graph: &mut Graph,
+    elaborator: &mut Elaborator,
     features: &Features,
     packages: Items<(UnresolvedPackage, u32)>,
 ) -> ResolveResult<Items<PackageId>>
     requires packages { AllByRecursion CanAppend packages }
     requires valid { IsValid graph.old }
+    requires uses { elaborator.old ≡ graph_uses graph.old }
     ensures ok { IfOk result (λ ids. ArePushed features.now graph.old packages graph.new ids) }
     ensures valid { IsValid graph.new }
+    ensures uses { elaborator.new ≡ graph_uses graph.new }
     ensures grown { Grown graph.old graph.new }
+    ensures rows { Begins elaborator.old elaborator.new }
     ensures cause { IfErr result (λ kind. (kind ≡ OutOfMemory) ⊎ IsOneRefused features.now graph.old packages kind) }
 {
     let mut ids = Items::new(alloc);
     for package in packages.into_vec() {
         let (package, offset) = package;
-        ids.push(append(alloc, graph, features, package, offset)?)?;
+        let id = append_with(alloc, graph, elaborator, features, package, offset)?;
+        ids.push(id)?;
     }
     Ok(ids)
 }

@@ -2,7 +2,7 @@
 //!
 //! A listing keeps the first of each node that walks come to. It holds a node after all that the
 //! node uses, so what is listed need not be walked again.
-ghost use Rattle.std.specs.Prelude.{◌≡◌, ℕ, ◌<◌, ◌+◌, ◌++◌, ◌∷◌, ◌↔◌, [], OnOk, OnErr, IfOk, IsTrue, All, Contains, length};
+ghost use Rattle.std.specs.Prelude.{◌≡◌, ℕ, ◌<◌, ◌≤◌, ◌+◌, ◌++◌, ◌∷◌, ◌↔◌, [], OnOk, OnErr, IfOk, IsTrue, All, Contains, length};
 ghost use Rattle.std.specs.List.{flat_map};
 ghost use Rattle.wit_relations.specs.Relation.{IsAcyclic};
 ghost use Rattle.wit_relations.specs.Walks.{UsesFirst, first_of_each, fresh, walk};
@@ -32,6 +32,16 @@ impl Model for Listing {
 }
 
 impl Listing {
+    /// None of no nodes, which takes no memory.
+    pub fn empty(alloc: Global) -> Listing
+        ensures { result ≡ record { nodes = 0; order = [] } }
+    {
+        Listing {
+            marks: Items::new(alloc),
+            order: Items::new(alloc),
+        }
+    }
+
     /// None of `nodes` nodes. It takes a mark for each.
     pub fn new(alloc: Global, nodes: usize) -> Result<Listing, AllocError>
         ensures { IfOk result (λ l. l ≡ record { nodes = nodes; order = [] }) }
@@ -99,6 +109,23 @@ impl Listing {
         ensures err { OnErr result (self.new ≡ self.old) }
     {
         self.marks.push(false)
+    }
+
+    /// How many nodes there are, listed or not.
+    pub fn nodes(&self) -> usize
+        ensures { result ≡ self.now.nodes }
+    {
+        self.marks.len()
+    }
+
+    /// None of the first `nodes` nodes; the others are no nodes any more. It takes no memory, and a step for each node
+    /// that was listed or goes.
+    pub fn cut(&mut self, nodes: usize)
+        requires { nodes ≤ self.old.nodes }
+        ensures { self.new ≡ record { nodes = nodes; order = [] } }
+    {
+        self.clear();
+        self.marks.truncate(nodes);
     }
 
     /// Takes all nodes off the list, at a step for each that is listed.

@@ -1,5 +1,6 @@
 mod EmptyGraph
 mod Grouped
+mod KeptRows
 mod NamedWorlds
 mod OneOrder
 mod Runs

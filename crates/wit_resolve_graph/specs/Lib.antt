@@ -2,6 +2,7 @@ pub mod Examples
 pub mod FilesExamples
 pub mod Merging
 pub mod Grouping
+pub mod Kept
 pub mod Named
 pub mod RunLaws
 pub mod Selection

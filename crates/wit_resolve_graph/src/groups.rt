@@ -1,6 +1,7 @@
 //! Groups of packages that are added together: their files at the end of the sources, their packages in order.
 ghost use Rattle.std.specs.Prelude.{◌≡◌, ◌⊎◌, ◌≤◌, ◌<◌, ◌+◌, ◌++◌, ◌^◌, [], ◌∷◌, Contains, IfErr, IfOk, List, OnErr, OnOk, map};
 ghost use Rattle.std.specs.List.{AllByRecursion};
+ghost use Rattle.wit_graph.specs.Elaboration.{graph_uses};
 ghost use Rattle.wit_graph.specs.Valid.{IsValid};
 ghost use Rattle.wit_graph.specs.declared.error_kind.ResolveErrorKind.{ResolveErrorKind};
 ghost use Rattle.wit_graph.specs.declared.error_kind.ResolveErrorKind.TheVariants.{OffsetOverflow, OutOfMemory};
@@ -14,11 +15,11 @@ ghost use Rattle.wit_sorting.specs.Sorting.{IsSortCause, names_of};
 ghost use Rattle.wit_sources.specs.SourceMap.{with_sources};
 
 use std::alloc::{AllocError, Global};
-use wit_graph::{Features, Graph, ResolveResult};
+use wit_graph::{Elaborator, Features, Graph, ResolveResult};
 use wit_items::{
     Items, PackageId, PackageName, SourceMap, UnresolvedPackage, UnresolvedPackageGroup,
 };
-use wit_link::{append_all, sort_groups};
+use wit_link::{append_all_with, sort_groups};
 
 /// Puts the files of groups at the end of a source map, in order, and answers their packages, the nested
 /// ones of a group before its main one, each with the place where its group's files begin.
@@ -107,10 +108,12 @@ fn take_packages(
 /// Adds packages to a graph in the order of `sort_groups`, each with its spans moved by its offset, and
 /// answers the id of the one of a name.
 ///
-/// Refused as `sort_groups` and `append_all` say; the graph is then as before.
+/// Refused as `sort_groups` and `append_all` say; the graph is then as before. The elaborator is one of the graph, and
+/// becomes one of the new graph.
 pub(crate) fn add_packages(
     alloc: Global,
     graph: &mut Graph,
+    elaborator: &mut Elaborator,
     features: &Features,
     packages: Items<(UnresolvedPackage, u32)>,
     name: &PackageName,
@@ -118,14 +121,16 @@ pub(crate) fn add_packages(
     requires packages { AllByRecursion CanAppend packages }
     requires named { Contains (names_of packages) name.now }
     requires valid { IsValid graph.old }
+    requires uses { elaborator.old ≡ graph_uses graph.old }
     ensures ok { IfOk result (λ id. AreAdded features.now graph.old packages name.now id graph.new) }
     ensures valid { IsValid graph.new }
+    ensures uses { elaborator.new ≡ graph_uses graph.new }
     ensures err { OnErr result (graph.new ≡ graph.old) }
     ensures cause { IfErr result (λ kind. (kind ≡ OutOfMemory) ⊎ (IsSortCause packages kind ⊎ IsPushCause features.now graph.old packages kind)) }
     ensures refuses { (kind : ResolveErrorKind) → IsSortCause packages kind ⊎ IsPushCause features.now graph.old packages kind → OnOk result ⊥ }
 {
     let sorted = sort_groups(alloc, packages)?;
-    append_all(alloc, graph, features, sorted)?;
+    append_all_with(alloc, graph, elaborator, features, sorted)?;
     match graph.package_names.get(name) {
         Some(id) => Ok(*id),
         None => unreachable!(),

@@ -22,34 +22,36 @@ use crate::select::select_world;
 use std::alloc::{AllocError, Global};
 use std::fmt;
 use std::marker::Model;
-use wit_graph::{Features, Graph, Package, ResolveErrorKind, ResolveResult};
+use wit_graph::{Elaborator, Features, Graph, Package, ResolveErrorKind, ResolveResult};
 use wit_items::{
     Interface, InterfaceId, Items, PackageId, PackageName, SourceMap, Table, TrackRule, TryClone,
     TypeDef, UnresolvedPackage, UnresolvedPackageGroup, World, WorldId, WorldItem, WorldKey,
 };
-use wit_link::append;
+use wit_link::append_with;
 use wit_unite::{exportize, exportize_answered, importize};
 use wit_valid::is_valid;
-use wit_values::try_clone_three;
+use wit_values::try_clone_four;
 
 /// Packages whose names are resolved: a valid graph, the features that are on, the sources, and the rule by
-/// which versions stand on one track.
+/// which versions stand on one track. Beside the graph it keeps which interfaces use which, so that a push costs
+/// what it adds.
 pub struct Resolve {
     graph: Graph,
+    elaborator: Elaborator,
     features: Features,
     source_map: SourceMap,
     track_rule: TrackRule,
 }
 
 impl Model for Resolve {
-    ghost use Rattle.wit_graph.specs.Valid.{IsValid};
+    ghost use Rattle.wit_resolve_graph.specs.Kept.{AreKept};
     ghost use Rattle.wit_resolve_graph.specs.State.{State};
 
     ghost Value = { State };
 
     ghost view = { λ a. record { graph = a.graph; features = a.features; source_map = a.source_map; track_rule = a.track_rule } };
 
-    ghost invariant = { λ a. IsValid a.graph };
+    ghost invariant = { λ a. AreKept a.graph a.elaborator };
 }
 
 impl Resolve {
@@ -59,6 +61,7 @@ impl Resolve {
     {
         Resolve {
             graph: Graph::new(alloc),
+            elaborator: Elaborator::empty(alloc),
             features: Features::new(alloc),
             source_map: SourceMap::new(alloc),
             track_rule: TrackRule::Published,
@@ -196,7 +199,14 @@ impl Resolve {
         ensures cause { IfErr result (λ kind. (kind ≡ OutOfMemory) ⊎ IsCause (addition self.old.features self.old.graph «package» span_offset) kind) }
         ensures refuses { (kind : ResolveErrorKind) → IsCause (addition self.old.features self.old.graph «package» span_offset) kind → OnOk result ⊥ }
     {
-        append(alloc, &mut self.graph, &self.features, package, span_offset)
+        append_with(
+            alloc,
+            &mut self.graph,
+            &mut self.elaborator,
+            &self.features,
+            package,
+            span_offset,
+        )
     }
 
     /// Adds the packages of a group, the nested ones and the main one, and puts the group's files at the
@@ -236,7 +246,14 @@ impl Resolve {
         let files = self.source_map.len();
         let end = self.source_map.end();
         let packages = place_groups(alloc, &mut self.source_map, main, deps)?;
-        let pushed = add_packages(alloc, &mut self.graph, &self.features, packages, &name);
+        let pushed = add_packages(
+            alloc,
+            &mut self.graph,
+            &mut self.elaborator,
+            &self.features,
+            packages,
+            &name,
+        );
         if is_offset_overflow(&pushed) {
             self.source_map.truncate(files, end);
         }
@@ -368,11 +385,13 @@ impl Drop for Resolve {
     fn drop(self) {
         let Resolve {
             graph,
+            elaborator,
             features,
             source_map,
             track_rule: _,
         } = self;
         drop(graph);
+        drop(elaborator);
         drop(features);
         drop(source_map);
     }
@@ -380,13 +399,15 @@ impl Drop for Resolve {
 
 impl TryClone for Resolve {
     fn try_clone(&self) -> Result<Resolve, AllocError> {
-        let (graph, features, source_map) = try_clone_three(
+        let (graph, elaborator, features, source_map) = try_clone_four(
             &self.graph,
+            &self.elaborator,
             &self.features,
             &self.source_map,
         )?;
         Ok(Resolve {
             graph,
+            elaborator,
             features,
             source_map,
             track_rule: self.track_rule,

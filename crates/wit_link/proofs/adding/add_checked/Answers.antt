@@ -1,7 +1,10 @@
-use Rattle.std.proofs.Common.{rules, arith, ◌≡◌, ◌∙◌, ◌⊎◌, ◌++◌, ◌∷◌, [], ℕ, List, length, ap, subst, sym}
+use Rattle.std.proofs.Common.{rules, arith, ◌≡◌, ◌∙◌, ◌⊎◌, ◌++◌, ◌∷◌, [], ℕ, List, length, take, ap, subst, sym}
 use Rattle.std.proofs.lemmas.List.{append_assoc, append-nil}
 use Rattle.std.specs.Vec.Iter.{into_iter_items}
 use Rattle.wit_items.specs.EachFacts.{nil_from_length}
+use Rattle.wit_items.specs.Uses.{uses_of}
+use Rattle.wit_items.specs.declared.interface.Interface.{Interface}
+use Rattle.wit_items.specs.declared.types.TypeDef.{TypeDef}
 use Rattle.wit_graph.specs.AnswerFacts.{told_err}
 use Rattle.wit_graph.specs.Valid.{IsValid}
 use Rattle.wit_graph.specs.declared.error_kind.ResolveErrorKind.{ResolveErrorKind}
@@ -9,13 +12,22 @@ use Rattle.wit_graph.specs.declared.error_kind.ResolveErrorKind.TheVariants.{Out
 use Rattle.wit_graph.specs.declared.graph.Graph.{Graph}
 use Rattle.wit_adding.specs.Cause.{IsCause}
 use Rattle.wit_including.specs.Included as local
-use Rattle.wit_placing.specs.GrownFacts.{Grown-then}
+use Rattle.wit_including.specs.RowsFacts.{rows_of_valid}
+use Rattle.wit_placing.specs.GrownFacts.{Begins-then, Grown-then}
 use Rattle.wit_placing.specs.declared.worlds.PlacedWorld.{PlacedWorld}
 use Rattle.wit_link.specs.Appending.{IsAdded, addition}
 use Rattle.wit_link.specs.Including.{ready_worlds}
 use Rattle.wit_link.proofs.Added.{checked_image, is_added}
 use Rattle.wit_link.proofs.WorldStages.{adding-next, adding-none, all_pushed, all_reached, each_fine, is_ready, refused_here}
 use Rattle.wit_link.proofs.adding.add_checked.Goals as goal
+
+pub grow-requires : goal.grow-requires
+grow-requires c =
+    let types : c.as_slice-types.result.now ≡ c.add_placed.new.graph.types = search rules in
+    let interfaces : c.as_slice.result.now ≡ c.add_placed.new.graph.interfaces = search rules in
+    rows_of_valid c.args.elaborator.now c.args.graph.now c.add_placed.new.graph c.requires.valid c.add_placed.ensures.grown c.requires.uses
+    ∙ ap (λ (l : List TypeDef). uses_of l (take (length c.args.elaborator.now) c.add_placed.new.graph.interfaces)) (sym types)
+    ∙ ap (λ (l : List Interface). uses_of c.as_slice-types.result.now (take (length c.args.elaborator.now) l)) (sym interfaces)
 
 pub loop-placed-init : goal.loop-placed-init
 loop-placed-init c =
@@ -24,6 +36,7 @@ loop-placed-init c =
       adding = adding-none a c.add_placed.new.graph c.in_ok-worlds.ensures.ok;
       uses = search rules;
       grown = c.add_placed.ensures.grown;
+      rows = c.grow.ensures.begins;
       left = search rules;
     }
 
@@ -44,10 +57,11 @@ loop-placed-preserved c =
     record {
       adding =
           adding-next a c.loop-placed.yielded (into_iter_items c.next.new.self) c.in-Some.placed c.loop-placed.graph c.loop-placed.invariant.adding are c.add_world.new.graph
-          (c.in_ok-elaborator-2.ensures.ok ∙ ap (λ (home : ℕ). local.with_including home c.loop-placed.graph c.in-Some.placed.world c.in-Some.placed.includes) id)
-          (subst (λ (home : ℕ). local.IsFineWorld home c.loop-placed.graph c.in-Some.placed.world c.in-Some.placed.includes) id c.in_ok-elaborator-2.ensures.fine);
-      uses = c.in_ok-elaborator-2.ensures.uses;
+          (c.in_ok-add_world.ensures.ok ∙ ap (λ (home : ℕ). local.with_including home c.loop-placed.graph c.in-Some.placed.world c.in-Some.placed.includes) id)
+          (subst (λ (home : ℕ). local.IsFineWorld home c.loop-placed.graph c.in-Some.placed.world c.in-Some.placed.includes) id c.in_ok-add_world.ensures.fine);
+      uses = c.in_ok-add_world.ensures.uses;
       grown = Grown-then c.args.graph.now c.loop-placed.graph c.add_world.new.graph c.loop-placed.invariant.grown c.add_world.ensures.grown;
+      rows = Begins-then c.args.elaborator.now c.loop-placed.elaborator c.add_world.new.elaborator c.loop-placed.invariant.rows c.add_world.ensures.rows;
       left = append_assoc c.loop-placed.yielded (c.in-Some.placed ∷ []) (into_iter_items c.next.new.self) ∙ are;
     }
 
@@ -74,14 +88,14 @@ returns-clause-valid c =
     subst IsValid (sym (all_pushed a c.loop-placed.yielded c.loop-placed.graph c.loop-placed.invariant.adding are))
     (c.pushes_stay_valid.ensures a c.requires.valid c.requires.shaped (checked_image a c.requires.checked) c.requires.new.absent reached)
 
-pub returns-in_err-elaborator-2-clause-cause : goal.returns-in_err-elaborator-2-clause-cause
-returns-in_err-elaborator-2-clause-cause c =
+pub returns-in_err-add_world-clause-cause : goal.returns-in_err-add_world-clause-cause
+returns-in_err-add_world-clause-cause c =
     let a = addition c.args.features.now c.args.graph.now c.args.package c.args.span_offset in
     let are : c.loop-placed.yielded ++ c.in-Some.placed ∷ into_iter_items c.next.new.self ≡ ready_worlds a = search rules in
     let id : c.from_index-id.result ≡ length c.args.graph.now.packages = search rules in
-    told_err c.from_residual-in_err-elaborator-2.result c.from_residual-in_err-elaborator-2.ensures.1
+    told_err c.from_residual-in_err-add_world.result c.from_residual-in_err-add_world.ensures.1
     (λ e is.
-    let same : e ≡ c.in_err-elaborator-2.field-0.0 = is in
+    let same : e ≡ c.in_err-add_world.field-0.0 = is in
     subst (λ (x : ResolveErrorKind). (x ≡ OutOfMemory) ⊎ IsCause a x) (sym same)
-    (refused_here a c.loop-placed.yielded (into_iter_items c.next.new.self) c.in-Some.placed c.loop-placed.graph c.loop-placed.invariant.adding are (checked_image a c.requires.checked) c.in_err-elaborator-2.field-0.0
-    (subst (λ (home : ℕ). (c.in_err-elaborator-2.field-0.0 ≡ OutOfMemory) ⊎ local.IsWorldCause home c.loop-placed.graph c.in-Some.placed.world c.in-Some.placed.includes c.in_err-elaborator-2.field-0.0) id c.in_err-elaborator-2.ensures.cause)))
+    (refused_here a c.loop-placed.yielded (into_iter_items c.next.new.self) c.in-Some.placed c.loop-placed.graph c.loop-placed.invariant.adding are (checked_image a c.requires.checked) c.in_err-add_world.field-0.0
+    (subst (λ (home : ℕ). (c.in_err-add_world.field-0.0 ≡ OutOfMemory) ⊎ local.IsWorldCause home c.loop-placed.graph c.in-Some.placed.world c.in-Some.placed.includes c.in_err-add_world.field-0.0) id c.in_err-add_world.ensures.cause)))

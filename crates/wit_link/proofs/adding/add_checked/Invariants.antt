@@ -1,7 +1,7 @@
 use Rattle.std.proofs.Common.{◌≡◌, ◌++◌}
 use Rattle.std.specs.Vec.Iter.{into_iter_items}
 use Rattle.wit_graph.specs.Elaboration.{graph_uses}
-use Rattle.wit_placing.specs.Grown.{Grown}
+use Rattle.wit_placing.specs.Grown.{Begins, Grown}
 use Rattle.wit_link.specs.Appending.{addition}
 use Rattle.wit_link.specs.Including.{ready_worlds}
 use Rattle.wit_link.proofs.WorldStages.{IsAdding}
@@ -13,5 +13,6 @@ invariant-loop-placed l = record {
   adding : IsAdding (addition l.fn.features l.fn.graph l.fn.package l.fn.span_offset) l.yielded l.graph;
   uses : l.elaborator ≡ graph_uses l.graph;
   grown : Grown l.fn.graph l.graph;
+  rows : Begins l.fn.elaborator l.elaborator;
   left : l.yielded ++ into_iter_items l.placed-iterator ≡ ready_worlds (addition l.fn.features l.fn.graph l.fn.package l.fn.span_offset);
 }

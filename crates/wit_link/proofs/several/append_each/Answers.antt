@@ -4,7 +4,7 @@ use Rattle.std.specs.Vec.Iter.{into_iter_items}
 use Rattle.wit_graph.specs.AnswerFacts.{told_err}
 use Rattle.wit_graph.specs.declared.error_kind.ResolveErrorKind.{ResolveErrorKind}
 use Rattle.wit_graph.specs.declared.error_kind.ResolveErrorKind.TheVariants.{OutOfMemory}
-use Rattle.wit_placing.specs.GrownFacts.{Grown-then}
+use Rattle.wit_placing.specs.GrownFacts.{Begins-then, Grown-then}
 use Rattle.wit_link.specs.Several.{ArePushed, IsOneRefused}
 use Rattle.wit_link.proofs.OneAfterAnother.{pushed_more, refused_here}
 use Rattle.wit_link.proofs.several.append_each.Goals as goal
@@ -14,20 +14,22 @@ loop-package-preserved c =
     let are : c.loop-package.yielded ++ c.in-Some.package ∷ into_iter_items c.next.new.self ≡ c.args.packages = search rules in
     record {
       pushed =
-          subst (λ (ids : List ℕ). ArePushed c.args.features.now c.args.graph.now (c.loop-package.yielded ++ c.in-Some.package ∷ []) c.append.new.graph ids) (sym c.in_ok-push.ensures.ok)
-          (pushed_more c.args.features.now c.args.graph.now c.loop-package.yielded c.loop-package.graph c.loop-package.ids c.in-Some.package c.append.new.graph c.in_ok-append.field-0 c.loop-package.invariant.pushed c.in_ok-append.ensures.ok);
-      valid = c.append.ensures.valid;
-      grown = Grown-then c.args.graph.now c.loop-package.graph c.append.new.graph c.loop-package.invariant.grown c.append.ensures.grown;
+          subst (λ (ids : List ℕ). ArePushed c.args.features.now c.args.graph.now (c.loop-package.yielded ++ c.in-Some.package ∷ []) c.append_with.new.graph ids) (sym c.in_ok-push.ensures.ok)
+          (pushed_more c.args.features.now c.args.graph.now c.loop-package.yielded c.loop-package.graph c.loop-package.ids c.in-Some.package c.append_with.new.graph c.in_ok-id.id c.loop-package.invariant.pushed c.in_ok-id.ensures.ok);
+      valid = c.append_with.ensures.valid;
+      grown = Grown-then c.args.graph.now c.loop-package.graph c.append_with.new.graph c.loop-package.invariant.grown c.append_with.ensures.grown;
+      uses = c.append_with.ensures.uses;
+      rows = Begins-then c.args.elaborator.now c.loop-package.elaborator c.append_with.new.elaborator c.loop-package.invariant.rows c.append_with.ensures.rows;
       left = search rules;
       all = append_assoc c.loop-package.yielded (c.in-Some.package ∷ []) (into_iter_items c.next.new.self) ∙ are;
     }
 
-pub returns-in_err-append-clause-cause : goal.returns-in_err-append-clause-cause
-returns-in_err-append-clause-cause c =
+pub returns-in_err-id-clause-cause : goal.returns-in_err-id-clause-cause
+returns-in_err-id-clause-cause c =
     let are : c.loop-package.yielded ++ c.in-Some.package ∷ into_iter_items c.next.new.self ≡ c.args.packages = search rules in
     told_err c.from_residual.result c.from_residual.ensures.1
     (λ e is.
-    let same : e ≡ c.in_err-append.field-0.0 = is in
+    let same : e ≡ c.in_err-id.field-0.0 = is in
     subst (λ (x : ResolveErrorKind). (x ≡ OutOfMemory) ⊎ IsOneRefused c.args.features.now c.args.graph.now c.args.packages x) (sym same)
-    (refused_here c.args.features.now c.args.graph.now c.args.packages c.loop-package.yielded (into_iter_items c.next.new.self) c.in-Some.package c.loop-package.graph c.loop-package.ids are c.loop-package.invariant.pushed c.in_err-append.field-0.0
-    c.in_err-append.ensures.cause))
+    (refused_here c.args.features.now c.args.graph.now c.args.packages c.loop-package.yielded (into_iter_items c.next.new.self) c.in-Some.package c.loop-package.graph c.loop-package.ids are c.loop-package.invariant.pushed c.in_err-id.field-0.0
+    c.in_err-id.ensures.cause))

@@ -1,9 +1,10 @@
 use Rattle.std.proofs.Common.{◌≡◌, ◌++◌}
 use Rattle.std.specs.List.{AllByRecursion}
 use Rattle.std.specs.Vec.Iter.{into_iter_items}
+use Rattle.wit_graph.specs.Elaboration.{graph_uses}
 use Rattle.wit_graph.specs.Valid.{IsValid}
 use Rattle.wit_link.specs.Several.{ArePushed, CanAppend}
-use Rattle.wit_placing.specs.Grown.{Grown}
+use Rattle.wit_placing.specs.Grown.{Begins, Grown}
 use Rattle.wit_link.proofs.several.append_each.Given as goal
 
 -- the packages so far are added, and those that are left can be
@@ -11,7 +12,9 @@ abbrev pub invariant-loop-package : goal.invariant-loop-package
 invariant-loop-package l = record {
   pushed : ArePushed l.fn.features l.initial.graph l.yielded l.graph l.ids;
   valid : IsValid l.graph;
+  uses : l.elaborator ≡ graph_uses l.graph;
   grown : Grown l.initial.graph l.graph;
+  rows : Begins l.initial.elaborator l.elaborator;
   left : AllByRecursion CanAppend (into_iter_items l.package-iterator);
   all : l.yielded ++ into_iter_items l.package-iterator ≡ l.fn.packages;
 }

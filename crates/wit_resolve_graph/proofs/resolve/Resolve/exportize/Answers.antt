@@ -1,3 +1,6 @@
+use Rattle.std.proofs.Common.{◌∙◌, ap}
+use Rattle.wit_graph.specs.Elaboration.{graph_uses}
+use Rattle.wit_resolve_graph.proofs.KeptRows.{kept_after, turned_uses}
 use Rattle.wit_resolve_graph.proofs.resolve.Resolve.exportize.Goals as goal
 
 pub returns-clause-ok : goal.returns-clause-ok
@@ -8,3 +11,7 @@ returns-clause-cause g c = rw (← c.self.view_is) c.exportize.ensures.cause
 
 pub returns-clause-refuses : goal.returns-clause-refuses
 returns-clause-refuses g c = rw (← c.self.view_is) c.exportize.ensures.refuses
+
+pub invariant_of-self : goal.invariant_of-self
+invariant_of-self g c =
+    kept_after c.exportize.result _ _ _ c.self.invariant c.exportize.ensures.valid c.exportize.ensures.ok (λ is. ap graph_uses is.is_turned ∙ turned_uses c.self.inside.graph c.args.world _) c.exportize.ensures.err

@@ -1,5 +1,10 @@
+use Rattle.std.proofs.Common.{◌∙◌, ap, sym}
+use Rattle.wit_items.specs.Uses.{uses_of}
 use Rattle.wit_resolve_graph.proofs.EmptyGraph.{valid_without}
 use Rattle.wit_resolve_graph.proofs.resolve.Resolve.new.Goals as goal
 
 pub invariant_of-result : goal.invariant_of-result
-invariant_of-result c = valid_without c.new.result c.new.ensures.types c.new.ensures.interfaces c.new.ensures.worlds c.new.ensures.packages c.new.ensures.names
+invariant_of-result c = record {
+  valid = valid_without c.new.result c.new.ensures.types c.new.ensures.interfaces c.new.ensures.worlds c.new.ensures.packages c.new.ensures.names;
+  uses = c.empty.ensures ∙ ap (uses_of c.new.result.types) (sym c.new.ensures.interfaces);
+}

@@ -1,16 +1,20 @@
--- What the interfaces of a graph on its way use stays what it was, where the graph grows.
+-- What the interfaces of a graph use stays what it was, where the graph grows: of a valid graph, and of one on its way.
+-- For the proofs of the crates above.
 use Rattle.std.proofs.Common.{◌≡◌, ◌∙◌, ℕ, ◌<◌, suc, List, [], ◌∷◌, ◌++◌, map, filter_map, length, take, drop, Option, None, Some, option_and_then, slice_get, refl, sym, ap, Contains, arith}
 use Rattle.std.proofs.lemmas.List.{length-map, take-append-drop}
 use Rattle.std.proofs.lemmas.List.Elements.{All-contains}
 use Rattle.wit_values.specs.Lists.{slice_get-append}
+use Rattle.wit_items.specs.Each.{EachAt}
+use Rattle.wit_items.specs.Ownership.{ListsOwn}
 use Rattle.wit_items.specs.Reference.{referred, type_references}
 use Rattle.wit_items.specs.Uses.{alias_target, interface_uses, other_owner, type_interface_dep, uses_of}
 use Rattle.wit_items.specs.declared.interface.Interface.{Interface}
 use Rattle.wit_items.specs.declared.types.TypeDef.{TypeDef}
 use Rattle.wit_items.specs.declared.types.TypeOwner.{TypeOwner}
 use Rattle.wit_items.specs.declared.types.TypeOwner.TheVariants as owner
-use Rattle.wit_relations.specs.Relation.{direct}
+use Rattle.wit_relations.specs.Relation.{direct, IsAcyclic}
 use Rattle.wit_graph.specs.Elaboration.{graph_uses}
+use Rattle.wit_graph.specs.Valid.{IsValid}
 use Rattle.wit_graph.specs.declared.graph.Graph.{Graph}
 use Rattle.wit_growth.specs.GoodTypes.{alias_referred}
 use Rattle.wit_growth.specs.ListFacts.{found_at, get_at, in_row}
@@ -32,12 +36,12 @@ map_agrees : {X Y : Type 0} (f g : X → Y) (xs : List X) → ((i : ℕ) (x : X)
 map_agrees f g [] same = refl
 map_agrees f g (x ∷ xs) same = rw (same 0 x refl, map_agrees f g xs (λ i. same (suc i))) refl
 
-module _ (g : Graph) (on : IsOnItsWay g) (more : List TypeDef) where
+module _ (g : Graph) (references : IsAcyclic (type_references g.types)) (own : EachAt (ListsOwn g.types) g.interfaces) (more : List TypeDef) where
   -- what an alias names is there
   target_there : (id : ℕ) (def : TypeDef) (t : ℕ) → slice_get g.types id ≡ Some def → alias_target def.kind ≡ Some t → t < length g.types
   target_there id def t at is =
       let has : Contains (direct (type_references g.types) id) t = in_row (λ (d : TypeDef). referred d.kind) g.types id def t at (alias_referred def.kind t is) in
-      let within : t < length (type_references g.types) = All-contains (λ j. j < length (type_references g.types)) (direct (type_references g.types) id) t (on.references.in_range id) has in
+      let within : t < length (type_references g.types) = All-contains (λ j. j < length (type_references g.types)) (direct (type_references g.types) id) t (references.in_range id) has in
       let long : length (type_references g.types) ≡ length g.types = length-map g.types (λ (d : TypeDef). referred d.kind) in
       omega (arith, within, long)
 
@@ -55,16 +59,22 @@ module _ (g : Graph) (on : IsOnItsWay g) (more : List TypeDef) where
   interface_stays i interface at =
       filter_map_agrees (λ (e : List ℕ × ℕ). type_interface_dep (g.types ++ more) e.1) (λ (e : List ℕ × ℕ). type_interface_dep g.types e.1) interface.types
       (λ k e is.
-      let def = found_at (λ (def : TypeDef). (def.name ≡ Some e.0) × (def.owner ≡ owner.Interface i)) g.types e.1 ((on.interfaces i interface at).own_types k e is) in
+      let def = found_at (λ (def : TypeDef). (def.name ≡ Some e.0) × (def.owner ≡ owner.Interface i)) g.types e.1 (own i interface at k e is) in
       type_stays e.1 def.0 def.1)
 
   rows_agree : uses_of (g.types ++ more) g.interfaces ≡ uses_of g.types g.interfaces
   rows_agree = map_agrees (interface_uses (g.types ++ more)) (interface_uses g.types) g.interfaces interface_stays
 
--- the rows of the first interfaces of a graph that has grown
-pub rows_stay : (g g' : Graph) → IsOnItsWay g → Grown g g' → graph_uses g ≡ uses_of g'.types (take (length (graph_uses g)) g'.interfaces)
-rows_stay g g' on grown =
-    let long : length (graph_uses g) ≡ length g.interfaces = length-map g.interfaces (interface_uses g.types) in
+-- rows of a graph are those of its interfaces where it has grown
+rows_stay : (rows : List (List ℕ)) (g g' : Graph) → IsAcyclic (type_references g.types) → EachAt (ListsOwn g.types) g.interfaces → Grown g g' → rows ≡ graph_uses g → rows ≡ uses_of g'.types (take (length rows) g'.interfaces)
+rows_stay rows g g' references own grown is =
+    let long : length rows ≡ length g.interfaces = ap length is ∙ length-map g.interfaces (interface_uses g.types) in
     let types : g.types ++ drop (length g.types) g'.types ≡ g'.types = ap (λ (l : List TypeDef). l ++ drop (length g.types) g'.types) (sym grown.types) ∙ take-append-drop (length g.types) g'.types in
-    sym (rows_agree g on (drop (length g.types) g'.types)) ∙ ap (λ (l : List TypeDef). uses_of l g.interfaces) types
+    is ∙ sym (rows_agree g references own (drop (length g.types) g'.types)) ∙ ap (λ (l : List TypeDef). uses_of l g.interfaces) types
     ∙ ap (uses_of g'.types) (sym grown.interfaces) ∙ ap (λ (n : ℕ). uses_of g'.types (take n g'.interfaces)) (sym long)
+
+pub rows_on_its_way : (rows : List (List ℕ)) (g g' : Graph) → IsOnItsWay g → Grown g g' → rows ≡ graph_uses g → rows ≡ uses_of g'.types (take (length rows) g'.interfaces)
+rows_on_its_way rows g g' on = rows_stay rows g g' on.references (λ i interface at. (on.interfaces i interface at).own_types)
+
+pub rows_of_valid : (rows : List (List ℕ)) (g g' : Graph) → IsValid g → Grown g g' → rows ≡ graph_uses g → rows ≡ uses_of g'.types (take (length rows) g'.interfaces)
+rows_of_valid rows g g' valid = rows_stay rows g g' valid.no_cycles.types valid.well_formed.owners.own_types

@@ -6,7 +6,7 @@ use Rattle.wit_graph.specs.declared.graph.Graph.{Graph}
 use Rattle.wit_link.specs.Appending.{IsAdded, addition}
 use Rattle.wit_link.specs.Fits.{PackageFits}
 use Rattle.wit_link.proofs.Added.{is_new, taken, too_far}
-use Rattle.wit_link.proofs.adding.append.Goals as goal
+use Rattle.wit_link.proofs.adding.append_with.Goals as goal
 
 pub returns-then-contains_key-clause-cause : goal.returns-then-contains_key-clause-cause
 returns-then-contains_key-clause-cause c =

@@ -2,7 +2,7 @@ use Rattle.std.proofs.Common.{ℕ, IfOk, List, OnOk, Result, Ok, Err}
 use Rattle.wit_graph.specs.declared.error_kind.ResolveErrorKind.{ResolveErrorKind}
 use Rattle.wit_link.specs.Several.{ArePushed}
 use Rattle.wit_link.proofs.OneAfterAnother.{never_refused}
-use Rattle.wit_link.proofs.several.append_all.Goals as goal
+use Rattle.wit_link.proofs.several.append_all_with.Goals as goal
 
 on_ok : {E : Type 0} (P : List ℕ → Type 0) (r : Result (List ℕ) E) → IfOk r P → ((ids : List ℕ) → P ids → ⊥) → OnOk r ⊥
 on_ok P (Ok ids) is never = never ids is
