@@ -9,8 +9,6 @@ mod failing_streams;
 #[cfg(test)]
 mod fixtures;
 #[cfg(test)]
-mod groups;
-#[cfg(test)]
 mod questions;
 #[cfg(test)]
 mod refusals;

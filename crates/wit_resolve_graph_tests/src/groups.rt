@@ -1,70 +1,21 @@
 //! Groups of several packages, built by hand: in which order they are added, and how they are refused.
+use crate::parts;
+use crate::parts::{interface, list, name_foreign, package};
 use std::alloc::Global;
 use std::process::Abort;
 use wit_graph::{ResolveErrorKind, ResolveResult};
 use wit_items::{
-    AstItem, Docs, Interface, InterfaceId, Items, Names, PackageId, PackageName, SourceMap, Span,
-    Stability, Table, Text, UnresolvedPackage, UnresolvedPackageGroup,
+    AstItem, InterfaceId, Items, PackageId, SourceMap, Span, UnresolvedPackage,
+    UnresolvedPackageGroup,
 };
 use wit_resolve_graph::{Resolve, SourceFault};
 
-fn text(rt: &impl Abort, alloc: Global, text: &str) -> Text {
-    Text::try_from_str(alloc, text).expect(rt, "memory")
-}
-
-fn package_name(rt: &impl Abort, alloc: Global, name: &str) -> PackageName {
-    PackageName::new(text(rt, alloc, "foo"), text(rt, alloc, name), None)
-}
-
-fn interface(rt: &impl Abort, alloc: Global, name: &str) -> Interface {
-    Interface {
-        name: Some(text(rt, alloc, name)),
-        types: Names::new(alloc),
-        functions: Names::new(alloc),
-        docs: Docs::none(),
-        stability: Stability::Unknown,
-        package: None,
-        span: Span::unknown(),
-    }
-}
-
 /// Package `foo:NAME` with an interface, its name at 8 to 13.
-fn package(rt: &impl Abort, alloc: Global, name: &str, own: &str) -> UnresolvedPackage {
-    let mut interfaces = Items::new(alloc);
-    interfaces
-        .push(interface(rt, alloc, own))
-        .expect(rt, "memory");
-    UnresolvedPackage {
-        name: package_name(rt, alloc, name),
-        package_name_span: Span::new(8, 13),
-        docs: Docs::none(),
-        worlds: Items::new(alloc),
-        interfaces,
-        types: Items::new(alloc),
-        foreign_deps: Table::new(alloc),
-        foreign_dep_spans: Items::new(alloc),
-        unknown_type_spans: Items::new(alloc),
-        required_resource_types: Items::new(alloc),
-    }
-}
-
-/// What names the first interface of a package, whatever the features.
-fn first_interface(
-    rt: &impl Abort,
-    alloc: Global,
-    name: &str,
-) -> Names<(AstItem, Items<Stability>)> {
-    let mut notes = Items::new(alloc);
-    notes.push(Stability::Unknown).expect(rt, "memory");
-    let name = String::from_str(alloc, name).expect(rt, "memory");
-    let mut items = Names::new(alloc);
-    items
-        .push(
-            name,
-            (AstItem::Interface(InterfaceId::from_index(0)), notes),
-        )
-        .expect(rt, "memory");
-    items
+fn holding(rt: &impl Abort, alloc: Global, name: &str, own: &str) -> UnresolvedPackage {
+    let mut made = package(rt, alloc, name, "");
+    made.package_name_span = Span::new(8, 13);
+    made.interfaces = list(rt, alloc, [interface(rt, alloc, own, &[])]);
+    made
 }
 
 /// The same package, which names interface `named` of package `foo:HOME` at 2 to 4.
@@ -76,25 +27,12 @@ fn naming(
     home: &str,
     named: &str,
 ) -> UnresolvedPackage {
-    let mut package = package(rt, alloc, name, own);
-    let mut interfaces = Items::new(alloc);
-    interfaces
-        .push(interface(rt, alloc, named))
-        .expect(rt, "memory");
-    interfaces
-        .push(interface(rt, alloc, own))
-        .expect(rt, "memory");
-    package.interfaces = interfaces;
-    let home = package_name(rt, alloc, home);
-    let named = first_interface(rt, alloc, named);
-    let mut foreign_deps = Table::new(alloc);
-    foreign_deps.push(home, named).expect(rt, "memory");
-    package.foreign_deps = foreign_deps;
-    package
-        .foreign_dep_spans
-        .push(Span::new(2, 4))
-        .expect(rt, "memory");
-    package
+    let mut made = holding(rt, alloc, name, own);
+    let item = (named, AstItem::Interface(InterfaceId::from_index(0)));
+    name_foreign(rt, alloc, &mut made, home, Span::new(2, 4), item);
+    let foreign = interface(rt, alloc, named, &[]);
+    made.interfaces = list(rt, alloc, [foreign, interface(rt, alloc, own, &[])]);
+    made
 }
 
 /// A group of a package, with a file of 15 bytes.
@@ -104,16 +42,7 @@ fn group(
     path: &str,
     main: UnresolvedPackage,
 ) -> UnresolvedPackageGroup {
-    let contents = String::from_str(alloc, "package foo:a;\n").expect(rt, "memory");
-    let mut source_map = SourceMap::new(alloc);
-    source_map
-        .push_str(alloc, path, contents)
-        .expect(rt, "memory");
-    UnresolvedPackageGroup {
-        main,
-        nested: Items::new(alloc),
-        source_map,
-    }
+    parts::group(rt, alloc, path, "package foo:a;\n", main)
 }
 
 /// What a push of two groups answers.
@@ -156,15 +85,15 @@ fn pushed(
 
 #[test]
 fn the_first_name_is_added_first(rt: HostRuntime) {
-    let a = package(&rt, rt.alloc(), "a", "i");
-    let b = package(&rt, rt.alloc(), "b", "i");
+    let a = holding(&rt, rt.alloc(), "a", "i");
+    let b = holding(&rt, rt.alloc(), "b", "i");
     assert_eq!(rt; pushed(&rt, rt.alloc(), a, b), (Ok(0), 2, 32));
 }
 
 #[test]
 fn a_dependency_is_added_first(rt: HostRuntime) {
     let main = naming(&rt, rt.alloc(), "a", "j", "dep", "i");
-    let dep = package(&rt, rt.alloc(), "dep", "i");
+    let dep = holding(&rt, rt.alloc(), "dep", "i");
     assert_eq!(rt; pushed(&rt, rt.alloc(), main, dep), (Ok(1), 2, 32));
 }
 
@@ -178,13 +107,13 @@ fn packages_that_name_each_other_are_refused(rt: HostRuntime) {
 #[test]
 fn a_package_that_names_itself_is_refused(rt: HostRuntime) {
     let a = naming(&rt, rt.alloc(), "a", "j", "a", "i");
-    let b = package(&rt, rt.alloc(), "b", "i");
+    let b = holding(&rt, rt.alloc(), "b", "i");
     assert_eq!(rt; pushed(&rt, rt.alloc(), a, b), (Err(6), 0, 32));
 }
 
 #[test]
 fn a_later_refusal_takes_earlier_packages_back(rt: HostRuntime) {
-    let a = package(&rt, rt.alloc(), "a", "i");
+    let a = holding(&rt, rt.alloc(), "a", "i");
     let b = naming(&rt, rt.alloc(), "b", "j", "a", "other");
     assert_eq!(rt; pushed(&rt, rt.alloc(), a, b), (Err(3), 0, 32));
 }
@@ -192,8 +121,8 @@ fn a_later_refusal_takes_earlier_packages_back(rt: HostRuntime) {
 /// What comes of a group with a nested package.
 fn pushed_nested(rt: &impl Abort, alloc: Global) -> (Result<usize, u32>, usize, u32) {
     let mut resolve = Resolve::new(alloc);
-    let nested = package(rt, alloc, "a", "i");
-    let mut group = group(rt, alloc, "main.wit", package(rt, alloc, "b", "i"));
+    let nested = holding(rt, alloc, "a", "i");
+    let mut group = group(rt, alloc, "main.wit", holding(rt, alloc, "b", "i"));
     group.nested.push(nested).expect(rt, "memory");
     assert!(rt; group.is_shaped(alloc).expect(rt, "memory"));
     let answer = resolve.push_group(alloc, group);
@@ -208,9 +137,9 @@ fn a_nested_package_is_added_too(rt: HostRuntime) {
 /// What comes of files that end at this position, and of a second file.
 fn pushed_files(rt: &impl Abort, alloc: Global, end: u32) -> (Result<usize, u32>, usize, u32) {
     let mut resolve = Resolve::new(alloc);
-    let mut main = group(rt, alloc, "main.wit", package(rt, alloc, "a", "i"));
+    let mut main = group(rt, alloc, "main.wit", holding(rt, alloc, "a", "i"));
     main.source_map = SourceMap::with_base(alloc, end);
-    let dep = group(rt, alloc, "dep.wit", package(rt, alloc, "b", "i"));
+    let dep = group(rt, alloc, "dep.wit", holding(rt, alloc, "b", "i"));
     let answer = push_two(rt, alloc, &mut resolve, main, dep);
     told(&resolve, answer)
 }
@@ -227,8 +156,8 @@ fn files_that_pass_the_end_are_taken_back(rt: HostRuntime) {
 /// The places of two packages of one name, as numbers, and how it is told.
 fn twice(rt: &impl Abort, alloc: Global) -> ([(u32, u32); 2], String) {
     let mut resolve = Resolve::new(alloc);
-    let main = group(rt, alloc, "a1.wit", package(rt, alloc, "a", "i"));
-    let dep = group(rt, alloc, "a2.wit", package(rt, alloc, "a", "i"));
+    let main = group(rt, alloc, "a1.wit", holding(rt, alloc, "a", "i"));
+    let dep = group(rt, alloc, "a2.wit", holding(rt, alloc, "a", "i"));
     let Err(refusal) = push_two(rt, alloc, &mut resolve, main, dep) else {
         panic!(rt; "a package");
     };
@@ -256,11 +185,11 @@ fn a_name_twice_is_told_at_both_places(rt: HostRuntime) {
 /// Whether the second place is known where two packages are pushed again, and how many there are then.
 fn again(rt: &impl Abort, alloc: Global) -> (bool, usize) {
     let mut resolve = Resolve::new(alloc);
-    let main = group(rt, alloc, "a.wit", package(rt, alloc, "a", "i"));
-    let dep = group(rt, alloc, "b.wit", package(rt, alloc, "b", "i"));
+    let main = group(rt, alloc, "a.wit", holding(rt, alloc, "a", "i"));
+    let dep = group(rt, alloc, "b.wit", holding(rt, alloc, "b", "i"));
     push_two(rt, alloc, &mut resolve, main, dep).expect(rt, "a package");
-    let main = group(rt, alloc, "a.wit", package(rt, alloc, "a", "i"));
-    let dep = group(rt, alloc, "b.wit", package(rt, alloc, "b", "i"));
+    let main = group(rt, alloc, "a.wit", holding(rt, alloc, "a", "i"));
+    let dep = group(rt, alloc, "b.wit", holding(rt, alloc, "b", "i"));
     let Err(refusal) = push_two(rt, alloc, &mut resolve, main, dep) else {
         panic!(rt; "a package");
     };
