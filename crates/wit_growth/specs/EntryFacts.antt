@@ -125,13 +125,13 @@ role_interface types uses k (item.Type_ t span) i is = inl (by (type_interface_d
     by (Some x) (key.Interface f) is = let same : x ≡ i = cc in subst (λ (y : ℕ). Contains (x ∷ []) y) same (Contains-here x [])
 
 -- a function begins none, and the use of a type begins at its interface
-no_function_root : (uses : List (List ℕ)) (o : Option ℕ) (k : WorldKey) (r : ℕ) → Contains (roots_of uses k (function_role o)) r → ⊥
+pub no_function_root : (uses : List (List ℕ)) (o : Option ℕ) (k : WorldKey) (r : ℕ) → Contains (roots_of uses k (function_role o)) r → ⊥
 no_function_root uses None (key.Name name) r has = Contains-nil has
 no_function_root uses None (key.Interface f) r has = Contains-nil has
 no_function_root uses (Some x) (key.Name name) r has = Contains-nil has
 no_function_root uses (Some x) (key.Interface f) r has = Contains-nil has
 
-type_root : (uses : List (List ℕ)) (o : Option ℕ) (k : WorldKey) (r : ℕ) → Contains (roots_of uses k (type_role o)) r → o ≡ Some r
+pub type_root : (uses : List (List ℕ)) (o : Option ℕ) (k : WorldKey) (r : ℕ) → Contains (roots_of uses k (type_role o)) r → o ≡ Some r
 type_root uses None (key.Name name) r has = absurd (Contains-nil has)
 type_root uses None (key.Interface f) r has = absurd (Contains-nil has)
 type_root uses (Some x) (key.Name name) r has = ap Some (one_of x r has)

@@ -18,12 +18,12 @@ use Rattle.wit_items.specs.declared.world.WorldItem.TheVariants as item
 use Rattle.wit_items.specs.declared.world.WorldKey.{WorldKey}
 use Rattle.wit_items.specs.declared.world.WorldKey.TheVariants as key
 use Rattle.wit_graph.proofs.Filters.{Contains-filter, Contains-filtered}
-use Rattle.wit_graph.specs.Entries.{Entry, function_role, id_of, ids_of, instance_of, role_of, type_role}
+use Rattle.wit_graph.specs.Entries.{Entry, id_of, ids_of, instance_of, role_of, type_role}
 use Rattle.wit_graph.specs.Imported.{Needed, exported_keys, roots_of}
 use Rattle.wit_graph.specs.KeptByElaboration.{HoldsImports, ImportsAreLeast}
 use Rattle.wit_graph.specs.Valid.{IsValid}
 use Rattle.wit_growth.specs.DependencyFacts.{filter_map_from, filter_map_into}
-use Rattle.wit_growth.specs.EntryFacts.{holds as old_holds, import_uses as import_uses_imported, instance_interface, key_entry, one_of}
+use Rattle.wit_growth.specs.EntryFacts.{holds as old_holds, import_uses as import_uses_imported, instance_interface, key_entry, no_function_root, one_of, type_root}
 use Rattle.wit_growth.specs.ListFacts.{Contains-map, from_row, in_row, place_of}
 use Rattle.wit_growth.specs.PackageCycles.{ListsKey, ListsUses}
 use Rattle.wit_growth.specs.PackagesAcyclic.{is_there}
@@ -76,18 +76,6 @@ data Begins (types : List TypeDef) (uses : List (List ℕ)) (k : WorldKey) (held
   at_key : k ≡ key.Interface r → Begins types uses k held r
   at_use : (i : ℕ) → Contains (instance_of held) i → Contains (direct uses i) r → Begins types uses k held r
   at_type : (t : ℕ) (span : _) → held ≡ item.Type_ t span → type_interface_dep types t ≡ Some r → Begins types uses k held r
-
-no_function_root : (uses : List (List ℕ)) (o : Option ℕ) (k : WorldKey) (r : ℕ) → Contains (roots_of uses k (function_role o)) r → ⊥
-no_function_root uses None (key.Name name) r has = Contains-nil has
-no_function_root uses None (key.Interface f) r has = Contains-nil has
-no_function_root uses (Some x) (key.Name name) r has = Contains-nil has
-no_function_root uses (Some x) (key.Interface f) r has = Contains-nil has
-
-type_root : (uses : List (List ℕ)) (o : Option ℕ) (k : WorldKey) (r : ℕ) → Contains (roots_of uses k (type_role o)) r → o ≡ Some r
-type_root uses None (key.Name name) r has = absurd (Contains-nil has)
-type_root uses None (key.Interface f) r has = absurd (Contains-nil has)
-type_root uses (Some x) (key.Name name) r has = ap Some (one_of x r has)
-type_root uses (Some x) (key.Interface f) r has = ap Some (one_of x r has)
 
 type_root_into : (uses : List (List ℕ)) (o : Option ℕ) (k : WorldKey) (r : ℕ) → o ≡ Some r → Contains (roots_of uses k (type_role o)) r
 type_root_into uses None k r is = cc
