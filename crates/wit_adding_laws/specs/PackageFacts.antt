@@ -1,6 +1,6 @@
 -- Which package depends on which, when a package is added: what was there depends on what it did, and the new
 -- package on old ones alone, so none depends on itself.
-use Rattle.std.proofs.Common.{◌≡◌, ◌∙◌, ◌⊎◌, inl, inr, ℕ, ◌<◌, ◌≤◌, ◌==◌, Bool, true, false, List, [], ◌∷◌, map, length, Option, None, Some, IsSome, IsSomeAnd, option_and_then, slice_get, refl, sym, ap, subst, arith, Contains, if◌then◌else◌}
+use Rattle.std.proofs.Common.{◌≡◌, ◌∙◌, ◌⊎◌, inl, inr, ℕ, ◌<◌, ◌≤◌, ◌==◌, List, [], ◌∷◌, map, length, Option, None, Some, IsSome, IsSomeAnd, option_and_then, slice_get, sym, ap, subst, arith, Contains, if◌then◌else◌}
 use Rattle.std.proofs.lemmas.List.{length-append}
 use Rattle.std.proofs.lemmas.List.Elements.{Contains-append_cases}
 use Rattle.std.proofs.lemmas.Option.{slice_get_within}
@@ -33,6 +33,7 @@ use Rattle.wit_growth.specs.Growth.{PackagesGrow}
 use Rattle.wit_values.specs.Lists.{slice_get-append}
 use Rattle.wit_growth.specs.Image.{interface_image}
 use Rattle.wit_growth.specs.ListFacts.{at_below, found_at, from_map, get_at, old_or_new, place_of}
+use Rattle.wit_growth.specs.PackageCycleFacts.{other_from}
 use Rattle.wit_growth.specs.PackagesAcyclic.{packages_acyclic, there_is}
 use Rattle.wit_adding.specs.Addition.{Addition, addition_maps, own_interfaces}
 use Rattle.wit_adding.specs.Pushed.{new_package, with_parts}
@@ -101,27 +102,6 @@ module _ (g : Graph) (valid : IsValid g) where
       ]
 
 -- ---- growth
-
--- the package of an interface that is another one is what the interface says
-other_from : (interfaces : List Interface) (p i q : ℕ) → other_package interfaces p i ≡ Some q → (interface : Interface) × (slice_get interfaces i ≡ Some interface) × (interface.package ≡ Some q) × (q ≡ p → ⊥)
-other_from interfaces p i q is = by (slice_get interfaces i) refl is
-  where
-    unless : (b : Bool) (r : ℕ) → (r == p) ≡ b → (if b then None else Some r) ≡ Some q → (r ≡ q) × (q ≡ p → ⊥)
-    unless true r test h = cc
-    unless false r test h = let same : r ≡ q = cc in (same, λ is. differs r p test (same ∙ is))
-      where
-        differs : (r p : ℕ) → (r == p) ≡ false → r ≡ p → ⊥
-        differs r p test same = grind (arith, test, same)
-
-    within : (o : Option ℕ) (interface : Interface) → slice_get interfaces i ≡ Some interface → interface.package ≡ o → option_and_then (λ q. if q == p then None else Some q) o ≡ Some q
-        → (interface : Interface) × (slice_get interfaces i ≡ Some interface) × (interface.package ≡ Some q) × (q ≡ p → ⊥)
-    within None interface at of h = cc
-    within (Some r) interface at of h = let both = unless (r == p) r refl h in (interface, at, of ∙ ap Some both.0, both.1)
-
-    by : (o : Option Interface) → slice_get interfaces i ≡ o → option_and_then (λ (interface : Interface). option_and_then (λ q. if q == p then None else Some q) interface.package) o ≡ Some q
-        → (interface : Interface) × (slice_get interfaces i ≡ Some interface) × (interface.package ≡ Some q) × (q ≡ p → ⊥)
-    by None at h = cc
-    by (Some interface) at h = within interface.package interface at refl h
 
 -- a package that is there is in range
 some_package : (packages : List Package) (o : Option ℕ) (q : ℕ) (P : ℕ → Package → Type 0) → IsSomeAnd o (λ p. SomeAt packages p (P p)) → o ≡ Some q → q < length packages
