@@ -1,5 +1,6 @@
 -- What a turn of a world leaves: which interfaces use which.
-use Rattle.std.proofs.Common.{◌≡◌, ◌∙◌, ℕ, List, Option, None, Some, option_map_or, slice_get, OnOk, OnErr, Result, Ok, Err, refl, sym, ap}
+use Rattle.std.proofs.Common.{◌≡◌, ◌∙◌, ℕ, List, Option, None, Some, slice_get, OnOk, OnErr, Result, Ok, Err, refl, sym, ap}
+use Rattle.std.specs.Option.{option_map_or}
 use Rattle.wit_items.specs.declared.world.World.{World}
 use Rattle.wit_graph.specs.Elaboration.{graph_uses}
 use Rattle.wit_graph.specs.Valid.{IsValid}

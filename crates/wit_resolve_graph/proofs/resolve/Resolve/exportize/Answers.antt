@@ -1,4 +1,5 @@
-use Rattle.std.proofs.Common.{◌∙◌, ap}
+use Rattle.std.proofs.Common.{◌∙◌, ap, option_map, string_bytes}
+use Rattle.wit_unite.specs.Turned.{exportized}
 use Rattle.wit_graph.specs.Elaboration.{graph_uses}
 use Rattle.wit_resolve_graph.proofs.KeptRows.{kept_after, turned_uses}
 use Rattle.wit_resolve_graph.proofs.resolve.Resolve.exportize.Goals as goal
@@ -14,4 +15,5 @@ returns-clause-refuses g c = rw (← c.self.view_is) c.exportize.ensures.refuses
 
 pub invariant_of-self : goal.invariant_of-self
 invariant_of-self g c =
-    kept_after c.exportize.result _ _ _ c.self.invariant c.exportize.ensures.valid c.exportize.ensures.ok (λ is. ap graph_uses is.is_turned ∙ turned_uses c.self.inside.graph c.args.world _) c.exportize.ensures.err
+    kept_after c.exportize.result c.self.inside.graph c.exportize.new.graph c.self.inside.elaborator c.self.invariant c.exportize.ensures.valid c.exportize.ensures.ok
+    (λ is. ap graph_uses is.is_turned ∙ turned_uses c.self.inside.graph c.args.world (exportized is.answers (option_map string_bytes c.args.out))) c.exportize.ensures.err

@@ -1,3 +1,5 @@
+use Rattle.std.proofs.Common.{option_map, string_bytes}
+use Rattle.wit_unite.specs.Turned.{exportized}
 use Rattle.wit_resolve_graph.proofs.KeptRows.{kept_turned}
 use Rattle.wit_resolve_graph.proofs.resolve.Resolve.exportize_answered.Goals as goal
 
@@ -8,4 +10,6 @@ pub returns-clause-refuses : goal.returns-clause-refuses
 returns-clause-refuses c = rw (← c.self.view_is) c.exportize_answered.ensures.refuses
 
 pub invariant_of-self : goal.invariant_of-self
-invariant_of-self c = kept_turned c.exportize_answered.result _ _ _ _ _ c.self.invariant c.exportize_answered.ensures.valid c.exportize_answered.ensures.ok c.exportize_answered.ensures.err
+invariant_of-self c =
+    kept_turned c.exportize_answered.result c.self.inside.graph c.exportize_answered.new.graph c.self.inside.elaborator c.args.world (exportized c.args.answers.now (option_map string_bytes c.args.out)) c.self.invariant
+    c.exportize_answered.ensures.valid c.exportize_answered.ensures.ok c.exportize_answered.ensures.err

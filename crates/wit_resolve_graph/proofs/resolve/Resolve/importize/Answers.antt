@@ -1,3 +1,5 @@
+use Rattle.std.proofs.Common.{option_map, string_bytes}
+use Rattle.wit_unite.specs.Turned.{importized}
 use Rattle.wit_resolve_graph.proofs.KeptRows.{kept_turned}
 use Rattle.wit_resolve_graph.proofs.resolve.Resolve.importize.Goals as goal
 
@@ -8,4 +10,6 @@ pub returns-clause-refuses : goal.returns-clause-refuses
 returns-clause-refuses c = rw (← c.self.view_is) c.importize.ensures.refuses
 
 pub invariant_of-self : goal.invariant_of-self
-invariant_of-self c = kept_turned c.importize.result _ _ _ _ _ c.self.invariant c.importize.ensures.valid c.importize.ensures.ok c.importize.ensures.err
+invariant_of-self c =
+    kept_turned c.importize.result c.self.inside.graph c.importize.new.graph c.self.inside.elaborator c.args.world (importized (option_map string_bytes c.args.out)) c.self.invariant c.importize.ensures.valid c.importize.ensures.ok
+    c.importize.ensures.err
