@@ -1,5 +1,5 @@
 //! A table under texts, which contracts see as the list of its pairs, and which is asked by a `&str`.
-ghost use Rattle.std.specs.Prelude.{◌≡◌, ◌++◌, ◌∷◌, [], ◌<◌, ◌^◌, ◌↔◌, ℕ, length, None, Some, slice_get, OnOk, OnErr, string_bytes, is_some, IsTrue, take};
+ghost use Rattle.std.specs.Prelude.{◌≡◌, ◌++◌, ◌∷◌, [], ◌<◌, ◌^◌, ◌↔◌, ℕ, length, None, Some, slice_get, IfOk, OnOk, OnErr, string_bytes, is_some, IsTrue, take};
 ghost use Rattle.std.specs.Map.{lookup, keys_of};
 ghost use Rattle.std.specs.Str.{bytes_eq};
 ghost use Rattle.std.specs.Option.{option_copied};
@@ -175,10 +175,17 @@ impl<V: TryClone> TryClone for Names<V> {
         let alloc = self.allocator();
         let mut copy = Names::new(alloc);
         for (key, value) in self.iter() {
-            copy.push(String::from_str(alloc, key)?, value.try_clone()?)?;
+            let (key, value) = copy_pair(alloc, key, value)?;
+            copy.push(key, value)?;
         }
         Ok(copy)
     }
+}
+
+fn copy_pair<V: TryClone>(alloc: Global, key: &str, value: &V) -> Result<(String, V), AllocError>
+    ensures { IfOk result (λ pair. (string_bytes pair.0 ≡ key.now) × (pair.1 ≡ value.now)) }
+{
+    Ok((String::from_str(alloc, key)?, value.try_clone()?))
 }
 
 impl<V: fmt::Debug> fmt::Debug for Names<V> {

@@ -6,7 +6,7 @@ ghost use Rattle.std.specs.Map.Iter.{ShowsInOrder, deref_pair};
 ghost use Rattle.std.specs.Option.{option_copied, option_map};
 ghost use Rattle.wit_values.specs.Table.{HasDistinctKeys};
 
-use crate::try_clone::TryClone;
+use crate::try_clone::{TryClone, try_clone_two};
 use indexmap::IndexMap;
 use indexmap::map::Iter;
 use std::alloc::{AllocError, Global};
@@ -150,7 +150,8 @@ impl<K: Eq + Hash + TryClone, V: TryClone> TryClone for Table<K, V> {
     fn try_clone(&self) -> Result<Table<K, V>, AllocError> {
         let mut copy = Table::new(self.allocator());
         for (key, value) in self.iter() {
-            copy.push(key.try_clone()?, value.try_clone()?)?;
+            let (key, value) = try_clone_two(key, value)?;
+            copy.push(key, value)?;
         }
         Ok(copy)
     }

@@ -60,12 +60,9 @@ pub fn try_clone_four<A: TryClone, B: TryClone, C: TryClone, D: TryClone>(
 ) -> Result<(A, B, C, D), AllocError>
     ensures { IfOk result (λ r. (r.0 ≡ a.now) × (r.1 ≡ b.now) × (r.2 ≡ c.now) × (r.3 ≡ d.now)) }
 {
-    Ok((
-        a.try_clone()?,
-        b.try_clone()?,
-        c.try_clone()?,
-        d.try_clone()?,
-    ))
+    let (a, b) = try_clone_two(a, b)?;
+    let (c, d) = try_clone_two(c, d)?;
+    Ok((a, b, c, d))
 }
 
 /// Copies of six values.
@@ -79,12 +76,7 @@ pub fn try_clone_six<A: TryClone, B: TryClone, C: TryClone, D: TryClone, E: TryC
 ) -> Result<(A, B, C, D, E, F), AllocError>
     ensures { IfOk result (λ r. (r.0 ≡ a.now) × (r.1 ≡ b.now) × (r.2 ≡ c.now) × (r.3 ≡ d.now) × (r.4 ≡ e.now) × (r.5 ≡ f.now)) }
 {
-    Ok((
-        a.try_clone()?,
-        b.try_clone()?,
-        c.try_clone()?,
-        d.try_clone()?,
-        e.try_clone()?,
-        f.try_clone()?,
-    ))
+    let (a, b, c) = try_clone_three(a, b, c)?;
+    let (d, e, f) = try_clone_three(d, e, f)?;
+    Ok((a, b, c, d, e, f))
 }

@@ -11,13 +11,13 @@ pub push-requires : goal.push-requires
 push-requires g c =
     let more = rest_more deref_pair _ _ _ _ c.in-Some.is c.next.ensures.steps in
     let whole : c.loop-key.copy ++ (c.in-Some.key.now, c.in-Some.value.now) ∷ c.next.new.self ≡ c.args.self.now = ap (λ l. c.loop-key.copy ++ l) (sym more) ∙ c.loop-key.invariant in
-    rw c.in_ok-try_clone.ensures (lookup-before g.met.K.Eq.laws c.loop-key.copy c.next.new.self c.in-Some.key.now c.in-Some.value.now
+    rw c.in_ok-key.ensures.0 (lookup-before g.met.K.Eq.laws c.loop-key.copy c.next.new.self c.in-Some.key.now c.in-Some.value.now
     (subst (λ es. IsDistinct g.K.PartialEq.eq (keys_of es)) (sym whole) c.iter-key-items.ensures.distinct))
 
 pub loop-key-preserved : goal.loop-key-preserved
 loop-key-preserved g c =
     let more = rest_more deref_pair _ _ _ _ c.in-Some.is c.next.ensures.steps in
-    rw (c.in_ok-push.ensures.ok, c.in_ok-try_clone.ensures, c.in_ok-try_clone-2.ensures)
+    rw (c.in_ok-push.ensures.ok, c.in_ok-key.ensures.0, c.in_ok-key.ensures.1)
     (append_assoc c.loop-key.copy ((c.in-Some.key.now, c.in-Some.value.now) ∷ []) c.next.new.self ∙ ap (λ l. c.loop-key.copy ++ l) (sym more) ∙ c.loop-key.invariant)
 
 pub returns : goal.returns
