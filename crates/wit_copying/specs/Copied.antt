@@ -9,11 +9,11 @@ use Rattle.wit_items.specs.declared.world.World.{World}
 use Rattle.wit_relations.specs.Relation.{Reaches}
 use Rattle.wit_relations.specs.Walks.{walk}
 use Rattle.wit_graph.specs.declared.graph.Graph.{Graph}
-use Rattle.wit_growth.specs.Image.{Maps}
+use Rattle.wit_growth.specs.Image.{Maps, interface_image, type_image}
 use Rattle.wit_growth.specs.Operations.{include_maps}
 use Rattle.wit_labels.specs.Rename.{renamed}
 use Rattle.wit_adding.specs.Include.{entry_mentions, goes_with, is_owned_with, is_unnamed_type, owner_goes_with}
-use Rattle.wit_adding.specs.Ranks.{taken_places}
+use Rattle.wit_adding.specs.Ranks.{taken, taken_places}
 use Rattle.wit_copying.specs.declared.copies.Copies.{Copies}
 use Rattle.wit_copying.specs.declared.origin.Origin.{Origin}
 
@@ -33,6 +33,13 @@ goes table id = unwrap_or (lookup (nat_eq id) table) id
 -- the maps that copies stand for
 abbrev pub maps_of : Copies → Maps
 maps_of c = include_maps (goes c.types) (goes c.interfaces) (renamed c.names.now) c.from c.into c.home
+
+-- the graph with images of some of its types and interfaces behind them
+abbrev pub with_images : Graph → Maps → (ℕ → Bool) → (ℕ → Bool) → Graph
+with_images g m types interfaces = record g {
+  types = g.types ++ map (type_image m) (taken types g.types);
+  interfaces = g.interfaces ++ map (interface_image m) (taken interfaces g.interfaces);
+}
 
 -- no type with a name that doesn't go with the world refers to one that does, through whatever others
 abbrev pub StayApart : Graph → ℕ → World → Type 0

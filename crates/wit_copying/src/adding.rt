@@ -10,7 +10,7 @@ ghost use Rattle.wit_adding.specs.Include.{copy_maps, goes_with, is_copied, with
 ghost use Rattle.wit_adding.specs.Ranks.{taken};
 ghost use Rattle.wit_growth.specs.Image.{interface_image, type_image};
 ghost use Rattle.wit_placing.specs.Grown.{Grown};
-ghost use Rattle.wit_copying.specs.Copied.{IsOrigin, NamesThere, StayApart, maps_of, numbered, places};
+ghost use Rattle.wit_copying.specs.Copied.{IsOrigin, NamesThere, StayApart, maps_of, numbered, places, with_images};
 
 use crate::copies::Copies;
 use crate::going::going;
@@ -57,10 +57,7 @@ pub fn add_copies<'a>(
         home,
         names,
     };
-    let types = type_copies(alloc, graph, &copies)?;
-    let interfaces = interface_copies(alloc, graph, &copies)?;
-    graph.types.append(types)?;
-    graph.interfaces.append(interfaces)?;
+    append_copies(alloc, graph, &copies)?;
     Ok(copies)
 }
 
@@ -117,6 +114,20 @@ fn copied_ids(alloc: Global, origin: &Origin<'_>) -> Result<Items<TypeId>, Alloc
     let roots = mentioned(alloc, origin)?;
     let known = leading(alloc, origin, roots.as_slice())?;
     in_order(those_leading(alloc, &known)?)
+}
+
+/// Puts the copies of what takes part at the ends of a graph's types and interfaces.
+fn append_copies(alloc: Global, graph: &mut Graph, copies: &Copies<'_>) -> Result<(), AllocError>
+    requires types { (t : ℕ) → Contains (keys_of copies.now.types) t → t < length graph.old.types }
+    requires interfaces { (i : ℕ) → Contains (keys_of copies.now.interfaces) i → i < length graph.old.interfaces }
+    ensures ok { (type interface : ℕ → Bool) → keys_of copies.now.types ≡ places type graph.old.types → keys_of copies.now.interfaces ≡ places interface graph.old.interfaces → OnOk result (graph.new ≡ with_images graph.old (maps_of copies.now) type interface) }
+    ensures grown { Grown graph.old graph.new }
+{
+    let types = type_copies(alloc, graph, copies)?;
+    graph.types.append(types)?;
+    let interfaces = interface_copies(alloc, graph, copies)?;
+    graph.interfaces.append(interfaces)?;
+    Ok(())
 }
 
 /// The copies of the types that take part.

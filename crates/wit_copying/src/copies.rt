@@ -15,7 +15,6 @@ use wit_labels::rename_first;
 use wit_placing::{Moves, Place};
 
 /// Where what an include copies of a world goes. An id that isn't there stays.
-#[derive(Drop)]
 pub struct Copies<'a> {
     pub types: Table<TypeId, TypeId>,
     pub interfaces: Table<InterfaceId, InterfaceId>,
@@ -27,6 +26,22 @@ pub struct Copies<'a> {
     pub home: PackageId,
     /// How labels are renamed.
     pub names: &'a Items<IncludeName>,
+}
+
+/// As the derived one: each field is let go. A call of it costs the check less.
+impl<'a> Drop for Copies<'a> {
+    fn drop(self) {
+        let Copies {
+            types,
+            interfaces,
+            from: _,
+            into: _,
+            home: _,
+            names: _,
+        } = self;
+        drop(types);
+        drop(interfaces);
+    }
 }
 
 impl<'a> Moves for Copies<'a> {

@@ -64,3 +64,14 @@ moved_parts places m kept owns u g = record {
   packages = g.packages ++ moved_package m u (is_new (length g.interfaces) places.interfaces) (is_new (length g.worlds) places.worlds) ∷ [];
   package_names = g.package_names ++ (u.name, length g.packages) ∷ [];
 }
+
+-- the graph with its interfaces and the package, with a table of worlds
+abbrev pub with_interfaces : Places → Maps → Kept → UnresolvedPackage → List (List ℕ × ℕ) → Graph → Graph
+with_interfaces places m kept u worlds g =
+    let own = is_new (length g.interfaces) places.interfaces in
+    let home : Package = record { name = u.name; docs = u.docs; interfaces = interfaces_at m (taken_places own u.interfaces); worlds = worlds } in
+    record g {
+      interfaces = g.interfaces ++ map (interface_image m) (map (cut_interface kept) (taken own u.interfaces));
+      packages = g.packages ++ home ∷ [];
+      package_names = g.package_names ++ (u.name, length g.packages) ∷ [];
+    }

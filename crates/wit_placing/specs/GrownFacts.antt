@@ -1,7 +1,11 @@
 -- What grows keeps its beginning, and is cut back to it: facts for the proofs of the crates above.
-use Rattle.std.proofs.Common.{◌≡◌, ◌≤◌, List, [], ◌∷◌, ◌++◌, length, take, refl, sym, ap, ◌∙◌, arith}
+use Rattle.std.proofs.Common.{◌≡◌, ◌≤◌, ℕ, List, [], ◌∷◌, ◌++◌, length, take, refl, sym, ap, subst, ◌∙◌, arith}
 use Rattle.std.proofs.lemmas.List.{take_at, take_all, take-take}
+use Rattle.wit_items.specs.declared.interface.Interface.{Interface}
+use Rattle.wit_items.specs.declared.package_name.PackageName.{PackageName}
+use Rattle.wit_items.specs.declared.types.TypeDef.{TypeDef}
 use Rattle.wit_graph.specs.declared.graph.Graph.{Graph}
+use Rattle.wit_graph.specs.declared.graph.Package.{Package}
 use Rattle.wit_placing.specs.Grown.{Begins, Grown, cut_at, mark_of}
 
 module _ {X : Type 0} where
@@ -10,6 +14,13 @@ module _ {X : Type 0} where
 
   pub Begins-same : (old : List X) → Begins old old
   Begins-same old = take_all (length old) old (omega arith)
+
+  -- the same of a list that is told to be so
+  pub Begins-by : (old new more : List X) → new ≡ old ++ more → Begins old new
+  Begins-by old new more is = subst (Begins old) (sym is) (Begins-more old more)
+
+  pub Begins-as : (old new : List X) → new ≡ old → Begins old new
+  Begins-as old new is = subst (Begins old) (sym is) (Begins-same old)
 
   -- a beginning is no longer than the whole
   pub length-Begins : (old new : List X) → Begins old new → length old ≤ length new
@@ -42,5 +53,34 @@ Grown-same g = record {
   packages = Begins-same g.packages;
   package_names = Begins-same g.package_names;
 }
+
+module _ (g : Graph) where
+  -- a graph whose types grow, or its interfaces, or its packages with their names
+  pub types_grow : (types : List TypeDef) → Begins g.types types → Grown g (record g { types = types })
+  types_grow types begins = record {
+    types = begins;
+    interfaces = Begins-same g.interfaces;
+    worlds = Begins-same g.worlds;
+    packages = Begins-same g.packages;
+    package_names = Begins-same g.package_names;
+  }
+
+  pub interfaces_grow : (interfaces : List Interface) → Begins g.interfaces interfaces → Grown g (record g { interfaces = interfaces })
+  interfaces_grow interfaces begins = record {
+    types = Begins-same g.types;
+    interfaces = begins;
+    worlds = Begins-same g.worlds;
+    packages = Begins-same g.packages;
+    package_names = Begins-same g.package_names;
+  }
+
+  pub packages_grow : (packages : List Package) (names : List (PackageName × ℕ)) → Begins g.packages packages → Begins g.package_names names → Grown g (record g { packages = packages; package_names = names })
+  packages_grow packages names begins begin = record {
+    types = Begins-same g.types;
+    interfaces = Begins-same g.interfaces;
+    worlds = Begins-same g.worlds;
+    packages = begins;
+    package_names = begin;
+  }
 
 pub ruleset grows = (Begins-more, Begins-same, Begins-then, Grown-then, Grown-same, cut_back)

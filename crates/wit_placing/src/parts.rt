@@ -13,7 +13,7 @@ ghost use Rattle.wit_growth.specs.Image.{interface_image, type_image};
 ghost use Rattle.wit_items.specs.Each.{Each};
 ghost use Rattle.wit_items.specs.PackageOrder.{same_package};
 ghost use Rattle.wit_items.specs.Shape.{IsShaped};
-ghost use Rattle.wit_placing.specs.Added.{IsReady, added_worlds, addition, moved_parts};
+ghost use Rattle.wit_placing.specs.Added.{IsReady, added_worlds, addition, moved_parts, with_interfaces};
 ghost use Rattle.wit_placing.specs.Fits.{Fits, InterfaceFits, TypeFits};
 ghost use Rattle.wit_placing.specs.Grown.{Grown};
 ghost use Rattle.wit_placing.specs.Movers.{maps_of};
@@ -37,7 +37,6 @@ use wit_items::{
 
 /// Adds the types of a package that are its own, at their places, and the `own`s. Where there is no memory some of
 /// them may be there.
-#[tactic(auto, using(crate::specs::GrownFacts::grows))]
 fn add_types(
     alloc: Global,
     graph: &mut Graph,
@@ -77,7 +76,6 @@ fn placed_types(
 
 /// Adds the interfaces of a package that are its own, of each what takes part, at their places, and answers the
 /// table of those that have names.
-#[tactic(auto, using(crate::specs::GrownFacts::grows))]
 fn add_interfaces(
     alloc: Global,
     graph: &mut Graph,
@@ -121,7 +119,6 @@ fn placed_interfaces(
 }
 
 /// Adds a package under its name.
-#[tactic(auto, using(crate::specs::GrownFacts::grows))]
 fn add_package(graph: &mut Graph, package: Package) -> Result<(), AllocError>
     requires { lookup (same_package «package».name) graph.old.package_names ≡ None }
     ensures ok { OnOk result (graph.new ≡ record graph.old { packages = graph.old.packages ++ «package» ∷ []; package_names = graph.old.package_names ++ («package».name, length graph.old.packages) ∷ [] }) }
@@ -133,9 +130,36 @@ fn add_package(graph: &mut Graph, package: Package) -> Result<(), AllocError>
     Ok(())
 }
 
+/// Adds the interfaces of a package that are its own, and the package with a table of its worlds.
+fn add_with_worlds(
+    alloc: Global,
+    graph: &mut Graph,
+    mover: &Mover<'_>,
+    part: &Part<'_>,
+    handed: UnresolvedPackage,
+    worlds: Names<WorldId>,
+) -> Result<(), AllocError>
+    requires new { lookup (same_package handed.name) graph.old.package_names ≡ None }
+    requires fits { Each (InterfaceFits (Fits mover.now.offset)) handed.interfaces }
+    requires names { IsDistinct bytes_eq (keys_of (interfaces_at (maps_of mover.now) (taken_places (is_new (length graph.old.interfaces) mover.now.places.now.interfaces) handed.interfaces))) }
+    ensures ok { OnOk result (graph.new ≡ with_interfaces mover.now.places.now (maps_of mover.now) (kept_of part.now) handed worlds graph.old) }
+    ensures grown { Grown graph.old graph.new }
+{
+    let mut handed = handed;
+    let interfaces = mem::replace(&mut handed.interfaces, Items::new(alloc));
+    let interfaces = add_interfaces(alloc, graph, mover, part, interfaces)?;
+    let docs = mem::replace(&mut handed.docs, Docs::none());
+    let package = Package {
+        name: handed.into_name(),
+        docs,
+        interfaces,
+        worlds,
+    };
+    add_package(graph, package)
+}
+
 /// Adds a package at the ends of a graph, its parts at their places, and answers its worlds. Where there is no
 /// memory some of its parts may be there.
-#[tactic(auto, using(crate::specs::GrownFacts::grows))]
 fn move_parts(
     alloc: Global,
     graph: &mut Graph,
@@ -152,22 +176,12 @@ fn move_parts(
     let mut handed = handed;
     let types = mem::replace(&mut handed.types, Items::new(alloc));
     add_types(alloc, graph, mover, types, owns)?;
-    let interfaces = mem::replace(&mut handed.interfaces, Items::new(alloc));
-    let interfaces = add_interfaces(alloc, graph, mover, part, interfaces)?;
-    let first = WorldId::from_index(graph.worlds.len());
     let worlds = mem::replace(&mut handed.worlds, Items::new(alloc));
+    let first = WorldId::from_index(graph.worlds.len());
     let own = taken_places(alloc, worlds, mover.places.worlds.as_slice(), &first)?;
-    let worlds = world_table(alloc, mover, own.as_slice())?;
-    let placed = placed_worlds(alloc, mover, part, own)?;
-    let docs = mem::replace(&mut handed.docs, Docs::none());
-    let package = Package {
-        name: handed.into_name(),
-        docs,
-        interfaces,
-        worlds,
-    };
-    add_package(graph, package)?;
-    Ok(placed)
+    let table = world_table(alloc, mover, own.as_slice())?;
+    add_with_worlds(alloc, graph, mover, part, handed, table)?;
+    placed_worlds(alloc, mover, part, own)
 }
 
 /// Adds the parts of a package to a graph: the types and interfaces that are its own and take part, the `own`s

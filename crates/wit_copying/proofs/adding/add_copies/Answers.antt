@@ -1,16 +1,15 @@
-use Rattle.std.proofs.Common.{◌≡◌, ◌∙◌, ◌++◌, ℕ, List, Some, Contains, is_some, length, map, nat_eq, ap, slice_get, subst, sym, ◌<◌}
+use Rattle.std.proofs.Common.{◌≡◌, ◌∙◌, ℕ, List, Some, Contains, is_some, length, map, nat_eq, ap, slice_get, subst, sym, ◌<◌}
 use Rattle.std.specs.Map.{keys_of, lookup}
-use Rattle.wit_items.specs.declared.interface.Interface.{Interface}
-use Rattle.wit_items.specs.declared.types.TypeDef.{TypeDef}
 use Rattle.wit_items.specs.declared.world.IncludeName.{IncludeName}
 use Rattle.wit_items.specs.declared.world.World.{World}
 use Rattle.wit_graph.specs.declared.graph.Graph.{Graph}
-use Rattle.wit_growth.specs.Image.{Maps, interface_image, type_image}
+use Rattle.wit_growth.specs.Image.{Maps}
 use Rattle.wit_growth.specs.Operations.{include_maps}
 use Rattle.wit_labels.specs.Rename.{renamed}
 use Rattle.wit_adding.specs.Include.{copy_maps, goes_with, interface_copy, is_copied, type_copy}
-use Rattle.wit_adding.specs.Ranks.{taken}
-use Rattle.wit_copying.specs.Copied.{NamesThere, goes, numbered, places}
+use Rattle.wit_placing.specs.Grown.{Grown}
+use Rattle.wit_placing.specs.GrownFacts.{Grown-same}
+use Rattle.wit_copying.specs.Copied.{NamesThere, goes, numbered, places, with_images}
 use Rattle.wit_copying.proofs.RisingIds.{numbered-keys}
 use Rattle.wit_copying.proofs.Standing.{copied_there, goes_there, keys_there, some_there}
 use Rattle.wit_copying.proofs.TakenPlaces.{goes_where, told_where}
@@ -54,8 +53,8 @@ pub copied_types-requires-clause-named : goal.copied_types-requires-clause-named
 copied_types-requires-clause-named c =
     subst (λ (x : Graph). (world : World) → slice_get x.worlds c.args.from ≡ Some world → NamesThere x world) (sym c.in_ok-interfaces.ensures.same) c.requires.named
 
-pub type_copies-requires : goal.type_copies-requires
-type_copies-requires c =
+pub append_copies-requires-clause-types : goal.append_copies-requires-clause-types
+append_copies-requires-clause-types c =
     let g = c.args.graph.now in
     let same : c.copied_types.new.graph ≡ g = c.in_ok-types.ensures.same ∙ c.in_ok-interfaces.ensures.same in
     let tables : TypesAt g c.args.from c.in_ok-types.types = subst (λ (x : Graph). TypesAt x c.args.from c.in_ok-types.types) c.in_ok-interfaces.ensures.same c.in_ok-types.ensures.table in
@@ -63,8 +62,8 @@ type_copies-requires c =
     subst (λ (x : Graph). (t : ℕ) → Contains (keys_of c.in_ok-types.types) t → t < length x.types) (sym same)
     (keys_there (is_copied g c.args.from world.0) g.types (length g.types) c.in_ok-types.types (tables world.0 world.1))
 
-pub interface_copies-requires : goal.interface_copies-requires
-interface_copies-requires c =
+pub append_copies-requires-clause-interfaces : goal.append_copies-requires-clause-interfaces
+append_copies-requires-clause-interfaces c =
     let g = c.args.graph.now in
     let same : c.copied_types.new.graph ≡ g = c.in_ok-types.ensures.same ∙ c.in_ok-interfaces.ensures.same in
     let world = some_there g.worlds c.args.from c.requires.there in
@@ -85,28 +84,29 @@ returns-clause-ok c = λ world at.
     let tables : TypesAt g from c.in_ok-types.types = subst (λ (x : Graph). TypesAt x from c.in_ok-types.types) c.in_ok-interfaces.ensures.same c.in_ok-types.ensures.table in
     let types_is = tables world at in
     let interfaces_is = c.in_ok-interfaces.ensures.table world at in
+    let copied = is_copied g from world in
+    let going = goes_with g world in
     let m : Maps = include_maps (goes c.in_ok-types.types) (goes c.in_ok-interfaces.interfaces) (renamed c.args.names.now) from c.args.into c.args.home in
     let m_is : m ≡ copy_maps g from world c.args.names.now c.args.into c.args.home = maps_go g from world c.in_ok-types.types c.in_ok-interfaces.interfaces types_is interfaces_is c.args.names.now c.args.into c.args.home in
-    let type_list : c.in_ok-types-2.types ≡ map (type_image m) (taken (is_copied g from world) c.copied_types.new.graph.types) =
-    c.in_ok-types-2.ensures (is_copied g from world)
-    (type_keys g from world c.in_ok-types.types c.in_ok-interfaces.interfaces types_is interfaces_is ∙ ap (λ (x : Graph). places (is_copied g from world) x.types) (sym same)) in
-    let interface_list : c.in_ok-interfaces-2.interfaces ≡ map (interface_image m) (taken (goes_with g world) c.copied_types.new.graph.interfaces) =
-    c.in_ok-interfaces-2.ensures (goes_with g world)
-    (interface_keys g from world c.in_ok-types.types c.in_ok-interfaces.interfaces types_is interfaces_is ∙ ap (λ (x : Graph). places (goes_with g world) x.interfaces) (sym same)) in
-    let types : c.append.new.self ≡ g.types ++ map (type_image (copy_maps g from world c.args.names.now c.args.into c.args.home)) (taken (is_copied g from world) g.types) =
-    c.in_ok-append.ensures.ok
-    ∙ (ap (λ (xs : List TypeDef). c.copied_types.new.graph.types ++ xs) type_list
-    ∙ (ap (λ (x : Graph). x.types ++ map (type_image m) (taken (is_copied g from world) x.types)) same
-    ∙ ap (λ (n : Maps). g.types ++ map (type_image n) (taken (is_copied g from world) g.types)) m_is)) in
-    let interfaces : c.append-2.new.self ≡ g.interfaces ++ map (interface_image (copy_maps g from world c.args.names.now c.args.into c.args.home)) (taken (goes_with g world) g.interfaces) =
-    c.in_ok-append-2.ensures.ok
-    ∙ (ap (λ (xs : List Interface). c.copied_types.new.graph.interfaces ++ xs) interface_list
-    ∙ (ap (λ (x : Graph). x.interfaces ++ map (interface_image m) (taken (goes_with g world) x.interfaces)) same
-    ∙ ap (λ (n : Maps). g.interfaces ++ map (interface_image n) (taken (goes_with g world) g.interfaces)) m_is)) in
-    λ j. record {
-      types = types j;
-      interfaces = interfaces j;
-      worlds = ap (λ (x : Graph). x.worlds) same j;
-      packages = ap (λ (x : Graph). x.packages) same j;
-      package_names = ap (λ (x : Graph). x.package_names) same j;
-    }
+    c.in_ok-append_copies.ensures.ok copied going
+    (type_keys g from world c.in_ok-types.types c.in_ok-interfaces.interfaces types_is interfaces_is ∙ ap (λ (x : Graph). places copied x.types) (sym same))
+    (interface_keys g from world c.in_ok-types.types c.in_ok-interfaces.interfaces types_is interfaces_is ∙ ap (λ (x : Graph). places going x.interfaces) (sym same))
+    ∙ (ap (λ (x : Graph). with_images x m copied going) same ∙ ap (λ (n : Maps). with_images g n copied going) m_is)
+
+pub returns-in_err-interfaces-clause-grown : goal.returns-in_err-interfaces-clause-grown
+returns-in_err-interfaces-clause-grown c = subst (Grown c.args.graph.now) (sym c.in_err-interfaces.ensures.same) (Grown-same c.args.graph.now)
+
+pub returns-in_err-types-clause-grown : goal.returns-in_err-types-clause-grown
+returns-in_err-types-clause-grown c =
+    let same : c.copied_types.new.graph ≡ c.args.graph.now = c.in_err-types.ensures.same ∙ c.in_ok-interfaces.ensures.same in
+    subst (Grown c.args.graph.now) (sym same) (Grown-same c.args.graph.now)
+
+pub returns-in_err-append_copies-clause-grown : goal.returns-in_err-append_copies-clause-grown
+returns-in_err-append_copies-clause-grown c =
+    let same : c.copied_types.new.graph ≡ c.args.graph.now = c.in_ok-types.ensures.same ∙ c.in_ok-interfaces.ensures.same in
+    subst (λ (g : Graph). Grown g c.append_copies.new.graph) same c.append_copies.ensures.grown
+
+pub returns-clause-grown : goal.returns-clause-grown
+returns-clause-grown c =
+    let same : c.copied_types.new.graph ≡ c.args.graph.now = c.in_ok-types.ensures.same ∙ c.in_ok-interfaces.ensures.same in
+    subst (λ (g : Graph). Grown g c.append_copies.new.graph) same c.append_copies.ensures.grown

@@ -6,6 +6,7 @@ use Rattle.wit_growth.specs.Cut.{cut_interface}
 use Rattle.wit_growth.specs.Image.{interface_image}
 use Rattle.wit_adding.specs.Ranks.{taken_places}
 use Rattle.wit_placing.specs.Fits.{Fits, InterfaceFits}
+use Rattle.wit_placing.specs.GrownFacts.{Begins-as, Begins-by, Grown-same, interfaces_grow}
 use Rattle.wit_placing.specs.Movers.{maps_of}
 use Rattle.wit_placing.specs.Parts.{is_new, kept_of}
 use Rattle.wit_placing.proofs.Kept.{Each-enumerated, Each-filter, map-pairs}
@@ -36,3 +37,18 @@ returns-clause-ok c =
 pub returns-clause-table : goal.returns-clause-table
 returns-clause-table c =
     rw (c.in_ok-table.ensures, c.as_slice.ensures, c.in_ok-own.ensures, c.from_index-first.ensures, c.len.ensures, c.as_slice-places.ensures) refl
+
+pub returns-in_err-own-clause-grown : goal.returns-in_err-own-clause-grown
+returns-in_err-own-clause-grown c = Grown-same c.args.graph.now
+
+pub returns-in_err-table-clause-grown : goal.returns-in_err-table-clause-grown
+returns-in_err-table-clause-grown c = Grown-same c.args.graph.now
+
+pub returns-in_err-placed-clause-grown : goal.returns-in_err-placed-clause-grown
+returns-in_err-placed-clause-grown c = Grown-same c.args.graph.now
+
+pub returns-in_err-append-clause-grown : goal.returns-in_err-append-clause-grown
+returns-in_err-append-clause-grown c = interfaces_grow c.args.graph.now c.append.new.self (Begins-as c.args.graph.now.interfaces c.append.new.self c.in_err-append.ensures.err)
+
+pub returns-clause-grown : goal.returns-clause-grown
+returns-clause-grown c = interfaces_grow c.args.graph.now c.append.new.self (Begins-by c.args.graph.now.interfaces c.append.new.self c.in_ok-placed.placed c.in_ok-append.ensures.ok)
