@@ -1,9 +1,11 @@
 -- Lists of what a function gives of each number below another: what stands at a place, what a write there does, one number more.
-use Rattle.std.proofs.Common.{◌≡◌, ◌∙◌, ℕ, zero, suc, ◌+◌, ◌<◌, ◌≤◌, List, [], ◌∷◌, ◌++◌, map, length, None, Some, slice_get, slice_set, refl, sym, ap, subst, arith, add-one, Contains}
+use Rattle.std.proofs.Common.{◌≡◌, ◌∙◌, ℕ, zero, suc, ◌+◌, ◌<◌, ◌≤◌, List, [], ◌∷◌, ◌++◌, map, length, None, Some, slice_get, slice_set, refl, sym, ap, arith, add-one, Contains}
 use Rattle.std.specs.List.{range_with_len}
-use Rattle.std.proofs.lemmas.List.FromFn.{get_or-map-range_with_len, length-map-range_with_len, length-range_with_len, map-range_with_len_more}
+use Rattle.std.proofs.lemmas.List.Elements.{All-contains}
+use Rattle.std.proofs.lemmas.List.FromFn.{get_or-map-range_with_len, length-map-range_with_len, map-range_with_len_more}
 use Rattle.std.proofs.lemmas.Option.{slice_get-get_or, slice_get_past, slice_get_within}
-use Rattle.wit_growth.specs.ListFacts.{contained_at, place_of}
+use Rattle.wit_growth.specs.ListFacts.{contained_at}
+use Rattle.wit_sorting.specs.RangeFacts.{range-below}
 
 module _ {X : Type 0} (f : ℕ → X) where
   pub range-at : (n i : ℕ) → i < n → slice_get (map f (range_with_len 0 n)) i ≡ Some (f i)
@@ -83,12 +85,4 @@ pub in_range : (n t : ℕ) → t < n → Contains (range_with_len 0 n) t
 in_range n t below = contained_at (range_with_len 0 n) t t (number_from 0 n t t below (omega arith))
 
 pub range_below : (n t : ℕ) → Contains (range_with_len 0 n) t → t < n
-range_below n t has =
-    let place = place_of (range_with_len 0 n) t has in
-    let within : place.0 < length (range_with_len 0 n) = slice_get_within (range_with_len 0 n) place.0 t place.1 in
-    let long = length-range_with_len 0 n in
-    let below : place.0 < n = omega arith in
-    let is : slice_get (range_with_len 0 n) place.0 ≡ Some place.0 = number_from 0 n place.0 place.0 below (omega arith) in
-    let at = place.1 in
-    let same : place.0 ≡ t = cc in
-    subst (λ (k : ℕ). k < n) same below
+range_below n t has = All-contains (λ i. i < n) (range_with_len 0 n) t (range-below n) has

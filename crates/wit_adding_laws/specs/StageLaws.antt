@@ -3,6 +3,7 @@ use Rattle.std.proofs.Common.{◌≡◌, ℕ, suc, List, drop, length, take, Som
 use Rattle.std.proofs.lemmas.Option.{slice_get_within}
 use Rattle.wit_values.specs.Lists.{slice_get-append, slice_get-behind}
 use Rattle.wit_items.specs.declared.world.World.{World}
+use Rattle.wit_growth.specs.LawsOfElaboration.{LawsOfElaboration}
 use Rattle.wit_adding.specs.Addition.{Addition, active_includes, own_worlds, world_place}
 use Rattle.wit_adding.specs.Include.{Begun}
 use Rattle.wit_adding.specs.Pushed.{begun, begun_with, with_worlds}
@@ -10,7 +11,7 @@ use Rattle.wit_adding_laws.specs.ListedStage.{listed_images}
 use Rattle.wit_adding_laws.specs.StageFacts.{CanFinishBegun, CanInclude, IncludesCanBe, IsOnItsWay, WorldsCanBe}
 use Rattle.wit_adding_laws.specs.StageGrows.{begun_more}
 use Rattle.wit_adding_laws.specs.StageSteps.{begun_world, staged}
-use Rattle.wit_adding_laws.specs.Stages.{LawsUsed, begun_stands, whole_stands}
+use Rattle.wit_adding_laws.specs.Stages.{begun_stands, whole_stands}
 use Rattle.wit_adding_laws.specs.ValidFacts.{stage_stands}
 use Rattle.wit_including_laws.specs.Mentioned.{apart}
 use Rattle.wit_including_laws.specs.OnItsWay.{StandsSoFar}
@@ -35,13 +36,13 @@ module _ (a : Addition) (before : List World) (k : ℕ) (e : ℕ × World) (b : 
     apart = λ t r def there named left reaches. apart (staged a before k e b) stands from old t r def there named left reaches;
   }
 
-pub worlds_can_be : LawsUsed → WorldsCanBe
+pub worlds_can_be : LawsOfElaboration → WorldsCanBe
 worlds_can_be laws a k valid shaped image reached fine at =
     let e : ℕ × World = (at.place, at.world) in
     let below = slice_get_within (own_worlds a) k e at.is in
     can_finish a (with_worlds a k).worlds k e (begun a at.place at.world (with_worlds a k)) (whole_stands a k e at.is (stage_stands laws a valid shaped image k (omega arith) reached) fine)
 
-pub includes_can_be : LawsUsed → IncludesCanBe
+pub includes_can_be : LawsOfElaboration → IncludesCanBe
 includes_can_be laws a k j valid shaped reached at =
     let e : ℕ × World = (at.at.place, at.at.world) in
     let includes = active_includes a at.at.world in

@@ -13,6 +13,7 @@ use Rattle.wit_graph.specs.Elaboration.{graph_uses}
 use Rattle.wit_graph.specs.Imported.{HasConflict}
 use Rattle.wit_graph.specs.declared.graph.Graph.{Graph}
 use Rattle.wit_growth.specs.Image.{world_image}
+use Rattle.wit_growth.specs.LawsOfElaboration.{LawsOfElaboration}
 use Rattle.wit_adding.specs.Addition.{Addition, addition_maps, world_place}
 use Rattle.wit_adding.specs.Include.{Begun, Lists, with_world_included}
 use Rattle.wit_adding.specs.Pushed.{finished, with_include, with_placed}
@@ -24,7 +25,6 @@ use Rattle.wit_including_laws.specs.FinishedStands.{finished_stands}
 use Rattle.wit_including_laws.specs.IncludedOnce.{included_stands}
 use Rattle.wit_including_laws.specs.IncludedWorld.{Including, IsIncluded}
 use Rattle.wit_including_laws.specs.OnItsWay.{StandsSoFar}
-use Rattle.wit_including_laws.specs.WorldLaws.{WorldLaws}
 
 -- ---- lists
 
@@ -98,7 +98,7 @@ module _ (a : Addition) (before : List World) (k : ℕ) (e : ℕ × World) (b : 
 
 -- ---- a world that is finished
 
-module _ (laws : WorldLaws) (a : Addition) (before : List World) (k : ℕ) (e : ℕ × World) (b : Begun) where
+module _ (laws : LawsOfElaboration) (a : Addition) (before : List World) (k : ℕ) (e : ℕ × World) (b : Begun) where
   -- it is the elaboration of what is begun
   pub finished_is : (HasConflict (graph_uses b.graph) (placed b.lists.exports) → ⊥) → Elaborated b.graph.types (graph_uses b.graph) (with_placed (begun_world a e b.lists)) (finished a e.0 e.1 b)
   finished_is none = record { no_conflict = none; world_is = refl }

@@ -16,11 +16,11 @@ use Rattle.wit_items.specs.declared.world.World.{World}
 use Rattle.wit_items.specs.declared.world.WorldInclude.{WorldInclude}
 use Rattle.wit_graph.specs.Elaborated.{Elaborated}
 use Rattle.wit_graph.specs.Elaboration.{graph_uses}
-use Rattle.wit_graph.specs.ElaborationLaws.{ConflictsAreRefused}
 use Rattle.wit_graph.specs.Imported.{HasConflict}
 use Rattle.wit_graph.specs.IdText.{key_text}
 use Rattle.wit_graph.specs.declared.graph.Graph.{Graph}
 use Rattle.wit_growth.specs.Image.{world_image}
+use Rattle.wit_growth.specs.LawsOfElaboration.{LawsOfElaboration}
 use Rattle.wit_growth.specs.ListFacts.{at_map, get_at}
 use Rattle.wit_adding.specs.Addition.{Addition, active_includes, addition_maps, own_worlds, world_place}
 use Rattle.wit_adding.specs.Include.{Begun}
@@ -34,12 +34,6 @@ use Rattle.wit_adding_laws.specs.StageSteps.{IsFree, begun_world, finish_step, f
 use Rattle.wit_including_laws.specs.CanonicalStays.{canonical_longer}
 use Rattle.wit_including_laws.specs.OnItsWay.{StandsSoFar}
 use Rattle.wit_including_laws.specs.PlacedWorlds.{placed_in_order}
-use Rattle.wit_including_laws.specs.WorldLaws.{WorldLaws}
-
--- the laws of elaboration that are used of stages: those of worlds, and that a conflict has a refused key
-pub record LawsUsed : Type 0 where
-  pub worlds : WorldLaws
-  pub refused : ConflictsAreRefused
 
 -- the stage before world k
 abbrev pub stage : Addition → ℕ → Graph
@@ -149,7 +143,7 @@ module _ (a : Addition) where
 
     -- ---- it is finished
 
-    module _ (laws : LawsUsed) (image : HasImage a) (stands : StandsSoFar (stage a k)) (fine : WorldIsFine a k) where
+    module _ (laws : LawsOfElaboration) (image : HasImage a) (stands : StandsSoFar (stage a k)) (fine : WorldIsFine a k) where
       no_conflict : HasConflict (graph_uses whole.graph) (placed whole.lists.exports) → ⊥
       no_conflict conflict =
           let so_far = whole_stands stands (fine.includes image) in
@@ -168,7 +162,7 @@ module _ (a : Addition) where
           })
 
       pub next_stands : StandsSoFar (stage a (suc k))
-      next_stands = subst StandsSoFar (sym stage_next) (finish_step laws.worlds a before k e whole (whole_stands stands (fine.includes image)) no_conflict)
+      next_stands = subst StandsSoFar (sym stage_next) (finish_step laws a before k e whole (whole_stands stands (fine.includes image)) no_conflict)
 
       -- worlds stay canonical, and the new one is
       pub next_canonical : Each (λ (world : World). Elaborated (with_worlds a k).types (graph_uses (with_worlds a k)) world world) before
@@ -187,13 +181,13 @@ module _ (a : Addition) where
               (subst (λ (interfaces : List Interface). IsAcyclic (uses_of whole.graph.types interfaces)) whole_more.interfaces_are so_far.uses) in
               subst (λ (types : List TypeDef). Elaborated types (uses_of types whole.graph.interfaces) world world) (sym whole_more.types_are)
               (subst (λ (interfaces : List Interface). Elaborated ((with_worlds a k).types ++ whole_more.types) (uses_of ((with_worlds a k).types ++ whole_more.types) interfaces) world world) (sym whole_more.interfaces_are)
-              (canonical_longer (stage a k) stands.items whole_more.types whole_more.interfaces laws.worlds.local stands.uses acyclic w world (slice_get-append before (drop k (listed_images a)) w world there) (canonical w world there)))
+              (canonical_longer (stage a k) stands.items whole_more.types whole_more.interfaces laws.local stands.uses acyclic w world (slice_get-append before (drop k (listed_images a)) w world there) (canonical w world there)))
 
           new_one : Elaborated whole.graph.types (graph_uses whole.graph) (finished a e.0 e.1 whole) (finished a e.0 e.1 whole)
           new_one =
               let there = slice_get-behind before (drop (suc k) (listed_images a)) (begun_world a e whole.lists) in
-              laws.worlds.again whole.graph.types (graph_uses whole.graph) (with_placed (begun_world a e whole.lists)) (finished a e.0 e.1 whole) so_far.uses
-              (placed_in_order (staged a before k e whole) so_far (length before) (begun_world a e whole.lists) there) (finished_is laws.worlds a before k e whole no_conflict)
+              laws.once whole.graph.types (graph_uses whole.graph) (with_placed (begun_world a e whole.lists)) (finished a e.0 e.1 whole) so_far.uses
+              (placed_in_order (staged a before k e whole) so_far (length before) (begun_world a e whole.lists) there) (finished_is laws a before k e whole no_conflict)
 
           all : Each (λ (world : World). Elaborated whole.graph.types (graph_uses whole.graph) world world) (before ++ finished a e.0 e.1 whole ∷ [])
           all w world there = elim (push-cases before (finished a e.0 e.1 whole) w world there) [

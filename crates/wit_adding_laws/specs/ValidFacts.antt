@@ -13,6 +13,7 @@ use Rattle.wit_growth.specs.Good.{HasGoodThings, IsGoodAsAWhole}
 use Rattle.wit_growth.specs.GoodIsValid.{IsValid-from_good, good_things}
 use Rattle.wit_growth.specs.GraphSource.{good_items}
 use Rattle.wit_growth.specs.Image.{interface_image, type_image, world_image}
+use Rattle.wit_growth.specs.LawsOfElaboration.{LawsOfElaboration}
 use Rattle.wit_growth.specs.ListFacts.{get_at}
 use Rattle.wit_growth.specs.OnePlaceFacts.{StandOnce-from_places}
 use Rattle.wit_adding.specs.Addition.{Addition, added_owns, addition_maps, own_interfaces, own_types, own_worlds}
@@ -24,13 +25,13 @@ use Rattle.wit_adding_laws.specs.ListedOnce.{listed_stands}
 use Rattle.wit_adding_laws.specs.ListedStage.{listed_images}
 use Rattle.wit_adding_laws.specs.NameFacts.{added_names}
 use Rattle.wit_adding_laws.specs.PackageFacts.{added_packages_acyclic}
-use Rattle.wit_adding_laws.specs.Stages.{LawsUsed, next_canonical, next_stands, stage}
+use Rattle.wit_adding_laws.specs.Stages.{next_canonical, next_stands, stage}
 use Rattle.wit_adding_laws.specs.TableFacts.{good_tables}
 use Rattle.wit_adding_laws.specs.WorldTables.{new_table, new_worlds_distinct, worlds_in_tables}
 use Rattle.wit_including_laws.specs.CanonicalStays.{canonical_longer}
 use Rattle.wit_including_laws.specs.OnItsWay.{StandsSoFar}
 
-module _ (laws : LawsUsed) (a : Addition) (valid : IsValid a.graph) (shaped : IsShaped a.handed) (image : HasImage a) where
+module _ (laws : LawsOfElaboration) (a : Addition) (valid : IsValid a.graph) (shaped : IsShaped a.handed) (image : HasImage a) where
   -- ---- each stage is on its way
 
   pub stage_stands : (k : ℕ) → k ≤ length (own_worlds a) → IsReached a k → StandsSoFar (stage a k)
@@ -42,7 +43,7 @@ module _ (laws : LawsUsed) (a : Addition) (valid : IsValid a.graph) (shaped : Is
   -- and its finished worlds are canonical
   stage_canonical : (k : ℕ) → k ≤ length (own_worlds a) → IsReached a k → Each (λ (world : World). Elaborated (with_worlds a k).types (graph_uses (with_worlds a k)) world world) (with_worlds a k).worlds
   stage_canonical zero within reached = λ w world at.
-      canonical_longer a.graph (good_items a.graph (good_things a.graph valid)) (map (type_image (addition_maps a)) (own_types a) ++ added_owns a) (map (interface_image (addition_maps a)) (own_interfaces a)) laws.worlds.local valid.no_cycles.uses
+      canonical_longer a.graph (good_items a.graph (good_things a.graph valid)) (map (type_image (addition_maps a)) (own_types a) ++ added_owns a) (map (interface_image (addition_maps a)) (own_interfaces a)) laws.local valid.no_cycles.uses
       (listed_stands a valid shaped image).uses w world at (valid.canonical w world at)
   stage_canonical (suc k) within reached =
       let e = get_at (own_worlds a) k (omega arith) in

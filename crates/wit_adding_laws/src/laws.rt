@@ -1,45 +1,27 @@
 //! Laws of adding: the contract of each function is what is proved.
 ghost use Rattle.wit_adding_laws.specs.StageFacts.{IncludedAreThere, IncludesCanBe, PushesStayValid, WorldsCanBe};
 
-use wit_graph::laws::{
-    conflicts_are_refused, elaborated_entries, elaborated_once, elaborates_once,
-    elaboration_is_local, labels_stay,
-};
+use wit_growth::laws::laws_of_elaboration;
 
 /// A valid graph to which a package is added whose worlds are fine is valid.
 pub fn pushes_stay_valid()
     ensures { PushesStayValid }
 {
-    elaborates_once();
-    elaboration_is_local();
-    elaborated_entries();
-    elaborated_once();
-    labels_stay();
-    conflicts_are_refused();
+    laws_of_elaboration();
 }
 
 /// Before each include that is reached the graph is on its way, and the world that is included is good.
 pub fn includes_can_be()
     ensures { IncludesCanBe }
 {
-    elaborates_once();
-    elaboration_is_local();
-    elaborated_entries();
-    elaborated_once();
-    labels_stay();
-    conflicts_are_refused();
+    laws_of_elaboration();
 }
 
 /// Before a world that is reached is finished the graph is on its way, and its lists are in order.
 pub fn worlds_can_be()
     ensures { WorldsCanBe }
 {
-    elaborates_once();
-    elaboration_is_local();
-    elaborated_entries();
-    elaborated_once();
-    labels_stay();
-    conflicts_are_refused();
+    laws_of_elaboration();
 }
 
 /// The world that an include names is there when its turn comes.

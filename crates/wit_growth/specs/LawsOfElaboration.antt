@@ -1,6 +1,6 @@
 -- The laws of elaboration on which laws of the crates above stand, together.
 use Rattle.wit_graph.specs.ElaborationLaws.{ConflictsAreRefused, ElaboratesOnce, ImportsAreExact}
-use Rattle.wit_graph.specs.KeptByElaboration.{ElaboratedEntries, ElaboratedOnce, ExportKeysStay, ImportsAreLeast, LabelsStay}
+use Rattle.wit_graph.specs.KeptByElaboration.{ElaboratedEntries, ElaboratedOnce, ElaborationIsLocal, ExportKeysStay, ImportsAreLeast, LabelsStay}
 
 pub record LawsOfElaboration : Type 0 where
   pub once : ElaboratesOnce
@@ -11,3 +11,4 @@ pub record LawsOfElaboration : Type 0 where
   pub exact : ImportsAreExact
   pub refused : ConflictsAreRefused
   pub exports : ExportKeysStay
+  pub local : ElaborationIsLocal

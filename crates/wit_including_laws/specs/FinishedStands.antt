@@ -28,6 +28,7 @@ use Rattle.wit_growth.specs.GoodWorlds.{same_one}
 use Rattle.wit_growth.specs.GraphSource.{graph_stands, items_are_good}
 use Rattle.wit_growth.specs.Image.{identity, key_image}
 use Rattle.wit_growth.specs.Kept.{everything}
+use Rattle.wit_growth.specs.LawsOfElaboration.{LawsOfElaboration}
 use Rattle.wit_growth.specs.ListFacts.{Contains-map, contained_at, place_of, same_at, some_at}
 use Rattle.wit_growth.specs.OnePlace.{HasOnePlace, Holds, Origin, StayApart, entries_of}
 use Rattle.wit_growth.specs.OnePlaceCarried.{HasOnePlace-of_covered, named_not}
@@ -40,7 +41,6 @@ use Rattle.wit_including_laws.specs.OnItsWay.{StandsSoFar}
 use Rattle.wit_including_laws.specs.PlacedFacts.{placed_in, placed_into}
 use Rattle.wit_including_laws.specs.PlacedWorlds.{exported_named, exports_distinct, imports_distinct, placed_in_order, used_named}
 use Rattle.wit_including_laws.specs.Remains.{beside, export_remains, import_remains, interface_remains, type_remains, world_remains}
-use Rattle.wit_including_laws.specs.WorldLaws.{WorldLaws}
 
 settled_interface : (held : WorldItem) → item_interface (settled_item held) ≡ item_interface held
 settled_interface (item.Interface i stability docs span external_id) = refl
@@ -48,7 +48,7 @@ settled_interface (item.Function f) = refl
 settled_interface (item.Type_ t span) = refl
 
 -- world `host` at place `into` becomes `done`, its elaboration, and all else stays
-module _ (laws : WorldLaws) (g : Graph) (stands : StandsSoFar g) (into : ℕ) (host : World) (host_at : slice_get g.worlds into ≡ Some host) (done : World)
+module _ (laws : LawsOfElaboration) (g : Graph) (stands : StandsSoFar g) (into : ℕ) (host : World) (host_at : slice_get g.worlds into ≡ Some host) (done : World)
     (elaborated : Elaborated g.types (uses_of g.types g.interfaces) (with_placed host) done)
     (worlds : List World) (done_at : slice_get worlds into ≡ Some done) (others : (w : ℕ) → (w ≡ into → ⊥) → slice_get worlds w ≡ slice_get g.worlds w) where
   abbrev new : Graph
@@ -79,7 +79,7 @@ module _ (laws : WorldLaws) (g : Graph) (stands : StandsSoFar g) (into : ℕ) (h
 
   done_comes : WorldComes sources new into done
   done_comes =
-      elaborated_comes sources new into (with_placed host) done laws.entries laws.once stands.uses (placed_in_order g stands into host host_at) (used_named g stands into host host_at) (exported_named g stands into host host_at)
+      elaborated_comes sources new into (with_placed host) done laws.entries laws.distinct stands.uses (placed_in_order g stands into host host_at) (used_named g stands into host host_at) (exported_named g stands into host host_at)
       listed_comes elaborated (ap (λ (x : World). x.includes) elaborated.world_is ∙ (stands.items.worlds into host host_at).no_includes)
 
   finished_covered : IsCovered everything sources new

@@ -19,4 +19,3 @@ pub mod PlacedFacts
 pub mod PlacedWorlds
 pub mod Remains
 pub mod Truth
-pub mod WorldLaws

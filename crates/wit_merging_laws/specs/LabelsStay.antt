@@ -12,13 +12,13 @@ use Rattle.wit_graph.proofs.Filters.{Contains-filter, Contains-filtered}
 use Rattle.wit_graph.specs.Elaborated.{settled_item}
 use Rattle.wit_graph.specs.Elaboration.{graph_uses}
 use Rattle.wit_graph.specs.Entries.{by_class}
-use Rattle.wit_graph.specs.KeptByElaboration.{ExportKeysStay, is_label, labelled, settled}
+use Rattle.wit_graph.specs.KeptByElaboration.{is_label, labelled, settled}
 use Rattle.wit_graph.specs.Valid.{IsValid}
 use Rattle.wit_graph.specs.declared.graph.Graph.{Graph}
 use Rattle.wit_growth.specs.AllElaborated.{elaborated_world}
+use Rattle.wit_growth.specs.LawsOfElaboration.{LawsOfElaboration}
 use Rattle.wit_growth.specs.ListFacts.{Contains-map, Contains-map_cases}
 use Rattle.wit_growth.specs.OnePlace.{entries_of}
-use Rattle.wit_including_laws.specs.WorldLaws.{WorldLaws}
 use Rattle.wit_merging.specs.Matches.{Merging}
 use Rattle.wit_merging.specs.Reasons.{AreOne}
 use Rattle.wit_merging.specs.United.{joined_graph}
@@ -48,7 +48,7 @@ key_held es k has =
 held_key : (es : List Entry) (k : WorldKey) (held : WorldItem) → Contains es (entry k held) → Contains (keys_of es) k
 held_key es k held has = Contains-map (λ (e : Entry). e.0) es (entry k held) has
 
-module _ (laws : WorldLaws) (keys : ExportKeysStay) (m : Merging) (valid : IsValid m.graph) (valid_other : IsValid m.other) (one : AreOne m) (can : CanElaborate m) where
+module _ (laws : LawsOfElaboration) (m : Merging) (valid : IsValid m.graph) (valid_other : IsValid m.other) (one : AreOne m) (can : CanElaborate m) where
   abbrev g : Graph
   g = joined_graph m
 
@@ -76,7 +76,7 @@ module _ (laws : WorldLaws) (keys : ExportKeysStay) (m : Merging) (valid : IsVal
 
     export_stays : (k : WorldKey) → (Contains (keys_of done.exports) k → Contains (keys_of listed.exports) k) × (Contains (keys_of listed.exports) k → Contains (keys_of done.exports) k)
     export_stays k =
-        let same = keys g.types (graph_uses g) listed done k can.acyclic (in_order m valid valid_other one w' listed there) (is_elaborated laws m valid valid_other one can w' listed there) in
+        let same = laws.exports g.types (graph_uses g) listed done k can.acyclic (in_order m valid valid_other one w' listed there) (is_elaborated laws m valid valid_other one can w' listed there) in
         (same.0, same.1)
 
     -- and what was listed under a label stands there

@@ -1,7 +1,6 @@
 pub mod BothNames
 pub mod Covering
 pub mod EitherOrder
-pub mod ElaborationFacts
 pub mod InterfacesStand
 pub mod JoinedGood
 pub mod KeptFacts

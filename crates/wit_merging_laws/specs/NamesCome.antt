@@ -13,18 +13,17 @@ use Rattle.wit_items.specs.declared.world.WorldItem.{WorldItem}
 use Rattle.wit_items.specs.declared.world.WorldKey.{WorldKey}
 use Rattle.wit_items.specs.declared.world.WorldKey.TheVariants as key
 use Rattle.wit_graph.proofs.FreshEntries.{same_key-true}
-use Rattle.wit_graph.specs.KeptByElaboration.{ExportKeysStay}
 use Rattle.wit_graph.specs.Valid.{IsValid}
 use Rattle.wit_graph.specs.declared.graph.Graph.{Graph}
 use Rattle.wit_graph.specs.declared.graph.Package.{Package}
 use Rattle.wit_growth.specs.AllElaborated.{elaborated_world}
 use Rattle.wit_growth.specs.Covered.{InterfaceAt}
 use Rattle.wit_growth.specs.Image.{identity, key_image}
+use Rattle.wit_growth.specs.LawsOfElaboration.{LawsOfElaboration}
 use Rattle.wit_growth.specs.ListFacts.{found_at, from_map, place_of, some_at}
 use Rattle.wit_growth.specs.OnePlace.{entries_of}
 use Rattle.wit_growth.specs.Operations.{merge_sources}
 use Rattle.wit_growth.specs.Sources.{Source}
-use Rattle.wit_including_laws.specs.WorldLaws.{WorldLaws}
 use Rattle.wit_merging.specs.Matches.{Merging, found_interface, found_world, spots}
 use Rattle.wit_merging.specs.Moved.{interface_place, merge_maps, moves_interface, moves_world, world_place}
 use Rattle.wit_merging.specs.Reasons.{AreOne}
@@ -77,15 +76,15 @@ module _ (h : Graph) (valid : IsValid h) where
       let found = found_at (λ (interface : Interface). IsSome interface.name) h.interfaces i named in
       (found.0, found.1)
 
-module _ (laws : WorldLaws) (keys : ExportKeysStay) (m : Merging) (valid : IsValid m.graph) (valid_other : IsValid m.other) (one : AreOne m) (can : CanElaborate m) where
+module _ (laws : LawsOfElaboration) (m : Merging) (valid : IsValid m.graph) (valid_other : IsValid m.other) (one : AreOne m) (can : CanElaborate m) where
   abbrev g : Graph
   g = joined_graph m
 
   abbrev mine : Part m.graph (united m) staying
-  mine = graph_part laws keys m valid valid_other one can
+  mine = graph_part laws m valid valid_other one can
 
   abbrev theirs : Part m.other (united m) (going_to m)
-  theirs = other_part laws keys m valid valid_other one can
+  theirs = other_part laws m valid valid_other one can
 
   -- ---- what stands under a label of a united world
 
@@ -98,7 +97,7 @@ module _ (laws : WorldLaws) (keys : ExportKeysStay) (m : Merging) (valid : IsVal
   stands_from w' exported label held has =
       let world = found_at (λ (world : World). Contains (entries_of exported world) (entry (key.Name label) held)) (united m).worlds w' has in
       let listed = from_map (elaborated_world g) g.worlds w' world.0 world.1 in
-      let before = label_from laws keys m valid valid_other one can w' listed.0 listed.1 exported label held (subst (λ (x : World). Contains (entries_of exported x) (entry (key.Name label) held)) (sym listed.2) world.2) in
+      let before = label_from laws m valid valid_other one can w' listed.0 listed.1 exported label held (subst (λ (x : World). Contains (entries_of exported x) (entry (key.Name label) held)) (sym listed.2) world.2) in
       by listed.0 before.there before.has before.same (world_at_from m w' listed.0 listed.1)
     where
       by : (listed : World) (d : WorldItem) → Contains (entries_of exported listed) (entry (key.Name label) d) → item_interface d ≡ item_interface held → worlds.WorldFrom m w' listed → LabelFrom w' exported label held
@@ -309,5 +308,5 @@ module _ (laws : WorldLaws) (keys : ExportKeysStay) (m : Merging) (valid : IsVal
   names_come (of_export home world of name) (w', i', held, is, named, has) =
       let there = found_at (λ (x : World). Contains x.exports (entry (key.Interface i') held)) (united m).worlds w' has in
       let listed = from_map (elaborated_world g) g.worlds w' there.0 there.1 in
-      let before = export_from laws keys m valid valid_other one can w' listed.0 listed.1 i' held (subst (λ (x : World). Contains x.exports (entry (key.Interface i') held)) (sym listed.2) there.2) in
+      let before = export_from laws m valid valid_other one can w' listed.0 listed.1 i' held (subst (λ (x : World). Contains x.exports (entry (key.Interface i') held)) (sym listed.2) there.2) in
       export_comes home world of name w' i' listed.0 before.0 is named before.1 (world_at_from m w' listed.0 listed.1)

@@ -17,17 +17,16 @@ use Rattle.wit_items.specs.declared.world.WorldKey.{WorldKey}
 use Rattle.wit_items.specs.declared.world.WorldKey.TheVariants as key
 use Rattle.wit_graph.proofs.Filters.{Contains-filtered}
 use Rattle.wit_graph.proofs.FreshEntries.{same_key-true}
-use Rattle.wit_graph.specs.KeptByElaboration.{ExportKeysStay}
 use Rattle.wit_graph.specs.Valid.{IsValid}
 use Rattle.wit_graph.specs.declared.graph.Graph.{Graph}
 use Rattle.wit_graph.specs.declared.graph.Package.{Package}
 use Rattle.wit_growth.specs.AllElaborated.{elaborated_world}
 use Rattle.wit_growth.specs.Cut.{mapped_source}
 use Rattle.wit_growth.specs.Image.{entry_image, function_image, interface_image, item_image, world_image}
+use Rattle.wit_growth.specs.LawsOfElaboration.{LawsOfElaboration}
 use Rattle.wit_growth.specs.ListFacts.{Contains-map, at_map, found_at, place_of, same_at, some_at}
 use Rattle.wit_growth.specs.OnePlace.{entries_of}
 use Rattle.wit_growth.specs.Sources.{InterfaceStands}
-use Rattle.wit_including_laws.specs.WorldLaws.{WorldLaws}
 use Rattle.wit_merging.specs.Agreement.{same_sort}
 use Rattle.wit_merging.specs.Agreement as differ
 use Rattle.wit_merging.specs.Joined.{joined_interface, joined_world, with_interface}
@@ -143,7 +142,7 @@ item_matched m (item.Function f) here sort agrees i is = cc
 item_matched m (item.Type_ t span) here sort agrees i is = cc
 
 -- what goes to a listed world goes to the elaborated one
-module _ (laws : WorldLaws) (keys : ExportKeysStay) (m : Merging) (valid : IsValid m.graph) (valid_other : IsValid m.other) (one : AreOne m) (can : CanElaborate m) where
+module _ (laws : LawsOfElaboration) (m : Merging) (valid : IsValid m.graph) (valid_other : IsValid m.other) (one : AreOne m) (can : CanElaborate m) where
   abbrev g : Graph
   g = joined_graph m
 
@@ -155,11 +154,11 @@ module _ (laws : WorldLaws) (keys : ExportKeysStay) (m : Merging) (valid : IsVal
         home = goes.home;
         labels = λ exported label held has.
             let before = goes.labels exported label held has in
-            let now = label_into laws keys m valid valid_other one can w' listed there exported label before.0 before.1 in
+            let now = label_into laws m valid valid_other one can w' listed there exported label before.0 before.1 in
             (now.there, now.has, λ i is. now.same ∙ before.2 i is);
         exports = λ i held has.
             let before = goes.exports i held has in
-            export_into laws keys m valid valid_other one can w' listed there (interfaces_to i) before.0 before.1;
+            export_into laws m valid valid_other one can w' listed there (interfaces_to i) before.0 before.1;
       })
 
   -- ---- the graph is a part

@@ -21,6 +21,7 @@ use Rattle.wit_growth.specs.AllElaborated.{elaborated_world}
 use Rattle.wit_growth.specs.Cut.{cut_interface, kept_whole, mapped_source}
 use Rattle.wit_growth.specs.GoodWorlds.{same_one}
 use Rattle.wit_growth.specs.Image.{Maps, entry_image, identity, item_image, key_image, world_image}
+use Rattle.wit_growth.specs.LawsOfElaboration.{LawsOfElaboration}
 use Rattle.wit_growth.specs.ListFacts.{Contains-map_cases, contained_at, found_at, from_map, place_of, same_at}
 use Rattle.wit_growth.specs.OnePlace.{HasOnePlace, Holds, Origin, entries_of}
 use Rattle.wit_growth.specs.OnePlaceCarried.{HasOnePlace-of_covered, named_not}
@@ -29,7 +30,6 @@ use Rattle.wit_growth.specs.OnePlaceFrom.{cut_has_one_place}
 use Rattle.wit_growth.specs.Operations.{merge_sources}
 use Rattle.wit_growth.specs.Sources.{InterfaceStands, Source}
 use Rattle.wit_adding.specs.Include.{joined_entry, joined_item}
-use Rattle.wit_including_laws.specs.WorldLaws.{WorldLaws}
 use Rattle.wit_merging.specs.Joined.{is_under_id, joined_interface, with_world}
 use Rattle.wit_merging.specs.Matches.{Merging, found_as, found_interface, found_world, partner, spots}
 use Rattle.wit_merging.specs.Moved.{interface_place, merge_maps, moves_interface, world_place}
@@ -230,7 +230,7 @@ module _ (m : Merging) (valid : IsValid m.graph) (valid_other : IsValid m.other)
           joined_side w' old is (partner (found_world m) m.other.worlds w') d e (subst (λ (x : World). Contains x.imports d) (sym same) has) held (subst (λ (x : World). Contains x.exports e) (sym same) other) held_so
       by (of_other w old is moves place same) = image_side w old is d e (subst (λ (x : World). Contains x.imports d) (sym same) has) held (subst (λ (x : World). Contains x.exports e) (sym same) other) held_so
 
-module _ (laws : WorldLaws) (m : Merging) (valid : IsValid m.graph) (valid_other : IsValid m.other) (one : AreOne m) (can : CanElaborate m) where
+module _ (laws : LawsOfElaboration) (m : Merging) (valid : IsValid m.graph) (valid_other : IsValid m.other) (one : AreOne m) (can : CanElaborate m) where
   added_named : (j f' : ℕ) → j ∷ [] ≡ f' ∷ [] → IsNamed (united m).interfaces j → is_unnamed (united m).interfaces f' ≡ true → ⊥
   added_named j f' same named unnamed = named_not (united m).interfaces j named (ap (is_unnamed (united m).interfaces) (same_one j f' same) ∙ unnamed)
 

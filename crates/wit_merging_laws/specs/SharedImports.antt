@@ -18,24 +18,21 @@ use Rattle.wit_items.specs.declared.world.WorldItem.TheVariants as item
 use Rattle.wit_items.specs.declared.world.WorldKey.{WorldKey}
 use Rattle.wit_items.specs.declared.world.WorldKey.TheVariants as key
 use Rattle.wit_graph.specs.Elaboration.{graph_uses}
-use Rattle.wit_graph.specs.ElaborationLaws.{ConflictsAreRefused}
 use Rattle.wit_graph.specs.Entries.{ids_of, role_of}
 use Rattle.wit_graph.specs.Imported.{roots_of}
-use Rattle.wit_graph.specs.KeptByElaboration.{ExportKeysStay, ImportsAreLeast}
 use Rattle.wit_graph.specs.Valid.{IsValid}
 use Rattle.wit_graph.specs.declared.graph.Graph.{Graph}
 use Rattle.wit_graph.specs.declared.graph.Package.{Package}
 use Rattle.wit_growth.specs.AllElaborated.{elaborated_world}
 use Rattle.wit_growth.specs.EntryFacts.{key_entry}
+use Rattle.wit_growth.specs.LawsOfElaboration.{LawsOfElaboration}
 use Rattle.wit_growth.specs.ListFacts.{at_map, found_at, place_of, same_at, some_at}
-use Rattle.wit_including_laws.specs.WorldLaws.{WorldLaws}
 use Rattle.wit_merging.specs.Cause.{CanMerge}
 use Rattle.wit_merging.specs.Joined.{joined_world}
 use Rattle.wit_merging.specs.Matches.{Merging, found_world}
 use Rattle.wit_merging.specs.Moved.{interface_place, moves_world, world_place}
 use Rattle.wit_merging.specs.Reasons.{AreOne}
 use Rattle.wit_merging.specs.United.{joined_graph, united}
-use Rattle.wit_merging_laws.specs.ElaborationFacts.{ElaborationFacts}
 use Rattle.wit_merging_laws.specs.JoinedGood.{CanElaborate, in_order, listed_imports}
 use Rattle.wit_merging_laws.specs.ListedStand.{moved_world_goes, old_world_at}
 use Rattle.wit_merging_laws.specs.MatchFacts.{goes_to, some_same}
@@ -108,24 +105,24 @@ imported_by g w world i held there has =
     let same = same_at g.worlds w w found.0 world refl found.1 there in
     key_in world.imports i held (subst (λ (x : World). Contains x.imports (entry (key.Interface i) held)) same found.2)
 
-module _ (laws : WorldLaws) (keys : ExportKeysStay) (refused : ConflictsAreRefused) (least : ImportsAreLeast) (m : Merging) (valid : IsValid m.graph) (valid_other : IsValid m.other) (can : CanMerge m) where
+module _ (laws : LawsOfElaboration) (m : Merging) (valid : IsValid m.graph) (valid_other : IsValid m.other) (can : CanMerge m) where
   abbrev one : AreOne m
   one = are_one m can
 
   abbrev elaborates : CanElaborate m
-  elaborates = can_elaborate m valid valid_other can refused
+  elaborates = can_elaborate m valid valid_other can laws.refused
 
   abbrev g : Graph
   g = joined_graph m
 
   abbrev mine : Part m.graph (united m) staying
-  mine = graph_part laws keys m valid valid_other one elaborates
+  mine = graph_part laws m valid valid_other one elaborates
 
   abbrev theirs : Part m.other (united m) (going_to m)
-  theirs = other_part laws keys m valid valid_other one elaborates
+  theirs = other_part laws m valid valid_other one elaborates
 
   abbrev all_valid : IsValid (united m)
-  all_valid = united_valid laws refused least m valid valid_other can
+  all_valid = united_valid laws m valid valid_other can
 
   module _ (home of : PackageName) (world name : List ℕ) (w w' : ℕ) (is_mine : IsWorld m.graph home world w') (is_theirs : IsWorld m.other home world w) where
     -- worlds of one name are matched
@@ -169,13 +166,13 @@ module _ (laws : WorldLaws) (keys : ExportKeysStay) (refused : ConflictsAreRefus
       from_other (v, i, held, is_world, is_interface, has) =
           let same = world_unique m.other valid_other home world v w is_world is_theirs in
           let imported = imported_by m.other w old i held there (subst (λ (x : ℕ). SomeAt m.other.worlds x (λ (y : World). Contains y.imports (entry (key.Interface i) held))) same has) in
-          in_graph (interface_place m i) (import_into least m valid valid_other one w w' old into there found into_there i imported) (interface_goes m.other (united m) (going_to m) theirs of name i is_interface)
+          in_graph (interface_place m i) (import_into laws.least m valid valid_other one w w' old into there found into_there i imported) (interface_goes m.other (united m) (going_to m) theirs of name i is_interface)
 
       into_other : HasImport m.graph home world of name → HasImport m.other home world of name
       into_other (v, i, held, is_world, is_interface, has) =
           let same = world_unique m.graph valid home world v w' is_world is_mine in
           let imported = imported_by m.graph w' into i held into_there (subst (λ (x : ℕ). SomeAt m.graph.worlds x (λ (y : World). Contains y.imports (entry (key.Interface i) held))) same has) in
-          let from = import_from least m valid valid_other one w w' old into there found into_there i imported in
+          let from = import_from laws.least m valid valid_other one w w' old into there found into_there i imported in
           let by = imports_it m.other w old from.0 there from.2 in
           let at = imported_there m.other valid_other w old from.0 there from.2 in
           let placed = subst (IsInterface (united m) of name) from.1 (interface_goes m.graph (united m) staying mine of name i is_interface) in
@@ -185,8 +182,8 @@ module _ (laws : WorldLaws) (keys : ExportKeysStay) (refused : ConflictsAreRefus
       from_united (v, i, held, is_world, is_interface, has) =
           let same = world_unique (united m) all_valid home world v w' is_world (world_goes m.graph (united m) staying mine home world w' is_mine) in
           let imported = imported_by (united m) w' done i held done_at (subst (λ (x : ℕ). SomeAt (united m).worlds x (λ (y : World). Contains y.imports (entry (key.Interface i) held))) same has) in
-          let all = (least g.types (graph_uses g) listed done elaborates.acyclic (in_order m valid valid_other one w' listed listed_at) (is_elaborated laws m valid valid_other one elaborates w' listed listed_at)).1
-          (λ j. list_any (nat_eq j) (ids_of into.imports)) (holds_test least m valid valid_other one w w' old into there found into_there) in
+          let all = (laws.least g.types (graph_uses g) listed done elaborates.acyclic (in_order m valid valid_other one w' listed listed_at) (is_elaborated laws m valid valid_other one elaborates w' listed listed_at)).1
+          (λ j. list_any (nat_eq j) (ids_of into.imports)) (holds_test laws.least m valid valid_other one w w' old into there found into_there) in
           let kept = All-contains (λ j. list_any (nat_eq j) (ids_of into.imports) ≡ true) (ids_of done.imports) i all imported in
           in_graph i (contains_from_any i (ids_of into.imports) kept) is_interface
 
@@ -199,20 +196,20 @@ module _ (laws : WorldLaws) (keys : ExportKeysStay) (refused : ConflictsAreRefus
           let place = place_of listed.imports (entry (key.Interface i) now.0) now.1 in
           let is = key_interface g.interfaces g.types w' (key.Interface i) now.0 i refl (listed_imports m valid valid_other one w' listed listed_at place.0 (entry (key.Interface i) now.0) place.1) in
           let root = Contains-flat_map (λ (e : Entry). roots_of (graph_uses g) e.0 (role_of g.types e.1)) listed.imports (entry (key.Interface i) now.0) i now.1 (key_root g.types (graph_uses g) now.0 i is) in
-          let holds = (least g.types (graph_uses g) listed done elaborates.acyclic (in_order m valid valid_other one w' listed listed_at) (is_elaborated laws m valid valid_other one elaborates w' listed listed_at)).0 in
+          let holds = (laws.least g.types (graph_uses g) listed done elaborates.acyclic (in_order m valid valid_other one w' listed listed_at) (is_elaborated laws m valid valid_other one elaborates w' listed listed_at)).0 in
           let by = imports_it (united m) w' done i done_at (holds.roots i root) in
           (w', i, by.held, world_goes m.graph (united m) staying mine home world w' is_mine, interface_goes m.graph (united m) staying mine of name i is_interface, by.has)
 
-pub shared_imports : ElaborationFacts → SharedWorldsKeepImports
-shared_imports facts m home of world name valid valid_other can (w', is_mine) (w, is_theirs) =
+pub shared_imports : LawsOfElaboration → SharedWorldsKeepImports
+shared_imports laws m home of world name valid valid_other can (w', is_mine) (w, is_theirs) =
     let into = found_at (λ (x : World). (x.name ≡ world) × (x.package ≡ Some is_mine.p)) m.graph.worlds w' is_mine.is in
     let old = found_at (λ (x : World). (x.name ≡ world) × (x.package ≡ Some is_theirs.p)) m.other.worlds w is_theirs.is in (
       (
-        from_united facts.worlds facts.keys facts.refused facts.least m valid valid_other can home of world name w w' is_mine is_theirs into.0 old.0 into.1 old.1,
-        into_united facts.worlds facts.keys facts.refused facts.least m valid valid_other can home of world name w w' is_mine is_theirs into.0 old.0 into.1 old.1,
+        from_united laws m valid valid_other can home of world name w w' is_mine is_theirs into.0 old.0 into.1 old.1,
+        into_united laws m valid valid_other can home of world name w w' is_mine is_theirs into.0 old.0 into.1 old.1,
       ),
       (
-        from_other facts.worlds facts.keys facts.refused facts.least m valid valid_other can home of world name w w' is_mine is_theirs into.0 old.0 into.1 old.1,
-        into_other facts.worlds facts.keys facts.refused facts.least m valid valid_other can home of world name w w' is_mine is_theirs into.0 old.0 into.1 old.1,
+        from_other laws m valid valid_other can home of world name w w' is_mine is_theirs into.0 old.0 into.1 old.1,
+        into_other laws m valid valid_other can home of world name w w' is_mine is_theirs into.0 old.0 into.1 old.1,
       ),
     )

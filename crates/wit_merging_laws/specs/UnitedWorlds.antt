@@ -25,11 +25,11 @@ use Rattle.wit_growth.specs.AllElaborated.{elaborated_world}
 use Rattle.wit_growth.specs.Covered.{IsCovered, WorldComes}
 use Rattle.wit_growth.specs.ElaboratedCome.{elaborated_comes}
 use Rattle.wit_growth.specs.Kept.{everything}
+use Rattle.wit_growth.specs.LawsOfElaboration.{LawsOfElaboration}
 use Rattle.wit_growth.specs.ListFacts.{Contains-map, at_map, contained_at, found_at, from_map, place_of, some_at}
 use Rattle.wit_growth.specs.NamedUses.{IsUsed_named}
 use Rattle.wit_growth.specs.Operations.{merge_sources}
 use Rattle.wit_growth.specs.Sources.{Carries, Source, WorldStands}
-use Rattle.wit_including_laws.specs.WorldLaws.{WorldLaws}
 use Rattle.wit_merging.specs.Matches.{Merging}
 use Rattle.wit_merging.specs.Moved.{merge_maps}
 use Rattle.wit_merging.specs.Reasons.{AreOne}
@@ -50,7 +50,7 @@ named_key interfaces (key.Interface f) (item.Interface i stability docs span ext
 named_key interfaces (key.Interface f) (item.Function fn) j has is = absurd is
 named_key interfaces (key.Interface f) (item.Type_ t span) j has is = absurd is
 
-module _ (laws : WorldLaws) (m : Merging) (valid : IsValid m.graph) (valid_other : IsValid m.other) (one : AreOne m) (can : CanElaborate m) where
+module _ (laws : LawsOfElaboration) (m : Merging) (valid : IsValid m.graph) (valid_other : IsValid m.other) (one : AreOne m) (can : CanElaborate m) where
   abbrev g : Graph
   g = joined_graph m
 
@@ -94,12 +94,12 @@ module _ (laws : WorldLaws) (m : Merging) (valid : IsValid m.graph) (valid_other
     -- it comes of the two graphs
     pub elaborated_world_comes : WorldComes at g w' (elaborated_world g listed)
     elaborated_world_comes =
-        elaborated_comes at g w' listed (elaborated_world g listed) laws.entries laws.once can.acyclic order used_is_named exported_is_named
+        elaborated_comes at g w' listed (elaborated_world g listed) laws.entries laws.distinct can.acyclic order used_is_named exported_is_named
         (worlds_come m valid valid_other w' listed there) is_elaborated (worlds_come m valid valid_other w' listed there).no_includes
 
     -- and is its own elaboration
     pub is_canonical : Elaborated g.types (graph_uses g) (elaborated_world g listed) (elaborated_world g listed)
-    is_canonical = laws.again g.types (graph_uses g) listed (elaborated_world g listed) can.acyclic order is_elaborated
+    is_canonical = laws.once g.types (graph_uses g) listed (elaborated_world g listed) can.acyclic order is_elaborated
 
   -- ---- the united graph
 

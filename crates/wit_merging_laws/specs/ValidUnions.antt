@@ -5,25 +5,22 @@ use Rattle.wit_relations.specs.Relation.{IsAcyclic}
 use Rattle.wit_items.specs.declared.world.World.{World}
 use Rattle.wit_graph.specs.Elaborated.{Elaborated}
 use Rattle.wit_graph.specs.Elaboration.{graph_uses}
-use Rattle.wit_graph.specs.ElaborationLaws.{ConflictsAreRefused}
-use Rattle.wit_graph.specs.KeptByElaboration.{ImportsAreLeast}
 use Rattle.wit_graph.specs.Valid.{IsValid}
 use Rattle.wit_graph.specs.declared.error_kind.ResolveErrorKind.TheVariants.{PackageCycle}
 use Rattle.wit_graph.specs.declared.graph.Graph.{Graph}
 use Rattle.wit_growth.specs.AllElaborated.{elaborated_world, graph_package_uses}
 use Rattle.wit_growth.specs.CoveredIsValid.{IsValid-of_covered}
 use Rattle.wit_growth.specs.Good.{IsGoodAsAWhole}
+use Rattle.wit_growth.specs.LawsOfElaboration.{LawsOfElaboration}
 use Rattle.wit_growth.specs.ListFacts.{from_map}
 use Rattle.wit_growth.specs.Operations.{merge_sources}
 use Rattle.wit_growth.specs.PackageCycleFacts.{acyclic_packages, packages_stay_acyclic}
 use Rattle.wit_growth.specs.PackageCycles.{AreElaborated}
-use Rattle.wit_including_laws.specs.WorldLaws.{WorldLaws}
 use Rattle.wit_merging.specs.Cause.{CanMerge, package_cycle_6}
 use Rattle.wit_merging.specs.Matches.{Merging}
 use Rattle.wit_merging.specs.Moved.{merge_maps}
 use Rattle.wit_merging.specs.Reasons.{AreOne}
 use Rattle.wit_merging.specs.United.{joined_graph, united}
-use Rattle.wit_merging_laws.specs.ElaborationFacts.{ElaborationFacts}
 use Rattle.wit_merging_laws.specs.JoinedGood.{CanElaborate, aliases, listed_exports, listed_imports}
 use Rattle.wit_merging_laws.specs.MergingLaws.{UnionsStayValid}
 use Rattle.wit_merging_laws.specs.NoCycles.{are_one, can_elaborate, joined_types_acyclic}
@@ -33,7 +30,7 @@ use Rattle.wit_merging_laws.specs.UnitedWorlds.{is_elaborated, united_canonical,
 use Rattle.wit_merging_laws.specs.UsesListed.{joined_lists_uses}
 use Rattle.wit_merging_laws.specs.WorldsStand.{sources_good}
 
-module _ (laws : WorldLaws) (refused : ConflictsAreRefused) (least : ImportsAreLeast) (m : Merging) (valid : IsValid m.graph) (valid_other : IsValid m.other) (can : CanMerge m) where
+module _ (laws : LawsOfElaboration) (m : Merging) (valid : IsValid m.graph) (valid_other : IsValid m.other) (can : CanMerge m) where
   abbrev g : Graph
   g = joined_graph m
 
@@ -41,7 +38,7 @@ module _ (laws : WorldLaws) (refused : ConflictsAreRefused) (least : ImportsAreL
   one = are_one m can
 
   elaborates : CanElaborate m
-  elaborates = can_elaborate m valid valid_other can refused
+  elaborates = can_elaborate m valid valid_other can laws.refused
 
   -- no package depends on itself, with worlds as they are listed
   listed_packages : IsAcyclic (graph_package_uses g)
@@ -62,7 +59,7 @@ module _ (laws : WorldLaws) (refused : ConflictsAreRefused) (least : ImportsAreL
           at = from.1;
           imports = listed_imports m valid valid_other one w from.0 from.1;
           exports = listed_exports m valid valid_other one w from.0 from.1;
-          lists_uses = joined_lists_uses least m valid valid_other one w from.0 from.1;
+          lists_uses = joined_lists_uses laws.least m valid valid_other one w from.0 from.1;
           elaborated = subst (λ (x : World). Elaborated g.types (graph_uses g) from.0 x) from.2 (is_elaborated laws m valid valid_other one elaborates w from.0 from.1);
         };
   }
@@ -82,5 +79,5 @@ module _ (laws : WorldLaws) (refused : ConflictsAreRefused) (least : ImportsAreL
       IsValid-of_covered (merge_sources m.graph m.other (merge_maps m)) (united m) (sources_good m valid valid_other one) (united_stands laws m valid valid_other one elaborates)
       (united_covered laws m valid valid_other one elaborates) (good_tables m valid valid_other) whole
 
-pub valid_unions : ElaborationFacts → UnionsStayValid
-valid_unions facts m valid valid_other can = united_valid facts.worlds facts.refused facts.least m valid valid_other can
+pub valid_unions : LawsOfElaboration → UnionsStayValid
+valid_unions laws m valid valid_other can = united_valid laws m valid valid_other can

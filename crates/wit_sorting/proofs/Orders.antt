@@ -3,7 +3,6 @@ use Rattle.std.proofs.Common.{◌≡◌, ◌∙◌, ◌⊎◌, ◌<◌, ◌+◌,
 use Rattle.std.proofs.lemmas.Bool.{cases_lt, false≢true}
 use Rattle.std.proofs.lemmas.List.{get_or_past, length-map}
 use Rattle.std.proofs.lemmas.List.Elements.{All-contains, Contains-get_or, filter_map-append}
-use Rattle.std.proofs.lemmas.List.FromFn.{get_or-range_with_len, length-range_with_len}
 use Rattle.std.proofs.lemmas.List.Quantifiers.{position-Some}
 use Rattle.std.proofs.lemmas.List.Sorted.{All-permutation}
 use Rattle.std.specs.Option.{option_to_list}
@@ -22,6 +21,7 @@ use Rattle.wit_items.specs.declared.package_name.PackageName.{PackageName}
 use Rattle.wit_items.specs.declared.unresolved.UnresolvedPackage.{UnresolvedPackage}
 use Rattle.wit_sorting.proofs.NamePlaces.{apart, keys-places, lookup-places, roots-all, roots-by_name}
 use Rattle.wit_items.specs.PackageNameFacts.{own_name, same_name}
+use Rattle.wit_sorting.specs.RangeFacts.{range-below}
 use Rattle.wit_sorting.specs.Sorting.{Handed, IsGroupOrder, handed_deps, handed_uses, names_of}
 use Rattle.wit_sorting.specs.SortingSteps.{AreByName, IsOrdered, found_deps, places_of}
 
@@ -128,12 +128,6 @@ pub no_cycle : (uses : List (List ℕ)) (user used : ℕ) → IsAcyclic uses →
 no_cycle uses user used acyclic on = acyclic.no_cycle user used on.leads_back.0 (on.is_used, on.leads_back.1)
 
 -- ---- what an order lists
-
-range-below : (n : ℕ) → All (λ i. i < n) (range_with_len 0 n)
-range-below n k d below =
-    let long : length (range_with_len 0 n) ≡ n = length-range_with_len 0 n in
-    let is : get_or (range_with_len 0 n) k d ≡ 0 + k = get_or-range_with_len 0 n k d (omega arith) in
-    omega arith
 
 pub roots-below : (n : ℕ) (roots : List ℕ) → IsPermutation (range_with_len 0 n) roots → All (λ i. i < n) roots
 roots-below n roots all = All-permutation (λ i. i < n) (range_with_len 0 n) roots all (range-below n)

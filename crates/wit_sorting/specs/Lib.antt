@@ -1,2 +1,3 @@
+pub mod RangeFacts
 pub mod Sorting
 pub mod SortingSteps

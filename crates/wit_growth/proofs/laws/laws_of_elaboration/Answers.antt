@@ -10,4 +10,5 @@ returns c = record {
   exact = c.imports_are_exact.ensures;
   refused = c.conflicts_are_refused.ensures;
   exports = c.export_keys_stay.ensures;
+  local = c.elaboration_is_local.ensures;
 }
