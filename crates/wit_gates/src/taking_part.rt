@@ -111,8 +111,7 @@ fn mark_packages(
     requires { Each (λ (e : PackageName × List ForeignItem). Each (λ (item : ForeignItem). HasFlag activity.old item.1.0) e.1) deps.now }
     ensures { IsMarked features.now (foreign_items deps.now) activity.old activity.new }
 {
-    for index in 0..deps.len() {
-        let (_, items) = deps.entry_at(index);
+    for (_, items) in deps.iter() {
         mark_items(features, items, activity);
     }
 }
@@ -126,8 +125,7 @@ fn mark_items(
     requires { Each (λ (item : ForeignItem). HasFlag activity.old item.1.0) items.now }
     ensures { IsMarked features.now items.now activity.old activity.new }
 {
-    for index in 0..items.len() {
-        let (_, (item, notes)) = items.entry_at(index);
+    for (_, (item, notes)) in items.iter() {
         if !some_active(features, notes) {
             continue;
         }
