@@ -111,7 +111,8 @@ fn mark_packages(
     requires { Each (λ (e : PackageName × List ForeignItem). Each (λ (item : ForeignItem). HasFlag activity.old item.1.0) e.1) deps.now }
     ensures { IsMarked features.now (foreign_items deps.now) activity.old activity.new }
 {
-    for (_, items) in deps.iter() {
+    for index in 0..deps.len() {
+        let (_, items) = deps.entry_at(index);
         mark_items(features, items, activity);
     }
 }
@@ -125,7 +126,8 @@ fn mark_items(
     requires { Each (λ (item : ForeignItem). HasFlag activity.old item.1.0) items.now }
     ensures { IsMarked features.now items.now activity.old activity.new }
 {
-    for (_, (item, notes)) in items.iter() {
+    for index in 0..items.len() {
+        let (_, (item, notes)) = items.entry_at(index);
         if !some_active(features, notes) {
             continue;
         }
