@@ -229,8 +229,7 @@ impl<'a> Checker<'a> {
         ensures stay { OnOk result (Each (λ (e : List ℕ × Function). FunctionStays self.now e.1) functions.now) }
         ensures cause { IfErr result (MayRefuse self.now) }
     {
-        for index in 0..functions.len() {
-            let (_, function) = functions.entry_at(index);
+        for (_, function) in functions.iter() {
             self.look_at_function(function)?;
         }
         Ok(())
@@ -275,8 +274,7 @@ impl<'a> Checker<'a> {
         ensures stay { OnOk result (Each (λ (e : Entry). ItemStays self.now e.1) entries.now) }
         ensures cause { IfErr result (MayRefuse self.now) }
     {
-        for index in 0..entries.len() {
-            let (_, item) = entries.entry_at(index);
+        for (_, item) in entries.iter() {
             self.look_at_item(item)?;
         }
         Ok(())

@@ -145,9 +145,7 @@ impl<'a> Checker<'a> {
         ensures met { OnOk result (Each (MeetsForeign self.now) (foreign_items self.now.adding.handed.now.foreign_deps)) }
         ensures cause { IfErr result (MayRefuse self.now) }
     {
-        let deps = &self.adding.handed.foreign_deps;
-        for index in 0..deps.len() {
-            let (_, items) = deps.entry_at(index);
+        for (_, items) in self.adding.handed.foreign_deps.iter() {
             self.check_items(items)?;
         }
         Ok(())
@@ -160,8 +158,7 @@ impl<'a> Checker<'a> {
         ensures met { OnOk result (Each (MeetsForeign self.now) items.now) }
         ensures cause { IfErr result (MayRefuse self.now) }
     {
-        for index in 0..items.len() {
-            let (_, (item, notes)) = items.entry_at(index);
+        for (_, (item, notes)) in items.iter() {
             self.check_notes(notes, self.span_of(*item))?;
         }
         Ok(())
@@ -229,8 +226,7 @@ impl<'a> Checker<'a> {
         ensures met { OnOk result (Each (λ (e : List ℕ × Function). IsMet self.now e.1.stability) functions.now) }
         ensures cause { IfErr result (MayRefuse self.now) }
     {
-        for index in 0..functions.len() {
-            let (_, function) = functions.entry_at(index);
+        for (_, function) in functions.iter() {
             self.check_note(&function.stability, function.span)?;
         }
         Ok(())
@@ -261,8 +257,7 @@ impl<'a> Checker<'a> {
         ensures met { OnOk result (Each (λ (e : Entry). MeetsItem self.now e.1) entries.now) }
         ensures cause { IfErr result (MayRefuse self.now) }
     {
-        for index in 0..entries.len() {
-            let (_, item) = entries.entry_at(index);
+        for (_, item) in entries.iter() {
             self.check_item(item)?;
         }
         Ok(())

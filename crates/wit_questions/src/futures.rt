@@ -1,5 +1,5 @@
 //! The futures and streams of a function.
-ghost use Rattle.std.specs.Prelude.{◌≡◌, ◌++◌, ◌<◌, [], All, Contains, IfErr, IfOk, OnOk, ℕ, false, filter, length, nat_eq, reverse};
+ghost use Rattle.std.specs.Prelude.{◌≡◌, ◌++◌, ◌<◌, [], All, Contains, IfErr, IfOk, OnOk, ℕ, false, filter, length, nat_eq};
 ghost use Rattle.std.specs.List.{flat_map, list_any};
 ghost use Rattle.wit_graph.specs.Questions.{futures_and_streams, is_future, signature_types};
 ghost use Rattle.wit_graph.specs.declared.error_kind.ResolveErrorKind.TheVariants.{OutOfMemory};
@@ -95,8 +95,7 @@ fn futures_below(
 {
     let order = walk_order(alloc, held, roots)?;
     let holding = mark_holding(alloc, types, held, order.as_slice())?;
-    let last_first = unfold(alloc, types, held, &holding, roots)?;
-    last_first.iter().rev().copied().collect(alloc)
+    unfold(alloc, types, held, &holding, roots)
 }
 
 /// Marks the types of an order, in which each stands after what its values hold, that are futures or
@@ -155,7 +154,7 @@ fn has_any(marked: &Listing, places: &[usize]) -> bool
     false
 }
 
-/// The futures and streams that the values of the roots hold, the last one first.
+/// The futures and streams that the values of the roots hold, told from the last one on.
 ///
 /// A type on the stack stands for its walk. Its end is the type itself, and before that come the walks
 /// of what its values hold, the last one first; what holds none isn't entered.
@@ -170,7 +169,7 @@ fn unfold(
     requires nodes { holding.now.nodes ≡ length held.now }
     requires roots { All (λ t. t < length held.now) roots.now }
     requires others { OthersHoldNone types.now held.now (first_of_each (flat_map (walk held.now) roots.now)) holding.now.order }
-    ensures { IfOk result (λ found. reverse found.items ≡ flat_map (futures_of types.now held.now) roots.now) }
+    ensures { IfOk result (λ found. found.items ≡ flat_map (futures_of types.now held.now) roots.now) }
 {
     let mut found = Vec::new(alloc);
     let mut stack = Items::new(alloc);
@@ -181,6 +180,7 @@ fn unfold(
         }
         push_holding(&mut stack, holding, direct_uses(held, place))?;
     }
+    found.reverse();
     Ok(found)
 }
 

@@ -1,8 +1,16 @@
-use Rattle.std.proofs.Common.{◌∙◌, List, ℕ, ap, sym, subst, Contains}
+use Rattle.std.proofs.Common.{◌∙◌, ◌<◌, All, List, ℕ, ap, length, sym, subst, Contains}
 use Rattle.wit_relations.specs.Walks.{Listed}
 use Rattle.wit_questions.specs.Unfolding.{KeepsOthers}
-use Rattle.wit_questions.proofs.Unfolds.{KeepsOthers-marked, KeepsOthers-none}
+use Rattle.wit_questions.proofs.Unfolds.{KeepsOthers-marked, KeepsOthers-none, KeepsOthers-was}
 use Rattle.wit_questions.proofs.futures.mark.Goals as goal
+
+pub returns-then-has-clause-others : goal.returns-then-has-clause-others
+returns-then-has-clause-others c = KeepsOthers-was c.args.types.now c.args.held.now c.requires.acyclic c.args.marked.now.order c.args.place (c.has.ensures.0 c.if-has.true)
+
+pub has_any-requires : goal.has_any-requires
+has_any-requires c =
+    subst (λ (n : ℕ). All (λ t. t < n) c.direct_uses.result.now) (sym c.requires.nodes)
+    (subst (λ (us : List ℕ). All (λ t. t < length c.args.held.now) us) (sym c.direct_uses.ensures) (c.requires.acyclic.in_range c.args.place))
 
 pub returns-in_ok-push-clause-others : goal.returns-in_ok-push-clause-others
 returns-in_ok-push-clause-others c =

@@ -1,8 +1,8 @@
 use Rattle.std.proofs.Common.{◌∙◌, ◌≡◌, ◌++◌, ◌∷◌, [], List, ℕ, Contains, ap, sym, subst, filter, nat_eq, reverse}
-use Rattle.std.specs.List.{list_any}
+use Rattle.std.specs.List.{flat_map, list_any}
 use Rattle.std.proofs.lemmas.List.Elements.{Contains-push}
 use Rattle.wit_graph.specs.Questions.{is_future}
-use Rattle.wit_questions.specs.Unfolding.{IsUnfolding}
+use Rattle.wit_questions.specs.Unfolding.{IsUnfolding, futures_of}
 use Rattle.wit_questions.proofs.Unfolds.{IsUnfolding-begun, IsUnfolding-step, step-shorter, told-more, told-same}
 use Rattle.wit_questions.proofs.futures.unfold.Goals.{then-is_future+in_ok-push, else-is_future}
 use Rattle.wit_questions.proofs.futures.unfold.Goals as goal
@@ -41,3 +41,9 @@ loop-place-preserved c =
     IsUnfolding-step c.args.types.now c.args.held.now c.requires.acyclic c.args.roots.now c.requires.roots c.args.holding.now.order c.requires.others
     c.loop-place.stack c.pop.new.self c.direct_uses.result.now c.push_holding-in-Some.new.stack c.loop-place.found.items c.if-is_future.found.items c.in-Some.place
     c.in-Some.ensures.last c.direct_uses.ensures c.in_ok-push_holding-2.ensures more c.loop-place.invariant
+
+pub returns : goal.returns
+returns c =
+    c.reverse.ensures.items
+    ∙ subst (λ (us : List ℕ). flat_map (futures_of c.args.types.now c.args.held.now) us ++ reverse c.loop-place.found.items ≡ flat_map (futures_of c.args.types.now c.args.held.now) c.args.roots.now)
+    c.in_default.ensures.empty c.loop-place.invariant.tells

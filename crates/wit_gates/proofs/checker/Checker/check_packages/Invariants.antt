@@ -1,4 +1,4 @@
-use Rattle.std.proofs.Common.{List}
+use Rattle.std.proofs.Common.{List, length}
 use Rattle.wit_items.specs.EachFacts.{EachBelow}
 use Rattle.wit_items.specs.Each.{Each}
 use Rattle.wit_items.specs.Foreign.{ForeignItem}
@@ -7,5 +7,5 @@ use Rattle.wit_gates.specs.GateSteps.{MeetsForeign}
 use Rattle.wit_gates.proofs.checker.Checker.check_packages.Given as goal
 
 -- those of the first packages are met
-abbrev pub invariant-loop-index : goal.invariant-loop-index
-invariant-loop-index l = EachBelow l.index (λ _ (e : PackageName × List ForeignItem). Each (MeetsForeign l.self) e.1) l.self.adding.handed.now.foreign_deps
+abbrev pub invariant-loop-items : goal.invariant-loop-items
+invariant-loop-items l = EachBelow (length l.yielded) (λ _ (e : PackageName × List ForeignItem). Each (MeetsForeign l.self) e.1) l.self.adding.handed.now.foreign_deps

@@ -1,12 +1,14 @@
-use Rattle.std.proofs.Common.{arith}
-use Rattle.wit_gates.proofs.Steps.{all_of, one_more}
+use Rattle.std.proofs.Common.{◌∙◌}
+use Rattle.wit_values.specs.Names.{deref_named}
+use Rattle.wit_gates.proofs.Steps.{all_yielded, of_next, one_yielded}
 use Rattle.wit_gates.proofs.checker.Checker.look_at_functions.Goals as goal
 
 pub look_at_function-requires-clause-may : goal.look_at_function-requires-clause-may
-look_at_function-requires-clause-may c = c.requires.may c.loop-index.index (c.entry_at.result.0.now, c.entry_at.result.1.now) c.entry_at.ensures
+look_at_function-requires-clause-may c = of_next deref_named c.loop-function.yielded _ _ (c.into_iter-function-iterator.ensures.into_iter_gives ∙ c.iter-function-items.ensures.rest) c.loop-function.yielded_by _ c.in-Some.is c.next.ensures.steps c.requires.may
 
-pub loop-index-preserved : goal.loop-index-preserved
-loop-index-preserved c = one_more c.loop-index.invariant _ c.entry_at.ensures c.in_ok-look_at_function.ensures.stays
+pub loop-function-preserved : goal.loop-function-preserved
+loop-function-preserved c =
+    one_yielded deref_named c.loop-function.yielded _ _ (c.into_iter-function-iterator.ensures.into_iter_gives ∙ c.iter-function-items.ensures.rest) c.loop-function.yielded_by _ c.in-Some.is c.next.ensures.steps c.loop-function.invariant c.in_ok-look_at_function.ensures.stays
 
 pub returns-clause-stay : goal.returns-clause-stay
-returns-clause-stay c = all_of c.loop-index.invariant (omega arith)
+returns-clause-stay c = all_yielded deref_named c.loop-function.yielded _ _ (c.into_iter-function-iterator.ensures.into_iter_gives ∙ c.iter-function-items.ensures.rest) c.loop-function.yielded_by c.in-None.is c.next.ensures.steps c.loop-function.invariant
