@@ -1,5 +1,6 @@
 //! A package of which some lines are read.
-ghost use Rattle.std.specs.Prelude.{◌≡◌, ◌++◌, [], IfOk};
+ghost use Rattle.std.specs.Option.{option_map};
+ghost use Rattle.std.specs.Prelude.{◌≡◌, ◌++◌, [], length, IfOk};
 ghost use Rattle.wit_drafts.specs.Draft.{begun, begun_at, file_of, grouped, span_after, with_newline, with_text};
 ghost use Rattle.wit_drafts.specs.Lines.{with_line};
 ghost use Rattle.wit_lines.specs.IsRead.{IsRead};
@@ -173,20 +174,20 @@ impl Draft {
     ) -> Result<Draft, LineFault>
         ensures { IsRead (with_line self said gate line.now) result }
     {
-        let span = span_of(self.contents.len(), line)?;
-        let mut draft = self.with_text(alloc, line)?;
+        let (mut draft, span) = self.with_text(alloc, line)?;
         draft.add(alloc, said, &Standing { gate, span })?;
         Ok(draft)
     }
 
-    /// The package with the text of one more line in its file.
-    fn with_text(self, alloc: Global, line: &str) -> Result<Draft, AllocError>
-        ensures { IfOk result (λ draft. draft ≡ with_text self line.now) }
+    /// The package with the text of one more line in its file, and where the line stands there.
+    fn with_text(self, alloc: Global, line: &str) -> Result<(Draft, Span), LineFault>
+        ensures { IsRead (option_map (λ span. (with_text self line.now, span)) (span_after (length self.contents) line.now)) result }
     {
         let mut draft = self;
+        let span = span_of(draft.contents.len(), line)?;
         let contents = mem::replace(&mut draft.contents, Text::new(alloc));
         draft.contents = with_newline(contents, line)?;
-        Ok(draft)
+        Ok((draft, span))
     }
 
     /// The package as a group of its own, with its file.

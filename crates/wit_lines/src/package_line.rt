@@ -1,8 +1,9 @@
 //! What a line of a package says by its tokens alone.
 ghost use Rattle.std.specs.Prelude.{map};
 ghost use Rattle.wit_lines.specs.IsRead.{IsRead};
-ghost use Rattle.wit_lines.specs.PackageLine.{entry_of, include_line_of, named_line_of, package_line_by, record_line_of, rename_of, signed_line_of, type_line_of, use_line_of, use_line_with};
+ghost use Rattle.wit_lines.specs.PackageLine.{entry_by, entry_of, include_line_of, named_line_of, package_line_by, record_line_of, rename_of, signed_line_of, type_line_of, use_line_of, use_line_with};
 ghost use Rattle.wit_lines.specs.Signature.{each_of};
+ghost use Rattle.wit_lines.specs.Token.{split_at};
 
 use crate::fault::LineFault;
 use crate::signature::{Signature, TypedName, read_signature, read_typed_names};
@@ -167,14 +168,21 @@ fn entry_line(alloc: Global, arguments: &[&str]) -> Result<(Option<Text>, Parsed
     ensures { IsRead (entry_of (map (λ t. t.now) arguments.now)) result }
 {
     match arguments {
-        [token] => match token.split_once('=') {
-            Some((label, path)) => {
-                let label = read_part(alloc, label)?;
-                Ok((Some(label), read_path(alloc, path)?))
-            }
-            None => Ok((None, read_path(alloc, token)?)),
-        },
+        [token] => entry(alloc, token),
         _ => Err(LineFault::NotUnderstood),
+    }
+}
+
+/// A path, under a label where there is one.
+fn entry(alloc: Global, token: &str) -> Result<(Option<Text>, ParsedUsePath), LineFault>
+    ensures { IsRead (entry_by token.now (split_at 61 token.now)) result }
+{
+    match token.split_once('=') {
+        Some((label, path)) => {
+            let label = read_part(alloc, label)?;
+            Ok((Some(label), read_path(alloc, path)?))
+        }
+        None => Ok((None, read_path(alloc, token)?)),
     }
 }
 

@@ -32,10 +32,19 @@ pub enum Written {
 }
 
 /// The text of a type: forms, the outermost first, and what stands inside them.
-#[derive(Drop)]
 pub struct TypeText {
     pub wraps: Items<Wrap>,
     pub core: Written,
+}
+
+/// As the derived one: each field is let go. A call of it costs the check less than a derived one,
+/// which is checked again wherever a value is let go.
+impl Drop for TypeText {
+    fn drop(self) {
+        let TypeText { wraps, core } = self;
+        drop(wraps);
+        drop(core);
+    }
 }
 
 /// What the text of a type says.

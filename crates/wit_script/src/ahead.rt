@@ -3,11 +3,12 @@ ghost use Rattle.std.specs.Option.{option_to_list};
 ghost use Rattle.std.specs.Prelude.{◌≡◌, ◌++◌, List, ℕ, true, map, IfOk, OnOk};
 ghost use Rattle.wit_drafts.specs.declared.mention.Mention.{Mention};
 ghost use Rattle.wit_lines.specs.Statement.{said_of};
+ghost use Rattle.wit_lines.specs.declared.fault.LineFault.TheVariants.{NotUnderstood};
 ghost use Rattle.wit_lines.specs.declared.statement.Statement.TheVariants as says;
 ghost use Rattle.wit_script.specs.Ahead.{mentions_ahead, mentions_by, mentions_placed, mentions_then, mentions_with};
 ghost use Rattle.wit_script.specs.Ready.{is_accepted_so_far};
+ghost use Rattle.wit_script.specs.declared.ahead.Ahead.TheVariants as comes;
 
-use crate::ready::is_accepted;
 use std::alloc::{AllocError, Global};
 use wit_drafts::{Mention, mention_of, span_of};
 use wit_items::{Items, Stability};
@@ -27,6 +28,16 @@ pub enum Ahead {
     },
 }
 
+/// The end of the package before a line that comes to nothing.
+fn ended(fault: LineFault) -> Result<Ahead, AllocError>
+    ensures { IfOk result (λ ahead. (ahead ≡ comes.End) × (fault ≡ NotUnderstood)) }
+{
+    match fault {
+        LineFault::NotUnderstood => Ok(Ahead::End),
+        LineFault::OutOfMemory => Err(AllocError),
+    }
+}
+
 /// A line of the package, where its file has so many bytes before it.
 fn line_ahead(
     at: usize,
@@ -41,14 +52,13 @@ fn line_ahead(
             mention: mention_of(said, gate, span),
             next: at + line.len() + 1,
         }),
-        Err(LineFault::NotUnderstood) => Ok(Ahead::End),
-        Err(LineFault::OutOfMemory) => Err(AllocError),
+        Err(fault) => ended(fault),
     }
 }
 
-/// What an accepted line says, where the file of the package has so many bytes before it.
+/// What a line says, where the file of the package has so many bytes before it.
 fn said_ahead(at: usize, line: &str, said: Statement) -> Result<Ahead, AllocError>
-    ensures { IfOk result (λ ahead. (after : ℕ → List Mention) → mentions_then ahead at after ≡ mentions_by true at line.now after said) }
+    ensures { IfOk result (λ ahead. (after : ℕ → List Mention) → mentions_then ahead at after ≡ mentions_by (is_accepted_so_far said) at line.now after said) }
 {
     match said {
         Statement::Line { said, gate } => line_ahead(at, line, said, gate),
@@ -63,15 +73,9 @@ fn look_ahead(alloc: Global, at: usize, line: &str) -> Result<Ahead, AllocError>
     ensures { IfOk result (λ next. (after : ℕ → List Mention) → mentions_then next at after ≡ mentions_with is_accepted_so_far at line.now after (said_of line.now)) }
 {
     match read_line(alloc, line) {
-        Ok(Some(said)) => {
-            if !is_accepted(&said) {
-                return Ok(Ahead::End);
-            }
-            said_ahead(at, line, said)
-        }
+        Ok(Some(said)) => said_ahead(at, line, said),
         Ok(None) => Ok(Ahead::Silent),
-        Err(LineFault::NotUnderstood) => Ok(Ahead::End),
-        Err(LineFault::OutOfMemory) => Err(AllocError),
+        Err(fault) => ended(fault),
     }
 }
 

@@ -1,5 +1,5 @@
 //! From the text of a script to its commands.
-ghost use Rattle.std.specs.Prelude.{◌≡◌, ◌↔◌, ◌||◌, [], ◌∷◌, is_some, true, map, None, Some, IfOk, IfErr, IfSome, IsTrue, OnOk, not};
+ghost use Rattle.std.specs.Prelude.{◌≡◌, ◌↔◌, ◌||◌, [], ◌∷◌, if◌then◌else◌, is_some, map, None, Some, IfOk, IfErr, IfSome, IsTrue, OnOk, not};
 ghost use Rattle.wit_drafts.specs.Draft.{grouped};
 ghost use Rattle.wit_lines.specs.IsRead.{IsRead};
 ghost use Rattle.wit_lines.specs.Signature.{each_of};
@@ -7,11 +7,11 @@ ghost use Rattle.wit_items.specs.Each.{Each};
 ghost use Rattle.wit_items.specs.Shape.{IsGroupShaped};
 ghost use Rattle.wit_lines.specs.Line.{is_silent, last_said_of};
 ghost use Rattle.wit_script.specs.Ready.{AreReady, is_accepted_so_far, is_taken};
-ghost use Rattle.wit_script.specs.Script.{GoesOn, HasLineFault, HasReadFault, IsUnderstood, Leads, after_line, new_reading, reading_of, with_groups, with_package, with_package_line, with_push, with_request, with_statement};
+ghost use Rattle.wit_script.specs.Script.{GoesOn, HasLineFault, HasReadFault, IsUnderstood, Leads, after_line, after_said, new_reading, reading_of, with_groups, with_package, with_package_line, with_push, with_request};
 
 use crate::ahead::mentions_ahead;
 use crate::fault::ReadFault;
-use crate::ready::{ReadyCommand, ScriptCommand, is_accepted};
+use crate::ready::{ReadyCommand, ScriptCommand, is_taken};
 use std::alloc::{AllocError, Global};
 use std::mem;
 use wit_drafts::Draft;
@@ -102,9 +102,8 @@ impl Reading {
         line: &str,
         ahead: &[&str],
     ) -> Result<(), LineFault>
-        requires ready { AreReady self.old.commands }
-        requires accepted { is_accepted_so_far said ≡ true }
-        ensures { GoesOn (with_statement is_accepted_so_far self.old said line.now (map (λ line. line.now) ahead.now)) result self.new }
+        requires { AreReady self.old.commands }
+        ensures { GoesOn (after_said is_accepted_so_far self.old line.now (map (λ line. line.now) ahead.now) (Some (Some said))) result self.new }
     {
         match said {
             Statement::Package(name) => self.add_package(alloc, name, line, ahead),
@@ -189,13 +188,12 @@ impl Reading {
         Ok(())
     }
 
-    /// Adds another command where no package waits for its `push`.
+    /// Adds another command, which is carried out so far, where no package waits for its `push`.
     fn add_request(&mut self, request: Request) -> Result<(), LineFault>
-        requires ready { AreReady self.old.commands }
-        requires taken { is_taken request ≡ true }
-        ensures { GoesOn (with_request self.old request) result self.new }
+        requires { AreReady self.old.commands }
+        ensures { GoesOn (if is_taken request then with_request self.old request else None) result self.new }
     {
-        if self.current.is_some() {
+        if !is_taken(&request) || self.current.is_some() {
             return Err(LineFault::NotUnderstood);
         }
         self.commands
@@ -218,9 +216,6 @@ fn add_line(
     match read_line(alloc, line)? {
         None => Ok(false),
         Some(said) => {
-            if !is_accepted(&said) {
-                return Err(LineFault::NotUnderstood);
-            }
             reading.add(alloc, said, line, ahead)?;
             Ok(true)
         }

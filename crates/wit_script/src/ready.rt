@@ -1,10 +1,10 @@
 //! What a script asks, and that it may be asked so far.
 ghost use Rattle.std.specs.Prelude.{◌≡◌};
-ghost use Rattle.wit_script.specs.Ready.{is_accepted_so_far, is_taken};
+ghost use Rattle.wit_script.specs.Ready.{is_taken};
 
 use std::marker::Model;
 use wit_items::{Items, UnresolvedPackageGroup};
-use wit_lines::{Request, Statement};
+use wit_lines::Request;
 
 /// A command of a script.
 #[derive(Drop)]
@@ -19,21 +19,11 @@ pub enum ScriptCommand {
 }
 
 /// Whether a command that hands in no package is carried out so far.
-fn is_taken(request: &Request) -> bool
+pub fn is_taken(request: &Request) -> bool
     ensures { result ≡ is_taken request.now }
 {
     match request {
         Request::Other | Request::Merge | Request::Semver { .. } => false,
-        _ => true,
-    }
-}
-
-/// Whether what a line says is accepted so far.
-pub fn is_accepted(said: &Statement) -> bool
-    ensures { result ≡ is_accepted_so_far said.now }
-{
-    match said {
-        Statement::Request(request) => is_taken(request),
         _ => true,
     }
 }
