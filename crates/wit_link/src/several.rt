@@ -51,6 +51,8 @@ pub fn append_all_with(
     ensures valid { IsValid graph.new }
     ensures uses { elaborator.new ≡ graph_uses graph.new }
     ensures err { OnErr result (graph.new ≡ graph.old) }
+    ensures grown { Grown graph.old graph.new }
+    ensures rows { Begins elaborator.old elaborator.new }
     ensures cause { IfErr result (λ kind. (kind ≡ OutOfMemory) ⊎ IsOneRefused features.now graph.old packages kind) }
     ensures refuses { (kind : ResolveErrorKind) → IsOneRefused features.now graph.old packages kind → OnOk result ⊥ }
 {

@@ -1,3 +1,4 @@
-pub mod FixedParts
+pub mod ValidParts
+pub mod ValidBits
 pub mod PackageRows
 pub mod Unfolds

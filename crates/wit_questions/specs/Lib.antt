@@ -1,2 +1,4 @@
 pub mod Left
 pub mod Unfolding
+pub mod ValidBits
+pub mod ValidBitsFacts

@@ -9,6 +9,7 @@ pub mod held;
 pub mod interface_deps;
 mod next;
 pub mod package_deps;
+pub mod valid_bits;
 mod world_deps;
 
 pub use crate::canonical::{
@@ -18,8 +19,9 @@ pub use crate::entries::{
     external_id_of, external_id_value, implements_interface, named_interface,
 };
 pub use crate::futures::find_futures_and_streams;
-pub use crate::held::{all_bits_valid, held_rows};
+pub use crate::held::held_rows;
 pub use crate::interface_deps::{InterfaceDirectDeps, interface_direct_deps};
 pub use crate::package_deps::{
     PackageDirectDeps, package_direct_deps, package_uses, topological_packages,
 };
+pub use crate::valid_bits::{add_valid_bits, is_valid_by};

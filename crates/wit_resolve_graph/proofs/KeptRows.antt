@@ -1,24 +1,66 @@
--- What a turn of a world leaves: which interfaces use which.
-use Rattle.std.proofs.Common.{◌≡◌, ◌∙◌, ℕ, List, Option, None, Some, slice_get, OnOk, OnErr, Result, Ok, Err, refl, sym, ap}
+-- What is kept beside a graph, after a turn of a world and after packages came.
+use Rattle.std.proofs.Common.{◌≡◌, ◌∙◌, ℕ, ◌≤◌, List, Bool, Option, None, Some, length, take, slice_get, OnOk, OnErr, Result, Ok, Err, refl, sym, ap, subst, arith, length-take}
 use Rattle.std.specs.Option.{option_map_or}
+use Rattle.wit_items.specs.declared.types.TypeDef.{TypeDef}
 use Rattle.wit_items.specs.declared.world.World.{World}
 use Rattle.wit_graph.specs.Elaboration.{graph_uses}
 use Rattle.wit_graph.specs.Valid.{IsValid}
 use Rattle.wit_graph.specs.declared.graph.Graph.{Graph}
+use Rattle.wit_placing.specs.Grown.{Begins, Grown, cut_at, mark_of}
+use Rattle.wit_placing.specs.GrownFacts.{cut_back}
+use Rattle.wit_placing.specs.declared.mark.Mark.{Mark}
+use Rattle.wit_questions.specs.ValidBits.{AreValidBits, TellValidBits}
+use Rattle.wit_questions.specs.ValidBitsFacts.{flags_stay}
 use Rattle.wit_unite.specs.Turned.{Turn, turned, turned_at}
 use Rattle.wit_resolve_graph.specs.Kept.{AreKept}
+use Rattle.wit_resolve_graph.specs.declared.kept.Kept.{Kept}
 
-pub turned_uses : (g : Graph) (w : ℕ) (turn : World → Turn) → graph_uses (turned g w turn) ≡ graph_uses g
-turned_uses g w turn = of (slice_get g.worlds w)
+-- a turn leaves types and interfaces as they are
+pub record LeavesTypes (g new : Graph) : Type 0 where
+  pub uses : graph_uses new ≡ graph_uses g
+  pub types : new.types ≡ g.types
+
+pub turned_leaves : (g : Graph) (w : ℕ) (turn : World → Turn) → LeavesTypes g (turned g w turn)
+turned_leaves g w turn = of (slice_get g.worlds w)
   where
-    of : (found : Option World) → graph_uses (option_map_or (λ (world : World). turned_at g w world (turn world)) found g) ≡ graph_uses g
-    of None = refl
-    of (Some world) = refl
+    of : (found : Option World) → LeavesTypes g (option_map_or (λ (world : World). turned_at g w world (turn world)) found g)
+    of None = record { uses = refl; types = refl }
+    of (Some world) = record { uses = refl; types = refl }
 
--- the rows stay those of the graph, whether it is turned or the turn is refused
-pub kept_after : {T E P : Type 0} (r : Result T E) (g new : Graph) (rows : List (List ℕ)) → AreKept g rows → IsValid new → OnOk r P → (P → graph_uses new ≡ graph_uses g) → OnErr r (new ≡ g) → AreKept new rows
-kept_after (Ok x) g new rows kept valid told stays same = record { valid = valid; uses = kept.uses ∙ sym (stays told) }
-kept_after (Err e) g new rows kept valid told stays same = record { valid = valid; uses = kept.uses ∙ ap graph_uses (sym same) }
+-- what was kept of a graph is of another with the same types and uses
+same_kept : (g new : Graph) (kept : Kept) → AreKept g kept → IsValid new → LeavesTypes g new → AreKept new kept
+same_kept g new kept of valid leaves = record {
+  valid = valid;
+  uses = of.uses ∙ sym leaves.uses;
+  bits = subst (λ (types : List TypeDef). TellValidBits types kept.valid_bits) (sym leaves.types) of.bits;
+}
 
-pub kept_turned : {T E : Type 0} (r : Result T E) (g new : Graph) (rows : List (List ℕ)) (w : ℕ) (turn : World → Turn) → AreKept g rows → IsValid new → OnOk r (new ≡ turned g w turn) → OnErr r (new ≡ g) → AreKept new rows
-kept_turned r g new rows w turn kept valid ok = kept_after r g new rows kept valid ok (λ is. ap graph_uses is ∙ turned_uses g w turn)
+-- and so where it is turned or the turn is refused
+pub kept_after : {T E P : Type 0} (r : Result T E) (g new : Graph) (kept : Kept) → AreKept g kept → IsValid new → OnOk r P → (P → LeavesTypes g new) → OnErr r (new ≡ g) → AreKept new kept
+kept_after (Ok x) g new kept of valid told leaves same = same_kept g new kept of valid (leaves told)
+kept_after (Err e) g new kept of valid told leaves same = same_kept g new kept of valid (record { uses = ap graph_uses same; types = ap (λ (h : Graph). h.types) same })
+
+pub kept_turned : {T E : Type 0} (r : Result T E) (g new : Graph) (kept : Kept) (w : ℕ) (turn : World → Turn) → AreKept g kept → IsValid new → OnOk r (new ≡ turned g w turn) → OnErr r (new ≡ g) → AreKept new kept
+kept_turned r g new kept w turn of valid ok = kept_after r g new kept of valid ok (λ is. subst (λ (h : Graph). LeavesTypes g h) (sym is) (turned_leaves g w turn))
+
+-- where packages came, there are no more flags than types, and they tell of theirs
+pub flags_within : (g new : Graph) (kept : Kept) → AreKept g kept → Grown g new → length kept.valid_bits ≤ length new.types
+flags_within g new kept of grown =
+    let short = ap length grown.types in
+    let least = length-take (length g.types) new.types in
+    omega (arith, of.bits.each, short, least)
+
+pub flags_known : (g new : Graph) (kept : Kept) → AreKept g kept → Grown g new → AreValidBits new.types kept.valid_bits
+flags_known g new kept of grown = flags_stay g.types new.types of.valid.no_cycles.types grown.types kept.valid_bits of.bits
+
+-- and where all is cut back, it is as it was
+pub kept_cut : (g new after : Graph) (kept left : Kept) (mark : Mark) (count : ℕ) (rows : List (List ℕ)) → AreKept g kept → Grown g new → mark ≡ mark_of g → count ≡ length kept.elaborator → Begins kept.elaborator rows
+    → (after ≡ cut_at mark new) × ((left.elaborator ≡ take count rows) × (left.valid_bits ≡ kept.valid_bits)) → AreKept after left
+kept_cut g new after kept left mark count rows of grown marked counted begins cut =
+    let back : after ≡ g = cut.0 ∙ ap (λ (m : Mark). cut_at m new) marked ∙ cut_back g new grown in
+    let flags : TellValidBits g.types left.valid_bits = subst (λ (flags : List Bool). TellValidBits g.types flags) (sym cut.1.1) of.bits in
+    record {
+      valid = subst IsValid (sym back) of.valid;
+      uses = cut.1.0 ∙ ap (λ (n : ℕ). take n rows) counted ∙ begins ∙ of.uses ∙ ap graph_uses (sym back);
+      bits = subst (λ (h : Graph). TellValidBits h.types left.valid_bits) (sym back) flags;
+    }

@@ -1,10 +1,13 @@
 -- What a `Resolve` keeps beside its graph.
-use Rattle.std.specs.Prelude.{◌≡◌, ℕ, List}
+use Rattle.std.specs.Prelude.{◌≡◌}
 use Rattle.wit_graph.specs.Elaboration.{graph_uses}
 use Rattle.wit_graph.specs.Valid.{IsValid}
 use Rattle.wit_graph.specs.declared.graph.Graph.{Graph}
+use Rattle.wit_questions.specs.ValidBits.{TellValidBits}
+use Rattle.wit_resolve_graph.specs.declared.kept.Kept.{Kept}
 
--- a valid graph, and which of its interfaces use which
-pub record AreKept (graph : Graph) (rows : List (List ℕ)) : Type 0 where
+-- a valid graph, which of its interfaces use which, and of which of its types all bits are valid
+pub record AreKept (graph : Graph) (kept : Kept) : Type 0 where
   pub valid : IsValid graph
-  pub uses : rows ≡ graph_uses graph
+  pub uses : kept.elaborator ≡ graph_uses graph
+  pub bits : TellValidBits graph.types kept.valid_bits

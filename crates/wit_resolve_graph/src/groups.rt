@@ -1,8 +1,6 @@
 //! Groups of packages that are added together: their files at the end of the sources, their packages in order.
 ghost use Rattle.std.specs.Prelude.{◌≡◌, ◌⊎◌, ◌≤◌, ◌<◌, ◌+◌, ◌++◌, ◌^◌, [], ◌∷◌, Contains, IfErr, IfOk, List, OnErr, OnOk, map};
 ghost use Rattle.std.specs.List.{AllByRecursion};
-ghost use Rattle.wit_graph.specs.Elaboration.{graph_uses};
-ghost use Rattle.wit_graph.specs.Valid.{IsValid};
 ghost use Rattle.wit_graph.specs.declared.error_kind.ResolveErrorKind.{ResolveErrorKind};
 ghost use Rattle.wit_graph.specs.declared.error_kind.ResolveErrorKind.TheVariants.{OffsetOverflow, OutOfMemory};
 ghost use Rattle.wit_items.specs.declared.unresolved.UnresolvedPackage.{UnresolvedPackage};
@@ -10,16 +8,19 @@ ghost use Rattle.wit_link.specs.Groups.{FilesPassTheEnd, IsPushCause, files_end,
 ghost use Rattle.wit_link.specs.Several.{CanAppend};
 ghost use Rattle.wit_placing.specs.Grown.{Begins};
 ghost use Rattle.wit_resolve_graph.specs.Grouping.{AreAdded};
+ghost use Rattle.wit_resolve_graph.specs.Kept.{AreKept};
 ghost use Rattle.wit_resolve_graph.specs.Step.{with_files};
 ghost use Rattle.wit_sorting.specs.Sorting.{IsSortCause, names_of};
 ghost use Rattle.wit_sources.specs.SourceMap.{with_sources};
 
+use crate::kept::Kept;
 use std::alloc::{AllocError, Global};
-use wit_graph::{Elaborator, Features, Graph, ResolveResult};
+use wit_graph::{Features, Graph, ResolveResult};
 use wit_items::{
     Items, PackageId, PackageName, SourceMap, UnresolvedPackage, UnresolvedPackageGroup,
 };
 use wit_link::{append_all_with, sort_groups};
+use wit_placing::Mark;
 
 /// Puts the files of groups at the end of a source map, in order, and answers their packages, the nested
 /// ones of a group before its main one, each with the place where its group's files begin.
@@ -108,29 +109,30 @@ fn take_packages(
 /// Adds packages to a graph in the order of `sort_groups`, each with its spans moved by its offset, and
 /// answers the id of the one of a name.
 ///
-/// Refused as `sort_groups` and `append_all` say; the graph is then as before. The elaborator is one of the graph, and
-/// becomes one of the new graph.
+/// Refused as `sort_groups` and `append_all` say; the graph is then as before. What is kept is of the graph, and
+/// becomes that of the new graph.
 pub(crate) fn add_packages(
     alloc: Global,
     graph: &mut Graph,
-    elaborator: &mut Elaborator,
+    kept: &mut Kept,
     features: &Features,
     packages: Items<(UnresolvedPackage, u32)>,
     name: &PackageName,
 ) -> ResolveResult<PackageId>
     requires packages { AllByRecursion CanAppend packages }
     requires named { Contains (names_of packages) name.now }
-    requires valid { IsValid graph.old }
-    requires uses { elaborator.old ≡ graph_uses graph.old }
+    requires kept { AreKept graph.old kept.old }
     ensures ok { IfOk result (λ id. AreAdded features.now graph.old packages name.now id graph.new) }
-    ensures valid { IsValid graph.new }
-    ensures uses { elaborator.new ≡ graph_uses graph.new }
+    ensures kept { AreKept graph.new kept.new }
     ensures err { OnErr result (graph.new ≡ graph.old) }
     ensures cause { IfErr result (λ kind. (kind ≡ OutOfMemory) ⊎ (IsSortCause packages kind ⊎ IsPushCause features.now graph.old packages kind)) }
     ensures refuses { (kind : ResolveErrorKind) → IsSortCause packages kind ⊎ IsPushCause features.now graph.old packages kind → OnOk result ⊥ }
 {
     let sorted = sort_groups(alloc, packages)?;
-    append_all_with(alloc, graph, elaborator, features, sorted)?;
+    let mark = Mark::of(graph);
+    let rows = kept.elaborator.interfaces();
+    append_all_with(alloc, graph, &mut kept.elaborator, features, sorted)?;
+    kept.follow(alloc, graph, mark, rows)?;
     match graph.package_names.get(name) {
         Some(id) => Ok(*id),
         None => unreachable!(),

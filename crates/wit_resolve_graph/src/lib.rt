@@ -5,6 +5,7 @@
 pub mod command;
 mod core_names;
 mod groups;
+mod kept;
 pub mod laws;
 mod push_source;
 mod questions;

@@ -14,9 +14,9 @@ use wit_items::{
     Function, InterfaceId, PackageId, Type_, TypeId, WorldItem, WorldKey, type_interface_dep,
 };
 use wit_questions::{
-    InterfaceDirectDeps, PackageDirectDeps, all_bits_valid, canonicalized_id_of,
-    canonicalized_id_of_name, external_id_value, find_futures_and_streams, implements_interface,
-    interface_direct_deps, name_canonicalized_world_key, package_direct_deps, topological_packages,
+    InterfaceDirectDeps, PackageDirectDeps, canonicalized_id_of, canonicalized_id_of_name,
+    external_id_value, find_futures_and_streams, implements_interface, interface_direct_deps,
+    is_valid_by, name_canonicalized_world_key, package_direct_deps, topological_packages,
     version_suffix_of,
 };
 
@@ -133,12 +133,11 @@ impl Resolve {
 /// Values.
 impl Resolve {
     /// Whether any bits are a value of the type: of a number, of a handle, and of an alias, a list of
-    /// fixed length, a record or a tuple whose parts all are such.
-    pub fn all_bits_valid(&self, alloc: Global, ty: Type_) -> ResolveResult<bool>
-        ensures valid { IfOk result (λ valid. IsTrue valid ↔ HasAllBitsValid self.now.graph.types ty) }
-        ensures err { IfErr result (λ kind. kind ≡ OutOfMemory) }
+    /// fixed length, a record or a tuple whose parts all are such. It takes no memory.
+    pub fn all_bits_valid(&self, ty: Type_) -> bool
+        ensures { IsTrue result ↔ HasAllBitsValid self.now.graph.types ty }
     {
-        all_bits_valid(alloc, self.graph(), ty)
+        is_valid_by(self.valid_bits(), ty)
     }
 
     /// The futures and streams that the values of a function's parameters and of its result hold: see

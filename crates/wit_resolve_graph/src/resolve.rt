@@ -11,6 +11,7 @@ ghost use Rattle.wit_sources.specs.SourceMap.{with_sources};
 ghost use Rattle.wit_adding.specs.Cause.{IsCause};
 ghost use Rattle.wit_link.specs.Appending.{IsAdded, addition};
 ghost use Rattle.wit_link.specs.Groups.{IsGroupsCause};
+ghost use Rattle.wit_questions.specs.ValidBits.{TellValidBits};
 ghost use Rattle.wit_resolve_graph.specs.Selection.{IsSaid, selected_world};
 ghost use Rattle.wit_resolve_graph.specs.State.{new_state};
 ghost use Rattle.wit_resolve_graph.specs.Step.{PushesGroups, RefusesGroups, with_feature};
@@ -18,26 +19,26 @@ ghost use Rattle.wit_unite.specs.TurnCause.{AreAnswers, Exportizes, IsExportizeC
 ghost use Rattle.wit_unite.specs.Turned.{exportized, importized, turned};
 
 use crate::groups::{add_packages, place_groups};
+use crate::kept::{Kept, append_kept};
 use crate::select::select_world;
 use std::alloc::{AllocError, Global};
 use std::fmt;
 use std::marker::Model;
-use wit_graph::{Elaborator, Features, Graph, Package, ResolveErrorKind, ResolveResult};
+use wit_graph::{Features, Graph, Package, ResolveErrorKind, ResolveResult};
 use wit_items::{
     Interface, InterfaceId, Items, PackageId, PackageName, SourceMap, Table, TrackRule, TryClone,
     TypeDef, UnresolvedPackage, UnresolvedPackageGroup, World, WorldId, WorldItem, WorldKey,
 };
-use wit_link::append_with;
 use wit_unite::{exportize, exportize_answered, importize};
 use wit_valid::is_valid;
 use wit_values::try_clone_four;
 
 /// Packages whose names are resolved: a valid graph, the features that are on, the sources, and the rule by
 /// which versions stand on one track. Beside the graph it keeps which interfaces use which, so that a push costs
-/// what it adds.
+/// what it adds, and of which types all bits are valid.
 pub struct Resolve {
     graph: Graph,
-    elaborator: Elaborator,
+    kept: Kept,
     features: Features,
     source_map: SourceMap,
     track_rule: TrackRule,
@@ -51,7 +52,7 @@ impl Model for Resolve {
 
     ghost view = { λ a. record { graph = a.graph; features = a.features; source_map = a.source_map; track_rule = a.track_rule } };
 
-    ghost invariant = { λ a. AreKept a.graph a.elaborator };
+    ghost invariant = { λ a. AreKept a.graph a.kept };
 }
 
 impl Resolve {
@@ -61,7 +62,7 @@ impl Resolve {
     {
         Resolve {
             graph: Graph::new(alloc),
-            elaborator: Elaborator::empty(alloc),
+            kept: Kept::empty(alloc),
             features: Features::new(alloc),
             source_map: SourceMap::new(alloc),
             track_rule: TrackRule::Published,
@@ -140,6 +141,13 @@ impl Resolve {
     {
         self.track_rule
     }
+
+    /// Of which types all bits are valid, a flag for each.
+    pub(crate) fn valid_bits(&self) -> &[bool]
+        ensures { TellValidBits self.now.graph.types result.now }
+    {
+        self.kept.valid_bits.as_slice()
+    }
 }
 
 impl Resolve {
@@ -199,10 +207,10 @@ impl Resolve {
         ensures cause { IfErr result (λ kind. (kind ≡ OutOfMemory) ⊎ IsCause (addition self.old.features self.old.graph «package» span_offset) kind) }
         ensures refuses { (kind : ResolveErrorKind) → IsCause (addition self.old.features self.old.graph «package» span_offset) kind → OnOk result ⊥ }
     {
-        append_with(
+        append_kept(
             alloc,
             &mut self.graph,
-            &mut self.elaborator,
+            &mut self.kept,
             &self.features,
             package,
             span_offset,
@@ -249,7 +257,7 @@ impl Resolve {
         let pushed = add_packages(
             alloc,
             &mut self.graph,
-            &mut self.elaborator,
+            &mut self.kept,
             &self.features,
             packages,
             &name,
@@ -385,13 +393,13 @@ impl Drop for Resolve {
     fn drop(self) {
         let Resolve {
             graph,
-            elaborator,
+            kept,
             features,
             source_map,
             track_rule: _,
         } = self;
         drop(graph);
-        drop(elaborator);
+        drop(kept);
         drop(features);
         drop(source_map);
     }
@@ -399,15 +407,15 @@ impl Drop for Resolve {
 
 impl TryClone for Resolve {
     fn try_clone(&self) -> Result<Resolve, AllocError> {
-        let (graph, elaborator, features, source_map) = try_clone_four(
+        let (graph, kept, features, source_map) = try_clone_four(
             &self.graph,
-            &self.elaborator,
+            &self.kept,
             &self.features,
             &self.source_map,
         )?;
         Ok(Resolve {
             graph,
-            elaborator,
+            kept,
             features,
             source_map,
             track_rule: self.track_rule,

@@ -153,7 +153,7 @@ fn entries_are_told(rt: HostRuntime) {
 
 fn are_all_bits_valid(rt: &impl Abort, alloc: Global, ty: Type_) -> bool {
     let resolve = resolve_of(rt, alloc, SCRIPT);
-    resolve.all_bits_valid(alloc, ty).expect(rt, "memory")
+    resolve.all_bits_valid(ty)
 }
 
 /// The futures and streams of `stages`, which is the only function of `x`.

@@ -1,7 +1,7 @@
-use Rattle.std.proofs.Common.{◌∙◌, ap, option_map, string_bytes}
+use Rattle.std.proofs.Common.{option_map, string_bytes, subst, sym}
 use Rattle.wit_unite.specs.Turned.{exportized}
-use Rattle.wit_graph.specs.Elaboration.{graph_uses}
-use Rattle.wit_resolve_graph.proofs.KeptRows.{kept_after, turned_uses}
+use Rattle.wit_graph.specs.declared.graph.Graph.{Graph}
+use Rattle.wit_resolve_graph.proofs.KeptRows.{LeavesTypes, kept_after, turned_leaves}
 use Rattle.wit_resolve_graph.proofs.resolve.Resolve.exportize.Goals as goal
 
 pub returns-clause-ok : goal.returns-clause-ok
@@ -15,5 +15,5 @@ returns-clause-refuses g c = rw (← c.self.view_is) c.exportize.ensures.refuses
 
 pub invariant_of-self : goal.invariant_of-self
 invariant_of-self g c =
-    kept_after c.exportize.result c.self.inside.graph c.exportize.new.graph c.self.inside.elaborator c.self.invariant c.exportize.ensures.valid c.exportize.ensures.ok
-    (λ is. ap graph_uses is.is_turned ∙ turned_uses c.self.inside.graph c.args.world (exportized is.answers (option_map string_bytes c.args.out))) c.exportize.ensures.err
+    kept_after c.exportize.result c.self.inside.graph c.exportize.new.graph c.self.inside.kept c.self.invariant c.exportize.ensures.valid c.exportize.ensures.ok
+    (λ is. subst (λ (h : Graph). LeavesTypes c.self.inside.graph h) (sym is.is_turned) (turned_leaves c.self.inside.graph c.args.world (exportized is.answers (option_map string_bytes c.args.out)))) c.exportize.ensures.err

@@ -11,5 +11,5 @@ returns-clause-refuses c = rw (← c.self.view_is) c.importize.ensures.refuses
 
 pub invariant_of-self : goal.invariant_of-self
 invariant_of-self c =
-    kept_turned c.importize.result c.self.inside.graph c.importize.new.graph c.self.inside.elaborator c.args.world (importized (option_map string_bytes c.args.out)) c.self.invariant c.importize.ensures.valid c.importize.ensures.ok
+    kept_turned c.importize.result c.self.inside.graph c.importize.new.graph c.self.inside.kept c.args.world (importized (option_map string_bytes c.args.out)) c.self.invariant c.importize.ensures.valid c.importize.ensures.ok
     c.importize.ensures.err

@@ -1,0 +1,10 @@
+use Rattle.wit_resolve_graph.proofs.KeptRows.{flags_known, kept_cut}
+use Rattle.wit_resolve_graph.proofs.kept.append_kept.Goals as goal
+
+pub follow-requires-clause-known : goal.follow-requires-clause-known
+follow-requires-clause-known c = flags_known c.args.graph.now c.append_with.new.graph c.args.kept.now c.requires.kept c.append_with.ensures.grown
+
+pub returns-in_err-follow-clause-kept : goal.returns-in_err-follow-clause-kept
+returns-in_err-follow-clause-kept c =
+    kept_cut c.args.graph.now c.append_with.new.graph c.follow.new.graph c.args.kept.now c.follow.new.self c.of-mark.result c.interfaces-rows.result c.append_with.new.elaborator c.requires.kept
+    c.append_with.ensures.grown c.of-mark.ensures c.interfaces-rows.ensures c.append_with.ensures.rows c.in_err-follow.ensures.err

@@ -1,0 +1,123 @@
+//! What a `Resolve` keeps beside its graph.
+ghost use Rattle.std.specs.Prelude.{◌≡◌, ◌⊎◌, ◌≤◌, [], IfErr, IfOk, OnErr, OnOk, length, take};
+ghost use Rattle.wit_graph.specs.declared.error_kind.ResolveErrorKind.{ResolveErrorKind};
+ghost use Rattle.wit_graph.specs.declared.error_kind.ResolveErrorKind.TheVariants.{OutOfMemory};
+ghost use Rattle.wit_items.specs.Shape.{IsShaped};
+ghost use Rattle.wit_adding.specs.Cause.{IsCause};
+ghost use Rattle.wit_link.specs.Appending.{IsAdded, addition};
+ghost use Rattle.wit_placing.specs.Grown.{cut_at};
+ghost use Rattle.wit_questions.specs.ValidBits.{AreValidBits, TellValidBits};
+ghost use Rattle.wit_resolve_graph.specs.Kept.{AreKept};
+
+use std::alloc::{AllocError, Global};
+use wit_graph::{Elaborator, Features, Graph, ResolveResult};
+use wit_items::{Items, PackageId, TryClone, UnresolvedPackage};
+use wit_link::append_with;
+use wit_placing::Mark;
+use wit_questions::add_valid_bits;
+
+/// Which interfaces of a graph use which, and of which of its types all bits are valid: so a push costs what it adds,
+/// and what is asked of a type's bits no memory.
+pub(crate) struct Kept {
+    pub(crate) elaborator: Elaborator,
+    pub(crate) valid_bits: Items<bool>,
+}
+
+impl Kept {
+    /// What is kept beside an empty graph. It takes no memory.
+    pub(crate) fn empty(alloc: Global) -> Kept
+        ensures uses { result.elaborator ≡ [] }
+        ensures bits { result.valid_bits ≡ [] }
+    {
+        Kept {
+            elaborator: Elaborator::empty(alloc),
+            valid_bits: Items::new(alloc),
+        }
+    }
+
+    /// Adds the flags of the types that came behind those that have one. Where there is no memory, the graph is cut
+    /// back to what was marked, and the rows to so many.
+    pub(crate) fn follow(
+        &mut self,
+        alloc: Global,
+        graph: &mut Graph,
+        mark: Mark,
+        rows: usize,
+    ) -> Result<(), AllocError>
+        requires first { length self.old.valid_bits ≤ length graph.old.types }
+        requires known { AreValidBits graph.old.types self.old.valid_bits }
+        ensures ok { OnOk result ((graph.new ≡ graph.old) × ((self.new.elaborator ≡ self.old.elaborator) × TellValidBits graph.new.types self.new.valid_bits)) }
+        ensures err { OnErr result ((graph.new ≡ cut_at mark graph.old) × ((self.new.elaborator ≡ take rows self.old.elaborator) × (self.new.valid_bits ≡ self.old.valid_bits))) }
+    {
+        let added = add_valid_bits(alloc, &mut self.valid_bits, graph.types.as_slice());
+        if added.is_err() {
+            mark.cut(graph);
+            self.elaborator.cut(rows);
+        }
+        added
+    }
+}
+
+impl TryClone for Kept {
+    fn try_clone(&self) -> Result<Kept, AllocError> {
+        let elaborator = self.elaborator.try_clone()?;
+        let valid_bits = copied(self.valid_bits.allocator(), self.valid_bits.as_slice())?;
+        Ok(Kept {
+            elaborator,
+            valid_bits,
+        })
+    }
+}
+
+fn copied(alloc: Global, flags: &[bool]) -> Result<Items<bool>, AllocError>
+    ensures { IfOk result (λ copy. copy ≡ flags.now) }
+{
+    let mut copy = Items::new(alloc);
+    for flag in flags {
+        copy.push(*flag)?;
+    }
+    Ok(copy)
+}
+
+/// As the derived one.
+impl Drop for Kept {
+    fn drop(self) {
+        let Kept {
+            elaborator,
+            valid_bits,
+        } = self;
+        drop(elaborator);
+        drop(valid_bits);
+    }
+}
+
+/// Adds a package to a graph and to what is kept beside it: see `wit_link::append_with`.
+pub(crate) fn append_kept(
+    alloc: Global,
+    graph: &mut Graph,
+    kept: &mut Kept,
+    features: &Features,
+    package: UnresolvedPackage,
+    span_offset: u32,
+) -> ResolveResult<PackageId>
+    requires shaped { IsShaped «package» }
+    requires kept { AreKept graph.old kept.old }
+    ensures ok { IfOk result (λ id. IsAdded (addition features.now graph.old «package» span_offset) graph.new id) }
+    ensures kept { AreKept graph.new kept.new }
+    ensures err { OnErr result (graph.new ≡ graph.old) }
+    ensures cause { IfErr result (λ kind. (kind ≡ OutOfMemory) ⊎ IsCause (addition features.now graph.old «package» span_offset) kind) }
+    ensures refuses { (kind : ResolveErrorKind) → IsCause (addition features.now graph.old «package» span_offset) kind → OnOk result ⊥ }
+{
+    let mark = Mark::of(graph);
+    let rows = kept.elaborator.interfaces();
+    let id = append_with(
+        alloc,
+        graph,
+        &mut kept.elaborator,
+        features,
+        package,
+        span_offset,
+    )?;
+    kept.follow(alloc, graph, mark, rows)?;
+    Ok(id)
+}
