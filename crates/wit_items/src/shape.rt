@@ -1,9 +1,11 @@
 //! The shape of unresolved packages, which every reader of WIT hands in.
 ghost use Rattle.std.specs.Prelude.{◌≡◌, ◌↔◌, None, IfOk, IsTrue};
 ghost use Rattle.wit_items.specs.Each.{Each};
-ghost use Rattle.wit_items.specs.Shape.{IsGroupShaped, IsShaped, IsUnplaced};
+ghost use Rattle.wit_items.specs.Shape.{HasForeign, HasNames, HasUnknown, IsGroupShaped, IsShaped, IsUnplaced};
+ghost use Rattle.wit_items.specs.Uses.{uses_of};
 ghost use Rattle.wit_items.specs.declared.interface.Interface.{Interface};
 ghost use Rattle.wit_items.specs.declared.world.World.{World};
+ghost use Rattle.wit_relations.specs.Relation.{IsAcyclic};
 
 pub mod foreign;
 pub mod keys;
@@ -39,15 +41,7 @@ impl UnresolvedPackage {
         if !is_unplaced(self) {
             return Ok(false);
         }
-        let interfaces = foreign::foreign_interfaces(alloc, &self.foreign_deps)?;
-        let worlds = foreign::foreign_worlds(alloc, &self.foreign_deps)?;
-        if !foreign::has_foreign(alloc, self, interfaces.as_slice(), worlds.as_slice())? {
-            return Ok(false);
-        }
-        if !unknown::has_unknown(self, interfaces.len()) {
-            return Ok(false);
-        }
-        if !names::has_names(alloc, self, interfaces.len(), worlds.len())? {
+        if !knows_others(alloc, self)? {
             return Ok(false);
         }
         if !owners::has_owners(alloc, self)? {
@@ -56,15 +50,13 @@ impl UnresolvedPackage {
         if !references::has_references(alloc, self)? {
             return Ok(false);
         }
-        let shown = shown::shown_by_each(alloc, self.types.as_slice())?;
-        if !own::keeps_to_own(alloc, self, &shown)? {
+        if !own::keeps_to_own(alloc, self)? {
             return Ok(false);
         }
         if !worlds::has_worlds(alloc, self)? {
             return Ok(false);
         }
-        let uses = uses_of(alloc, self.types.as_slice(), self.interfaces.as_slice())?;
-        is_acyclic(alloc, uses.as_slice())
+        are_uses_acyclic(alloc, self)
     }
 }
 
@@ -89,6 +81,34 @@ fn are_shaped(alloc: Global, packages: &[UnresolvedPackage]) -> Result<bool, All
         }
     }
     Ok(true)
+}
+
+/// Whether what the package knows of other packages has its shape, and things are called as they
+/// should be.
+fn knows_others(alloc: Global, unresolved: &UnresolvedPackage) -> Result<bool, AllocError>
+    ensures { IfOk result (λ holds. IsTrue holds ↔ (HasForeign unresolved.now × HasUnknown unresolved.now × HasNames unresolved.now)) }
+{
+    let interfaces = foreign::foreign_interfaces(alloc, &unresolved.foreign_deps)?;
+    let worlds = foreign::foreign_worlds(alloc, &unresolved.foreign_deps)?;
+    if !foreign::has_foreign(alloc, unresolved, interfaces.as_slice(), worlds.as_slice())? {
+        return Ok(false);
+    }
+    if !unknown::has_unknown(unresolved, interfaces.len()) {
+        return Ok(false);
+    }
+    names::has_names(alloc, unresolved, interfaces.len(), worlds.len())
+}
+
+/// Whether no interface uses itself, through whatever others.
+fn are_uses_acyclic(alloc: Global, unresolved: &UnresolvedPackage) -> Result<bool, AllocError>
+    ensures { IfOk result (λ acyclic. IsTrue acyclic ↔ IsAcyclic (uses_of unresolved.now.types unresolved.now.interfaces)) }
+{
+    let uses = uses_of(
+        alloc,
+        unresolved.types.as_slice(),
+        unresolved.interfaces.as_slice(),
+    )?;
+    is_acyclic(alloc, uses.as_slice())
 }
 
 /// Whether nothing is said of the package that interfaces and worlds belong to.

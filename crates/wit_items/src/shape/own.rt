@@ -3,25 +3,39 @@ ghost use Rattle.std.specs.Prelude.{◌≡◌, ◌↔◌, IfOk, IsTrue};
 ghost use Rattle.wit_items.specs.Each.{Each, EachAt};
 ghost use Rattle.wit_items.specs.Entries.{EntriesUseOwn, ItemUsesOwn};
 ghost use Rattle.wit_items.specs.Ownership.{FunctionsUseOwn, IsOwn, RefersToOwn, UsesOwn, parts};
+ghost use Rattle.wit_items.specs.Reference.{type_references};
 ghost use Rattle.wit_items.specs.Shape.{KeepsToOwn};
 ghost use Rattle.wit_items.specs.Shown.{TellsEach};
 ghost use Rattle.wit_items.specs.declared.types.TypeOwner.TheVariants as owner;
 ghost use Rattle.wit_items.specs.declared.world.World.{World};
+ghost use Rattle.wit_relations.specs.Relation.{IsAcyclic};
 
 use crate::function::Function;
 use crate::ids::{InterfaceId, TypeId, WorldId};
 use crate::interface::Interface;
 use crate::reference::{function_references, referred};
-use crate::shape::shown::{Shown, is_own};
+use crate::shape::shown::{Shown, is_own, shown_by_each};
 use crate::types::{TypeDef, TypeDefKind, TypeOwner};
 use crate::unresolved::UnresolvedPackage;
 use crate::world::{World, WorldItem, WorldKey};
 use std::alloc::{AllocError, Global};
 use wit_values::{Items, Table};
 
-/// Whether types but aliases, and functions, refer to types of their owners alone, where it is known
-/// what each type shows.
+/// Whether types but aliases, and functions, refer to types of their owners alone, where no type
+/// refers to itself.
 pub(crate) fn keeps_to_own(
+    alloc: Global,
+    unresolved: &UnresolvedPackage,
+) -> Result<bool, AllocError>
+    requires { IsAcyclic (type_references unresolved.now.types) }
+    ensures { IfOk result (λ holds. IsTrue holds ↔ KeepsToOwn unresolved.now) }
+{
+    let shown = shown_by_each(alloc, unresolved.types.as_slice())?;
+    all_keep_to_own(alloc, unresolved, &shown)
+}
+
+/// The same, where it is known what each type shows.
+fn all_keep_to_own(
     alloc: Global,
     unresolved: &UnresolvedPackage,
     shown: &Items<Shown>,

@@ -2,11 +2,12 @@
 //!
 //! Where no type refers to itself, one pass over the types tells it of each, in an order in which each
 //! stands after those that it refers to.
-ghost use Rattle.std.specs.Prelude.{◌≡◌, ◌↔◌, ◌<◌, length, IfOk, IsTrue};
+ghost use Rattle.std.specs.Prelude.{◌≡◌, ◌↔◌, ◌<◌, ℕ, [], length, Contains, IfOk, IsTrue};
 ghost use Rattle.wit_items.specs.Ownership.{IsOwn, Shows};
 ghost use Rattle.wit_items.specs.Reference.{type_references};
 ghost use Rattle.wit_items.specs.Shown.{IsOnly, IsTold, Tells, TellsEach, joined};
 ghost use Rattle.wit_relations.specs.Relation.{IsAcyclic};
+ghost use Rattle.wit_relations.specs.Walks.{UsesFirst};
 
 use crate::ids::TypeId;
 use crate::reference::{referred, type_references};
@@ -28,14 +29,24 @@ pub fn shown_by_each(alloc: Global, types: &[TypeDef]) -> Result<Items<Shown>, A
     requires { IsAcyclic (type_references types.now) }
     ensures { IfOk result (λ shown. TellsEach types.now shown) }
 {
-    let references = type_references(alloc, types)?;
-    let listing = Listing::of_all(alloc, references.as_slice())?;
+    let listing = uses_first(alloc, types)?;
     let mut shown = Items::from_vec(vec![in alloc; Shown::Nothing; types.len()]?);
     for index in listing.order() {
         let told = shown_by(alloc, types, &shown, *index)?;
         shown.set(*index, told);
     }
     Ok(shown)
+}
+
+/// All types, each after those that it refers to.
+fn uses_first(alloc: Global, types: &[TypeDef]) -> Result<Listing, AllocError>
+    requires { IsAcyclic (type_references types.now) }
+    ensures nodes { IfOk result (λ l. l.nodes ≡ length types.now) }
+    ensures all { IfOk result (λ l. (i : ℕ) → i < length types.now → Contains l.order i) }
+    ensures uses_first { IfOk result (λ l. UsesFirst (type_references types.now) [] l.order) }
+{
+    let references = type_references(alloc, types)?;
+    Listing::of_all(alloc, references.as_slice())
 }
 
 /// What a type shows, where it is told of the types that it refers to.

@@ -12,7 +12,7 @@ use Rattle.wit_items.specs.Each.{SomeAt}
 use Rattle.wit_items.specs.EachFacts.{SomeAt-is, SomeAt-of}
 use Rattle.wit_items.specs.Ownership.{Shows}
 use Rattle.wit_items.specs.Reference.{referred, type_references}
-use Rattle.wit_items.specs.ReferenceFacts.{length-references, references_at}
+use Rattle.wit_items.specs.ReferenceFacts.{references_at}
 use Rattle.wit_items.specs.Shown.{IsTold, Tells, TellsEach}
 use Rattle.wit_items.specs.declared.shape.shown.Shown.{Shown}
 use Rattle.wit_items.specs.declared.types.TypeDef.{TypeDef}
@@ -71,15 +71,13 @@ record IsOrder (types : List TypeDef) (order : List ℕ) : Type 0 where
   uses_first : UsesFirst (type_references types) [] order
   whole : (i : ℕ) → i < length types → Contains order i
 
-order_from : (types : List TypeDef) (refs : List (List ℕ)) (listed : Listed) (items : List ℕ) → refs ≡ type_references types → listed.nodes ≡ length refs
-    → ((i : ℕ) → i < length refs → Contains listed.order i) → UsesFirst refs [] listed.order → All (λ i. i < listed.nodes) listed.order → items ≡ listed.order → IsOrder types items
-order_from types refs listed items is nodes whole first in_range same =
-    let many : length refs ≡ length types = ap length is ∙ length-references types in
-    record {
-      in_range = subst (λ (order : List ℕ). All (λ i. i < length types) order) (sym same) (λ k d within. let inside = in_range k d within in omega (arith, inside, nodes, many));
-      uses_first = subst (λ (order : List ℕ). UsesFirst (type_references types) [] order) (sym same) (subst (λ (rows : List (List ℕ)). UsesFirst rows [] listed.order) is first);
-      whole = λ i within. subst (λ (order : List ℕ). Contains order i) (sym same) (whole i (omega (arith, within, many)));
-    }
+order_from : (types : List TypeDef) (listed : Listed) (items : List ℕ) → listed.nodes ≡ length types → ((i : ℕ) → i < length types → Contains listed.order i)
+    → UsesFirst (type_references types) [] listed.order → All (λ i. i < listed.nodes) listed.order → items ≡ listed.order → IsOrder types items
+order_from types listed items many whole first in_range same = record {
+  in_range = subst (λ (order : List ℕ). All (λ i. i < length types) order) (sym same) (λ k d within. let inside = in_range k d within in omega (arith, inside, many));
+  uses_first = subst (λ (order : List ℕ). UsesFirst (type_references types) [] order) (sym same) first;
+  whole = λ i within. subst (λ (order : List ℕ). Contains order i) (sym same) (whole i within);
+}
 
 pub loop-index-init : goal.loop-index-init
 loop-index-init c = record { long = search rules; known = λ id has. absurd (Contains-nil has) }
@@ -89,8 +87,8 @@ shown_by-requires c =
     let types = c.args.types.now in
     let items = c.order-index-items.result.now in
     let place = c.loop-index.index-index in
-    let order = order_from types c.as_slice.result.now c.in_ok-listing.listing items (c.as_slice.ensures ∙ c.in_ok-references.ensures) c.in_ok-listing.ensures.nodes
-    c.in_ok-listing.ensures.all c.in_ok-listing.ensures.uses_first c.order-index-items.ensures.in_range c.order-index-items.ensures.order in
+    let order = order_from types c.in_ok-listing.listing items c.in_ok-listing.ensures.nodes c.in_ok-listing.ensures.all
+    c.in_ok-listing.ensures.uses_first c.order-index-items.ensures.in_range c.order-index-items.ensures.order in
     record {
       index = order.in_range place 0 c.loop-index-test.true;
       known = told_before types c.loop-index.shown items place (get_or items place 0) order.uses_first (slice_get-get_or items place 0 c.loop-index-test.true) c.loop-index.invariant.known;
@@ -100,8 +98,8 @@ pub set-requires : goal.set-requires
 set-requires c =
     let types = c.args.types.now in
     let items = c.order-index-items.result.now in
-    let order = order_from types c.as_slice.result.now c.in_ok-listing.listing items (c.as_slice.ensures ∙ c.in_ok-references.ensures) c.in_ok-listing.ensures.nodes
-    c.in_ok-listing.ensures.all c.in_ok-listing.ensures.uses_first c.order-index-items.ensures.in_range c.order-index-items.ensures.order in
+    let order = order_from types c.in_ok-listing.listing items c.in_ok-listing.ensures.nodes c.in_ok-listing.ensures.all
+    c.in_ok-listing.ensures.uses_first c.order-index-items.ensures.in_range c.order-index-items.ensures.order in
     let inside = order.in_range c.loop-index.index-index 0 c.loop-index-test.true in
     omega (arith, inside, c.loop-index.invariant.long)
 
@@ -111,8 +109,8 @@ loop-index-preserved c =
     let items = c.order-index-items.result.now in
     let place = c.loop-index.index-index in
     let index : ℕ = get_or items place 0 in
-    let order = order_from types c.as_slice.result.now c.in_ok-listing.listing items (c.as_slice.ensures ∙ c.in_ok-references.ensures) c.in_ok-listing.ensures.nodes
-    c.in_ok-listing.ensures.all c.in_ok-listing.ensures.uses_first c.order-index-items.ensures.in_range c.order-index-items.ensures.order in
+    let order = order_from types c.in_ok-listing.listing items c.in_ok-listing.ensures.nodes c.in_ok-listing.ensures.all
+    c.in_ok-listing.ensures.uses_first c.order-index-items.ensures.in_range c.order-index-items.ensures.order in
     let inside : index < length types = order.in_range place 0 c.loop-index-test.true in
     let long : length c.loop-index.shown ≡ length types = c.loop-index.invariant.long in
     record {
@@ -126,7 +124,7 @@ pub returns : goal.returns
 returns c =
     let types = c.args.types.now in
     let items = c.order-index-items.result.now in
-    let order = order_from types c.as_slice.result.now c.in_ok-listing.listing items (c.as_slice.ensures ∙ c.in_ok-references.ensures) c.in_ok-listing.ensures.nodes
-    c.in_ok-listing.ensures.all c.in_ok-listing.ensures.uses_first c.order-index-items.ensures.in_range c.order-index-items.ensures.order in
+    let order = order_from types c.in_ok-listing.listing items c.in_ok-listing.ensures.nodes c.in_ok-listing.ensures.all
+    c.in_ok-listing.ensures.uses_first c.order-index-items.ensures.in_range c.order-index-items.ensures.order in
     let all : take c.loop-index.index-index items ≡ items = grind (arith, common_steps) in
     all_told types c.loop-index.shown c.loop-index.invariant.long (λ id within. c.loop-index.invariant.known id (subst (λ (l : List ℕ). Contains l id) (sym all) (order.whole id within)))
