@@ -10,3 +10,4 @@ mod Rows
 mod Searching
 mod Tells
 mod Where
+mod Wanting

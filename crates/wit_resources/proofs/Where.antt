@@ -73,7 +73,7 @@ pub conj : (b c : Bool) → b ≡ true → b && c ≡ c
 conj true c h = refl
 conj false c h = cc
 
-disj : (b c : Bool) → b ≡ false → b && c ≡ false
+pub disj : (b c : Bool) → b ≡ false → b && c ≡ false
 disj true c h = cc
 disj false c h = refl
 
@@ -165,6 +165,15 @@ module _ (a : Addition) (shaped : IsShaped a.handed) where
   pub taken_is_active : (t t' : ℕ) → taken_type a t ≡ Some t' → type_is_active a.features a.handed.types t ≡ true
   taken_is_active t t' goes = some_active (type_is_active a.features a.handed.types t) (is_foreign_type a.handed t) (found_type a.graph a.handed t) (length a.graph.types + rank (own_type a) t) t' goes
 
+-- what an alias names is referred to
+target_referred : (k : TypeDefKind) (u : ℕ) → alias_target k ≡ Some u → Contains (referred k) u
+target_referred (kind.Type_ (type.Id v)) u is = let same : v ≡ u = cc in subst (λ (x : ℕ). Contains (v ∷ []) x) same (Contains-here v [])
+target_referred other u is = cc
+
+-- so it is earlier
+pub target_earlier : (a : Addition) → IsShaped a.handed → (t u : ℕ) (def : TypeDef) → slice_get a.handed.types t ≡ Some def → alias_target def.kind ≡ Some u → u < t
+target_earlier a shaped t u def at is = let place = place_of (referred def.kind) u (target_referred def.kind u is) in shaped.references.earlier t def at place.0 u place.1
+
 -- where it goes
 pub goes_there : (a : Addition) (t t' : ℕ) → taken_type a t ≡ Some t' → type_place a t ≡ t'
 goes_there a t t' goes = ap (λ (o : Option ℕ). unwrap_or o t) goes
@@ -228,15 +237,8 @@ module _ (a : Addition) (valid : IsValid a.graph) (shaped : IsShaped a.handed) (
       second true c h = cc
       second false c h = h
 
-  target_referred : (k : TypeDefKind) (u : ℕ) → alias_target k ≡ Some u → Contains (referred k) u
-  target_referred (kind.Type_ (type.Id v)) u is = let same : v ≡ u = cc in subst (λ (x : ℕ). Contains (v ∷ []) x) same (Contains-here v [])
-  target_referred other u is = cc
-
-  -- what an alias names is earlier and takes part
-  pub target_earlier : (t u : ℕ) (def : TypeDef) → slice_get a.handed.types t ≡ Some def → alias_target def.kind ≡ Some u → u < t
-  target_earlier t u def at is = let place = place_of (referred def.kind) u (target_referred def.kind u is) in shaped.references.earlier t def at place.0 u place.1
-
-  pub target_active : (t u : ℕ) (def : TypeDef) → slice_get a.handed.types t ≡ Some def → type_is_active a.features a.handed.types t ≡ true → alias_target def.kind ≡ Some u → type_is_active a.features a.handed.types u ≡ true
+  -- what an alias names takes part
+  target_active : (t u : ℕ) (def : TypeDef) → slice_get a.handed.types t ≡ Some def → type_is_active a.features a.handed.types t ≡ true → alias_target def.kind ≡ Some u → type_is_active a.features a.handed.types u ≡ true
   target_active t u def at active is = let place = place_of (referred def.kind) u (target_referred def.kind u is) in references_kept a shaped image t def at active place.0 u place.1
 
   -- and goes to the graph, or before
@@ -267,7 +269,7 @@ module _ (a : Addition) (valid : IsValid a.graph) (shaped : IsShaped a.handed) (
   alias_before i k j new place at is =
       let from = behind k new at in
       let named = mapped_one (type_place a) (alias_target from.def.kind) j (sym (alias_image (plain_maps a) from.def.kind) ∙ (sym (ap (λ (d : TypeDef). alias_target d.kind) from.image_is) ∙ is)) in
-      let before = target_earlier from.t named.0 from.def from.is named.1 in
+      let before = target_earlier a shaped from.t named.0 from.def from.is named.1 in
       let active = target_active from.t named.0 from.def from.is (own_active from.t from.own) named.1 in
       let low = goes_before from.t named.0 from.own before active in
       let rank_is = from.place in

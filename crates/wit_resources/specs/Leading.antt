@@ -1,5 +1,7 @@
 -- Which types of a package lead to a resource where they go.
-use Rattle.std.specs.Prelude.{◌≡◌, ◌&&◌, ℕ, Bool, true, Some}
+use Rattle.std.specs.Prelude.{◌≡◌, ◌≤◌, ◌&&◌, ℕ, Bool, true, false, List, Some, length, slice_get, unwrap_or}
+use Rattle.wit_items.specs.Uses.{alias_target}
+use Rattle.wit_items.specs.declared.types.TypeDef.{TypeDef}
 use Rattle.wit_adding.specs.Addition.{Addition, plain_types, type_place}
 use Rattle.wit_adding.specs.Gates.{type_is_active}
 use Rattle.wit_adding.specs.Lookup.{found_type}
@@ -8,6 +10,25 @@ use Rattle.wit_adding.specs.Resources.{leads_to_resource}
 -- type t takes part, and leads to a resource where it goes
 abbrev pub leads_there : Addition → ℕ → Bool
 leads_there a t = type_is_active a.features a.handed.types t && leads_to_resource (plain_types a) (type_place a t)
+
+-- is type t wanted, and does it so?
+abbrev pub leads_if_wanted : Addition → List Bool → ℕ → Bool
+leads_if_wanted a wanted t = unwrap_or (slice_get wanted t) false && leads_there a t
+
+-- if type t is an alias, it is known of what it names
+abbrev pub TargetIsKnown : Addition → List Bool → ℕ → Type 0
+TargetIsKnown a known t = (u : ℕ) (def : TypeDef) → slice_get a.handed.types t ≡ Some def → alias_target def.kind ≡ Some u → slice_get known u ≡ Some (leads_there a u)
+
+-- from type n on, what an alias that is wanted names is wanted too
+abbrev pub WantsTargets : List TypeDef → ℕ → List Bool → Type 0
+WantsTargets types n wanted =
+    (t u : ℕ) (def : TypeDef) → n ≤ t → slice_get wanted t ≡ Some true → slice_get types t ≡ Some def → alias_target def.kind ≡ Some u → slice_get wanted u ≡ Some true
+
+-- the types that are wanted where these are asked for: these, and from type n on what aliases that are wanted name
+pub record AreWanted (types : List TypeDef) (asked : List Bool) (n : ℕ) (wanted : List Bool) : Type 0 where
+  pub long : length wanted ≡ length types
+  pub all : (t : ℕ) → slice_get asked t ≡ Some true → slice_get wanted t ≡ Some true
+  pub targets : WantsTargets types n wanted
 
 -- if type t takes part and is found in the graph, it leads to a resource there
 abbrev pub LeadsWhereFound : Addition → ℕ → Type 0

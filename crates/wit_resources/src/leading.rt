@@ -8,7 +8,7 @@ ghost use Rattle.wit_graph.specs.Valid.{IsValid};
 ghost use Rattle.wit_adding.specs.Adding.{addition_of, places_of};
 ghost use Rattle.wit_adding.specs.Reasons.{HasImage};
 ghost use Rattle.wit_adding.specs.Resources.{is_resource_kind, leads_to_resource};
-ghost use Rattle.wit_resources.specs.Leading.{leads_there};
+ghost use Rattle.wit_resources.specs.Leading.{AreWanted, TargetIsKnown, WantsTargets, leads_if_wanted, leads_there};
 
 use std::alloc::{AllocError, Global};
 use wit_adding::{Adding, Places};
@@ -33,33 +33,59 @@ pub(crate) fn leads_to_resource(types: &[TypeDef], id: TypeId) -> bool
     is_resource(&types[place].kind)
 }
 
-/// For each type of the package, whether it takes part and leads to a resource where it goes.
+/// The types of which it has to be known whether they lead to a resource, so that it is known of some: with each
+/// alias the type that it names. That is an earlier one, so one pass from the last type to the first is enough.
+pub(crate) fn wanted(
+    alloc: Global,
+    adding: &Adding<'_>,
+    asked: &Items<bool>,
+) -> Result<Items<bool>, AllocError>
+    requires shaped { IsShaped adding.now.handed.now }
+    requires long { length asked.now ≡ length adding.now.handed.now.types }
+    ensures { IfOk result (AreWanted adding.now.handed.now.types asked.now 0) }
+{
+    let mut wanted = Items::from_vec(asked.as_slice().to_vec(alloc)?);
+    for place in (0..adding.handed.types.len()).rev() {
+        if *wanted.at(place) {
+            if let Some(target) = alias_target(&adding.handed.types.at(place).kind) {
+                wanted.set(target.index(), true);
+            }
+        }
+    }
+    Ok(wanted)
+}
+
+/// For each type of the package, whether it is wanted, takes part and leads to a resource where it goes. What isn't
+/// wanted isn't looked at.
 pub(crate) fn leading(
     alloc: Global,
     adding: &Adding<'_>,
     places: &Places,
+    wanted: &Items<bool>,
 ) -> Result<Items<bool>, AllocError>
     requires shaped { IsShaped adding.now.handed.now }
     requires valid { IsValid adding.now.graph.now }
     requires places { places.now ≡ places_of (addition_of adding.now) }
     requires image { HasImage (addition_of adding.now) }
-    ensures { IfOk result (λ leading. leading ≡ map (leads_there (addition_of adding.now)) (range_with_len 0 (length adding.now.handed.now.types))) }
+    requires long { length wanted.now ≡ length adding.now.handed.now.types }
+    requires closed { WantsTargets adding.now.handed.now.types 0 wanted.now }
+    ensures { IfOk result (λ leading. leading ≡ map (leads_if_wanted (addition_of adding.now) wanted.now) (range_with_len 0 (length adding.now.handed.now.types))) }
 {
     let mut leading = Items::new(alloc);
     for place in 0..adding.handed.types.len() {
-        leading.push(leads_there(adding, places, &leading, place))?;
+        leading.push(*wanted.at(place) && leads_there(adding, places, &leading, place))?;
     }
     Ok(leading)
 }
 
-/// The same of one type, where it is known of the earlier ones: an own type refers to earlier ones alone.
+/// The same of one type that is wanted, where it is known of what it names as an alias.
 fn leads_there(adding: &Adding<'_>, places: &Places, earlier: &Items<bool>, place: usize) -> bool
     requires shaped { IsShaped adding.now.handed.now }
     requires valid { IsValid adding.now.graph.now }
     requires places { places.now ≡ places_of (addition_of adding.now) }
     requires image { HasImage (addition_of adding.now) }
     requires there { place < length adding.now.handed.now.types }
-    requires earlier { earlier.now ≡ map (leads_there (addition_of adding.now)) (range_with_len 0 place) }
+    requires earlier { TargetIsKnown (addition_of adding.now) earlier.now place }
     ensures { result ≡ leads_there (addition_of adding.now) place }
 {
     let Some(id) = *places.types.at(place) else {

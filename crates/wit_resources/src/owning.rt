@@ -9,14 +9,15 @@ ghost use Rattle.wit_adding.specs.Reasons.{HasImage};
 ghost use Rattle.wit_adding.specs.Resources.{own_of};
 
 use crate::asked::asked;
-use crate::leading::leading;
+use crate::leading::{leading, wanted};
 use std::alloc::{AllocError, Global};
 use wit_adding::{Activity, Adding, Places, Values};
 use wit_items::{Docs, Handle, Items, Span, Stability, TypeDef, TypeDefKind, TypeId, TypeOwner};
 
 /// Where types go at value positions, and the `own`s that come for that.
 ///
-/// It takes a step for each part of the package, and for each alias on the way from a type of another package.
+/// It takes a step for each part of the package, and for each alias on the way from a type of another package that
+/// a value asks for, itself or through aliases of the package.
 pub fn values(
     alloc: Global,
     adding: &Adding<'_>,
@@ -64,7 +65,8 @@ fn needed(
     ensures { IfOk result (λ needed. needed ≡ map (needs_own (addition_of adding.now)) (range_with_len 0 (length adding.now.handed.now.types))) }
 {
     let asked = asked(alloc, adding, activity)?;
-    let leading = leading(alloc, adding, places)?;
+    let wanted = wanted(alloc, adding, &asked)?;
+    let leading = leading(alloc, adding, places, &wanted)?;
     let mut needed = Items::new(alloc);
     for place in 0..asked.len() {
         needed.push(*asked.at(place) && *leading.at(place))?;

@@ -1,16 +1,16 @@
-use Rattle.std.proofs.Common.{◌≡◌, ◌∙◌, ◌<◌, false, ℕ, None, Some, List, length, slice_get, ap, sym, subst, arith}
+use Rattle.std.proofs.Common.{◌≡◌, ◌∙◌, ◌<◌, false, ℕ, None, Some, List, length, ap, sym, subst, arith}
 use Rattle.std.proofs.lemmas.Bool.{le-ltb, lt-ltb}
-use Rattle.std.proofs.lemmas.List.FromFn.{length-map-range_with_len}
+use Rattle.std.proofs.lemmas.Option.{slice_get_within}
 use Rattle.wit_items.specs.Uses.{alias_target}
 use Rattle.wit_items.specs.declared.types.TypeDef.{TypeDef}
+use Rattle.wit_growth.specs.ListFacts.{same_at}
 use Rattle.wit_adding.specs.Adding.{addition_of}
 use Rattle.wit_adding.specs.Addition.{Addition, taken_type}
 use Rattle.wit_adding.specs.FlagFacts.{place-inside, place-is}
 use Rattle.wit_adding.specs.Lookup.{is_foreign_type}
-use Rattle.wit_adding.specs.RangeFacts.{range-read}
 use Rattle.wit_adding.specs.Resources.{leads_to_resource}
 use Rattle.wit_resources.specs.Leading.{leads_there}
-use Rattle.wit_resources.proofs.Where.{foreign_back, found_there, leads_alias, leads_foreign, leads_left, leads_own, target_earlier}
+use Rattle.wit_resources.proofs.Where.{foreign_back, found_there, leads_alias, leads_foreign, leads_left, leads_own}
 use Rattle.wit_resources.proofs.leading.leads_there.Goals as goal
 
 pub at-requires : goal.at-requires
@@ -39,12 +39,10 @@ returns-then-place-len c =
 
 pub at-requires-in-Some-alias_target : goal.at-requires-in-Some-alias_target
 at-requires-in-Some-alias_target c =
-    let a : Addition = addition_of c.args.adding.now in
     let target : alias_target c.at-2.result.now.kind ≡ Some c.in-Some-alias_target.target = sym c.alias_target.ensures ∙ c.in-Some-alias_target.is in
-    let earlier = target_earlier a c.requires.valid c.requires.shaped c.requires.image c.args.place c.in-Some-alias_target.target c.at-2.result.now c.at-2.ensures target in
-    let long = ap length c.requires.earlier ∙ length-map-range_with_len (leads_there a) 0 c.args.place in
-    let index : c.index.result ≡ c.in-Some-alias_target.target = c.index.ensures in
-    subst (λ (k : ℕ). k < length c.args.earlier.now) (sym index) (subst (λ (n : ℕ). c.in-Some-alias_target.target < n) (sym long) earlier)
+    let known = c.requires.earlier c.in-Some-alias_target.target c.at-2.result.now c.at-2.ensures target in
+    let within = slice_get_within c.args.earlier.now c.in-Some-alias_target.target (leads_there (addition_of c.args.adding.now) c.in-Some-alias_target.target) known in
+    subst (λ (k : ℕ). k < length c.args.earlier.now) (sym c.index.ensures) within
 
 pub returns-in-Some-alias_target : goal.returns-in-Some-alias_target
 returns-in-Some-alias_target c =
@@ -52,9 +50,8 @@ returns-in-Some-alias_target c =
     let target : alias_target c.at-2.result.now.kind ≡ Some c.in-Some-alias_target.target = sym c.alias_target.ensures ∙ c.in-Some-alias_target.is in
     let taken : taken_type a c.args.place ≡ Some c.in-Some.id = sym (place-is a c.args.places.now c.requires.places c.args.place c.at.result.now c.at.ensures) ∙ c.in-Some.is in
     let its : is_foreign_type a.handed c.args.place ≡ false = le-ltb c.args.place (length a.handed.unknown_type_spans) (let past = c.if-place-len.false in let len = c.len.ensures in omega arith) in
-    let at : slice_get c.args.earlier.now c.in-Some-alias_target.target ≡ Some c.at-in-Some-alias_target.result.now =
-    subst (λ (k : ℕ). slice_get c.args.earlier.now k ≡ Some c.at-in-Some-alias_target.result.now) c.index.ensures c.at-in-Some-alias_target.ensures in
-    range-read (leads_there a) c.args.place c.in-Some-alias_target.target c.args.earlier.now c.at-in-Some-alias_target.result.now c.requires.earlier at
+    let known = c.requires.earlier c.in-Some-alias_target.target c.at-2.result.now c.at-2.ensures target in
+    same_at c.args.earlier.now c.index.result c.in-Some-alias_target.target c.at-in-Some-alias_target.result.now (leads_there a c.in-Some-alias_target.target) c.index.ensures c.at-in-Some-alias_target.ensures known
     ∙ sym (leads_alias a c.requires.valid c.requires.shaped c.requires.image c.args.place c.in-Some.id c.at-2.result.now c.at-2.ensures its taken c.in-Some-alias_target.target target)
 
 pub returns-in-None : goal.returns-in-None
