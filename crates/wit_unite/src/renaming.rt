@@ -1,6 +1,8 @@
 //! The new name of a turned world, and the table of its package.
-ghost use Rattle.std.specs.Prelude.{◌≡◌, ◌≢◌, ◌↔◌, ◌+◌, IfOk, IsTrue, filter, nat_eq, not, string_bytes};
+ghost use Rattle.std.specs.Prelude.{◌≡◌, ◌≢◌, ◌↔◌, ◌+◌, ◌++◌, ◌∷◌, [], IfOk, IsTrue, None, OnOk, filter, nat_eq, not, string_bytes};
+ghost use Rattle.std.specs.Map.{lookup};
 ghost use Rattle.std.specs.Option.{option_map};
+ghost use Rattle.std.specs.Str.{bytes_eq};
 ghost use Rattle.wit_unite.specs.TurnCause.{IsTakenIn};
 ghost use Rattle.wit_unite.specs.Turned.{new_name, put_last};
 
@@ -41,6 +43,19 @@ pub(crate) fn is_taken(home: &Package, world: WorldId, name: &str) -> bool
     }
 }
 
+/// Adds a world at the end of a table, under a name that is new there.
+fn push_world(
+    alloc: Global,
+    table: &mut Names<WorldId>,
+    name: &str,
+    world: WorldId,
+) -> Result<(), AllocError>
+    requires { lookup (bytes_eq name.now) table.old ≡ None }
+    ensures { OnOk result (table.new ≡ table.old ++ (name.now, world) ∷ []) }
+{
+    table.push(String::from_str(alloc, name)?, world)
+}
+
 /// Copies of the other worlds of a table.
 fn others(
     alloc: Global,
@@ -53,7 +68,7 @@ fn others(
     for index in 0..table.len() {
         let (name, id) = table.entry_at(index);
         if is_other(*id, world) {
-            others.push(String::from_str(alloc, name)?, *id)?;
+            push_world(alloc, &mut others, name, *id)?;
         }
     }
     Ok(others)
@@ -70,6 +85,6 @@ pub(crate) fn with_last(
     ensures { IfOk result (λ table. table ≡ put_last home.now.worlds world name.now) }
 {
     let mut table = others(alloc, &home.worlds, world)?;
-    table.push(String::from_str(alloc, name.as_str())?, world)?;
+    push_world(alloc, &mut table, name.as_str(), world)?;
     Ok(table)
 }

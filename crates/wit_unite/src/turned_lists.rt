@@ -1,6 +1,7 @@
 //! The lists of a turned world, before they are elaborated.
-ghost use Rattle.std.specs.Prelude.{◌≡◌, ◌++◌, ◌⊎◌, [], false, true, IfErr, IfNone, IfOk, IfSome, None, OnOk, Contains, List, ℕ, length, not, if◌then◌else◌};
-ghost use Rattle.std.specs.Map.{keys_of};
+ghost use Rattle.std.specs.Prelude.{◌≡◌, ◌++◌, ◌∷◌, ◌⊎◌, [], false, true, IfErr, IfNone, IfOk, IfSome, None, OnOk, Contains, List, ℕ, length, not, if◌then◌else◌};
+ghost use Rattle.std.specs.Map.{keys_of, lookup};
+ghost use Rattle.wit_items.specs.contracts.world.WorldKeyPartialEq.TheImpl.{eq-value};
 ghost use Rattle.wit_graph.specs.declared.cause.Cause.TheVariants as cause;
 ghost use Rattle.wit_graph.specs.declared.error_kind.ResolveErrorKind.TheVariants.{OutOfMemory, Semantic};
 ghost use Rattle.wit_items.specs.declared.world.WorldKey.{WorldKey};
@@ -11,7 +12,8 @@ ghost use Rattle.wit_unite.specs.Turned.{AreUnderLabels, answered, is_type, type
 use crate::refusal::{label_clash, type_exported};
 use std::alloc::{AllocError, Global};
 use wit_graph::{Lists, ResolveResult};
-use wit_items::{Items, Table, Text, TryClone, World, WorldItem, WorldKey};
+use wit_items::{Items, Table, Text, World, WorldItem, WorldKey};
+use wit_values::try_clone_two;
 
 /// Whether an item is a type.
 fn holds_type(item: &WorldItem) -> bool
@@ -22,6 +24,19 @@ fn holds_type(item: &WorldItem) -> bool
         WorldItem::Function(_) => false,
         WorldItem::Type_ { .. } => true,
     }
+}
+
+/// Adds a copy of an entry at the end, whose key is new.
+fn push_copy(
+    entries: &mut Table<WorldKey, WorldItem>,
+    key: &WorldKey,
+    item: &WorldItem,
+) -> Result<(), AllocError>
+    requires { lookup (eq-value.it key.now) entries.old ≡ None }
+    ensures { OnOk result (entries.new ≡ entries.old ++ (key.now, item.now) ∷ []) }
+{
+    let (key, item) = try_clone_two(key, item)?;
+    entries.push(key, item)
 }
 
 /// Copies of the types among some entries.
@@ -35,7 +50,7 @@ fn types_of(
     for index in 0..entries.len() {
         let (key, item) = entries.entry_at(index);
         if holds_type(item) {
-            types.push(key.try_clone()?, item.try_clone()?)?;
+            push_copy(&mut types, key, item)?;
         }
     }
     Ok(types)
@@ -73,7 +88,7 @@ fn add_copies(
 {
     for index in 0..more.len() {
         let (key, item) = more.entry_at(index);
-        entries.push(key.try_clone()?, item.try_clone()?)?;
+        push_copy(entries, key, item)?;
     }
     Ok(())
 }
@@ -121,7 +136,7 @@ fn with_answer(
     for index in 0..entries.len() {
         let (key, item) = entries.entry_at(index);
         if is_answer(answer, *answers.at(index)) {
-            table.push(key.try_clone()?, item.try_clone()?)?;
+            push_copy(&mut table, key, item)?;
         }
     }
     Ok(table)

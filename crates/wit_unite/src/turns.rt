@@ -129,9 +129,9 @@ fn turn(
 {
     let current = graph.worlds.at(world.index());
     let home = home_of(current);
-    let table = with_last(alloc, graph.packages.at(home.index()), world, &name)?;
     let listed = with_lists(current, name, lists)?;
     let turned = elaborated(alloc, graph, listed)?;
+    let table = with_last(alloc, graph.packages.at(home.index()), world, &turned.name)?;
     put(graph, world, turned, home, table);
     Ok(())
 }

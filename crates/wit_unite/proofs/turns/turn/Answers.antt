@@ -1,4 +1,4 @@
-use Rattle.std.proofs.Common.{◌≡◌, ◌⊎◌, ℕ, Some, slice_get, sym, subst}
+use Rattle.std.proofs.Common.{◌≡◌, ◌∙◌, ◌⊎◌, ℕ, Some, slice_get, sym, ap, subst}
 use Rattle.wit_items.specs.declared.world.World.{World}
 use Rattle.wit_graph.specs.AnswerFacts.{told_err}
 use Rattle.wit_graph.specs.Elaboration.{IsConflictError, graph_uses}
@@ -6,7 +6,7 @@ use Rattle.wit_graph.specs.Imported.{HasConflict}
 use Rattle.wit_graph.specs.declared.error_kind.ResolveErrorKind.{ResolveErrorKind}
 use Rattle.wit_graph.specs.declared.error_kind.ResolveErrorKind.TheVariants.{OutOfMemory}
 use Rattle.wit_unite.proofs.TurnSteps.{conflict_told, within_of}
-use Rattle.wit_unite.specs.TurnCause.{IsInConflictAt}
+use Rattle.wit_unite.specs.TurnCause.{IsInConflictAt, IsTakenIn}
 use Rattle.wit_unite.specs.Turned.{Turn}
 use Rattle.wit_unite.proofs.turns.turn.Goals as goal
 
@@ -15,7 +15,8 @@ with_last-requires c =
     λ taken.
     let there : slice_get c.args.graph.now.worlds c.args.world ≡ Some c.at-current.result.now = subst (λ (i : ℕ). slice_get c.args.graph.now.worlds i ≡ Some c.at-current.result.now) c.index.ensures c.at-current.ensures in
     let at : slice_get c.args.graph.now.packages c.home_of-home.result ≡ Some c.at.result.now = subst (λ (i : ℕ). slice_get c.args.graph.now.packages i ≡ Some c.at.result.now) c.index-2.ensures c.at.ensures in
-    c.requires.free c.at-current.result.now c.at.result.now there (c.home_of-home.result, c.home_of-home.ensures, at, taken)
+    let named : c.in_ok-turned.turned.name ≡ c.args.name = ap (λ (x : World). x.name) c.in_ok-turned.ensures.ok ∙ ap (λ (x : World). x.name) c.in_ok-listed.ensures in
+    c.requires.free c.at-current.result.now c.at.result.now there (c.home_of-home.result, c.home_of-home.ensures, at, subst (IsTakenIn c.at.result.now c.args.world) named taken)
 
 pub returns-in_err-turned-clause-cause : goal.returns-in_err-turned-clause-cause
 returns-in_err-turned-clause-cause c =
