@@ -1,7 +1,7 @@
 -- A world of a graph that is included in one that comes next, and why that is refused; all includes of a world, and the
 -- world finished. What an include makes is `included`.
 -- Source: `resolve_include` and `process_world_includes` of wit-parser 0.263.0.
-use Rattle.std.specs.Prelude.{◌≡◌, ◌<◌, ℕ, List, fold, length, map, take, slice_get, Some}
+use Rattle.std.specs.Prelude.{◌≡◌, ◌<◌, ℕ, Bool, List, fold, length, map, take, slice_get, Some}
 use Rattle.std.specs.List.{AllByRecursion}
 use Rattle.wit_items.specs.Entries.{Entry}
 use Rattle.wit_items.specs.declared.stability.Stability.{Stability}
@@ -13,11 +13,14 @@ use Rattle.wit_graph.specs.declared.cause.Cause.TheVariants as cause
 use Rattle.wit_graph.specs.declared.error_kind.ResolveErrorKind.{ResolveErrorKind}
 use Rattle.wit_graph.specs.declared.error_kind.ResolveErrorKind.TheVariants.{ItemShadowing, Semantic, StabilityMismatch}
 use Rattle.wit_graph.specs.declared.graph.Graph.{Graph}
+use Rattle.wit_growth.specs.Image.{entry_image}
 use Rattle.wit_adding.specs.CauseText.{rename_text}
-use Rattle.wit_adding.specs.Include.{Begun, Lists, include_stability, included, is_other_package, lists_of}
+use Rattle.wit_adding.specs.Include.{Begun, Lists, include_stability, included, is_other_package, joined, lists_of}
 use Rattle.wit_adding.specs.WorldReasons.{Disagree, HasStability, IsListCalled, IsShadowed, renamed_key}
 use Rattle.wit_adding_laws.specs.StageFacts.{CanFinishBegun, CanInclude, IsOnItsWay}
 use Rattle.wit_finishing.specs.Finished.{CanFinish, IsFinishCause, with_finished}
+use Rattle.wit_copying.specs.Copied.{maps_of}
+use Rattle.wit_copying.specs.declared.copies.Copies.{Copies}
 use Rattle.wit_joining.specs.Renamed.{IsFirstUnmatched}
 
 -- ---- one include
@@ -25,6 +28,14 @@ use Rattle.wit_joining.specs.Renamed.{IsFirstUnmatched}
 -- what is begun, with an include more, where the world that includes comes next in package `home`
 abbrev pub with_one : ℕ → Begun → WorldInclude → Begun
 with_one home b include = included home (length b.graph.worlds) include.names include.id b
+
+-- the copies of entries
+abbrev pub copied_entries : Copies → List Entry → List Entry
+copied_entries copies entries = map (entry_image (maps_of copies) copies.from) entries
+
+-- a world with entries joined to its lists
+abbrev pub with_joined : Bool → World → List Entry → List Entry → World
+with_joined other world imports exports = record world { imports = joined other world.imports imports; exports = joined other world.exports exports }
 
 -- a label that it brings is there
 pub record IsTaken (b : Begun) (include : WorldInclude) (old : World) (word name : List ℕ) : Type 0 where

@@ -1,15 +1,15 @@
 //! A world of a graph is included in one that comes next.
 ghost use Rattle.std.specs.Prelude.{◌≡◌, ◌⊎◌, ◌<◌, IfErr, IfOk, OnOk, Some, codes, length, slice_get};
-ghost use Rattle.wit_adding.specs.Include.{joined, lists_of};
+ghost use Rattle.wit_adding.specs.Include.{is_other_package, lists_of};
 ghost use Rattle.wit_graph.specs.declared.error_kind.ResolveErrorKind.TheVariants.{OutOfMemory};
-ghost use Rattle.wit_including.specs.Included.{CanBeIncluded, HaveOwnKeys, IncludeIsFine, IsIncludeCause, IsIncluded, before_includes, with_lists, with_one};
+ghost use Rattle.wit_including.specs.Included.{CanBeIncluded, HaveOwnKeys, IncludeIsFine, IsIncludeCause, IsIncluded, before_includes, copied_entries, with_joined, with_lists, with_one};
 ghost use Rattle.wit_items.specs.declared.world.World.{World};
 ghost use Rattle.wit_joining.specs.Joined.{CanJoin, ComeOnce, IsJoinCause};
 ghost use Rattle.wit_placing.specs.Grown.{Grown};
 
 use std::alloc::Global;
 use std::mem;
-use wit_copying::add_copies;
+use wit_copying::{Copies, add_copies};
 use wit_graph::{Graph, ResolveResult};
 use wit_items::{Items, PackageId, Span, Table, World, WorldId, WorldInclude, WorldItem, WorldKey};
 use wit_joining::{check_names, join};
@@ -40,10 +40,29 @@ pub fn include(
     check_names(alloc, include.span, &include.names, included)?;
     let copies = add_copies(alloc, graph, include.id, &include.names, into, home)?;
     let included = graph.worlds.at(include.id.index());
+    join_copies(alloc, &copies, included, include.span, world, home)
+}
+
+/// A world with copies of the entries of an included one joined to its lists.
+fn join_copies(
+    alloc: Global,
+    copies: &Copies<'_>,
+    included: &World,
+    span: Span,
+    world: World,
+    home: PackageId,
+) -> ResolveResult<World>
+    requires imports { ComeOnce (copied_entries copies.now included.now.imports) }
+    requires exports { ComeOnce (copied_entries copies.now included.now.exports) }
+    ensures ok { IfOk result (λ new. new ≡ with_joined (is_other_package included.now.package home) world (copied_entries copies.now included.now.imports) (copied_entries copies.now included.now.exports)) }
+    ensures imports { OnOk result (CanJoin (is_other_package included.now.package home) world.imports (copied_entries copies.now included.now.imports)) }
+    ensures exports { OnOk result (CanJoin (is_other_package included.now.package home) world.exports (copied_entries copies.now included.now.exports)) }
+    ensures cause { IfErr result (λ kind. (kind ≡ OutOfMemory) ⊎ (IsJoinCause (is_other_package included.now.package home) span (codes "import") world.imports (copied_entries copies.now included.now.imports) kind ⊎ IsJoinCause (is_other_package included.now.package home) span (codes "export") world.exports (copied_entries copies.now included.now.exports) kind)) }
+{
     let imports = copies.entries(alloc, &included.imports)?;
     let exports = copies.entries(alloc, &included.exports)?;
     let other = included.package != Some(home);
-    join_lists(alloc, other, include.span, world, imports, exports)
+    join_lists(alloc, other, span, world, imports, exports)
 }
 
 /// A world with brought entries joined to its lists.
@@ -57,7 +76,7 @@ fn join_lists(
 ) -> ResolveResult<World>
     requires imports { ComeOnce imports }
     requires exports { ComeOnce exports }
-    ensures ok { IfOk result (λ new. new ≡ record world { imports = joined other world.imports imports; exports = joined other world.exports exports }) }
+    ensures ok { IfOk result (λ new. new ≡ with_joined other world imports exports) }
     ensures imports { OnOk result (CanJoin other world.imports imports) }
     ensures exports { OnOk result (CanJoin other world.exports exports) }
     ensures cause { IfErr result (λ kind. (kind ≡ OutOfMemory) ⊎ (IsJoinCause other span (codes "import") world.imports imports kind ⊎ IsJoinCause other span (codes "export") world.exports exports kind)) }

@@ -6,7 +6,7 @@ use Rattle.wit_graph.specs.AnswerFacts.{told_err}
 use Rattle.wit_graph.specs.declared.error_kind.ResolveErrorKind.{ResolveErrorKind}
 use Rattle.wit_graph.specs.declared.error_kind.ResolveErrorKind.TheVariants.{OutOfMemory}
 use Rattle.wit_placing.specs.Grown.{Grown}
-use Rattle.wit_placing.specs.GrownFacts.{Grown-then}
+use Rattle.wit_placing.specs.GrownFacts.{Begins-same, Grown-then}
 use Rattle.wit_including.specs.Included.{IsWorldCause}
 use Rattle.wit_including.specs.RowsFacts.{rows_on_its_way}
 use Rattle.wit_including.proofs.Several.{begun_acyclic, begun_listed, finished_grown, finishing_stops, include_stops, world_added, world_fine}
@@ -60,3 +60,6 @@ pub returns-clause-grown : goal.returns-clause-grown
 returns-clause-grown c =
     Grown-then c.args.graph.now c.include_each.new.graph c.finish_world.new.graph c.include_each.ensures.grown
     (subst (Grown c.include_each.new.graph) (sym c.in_ok-finish_world.ensures.ok) (finished_grown c.include_each.new.graph c.in_ok-world.world))
+
+pub returns-in_err-world-clause-rows : goal.returns-in_err-world-clause-rows
+returns-in_err-world-clause-rows c = Begins-same c.args.elaborator.now

@@ -1,9 +1,10 @@
-use Rattle.std.proofs.Common.{◌≡◌, ◌⊎◌, ℕ, sym, subst}
+use Rattle.std.proofs.Common.{◌≡◌, ◌⊎◌, ℕ, arith, sym, subst}
 use Rattle.wit_graph.specs.AnswerFacts.{told_err}
 use Rattle.wit_graph.specs.declared.error_kind.ResolveErrorKind.{ResolveErrorKind}
 use Rattle.wit_graph.specs.declared.error_kind.ResolveErrorKind.TheVariants.{OutOfMemory}
+use Rattle.wit_placing.specs.GrownFacts.{Grown-then}
 use Rattle.wit_including.specs.Included.{StopsAtInclude}
-use Rattle.wit_including.proofs.Several.{beginning-next, beginning-none, include_can, include_own, include_there, stops_here}
+use Rattle.wit_including.proofs.Several.{all_fine, all_graph, all_world, beginning-next, beginning-none, include_can, include_own, include_there, stops_here}
 use Rattle.wit_including.proofs.adding.include_each.Goals as goal
 
 pub loop-place-init : goal.loop-place-init
@@ -33,3 +34,15 @@ returns-in_err-world-clause-cause c =
     let same : e ≡ c.in_err-world.field-0.0 = is in
     subst (λ (x : ResolveErrorKind). (x ≡ OutOfMemory) ⊎ ((j : ℕ) × StopsAtInclude c.args.home c.args.graph.now c.args.world c.args.includes.now j x)) (sym same)
     (stops_here c.args.home c.args.graph.now c.args.world c.args.includes.now c.loop-place.place c.loop-place.graph c.loop-place.world c.loop-place.invariant c.requires c.at.result.now c.at.ensures c.in_err-world.field-0.0 c.in_err-world.ensures.cause))
+
+pub returns-in_err-world-clause-grown : goal.returns-in_err-world-clause-grown
+returns-in_err-world-clause-grown c = Grown-then c.args.graph.now c.loop-place.graph c.include.new.graph c.loop-place.invariant.grown c.include.ensures.grown
+
+pub returns-clause-graph : goal.returns-clause-graph
+returns-clause-graph c = all_graph c.args.home c.args.graph.now c.args.world c.args.includes.now c.loop-place.place c.loop-place.graph c.loop-place.world c.loop-place.invariant (omega arith)
+
+pub returns-clause-world : goal.returns-clause-world
+returns-clause-world c = all_world c.args.home c.args.graph.now c.args.world c.args.includes.now c.loop-place.place c.loop-place.graph c.loop-place.world c.loop-place.invariant (omega arith)
+
+pub returns-clause-fine : goal.returns-clause-fine
+returns-clause-fine c = all_fine c.args.home c.args.graph.now c.args.world c.args.includes.now c.loop-place.place c.loop-place.graph c.loop-place.world c.loop-place.invariant (omega arith)

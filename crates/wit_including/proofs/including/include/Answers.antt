@@ -1,11 +1,12 @@
-use Rattle.std.proofs.Common.{rules, ◌≡◌, ◌⊎◌, length, slice_get, Some, sym, subst, IfErr, IfOk, OnOk, Ok, Err, Result}
+use Rattle.std.proofs.Common.{◌≡◌, ◌∙◌, ◌⊎◌, slice_get, refl, ap, sym, subst, IfErr, IfOk, OnOk, Ok, Err, Result}
 use Rattle.wit_graph.specs.AnswerFacts.{told_err}
 use Rattle.wit_graph.specs.declared.error_kind.ResolveErrorKind.{ResolveErrorKind}
 use Rattle.wit_graph.specs.declared.error_kind.ResolveErrorKind.TheVariants.{OutOfMemory}
 use Rattle.wit_items.specs.declared.world.World.{World}
 use Rattle.wit_adding.specs.Include.{is_other_package}
 use Rattle.wit_copying.specs.Copied.{maps_of}
-use Rattle.wit_including.specs.Included.{IsIncludeCause, IsIncluded, before_includes}
+use Rattle.wit_placing.specs.GrownFacts.{Grown-same}
+use Rattle.wit_including.specs.Included.{IsIncludeCause, IsIncluded, before_includes, copied_entries}
 use Rattle.wit_including.proofs.IncludeSteps.{answered, names_cause, stay_apart, step_cause, step_exports_once, step_fine, step_graph, step_imports_once, step_world}
 use Rattle.wit_including.proofs.NamesThere.{names_there}
 use Rattle.wit_including.proofs.including.include.Goals as goal
@@ -28,7 +29,7 @@ if_err (Err e) p gives = gives e p
 
 pub returns-in_err-check_names-clause-cause : goal.returns-in_err-check_names-clause-cause
 returns-in_err-check_names-clause-cause c =
-    let at : slice_get c.args.graph.now.worlds c.args.include.now.id ≡ Some c.at-included.result.now = search rules in
+    let at = ap (slice_get c.args.graph.now.worlds) (sym c.index.ensures) ∙ c.at-included.ensures in
     told_err c.from_residual.result c.from_residual.ensures.1
     (λ e is.
     let same : e ≡ c.in_err-check_names.field-0.0 = is in
@@ -41,74 +42,92 @@ add_copies-requires-clause-named c = λ (old : World) at. names_there c.args.gra
 pub add_copies-requires-clause-apart : goal.add_copies-requires-clause-apart
 add_copies-requires-clause-apart c = λ (old : World) at. stay_apart c.args.graph.now c.args.include.now.id old (c.requires.can old at)
 
-pub join_lists-requires-clause-imports : goal.join_lists-requires-clause-imports
-join_lists-requires-clause-imports c =
-    let at : slice_get c.args.graph.now.worlds c.args.include.now.id ≡ Some c.at-included.result.now = search rules in
-    let into_is : c.from_index-into.result ≡ length c.args.graph.now.worlds = search rules in
-    let again : slice_get c.add_copies.new.graph.worlds c.args.include.now.id ≡ Some c.at-included-2.result.now = search rules in
-    let other_is : c.ne-other.result ≡ is_other_package c.at-included-2.result.now.package c.args.home = search rules in
-    let copies = c.in_ok-copies.ensures in
-    let step = answered c.args.graph.now c.args.include.now c.args.home c.from_index-into.result c.at-included.result.now c.at-included-2.result.now c.add_copies.new.graph (maps_of c.in_ok-copies.copies) c.in_ok-copies.copies.from
-    c.in_ok-imports.imports c.in_ok-exports.exports c.ne-other.result at (c.requires.can c.at-included.result.now at).world into_is (copies.ok c.at-included.result.now at) (copies.maps c.at-included.result.now at) copies.from
-    again c.in_ok-imports.ensures c.in_ok-exports.ensures other_is in
-    step_imports_once c.args.graph.now c.args.include.now c.args.home c.args.world c.add_copies.new.graph c.in_ok-imports.imports c.in_ok-exports.exports c.ne-other.result step
+pub join_copies-requires-clause-imports : goal.join_copies-requires-clause-imports
+join_copies-requires-clause-imports c =
+    let g = c.args.graph.now in
+    let include = c.args.include.now in
+    let old = c.at-included-2.result.now in
+    let copies = c.in_ok-copies.copies in
+    let at = ap (slice_get g.worlds) (sym c.index.ensures) ∙ c.at-included.ensures in
+    let again = ap (slice_get c.add_copies.new.graph.worlds) (sym c.index-2.ensures) ∙ c.at-included-2.ensures in
+    let made = c.in_ok-copies.ensures in
+    let step =
+    answered g include c.args.home c.from_index-into.result c.at-included.result.now old c.add_copies.new.graph (maps_of copies) copies.from (copied_entries copies old.imports) (copied_entries copies old.exports) (is_other_package old.package c.args.home)
+    at (c.requires.can c.at-included.result.now at).world (c.from_index-into.ensures ∙ c.len.ensures) (made.ok c.at-included.result.now at) (made.maps c.at-included.result.now at) made.from again refl refl refl in
+    step_imports_once g include c.args.home c.args.world c.add_copies.new.graph (copied_entries copies old.imports) (copied_entries copies old.exports) (is_other_package old.package c.args.home) step
 
-pub join_lists-requires-clause-exports : goal.join_lists-requires-clause-exports
-join_lists-requires-clause-exports c =
-    let at : slice_get c.args.graph.now.worlds c.args.include.now.id ≡ Some c.at-included.result.now = search rules in
-    let into_is : c.from_index-into.result ≡ length c.args.graph.now.worlds = search rules in
-    let again : slice_get c.add_copies.new.graph.worlds c.args.include.now.id ≡ Some c.at-included-2.result.now = search rules in
-    let other_is : c.ne-other.result ≡ is_other_package c.at-included-2.result.now.package c.args.home = search rules in
-    let copies = c.in_ok-copies.ensures in
-    let step = answered c.args.graph.now c.args.include.now c.args.home c.from_index-into.result c.at-included.result.now c.at-included-2.result.now c.add_copies.new.graph (maps_of c.in_ok-copies.copies) c.in_ok-copies.copies.from
-    c.in_ok-imports.imports c.in_ok-exports.exports c.ne-other.result at (c.requires.can c.at-included.result.now at).world into_is (copies.ok c.at-included.result.now at) (copies.maps c.at-included.result.now at) copies.from
-    again c.in_ok-imports.ensures c.in_ok-exports.ensures other_is in
-    step_exports_once c.args.graph.now c.args.include.now c.args.home c.args.world c.add_copies.new.graph c.in_ok-imports.imports c.in_ok-exports.exports c.ne-other.result step
+pub join_copies-requires-clause-exports : goal.join_copies-requires-clause-exports
+join_copies-requires-clause-exports c =
+    let g = c.args.graph.now in
+    let include = c.args.include.now in
+    let old = c.at-included-2.result.now in
+    let copies = c.in_ok-copies.copies in
+    let at = ap (slice_get g.worlds) (sym c.index.ensures) ∙ c.at-included.ensures in
+    let again = ap (slice_get c.add_copies.new.graph.worlds) (sym c.index-2.ensures) ∙ c.at-included-2.ensures in
+    let made = c.in_ok-copies.ensures in
+    let step =
+    answered g include c.args.home c.from_index-into.result c.at-included.result.now old c.add_copies.new.graph (maps_of copies) copies.from (copied_entries copies old.imports) (copied_entries copies old.exports) (is_other_package old.package c.args.home)
+    at (c.requires.can c.at-included.result.now at).world (c.from_index-into.ensures ∙ c.len.ensures) (made.ok c.at-included.result.now at) (made.maps c.at-included.result.now at) made.from again refl refl refl in
+    step_exports_once g include c.args.home c.args.world c.add_copies.new.graph (copied_entries copies old.imports) (copied_entries copies old.exports) (is_other_package old.package c.args.home) step
 
 pub returns-clause-graph : goal.returns-clause-graph
 returns-clause-graph c =
-    let at : slice_get c.args.graph.now.worlds c.args.include.now.id ≡ Some c.at-included.result.now = search rules in
-    let into_is : c.from_index-into.result ≡ length c.args.graph.now.worlds = search rules in
-    let again : slice_get c.add_copies.new.graph.worlds c.args.include.now.id ≡ Some c.at-included-2.result.now = search rules in
-    let other_is : c.ne-other.result ≡ is_other_package c.at-included-2.result.now.package c.args.home = search rules in
-    let copies = c.in_ok-copies.ensures in
-    let step = answered c.args.graph.now c.args.include.now c.args.home c.from_index-into.result c.at-included.result.now c.at-included-2.result.now c.add_copies.new.graph (maps_of c.in_ok-copies.copies) c.in_ok-copies.copies.from
-    c.in_ok-imports.imports c.in_ok-exports.exports c.ne-other.result at (c.requires.can c.at-included.result.now at).world into_is (copies.ok c.at-included.result.now at) (copies.maps c.at-included.result.now at) copies.from
-    again c.in_ok-imports.ensures c.in_ok-exports.ensures other_is in
-    on_ok c.join_lists.result (step_graph c.args.graph.now c.args.include.now c.args.home c.args.world c.add_copies.new.graph c.in_ok-imports.imports c.in_ok-exports.exports c.ne-other.result step)
+    let g = c.args.graph.now in
+    let include = c.args.include.now in
+    let old = c.at-included-2.result.now in
+    let copies = c.in_ok-copies.copies in
+    let at = ap (slice_get g.worlds) (sym c.index.ensures) ∙ c.at-included.ensures in
+    let again = ap (slice_get c.add_copies.new.graph.worlds) (sym c.index-2.ensures) ∙ c.at-included-2.ensures in
+    let made = c.in_ok-copies.ensures in
+    let step =
+    answered g include c.args.home c.from_index-into.result c.at-included.result.now old c.add_copies.new.graph (maps_of copies) copies.from (copied_entries copies old.imports) (copied_entries copies old.exports) (is_other_package old.package c.args.home)
+    at (c.requires.can c.at-included.result.now at).world (c.from_index-into.ensures ∙ c.len.ensures) (made.ok c.at-included.result.now at) (made.maps c.at-included.result.now at) made.from again refl refl refl in
+    on_ok c.join_copies.result (step_graph g include c.args.home c.args.world c.add_copies.new.graph (copied_entries copies old.imports) (copied_entries copies old.exports) (is_other_package old.package c.args.home) step)
 
 pub returns-clause-world : goal.returns-clause-world
 returns-clause-world c =
-    let at : slice_get c.args.graph.now.worlds c.args.include.now.id ≡ Some c.at-included.result.now = search rules in
-    let into_is : c.from_index-into.result ≡ length c.args.graph.now.worlds = search rules in
-    let again : slice_get c.add_copies.new.graph.worlds c.args.include.now.id ≡ Some c.at-included-2.result.now = search rules in
-    let other_is : c.ne-other.result ≡ is_other_package c.at-included-2.result.now.package c.args.home = search rules in
-    let copies = c.in_ok-copies.ensures in
-    let step = answered c.args.graph.now c.args.include.now c.args.home c.from_index-into.result c.at-included.result.now c.at-included-2.result.now c.add_copies.new.graph (maps_of c.in_ok-copies.copies) c.in_ok-copies.copies.from
-    c.in_ok-imports.imports c.in_ok-exports.exports c.ne-other.result at (c.requires.can c.at-included.result.now at).world into_is (copies.ok c.at-included.result.now at) (copies.maps c.at-included.result.now at) copies.from
-    again c.in_ok-imports.ensures c.in_ok-exports.ensures other_is in
-    if_ok c.join_lists.result c.join_lists.ensures.ok (λ new is. step_world c.args.graph.now c.args.include.now c.args.home c.args.world c.add_copies.new.graph c.in_ok-imports.imports c.in_ok-exports.exports c.ne-other.result step new is)
+    let g = c.args.graph.now in
+    let include = c.args.include.now in
+    let old = c.at-included-2.result.now in
+    let copies = c.in_ok-copies.copies in
+    let at = ap (slice_get g.worlds) (sym c.index.ensures) ∙ c.at-included.ensures in
+    let again = ap (slice_get c.add_copies.new.graph.worlds) (sym c.index-2.ensures) ∙ c.at-included-2.ensures in
+    let made = c.in_ok-copies.ensures in
+    let step =
+    answered g include c.args.home c.from_index-into.result c.at-included.result.now old c.add_copies.new.graph (maps_of copies) copies.from (copied_entries copies old.imports) (copied_entries copies old.exports) (is_other_package old.package c.args.home)
+    at (c.requires.can c.at-included.result.now at).world (c.from_index-into.ensures ∙ c.len.ensures) (made.ok c.at-included.result.now at) (made.maps c.at-included.result.now at) made.from again refl refl refl in
+    if_ok c.join_copies.result c.join_copies.ensures.ok (step_world g include c.args.home c.args.world c.add_copies.new.graph (copied_entries copies old.imports) (copied_entries copies old.exports) (is_other_package old.package c.args.home) step)
 
 pub returns-clause-fine : goal.returns-clause-fine
 returns-clause-fine c =
-    let at : slice_get c.args.graph.now.worlds c.args.include.now.id ≡ Some c.at-included.result.now = search rules in
-    let into_is : c.from_index-into.result ≡ length c.args.graph.now.worlds = search rules in
-    let again : slice_get c.add_copies.new.graph.worlds c.args.include.now.id ≡ Some c.at-included-2.result.now = search rules in
-    let other_is : c.ne-other.result ≡ is_other_package c.at-included-2.result.now.package c.args.home = search rules in
-    let copies = c.in_ok-copies.ensures in
-    let step = answered c.args.graph.now c.args.include.now c.args.home c.from_index-into.result c.at-included.result.now c.at-included-2.result.now c.add_copies.new.graph (maps_of c.in_ok-copies.copies) c.in_ok-copies.copies.from
-    c.in_ok-imports.imports c.in_ok-exports.exports c.ne-other.result at (c.requires.can c.at-included.result.now at).world into_is (copies.ok c.at-included.result.now at) (copies.maps c.at-included.result.now at) copies.from
-    again c.in_ok-imports.ensures c.in_ok-exports.ensures other_is in
-    on_ok_two c.join_lists.result c.join_lists.ensures.imports c.join_lists.ensures.exports (λ imports exports. step_fine c.args.graph.now c.args.include.now c.args.home c.args.world c.add_copies.new.graph c.in_ok-imports.imports c.in_ok-exports.exports c.ne-other.result step c.at-included.result.now at c.in_ok-check_names.ensures.fine imports exports)
+    let g = c.args.graph.now in
+    let include = c.args.include.now in
+    let old = c.at-included-2.result.now in
+    let copies = c.in_ok-copies.copies in
+    let at = ap (slice_get g.worlds) (sym c.index.ensures) ∙ c.at-included.ensures in
+    let again = ap (slice_get c.add_copies.new.graph.worlds) (sym c.index-2.ensures) ∙ c.at-included-2.ensures in
+    let made = c.in_ok-copies.ensures in
+    let step =
+    answered g include c.args.home c.from_index-into.result c.at-included.result.now old c.add_copies.new.graph (maps_of copies) copies.from (copied_entries copies old.imports) (copied_entries copies old.exports) (is_other_package old.package c.args.home)
+    at (c.requires.can c.at-included.result.now at).world (c.from_index-into.ensures ∙ c.len.ensures) (made.ok c.at-included.result.now at) (made.maps c.at-included.result.now at) made.from again refl refl refl in
+    on_ok_two c.join_copies.result c.join_copies.ensures.imports c.join_copies.ensures.exports (step_fine g include c.args.home c.args.world c.add_copies.new.graph (copied_entries copies old.imports) (copied_entries copies old.exports) (is_other_package old.package c.args.home) step c.at-included.result.now at c.in_ok-check_names.ensures.fine)
 
 pub returns-clause-cause : goal.returns-clause-cause
 returns-clause-cause c =
-    let at : slice_get c.args.graph.now.worlds c.args.include.now.id ≡ Some c.at-included.result.now = search rules in
-    let into_is : c.from_index-into.result ≡ length c.args.graph.now.worlds = search rules in
-    let again : slice_get c.add_copies.new.graph.worlds c.args.include.now.id ≡ Some c.at-included-2.result.now = search rules in
-    let other_is : c.ne-other.result ≡ is_other_package c.at-included-2.result.now.package c.args.home = search rules in
-    let copies = c.in_ok-copies.ensures in
-    let step = answered c.args.graph.now c.args.include.now c.args.home c.from_index-into.result c.at-included.result.now c.at-included-2.result.now c.add_copies.new.graph (maps_of c.in_ok-copies.copies) c.in_ok-copies.copies.from
-    c.in_ok-imports.imports c.in_ok-exports.exports c.ne-other.result at (c.requires.can c.at-included.result.now at).world into_is (copies.ok c.at-included.result.now at) (copies.maps c.at-included.result.now at) copies.from
-    again c.in_ok-imports.ensures c.in_ok-exports.ensures other_is in
-    if_err c.join_lists.result c.join_lists.ensures.cause (λ kind is. step_cause c.args.graph.now c.args.include.now c.args.home c.args.world c.add_copies.new.graph c.in_ok-imports.imports c.in_ok-exports.exports c.ne-other.result step c.requires.own_keys kind is)
+    let g = c.args.graph.now in
+    let include = c.args.include.now in
+    let old = c.at-included-2.result.now in
+    let copies = c.in_ok-copies.copies in
+    let at = ap (slice_get g.worlds) (sym c.index.ensures) ∙ c.at-included.ensures in
+    let again = ap (slice_get c.add_copies.new.graph.worlds) (sym c.index-2.ensures) ∙ c.at-included-2.ensures in
+    let made = c.in_ok-copies.ensures in
+    let step =
+    answered g include c.args.home c.from_index-into.result c.at-included.result.now old c.add_copies.new.graph (maps_of copies) copies.from (copied_entries copies old.imports) (copied_entries copies old.exports) (is_other_package old.package c.args.home)
+    at (c.requires.can c.at-included.result.now at).world (c.from_index-into.ensures ∙ c.len.ensures) (made.ok c.at-included.result.now at) (made.maps c.at-included.result.now at) made.from again refl refl refl in
+    if_err c.join_copies.result c.join_copies.ensures.cause (step_cause g include c.args.home c.args.world c.add_copies.new.graph (copied_entries copies old.imports) (copied_entries copies old.exports) (is_other_package old.package c.args.home) step c.requires.own_keys)
+
+pub returns-in_err-check_names-clause-grown : goal.returns-in_err-check_names-clause-grown
+returns-in_err-check_names-clause-grown c = Grown-same c.args.graph.now
+
+pub returns-clause-grown : goal.returns-clause-grown
+returns-clause-grown c = c.add_copies.ensures.grown
