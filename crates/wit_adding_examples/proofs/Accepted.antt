@@ -1,8 +1,8 @@
 -- Nothing speaks against the first package, nor against one whose world includes another.
-use Rattle.std.proofs.Common.{◌≡◌, ℕ, ◌+◌, ◌<◌, ◌≤◌, suc, Bool, true, false, ◌&&◌, List, [], ◌∷◌, None, Some, slice_get, nat_lt, refl, subst, inl, inr, Contains, arith}
+use Rattle.std.proofs.Common.{◌≡◌, ℕ, ◌+◌, ◌<◌, ◌≤◌, suc, Bool, true, false, ◌&&◌, [], ◌∷◌, None, Some, slice_get, nat_lt, refl, inl, inr, arith}
 use Rattle.std.proofs.lemmas.Bool.{and_parts, false≢true, ltb-true}
 use Rattle.std.specs.List.{list_all}
-use Rattle.std.specs.Map.{keys_of, lookup}
+use Rattle.std.specs.Map.{lookup}
 use Rattle.std.specs.Prelude.{codes, is_some}
 use Rattle.wit_relations.specs.Walks.{walk, walk_within}
 use Rattle.wit_items.specs.Entries.{Entry}
@@ -13,33 +13,22 @@ use Rattle.wit_items.specs.declared.world.World.{World}
 use Rattle.wit_items.specs.declared.world.WorldItem.{WorldItem}
 use Rattle.wit_items.specs.declared.world.WorldItem.TheVariants as item
 use Rattle.wit_graph.specs.Examples.{empty_graph}
-use Rattle.wit_graph.specs.Imported.{exported_keys}
-use Rattle.wit_growth.specs.TestFacts.{all_are, all_at, at_are, none_in, not_passed}
-use Rattle.wit_labels.specs.Setters.{placed}
+use Rattle.wit_growth.specs.TestFacts.{all_are, all_at, at_are, is_empty, not_passed, nothing_in}
 use Rattle.wit_adding.specs.Addition.{Addition, own_worlds}
 use Rattle.wit_adding.specs.Cause.{IsAccepted}
 use Rattle.wit_adding.specs.Cause as reason
 use Rattle.wit_adding.specs.Gates.{Place}
-use Rattle.wit_adding.specs.Pushed.{begun, with_worlds}
 use Rattle.wit_adding.specs.Reasons.{HasImage, IsActiveFunction, PassesTheEnd}
 use Rattle.wit_adding.specs.Reasons as part
 use Rattle.wit_adding.specs.Spans.{package_spans}
 use Rattle.wit_adding.specs.WorldReasons.{AreTooAlike, AtInclude, AtWorld, IncludeIsFine, IsInConflict, LacksGetter, Mismatches, RenamesNothing, Shadows}
 use Rattle.wit_adding_examples.proofs.AtWorlds.{all_fine, at_of, fine_without, no_include, of_first}
 use Rattle.wit_adding_examples.proofs.HasImage.{image}
-use Rattle.wit_adding_examples.proofs.WorldTests.{all_differ, conflict_of, fine, getters_there, has_getters, list_passes, no_clash}
+use Rattle.wit_adding_examples.proofs.WorldTests.{IsPlain, fine, plain_exports, plain_getters, plain_labels}
 use Rattle.wit_adding_examples.specs.IncludedWorlds.{including}
 use Rattle.wit_adding_examples.specs.Packages.{adding, first_package, include_with, no_features}
 
 -- ---- tests
-
-abbrev is_empty : {X : Type 0} → List X → Bool
-is_empty [] = true
-is_empty (x ∷ xs) = false
-
-nothing_in : {X : Type 0} (xs : List X) (x : X) → is_empty xs ≡ true → Contains xs x → ⊥
-nothing_in [] x empty inside = none_in x inside
-nothing_in (y ∷ ys) x empty inside = false≢true empty
 
 abbrev no_function : WorldItem → Bool
 no_function (item.Interface i note docs span external_id) = true
@@ -56,13 +45,7 @@ record Passes (a : Addition) (y : AtWorld a 0) : Type 0 where
   has_image : HasImage a
   absent : is_some (lookup (same_package a.handed.name) a.graph.package_names) ≡ false
   includes : (j : ℕ) → IncludeIsFine a 0 j
-  import_labels : all_differ (keys_of (begun a y.place y.world (with_worlds a 0)).lists.imports) ≡ true
-  export_labels : all_differ (keys_of (begun a y.place y.world (with_worlds a 0)).lists.exports) ≡ true
-  written_labels : (all_differ (keys_of y.world.imports) ≡ true) × (all_differ (keys_of y.world.exports) ≡ true)
-  import_getters : getters_there (begun a y.place y.world (with_worlds a 0)).lists.imports ≡ true
-  export_getters : getters_there (begun a y.place y.world (with_worlds a 0)).lists.exports ≡ true
-  written_getters : (getters_there y.world.imports ≡ true) × (getters_there y.world.exports ≡ true)
-  no_exports : exported_keys (placed (begun a y.place y.world (with_worlds a 0)).lists.exports) ≡ []
+  plain : IsPlain a 0 y
   required : is_empty a.handed.required_resource_types ≡ true
   interfaces : all_at (λ (i : ℕ) (interface : Interface). is_empty interface.functions) a.handed.interfaces ≡ true
   worlds : all_at (λ (w : ℕ) (world : World). list_all (λ (e : Entry). no_function e.1) world.imports && list_all (λ (e : Entry). no_function e.1) world.exports) a.handed.worlds ≡ true
@@ -71,21 +54,6 @@ record Passes (a : Addition) (y : AtWorld a 0) : Type 0 where
 -- ---- what they show
 
 module _ (a : Addition) (y : AtWorld a 0) (p : Passes a y) where
-  alike : (span : Place) (message : List ℕ) → AreTooAlike a 0 span message → ⊥
-  alike span message c =
-      no_clash (keys_of c.entries) c.clash.0 c.clash.1 c.n c.m c.clash.2 c.clash.3 c.clash.4 c.clash.5
-      (list_passes a 0 y (λ (es : List Entry). all_differ (keys_of es)) p.import_labels p.export_labels (λ none. p.written_labels) c.world c.lists c.moves c.have c.word c.entries c.list)
-
-  getter : (span : Place) (message : List ℕ) → LacksGetter a 0 span message → ⊥
-  getter span message c =
-      has_getters c.entries c.label c.f c.setter.0 c.setter.1 c.no_getter
-      (list_passes a 0 y getters_there p.import_getters p.export_getters (λ none. p.written_getters) c.world c.lists c.moves c.have c.word c.entries c.list)
-
-  conflict : (span : Place) (name : List ℕ) → IsInConflict a 0 span name → ⊥
-  conflict span name c =
-      let found = conflict_of a 0 y span name c in
-      none_in found.0 (subst (λ (is : List ℕ). Contains is found.0) p.no_exports found.2)
-
   no_active : (f : Function) → IsActiveFunction a f → ⊥
   no_active f (part.of_interface i interface name _ at active inside on) =
       nothing_in interface.functions (name, f) (at_are (λ (i : ℕ) (interface : Interface). is_empty interface.functions) a.handed.interfaces p.interfaces i interface at) inside
@@ -107,7 +75,7 @@ module _ (a : Addition) (y : AtWorld a 0) (p : Passes a y) where
   is_accepted _ (reason.package_not_found_1 span requested known c) = p.has_image.packages span requested known c
   is_accepted _ (reason.world_not_found_2 span requested home c) = p.has_image.worlds span requested home c
   is_accepted _ (reason.interface_not_found_3 span requested home c) = p.has_image.interfaces span requested home c
-  is_accepted _ (reason.conflict_4 k span name reached c) = of_first a p.later (λ (n : ℕ). IsInConflict a n span name) (λ n (x : IsInConflict a n span name). x.at) (conflict span name) k c
+  is_accepted _ (reason.conflict_4 k span name reached c) = of_first a p.later (λ (n : ℕ). IsInConflict a n span name) (λ n (x : IsInConflict a n span name). x.at) (plain_exports a 0 y p.plain span name) k c
   is_accepted _ (reason.duplicate_5 name span1 span2 c) = not_passed p.absent c.there
   is_accepted _ (reason.shadowing_7 k j span word name reached c) =
       of_first a p.later (λ (n : ℕ). Shadows a n j span word name) (λ n (x : Shadows a n j span word name). x.at.at) ((p.includes j).unshadowed span word name) k c
@@ -123,9 +91,9 @@ module _ (a : Addition) (y : AtWorld a 0) (p : Passes a y) where
   is_accepted _ (reason.rename_unmatched_16 k j span message reached c) =
       of_first a p.later (λ (n : ℕ). RenamesNothing a n j span message) (λ n (x : RenamesNothing a n j span message). x.at.at) ((p.includes j).renames span message) k c
   is_accepted _ (reason.not_strongly_unique_17 k span message reached c) =
-      of_first a p.later (λ (n : ℕ). AreTooAlike a n span message) (λ n (x : AreTooAlike a n span message). at_of a n x.world x.lists x.moves x.have) (alike span message) k c
+      of_first a p.later (λ (n : ℕ). AreTooAlike a n span message) (λ n (x : AreTooAlike a n span message). at_of a n x.world x.lists x.moves x.have) (plain_labels a 0 y p.plain span message) k c
   is_accepted _ (reason.no_getter_18 k span message reached c) =
-      of_first a p.later (λ (n : ℕ). LacksGetter a n span message) (λ n (x : LacksGetter a n span message). at_of a n x.world x.lists x.moves x.have) (getter span message) k c
+      of_first a p.later (λ (n : ℕ). LacksGetter a n span message) (λ n (x : LacksGetter a n span message). at_of a n x.world x.lists x.moves x.have) (plain_getters a 0 y p.plain span message) k c
   is_accepted _ (reason.offset_overflow_27 c) = fits c
 
 -- ---- the first package
@@ -142,13 +110,7 @@ accepted = is_accepted the_first first_world (record {
   has_image = image the_first (record { packages = refl; items = refl; types = refl; interfaces = refl; worlds = refl });
   absent = refl;
   includes = λ j. fine_without the_first 0 j (no_include the_first 0 first_world j refl);
-  import_labels = refl;
-  export_labels = refl;
-  written_labels = (refl, refl);
-  import_getters = refl;
-  export_getters = refl;
-  written_getters = (refl, refl);
-  no_exports = refl;
+  plain = record { lists = record { imports = refl; exports = refl; written = λ none. (refl, refl) }; no_exports = refl };
   required = refl;
   interfaces = refl;
   worlds = refl;
@@ -170,13 +132,7 @@ including_accepted = is_accepted the_including base_include.at (record {
   has_image = image the_including (record { packages = refl; items = refl; types = refl; interfaces = refl; worlds = refl });
   absent = refl;
   includes = all_fine the_including base_include (λ j. refl) (fine the_including 0 0 base_include (record { import_labels = refl; export_labels = refl; import_keys = refl; export_keys = refl; names = refl }));
-  import_labels = refl;
-  export_labels = refl;
-  written_labels = (refl, refl);
-  import_getters = refl;
-  export_getters = refl;
-  written_getters = (refl, refl);
-  no_exports = refl;
+  plain = record { lists = record { imports = refl; exports = refl; written = λ none. (refl, refl) }; no_exports = refl };
   required = refl;
   interfaces = refl;
   worlds = refl;

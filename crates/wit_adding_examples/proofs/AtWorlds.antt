@@ -2,7 +2,8 @@
 use Rattle.std.proofs.Common.{◌≡◌, ◌∙◌, ◌⊎◌, ℕ, zero, suc, [], take, Some, None, slice_get, sym, ap, subst, inl, inr}
 use Rattle.wit_items.specs.declared.world.World.{World}
 use Rattle.wit_items.specs.declared.world.WorldInclude.{WorldInclude}
-use Rattle.wit_growth.specs.TestFacts.{none_some, some_same}
+use Rattle.wit_growth.specs.OptionFacts.{some_same}
+use Rattle.wit_growth.specs.TestFacts.{none_some}
 use Rattle.wit_adding.specs.Addition.{Addition, active_includes, own_worlds, world_place}
 use Rattle.wit_adding.specs.Include.{Begun, Lists, lists_of}
 use Rattle.wit_adding.specs.Pushed.{begun, begun_with, with_worlds}

@@ -1,6 +1,5 @@
 -- The examples of reasons among exports, and of those that an include brings.
-use Rattle.std.proofs.Common.{◌≡◌, ◌∙◌, ℕ, zero, suc, true, List, [], ◌∷◌, None, refl, ap, sym, subst, inl, inr, lit<, Contains, arith}
-use Rattle.std.specs.Map.{keys_of}
+use Rattle.std.proofs.Common.{◌≡◌, ◌∙◌, ℕ, zero, suc, List, [], ◌∷◌, None, refl, ap, sym, subst, inl, inr, lit<, Contains, arith}
 use Rattle.std.specs.Prelude.{codes}
 use Rattle.wit_values.specs.Lists.{differ}
 use Rattle.wit_relations.specs.Relation.{IsPath, direct}
@@ -9,12 +8,11 @@ use Rattle.wit_items.specs.Uses.{uses_of}
 use Rattle.wit_items.specs.declared.stability.Stability.{Stability}
 use Rattle.wit_items.specs.declared.stability.Stability.TheVariants.{Unknown}
 use Rattle.wit_items.specs.declared.world.World.{World}
-use Rattle.wit_items.specs.declared.world.WorldItem.{WorldItem}
 use Rattle.wit_items.specs.declared.world.WorldItem.TheVariants as item
 use Rattle.wit_items.specs.declared.world.WorldKey.TheVariants as key
 use Rattle.wit_graph.specs.Imported.{HasConflict}
 use Rattle.wit_graph.specs.Samples.{entry_of, no_docs, sample}
-use Rattle.wit_growth.specs.TestFacts.{none_in, only_one}
+use Rattle.wit_growth.specs.TestFacts.{none_in, one_of_two, only_one}
 use Rattle.wit_labels.specs.Examples.{function_entry}
 use Rattle.wit_adding.specs.Addition.{Addition}
 use Rattle.wit_adding.specs.Cause as reason
@@ -26,8 +24,8 @@ use Rattle.wit_adding.specs.WorldReasons as world_reason
 use Rattle.wit_adding_examples.proofs.AtWorlds.{all_fine, at_of, include_same, of_first, of_first_include}
 use Rattle.wit_adding_examples.proofs.HasImage.{image}
 use Rattle.wit_adding_examples.proofs.Matching.{of_alike, of_conflict, of_getter, of_mismatch, of_shadowing}
-use Rattle.wit_adding_examples.proofs.WorldCauses.{first_reached, include_reached, label_same, other_feature, which}
-use Rattle.wit_adding_examples.proofs.WorldTests.{Passes, all_differ, conflict_of, fine, getters_there, has_getters, list_passes, no_clash, one_list, unshadowed}
+use Rattle.wit_adding_examples.proofs.WorldCauses.{first_reached, include_reached, label_same, other_feature, stability_of}
+use Rattle.wit_adding_examples.proofs.WorldTests.{Passes, conflict_of, fine, none_alike, none_lacks, one_list, unshadowed}
 use Rattle.wit_adding_examples.specs.Packages.{adding, exporting_c, gate_f, gate_g, gated_entry, including_lists, no_features, since_one, three, three_exporting}
 use Rattle.wit_adding_examples.specs.WorldCauses.{ExamplesOfIncludedCauses, both_export, both_import}
 
@@ -64,16 +62,10 @@ gate_include old = record { at = record { place = 1; world = _; is = refl }; inc
 
 -- ---- a `@since` of another package
 
-stability_of : WorldItem → Stability
-stability_of (item.Interface i note docs span external_id) = note
-stability_of (item.Function f) = Unknown
-stability_of (item.Type_ t span) = Unknown
-
 known : Unknown ≡ since_one → ⊥
 known same = cc
 
 only_gate : (i : ℕ) (brings : Stability) → HasStability (gated_entry since_one ∷ []) i brings → since_one ≡ brings
-unfolding stability_of
 only_gate i brings (docs, place, external_id, inside) =
     ap (λ (e : Entry). stability_of e.1) (only_one (gated_entry since_one) (key.Interface i, item.Interface i brings docs place external_id) inside)
 
@@ -126,7 +118,7 @@ only_a d j (k ∷ path) from leads = absurd (none_in k (subst (λ (i : ℕ). Con
 -- what c and b use is exported but for a, and that uses nothing
 closed : HasConflict uses (entry_of 2 ∷ entry_of 1 ∷ []) → ⊥
 closed (j, (x, d, exported, used, outside, reaches), is_exported) =
-    elim (which 2 1 x exported) [
+    elim (one_of_two 2 1 x exported) [
       | inl of_c ↦
           let b : 1 ≡ d = only_one 1 d (subst (λ (i : ℕ). Contains (direct uses i) d) (sym of_c) used) in
           outside (subst (λ (i : ℕ). Contains (2 ∷ 1 ∷ []) i) b (1, lit< tt, refl))
@@ -138,16 +130,10 @@ closed (j, (x, d, exported, used, outside, reaches), is_exported) =
 -- ---- labels with what comes
 
 not_alike : (span : Place) (message : List ℕ) → AreTooAlike (imports (codes "ab") (codes "ac")) 0 span message → ⊥
-not_alike span message c =
-    let passes : all_differ (keys_of c.entries) ≡ true =
-    list_passes (imports (codes "ab") (codes "ac")) 0 (import_include (codes "ab") (codes "ac")).at (λ (es : List Entry). all_differ (keys_of es)) refl refl (λ none. cc) c.world c.lists c.moves c.have c.word c.entries c.list in
-    no_clash (keys_of c.entries) c.clash.0 c.clash.1 c.n c.m c.clash.2 c.clash.3 c.clash.4 c.clash.5 passes
+not_alike = none_alike (imports (codes "ab") (codes "ac")) 0 (import_include (codes "ab") (codes "ac")).at (record { imports = refl; exports = refl; written = λ none. cc })
 
 getter_comes : (span : Place) (message : List ℕ) → LacksGetter (imports (codes "[get]p") (codes "[set]p")) 0 span message → ⊥
-getter_comes span message c =
-    let passes : getters_there c.entries ≡ true =
-    list_passes (imports (codes "[get]p") (codes "[set]p")) 0 (import_include (codes "[get]p") (codes "[set]p")).at getters_there refl refl (λ none. cc) c.world c.lists c.moves c.have c.word c.entries c.list in
-    has_getters c.entries c.label c.f c.setter.0 c.setter.1 c.no_getter passes
+getter_comes = none_lacks (imports (codes "[get]p") (codes "[set]p")) 0 (import_include (codes "[get]p") (codes "[set]p")).at (record { imports = refl; exports = refl; written = λ none. cc })
 
 -- the labels of the setter and of f are not that of the getter
 no_getter : Contains (key.Name (codes "[set]p") ∷ key.Name (codes "f") ∷ []) (key.Name (codes "[get]p")) → ⊥

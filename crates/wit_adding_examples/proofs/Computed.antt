@@ -1,12 +1,10 @@
 -- The examples that compute.
-use Rattle.std.proofs.Common.{◌≡◌, ℕ, List, [], ◌∷◌, ◌++◌, length, map, flat_map, None, refl, ap, lit<, arith}
+use Rattle.std.proofs.Common.{◌≡◌, ℕ, List, [], ◌∷◌, ◌++◌, length, map, flat_map, refl, ap, lit<, arith}
 use Rattle.std.specs.Prelude.{codes}
 use Rattle.wit_values.specs.Lists.{differ}
 use Rattle.wit_relations.specs.Walks.{walk, walk_within}
 use Rattle.wit_items.specs.declared.interface.Interface.{Interface}
 use Rattle.wit_items.specs.declared.package_name.PackageName.{PackageName}
-use Rattle.wit_items.specs.declared.stability.Stability.{Stability}
-use Rattle.wit_items.specs.declared.stability.Stability.TheVariants.{Unknown, Stable, Unstable}
 use Rattle.wit_items.specs.declared.world.World.{World}
 use Rattle.wit_items.specs.declared.world.WorldItem.{WorldItem}
 use Rattle.wit_items.specs.declared.world.WorldItem.TheVariants as item
@@ -19,6 +17,7 @@ use Rattle.wit_growth.specs.TestFacts.{only_one}
 use Rattle.wit_adding.specs.Addition.{function_positions}
 use Rattle.wit_adding.specs.Include.{Lists}
 use Rattle.wit_adding_examples.proofs.Accepted.{accepted, including_accepted}
+use Rattle.wit_adding_examples.proofs.WorldCauses.{label_same, other_feature}
 use Rattle.wit_adding_examples.specs.Gates.{ExamplesOfGates}
 use Rattle.wit_adding_examples.specs.IncludedWorlds.{ExamplesOfIncludedWorlds}
 use Rattle.wit_adding_examples.specs.Includes.{ExamplesOfIncluded, ExamplesOfIncludes}
@@ -88,15 +87,6 @@ values = record {
 
 -- ---- includes
 
-feature_of : Stability → List ℕ
-feature_of Unknown = []
-feature_of (Stable since deprecated) = []
-feature_of (Unstable feature deprecated) = feature
-
-other_feature : Unstable (codes "g") None ≡ Unstable (codes "f") None → ⊥
-unfolding feature_of
-other_feature same = differ (codes "g") (codes "f") refl (ap feature_of same)
-
 -- a key of an interface alone has no label
 none_of_one : (n : List ℕ) (before after : List WorldKey) → key.Interface 0 ∷ [] ≡ before ++ key.Name n ∷ after → ⊥
 none_of_one n [] after split = cc
@@ -135,9 +125,6 @@ type_of_item : WorldItem → ℕ
 type_of_item (item.Interface i note docs span external_id) = 0
 type_of_item (item.Function f) = 0
 type_of_item (item.Type_ t span) = t
-
-label_same : (a b : List ℕ) → key.Name a ≡ key.Name b → a ≡ b
-label_same a b same = cc
 
 first_key : (j k : WorldKey) (js ks : List WorldKey) → j ∷ js ≡ k ∷ ks → j ≡ k
 first_key j k js ks same = cc

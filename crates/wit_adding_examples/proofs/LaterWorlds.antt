@@ -1,26 +1,21 @@
 -- The examples of worlds one after another, and of packages without an image.
-use Rattle.std.proofs.Common.{◌≡◌, ℕ, ◌<◌, zero, suc, true, List, [], ◌∷◌, Some, None, slice_get, refl, subst, inl, lit<, Contains, arith}
-use Rattle.std.specs.Map.{keys_of}
+use Rattle.std.proofs.Common.{◌≡◌, ℕ, ◌<◌, zero, suc, List, [], ◌∷◌, Some, None, slice_get, refl, subst, inl, lit<, arith}
 use Rattle.std.specs.Prelude.{codes}
 use Rattle.wit_values.specs.Lists.{differ}
 use Rattle.wit_relations.specs.Walks.{walk, walk_within}
-use Rattle.wit_items.specs.Entries.{Entry}
 use Rattle.wit_items.specs.declared.world.World.{World}
 use Rattle.wit_items.specs.declared.world.WorldInclude.{WorldInclude}
 use Rattle.wit_items.specs.declared.world.WorldKey.TheVariants as key
 use Rattle.wit_graph.specs.Elaborated.{import_steps, import_steps_within}
-use Rattle.wit_graph.specs.Imported.{exported_interfaces}
 use Rattle.wit_graph.specs.Samples.{no_docs}
-use Rattle.wit_growth.specs.TestFacts.{none_in, only_one}
+use Rattle.wit_growth.specs.TestFacts.{only_one}
 use Rattle.wit_labels.specs.Examples.{function_entry}
-use Rattle.wit_labels.specs.Setters.{placed}
 use Rattle.wit_adding.specs.Addition.{Addition, active_includes, own_worlds}
 use Rattle.wit_adding.specs.Cause.{IsReached}
 use Rattle.wit_adding.specs.Cause as reason
 use Rattle.wit_adding.specs.Gates.{Place}
 use Rattle.wit_adding.specs.Gates as asked
 use Rattle.wit_adding.specs.Include.{Lists}
-use Rattle.wit_adding.specs.Pushed.{begun, with_worlds}
 use Rattle.wit_adding.specs.Reasons.{HasImage, LacksVersion}
 use Rattle.wit_adding.specs.WorldReasons.{AreTooAlike, AtInclude, AtWorld, HaveLists, IncludeIsFine, LacksGetter, Mismatches, Shadows, WorldIsFine}
 use Rattle.wit_adding.specs.WorldReasons as world_reason
@@ -28,35 +23,19 @@ use Rattle.wit_adding_examples.proofs.AtWorlds.{at_of, fine_without, no_include,
 use Rattle.wit_adding_examples.proofs.HasImage.{image}
 use Rattle.wit_adding_examples.proofs.Matching.{of_alike}
 use Rattle.wit_adding_examples.proofs.WorldCauses.{first_reached, label_same, other_feature}
-use Rattle.wit_adding_examples.proofs.WorldTests.{all_differ, conflict_of, fine, getters_there, has_getters, list_passes, no_clash}
+use Rattle.wit_adding_examples.proofs.WorldTests.{IsPlain, fine, none_alike, plain_exports, plain_getters, plain_labels}
 use Rattle.wit_adding_examples.specs.LaterWorlds.{ExamplesOfLaterWorlds, alike_unversioned, w_of_alike, before_alike, include_of, including_unversioned, shadowing_first, two_gates}
 use Rattle.wit_adding_examples.specs.Packages.{gate_f, gate_g, loose_interface, since_one}
 
 -- ---- a world with which nothing is wrong
 
--- it includes and exports nothing, and its labels pass
-record IsPlain (a : Addition) (k : ℕ) (y : AtWorld a k) : Type 0 where
-  no_includes : (j : ℕ) → slice_get (active_includes a y.world) j ≡ None
-  import_labels : all_differ (keys_of (begun a y.place y.world (with_worlds a k)).lists.imports) ≡ true
-  export_labels : all_differ (keys_of (begun a y.place y.world (with_worlds a k)).lists.exports) ≡ true
-  written_labels : (all_differ (keys_of y.world.imports) ≡ true) × (all_differ (keys_of y.world.exports) ≡ true)
-  import_getters : getters_there (begun a y.place y.world (with_worlds a k)).lists.imports ≡ true
-  export_getters : getters_there (begun a y.place y.world (with_worlds a k)).lists.exports ≡ true
-  written_getters : (getters_there y.world.imports ≡ true) × (getters_there y.world.exports ≡ true)
-  no_exports : exported_interfaces (placed (begun a y.place y.world (with_worlds a k)).lists.exports) ≡ []
-
-plain_is_fine : (a : Addition) (k : ℕ) (y : AtWorld a k) → IsPlain a k y → WorldIsFine a k
-plain_is_fine a k y p = record {
-  includes = λ image j. fine_without a k j (no_include a k y j (p.no_includes j));
-  labels = λ span message c.
-      no_clash (keys_of c.entries) c.clash.0 c.clash.1 c.n c.m c.clash.2 c.clash.3 c.clash.4 c.clash.5
-      (list_passes a k y (λ (es : List Entry). all_differ (keys_of es)) p.import_labels p.export_labels (λ none. p.written_labels) c.world c.lists c.moves c.have c.word c.entries c.list);
-  setters = λ span message c.
-      has_getters c.entries c.label c.f c.setter.0 c.setter.1 c.no_getter
-      (list_passes a k y getters_there p.import_getters p.export_getters (λ none. p.written_getters) c.world c.lists c.moves c.have c.word c.entries c.list);
-  exports = λ span name c.
-      let found = conflict_of a k y span name c in
-      none_in found.1.0 (subst (λ (is : List ℕ). Contains is found.1.0) p.no_exports found.1.2);
+-- it is plain, and includes nothing
+plain_is_fine : (a : Addition) (k : ℕ) (y : AtWorld a k) → ((j : ℕ) → slice_get (active_includes a y.world) j ≡ None) → IsPlain a k y → WorldIsFine a k
+plain_is_fine a k y no_includes p = record {
+  includes = λ image j. fine_without a k j (no_include a k y j (no_includes j));
+  labels = plain_labels a k y p;
+  setters = plain_getters a k y p;
+  exports = plain_exports a k y p;
 }
 
 -- ---- the third world, and its second include
@@ -77,26 +56,8 @@ abbrev second_include : AtInclude two_gates 2 1
 second_include = record { at = includes_both; include = include_of 1; is = refl; before = _; before_is = refl; old = _; old_is = refl }
 
 fine_before : (i : ℕ) → i < 2 → WorldIsFine two_gates i
-fine_before zero below = plain_is_fine two_gates 0 first_gate (record {
-  no_includes = λ j. refl;
-  import_labels = refl;
-  export_labels = refl;
-  written_labels = (refl, refl);
-  import_getters = refl;
-  export_getters = refl;
-  written_getters = (refl, refl);
-  no_exports = refl;
-})
-fine_before (suc zero) below = plain_is_fine two_gates 1 second_gate (record {
-  no_includes = λ j. refl;
-  import_labels = refl;
-  export_labels = refl;
-  written_labels = (refl, refl);
-  import_getters = refl;
-  export_getters = refl;
-  written_getters = (refl, refl);
-  no_exports = refl;
-})
+fine_before zero below = plain_is_fine two_gates 0 first_gate (λ j. refl) (record { lists = record { imports = refl; exports = refl; written = λ none. (refl, refl) }; no_exports = refl })
+fine_before (suc zero) below = plain_is_fine two_gates 1 second_gate (λ j. refl) (record { lists = record { imports = refl; exports = refl; written = λ none. (refl, refl) }; no_exports = refl })
 fine_before (suc (suc i)) below = absurd (omega (arith, below))
 
 include_fine : (i : ℕ) → i < 1 → IncludeIsFine two_gates 2 i
@@ -147,16 +108,7 @@ abbrev empty_first : AtWorld (before_alike []) 0
 empty_first = record { place = 0; world = _; is = refl }
 
 nothing_before : (i : ℕ) → i < 1 → WorldIsFine (before_alike []) i
-nothing_before zero below = plain_is_fine (before_alike []) 0 empty_first (record {
-  no_includes = λ j. refl;
-  import_labels = refl;
-  export_labels = refl;
-  written_labels = (refl, refl);
-  import_getters = refl;
-  export_getters = refl;
-  written_getters = (refl, refl);
-  no_exports = refl;
-})
+nothing_before zero below = plain_is_fine (before_alike []) 0 empty_first (λ j. refl) (record { lists = record { imports = refl; exports = refl; written = λ none. (refl, refl) }; no_exports = refl })
 nothing_before (suc i) below = absurd (omega (arith, below))
 
 abbrev setter_first : Addition
@@ -183,9 +135,7 @@ lacks_getter = record {
 }
 
 first_told : (span : Place) (message : List ℕ) (k : ℕ) → IsReached setter_first k → AreTooAlike setter_first k span message → ⊥
-first_told span message zero reached c =
-    let passes : all_differ (keys_of c.entries) ≡ true = list_passes setter_first 0 setter_world (λ (es : List Entry). all_differ (keys_of es)) refl refl (λ none. (refl, refl)) c.world c.lists c.moves c.have c.word c.entries c.list in
-    no_clash (keys_of c.entries) c.clash.0 c.clash.1 c.n c.m c.clash.2 c.clash.3 c.clash.4 c.clash.5 passes
+first_told span message zero reached c = none_alike setter_first 0 setter_world (record { imports = refl; exports = refl; written = λ none. (refl, refl) }) span message c
 first_told span message (suc k) reached c =
     let below : 0 < suc k = omega arith in
     (reached 0 below).setters None (codes "import `[set]p` in world `v` has no corresponding getter `[get]p`") lacks_getter
@@ -224,16 +174,7 @@ unmade_lists _ _ _ (world_reason.made at has fine) = no_image has
 unmade_lists _ _ _ (world_reason.written at none) = some_includes (include_of 0) (subst (λ (w : World). w.includes ≡ []) (world_same unmade 1 at including_second).1 none)
 
 fine_unmade : (i : ℕ) → i < 2 → WorldIsFine unmade i
-fine_unmade zero below = plain_is_fine unmade 0 (record { place = 0; world = _; is = refl }) (record {
-  no_includes = λ j. refl;
-  import_labels = refl;
-  export_labels = refl;
-  written_labels = (refl, refl);
-  import_getters = refl;
-  export_getters = refl;
-  written_getters = (refl, refl);
-  no_exports = refl;
-})
+fine_unmade zero below = plain_is_fine unmade 0 (record { place = 0; world = _; is = refl }) (λ j. refl) (record { lists = record { imports = refl; exports = refl; written = λ none. (refl, refl) }; no_exports = refl })
 fine_unmade (suc zero) below = record {
   includes = λ has j. absurd (no_image has);
   labels = λ span message c. unmade_lists c.world c.lists c.moves c.have;
@@ -268,9 +209,7 @@ refused_lists _ _ _ (world_reason.written at none) = some_includes (include_of 0
 
 behind_shadowing : (span : Place) (message : List ℕ) (k : ℕ) → IsReached (shadowing_first []) k → AreTooAlike (shadowing_first []) k span message → ⊥
 behind_shadowing span message zero reached c =
-    let passes : all_differ (keys_of c.entries) ≡ true =
-    list_passes (shadowing_first []) 0 (record { place = 0; world = _; is = refl }) (λ (es : List Entry). all_differ (keys_of es)) refl refl (λ none. (refl, refl)) c.world c.lists c.moves c.have c.word c.entries c.list in
-    no_clash (keys_of c.entries) c.clash.0 c.clash.1 c.n c.m c.clash.2 c.clash.3 c.clash.4 c.clash.5 passes
+    none_alike (shadowing_first []) 0 (record { place = 0; world = _; is = refl }) (record { imports = refl; exports = refl; written = λ none. (refl, refl) }) span message c
 behind_shadowing span message (suc zero) reached c = refused_lists c.world c.lists c.moves c.have
 behind_shadowing span message (suc (suc k)) reached c =
     let below : 1 < suc (suc k) = omega arith in

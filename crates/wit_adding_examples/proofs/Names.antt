@@ -7,7 +7,8 @@ use Rattle.wit_relations.specs.Walks.{walk, walk_within}
 use Rattle.wit_items.specs.declared.package_name.PackageName.{PackageName}
 use Rattle.wit_graph.specs.Examples.{empty_graph}
 use Rattle.wit_graph.specs.Samples.{foo_bar, sample}
-use Rattle.wit_growth.specs.TestFacts.{only_one, some_same}
+use Rattle.wit_growth.specs.OptionFacts.{some_same}
+use Rattle.wit_growth.specs.TestFacts.{only_one}
 use Rattle.wit_adding.specs.Addition.{Addition}
 use Rattle.wit_adding.specs.Cause as reason
 use Rattle.wit_adding.specs.Gates.{Place}

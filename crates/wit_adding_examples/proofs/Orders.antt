@@ -14,7 +14,7 @@ use Rattle.wit_items.specs.declared.stability.Stability.TheVariants.{Unknown}
 use Rattle.wit_graph.specs.Samples.{foo_bar}
 use Rattle.wit_graph.specs.declared.error_kind.ResolveErrorKind.{ResolveErrorKind}
 use Rattle.wit_graph.specs.declared.error_kind.ResolveErrorKind.TheVariants.{DuplicatePackage, OffsetOverflow, PackageCycle}
-use Rattle.wit_growth.specs.TestFacts.{none_in, only_one}
+use Rattle.wit_growth.specs.TestFacts.{none_in, one_of_two, only_one}
 use Rattle.wit_adding.specs.Gates.{Place}
 use Rattle.wit_sorting.specs.Sorting.{AreSorted, Handed, IsGroupOrder, IsHandedTwice, IsSortCause, IsTooFar, TellsTooFar, handed_uses, names_of}
 use Rattle.wit_adding_examples.specs.Orders.{ExamplesOfGroups, ExamplesOfOrders, dep_on_main, main_and_dep, one_alone, twice_at, two_alone}
@@ -25,19 +25,14 @@ use Rattle.wit_adding_examples.specs.Packages.{bare, dep_name, main_name, naming
 zero_apart : ◌≡◌ {A = ℕ} 0 1 → ⊥
 zero_apart same = absurd (omega (arith, same))
 
-which : (a b x : ℕ) → Contains (a ∷ b ∷ []) x → (a ≡ x) ⊎ (b ≡ x)
-which a b x (zero, below, is) = inl is
-which a b x (suc zero, below, is) = inr is
-which a b x (suc (suc k), below, is) = absurd (omega (arith, below))
-
 both_orders : (a b : ℕ) → Contains (a ∷ b ∷ []) 0 → Contains (a ∷ b ∷ []) 1 → (0 ∷ 1 ∷ [] ≡ a ∷ b ∷ []) ⊎ (1 ∷ 0 ∷ [] ≡ a ∷ b ∷ [])
 both_orders a b has_zero has_one =
-    elim (which a b 0 has_zero) [
-      | inl first ↦ elim (which a b 1 has_one) [
+    elim (one_of_two a b 0 has_zero) [
+      | inl first ↦ elim (one_of_two a b 1 has_one) [
         | inl again ↦ absurd (zero_apart (sym first ∙ again))
         | inr second ↦ inl cc
       ]
-      | inr first ↦ elim (which a b 1 has_one) [
+      | inr first ↦ elim (one_of_two a b 1 has_one) [
         | inl second ↦ inr cc
         | inr again ↦ absurd (zero_apart (sym first ∙ again))
       ]
@@ -50,6 +45,10 @@ roots_are (a ∷ b ∷ []) moved =
     both_orders a b (Contains-permutation (0 ∷ 1 ∷ []) (a ∷ b ∷ []) 0 moved (0, lit< tt, refl)) (Contains-permutation (0 ∷ 1 ∷ []) (a ∷ b ∷ []) 1 moved (1, lit< tt, refl))
 roots_are (a ∷ b ∷ c ∷ roots) moved = absurd (omega (arith, length_permutation (0 ∷ 1 ∷ []) (a ∷ b ∷ c ∷ roots) moved))
 
+-- what holds of both orders holds of each
+of_both : (P : List ℕ → Type 0) → P (0 ∷ 1 ∷ []) → P (1 ∷ 0 ∷ []) → (roots : List ℕ) → IsPermutation (0 ∷ 1 ∷ []) roots → P roots
+of_both P first second roots moved = elim (roots_are roots moved) [ inl same ↦ subst P same first | inr same ↦ subst P same second ]
+
 -- ---- orders
 
 abbrev order_of : List Handed → List ℕ → List ℕ
@@ -58,20 +57,12 @@ order_of handed roots = first_of_each (flat_map (walk (handed_uses handed)) root
 -- whatever the roots are, dep comes before main
 main_last : (roots order : List ℕ) → IsPermutation (0 ∷ 1 ∷ []) roots → order ≡ order_of main_and_dep roots → 1 ∷ 0 ∷ [] ≡ order
 unfolding walk walk_within
-main_last roots order moved is =
-    elim (roots_are roots moved) [
-      | inl same ↦ sym (subst (λ (r : List ℕ). order ≡ order_of main_and_dep r) (sym same) is)
-      | inr same ↦ sym (subst (λ (r : List ℕ). order ≡ order_of main_and_dep r) (sym same) is)
-    ]
+main_last roots order moved = of_both (λ (r : List ℕ). order ≡ order_of main_and_dep r → 1 ∷ 0 ∷ [] ≡ order) (λ is. sym is) (λ is. sym is) roots moved
 
 -- and where dep names main, main comes before it
 dep_last : (roots order : List ℕ) → IsPermutation (0 ∷ 1 ∷ []) roots → order ≡ order_of dep_on_main roots → 1 ∷ 0 ∷ [] ≡ order
 unfolding walk walk_within
-dep_last roots order moved is =
-    elim (roots_are roots moved) [
-      | inl same ↦ sym (subst (λ (r : List ℕ). order ≡ order_of dep_on_main r) (sym same) is)
-      | inr same ↦ sym (subst (λ (r : List ℕ). order ≡ order_of dep_on_main r) (sym same) is)
-    ]
+dep_last roots order moved = of_both (λ (r : List ℕ). order ≡ order_of dep_on_main r → 1 ∷ 0 ∷ [] ≡ order) (λ is. sym is) (λ is. sym is) roots moved
 
 abbrev AreByName : List Handed → List ℕ → Type 0
 AreByName handed roots = IsSortedByKey (slice_get (names_of handed)) (option_cmp package_cmp) roots
@@ -82,11 +73,8 @@ not_by_name rises = false≢true (sym (rises 0 0 (lit≤ tt) (lit< tt)))
 
 by_name : (roots order : List ℕ) → IsPermutation (0 ∷ 1 ∷ []) roots → AreByName two_alone roots → order ≡ order_of two_alone roots → 1 ∷ 0 ∷ [] ≡ order
 unfolding walk walk_within
-by_name roots order moved rises is =
-    elim (roots_are roots moved) [
-      | inl same ↦ absurd (not_by_name (subst (AreByName two_alone) (sym same) rises))
-      | inr same ↦ sym (subst (λ (r : List ℕ). order ≡ order_of two_alone r) (sym same) is)
-    ]
+by_name roots order moved =
+    of_both (λ (r : List ℕ). AreByName two_alone r → order ≡ order_of two_alone r → 1 ∷ 0 ∷ [] ≡ order) (λ rises is. absurd (not_by_name rises)) (λ rises is. sym is) roots moved
 
 first_is : (a b : ℕ) (xs ys : List ℕ) → a ∷ xs ≡ b ∷ ys → a ≡ b
 first_is a b xs ys same = cc
@@ -94,8 +82,8 @@ first_is a b xs ys same = cc
 backwards : ◌≡◌ {A = List ℕ} (1 ∷ 0 ∷ []) (0 ∷ 1 ∷ []) → ⊥
 backwards same = zero_apart (sym (first_is 1 0 (0 ∷ []) (1 ∷ []) same))
 
-one_of_two : ◌≡◌ {A = List ℕ} (1 ∷ 0 ∷ []) (1 ∷ []) → ⊥
-one_of_two same = absurd (omega (arith, ap (λ (xs : List ℕ). length xs) same))
+two_not_one : ◌≡◌ {A = List ℕ} (1 ∷ 0 ∷ []) (1 ∷ []) → ⊥
+two_not_one same = absurd (omega (arith, ap (λ (xs : List ℕ). length xs) same))
 
 sorted_two : AreByName two_alone (1 ∷ 0 ∷ [])
 sorted_two zero d low high = refl
@@ -184,7 +172,7 @@ just_told (inr (span, home, cycle, far)) = two_use_none 4294967282 cycle.user cy
 pub orders : ExamplesOfOrders
 orders = record {
   user_first = λ o. backwards (main_last o.roots (0 ∷ 1 ∷ []) o.all o.is);
-  left_out = λ o. one_of_two (main_last o.roots (1 ∷ []) o.all o.is);
+  left_out = λ o. two_not_one (main_last o.roots (1 ∷ []) o.all o.is);
   against_names = dep_order;
   user_before = λ o. backwards (dep_last o.roots (0 ∷ 1 ∷ []) o.all o.is);
   by_names = two_order;

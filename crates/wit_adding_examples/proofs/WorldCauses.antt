@@ -1,14 +1,13 @@
 -- The examples of worlds that a package is refused for.
-use Rattle.std.proofs.Common.{◌≡◌, ◌∙◌, ◌⊎◌, ℕ, ◌++◌, zero, suc, true, List, [], ◌∷◌, Some, None, refl, ap, sym, subst, inl, inr, lit<, Contains, arith}
+use Rattle.std.proofs.Common.{◌≡◌, ◌∙◌, ℕ, ◌++◌, zero, suc, true, List, [], ◌∷◌, Some, None, refl, ap, sym, subst, inl, inr, lit<, Contains, arith}
 use Rattle.std.proofs.lemmas.Bool.{false≢true}
-use Rattle.std.specs.Map.{keys_of}
 use Rattle.std.specs.Prelude.{codes, is_some}
 use Rattle.wit_values.specs.Lists.{differ}
 use Rattle.wit_relations.specs.Relation.{direct}
 use Rattle.wit_items.specs.Entries.{Entry}
 use Rattle.wit_items.specs.Uses.{uses_of}
 use Rattle.wit_items.specs.declared.stability.Stability.{Stability}
-use Rattle.wit_items.specs.declared.stability.Stability.TheVariants.{Unknown, Stable, Unstable}
+use Rattle.wit_items.specs.declared.stability.Stability.TheVariants.{Unknown}
 use Rattle.wit_items.specs.declared.world.IncludeName.{IncludeName}
 use Rattle.wit_items.specs.declared.world.World.{World}
 use Rattle.wit_items.specs.declared.world.WorldInclude.{WorldInclude}
@@ -17,7 +16,7 @@ use Rattle.wit_items.specs.declared.world.WorldItem.TheVariants as item
 use Rattle.wit_items.specs.declared.world.WorldKey.TheVariants as key
 use Rattle.wit_graph.specs.Imported.{HasConflict, IsInConflict}
 use Rattle.wit_graph.specs.Samples.{entry_of, no_docs, world_of}
-use Rattle.wit_growth.specs.TestFacts.{none_in, only_one}
+use Rattle.wit_growth.specs.TestFacts.{feature_of, none_in, one_of_two, only_one}
 use Rattle.wit_labels.specs.Examples.{function_entry, named_as}
 use Rattle.wit_labels.specs.Rename.{renamed_by}
 use Rattle.wit_adding.specs.Addition.{Addition}
@@ -32,7 +31,7 @@ use Rattle.wit_adding.specs.WorldReasons as world_reason
 use Rattle.wit_adding_examples.proofs.AtWorlds.{at_of, fine_without, include_same, no_include, of_first, of_first_include}
 use Rattle.wit_adding_examples.proofs.HasImage.{image}
 use Rattle.wit_adding_examples.proofs.Matching.{of_alike, of_conflict, of_getter, of_mismatch, of_rename, of_shadowing}
-use Rattle.wit_adding_examples.proofs.WorldTests.{all_differ, conflict_of, getters_there, has_getters, list_passes, no_clash, one_list, unshadowed}
+use Rattle.wit_adding_examples.proofs.WorldTests.{conflict_of, none_alike, none_lacks, one_list, unshadowed}
 use Rattle.wit_adding_examples.specs.Packages.{adding, all_features, exporting_with, gate_f, gate_g, gated_entry, including_package, no_features, since_one, since_package, three, with_world}
 use Rattle.wit_adding_examples.specs.WorldCauses.{ExamplesOfWorldCauses, importing}
 
@@ -43,13 +42,7 @@ first_reached a i below = absurd (omega (arith, below))
 pub include_reached : (a : Addition) → HasImage a → IncludeIsReached a 0 0
 include_reached a has = record { has_image = has; worlds = first_reached a; includes = λ i below. absurd (omega (arith, below)) }
 
-feature_of : Stability → List ℕ
-feature_of Unknown = []
-feature_of (Stable since deprecated) = []
-feature_of (Unstable feature deprecated) = feature
-
 pub other_feature : gate_g ≡ gate_f → ⊥
-unfolding feature_of
 other_feature same = differ (codes "g") (codes "f") refl (ap feature_of same)
 
 -- ---- a world that includes w
@@ -94,7 +87,7 @@ shadows note = record {
 
 -- ---- the gate that is there
 
-stability_of : WorldItem → Stability
+abbrev pub stability_of : WorldItem → Stability
 stability_of (item.Interface i note docs span external_id) = note
 stability_of (item.Function f) = Unknown
 stability_of (item.Type_ t span) = Unknown
@@ -104,7 +97,6 @@ key_apart i label same = cc
 
 -- the only interface of two entries has its gate
 gate_is : (note : Stability) (f : Entry) (label : List ℕ) (i : ℕ) (has : Stability) → f.0 ≡ key.Name label → HasStability (gated_entry note ∷ f ∷ []) i has → note ≡ has
-unfolding stability_of
 gate_is note f label i has named (docs, place, external_id, (zero, below, is)) = ap (λ (e : Entry). stability_of e.1) is
 gate_is note f label i has named (docs, place, external_id, (suc zero, below, is)) = absurd (key_apart i label (sym named ∙ ap (λ (e : Entry). e.0) is))
 gate_is note f label i has named (docs, place, external_id, (suc (suc k), below, is)) = absurd (omega (arith, below))
@@ -161,16 +153,10 @@ abbrev labelled_world : (a b : List ℕ) → AtWorld (two_labels a b) 0
 labelled_world a b = record { place = 0; world = _; is = refl }
 
 not_alike : (span : Place) (message : List ℕ) → AreTooAlike (two_labels (codes "ab") (codes "ac")) 0 span message → ⊥
-not_alike span message c =
-    let passes : all_differ (keys_of c.entries) ≡ true =
-    list_passes (two_labels (codes "ab") (codes "ac")) 0 (labelled_world (codes "ab") (codes "ac")) (λ (es : List Entry). all_differ (keys_of es)) refl refl (λ none. (refl, refl)) c.world c.lists c.moves c.have c.word c.entries c.list in
-    no_clash (keys_of c.entries) c.clash.0 c.clash.1 c.n c.m c.clash.2 c.clash.3 c.clash.4 c.clash.5 passes
+not_alike = none_alike (two_labels (codes "ab") (codes "ac")) 0 (labelled_world (codes "ab") (codes "ac")) (record { imports = refl; exports = refl; written = λ none. (refl, refl) })
 
 has_getter : (span : Place) (message : List ℕ) → LacksGetter (two_labels (codes "[get]p") (codes "[set]p")) 0 span message → ⊥
-has_getter span message c =
-    let passes : getters_there c.entries ≡ true =
-    list_passes (two_labels (codes "[get]p") (codes "[set]p")) 0 (labelled_world (codes "[get]p") (codes "[set]p")) getters_there refl refl (λ none. (refl, refl)) c.world c.lists c.moves c.have c.word c.entries c.list in
-    has_getters c.entries c.label c.f c.setter.0 c.setter.1 c.no_getter passes
+has_getter = none_lacks (two_labels (codes "[get]p") (codes "[set]p")) 0 (labelled_world (codes "[get]p") (codes "[set]p")) (record { imports = refl; exports = refl; written = λ none. (refl, refl) })
 
 -- ---- exports
 
@@ -196,15 +182,10 @@ a_clear e inside conflict =
     subst (IsInConflict (uses_of three.types three.interfaces) (entry_of 0 ∷ entry_of 2 ∷ [])) (sym (only_one (entry_of 0) e inside)) conflict in
     none_in there.2.0 (subst (λ (i : ℕ). Contains (direct (uses_of three.types three.interfaces) i) there.2.0) (sym (only_one 0 there.0 there.1)) there.2.2)
 
-pub which : (a b x : ℕ) → Contains (a ∷ b ∷ []) x → (a ≡ x) ⊎ (b ≡ x)
-which a b x (zero, below, is) = inl is
-which a b x (suc zero, below, is) = inr is
-which a b x (suc (suc k), below, is) = absurd (omega (arith, below))
-
 -- a and b use nothing but a
 closed : HasConflict (uses_of three.types three.interfaces) (entry_of 0 ∷ entry_of 1 ∷ []) → ⊥
 closed (j, (x, d, exported, uses, outside, reaches), is_exported) =
-    elim (which 0 1 x exported) [
+    elim (one_of_two 0 1 x exported) [
       | inl of_a ↦ none_in d (subst (λ (i : ℕ). Contains (direct (uses_of three.types three.interfaces) i) d) (sym of_a) uses)
       | inr of_b ↦
           let a : 0 ≡ d = only_one 0 d (subst (λ (i : ℕ). Contains (direct (uses_of three.types three.interfaces) i) d) (sym of_b) uses) in

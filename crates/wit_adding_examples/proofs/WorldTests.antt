@@ -20,16 +20,17 @@ use Rattle.wit_items.specs.declared.world.WorldItem.TheVariants as item
 use Rattle.wit_items.specs.declared.world.WorldKey.{WorldKey}
 use Rattle.wit_items.specs.declared.world.WorldKey.TheVariants as key
 use Rattle.wit_growth.specs.ListFacts.{Contains-map, contained_at}
-use Rattle.wit_growth.specs.TestFacts.{all_are, implied, implies, some_same}
+use Rattle.wit_growth.specs.OptionFacts.{some_same}
+use Rattle.wit_growth.specs.TestFacts.{all_are, implied, implies, none_in}
 use Rattle.wit_graph.specs.Elaboration.{graph_uses}
-use Rattle.wit_graph.specs.Imported.{HasConflict}
+use Rattle.wit_graph.specs.Imported.{HasConflict, exported_keys}
 use Rattle.wit_labels.specs.Setters.{IsSetter, getter_label, is_setter_label, placed}
 use Rattle.wit_labels.specs.Strong.{strong_key}
 use Rattle.wit_labels.specs.declared.strong.StrongKey.{StrongKey}
 use Rattle.wit_adding.specs.Addition.{Addition}
 use Rattle.wit_adding.specs.Gates.{Place}
 use Rattle.wit_adding.specs.Include.{Begun, Lists, lists_of}
-use Rattle.wit_adding.specs.WorldReasons.{AtInclude, AtWorld, HasStability, HaveLists, IncludeIsFine, IsInConflict, IsListCalled, IsShadowed, Mismatches, RenamesNothing, Shadows, renamed_key}
+use Rattle.wit_adding.specs.WorldReasons.{AreTooAlike, AtInclude, AtWorld, HasStability, HaveLists, IncludeIsFine, IsInConflict, IsListCalled, IsShadowed, LacksGetter, Mismatches, RenamesNothing, Shadows, renamed_key}
 use Rattle.wit_adding.specs.Pushed.{begun, with_worlds}
 use Rattle.wit_adding_examples.proofs.AtWorlds.{include_same, lists_are, world_same}
 
@@ -135,20 +136,33 @@ module _ (a : Addition) (k j : ℕ) (y : AtInclude a k j) where
 
 -- ---- the lists of a world
 
--- what both lists of a world pass passes each list by which its labels are told
-pub list_passes : (a : Addition) (k : ℕ) (y : AtWorld a k) (test : List Entry → Bool)
-    → test (begun a y.place y.world (with_worlds a k)).lists.imports ≡ true → test (begun a y.place y.world (with_worlds a k)).lists.exports ≡ true
-    → (y.world.includes ≡ [] → (test y.world.imports ≡ true) × (test y.world.exports ≡ true))
-    → (world : World) (lists : Lists) (moves : ℕ) → HaveLists a k world lists moves → (word : List ℕ) (entries : List Entry) → IsListCalled word lists entries → test entries ≡ true
-list_passes a k y test imports exports written world lists moves have word entries called =
-    elim (lists_are a k y world lists moves have).1 [
-      | inl made ↦ of made imports exports called
-      | inr plain ↦ let both = written plain.0 in of plain.1 both.0 both.1 called
-    ]
-  where
-    of : {l : Lists} → lists ≡ l → test l.imports ≡ true → test l.exports ≡ true → IsListCalled word lists entries → test entries ≡ true
-    of same imports exports (inl import) = subst (λ (es : List Entry). test es ≡ true) (sym (import.1 ∙ ap (λ (x : Lists). x.imports) same)) imports
-    of same imports exports (inr export) = subst (λ (es : List Entry). test es ≡ true) (sym (export.1 ∙ ap (λ (x : Lists). x.exports) same)) exports
+module _ (a : Addition) (k : ℕ) (y : AtWorld a k) where
+  -- both lists of the world pass a test, with its includes and, where it has none, as they are written
+  pub record BothPass (test : List Entry → Bool) : Type 0 where
+    pub imports : test (begun a y.place y.world (with_worlds a k)).lists.imports ≡ true
+    pub exports : test (begun a y.place y.world (with_worlds a k)).lists.exports ≡ true
+    pub written : y.world.includes ≡ [] → (test y.world.imports ≡ true) × (test y.world.exports ≡ true)
+
+  -- then each list passes by which its labels are told
+  list_passes : (test : List Entry → Bool) → BothPass test → (world : World) (lists : Lists) (moves : ℕ) → HaveLists a k world lists moves
+      → (word : List ℕ) (entries : List Entry) → IsListCalled word lists entries → test entries ≡ true
+  list_passes test both world lists moves have word entries called =
+      elim (lists_are a k y world lists moves have).1 [
+        | inl made ↦ of made both.imports both.exports called
+        | inr plain ↦ let written = both.written plain.0 in of plain.1 written.0 written.1 called
+      ]
+    where
+      of : {l : Lists} → lists ≡ l → test l.imports ≡ true → test l.exports ≡ true → IsListCalled word lists entries → test entries ≡ true
+      of same imports exports (inl import) = subst (λ (es : List Entry). test es ≡ true) (sym (import.1 ∙ ap (λ (x : Lists). x.imports) same)) imports
+      of same imports exports (inr export) = subst (λ (es : List Entry). test es ≡ true) (sym (export.1 ∙ ap (λ (x : Lists). x.exports) same)) exports
+
+  -- what passes a test passes a weaker one
+  pub both_weaker : (test other : List Entry → Bool) → ((es : List Entry) → test es ≡ true → other es ≡ true) → BothPass test → BothPass other
+  both_weaker test other weaker both = record {
+    imports = weaker _ both.imports;
+    exports = weaker _ both.exports;
+    written = λ none. let written = both.written none in (weaker _ written.0, weaker _ written.1);
+  }
 
 -- ---- labels that are too alike
 
@@ -158,7 +172,7 @@ names_differ (key.Name n) (key.Interface i) = true
 names_differ (key.Interface i) k = true
 
 -- do all labels of a list have different names?
-abbrev pub all_differ : List WorldKey → Bool
+abbrev all_differ : List WorldKey → Bool
 all_differ [] = true
 all_differ (k ∷ ks) = list_all (names_differ k) ks && all_differ ks
 
@@ -167,7 +181,7 @@ same_names n m same apart =
     let off = not-true _ apart in
     both_ways _ off (subst (λ (z : List ℕ). bytes_eq (strong_key m).name z ≡ true) (ap (λ (s : StrongKey). s.name) (sym same)) (nat_list_eq_equiv.refl (strong_key m).name))
 
-pub no_clash : (keys : List WorldKey) (i j : ℕ) (n m : List ℕ) → i < j → slice_get keys i ≡ Some (key.Name m) → slice_get keys j ≡ Some (key.Name n) → strong_key n ≡ strong_key m
+no_clash : (keys : List WorldKey) (i j : ℕ) (n m : List ℕ) → i < j → slice_get keys i ≡ Some (key.Name m) → slice_get keys j ≡ Some (key.Name n) → strong_key n ≡ strong_key m
     → all_differ keys ≡ true → ⊥
 no_clash [] i j n m below first second same all = cc
 no_clash (k ∷ ks) zero zero n m below first second same all = absurd (omega (arith, below))
@@ -187,7 +201,7 @@ getter_there keys (key.Name label, item.Interface i note docs span external_id) 
 getter_there keys (key.Name label, item.Type_ t span) = true
 getter_there keys (key.Interface i, held) = true
 
-pub has_getters : (entries : List Entry) (label : List ℕ) (f : Function) → Contains entries (key.Name label, item.Function f) → IsSetter label (key.Name label, item.Function f)
+has_getters : (entries : List Entry) (label : List ℕ) (f : Function) → Contains entries (key.Name label, item.Function f) → IsSetter label (key.Name label, item.Function f)
     → (Contains (keys_of entries) (key.Name (getter_label label)) → ⊥) → list_all (getter_there (keys_of entries)) entries ≡ true → ⊥
 has_getters entries label f inside setter absent all =
     let passes : getter_there (keys_of entries) (key.Name label, item.Function f) ≡ true = all_are (getter_there (keys_of entries)) entries all (key.Name label, item.Function f) inside in
@@ -206,3 +220,37 @@ conflict_of a k y span name c =
     let is : c.b ≡ begun a y.place y.world (with_worlds a k) =
     c.is ∙ (ap (λ (p : ℕ). begun a p c.at.world (with_worlds a k)) same.0 ∙ ap (λ (w : World). begun a y.place w (with_worlds a k)) same.1) in
     subst (λ (b : Begun). HasConflict (graph_uses b.graph) (placed b.lists.exports)) is c.conflict
+
+-- ---- a world with which nothing is wrong
+
+abbrev pub labels_differ : List Entry → Bool
+labels_differ entries = all_differ (keys_of entries)
+
+abbrev pub is_plain : List Entry → Bool
+is_plain entries = labels_differ entries && getters_there entries
+
+module _ (a : Addition) (k : ℕ) (y : AtWorld a k) where
+  pub none_alike : BothPass a k y labels_differ → (span : Place) (message : List ℕ) → AreTooAlike a k span message → ⊥
+  none_alike both span message c =
+      no_clash (keys_of c.entries) c.clash.0 c.clash.1 c.n c.m c.clash.2 c.clash.3 c.clash.4 c.clash.5
+      (list_passes a k y labels_differ both c.world c.lists c.moves c.have c.word c.entries c.list)
+
+  pub none_lacks : BothPass a k y getters_there → (span : Place) (message : List ℕ) → LacksGetter a k span message → ⊥
+  none_lacks both span message c =
+      has_getters c.entries c.label c.f c.setter.0 c.setter.1 c.no_getter (list_passes a k y getters_there both c.world c.lists c.moves c.have c.word c.entries c.list)
+
+  -- both lists are plain, and it exports no interface under its own key
+  pub record IsPlain : Type 0 where
+    pub lists : BothPass a k y is_plain
+    pub no_exports : exported_keys (placed (begun a y.place y.world (with_worlds a k)).lists.exports) ≡ []
+
+  pub plain_labels : IsPlain → (span : Place) (message : List ℕ) → AreTooAlike a k span message → ⊥
+  plain_labels p = none_alike (both_weaker a k y is_plain labels_differ (λ es passes. (and_parts (labels_differ es) (getters_there es) passes).0) p.lists)
+
+  pub plain_getters : IsPlain → (span : Place) (message : List ℕ) → LacksGetter a k span message → ⊥
+  plain_getters p = none_lacks (both_weaker a k y is_plain getters_there (λ es passes. (and_parts (labels_differ es) (getters_there es) passes).1) p.lists)
+
+  pub plain_exports : IsPlain → (span : Place) (name : List ℕ) → IsInConflict a k span name → ⊥
+  plain_exports p span name c =
+      let found = conflict_of a k y span name c in
+      none_in found.0 (subst (λ (is : List ℕ). Contains is found.0) p.no_exports found.2)

@@ -1,7 +1,6 @@
 -- In the first stage of an addition an interface without a name stands in one place, as it did in the graph and in the
 -- package; so the stage is on its way.
-use Rattle.std.proofs.Common.{◌≡◌, ◌∙◌, ◌⊎◌, inl, inr, ℕ, zero, suc, ◌<◌, ◌≤◌, Bool, true, false, not, is_some, List, [], ◌∷◌, map, length, Option, Some, IsSome, slice_get, refl, sym, ap, subst, arith, Contains}
-use Rattle.std.specs.Option.{option_map_or}
+use Rattle.std.proofs.Common.{◌≡◌, ◌∙◌, ◌⊎◌, inl, inr, ℕ, zero, suc, ◌<◌, ◌≤◌, Bool, true, false, List, [], ◌∷◌, map, length, Some, IsSome, slice_get, refl, sym, ap, subst, arith, Contains}
 use Rattle.std.proofs.lemmas.Bool.{cases_Bool, ltb-true}
 use Rattle.wit_values.specs.Table.{HasDistinctKeys}
 use Rattle.wit_items.specs.Entries.{Entry, is_unnamed, item_interface}
@@ -20,7 +19,7 @@ use Rattle.wit_growth.specs.GoodWorlds.{same_one}
 use Rattle.wit_growth.specs.Image.{entry_image, item_image, key_image, world_image}
 use Rattle.wit_growth.specs.ListFacts.{Contains-map_cases, contained_at, found_at, get_at, place_of, same_at, some_at}
 use Rattle.wit_growth.specs.OnePlace.{HasOnePlace, Holds, Origin, StayApart, entries_of}
-use Rattle.wit_growth.specs.OnePlaceCarried.{HasOnePlace-of_covered, named_not}
+use Rattle.wit_growth.specs.OnePlaceCarried.{HasOnePlace-of_covered, named_not, unnamed_same}
 use Rattle.wit_growth.specs.OnePlaceFrom.{HasOnePlace-from_once, cut_has_one_place}
 use Rattle.wit_growth.specs.Sources.{InterfaceStands, Source}
 use Rattle.wit_adding.specs.Addition.{Addition, addition_maps, interface_place, part}
@@ -38,12 +37,6 @@ use Rattle.wit_including_laws.specs.OnItsWay.{StandsSoFar}
 use Rattle.wit_adding_laws.specs.SourcesGood.{package_source, sources, sources_good}
 
 -- ---- interfaces without names
-
--- one that stands under another's name has a name if that has one
-unnamed_same : (xs ys : List Interface) (f f' : ℕ) (x y : Interface) → slice_get xs f ≡ Some x → slice_get ys f' ≡ Some y → y.name ≡ x.name → is_unnamed ys f' ≡ is_unnamed xs f
-unnamed_same xs ys f f' x y at at' name =
-    ap (λ (o : Option Interface). option_map_or (λ (i : Interface). not (is_some i.name)) o false) at' ∙ ap (λ (n : Option (List ℕ)). not (is_some n)) name
-    ∙ sym (ap (λ (o : Option Interface). option_map_or (λ (i : Interface). not (is_some i.name)) o false) at)
 
 unnamed_cut : (a : Addition) (f : ℕ) → is_unnamed (map (cut_interface (part a)) a.handed.interfaces) f ≡ is_unnamed a.handed.interfaces f
 unnamed_cut a f = by a.handed.interfaces f

@@ -1,11 +1,11 @@
 -- What takes part of a package stands among the types and interfaces of the graph behind which it is put: types,
 -- values and interfaces.
-use Rattle.std.proofs.Common.{◌≡◌, ◌∙◌, ℕ, ◌+◌, ◌<◌, ◌&&◌, Bool, true, false, List, ◌++◌, ◌⊎◌, inl, inr, map, filter, length, nat_eq, Option, None, Some, option_and_then, option_map, IsSome, slice_get, refl, sym, ap, subst, arith, Contains, if◌then◌else◌}
+use Rattle.std.proofs.Common.{◌≡◌, ◌∙◌, ℕ, ◌+◌, ◌<◌, Bool, true, false, List, ◌++◌, ◌⊎◌, inl, inr, map, filter, length, nat_eq, Option, None, Some, option_and_then, option_map, IsSome, slice_get, refl, sym, ap, subst, arith, Contains, if◌then◌else◌}
 use Rattle.std.specs.List.{list_any, range_with_len}
 use Rattle.std.specs.Map.{lookup}
 use Rattle.std.proofs.lemmas.List.{length-map}
 use Rattle.std.specs.Str.{bytes_eq}
-use Rattle.std.proofs.lemmas.Bool.{cases_Bool, false≢true, lt-ltb, ltb-true}
+use Rattle.std.proofs.lemmas.Bool.{and_parts, cases_Bool, false≢true, lt-ltb, ltb-true}
 use Rattle.std.proofs.lemmas.Map.Views.{Contains-from_lookup}
 use Rattle.std.proofs.lemmas.Slice.Eq.{bytes_eq-Decides}
 use Rattle.wit_values.specs.Lists.{slice_get-append}
@@ -172,12 +172,8 @@ module _ (a : Addition) (valid : IsValid a.graph) (shaped : IsShaped a.handed) (
   values_stand_there t def at active = elim (cases_Bool (needs_own a t)) [
     | inl needs ↦
         inr (
-          leads_named t def at active (second (list_any (nat_eq t) (positions a)) (leads_to_resource (plain_types a) (type_place a t)) needs),
+          leads_named t def at active (and_parts (list_any (nat_eq t) (positions a)) (leads_to_resource (plain_types a) (type_place a t)) needs).1,
           some_at (λ (there : TypeDef). (there.name ≡ None) × (there.owner ≡ owner.None) × (there.kind ≡ kind.Handle (Own (type_place a t)))) types (value_place a t) (own_of (type_place a t)) (own_at t def at needs) (refl, refl, refl),
         )
     | inr plain ↦ inl (ap (λ (b : Bool). if b then length a.graph.types + length (own_types a) + rank (needs_own a) t else type_place a t) plain)
   ]
-    where
-      second : (b c : Bool) → b && c ≡ true → c ≡ true
-      second true c h = h
-      second false c h = cc

@@ -11,6 +11,7 @@ use Rattle.wit_items.specs.declared.world.WorldInclude.{WorldInclude}
 use Rattle.wit_graph.specs.declared.graph.Graph.{Graph}
 use Rattle.wit_growth.specs.Image.{interface_image, type_image}
 use Rattle.wit_growth.specs.ListFacts.{from_map, old_or_new}
+use Rattle.wit_growth.specs.OptionFacts.{none_there}
 use Rattle.wit_adding.specs.Addition.{Addition, world_place}
 use Rattle.wit_adding.specs.Include.{Begun, copy_maps, goes_with, is_copied, with_world_included}
 use Rattle.wit_adding.specs.Pushed.{begun_with, with_include}
@@ -84,12 +85,8 @@ included_more home into include from world b = record {
         let nameless = unnamed (b.graph.interfaces) spot.0.0 spot.0.1 is.0 (goes_parts b.graph world spot.0.0 is.1).0 in
         subst (IsCopy home) made.2 (ap (λ (y : Interface). y.name) (sym spot.2) ∙ nameless, refl)
       where
-        no_name : (o : Option (List ℕ)) → not (is_some o) ≡ true → o ≡ None
-        no_name None h = refl
-        no_name (Some n) h = cc
-
         unnamed : (xs : List Interface) (f : ℕ) (y : Interface) → slice_get xs f ≡ Some y → is_unnamed xs f ≡ true → y.name ≡ None
-        unnamed xs f y at is = no_name y.name (sym (ap (λ (o : Option Interface). option_map_or (λ (interface : Interface). not (is_some interface.name)) o false) at) ∙ is)
+        unnamed xs f y at is = none_there y.name (sym (ap (λ (o : Option Interface). option_map_or (λ (interface : Interface). not (is_some interface.name)) o false) at) ∙ is)
 
 module _ (a : Addition) where
   -- an include, whatever it names

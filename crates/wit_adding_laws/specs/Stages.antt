@@ -1,6 +1,6 @@
 -- The stages of an addition, one after another: before each world, before each of its includes, and before it is
 -- finished, what is there is on its way.
-use Rattle.std.proofs.Common.{◌≡◌, ◌∙◌, inl, inr, ℕ, zero, suc, ◌<◌, ◌≤◌, List, [], ◌∷◌, ◌++◌, drop, fold, take, length, Some, slice_get, refl, sym, ap, subst, arith, codes}
+use Rattle.std.proofs.Common.{◌≡◌, ◌∙◌, inl, inr, ℕ, zero, suc, ◌<◌, ◌≤◌, List, [], ◌∷◌, ◌++◌, drop, fold, map, take, length, Some, slice_get, refl, sym, ap, subst, arith, codes}
 use Rattle.std.proofs.Math.Numerals.{add-one}
 use Rattle.std.proofs.lemmas.Bool.{cases_lt}
 use Rattle.std.proofs.lemmas.List.{append_assoc, take_all}
@@ -9,6 +9,7 @@ use Rattle.wit_values.specs.Lists.{push-cases, slice_get-append, slice_get-behin
 use Rattle.wit_relations.specs.Relation.{IsAcyclic}
 use Rattle.wit_sources.specs.Span.{moved_by}
 use Rattle.wit_items.specs.Each.{Each}
+use Rattle.wit_items.specs.Entries.{Entry}
 use Rattle.wit_items.specs.Uses.{uses_of}
 use Rattle.wit_items.specs.declared.interface.Interface.{Interface}
 use Rattle.wit_items.specs.declared.types.TypeDef.{TypeDef}
@@ -23,10 +24,10 @@ use Rattle.wit_growth.specs.Image.{world_image}
 use Rattle.wit_growth.specs.LawsOfElaboration.{LawsOfElaboration}
 use Rattle.wit_growth.specs.ListFacts.{at_map, get_at}
 use Rattle.wit_adding.specs.Addition.{Addition, active_includes, addition_maps, own_worlds, world_place}
-use Rattle.wit_adding.specs.Include.{Begun}
+use Rattle.wit_adding.specs.Include.{Begun, lists_of}
 use Rattle.wit_adding.specs.Pushed.{begun, begun_with, finished, with_include, with_parts, with_placed, with_world, with_worlds}
 use Rattle.wit_adding.specs.Reasons.{HasImage}
-use Rattle.wit_adding.specs.WorldReasons.{IncludeIsFine, WorldIsFine}
+use Rattle.wit_adding.specs.WorldReasons.{IncludeIsFine, IsListCalled, IsShadowed, WorldIsFine, renamed_key}
 use Rattle.wit_labels.specs.Setters.{placed}
 use Rattle.wit_adding_laws.specs.ListedStage.{listed_images}
 use Rattle.wit_adding_laws.specs.StageGrows.{HasMore, begun_more}
@@ -87,23 +88,20 @@ module _ (a : Addition) where
     -- nothing is shadowed by an include that is fine
     free_at : (j : ℕ) (include : WorldInclude) (old : World) → slice_get includes j ≡ Some include → IncludeIsFine a k j → slice_get (begun_at j).graph.worlds (world_place a include.id) ≡ Some old → IsFree (begun_at j) include old
     free_at j include old is fine there = record {
-      imports = λ n shadowed. fine.unshadowed (moved_by a.offset include.span) (codes "import") n (record {
-        at = record { at = record { place = e.0; world = e.1; is = at }; include = include; is = is; before = begun_at j; before_is = refl; old = old; old_is = there };
-        current = (begun_at j).lists.imports;
-        brought = old.imports;
-        list = (inl (refl, refl), inl (refl, refl));
-        shadowed = shadowed;
-        span_is = refl;
-      });
-      exports = λ n shadowed. fine.unshadowed (moved_by a.offset include.span) (codes "export") n (record {
-        at = record { at = record { place = e.0; world = e.1; is = at }; include = include; is = is; before = begun_at j; before_is = refl; old = old; old_is = there };
-        current = (begun_at j).lists.exports;
-        brought = old.exports;
-        list = (inr (refl, refl), inr (refl, refl));
-        shadowed = shadowed;
-        span_is = refl;
-      });
+      imports = λ n. none_shadowed (codes "import") (begun_at j).lists.imports old.imports n (inl (refl, refl), inl (refl, refl));
+      exports = λ n. none_shadowed (codes "export") (begun_at j).lists.exports old.exports n (inr (refl, refl), inr (refl, refl));
     }
+      where
+        none_shadowed : (word : List ℕ) (current brought : List Entry) (n : List ℕ) → IsListCalled word (begun_at j).lists current × IsListCalled word (lists_of old) brought
+            → IsShadowed current (map (λ (d : Entry). renamed_key include.names d.0) brought) n → ⊥
+        none_shadowed word current brought n list shadowed = fine.unshadowed (moved_by a.offset include.span) word n (record {
+          at = record { at = record { place = e.0; world = e.1; is = at }; include = include; is = is; before = begun_at j; before_is = refl; old = old; old_is = there };
+          current = current;
+          brought = brought;
+          list = list;
+          shadowed = shadowed;
+          span_is = refl;
+        })
 
     -- before each include what is begun is on its way
     pub begun_stands : StandsSoFar (stage a k) → (j : ℕ) → ((i : ℕ) → i < j → IncludeIsFine a k i) → StandsSoFar (staged a before k e (begun_at j))

@@ -16,7 +16,8 @@ use Rattle.wit_items.specs.declared.types.Type_.{Type_}
 use Rattle.wit_items.specs.declared.types.Type_.TheVariants as type
 use Rattle.wit_growth.specs.FunctionMismatch.{AreOfOneKind, AreOfOneSort, FunctionMismatch, HaveFunctionMismatch, kinds_differ, one_place, parameter_counts_differ, parameter_names_differ, parameter_types_differ, result_counts_differ, results_differ}
 use Rattle.wit_growth.specs.Image.{function_kind_image, value_image}
-use Rattle.wit_growth.specs.TestFacts.{all_are, implied, implies, none_some, some_same}
+use Rattle.wit_growth.specs.OptionFacts.{some_same}
+use Rattle.wit_growth.specs.TestFacts.{all_are, implied, implies, none_some}
 
 -- ---- functions
 

@@ -14,7 +14,7 @@ use Rattle.wit_growth.specs.Referred.{RefersUnder}
 use Rattle.wit_growth.specs.Sources.{IsCarriedFunction, IsCarriedType, Source, Stands}
 use Rattle.wit_growth.specs.ReferredFacts.{alias_image, function_refers, kind_refers, known_image, parts_refer, plain_image}
 
-from_mapped : (f : ℕ → ℕ) (o : Option ℕ) (t' : ℕ) → option_map f o ≡ Some t' → (t : ℕ) × (o ≡ Some t) × (t' ≡ f t)
+pub from_mapped : (f : ℕ → ℕ) (o : Option ℕ) (t' : ℕ) → option_map f o ≡ Some t' → (t : ℕ) × (o ≡ Some t) × (t' ≡ f t)
 from_mapped f None t' is = cc
 from_mapped f (Some t) t' is = (t, refl, cc)
 

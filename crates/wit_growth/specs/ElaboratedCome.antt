@@ -17,7 +17,8 @@ use Rattle.wit_growth.specs.Covered.{EntryComes, IsDependency, IsNoType, ItemCom
 use Rattle.wit_growth.specs.Sources.{Source}
 use Rattle.wit_growth.specs.ListFacts.{contained_at, place_of}
 
-settled_interface : (held : WorldItem) → item_interface (settled_item held) ≡ item_interface held
+-- an item with its stability settled is the same interface
+pub settled_interface : (held : WorldItem) → item_interface (settled_item held) ≡ item_interface held
 settled_interface (item.Interface i stability docs span external_id) = refl
 settled_interface (item.Function f) = refl
 settled_interface (item.Type_ t span) = refl

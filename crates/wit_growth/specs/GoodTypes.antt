@@ -19,7 +19,8 @@ use Rattle.wit_growth.specs.Good.{IsGoodType}
 use Rattle.wit_growth.specs.Image.{name_image, owner_image}
 use Rattle.wit_growth.specs.Sources.{Carries, InterfaceStands, IsCarriedType, IsClosed, OwnerTakesPart, Source, Stands, WorldStands}
 use Rattle.wit_growth.specs.ListFacts.{contained_at, found_at, place_of, some_at}
-use Rattle.wit_growth.specs.OwnedFacts.{none_from, nameless, owns_refer, some_from}
+use Rattle.wit_growth.specs.OptionFacts.{none_or_some}
+use Rattle.wit_growth.specs.OwnedFacts.{none_from, owns_refer, some_from}
 
 -- what an alias names it refers to
 pub alias_referred : (k : TypeDefKind) (t : ℕ) → alias_target k ≡ Some t → Contains (referred k) t
@@ -124,5 +125,5 @@ good_own g h t def name by is = record {
   listed = subst (λ (o : TypeOwner). IsListed g.interfaces g.worlds h def.name o) (sym by) name;
   alias = subst (λ (k : TypeDefKind). IfSome (alias_target k) (IsAliased g.types g.interfaces def.owner)) (sym is) tt;
   unnamed = λ none. subst IsPlain (sym is) tt;
-  own = λ named. absurd (nameless def.name name named);
+  own = λ named. absurd (none_or_some def.name name named);
 }

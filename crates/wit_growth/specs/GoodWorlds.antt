@@ -24,7 +24,7 @@ use Rattle.wit_growth.specs.Sources.{Carries, InterfaceStands, IsClosed, IsGoodS
 use Rattle.wit_growth.specs.GoodInterfaces.{function_stands, type_stands}
 use Rattle.wit_growth.specs.GoodTypes.{named_stands}
 use Rattle.wit_growth.specs.ListFacts.{found_at, get_at, place_of, some_at}
-use Rattle.wit_growth.specs.OwnedFacts.{nameless}
+use Rattle.wit_growth.specs.OptionFacts.{none_or_some}
 
 -- ---- imports and exports
 
@@ -128,7 +128,7 @@ module _ (g : Graph) (w : ℕ) (world : World) where
         subst (λ (x : WorldKey). IsExport g.interfaces x (item.Interface i stability docs span external_id)) (sym is) (same, named),
         tt,
         subst (λ (j : ℕ). SomeAt g.interfaces j (λ (interface : Interface). (interface.name ≡ None) → interface.package ≡ world.package)) (sym same)
-            (some_at (λ (interface : Interface). (interface.name ≡ None) → interface.package ≡ world.package) g.interfaces f there.0 there.1 (λ none. absurd (nameless there.0.name none there.2))),
+            (some_at (λ (interface : Interface). (interface.name ≡ None) → interface.package ≡ world.package) g.interfaces f there.0 there.1 (λ none. absurd (none_or_some there.0.name none there.2))),
         tt,
       )
   depends k (item.Function fn) f is held named = cc

@@ -16,7 +16,7 @@ use Rattle.wit_growth.specs.ListFacts.{Contains-map, contained_at, from_map}
 use Rattle.wit_growth.specs.ReferredFacts.{function_refers}
 
 -- keys that differ, differ under other values
-distinct_map : {K V W : Type 0} (h : V → W) (es : List (K × V)) → HasDistinctKeys es → HasDistinctKeys (map (λ (e : K × V). let f : K × W = (e.0, h e.1) in f) es)
+pub distinct_map : {K V W : Type 0} (h : V → W) (es : List (K × V)) → HasDistinctKeys es → HasDistinctKeys (map (λ (e : K × V). let f : K × W = (e.0, h e.1) in f) es)
 distinct_map {K} {V} {W} h es distinct i j e f first second same =
     let a = from_map (λ (e : K × V). let f : K × W = (e.0, h e.1) in f) es i e first in
     let b = from_map (λ (e : K × V). let f : K × W = (e.0, h e.1) in f) es j f second in

@@ -28,6 +28,7 @@ pub mod OnePlaceFacts
 pub mod OnePlaceFrom
 pub mod OperationFacts
 pub mod Operations
+pub mod OptionFacts
 pub mod OwnedFacts
 pub mod PackageCycleFacts
 pub mod PackageCycles

@@ -7,6 +7,7 @@ use Rattle.std.proofs.lemmas.Option.{slice_get-map, slice_get_within, slice_get-
 use Rattle.wit_values.specs.Lists.{slice_get-append}
 use Rattle.wit_items.specs.Each.{Each, EachAt, SomeAt}
 use Rattle.wit_relations.specs.Relation.{direct}
+use Rattle.wit_growth.specs.OptionFacts.{some_same}
 
 -- ---- places
 
@@ -146,7 +147,4 @@ get_at (x ∷ xs) (suc i) within = get_at xs i (omega arith)
 
 -- one place has one thing
 pub same_at : {X : Type 0} (xs : List X) (i j : ℕ) (x y : X) → i ≡ j → slice_get xs i ≡ Some x → slice_get xs j ≡ Some y → x ≡ y
-same_at xs i j x y same first second = inside x y (sym first ∙ ap (slice_get xs) same ∙ second)
-  where
-    inside : {X : Type 0} (x y : X) → Some x ≡ Some y → x ≡ y
-    inside x y h = cc
+same_at xs i j x y same first second = some_same x y (sym first ∙ ap (slice_get xs) same ∙ second)

@@ -19,7 +19,8 @@ use Rattle.wit_growth.specs.Sources.{Carries, InterfaceStands, IsGoodSource, Ite
 use Rattle.wit_growth.specs.GoodWorlds.{same_one}
 use Rattle.wit_growth.specs.ListFacts.{found_at, get_at, place_of, same_at}
 
-unnamed_same : (xs ys : List Interface) (f f' : ℕ) (x y : Interface) → slice_get xs f ≡ Some x → slice_get ys f' ≡ Some y → y.name ≡ x.name → is_unnamed ys f' ≡ is_unnamed xs f
+-- one that stands under another's name has a name if that has one
+pub unnamed_same : (xs ys : List Interface) (f f' : ℕ) (x y : Interface) → slice_get xs f ≡ Some x → slice_get ys f' ≡ Some y → y.name ≡ x.name → is_unnamed ys f' ≡ is_unnamed xs f
 unnamed_same xs ys f f' x y at at' name =
     ap (λ (o : Option Interface). option_map_or (λ (i : Interface). not (is_some i.name)) o false) at' ∙ ap (λ (n : Option (List ℕ)). not (is_some n)) name
     ∙ sym (ap (λ (o : Option Interface). option_map_or (λ (i : Interface). not (is_some i.name)) o false) at)

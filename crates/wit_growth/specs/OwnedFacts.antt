@@ -17,17 +17,18 @@ use Rattle.wit_growth.specs.Image.{name_image, owner_image}
 use Rattle.wit_growth.specs.Referred.{GoesTo, RefersUnder}
 use Rattle.wit_growth.specs.Sources.{Carries, IsClosed, IsOwnOf, Source, Stands, TakePart}
 use Rattle.wit_growth.specs.ListFacts.{found_at, from_row, get_at, in_row, some_at}
+use Rattle.wit_growth.specs.OptionFacts.{none_or_some}
 use Rattle.wit_growth.specs.RowFacts.{Reaches-self, Reaches-use, lifted}
 
 -- what a type refers to if it has no name
-abbrev row : TypeDef → List ℕ
+abbrev pub row : TypeDef → List ℕ
 row def = if is_some def.name then [] else referred def.kind
 
-row_from : (name : Option (List ℕ)) (ids : List ℕ) (k : ℕ) → Contains (if is_some name then [] else ids) k → (name ≡ None) × Contains ids k
+pub row_from : (name : Option (List ℕ)) (ids : List ℕ) (k : ℕ) → Contains (if is_some name then [] else ids) k → (name ≡ None) × Contains ids k
 row_from None ids k has = (refl, has)
 row_from (Some name) ids k has = absurd (Contains-nil has)
 
-row_into : (name : Option (List ℕ)) (ids : List ℕ) (k : ℕ) → name ≡ None → Contains ids k → Contains (if is_some name then [] else ids) k
+pub row_into : (name : Option (List ℕ)) (ids : List ℕ) (k : ℕ) → name ≡ None → Contains ids k → Contains (if is_some name then [] else ids) k
 row_into None ids k none has = has
 row_into (Some name) ids k none has = cc
 
@@ -39,10 +40,6 @@ none_from f (Some name) new is none = cc
 pub some_from : (f : List ℕ → List ℕ) (old new : Option (List ℕ)) → new ≡ option_map f old → IsSome new → IsSome old
 some_from f None new is some = subst IsSome is some
 some_from f (Some name) new is some = refl
-
-pub nameless : {X : Type 0} (o : Option X) → o ≡ None → IsSome o → ⊥
-nameless None none some = cc
-nameless (Some x) none some = cc
 
 module _ (s : Source) (g : Graph) (closed : IsClosed s) (carries : Carries s g) where
   -- t' is the image of type t, or an `own` of it
@@ -120,7 +117,7 @@ module _ (s : Source) (g : Graph) (closed : IsClosed s) (carries : Carries s g) 
         | inr own ↦
             let found = found_at (λ (def : TypeDef). (def.name ≡ None) × (def.owner ≡ owner.None) × (def.kind ≡ kind.Handle (Own (s.maps.types t)))) g.types t' own.1 in
             let same : found.0 ≡ here.0 = let at = found.1 in let at' = here.1 in cc in
-            absurd (nameless here.0.name (ap (λ (d : TypeDef). d.name) (sym same) ∙ found.2.0) here.2.0)
+            absurd (none_or_some here.0.name (ap (λ (d : TypeDef). d.name) (sym same) ∙ found.2.0) here.2.0)
       ]
 
   pub in_target : (t t' : ℕ) → Over t t' → t' < length g.types

@@ -23,10 +23,11 @@ use Rattle.wit_graph.specs.ListedFacts.{lists_in_order}
 use Rattle.wit_graph.specs.Relations.{entry_interface, entry_interfaces, other_package, package_interfaces, package_needs, package_uses, world_interfaces}
 use Rattle.wit_graph.specs.Valid.{IsInTable}
 use Rattle.wit_graph.specs.declared.graph.Package.{Package}
-use Rattle.wit_growth.specs.DependencyFacts.{filter_map_from, filter_map_into, some_parts, some_whole}
+use Rattle.wit_growth.specs.DependencyFacts.{filter_map_from, filter_map_into}
 use Rattle.wit_growth.specs.EntryFacts.{export_named, export_there, import_named, import_there, instance_interface, key_named, root_interface, root_named, settled_interface}
 use Rattle.wit_growth.specs.ListFacts.{found_at, from_row, get_at, in_row, place_of, same_at, some_at}
 use Rattle.wit_growth.specs.NamedUses.{used_is_named}
+use Rattle.wit_growth.specs.OptionFacts.{some_parts, some_same, some_there, some_whole}
 use Rattle.wit_growth.specs.PackageCycles.{AreElaborated, IsElaboratedFrom, ListsKey}
 use Rattle.wit_growth.specs.PackagesAcyclic.{is_there, length-numbered, numbered_from, numbered_into, there_is}
 use Rattle.wit_growth.specs.RowFacts.{Reaches-join, Reaches-self, Reaches-use}
@@ -104,9 +105,6 @@ module _ (types : List TypeDef) (interfaces : List Interface) (packages : List P
         let same : home.q ≡ q = some_same home.q q (sym home.of ∙ of.2) in
         let within = slice_get_within packages home.q home.home home.there in
         omega (arith, same, within, length-map (enumerate_from 0 packages) needs_of, length-numbered 0 packages)
-      where
-        some_same : (x y : ℕ) → Some x ≡ Some y → x ≡ y
-        some_same x y same = cc
 
     -- where no package that is there is on a cycle, they are acyclic
     pub acyclic_packages : ((p q : ℕ) (home : Package) → slice_get packages p ≡ Some home → IsOnCycle rows p q → ⊥) → IsAcyclic rows
@@ -133,9 +131,6 @@ module _ (entries : ElaboratedEntries) (types : List TypeDef) (interfaces : List
 
   abbrev by_worlds : List World → List ℕ × ℕ → List ℕ
   by_worlds worlds e = option_map_or (world_interfaces types) (slice_get worlds e.1) []
-
-  some_same : (x y : ℕ) → Some x ≡ Some y → x ≡ y
-  some_same x y same = cc
 
   -- before, package p was that of interface i, or depended on it through whatever others
   record Leads (p i : ℕ) : Type 0 where
@@ -166,7 +161,7 @@ module _ (entries : ElaboratedEntries) (types : List TypeDef) (interfaces : List
   leads_on p i j leads named edge =
       let found = found_at (λ (x : Interface). IsSome x.name) interfaces i named in
       let same = same_at interfaces i i found.0 leads.interface refl found.1 leads.at in
-      let name = the_name leads.interface.name (subst (λ (x : Interface). IsSome x.name) same found.2) in
+      let name = some_there leads.interface.name (subst (λ (x : Interface). IsSome x.name) same found.2) in
       let h = home_of types interfaces packages are.tables i leads.interface leads.at in
       let one : h.q ≡ leads.q = some_same h.q leads.q (sym h.of ∙ leads.of) in
       let row = from_row (interface_uses types) interfaces i j edge in
@@ -179,10 +174,6 @@ module _ (entries : ElaboratedEntries) (types : List TypeDef) (interfaces : List
       let on = leads_named h.q h.home j used.0 h.there in_home used.1 in
       record { interface = on.interface; at = on.at; q = on.q; of = on.of; reaches = Reaches-join old_rows p h.q on.q (subst (Reaches old_rows p) (sym one) leads.reaches) on.reaches }
     where
-      the_name : (o : Option (List ℕ)) → IsSome o → (name : List ℕ) × (o ≡ Some name)
-      the_name None is = cc
-      the_name (Some name) is = (name, refl)
-
       if_some : (P : List ℕ → Type 0) (o : Option (List ℕ)) (x : List ℕ) → o ≡ Some x → IfSome o P → P x
       if_some P None x is h = cc
       if_some P (Some y) x is h = let same : y ≡ x = cc in subst P same h

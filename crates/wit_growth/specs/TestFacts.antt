@@ -1,12 +1,14 @@
 -- Tests that compute, of lists and rows that are written out: what is known of what passes. The crates of examples use
--- them.
-use Rattle.std.proofs.Common.{◌≡◌, ◌∙◌, ℕ, zero, suc, ◌<◌, ◌≤◌, Bool, true, false, ◌&&◌, List, [], ◌∷◌, Option, Some, None, slice_get, sym, ap, subst, inl, inr, arith, Contains, nat_lt, if◌then◌else◌}
+-- them, and what tells things apart.
+use Rattle.std.proofs.Common.{◌≡◌, ◌∙◌, ◌⊎◌, ℕ, zero, suc, ◌<◌, ◌≤◌, Bool, true, false, ◌&&◌, List, [], ◌∷◌, Option, Some, None, slice_get, sym, ap, subst, inl, inr, arith, Contains, nat_lt, if◌then◌else◌}
 use Rattle.std.proofs.lemmas.Bool.{and_parts, false≢true, ltb-true}
 use Rattle.std.specs.List.{list_all}
 use Rattle.std.specs.Option.{option_map_or}
 use Rattle.wit_relations.specs.Cycles.{IsOnCycle}
 use Rattle.wit_relations.specs.MemberFacts.{Contains-cons_cases, Contains-nil}
 use Rattle.wit_relations.specs.Relation.{IsPath, direct}
+use Rattle.wit_items.specs.declared.stability.Stability.{Stability}
+use Rattle.wit_items.specs.declared.stability.Stability.TheVariants.{Unknown, Stable, Unstable}
 
 -- where a holds, b does
 abbrev pub implies : Bool → Bool → Bool
@@ -27,9 +29,6 @@ is_empty (x ∷ xs) = false
 -- ---- lists
 
 module _ {X : Type 0} where
-  pub some_same : (x y : X) → Some x ≡ Some y → x ≡ y
-  some_same x y same = cc
-
   pub none_some : (x : X) → None ≡ Some x → ⊥
   none_some x same = cc
 
@@ -39,6 +38,11 @@ module _ {X : Type 0} where
   pub only_one : (first x : X) → Contains (first ∷ []) x → first ≡ x
   only_one first x (zero, below, is) = is
   only_one first x (suc k, below, is) = absurd (omega (arith, below))
+
+  pub one_of_two : (first second x : X) → Contains (first ∷ second ∷ []) x → (first ≡ x) ⊎ (second ≡ x)
+  one_of_two first second x (zero, below, is) = inl is
+  one_of_two first second x (suc zero, below, is) = inr is
+  one_of_two first second x (suc (suc k), below, is) = absurd (omega (arith, below))
 
   pub nothing_in : (xs : List X) (x : X) → is_empty xs ≡ true → Contains xs x → ⊥
   nothing_in [] x empty inside = Contains-nil inside
@@ -113,3 +117,11 @@ module _ (k : ℕ) (rows : List (List ℕ)) (all : all_uses (avoids k) rows ≡ 
   -- so the last node is on no cycle
   pub not_on_cycle : (j : ℕ) → IsOnCycle rows k j → ⊥
   not_on_cycle j cycle = let back = ends j cycle.leads_back.0 k (below k j cycle.is_used) cycle.leads_back.1 in omega (arith, back)
+
+-- ---- what tells things apart
+
+-- the feature that a note asks for
+abbrev pub feature_of : Stability → List ℕ
+feature_of Unknown = []
+feature_of (Stable since deprecated) = []
+feature_of (Unstable feature deprecated) = feature

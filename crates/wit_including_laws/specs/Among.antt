@@ -17,6 +17,7 @@ use Rattle.wit_items.specs.declared.types.Type_.TheVariants as type
 use Rattle.wit_graph.specs.declared.graph.Graph.{Graph}
 use Rattle.wit_growth.specs.GoodTypes.{IsAliased, from_if}
 use Rattle.wit_growth.specs.ListFacts.{found_at, from_row, in_row, place_of, same_at, some_at}
+use Rattle.wit_growth.specs.OwnedFacts.{row_into}
 use Rattle.wit_including_laws.specs.OnItsWay.{StandsSoFar}
 
 -- ---- kinds and names
@@ -34,10 +35,6 @@ not_alias other u plain is = cc
 some_or_none : {X : Type 0} (o : Option X) → IsSome o ⊎ (o ≡ None)
 some_or_none None = inr refl
 some_or_none (Some x) = inl refl
-
-row_into : (name : Option (List ℕ)) (ids : List ℕ) (k : ℕ) → name ≡ None → Contains ids k → Contains (if is_some name then [] else ids) k
-row_into None ids k none has = has
-row_into (Some name) ids k none has = cc
 
 row_named : (name : Option (List ℕ)) (ids : List ℕ) (k : ℕ) → IsSome name → Contains (if is_some name then [] else ids) k → ⊥
 row_named None ids k some has = cc

@@ -60,6 +60,14 @@ joined_type other brought e name t is = λ j. (e.0, stays (lookup (same_key e.0)
     stays (Some from) = one from
 
 module _ (g : Graph) (stands : StandsSoFar g) (i : Including g) where
+  -- the world that is included goes to the one that includes it
+  pub world_goes_into : (maps g i).worlds i.from ≡ i.into
+  world_goes_into = by (nat_eq i.from i.from) (eq-eqb i.from i.from refl)
+    where
+      by : (b : Bool) → b ≡ true → (if b then i.into else i.from) ≡ i.into
+      by true h = refl
+      by false h = cc
+
   -- the lists that are joined
   import_named : (w : ℕ) (world : World) → slice_get g.worlds w ≡ Some world → (e : Entry) (f : ℕ) → Contains world.imports e → e.0 ≡ key.Interface f → IsNamed g.interfaces f
   import_named w world at e f has is =
@@ -230,17 +238,10 @@ module _ (g : Graph) (stands : StandsSoFar g) (i : Including g) where
           subst (λ (x : World). SomeAt new.worlds ((maps g i).worlds w) (WorldStands copy_source w x)) (ap (cut_world kept) (sym same) ∙ whole.2)
           (subst (λ (v : ℕ). SomeAt new.worlds ((maps g i).worlds v) (WorldStands copy_source v (cut_world kept i.old))) (sym place) included_stands)
         where
-          goes_into : (b : Bool) → b ≡ true → (if b then i.into else i.from) ≡ i.into
-          goes_into true h = refl
-          goes_into false h = cc
-
-          there : (maps g i).worlds i.from ≡ i.into
-          there = goes_into (nat_eq i.from i.from) (eq-eqb i.from i.from refl)
-
           included_stands : SomeAt new.worlds ((maps g i).worlds i.from) (WorldStands copy_source i.from (cut_world (copied_part g i.from i.old) i.old))
           included_stands =
               let kept = copied_part g i.from i.old in
-              subst (λ (v : ℕ). SomeAt new.worlds v (WorldStands copy_source i.from (cut_world kept i.old))) (sym there)
+              subst (λ (v : ℕ). SomeAt new.worlds v (WorldStands copy_source i.from (cut_world kept i.old))) (sym world_goes_into)
               (some_at (WorldStands copy_source i.from (cut_world kept i.old)) new.worlds i.into (joined_world g i) are.joined_at (record {
                 types = λ name t has taken.
                     let d = Contains-flat_map_cases (λ (d : Entry). listed_type d.0 d.1) (cut_world kept i.old).imports (name, t) has in

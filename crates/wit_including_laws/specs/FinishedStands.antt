@@ -10,20 +10,19 @@ use Rattle.wit_items.specs.Uses.{uses_of}
 use Rattle.wit_items.specs.declared.interface.Interface.{Interface}
 use Rattle.wit_items.specs.declared.types.TypeDef.{TypeDef}
 use Rattle.wit_items.specs.declared.world.World.{World}
-use Rattle.wit_items.specs.declared.world.WorldItem.{WorldItem}
 use Rattle.wit_items.specs.declared.world.WorldItem.TheVariants as item
 use Rattle.wit_items.specs.declared.world.WorldKey.{WorldKey}
 use Rattle.wit_items.specs.declared.world.WorldKey.TheVariants as key
 use Rattle.wit_graph.proofs.Classes.{in_by_class}
 use Rattle.wit_graph.proofs.Filters.{Contains-filter, Contains-filtered}
-use Rattle.wit_graph.specs.Elaborated.{Elaborated, settled_item}
+use Rattle.wit_graph.specs.Elaborated.{Elaborated}
 use Rattle.wit_graph.specs.Entries.{by_class}
 use Rattle.wit_graph.specs.KeptByElaboration.{is_label, labelled, settled}
 use Rattle.wit_graph.specs.declared.graph.Graph.{Graph}
 use Rattle.wit_growth.specs.Covered.{IsCovered, WorldComes}
 use Rattle.wit_growth.specs.CoveredIsValid.{covered_items}
 use Rattle.wit_growth.specs.Cut.{StaysIn, graph_source, kept_whole}
-use Rattle.wit_growth.specs.ElaboratedCome.{elaborated_comes}
+use Rattle.wit_growth.specs.ElaboratedCome.{elaborated_comes, settled_interface}
 use Rattle.wit_growth.specs.GoodWorlds.{same_one}
 use Rattle.wit_growth.specs.GraphSource.{graph_stands, items_are_good}
 use Rattle.wit_growth.specs.Image.{identity, key_image}
@@ -41,11 +40,6 @@ use Rattle.wit_including_laws.specs.OnItsWay.{StandsSoFar}
 use Rattle.wit_including_laws.specs.PlacedFacts.{placed_in, placed_into}
 use Rattle.wit_including_laws.specs.PlacedWorlds.{exported_named, exports_distinct, imports_distinct, placed_in_order, used_named}
 use Rattle.wit_including_laws.specs.Remains.{beside, export_remains, import_remains, interface_remains, type_remains, world_remains}
-
-settled_interface : (held : WorldItem) → item_interface (settled_item held) ≡ item_interface held
-settled_interface (item.Interface i stability docs span external_id) = refl
-settled_interface (item.Function f) = refl
-settled_interface (item.Type_ t span) = refl
 
 -- world `host` at place `into` becomes `done`, its elaboration, and all else stays
 module _ (laws : LawsOfElaboration) (g : Graph) (stands : StandsSoFar g) (into : ℕ) (host : World) (host_at : slice_get g.worlds into ≡ Some host) (done : World)

@@ -1,5 +1,5 @@
 -- Behind an include each thing comes of the graph on its way, as it stood or as a copy.
-use Rattle.std.proofs.Common.{◌≡◌, ◌∙◌, ◌⊎◌, inl, inr, ℕ, Bool, true, false, List, [], ◌++◌, if◌then◌else◌, Option, None, Some, slice_get, refl, sym, ap, subst, Contains, nat_eq}
+use Rattle.std.proofs.Common.{◌≡◌, ◌∙◌, ◌⊎◌, inl, inr, ℕ, Bool, true, false, List, [], ◌++◌, Option, None, Some, slice_get, refl, sym, ap, subst, Contains}
 use Rattle.std.specs.Map.{lookup}
 use Rattle.std.specs.Option.{option_map_or}
 use Rattle.std.proofs.lemmas.Bool.{eq-eqb}
@@ -28,7 +28,7 @@ use Rattle.wit_including_laws.specs.Copies.{copied_mentioned, interface_from, ty
 use Rattle.wit_including_laws.specs.CopiedPart.{copied_part, going_functions, going_types, has_name, part_good, takes_mentioned}
 use Rattle.wit_including_laws.specs.Mentioned.{entry_mentioned}
 use Rattle.wit_relations.specs.MemberFacts.{Contains-here}
-use Rattle.wit_including_laws.specs.CopiesCarried.{IsUnshadowed, copies_stand, copy_source, graph_stays, joins_exports, joins_imports}
+use Rattle.wit_including_laws.specs.CopiesCarried.{IsUnshadowed, copies_stand, copy_source, graph_stays, joins_exports, joins_imports, world_goes_into}
 use Rattle.wit_including_laws.specs.IncludedWorld.{Including, IsIncluded, brought, is_other, joined_world, maps}
 use Rattle.wit_including_laws.specs.JoinedFacts.{distinct_joined, from_brought, joined_cases}
 use Rattle.wit_including_laws.specs.JoinedItems.{joined_comes, new_comes, no_type_joined, no_type_new}
@@ -105,17 +105,10 @@ module _ (g : Graph) (stands : StandsSoFar g) (i : Including g) where
             by k (item.Function f) has = refl
             by k (item.Type_ t span) has = takes_mentioned g stands i.from i.old i.old_at t (entry_mentioned g stands i.from i.old i.old_at (k, item.Type_ t span) t has (Contains-here t []))
 
-    goes_into : (b : Bool) → b ≡ true → (if b then i.into else i.from) ≡ i.into
-    goes_into true h = refl
-    goes_into false h = cc
-
-    there_into : (maps g i).worlds i.from ≡ i.into
-    there_into = goes_into (nat_eq i.from i.from) (eq-eqb i.from i.from refl)
-
     -- an entry that is brought comes of the included world
     brought_comes : (e : Entry) → Contains (i.old.imports ++ i.old.exports) e → EntryComes sources i.into (entry_image (maps g i) i.from e)
     brought_comes e has =
-        subst (λ (v : ℕ). EntryComes sources v (entry_image (maps g i) i.from e)) there_into
+        subst (λ (v : ℕ). EntryComes sources v (entry_image (maps g i) i.from e)) (world_goes_into g stands i)
         (entry_image_comes sources true i.from i.old e (at_map (cut_world kept) g.worlds i.from i.old i.old_at ∙ ap Some all_of_it) (eq-eqb i.from i.from refl) has)
 
     new_one_comes : (e d : Entry) → Contains (i.old.imports ++ i.old.exports) e → entry_image (maps g i) i.from e ≡ d → EntryComes sources i.into (d.0, new_item (is_other g i) d.0 d.1)

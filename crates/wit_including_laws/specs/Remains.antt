@@ -29,17 +29,18 @@ abbrev pub beside : Graph → Source → Bool → Source
 beside g other false = graph_source g
 beside g other true = other
 
-key_stays : (w : ℕ) (k : WorldKey) → k ≡ key_image identity w k
+-- what stays at its place, under its key, comes of itself
+pub key_stays : (w : ℕ) (k : WorldKey) → k ≡ key_image identity w k
 key_stays w (key.Name label) = refl
 key_stays w (key.Interface f) = refl
 
-item_stays : (g : Graph) (w : ℕ) (held : WorldItem) → ItemComes (graph_source g) w held held
+pub item_stays : (g : Graph) (w : ℕ) (held : WorldItem) → ItemComes (graph_source g) w held held
 item_stays g w (item.Interface i stability docs span external_id) = refl
 item_stays g w (item.Function f) = (f, refl, refl, function_itself_carried (graph_source g) f refl)
 item_stays g w (item.Type_ t span) = (span, refl)
 
 module _ (interfaces : List Interface) (types : List TypeDef) where
-  import_in_range : (w : ℕ) (k : WorldKey) (held : WorldItem) → IsImport interfaces types w k held → item_in_range (length types) held ≡ true
+  pub import_in_range : (w : ℕ) (k : WorldKey) (held : WorldItem) → IsImport interfaces types w k held → item_in_range (length types) held ≡ true
   import_in_range w k (item.Interface i stability docs span external_id) is = refl
   import_in_range w k (item.Function f) is = refl
   import_in_range w (key.Interface f) (item.Type_ t span) is = absurd is
@@ -54,7 +55,7 @@ export_no_type interfaces k (item.Function f) is = tt
 export_no_type interfaces (key.Interface f) (item.Type_ t span) is = absurd is
 export_no_type interfaces (key.Name name) (item.Type_ t span) is = absurd is
 
-no_type_in_range : (types : ℕ) (held : WorldItem) → IsNoType held → item_in_range types held ≡ true
+pub no_type_in_range : (types : ℕ) (held : WorldItem) → IsNoType held → item_in_range types held ≡ true
 no_type_in_range types (item.Interface i stability docs span external_id) is = refl
 no_type_in_range types (item.Function f) is = refl
 no_type_in_range types (item.Type_ t span) is = absurd is

@@ -32,17 +32,21 @@ same_sort from into = false
 
 -- an item that is handed in and the one under its key differ
 pub data ItemsDiffer (m : Merging) (from into : WorldItem) : List ℕ → Type 0 where
+  -- they aren't of one sort
   sorts : same_sort from into ≡ false → ItemsDiffer m from into other_sort_text
-  -- interfaces that aren't matched: of the names of one package or, where neither has a name, of one spot
+  -- interfaces, of which the first isn't matched with the second
   interfaces : (i i' : ℕ) → item_interface from ≡ i ∷ [] → item_interface into ≡ i' ∷ [] → found_interface m i ≢ Some i' → ItemsDiffer m from into other_interface_text
-  -- interfaces without a name, whose functions are asked here
+  -- matched interfaces without a name that disagree in a function; of those with a name that is told once, of the graphs
   unnamed : (text : List ℕ) (p : Pair (found_interface m) m.other.interfaces m.graph.interfaces) → item_interface from ≡ p.x ∷ [] → item_interface into ≡ p.x' ∷ [] → p.from.name ≡ None
       → HaveFunctionMismatch p.from p.into text → ItemsDiffer m from into text
 
 -- the imports or the exports of matched worlds differ; word is `import` or `export`
 pub data EntriesDiffer (m : Merging) (word : List ℕ) (from into : List Entry) : List ℕ → Type 0 where
+  -- they aren't as many
   count : length from ≢ length into → EntriesDiffer m word from into (entry_count_text word)
+  -- there is none under the key of an entry
   absent : (e : Entry) → Contains from e → found_item m into e.0 ≡ None → EntriesDiffer m word from into (absent_text word (key_text m.other.packages m.other.interfaces e.0))
+  -- there is one, and it differs
   apart : (e : Entry) (there : WorldItem) (text : List ℕ) → Contains from e → found_item m into e.0 ≡ Some there → ItemsDiffer m e.1 there text
       → EntriesDiffer m word from into (linked (entry_link word (key_text m.other.packages m.other.interfaces e.0) ∷ []) text)
 

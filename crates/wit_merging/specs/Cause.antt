@@ -18,6 +18,7 @@ use Rattle.wit_merging.specs.Matches.{Merging}
 use Rattle.wit_merging.specs.Reasons.{AreOne, Mismatches, PassesTheEnd, ReturnsBorrow}
 use Rattle.wit_merging.specs.United.{joined_graph}
 
+-- why the two graphs of a merge can't be made one
 pub data IsMergeCause (m : Merging) : ResolveErrorKind → Type 0 where
   conflict_4 : (span : Place) (name : List ℕ) → AreOne m → IsInConflict (joined_graph m) span name → IsMergeCause m (InvalidTransitiveDependency span name)
   package_cycle_6 : (home : PackageName) → AreOne m → DependsOnItself (joined_graph m) home → IsMergeCause m (PackageCycle None home)

@@ -22,7 +22,7 @@ use Rattle.wit_merging.specs.Moved.{brought_functions, brought_types, interface_
 abbrev pub with_type : TypeDef → TypeDef → TypeDef
 with_type from into = record into { stability = joined_stability from.stability into.stability }
 
--- type t' of the graph
+-- a type of the graph, by its place and what it is: with what is matched with it, if something is
 abbrev pub joined_type : Merging → ℕ × TypeDef → TypeDef
 joined_type m e = option_map_or (λ (p : ℕ × TypeDef). with_type p.1 e.1) (partner (found_type m) m.other.types e.0) e.1
 
@@ -36,21 +36,23 @@ with_interface m from into = record into {
   stability = joined_stability from.stability into.stability;
 }
 
+-- so an interface of the graph
 abbrev pub joined_interface : Merging → ℕ × Interface → Interface
 joined_interface m e = option_map_or (λ (p : ℕ × Interface). with_interface m p.1 e.1) (partner (found_interface m) m.other.interfaces e.0) e.1
 
 -- ---- worlds
 
--- does the entry stand under the key of an interface?
+-- is it the key of an interface?
 abbrev pub is_under_id : WorldKey → Bool
 is_under_id (key.Name label) = false
 is_under_id (key.Interface i) = true
 
--- entries, of which those under the keys of interfaces take the stabilities of others under the same keys
+-- entries of a world, each with the stability joined to it of the entry under its key among those of world w of the
+-- graph that is handed in; so under keys of interfaces alone
 abbrev pub with_entries : Merging → ℕ → List Entry → List Entry → List Entry
 with_entries m w from into = map (joined_entry false (map (entry_image (merge_maps m) w) (filter (λ (e : Entry). is_under_id e.0) from))) into
 
--- a world, with the stabilities of another joined to its own
+-- a world, with the stabilities of another, which comes with its place, joined to its own
 abbrev pub with_world : Merging → ℕ × World → World → World
 with_world m p into = record into {
   imports = with_entries m p.0 p.1.imports into.imports;
@@ -58,6 +60,7 @@ with_world m p into = record into {
   stability = joined_stability p.1.stability into.stability;
 }
 
+-- so a world of the graph
 abbrev pub joined_world : Merging → ℕ × World → World
 joined_world m e = option_map_or (λ (p : ℕ × World). with_world m p e.1) (partner (found_world m) m.other.worlds e.0) e.1
 
@@ -70,5 +73,6 @@ with_package m from into = record into {
   worlds = into.worlds ++ map (λ (e : List ℕ × ℕ). (e.0, world_place m e.1)) (filter (λ (e : List ℕ × ℕ). moves_world m e.1) from.worlds);
 }
 
+-- so a package of the graph
 abbrev pub joined_package : Merging → ℕ × Package → Package
 joined_package m e = option_map_or (λ (p : ℕ × Package). with_package m p.1 e.1) (partner (found_package m) m.other.packages e.0) e.1

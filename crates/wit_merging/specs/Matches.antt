@@ -1,5 +1,6 @@
--- Which things of two graphs a merge makes one: those of the same names. Each look-up takes a thing of the graph
--- that is handed in to that of the graph into which it goes, if that is there.
+-- Which things of two graphs a merge makes one: those of the same names, and interfaces without a name that stand
+-- under one label of worlds of the same name. Each look-up takes a thing of the graph that is handed in to that of the
+-- graph into which it goes, if that is there.
 -- Source: `MergeMap` of wit-parser 0.263.0.
 use Rattle.std.specs.Prelude.{◌≡◌, ℕ, Bool, true, false, List, [], ◌∷◌, ◌++◌, nat_eq, find, slice_get, Option, None, Some, option_and_then, if◌then◌else◌}
 use Rattle.std.specs.List.{enumerate_from, flat_map}
@@ -41,7 +42,7 @@ abbrev pub found_in : (Package → List (List ℕ × ℕ)) → Merging → Optio
 found_in table m home name =
     option_and_then (λ p'. option_and_then (λ (there : Package). lookup (bytes_eq name) (table there)) (slice_get m.graph.packages p')) (option_and_then (found_package m) home)
 
--- a world by its name
+-- the world of the graph that has the name of world w, in the package that is matched
 abbrev pub found_world : Merging → ℕ → Option ℕ
 found_world m w = option_and_then (λ (world : World). found_in (λ (there : Package). there.worlds) m world.package world.name) (slice_get m.other.worlds w)
 
@@ -86,6 +87,7 @@ abbrev pub found_as : Merging → ℕ → Option ℕ → Option (List ℕ) → O
 found_as m i home (Some name) = found_in (λ (there : Package). there.interfaces) m home name
 found_as m i home None = option_and_then (found_at_spot m) (lookup (nat_eq i) (spots m.other.worlds))
 
+-- so of interface i
 abbrev pub found_interface : Merging → ℕ → Option ℕ
 found_interface m i = option_and_then (λ (interface : Interface). found_as m i interface.package interface.name) (slice_get m.other.interfaces i)
 
@@ -102,6 +104,7 @@ found_by m (Some name) (owner.World w) = option_and_then (λ (there : World). lo
 found_by m (Some name) owner.None = None
 found_by m None by = None
 
+-- so of type t
 abbrev pub found_type : Merging → ℕ → Option ℕ
 found_type m t = option_and_then (λ (def : TypeDef). found_by m def.name def.owner) (slice_get m.other.types t)
 
@@ -129,6 +132,6 @@ pub record Pair {X : Type 0} (found : ℕ → Option ℕ) (others ours : List X)
   pub matched : found x ≡ Some x'
   pub into_is : slice_get ours x' ≡ Some into
 
--- what of a list is matched with thing x', and its place
+-- the first of a list that is matched with thing x', with its place
 abbrev pub partner : {X : Type 0} → (ℕ → Option ℕ) → List X → ℕ → Option (ℕ × X)
 partner {X} found others x' = find (λ (e : ℕ × X). option_eq nat_eq (found e.0) (Some x')) (enumerate_from 0 others)

@@ -33,6 +33,7 @@ moves_world m w = not (is_some (found_world m w))
 abbrev pub moves_package : Merging → ℕ → Bool
 moves_package m p = not (is_some (found_package m p))
 
+-- the things that move, in their order; worlds with their places
 abbrev pub moved_types : Merging → List TypeDef
 moved_types m = taken (moves_type m) m.other.types
 
@@ -64,7 +65,7 @@ world_place m w = unwrap_or (found_world m w) (length m.graph.worlds + rank (mov
 abbrev pub package_place : Merging → ℕ → ℕ
 package_place m p = unwrap_or (found_package m p) (length m.graph.packages + rank (moves_package m) p)
 
--- where ids go, all of them plainly
+-- where ids go before values ask for `own`s
 abbrev pub plain_maps : Merging → Maps
 plain_maps m = record {
   types = type_place m;
@@ -117,10 +118,11 @@ needs_own m t = list_any (nat_eq t) (positions m) && leads_to_resource (plain_ty
 abbrev pub value_place : Merging → ℕ → ℕ
 value_place m t = if needs_own m t then length m.graph.types + length (moved_types m) + rank (needs_own m) t else type_place m t
 
+-- these `own`s
 abbrev pub added_owns : Merging → List TypeDef
 added_owns m = map (λ t. own_of (type_place m t)) (filter (needs_own m) (range_with_len 0 (length m.other.types)))
 
--- where ids go
+-- where ids go, with values at their `own`s
 abbrev pub merge_maps : Merging → Maps
 merge_maps m = record (plain_maps m) { values = value_place m }
 
@@ -131,6 +133,7 @@ pub record Going : Type 0 where
   pub worlds : List (Option ℕ)
   pub packages : List ℕ
 
+-- the places of all things
 abbrev pub going : Merging → Going
 going m = record {
   types = map (λ t. Some (type_place m t)) (range_with_len 0 (length m.other.types));

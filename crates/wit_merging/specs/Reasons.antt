@@ -19,7 +19,7 @@ use Rattle.wit_merging.specs.Matches.{Merging, Pair, found_interface, found_type
 use Rattle.wit_merging.specs.Moved.{merge_maps, moved_functions}
 use Rattle.wit_merging.specs.United.{joined_graph}
 
--- matched things differ in nothing, so there are the two graphs as one
+-- nothing differs of what has to agree (24), so there are the two graphs as one
 abbrev pub AreOne : Merging → Type 0
 AreOne m = (message : List ℕ) → GraphsDiffer m message → ⊥
 

@@ -41,7 +41,8 @@ interface_pairs m links i = option_map_or (λ (from : Interface). option_map_or 
 
 -- ---- of worlds
 
--- those of two items under one label: the types that they are, or those of interfaces without a name
+-- those of two items under one label: the types that they are or, where the first is an interface without a name, those
+-- of it and of the one that is matched with it
 abbrev pub item_pairs : Merging → List (List ℕ) → List ℕ → WorldItem → WorldItem → List TypePair
 item_pairs m links label (item.Type_ t span) (item.Type_ t' span') = paired links label t t' ∷ []
 item_pairs m links label (item.Interface i stability docs span external_id) into = if is_unnamed m.other.interfaces i then interface_pairs m links i else []

@@ -15,7 +15,7 @@ use Rattle.wit_merging.specs.Joined.{joined_interface, joined_package, joined_ty
 use Rattle.wit_merging.specs.Matches.{Merging}
 use Rattle.wit_merging.specs.Moved.{added_owns, interface_place, merge_maps, moved_interfaces, moved_types, moved_worlds, moves_package, package_place, world_place}
 
--- a package that moves, with its tables
+-- a package that moves, with what its tables list at the new ids
 abbrev pub package_image : Merging → Package → Package
 package_image m home = record home {
   interfaces = map (λ (e : List ℕ × ℕ). (e.0, interface_place m e.1)) home.interfaces;
@@ -32,6 +32,6 @@ joined_graph m = record {
   package_names = m.graph.package_names ++ map (λ (e : PackageName × ℕ). (e.0, package_place m e.1)) (filter (λ (e : PackageName × ℕ). moves_package m e.1) m.other.package_names);
 }
 
--- the graph with the other one
+-- and with every world elaborated: the graph with the other one
 abbrev pub united : Merging → Graph
 united m = all_elaborated (joined_graph m)

@@ -8,7 +8,8 @@ use Rattle.wit_items.specs.declared.world.WorldItem.{WorldItem}
 use Rattle.wit_items.specs.declared.world.WorldKey.{WorldKey}
 use Rattle.wit_items.specs.declared.world.WorldKey.TheVariants as key
 use Rattle.wit_graph.specs.Samples.{entry_of, foo_bar, function_of, instance}
-use Rattle.wit_growth.specs.TestFacts.{only_one, some_same}
+use Rattle.wit_growth.specs.OptionFacts.{some_same}
+use Rattle.wit_growth.specs.TestFacts.{only_one}
 use Rattle.wit_merging_laws.specs.Names.{HasLabel, HasName, IsPackage, IsUnnamedAt, IsWorld, at_label, in_package, of_export, of_interface, of_label, of_package, of_type, of_world}
 use Rattle.wit_merging_examples.specs.Graphs.{b_uses_a, foo_named, three, world_of_i}
 use Rattle.wit_merging_examples.specs.NamesHeld.{ExamplesOfNames, at_x, inner_t}

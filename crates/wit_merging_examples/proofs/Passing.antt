@@ -1,6 +1,6 @@
 -- Tests of small merges that compute: what passes has no reason of that kind.
 use Rattle.std.proofs.Common.{◌≡◌, ◌∙◌, ℕ, ◌+◌, ◌<◌, ◌≤◌, Bool, true, false, not, ◌&&◌, List, [], ◌∷◌, length, nat_eq, nat_lt, Option, Some, None, slice_get, option_and_then, refl, sym, ap, subst, arith, Contains}
-use Rattle.std.proofs.lemmas.Bool.{and_parts, eq-eqb, eqb-true, false≢true, ltb-true}
+use Rattle.std.proofs.lemmas.Bool.{and_parts, eqb-true, false≢true, ltb-true}
 use Rattle.std.proofs.lemmas.Slice.Eq.{bytes_eq-Decides}
 use Rattle.std.specs.List.{list_all}
 use Rattle.std.specs.Option.{option_eq, option_map_or}
@@ -45,6 +45,7 @@ use Rattle.wit_merging.specs.Moved.{merge_maps, moved_functions}
 use Rattle.wit_merging.specs.Reasons.{AreJoined, AreOne, Mismatches, PassesTheEnd, ReturnsBorrow, graph_spans}
 use Rattle.wit_merging.specs.Reasons as joins
 use Rattle.wit_merging.specs.United.{joined_graph}
+use Rattle.wit_merging_laws.specs.InterfacesStand.{option_is, option_so}
 
 -- ---- interfaces
 
@@ -61,10 +62,6 @@ module _ (m : Merging) (all : interfaces_pass m ≡ true) where
       interfaces_fine p.from p.into (some_passes (functions_pass p.from) true (interface_beside m p.x) p.into beside (at_are (interface_test m) m.other.interfaces all p.x p.from p.from_is)) text apart
 
 -- ---- worlds
-
-option_is : (o : Option ℕ) (i : ℕ) → option_eq nat_eq o (Some i) ≡ true → o ≡ Some i
-option_is None i same = absurd (false≢true same)
-option_is (Some j) i same = ap (λ (x : ℕ). Some x) (eqb-true j i same)
 
 -- does an item agree with the one under its key?
 abbrev items_pass : Merging → WorldItem → WorldItem → Bool
@@ -184,15 +181,12 @@ pub record GatesJoin (m : Merging) : Type 0 where
   pub interfaces : pairs_pass (λ (from into : Interface). may_join from.stability into.stability) (found_interface m) m.other.interfaces m.graph.interfaces ≡ true
   pub worlds : pairs_pass (worlds_join m) (found_world m) m.other.worlds m.graph.worlds ≡ true
 
-option_same : (o : Option ℕ) (i : ℕ) → o ≡ Some i → option_eq nat_eq o (Some i) ≡ true
-option_same o i is = ap (λ (x : Option ℕ). option_eq nat_eq x (Some i)) is ∙ eq-eqb i i refl
-
 entries_fit : (m : Merging) (from into : List Entry) → entries_join m from into ≡ true → (i i' : ℕ) (brings has : Stability) → found_interface m i ≡ Some i' → HasStability from i brings → HasStability into i' has → may_join brings has ≡ true
 entries_fit m from into all i i' brings has matched comes there =
     let e : Entry = (key.Interface i, item.Interface i brings comes.0 comes.1 comes.2) in
     let e' : Entry = (key.Interface i', item.Interface i' has there.0 there.1 there.2) in
     implied (option_eq nat_eq (found_interface m i) (Some i')) (may_join brings has)
-    (all_are (keyed_join m e) into (all_are (λ (d : Entry). list_all (keyed_join m d) into) from all e comes.3) e' there.3) (option_same (found_interface m i) i' matched)
+    (all_are (keyed_join m e) into (all_are (λ (d : Entry). list_all (keyed_join m d) into) from all e comes.3) e' there.3) (option_so (found_interface m i) i' matched)
 
 pub joined_fine : (m : Merging) → GatesJoin m → (from into : Stability) → Mismatches m from into → ⊥
 joined_fine m all from into c = join from into (by from into c.joined) c.apart

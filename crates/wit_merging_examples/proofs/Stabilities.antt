@@ -1,13 +1,13 @@
 -- The examples of stabilities.
-use Rattle.std.proofs.Common.{◌≡◌, ℕ, false, true, List, [], refl, ap, lit<}
+use Rattle.std.proofs.Common.{◌≡◌, false, true, refl, ap, lit<}
 use Rattle.std.specs.Prelude.{codes}
 use Rattle.wit_values.specs.Lists.{differ}
 use Rattle.wit_relations.specs.Walks.{walk, walk_within}
 use Rattle.wit_items.specs.declared.stability.Stability.{Stability}
-use Rattle.wit_items.specs.declared.stability.Stability.TheVariants.{Unknown, Stable, Unstable}
 use Rattle.wit_graph.specs.Elaborated.{import_steps, import_steps_within}
 use Rattle.wit_graph.specs.declared.error_kind.ResolveErrorKind.TheVariants.{StabilityMismatch}
 use Rattle.wit_graph.specs.declared.graph.Graph.{Graph}
+use Rattle.wit_growth.specs.TestFacts.{feature_of}
 use Rattle.wit_adding.specs.Gates.{Place}
 use Rattle.wit_adding.specs.WorldReasons.{Disagree}
 use Rattle.wit_merging.specs.Cause.{IsMergeCause}
@@ -19,13 +19,7 @@ use Rattle.wit_merging_examples.proofs.Passing.{GatesJoin, joined_fine}
 use Rattle.wit_merging_examples.specs.Graphs.{gate_f, gate_g, merging}
 use Rattle.wit_merging_examples.specs.Stabilities.{Disagrees, DisagreesNowhere, ExamplesOfStabilities}
 
-feature_of : Stability → List ℕ
-feature_of Unknown = []
-feature_of (Stable since deprecated) = []
-feature_of (Unstable feature deprecated) = feature
-
 other_feature : gate_g ≡ gate_f → ⊥
-unfolding feature_of
 other_feature same = differ (codes "g") (codes "f") refl (ap feature_of same)
 
 -- the two gates disagree

@@ -1,6 +1,6 @@
 -- The interfaces of two graphs that are one: those of the graph stay and may have more, those of the other stand at
 -- their places, and there are no others.
-use Rattle.std.proofs.Common.{◌≡◌, ◌∙◌, ℕ, ◌+◌, Bool, true, not, List, ◌++◌, inl, inr, map, length, is_some, nat_eq, Option, None, Some, IsSome, slice_get, refl, sym, ap, subst, arith, Contains}
+use Rattle.std.proofs.Common.{◌≡◌, ◌∙◌, ℕ, ◌+◌, Bool, true, not, List, ◌++◌, inl, inr, map, length, is_some, nat_eq, Option, None, Some, slice_get, refl, sym, ap, subst, arith, Contains}
 use Rattle.std.specs.List.{enumerate_from}
 use Rattle.std.specs.Map.{lookup}
 use Rattle.std.specs.Option.{option_eq, option_map_or}
@@ -13,7 +13,6 @@ use Rattle.std.proofs.lemmas.Option.{slice_get_within}
 use Rattle.std.proofs.lemmas.Slice.Eq.{bytes_eq-Decides}
 use Rattle.std.specs.Cmp.Lexicographic.{nat_list_eq_equiv}
 use Rattle.wit_values.specs.Lists.{slice_get-append}
-use Rattle.wit_values.specs.Table.{HasDistinctKeys}
 use Rattle.wit_items.specs.Each.{SomeAt}
 use Rattle.wit_items.specs.declared.function.Function.{Function}
 use Rattle.wit_items.specs.declared.interface.Interface.{Interface}
@@ -27,9 +26,10 @@ use Rattle.wit_growth.specs.Cut.{mapped_source}
 use Rattle.wit_growth.specs.CutIsGood.{distinct_kept}
 use Rattle.wit_growth.specs.GoodIsValid.{good_things}
 use Rattle.wit_growth.specs.Image.{function_image, identity, interface_image}
-use Rattle.wit_growth.specs.ImagesCome.{interface_image_comes, interface_image_stands}
+use Rattle.wit_growth.specs.ImagesCome.{distinct_map, interface_image_comes, interface_image_stands}
 use Rattle.wit_growth.specs.ListFacts.{Contains-map, Contains-map_cases, at_map, at_new, contained_at, found_at, from_map, old_or_new, place_of, some_at}
 use Rattle.wit_growth.specs.Operations.{merge_sources}
+use Rattle.wit_growth.specs.OptionFacts.{none_or_some, none_there, some_by, some_same}
 use Rattle.wit_growth.specs.PackagesAcyclic.{length-numbered, numbered_from, numbered_into}
 use Rattle.wit_growth.specs.Sources.{InterfaceStands, IsCarriedFunction, Source}
 use Rattle.wit_adding.specs.Found.{find-passes, find-some}
@@ -41,7 +41,7 @@ use Rattle.wit_merging.specs.Joined.{joined_interface, with_interface}
 use Rattle.wit_merging.specs.Matches.{Merging, found_by, found_interface, found_type, partner}
 use Rattle.wit_merging.specs.Moved.{brought_functions, brought_types, interface_place, merge_maps, moved_interfaces, moves_interface, moves_type, type_place}
 use Rattle.wit_merging.specs.United.{joined_graph}
-use Rattle.wit_merging_laws.specs.MatchFacts.{goes_to, interface_is, some_by, some_same}
+use Rattle.wit_merging_laws.specs.MatchFacts.{goes_to, interface_is}
 use Rattle.wit_merging_laws.specs.MatchedOnce.{interface_once}
 use Rattle.wit_merging_laws.specs.TypesStand.{matched_some, moved_next}
 use Rattle.wit_merging_laws.specs.WholeFacts.{interface_at, types_within}
@@ -210,25 +210,10 @@ module _ (m : Merging) (valid : IsValid m.graph) (valid_other : IsValid m.other)
 
 -- ---- they come of the two
 
--- keys that differ, differ under other values
-pub distinct_under : {K V W : Type 0} (h : V → W) (es : List (K × V)) → HasDistinctKeys es → HasDistinctKeys (map (λ (e : K × V). let f : K × W = (e.0, h e.1) in f) es)
-distinct_under {K} {V} {W} h es distinct i j e f first second same =
-    let a = from_map (λ (e : K × V). let f : K × W = (e.0, h e.1) in f) es i e first in
-    let b = from_map (λ (e : K × V). let f : K × W = (e.0, h e.1) in f) es j f second in
-    distinct i j a.0 b.0 a.1 b.1 (ap (λ (p : K × W). p.0) a.2 ∙ same ∙ ap (λ (p : K × W). p.0) (sym b.2))
-
 -- a key that is looked up in vain isn't there
 not_listed : {V : Type 0} (name : List ℕ) (v : V) (es : List (List ℕ × V)) → lookup (bytes_eq name) es ≡ None → Contains es (name, v) → ⊥
 not_listed name v es none has =
-    none_some (lookup (bytes_eq name) es) none (IsSome-lookup_from_Contains nat_list_eq_equiv name es (Contains-map (λ (e : List ℕ × _). e.0) es (name, v) has))
-  where
-    none_some : {X : Type 0} (o : Option X) → o ≡ None → IsSome o → ⊥
-    none_some None none some = cc
-    none_some (Some x) none some = cc
-
-no_some : {X : Type 0} (o : Option X) → not (is_some o) ≡ true → o ≡ None
-no_some None h = refl
-no_some (Some x) h = cc
+    none_or_some (lookup (bytes_eq name) es) none (IsSome-lookup_from_Contains nat_list_eq_equiv name es (Contains-map (λ (e : List ℕ × _). e.0) es (name, v) has))
 
 module _ (m : Merging) (valid : IsValid m.graph) (valid_other : IsValid m.other) where
   abbrev at : ℕ → Source
@@ -315,7 +300,7 @@ module _ (m : Merging) (valid : IsValid m.graph) (valid_other : IsValid m.other)
       types_apart e f has new same =
           let old = Contains-map_cases typed (brought_types m from) f new in
           let kept = Contains-filter (λ (x : List ℕ × ℕ). moves_type m x.1) from.types old.0 old.1 in
-          let none = no_some (found_type m old.0.1) kept.1 in
+          let none = none_there (found_type m old.0.1) kept.1 in
           let named : e.0 ≡ old.0.0 = same ∙ sym (ap (λ (x : List ℕ × ℕ). x.0) old.2) in
           not_listed old.0.0 e.1 into.types (sym (listed_found m valid valid_other i f' from into old.0.0 old.0.1 other_there found there kept.0) ∙ none) (subst (λ (n : List ℕ). Contains into.types (n, e.1)) named has)
 
@@ -324,7 +309,7 @@ module _ (m : Merging) (valid : IsValid m.graph) (valid_other : IsValid m.other)
           let old = Contains-map_cases imaged (brought_functions from into) f new in
           let kept = Contains-filter (λ (x : List ℕ × Function). not (is_some (lookup (bytes_eq x.0) into.functions))) from.functions old.0 old.1 in
           let named : e.0 ≡ old.0.0 = same ∙ sym (ap (λ (x : List ℕ × Function). x.0) old.2) in
-          not_listed old.0.0 e.1 into.functions (no_some (lookup (bytes_eq old.0.0) into.functions) kept.1) (subst (λ (n : List ℕ). Contains into.functions (n, e.1)) named has)
+          not_listed old.0.0 e.1 into.functions (none_there (lookup (bytes_eq old.0.0) into.functions) kept.1) (subst (λ (n : List ℕ). Contains into.functions (n, e.1)) named has)
 
       -- where one is
       with_comes : InterfaceComes at f' (with_interface m from into)
@@ -335,9 +320,9 @@ module _ (m : Merging) (valid : IsValid m.graph) (valid_other : IsValid m.other)
         types = λ k e on. elim (Contains-append_cases into.types (map typed (brought_types m from)) e (contained_at (into.types ++ map typed (brought_types m from)) k e on)) [ inl old ↦ old_listed e old | inr new ↦ new_listed e new ];
         functions = λ k e on. elim (Contains-append_cases into.functions (map imaged (brought_functions from into)) e (contained_at (into.functions ++ map imaged (brought_functions from into)) k e on)) [ inl old ↦ old_function e old | inr new ↦ new_function e new ];
         distinct_types = joined_apart into.types (map typed (brought_types m from)) (valid.well_formed.owners.distinct_types f' into there)
-            (distinct_under (type_place m) (brought_types m from) (distinct_kept (λ (x : List ℕ × ℕ). moves_type m x.1) from.types (valid_other.well_formed.owners.distinct_types i from other_there))) types_apart;
+            (distinct_map (type_place m) (brought_types m from) (distinct_kept (λ (x : List ℕ × ℕ). moves_type m x.1) from.types (valid_other.well_formed.owners.distinct_types i from other_there))) types_apart;
         distinct_functions = joined_apart into.functions (map imaged (brought_functions from into)) (valid.well_formed.owners.distinct_functions f' into there)
-            (distinct_under (function_image (merge_maps m)) (brought_functions from into)
+            (distinct_map (function_image (merge_maps m)) (brought_functions from into)
             (distinct_kept (λ (x : List ℕ × Function). not (is_some (lookup (bytes_eq x.0) into.functions))) from.functions (valid_other.well_formed.owners.distinct_functions i from other_there))) functions_apart;
       }
 

@@ -16,6 +16,7 @@ use Rattle.wit_graph.specs.KeptByElaboration.{is_label, labelled, settled}
 use Rattle.wit_graph.specs.Valid.{IsValid}
 use Rattle.wit_graph.specs.declared.graph.Graph.{Graph}
 use Rattle.wit_growth.specs.AllElaborated.{elaborated_world}
+use Rattle.wit_growth.specs.ElaboratedCome.{settled_interface}
 use Rattle.wit_growth.specs.LawsOfElaboration.{LawsOfElaboration}
 use Rattle.wit_growth.specs.ListFacts.{Contains-map, Contains-map_cases}
 use Rattle.wit_growth.specs.OnePlace.{entries_of}
@@ -25,7 +26,6 @@ use Rattle.wit_merging.specs.United.{joined_graph}
 use Rattle.wit_merging_laws.specs.JoinedGood.{CanElaborate, in_order}
 use Rattle.wit_merging_laws.specs.ListedStand.{worlds_come}
 use Rattle.wit_merging_laws.specs.MatchedOnce.{one_under}
-use Rattle.wit_merging_laws.specs.OnceStand.{settled_interface}
 use Rattle.wit_merging_laws.specs.UnitedWorlds.{entries_from, is_elaborated}
 use Rattle.wit_merging_laws.specs.UsesListed.{entry}
 

@@ -30,6 +30,7 @@ use Rattle.wit_growth.specs.Sources.{Source}
 use Rattle.wit_adding.specs.Include.{joined_entry, joined_item}
 use Rattle.wit_adding.specs.RankFacts.{rank-injective, taken_places-at, taken_places-from}
 use Rattle.wit_adding.specs.Ranks.{rank}
+use Rattle.wit_including_laws.specs.Remains.{key_stays}
 use Rattle.wit_merging.specs.Joined.{joined_world, with_world}
 use Rattle.wit_merging.specs.Matches.{Merging, found_interface, found_world, partner}
 use Rattle.wit_merging.specs.Moved.{interface_place, merge_maps, moved_worlds, moves_interface, moves_world, world_place}
@@ -98,11 +99,6 @@ module _ (m : Merging) where
       ]
 
 -- ---- entries with stabilities joined to theirs
-
--- a key stays under the identity
-same_under : (w : ℕ) (k : WorldKey) → k ≡ key_image identity w k
-same_under w (key.Name label) = refl
-same_under w (key.Interface i) = refl
 
 module _ (s : Source) (stays : s.maps ≡ identity) (w : ℕ) where
   comes_itself : (held : WorldItem) → ItemComes s w held held
@@ -173,7 +169,7 @@ module _ (m : Merging) (valid : IsValid m.graph) (valid_other : IsValid m.other)
       from = record { w = w'; old = into; there = world_at m.graph valid identity w' into there; takes = lt-ltb w' (length m.graph.worlds) (slice_get_within m.graph.worlds w' into there); place = refl };
       old = e;
       listed = has;
-      key = same_under w' e.0;
+      key = key_stays w' e.0;
       held = joined_comes (at 0) refl w' brought e;
     }
 

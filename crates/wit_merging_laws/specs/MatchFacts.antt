@@ -30,9 +30,11 @@ use Rattle.wit_graph.specs.Entries.{same_key}
 use Rattle.wit_graph.specs.Valid.{IsOfPackage, IsValid}
 use Rattle.wit_graph.specs.declared.graph.Graph.{Graph}
 use Rattle.wit_graph.specs.declared.graph.Package.{Package}
+use Rattle.wit_growth.specs.GoodWorlds.{same_one}
 use Rattle.wit_growth.specs.Image.{owner_image}
 use Rattle.wit_growth.specs.ListFacts.{found_at, place_of}
 use Rattle.wit_growth.specs.OnePlace.{entries_of}
+use Rattle.wit_growth.specs.OptionFacts.{none_there, some_parts, some_same}
 use Rattle.wit_growth.specs.PackagesAcyclic.{numbered_from}
 use Rattle.wit_adding.specs.Lookup.{listed_type}
 use Rattle.wit_adding.specs.Standing.{listed_is}
@@ -40,17 +42,6 @@ use Rattle.wit_merging.specs.Matches.{Merging, Spot, found_as, found_at_spot, fo
 use Rattle.wit_merging.specs.Moved.{merge_maps, package_place}
 
 -- ---- options
-
-module _ {X Y : Type 0} where
-  pub some_of : (f : X → Option Y) (o : Option X) (y : Y) → option_and_then f o ≡ Some y → (x : X) × (o ≡ Some x) × (f x ≡ Some y)
-  some_of f None y h = cc
-  some_of f (Some x) y h = (x, refl, h)
-
-  pub some_by : (f : X → Option Y) (o : Option X) (x : X) → o ≡ Some x → option_and_then f o ≡ f x
-  some_by f o x is = ap (λ (p : Option X). option_and_then f p) is
-
-pub some_same : {X : Type 0} (x y : X) → Some x ≡ Some y → x ≡ y
-some_same x y same = cc
 
 -- where a matched thing goes
 pub goes_to : (o : Option ℕ) (next x : ℕ) → o ≡ Some x → unwrap_or o next ≡ x
@@ -62,7 +53,7 @@ module _ (m : Merging) (valid : IsValid m.graph) where
   -- a matched package has the name of the other
   pub package_is : (p p' : ℕ) → found_package m p ≡ Some p' → (home : Package) × (slice_get m.other.packages p ≡ Some home) × SomeAt m.graph.packages p' (λ (there : Package). there.name ≡ home.name)
   package_is p p' found =
-      let one = some_of (λ (home : Package). lookup (same_package home.name) m.graph.package_names) (slice_get m.other.packages p) p' found in
+      let one = some_parts (λ (home : Package). lookup (same_package home.name) m.graph.package_names) (slice_get m.other.packages p) p' found in
       let has = Contains-from_lookup (λ a b. (same_package-Decides a b).0) one.0.name p' m.graph.package_names one.2 in
       let place = place_of m.graph.package_names (one.0.name, p') has in
       (one.0, one.1, valid.well_formed.package_names.own_name place.0 (one.0.name, p') place.1)
@@ -80,9 +71,9 @@ module _ (m : Merging) (valid : IsValid m.graph) where
 
   pub in_table : (table : Package → List (List ℕ × ℕ)) (home : Option ℕ) (name : List ℕ) (x' : ℕ) → found_in table m home name ≡ Some x' → InTable table home name x'
   in_table table home name x' found =
-      let one = some_of (λ p'. option_and_then (λ (there : Package). lookup (bytes_eq name) (table there)) (slice_get m.graph.packages p')) (option_and_then (found_package m) home) x' found in
-      let two = some_of (found_package m) home one.0 one.1 in
-      let three = some_of (λ (there : Package). lookup (bytes_eq name) (table there)) (slice_get m.graph.packages one.0) x' one.2 in
+      let one = some_parts (λ p'. option_and_then (λ (there : Package). lookup (bytes_eq name) (table there)) (slice_get m.graph.packages p')) (option_and_then (found_package m) home) x' found in
+      let two = some_parts (found_package m) home one.0 one.1 in
+      let three = some_parts (λ (there : Package). lookup (bytes_eq name) (table there)) (slice_get m.graph.packages one.0) x' one.2 in
       record {
         p = two.0;
         p' = one.0;
@@ -111,7 +102,7 @@ module _ (m : Merging) (valid : IsValid m.graph) where
 
   pub world_is : (w w' : ℕ) → found_world m w ≡ Some w' → WorldMatch w w'
   world_is w w' found =
-      let one = some_of (λ (world : World). found_in (λ (there : Package). there.worlds) m world.package world.name) (slice_get m.other.worlds w) w' found in
+      let one = some_parts (λ (world : World). found_in (λ (there : Package). there.worlds) m world.package world.name) (slice_get m.other.worlds w) w' found in
       let table = in_table (λ (there : Package). there.worlds) one.0.package one.0.name w' one.2 in
       let place = place_of table.there.worlds (one.0.name, w') table.has in
       let is = found_at (λ (world : World). (world.name ≡ one.0.name) × (world.package ≡ Some table.p')) m.graph.worlds w' (valid.well_formed.tables.world_tables table.p' table.there table.there_is place.0 (one.0.name, w') place.1) in
@@ -200,10 +191,7 @@ unnamed_is interfaces (item.Type_ t span) i is = cc
 -- an interface without a name that is an entry is of the world's package
 entry_home : (interfaces : List Interface) (home : Option ℕ) (held : WorldItem) (i : ℕ) → item_interface held ≡ i ∷ [] → IsOfPackage interfaces home held
     → SomeAt interfaces i (λ (interface : Interface). (interface.name ≡ None) → interface.package ≡ home)
-entry_home interfaces home (item.Interface j stability docs span external_id) i is of = subst (λ (x : ℕ). SomeAt interfaces x (λ (interface : Interface). (interface.name ≡ None) → interface.package ≡ home)) (one_same j i is) of
-  where
-    one_same : (j i : ℕ) → j ∷ [] ≡ i ∷ [] → j ≡ i
-    one_same j i same = cc
+entry_home interfaces home (item.Interface j stability docs span external_id) i is of = subst (λ (x : ℕ). SomeAt interfaces x (λ (interface : Interface). (interface.name ≡ None) → interface.package ≡ home)) (same_one j i is) of
 entry_home interfaces home (item.Function f) i is of = cc
 entry_home interfaces home (item.Type_ t span) i is of = cc
 
@@ -215,17 +203,13 @@ spot_home g valid w world false k held i there listed is =
 spot_home g valid w world true k held i there listed is =
     let place = place_of world.exports (k, held) listed in entry_home g.interfaces world.package held i is (valid.well_formed.worlds.own_exports w world there place.0 (k, held) place.1)
 
-nameless : (o : Option (List ℕ)) → not (is_some o) ≡ true → o ≡ None
-nameless None h = refl
-nameless (Some n) h = cc
-
 -- an interface without a name is there, and has none
 pub no_name : (interfaces : List Interface) (i : ℕ) → is_unnamed interfaces i ≡ true → (interface : Interface) × (slice_get interfaces i ≡ Some interface) × (interface.name ≡ None)
 no_name interfaces i is = by (slice_get interfaces i) refl is
   where
     by : (o : Option Interface) → slice_get interfaces i ≡ o → option_map_or (λ (interface : Interface). not (is_some interface.name)) o false ≡ true → (interface : Interface) × (slice_get interfaces i ≡ Some interface) × (interface.name ≡ None)
     by None at h = cc
-    by (Some interface) at h = (interface, at, nameless interface.name h)
+    by (Some interface) at h = (interface, at, none_there interface.name h)
 
 -- ---- interfaces
 
@@ -244,10 +228,10 @@ pub record SpotMatch (m : Merging) (i i' : ℕ) : Type 0 where
 
 pub spot_match : (m : Merging) (i i' : ℕ) → option_and_then (found_at_spot m) (lookup (nat_eq i) (spots m.other.worlds)) ≡ Some i' → SpotMatch m i i'
 spot_match m i i' found =
-    let one = some_of (found_at_spot m) (lookup (nat_eq i) (spots m.other.worlds)) i' found in
-    let two = some_of (λ (there : World). option_and_then (unnamed_item m.graph.interfaces) (lookup (same_key (key.Name one.0.label)) (entries_of one.0.exported there))) (world_beside m one.0.world) i' one.2 in
-    let three = some_of (slice_get m.graph.worlds) (found_world m one.0.world) two.0 two.1 in
-    let four = some_of (unnamed_item m.graph.interfaces) (lookup (same_key (key.Name one.0.label)) (entries_of one.0.exported two.0)) i' two.2 in
+    let one = some_parts (found_at_spot m) (lookup (nat_eq i) (spots m.other.worlds)) i' found in
+    let two = some_parts (λ (there : World). option_and_then (unnamed_item m.graph.interfaces) (lookup (same_key (key.Name one.0.label)) (entries_of one.0.exported there))) (world_beside m one.0.world) i' one.2 in
+    let three = some_parts (slice_get m.graph.worlds) (found_world m one.0.world) two.0 two.1 in
+    let four = some_parts (unnamed_item m.graph.interfaces) (lookup (same_key (key.Name one.0.label)) (entries_of one.0.exported two.0)) i' two.2 in
     let is = unnamed_is m.graph.interfaces four.0 i' four.2 in
     record { spot = one.0; w' = three.0; there = two.0; held = four.0; spot_is = one.1; matched = three.1; there_is = three.2; listed = four.1; is = is.0; unnamed = is.1 }
 
@@ -263,7 +247,7 @@ pub record InterfaceMatch (m : Merging) (i i' : ℕ) : Type 0 where
 module _ (m : Merging) (valid : IsValid m.graph) (valid_other : IsValid m.other) where
   pub interface_is : (i i' : ℕ) → found_interface m i ≡ Some i' → InterfaceMatch m i i'
   interface_is i i' found =
-      let one = some_of (λ (interface : Interface). found_as m i interface.package interface.name) (slice_get m.other.interfaces i) i' found in
+      let one = some_parts (λ (interface : Interface). found_as m i interface.package interface.name) (slice_get m.other.interfaces i) i' found in
       by one.0 one.1 one.0.name refl one.2
     where
       by : (from : Interface) → slice_get m.other.interfaces i ≡ Some from → (o : Option (List ℕ)) → from.name ≡ o → found_as m i from.package o ≡ Some i' → InterfaceMatch m i i'
@@ -328,12 +312,12 @@ world_type_is g valid w world name t there has =
 module _ (m : Merging) (valid : IsValid m.graph) where
   pub type_is : (t t' : ℕ) → found_type m t ≡ Some t' → TypeMatch m t t'
   type_is t t' found =
-      let one = some_of (λ (def : TypeDef). found_by m def.name def.owner) (slice_get m.other.types t) t' found in
+      let one = some_parts (λ (def : TypeDef). found_by m def.name def.owner) (slice_get m.other.types t) t' found in
       by one.0 one.1 one.0.name one.0.owner refl refl one.2
     where
       by : (from : TypeDef) → slice_get m.other.types t ≡ Some from → (o : Option (List ℕ)) (of : TypeOwner) → from.name ≡ o → from.owner ≡ of → found_by m o of ≡ Some t' → TypeMatch m t t'
       by from from_is (Some name) (owner.Interface i) called of found =
-          let one = some_of (listed_type m.graph name) (found_interface m i) t' found in
+          let one = some_parts (listed_type m.graph name) (found_interface m i) t' found in
           let is = found_at (λ (def : TypeDef). (def.name ≡ Some name) × (def.owner ≡ owner.Interface one.0)) m.graph.types t' (listed_is m.graph valid name one.0 t' one.2) in
           record {
             from = from;
@@ -346,8 +330,8 @@ module _ (m : Merging) (valid : IsValid m.graph) where
             owner_is = is.2.1 ∙ (ap (λ (i' : ℕ). owner.Interface i') (sym (goes_to (found_interface m i) _ one.0 one.1)) ∙ sym (ap (owner_image (merge_maps m)) of));
           }
       by from from_is (Some name) (owner.World w) called of found =
-          let one = some_of (λ (there : World). lookup (bytes_eq name) (world_types there)) (world_beside m w) t' found in
-          let two = some_of (slice_get m.graph.worlds) (found_world m w) one.0 one.1 in
+          let one = some_parts (λ (there : World). lookup (bytes_eq name) (world_types there)) (world_beside m w) t' found in
+          let two = some_parts (slice_get m.graph.worlds) (found_world m w) one.0 one.1 in
           let is = found_at (λ (def : TypeDef). (def.name ≡ Some name) × (def.owner ≡ owner.World two.0)) m.graph.types t'
           (world_type_is m.graph valid two.0 one.0 name t' two.2 (Contains-from_lookup (λ a b. (bytes_eq-Decides a b).0) name t' (world_types one.0) one.2)) in
           record {

@@ -1,5 +1,5 @@
 -- No two things of the other graph are matched with one thing of the graph.
-use Rattle.std.proofs.Common.{◌≡◌, ◌∙◌, ℕ, Bool, true, false, List, [], ◌∷◌, Option, None, Some, slice_get, refl, sym, ap, subst, Contains}
+use Rattle.std.proofs.Common.{◌≡◌, ◌∙◌, ℕ, Bool, true, false, List, Option, None, Some, slice_get, refl, sym, ap, subst, Contains}
 use Rattle.std.proofs.lemmas.Bool.{eqb-true}
 use Rattle.std.proofs.lemmas.Map.Views.{Contains-from_lookup}
 use Rattle.std.specs.Option.{IsSomeAnd}
@@ -16,11 +16,13 @@ use Rattle.wit_graph.proofs.FreshEntries.{same_key-true}
 use Rattle.wit_graph.specs.Valid.{IsValid}
 use Rattle.wit_graph.specs.declared.graph.Graph.{Graph}
 use Rattle.wit_graph.specs.declared.graph.Package.{Package}
+use Rattle.wit_growth.specs.GoodWorlds.{same_one}
 use Rattle.wit_growth.specs.ListFacts.{found_at, place_of, same_at}
 use Rattle.wit_growth.specs.OnePlace.{HasOnePlace, Holds, entries_of}
 use Rattle.wit_growth.specs.OnePlaceFrom.{HasOnePlace-from_once}
+use Rattle.wit_growth.specs.OptionFacts.{some_parts, some_same}
 use Rattle.wit_merging.specs.Matches.{Merging, found_as, found_interface, found_package, found_world, spots}
-use Rattle.wit_merging_laws.specs.MatchFacts.{interface_is, named_is, package_is, some_of, some_same, spot_match, stands_at, world_is}
+use Rattle.wit_merging_laws.specs.MatchFacts.{interface_is, named_is, package_is, spot_match, stands_at, world_is}
 
 -- under one key stands one thing
 pub one_under : {K V : Type 0} (es : List (K × V)) → HasDistinctKeys es → (k : K) (v w : V) → Contains es (k, v) → Contains es (k, w) → v ≡ w
@@ -127,14 +129,11 @@ module _ (m : Merging) (valid : IsValid m.graph) (valid_other : IsValid m.other)
       let listed : Contains (entries_of b.spot.exported y.world) (key.Name b.spot.label, x.held) = subst (λ (e : WorldKey). Contains (entries_of b.spot.exported y.world) (e, x.held)) labels (subst (λ (es : List Entry). Contains es (key.Name a.spot.label, x.held)) (λ k. entries_of (one.1 k) (same_world k)) x.listed) in
       let held : x.held ≡ y.held = one_under (entries_of b.spot.exported y.world) (lists_distinct m.other valid_other b.spot.world b.spot.exported y.world y.there) (key.Name b.spot.label) x.held y.held listed y.listed in
       same_one i j (sym x.is ∙ (ap item_interface held ∙ y.is))
-    where
-      same_one : (a b : ℕ) → a ∷ [] ≡ b ∷ [] → a ≡ b
-      same_one a b same = cc
 
   pub interface_once : (i j i' : ℕ) → found_interface m i ≡ Some i' → found_interface m j ≡ Some i' → i ≡ j
   interface_once i j i' first second =
-      let a = some_of (λ (interface : Interface). found_as m i interface.package interface.name) (slice_get m.other.interfaces i) i' first in
-      let b = some_of (λ (interface : Interface). found_as m j interface.package interface.name) (slice_get m.other.interfaces j) i' second in
+      let a = some_parts (λ (interface : Interface). found_as m i interface.package interface.name) (slice_get m.other.interfaces i) i' first in
+      let b = some_parts (λ (interface : Interface). found_as m j interface.package interface.name) (slice_get m.other.interfaces j) i' second in
       let x = interface_is m valid valid_other i i' first in
       let y = interface_is m valid valid_other j i' second in
       let into : x.into ≡ y.into = some_same x.into y.into (sym x.into_is ∙ y.into_is) in

@@ -14,9 +14,9 @@ use Rattle.wit_graph.specs.declared.graph.Graph.{Graph}
 use Rattle.wit_graph.specs.declared.graph.Package.{Package}
 use Rattle.wit_growth.specs.ListFacts.{found_at, same_at, some_at}
 use Rattle.wit_growth.specs.OnePlace.{entries_of}
+use Rattle.wit_growth.specs.OnePlaceCarried.{unnamed_same}
 use Rattle.wit_merging_laws.specs.MatchFacts.{no_name}
 use Rattle.wit_merging_laws.specs.Names.{HasName, InterfaceName, IsInterface, IsNamedSo, IsPackage, IsWorld, Name, at_label, in_package, of_export, of_function, of_interface, of_label, of_package, of_type, of_world}
-use Rattle.wit_merging_laws.specs.OnceStand.{unnamed_same}
 use Rattle.wit_merging_laws.specs.UsesListed.{entry}
 
 -- ---- parts

@@ -22,10 +22,12 @@ use Rattle.wit_graph.specs.declared.graph.Graph.{Graph}
 use Rattle.wit_graph.specs.declared.graph.Package.{Package}
 use Rattle.wit_growth.specs.AllElaborated.{elaborated_world}
 use Rattle.wit_growth.specs.Cut.{mapped_source}
+use Rattle.wit_growth.specs.GoodWorlds.{same_one}
 use Rattle.wit_growth.specs.Image.{entry_image, function_image, interface_image, item_image, world_image}
 use Rattle.wit_growth.specs.LawsOfElaboration.{LawsOfElaboration}
 use Rattle.wit_growth.specs.ListFacts.{Contains-map, at_map, found_at, place_of, same_at, some_at}
 use Rattle.wit_growth.specs.OnePlace.{entries_of}
+use Rattle.wit_growth.specs.OptionFacts.{some_same}
 use Rattle.wit_growth.specs.Sources.{InterfaceStands}
 use Rattle.wit_merging.specs.Agreement.{same_sort}
 use Rattle.wit_merging.specs.Agreement as differ
@@ -39,7 +41,7 @@ use Rattle.wit_merging_laws.specs.InterfacesStand.{option_is, option_so}
 use Rattle.wit_merging_laws.specs.JoinedGood.{CanElaborate}
 use Rattle.wit_merging_laws.specs.LabelsStay.{export_into, label_into}
 use Rattle.wit_merging_laws.specs.ListedStand.{new_world_at, old_world_at}
-use Rattle.wit_merging_laws.specs.MatchFacts.{goes_to, interface_is, some_same, world_is}
+use Rattle.wit_merging_laws.specs.MatchFacts.{goes_to, interface_is, world_is}
 use Rattle.wit_merging_laws.specs.NamesGo.{InterfaceGoes, ItemGoes, Part, Places, WorldGoes}
 use Rattle.wit_merging_laws.specs.PackagesStand.{ListsMoved, old_package_at, package_keeps, package_stands, world_keeps}
 use Rattle.wit_merging_laws.specs.TypesStand.{matched_some}
@@ -130,12 +132,9 @@ world_image_goes m w old = record {
 pub item_matched : (m : Merging) (held here : WorldItem) → same_sort held here ≡ true → ((text : List ℕ) → differ.ItemsDiffer m held here text → ⊥) → ItemGoes (interface_place m) held here
 item_matched m (item.Interface j stability docs span external_id) (item.Interface j' stability' docs' span' external_id') sort agrees i is =
     elim (cases_Bool (option_eq nat_eq (found_interface m j) (Some j'))) [
-      | inl same ↦ ap (λ (x : ℕ). x ∷ []) (sym (goes_to (found_interface m j) _ j' (option_is (found_interface m j) j' same)) ∙ ap (interface_place m) (one_same j i is))
+      | inl same ↦ ap (λ (x : ℕ). x ∷ []) (sym (goes_to (found_interface m j) _ j' (option_is (found_interface m j) j' same)) ∙ ap (interface_place m) (same_one j i is))
       | inr other ↦ absurd (agrees _ (differ.interfaces j j' refl refl (λ same. false≢true (sym other ∙ option_so (found_interface m j) j' same))))
     ]
-  where
-    one_same : (a b : ℕ) → a ∷ [] ≡ b ∷ [] → a ≡ b
-    one_same a b same = cc
 item_matched m (item.Interface j stability docs span external_id) (item.Function f) sort agrees i is = absurd (false≢true sort)
 item_matched m (item.Interface j stability docs span external_id) (item.Type_ t span') sort agrees i is = absurd (false≢true sort)
 item_matched m (item.Function f) here sort agrees i is = cc

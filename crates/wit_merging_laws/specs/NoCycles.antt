@@ -30,6 +30,7 @@ use Rattle.wit_growth.specs.Growth.{TypesGrow}
 use Rattle.wit_growth.specs.ListFacts.{at_below, found_at, in_row, place_of, some_at}
 use Rattle.wit_growth.specs.NamedUses.{used_is_named}
 use Rattle.wit_growth.specs.Operations.{merge_sources}
+use Rattle.wit_growth.specs.OptionFacts.{some_there}
 use Rattle.wit_growth.specs.Referred.{RefersUnder}
 use Rattle.wit_growth.specs.ReferredFacts.{kind_refers}
 use Rattle.wit_growth.specs.RowFacts.{walk_shorter}
@@ -117,10 +118,6 @@ module _ (m : Merging) (valid : IsValid m.graph) (valid_other : IsValid m.other)
 pub are_one : (m : Merging) → CanMerge m → AreOne m
 are_one m can message differs = can (Semantic None message cause.MergeMismatch) (merge_mismatch_24 message differs)
 
-has_name : {X : Type 0} (o : Option X) → IsSome o → (x : X) × (o ≡ Some x)
-has_name None is = cc
-has_name (Some x) is = (x, refl)
-
 has_home : (P : ℕ → Type 0) (o : Option ℕ) → IsSomeAnd o P → (p : ℕ) × (o ≡ Some p)
 has_home P None h = absurd h
 has_home P (Some p) h = (p, refl)
@@ -146,7 +143,7 @@ module _ (m : Merging) (valid : IsValid m.graph) (valid_other : IsValid m.other)
   id_of_named : (i : ℕ) → IsNamed joined.interfaces i → (id : List ℕ) × (interface_id_at joined.packages joined.interfaces i ≡ Some id)
   id_of_named i named =
       let found = found_at (λ (interface : Interface). IsSome interface.name) joined.interfaces i named in
-      let name = has_name found.0.name found.2 in
+      let name = some_there found.0.name found.2 in
       let home = has_home _ found.0.package (interfaces_in_tables m valid valid_other i found.0 found.1) in
       (id_text joined.packages home.0 name.0, whole (slice_get joined.interfaces i) found.0 found.1 name.0 home.0 name.1 home.1)
     where

@@ -1,5 +1,5 @@
 -- An interface without a name stands in one place of a united graph, as it did in the two graphs.
-use Rattle.std.proofs.Common.{◌≡◌, ◌∙◌, ◌⊎◌, inl, inr, ℕ, ◌<◌, zero, suc, Bool, true, false, not, is_some, List, [], ◌∷◌, map, filter, length, Option, None, Some, slice_get, refl, sym, ap, subst, arith, Contains}
+use Rattle.std.proofs.Common.{◌≡◌, ◌∙◌, ◌⊎◌, inl, inr, ℕ, ◌<◌, zero, suc, Bool, true, false, List, [], ◌∷◌, map, filter, length, Option, None, Some, slice_get, refl, sym, ap, subst, arith, Contains}
 use Rattle.std.specs.Map.{lookup}
 use Rattle.std.specs.Option.{option_map_or}
 use Rattle.std.proofs.lemmas.Bool.{cases_Bool, eqb-true, ltb-true}
@@ -13,21 +13,22 @@ use Rattle.wit_items.specs.declared.world.WorldItem.TheVariants as item
 use Rattle.wit_items.specs.declared.world.WorldKey.{WorldKey}
 use Rattle.wit_items.specs.declared.world.WorldKey.TheVariants as key
 use Rattle.wit_graph.proofs.FreshEntries.{same_key-true}
-use Rattle.wit_graph.specs.Elaborated.{settled_item}
 use Rattle.wit_graph.specs.Entries.{same_key}
 use Rattle.wit_graph.specs.Valid.{IsValid}
 use Rattle.wit_graph.specs.declared.graph.Graph.{Graph}
 use Rattle.wit_growth.specs.AllElaborated.{elaborated_world}
 use Rattle.wit_growth.specs.Cut.{cut_interface, kept_whole, mapped_source}
+use Rattle.wit_growth.specs.ElaboratedCome.{settled_interface}
 use Rattle.wit_growth.specs.GoodWorlds.{same_one}
 use Rattle.wit_growth.specs.Image.{Maps, entry_image, identity, item_image, key_image, world_image}
 use Rattle.wit_growth.specs.LawsOfElaboration.{LawsOfElaboration}
 use Rattle.wit_growth.specs.ListFacts.{Contains-map_cases, contained_at, found_at, from_map, place_of, same_at}
 use Rattle.wit_growth.specs.OnePlace.{HasOnePlace, Holds, Origin, entries_of}
-use Rattle.wit_growth.specs.OnePlaceCarried.{HasOnePlace-of_covered, named_not}
+use Rattle.wit_growth.specs.OnePlaceCarried.{HasOnePlace-of_covered, named_not, unnamed_same}
 use Rattle.wit_growth.specs.OnePlaceFacts.{StandOnce-from_places}
 use Rattle.wit_growth.specs.OnePlaceFrom.{cut_has_one_place}
 use Rattle.wit_growth.specs.Operations.{merge_sources}
+use Rattle.wit_growth.specs.OptionFacts.{some_parts, some_same}
 use Rattle.wit_growth.specs.Sources.{InterfaceStands, Source}
 use Rattle.wit_adding.specs.Include.{joined_entry, joined_item}
 use Rattle.wit_merging.specs.Joined.{is_under_id, joined_interface, with_world}
@@ -38,18 +39,12 @@ use Rattle.wit_merging.specs.United.{joined_graph, united}
 use Rattle.wit_merging_laws.specs.InterfacesStand.{interface_stands, joined_keeps, moved_interface_goes, old_interface_at}
 use Rattle.wit_merging_laws.specs.JoinedGood.{CanElaborate}
 use Rattle.wit_merging_laws.specs.ListedStand.{WorldFrom, interfaces_apart, of_graph, of_other, world_at_from}
-use Rattle.wit_merging_laws.specs.MatchFacts.{SpotMatch, goes_to, no_name, some_of, some_same, spot_home, spot_match, stands_at}
+use Rattle.wit_merging_laws.specs.MatchFacts.{SpotMatch, goes_to, no_name, spot_home, spot_match, stands_at}
 use Rattle.wit_merging_laws.specs.MatchedOnce.{lists_distinct, one_place}
 use Rattle.wit_merging_laws.specs.TypesStand.{matched_some}
 use Rattle.wit_merging_laws.specs.UnitedWorlds.{entries_from, exported_is_named, united_covered, united_stands, used_is_named}
 use Rattle.wit_merging_laws.specs.WholeFacts.{world_from}
 use Rattle.wit_merging_laws.specs.WorldsStand.{sources_good}
-
--- one that stands under another's name has a name if that has one
-pub unnamed_same : (xs ys : List Interface) (f f' : ℕ) (x y : Interface) → slice_get xs f ≡ Some x → slice_get ys f' ≡ Some y → y.name ≡ x.name → is_unnamed ys f' ≡ is_unnamed xs f
-unnamed_same xs ys f f' x y at at' name =
-    ap (λ (o : Option Interface). option_map_or (λ (i : Interface). not (is_some i.name)) o false) at' ∙ ap (λ (n : Option (List ℕ)). not (is_some n)) name
-    ∙ sym (ap (λ (o : Option Interface). option_map_or (λ (i : Interface). not (is_some i.name)) o false) at)
 
 unnamed_cut : (g : Graph) (f : ℕ) → is_unnamed (map (cut_interface (kept_whole g)) g.interfaces) f ≡ is_unnamed g.interfaces f
 unnamed_cut g f = by g.interfaces f
@@ -101,7 +96,7 @@ module _ (m : Merging) (valid : IsValid m.graph) (valid_other : IsValid m.other)
   -- what the spot of a matched interface without a name says of both its places
   pub spot_of : (i i' : ℕ) → is_unnamed m.other.interfaces i ≡ true → found_interface m i ≡ Some i' → SpotMatch m i i'
   spot_of i i' unnamed found =
-      let from = some_of (λ (interface : Interface). found_as m i interface.package interface.name) (slice_get m.other.interfaces i) i' found in
+      let from = some_parts (λ (interface : Interface). found_as m i interface.package interface.name) (slice_get m.other.interfaces i) i' found in
       let none = no_name m.other.interfaces i unnamed in
       let same : none.0 ≡ from.0 = some_same none.0 from.0 (sym none.1 ∙ from.1) in
       spot_match m i i' (subst (λ (n : Option (List ℕ)). found_as m i from.0.package n ≡ Some i') (ap (λ (x : Interface). x.name) (sym same) ∙ none.2) from.2)
@@ -142,11 +137,6 @@ module _ (m : Merging) (valid : IsValid m.graph) (valid_other : IsValid m.other)
   meet g f' w' v' c d (suc k) (suc l) unnamed x y = inr (same_origin (at 1) f' w' v' c d (injective 1) (one_in 1) x y)
 
 -- ---- on one side
-
-pub settled_interface : (held : WorldItem) → item_interface (settled_item held) ≡ item_interface held
-settled_interface (item.Interface i stability docs span external_id) = refl
-settled_interface (item.Function f) = refl
-settled_interface (item.Type_ t span) = refl
 
 joined_held : (from held : WorldItem) → item_interface (joined_item false from held) ≡ item_interface held
 joined_held (item.Interface i stability docs span external_id) (item.Interface i' stability' docs' span' external_id') = refl

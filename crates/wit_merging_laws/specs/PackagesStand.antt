@@ -25,7 +25,9 @@ use Rattle.wit_growth.specs.AllElaborated.{elaborated_world}
 use Rattle.wit_growth.specs.CutIsGood.{distinct_kept}
 use Rattle.wit_growth.specs.Good.{IsGoodPackage}
 use Rattle.wit_growth.specs.Image.{interface_image, world_image}
+use Rattle.wit_growth.specs.ImagesCome.{distinct_map}
 use Rattle.wit_growth.specs.ListFacts.{Contains-map, Contains-map_cases, at_map, at_new, contained_at, found_at, from_map, old_or_new, place_of, some_at}
+use Rattle.wit_growth.specs.OptionFacts.{none_there, some_by, some_same}
 use Rattle.wit_growth.specs.PackagesAcyclic.{length-numbered, numbered_from, numbered_into}
 use Rattle.wit_growth.specs.Theory.{HasGoodTables}
 use Rattle.wit_adding.specs.RankFacts.{taken-at, taken_places-from}
@@ -36,9 +38,9 @@ use Rattle.wit_merging.specs.Matches.{Merging, found_as, found_in, found_interfa
 use Rattle.wit_merging.specs.Moved.{interface_place, merge_maps, moves_interface, moves_package, moves_world, package_place, world_place}
 use Rattle.wit_merging.specs.United.{joined_graph, package_image, united}
 use Rattle.wit_merging_laws.specs.InterfacesStand as interfaces
-use Rattle.wit_merging_laws.specs.InterfacesStand.{distinct_under, partner_from, partner_is}
+use Rattle.wit_merging_laws.specs.InterfacesStand.{partner_from, partner_is}
 use Rattle.wit_merging_laws.specs.ListedStand as worlds
-use Rattle.wit_merging_laws.specs.MatchFacts.{goes_to, package_is, some_by, some_same}
+use Rattle.wit_merging_laws.specs.MatchFacts.{goes_to, package_is}
 use Rattle.wit_merging_laws.specs.MatchedOnce.{package_once}
 use Rattle.wit_merging_laws.specs.TypesStand.{matched_some, moved_next}
 
@@ -53,10 +55,6 @@ in_vain {K} {V} test k v (e ∷ es) passes none has = by (test e.0) refl none (i
       | inl same ↦ false≢true (sym is ∙ (ap (λ (p : K × V). test p.0) same ∙ passes))
       | inr there ↦ rest none there
     ]
-
-no_some : {X : Type 0} (o : Option X) → not (is_some o) ≡ true → o ≡ None
-no_some None h = refl
-no_some (Some x) h = cc
 
 same_bytes : (n : List ℕ) → bytes_eq n n ≡ true
 same_bytes n = nat_list_eq_equiv.refl n
@@ -227,7 +225,7 @@ module _ (m : Merging) (valid : IsValid m.graph) (valid_other : IsValid m.other)
           let old = Contains-map_cases (typed (interface_place m)) brought_interfaces f new in
           let kept = Contains-filter (λ (x : List ℕ × ℕ). moves_interface m x.1) from.interfaces old.0 old.1 in
           let place = place_of from.interfaces old.0 kept.0 in
-          let none = no_some (found_interface m old.0.1) kept.1 in
+          let none = none_there (found_interface m old.0.1) kept.1 in
           let named : e.0 ≡ old.0.0 = same ∙ sym (ap (λ (x : List ℕ × ℕ). x.0) old.2) in
           in_vain (bytes_eq old.0.0) old.0.0 e.1 into.interfaces (same_bytes old.0.0)
           (sym (interface_looked p p' into matched there old.0.1 old.0.0 (valid_other.well_formed.tables.interface_tables p from from_there place.0 old.0 place.1)) ∙ none) (subst (λ (n : List ℕ). Contains into.interfaces (n, e.1)) named has)
@@ -237,7 +235,7 @@ module _ (m : Merging) (valid : IsValid m.graph) (valid_other : IsValid m.other)
           let old = Contains-map_cases (typed (world_place m)) brought_worlds f new in
           let kept = Contains-filter (λ (x : List ℕ × ℕ). moves_world m x.1) from.worlds old.0 old.1 in
           let place = place_of from.worlds old.0 kept.0 in
-          let none = no_some (found_world m old.0.1) kept.1 in
+          let none = none_there (found_world m old.0.1) kept.1 in
           let named : e.0 ≡ old.0.0 = same ∙ sym (ap (λ (x : List ℕ × ℕ). x.0) old.2) in
           in_vain (bytes_eq old.0.0) old.0.0 e.1 into.worlds (same_bytes old.0.0)
           (sym (world_looked p p' into matched there old.0.1 old.0.0 (valid_other.well_formed.tables.world_tables p from from_there place.0 old.0 place.1)) ∙ none) (subst (λ (n : List ℕ). Contains into.worlds (n, e.1)) named has)
@@ -255,9 +253,9 @@ module _ (m : Merging) (valid : IsValid m.graph) (valid_other : IsValid m.other)
               | inr new ↦ new_world_listed e new
             ];
         distinct_interfaces = joined_apart into.interfaces (map (typed (interface_place m)) brought_interfaces) alone_good.distinct_interfaces
-            (distinct_under (interface_place m) brought_interfaces (distinct_kept (λ (x : List ℕ × ℕ). moves_interface m x.1) from.interfaces (valid_other.well_formed.tables.distinct_interfaces p from from_there))) interfaces_apart;
+            (distinct_map (interface_place m) brought_interfaces (distinct_kept (λ (x : List ℕ × ℕ). moves_interface m x.1) from.interfaces (valid_other.well_formed.tables.distinct_interfaces p from from_there))) interfaces_apart;
         distinct_worlds = joined_apart into.worlds (map (typed (world_place m)) brought_worlds) alone_good.distinct_worlds
-            (distinct_under (world_place m) brought_worlds (distinct_kept (λ (x : List ℕ × ℕ). moves_world m x.1) from.worlds (valid_other.well_formed.tables.distinct_worlds p from from_there))) worlds_apart;
+            (distinct_map (world_place m) brought_worlds (distinct_kept (λ (x : List ℕ × ℕ). moves_world m x.1) from.worlds (valid_other.well_formed.tables.distinct_worlds p from from_there))) worlds_apart;
         namespace = alone_good.namespace;
         name = alone_good.name;
       }
@@ -273,7 +271,7 @@ module _ (m : Merging) (valid : IsValid m.graph) (valid_other : IsValid m.other)
   module _ (p : ℕ) (old : Package) (there : slice_get m.other.packages p ≡ Some old) (moves : moves_package m p ≡ true) where
     unmatched : (table : Package → List (List ℕ × ℕ)) (home : Option ℕ) (name : List ℕ) → home ≡ Some p → found_in table m home name ≡ None
     unmatched table home name home_is =
-        ap (option_and_then (λ p'. option_and_then (λ (there : Package). lookup (bytes_eq name) (table there)) (slice_get m.graph.packages p'))) (some_by (found_package m) home p home_is ∙ no_some (found_package m p) moves)
+        ap (option_and_then (λ p'. option_and_then (λ (there : Package). lookup (bytes_eq name) (table there)) (slice_get m.graph.packages p'))) (some_by (found_package m) home p home_is ∙ none_there (found_package m p) moves)
 
     interface_moves : (i : ℕ) (name : List ℕ) → IsInterfaceOf m.other.interfaces p name i → moves_interface m i ≡ true
     interface_moves i name is =
@@ -299,8 +297,8 @@ module _ (m : Merging) (valid : IsValid m.graph) (valid_other : IsValid m.other)
           let from = from_map (typed (world_place m)) old.worlds i e on in
           let is = valid_other.well_formed.tables.world_tables p old there i from.0 from.1 in
           subst (λ (x : List ℕ × ℕ). IsWorldOf (united m).worlds (package_place m p) x.0 x.1) from.2 (new_world_of p from.0.1 from.0.0 is (world_moves from.0.1 from.0.0 is));
-      distinct_interfaces = distinct_under (interface_place m) old.interfaces (valid_other.well_formed.tables.distinct_interfaces p old there);
-      distinct_worlds = distinct_under (world_place m) old.worlds (valid_other.well_formed.tables.distinct_worlds p old there);
+      distinct_interfaces = distinct_map (interface_place m) old.interfaces (valid_other.well_formed.tables.distinct_interfaces p old there);
+      distinct_worlds = distinct_map (world_place m) old.worlds (valid_other.well_formed.tables.distinct_worlds p old there);
       namespace = valid_other.names.namespaces p old there;
       name = valid_other.names.package_names p old there;
     }
@@ -456,7 +454,7 @@ module _ (m : Merging) (valid : IsValid m.graph) (valid_other : IsValid m.other)
       let looked : found_package m old.0.1 ≡ lookup (same_package old.0.0) m.graph.package_names =
       some_by (λ (home : Package). lookup (same_package home.name) m.graph.package_names) (slice_get m.other.packages old.0.1) home.0 home.1 ∙ ap (λ (n : PackageName). lookup (same_package n) m.graph.package_names) home.2 in
       let named : e.0 ≡ old.0.0 = same ∙ sym (ap (λ (x : PackageName × ℕ). x.0) old.2) in
-      in_vain (same_package old.0.0) old.0.0 e.1 m.graph.package_names (own_name old.0.0) (sym looked ∙ no_some (found_package m old.0.1) kept.1) (subst (λ (n : PackageName). Contains m.graph.package_names (n, e.1)) named has)
+      in_vain (same_package old.0.0) old.0.0 e.1 m.graph.package_names (own_name old.0.0) (sym looked ∙ none_there (found_package m old.0.1) kept.1) (subst (λ (n : PackageName). Contains m.graph.package_names (n, e.1)) named has)
 
   old_named : (e : PackageName × ℕ) → Contains m.graph.package_names e → SomeAt (united m).packages e.1 (λ (home : Package). home.name ≡ e.0)
   old_named e has =
@@ -479,7 +477,7 @@ module _ (m : Merging) (valid : IsValid m.graph) (valid_other : IsValid m.other)
         elim (Contains-append_cases m.graph.package_names (map placed brought) e (contained_at (m.graph.package_names ++ map placed brought) i e on)) [ inl old ↦ old_named e old | inr new ↦ new_named e new ];
     listed = λ p' new there. listed p' new (package_at_from m p' new there);
     distinct = joined_apart m.graph.package_names (map placed brought) valid.well_formed.package_names.distinct
-        (distinct_under (package_place m) brought (distinct_kept (λ (x : PackageName × ℕ). moves_package m x.1) m.other.package_names valid_other.well_formed.package_names.distinct)) names_apart;
+        (distinct_map (package_place m) brought (distinct_kept (λ (x : PackageName × ℕ). moves_package m x.1) m.other.package_names valid_other.well_formed.package_names.distinct)) names_apart;
   }
     where
       listed : (p' : ℕ) (new : Package) → PackageFrom m p' new → Contains (m.graph.package_names ++ map placed brought) (new.name, p')

@@ -27,6 +27,7 @@ use Rattle.wit_growth.specs.AllElaborated.{elaborated_world}
 use Rattle.wit_growth.specs.EntryFacts.{key_entry}
 use Rattle.wit_growth.specs.LawsOfElaboration.{LawsOfElaboration}
 use Rattle.wit_growth.specs.ListFacts.{at_map, found_at, place_of, same_at, some_at}
+use Rattle.wit_growth.specs.OptionFacts.{some_same}
 use Rattle.wit_merging.specs.Cause.{CanMerge}
 use Rattle.wit_merging.specs.Joined.{joined_world}
 use Rattle.wit_merging.specs.Matches.{Merging, found_world}
@@ -35,7 +36,7 @@ use Rattle.wit_merging.specs.Reasons.{AreOne}
 use Rattle.wit_merging.specs.United.{joined_graph, united}
 use Rattle.wit_merging_laws.specs.JoinedGood.{CanElaborate, in_order, listed_imports}
 use Rattle.wit_merging_laws.specs.ListedStand.{moved_world_goes, old_world_at}
-use Rattle.wit_merging_laws.specs.MatchFacts.{goes_to, some_same}
+use Rattle.wit_merging_laws.specs.MatchFacts.{goes_to}
 use Rattle.wit_merging_laws.specs.MatchedOnce.{one_under, world_in_table}
 use Rattle.wit_merging_laws.specs.MergingLaws.{SharedWorldsKeepImports}
 use Rattle.wit_merging_laws.specs.Names.{HasImport, IsInterface, IsPackage, IsWorld}

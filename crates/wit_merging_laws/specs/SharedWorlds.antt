@@ -31,6 +31,7 @@ use Rattle.wit_graph.specs.declared.graph.Graph.{Graph}
 use Rattle.wit_growth.specs.DependencyFacts.{needs_from, needs_into}
 use Rattle.wit_growth.specs.EntryFacts.{export_uses, import_uses, instance_interface, key_entry, one_of, root_interface}
 use Rattle.wit_growth.specs.EntryFacts as entries
+use Rattle.wit_growth.specs.GoodWorlds.{same_one}
 use Rattle.wit_growth.specs.ListFacts.{Contains-map_cases, found_at, place_of, same_at}
 use Rattle.wit_growth.specs.OnePlace.{entries_of}
 use Rattle.wit_growth.specs.PackageCycles.{ListsKey}
@@ -61,9 +62,6 @@ interface_sort (item.Function f) (item.Type_ t span) i sort is = cc
 interface_sort (item.Type_ t span) (item.Interface i' stability docs span' external_id) i sort is = absurd (false≢true sort)
 interface_sort (item.Type_ t span) (item.Function f') i sort is = cc
 interface_sort (item.Type_ t span) (item.Type_ t' span') i sort is = cc
-
-one_same : (a b : ℕ) → a ∷ [] ≡ b ∷ [] → a ≡ b
-one_same a b same = cc
 
 -- a type with a stability joined to its entry was that type
 type_before : (from held : WorldItem) (t : ℕ) (span : _) → joined_item false from held ≡ item.Type_ t span → held ≡ item.Type_ t span
@@ -99,7 +97,7 @@ type_import m e k t span = by (partner (found_world m) m.other.worlds e.0)
 -- an interface that stands under the key of one is that one
 own_key : (interfaces : List Interface) (types : List TypeDef) (w : ℕ) (k : WorldKey) (held : WorldItem) (f i : ℕ) → k ≡ key.Interface f → item_interface held ≡ i ∷ [] → IsImport interfaces types w k held → i ≡ f
 own_key interfaces types w (key.Name label) held f i same is import = cc
-own_key interfaces types w (key.Interface g) (item.Interface id stability docs span external_id) f i same is import = let one : g ≡ f = cc in sym (one_same id i is) ∙ (import.0 ∙ one)
+own_key interfaces types w (key.Interface g) (item.Interface id stability docs span external_id) f i same is import = let one : g ≡ f = cc in sym (same_one id i is) ∙ (import.0 ∙ one)
 own_key interfaces types w (key.Interface g) (item.Function fn) f i same is import = absurd import
 own_key interfaces types w (key.Interface g) (item.Type_ t span) f i same is import = absurd import
 
@@ -197,7 +195,7 @@ module _ (least : ImportsAreLeast) (m : Merging) (valid : IsValid m.graph) (vali
         let is_there : item_interface here.here ≡ interface_place m i ∷ [] = ap item_interface same ∙ is in
         let sort = interface_sort from.0.1 here.here (interface_place m i) here.same is_there in
         let goes_there = item_matched m from.0.1 here.here here.same here.agrees sort.0 sort.1 in
-        let back : sort.0 ≡ i = interfaces_apart m valid valid_other sort.0 i (one_same (interface_place m sort.0) (interface_place m i) (sym goes_there ∙ is_there)) in
+        let back : sort.0 ≡ i = interfaces_apart m valid valid_other sort.0 i (same_one (interface_place m sort.0) (interface_place m i) (sym goes_there ∙ is_there)) in
         (from.0, from.1, sort.1 ∙ ap (λ (x : ℕ). x ∷ []) back)
       where
         some_key : (a b : WorldKey) → Some a ≡ Some b → a ≡ b

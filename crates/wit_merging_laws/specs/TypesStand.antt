@@ -1,9 +1,9 @@
 -- The types of two graphs that are one: those of the graph stay but for their stability, those of the other stand at
 -- their places, and there are no others but the `own`s that values ask for.
-use Rattle.std.proofs.Common.{◌≡◌, ◌∙◌, ℕ, ◌+◌, ◌<◌, ◌&&◌, Bool, true, false, not, List, ◌++◌, ◌⊎◌, inl, inr, map, filter, length, is_some, nat_eq, Option, None, Some, option_map, unwrap_or, IsSome, slice_get, refl, sym, ap, subst, arith, if◌then◌else◌}
+use Rattle.std.proofs.Common.{◌≡◌, ◌∙◌, ℕ, ◌+◌, ◌<◌, Bool, true, false, not, List, ◌++◌, ◌⊎◌, inl, inr, map, filter, length, is_some, nat_eq, Option, None, Some, option_map, unwrap_or, IsSome, slice_get, refl, sym, ap, subst, arith, if◌then◌else◌}
 use Rattle.std.specs.List.{enumerate_from, list_any, range_with_len}
 use Rattle.std.specs.Option.{option_map_or}
-use Rattle.std.proofs.lemmas.Bool.{cases_Bool, false≢true, lt-ltb}
+use Rattle.std.proofs.lemmas.Bool.{and_parts, cases_Bool, false≢true, lt-ltb}
 use Rattle.std.proofs.lemmas.List.{length-map}
 use Rattle.std.proofs.lemmas.Option.{slice_get_within}
 use Rattle.wit_values.specs.Lists.{slice_get-append}
@@ -211,15 +211,11 @@ module _ (m : Merging) (valid : IsValid m.graph) (valid_other : IsValid m.other)
   values_stand t def at = elim (cases_Bool (needs_own m t)) [
     | inl needs ↦
         inr (
-          leads_named t def at (second (list_any (nat_eq t) (positions m)) (leads_to_resource (plain_types m) (type_place m t)) needs),
+          leads_named t def at (and_parts (list_any (nat_eq t) (positions m)) (leads_to_resource (plain_types m) (type_place m t)) needs).1,
           some_at (λ (there : TypeDef). (there.name ≡ None) × (there.owner ≡ owner.None) × (there.kind ≡ kind.Handle (Own (type_place m t)))) (joined_graph m).types (value_place m t) (own_of (type_place m t)) (own_at m t def at needs) (refl, refl, refl),
         )
     | inr plain ↦ inl (ap (λ (b : Bool). if b then length m.graph.types + length (moved_types m) + rank (needs_own m) t else type_place m t) plain)
   ]
-    where
-      second : (b c : Bool) → b && c ≡ true → c ≡ true
-      second true c h = h
-      second false c h = cc
 
   -- each type of the two graphs as one comes of a type of one of them, or is an `own`
   pub types_come : (g : Graph) (t' : ℕ) (new : TypeDef) → slice_get (joined_graph m).types t' ≡ Some new

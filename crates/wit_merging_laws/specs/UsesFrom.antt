@@ -10,6 +10,7 @@ use Rattle.wit_items.specs.declared.types.TypeOwner.TheVariants as owner
 use Rattle.wit_graph.specs.Elaboration.{graph_uses}
 use Rattle.wit_graph.specs.Valid.{IsValid}
 use Rattle.wit_graph.specs.declared.graph.Graph.{Graph}
+use Rattle.wit_growth.specs.CarriedImages.{from_mapped}
 use Rattle.wit_growth.specs.DependencyFacts.{Needs, filter_map_from, filter_map_into, needs_from, needs_into}
 use Rattle.wit_growth.specs.GoodTypes.{IsAliased, from_if}
 use Rattle.wit_growth.specs.Image.{name_image, owner_image, type_image}
@@ -41,10 +42,6 @@ name_from m by None name is = cc
 name_from m (owner.World w) (Some n) name is = is
 name_from m (owner.Interface i) (Some n) name is = is
 name_from m owner.None (Some n) name is = is
-
-target_from : (f : ℕ → ℕ) (o : Option ℕ) (t' : ℕ) → option_map f o ≡ Some t' → (t : ℕ) × (o ≡ Some t) × (t' ≡ f t)
-target_from f None t' is = cc
-target_from f (Some t) t' is = (t, refl, cc)
 
 -- ---- uses
 
@@ -114,7 +111,7 @@ module _ (m : Merging) (valid : IsValid m.graph) (valid_other : IsValid m.other)
     new_use : (t : ℕ) (old : TypeDef) → slice_get m.other.types t ≡ Some old → type_image (merge_maps m) old ≡ needs.alias → UseOfOther f' j'
     new_use t old is same =
         let by = owner_from m old.owner f' (ap (λ (d : TypeDef). d.owner) same ∙ by_is) in
-        let target = target_from (type_place m) (alias_target old.kind) needs.target (sym (alias_image (merge_maps m) old.kind) ∙ (ap (λ (d : TypeDef). alias_target d.kind) same ∙ needs.names)) in
+        let target = from_mapped (type_place m) (alias_target old.kind) needs.target (sym (alias_image (merge_maps m) old.kind) ∙ (ap (λ (d : TypeDef). alias_target d.kind) same ∙ needs.names)) in
         let named = target_there m.other valid_other t old target.0 is target.1 in
         let stands = found_at (Stands (merge_maps m) named.0) g.types (type_place m target.0) (type_stands m valid valid_other target.0 named.0 named.1) in
         let same_named = same_at g.types (type_place m target.0) needs.target stands.0 needs.named (sym target.2) stands.1 needs.target_there in

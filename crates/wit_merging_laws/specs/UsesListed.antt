@@ -26,6 +26,7 @@ use Rattle.wit_growth.specs.EntryFacts.{canonical_lists_uses, key_entry}
 use Rattle.wit_growth.specs.Image.{entry_image, world_image}
 use Rattle.wit_growth.specs.ListFacts.{Contains-map, Contains-map_cases, found_at, from_row, place_of}
 use Rattle.wit_growth.specs.OnePlace.{entries_of}
+use Rattle.wit_growth.specs.OnePlaceCarried.{unnamed_same}
 use Rattle.wit_growth.specs.PackageCycles.{ListsKey, ListsUses}
 use Rattle.wit_growth.specs.Sources.{InterfaceStands}
 use Rattle.wit_adding.specs.Include.{joined_entry}
@@ -37,7 +38,7 @@ use Rattle.wit_merging.specs.United.{joined_graph}
 use Rattle.wit_merging_laws.specs.InterfacesStand.{interface_stands, joined_keeps, moved_interface_goes, old_interface_at}
 use Rattle.wit_merging_laws.specs.ListedStand.{WorldFrom, interfaces_apart, of_graph, of_other, world_at_from}
 use Rattle.wit_merging_laws.specs.MatchFacts.{goes_to, interface_is, spot_home, stands_at}
-use Rattle.wit_merging_laws.specs.OnceStand.{entry_held, image_held, spot_key, spot_of, unnamed_same}
+use Rattle.wit_merging_laws.specs.OnceStand.{entry_held, image_held, spot_key, spot_of}
 use Rattle.wit_merging_laws.specs.TypesStand.{matched_some}
 use Rattle.wit_merging_laws.specs.UsesFrom.{UseOfOther, use_from}
 use Rattle.wit_merging_laws.specs.WorldsStand.{entry_there}

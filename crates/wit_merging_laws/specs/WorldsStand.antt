@@ -33,6 +33,7 @@ use Rattle.wit_growth.specs.Kept.{everything}
 use Rattle.wit_growth.specs.ListFacts.{Contains-map, found_at, some_at}
 use Rattle.wit_growth.specs.OnePlace.{entries_of}
 use Rattle.wit_growth.specs.Operations.{merge_sources}
+use Rattle.wit_growth.specs.OptionFacts.{some_by, some_parts, some_same}
 use Rattle.wit_growth.specs.Sources.{Carries, IsGoodSource, WorldStands}
 use Rattle.wit_adding.specs.Include.{joined_entry, joined_item}
 use Rattle.wit_merging.specs.Agreement.{same_sort}
@@ -46,7 +47,7 @@ use Rattle.wit_merging.specs.United.{joined_graph}
 use Rattle.wit_merging_laws.specs.InterfacesStand as interfaces
 use Rattle.wit_merging_laws.specs.InterfacesStand.{partner_is}
 use Rattle.wit_merging_laws.specs.ListedStand.{new_world_at, old_world_at, worlds_come}
-use Rattle.wit_merging_laws.specs.MatchFacts.{WorldMatch, goes_to, some_by, some_of, some_same, world_is, world_type_is}
+use Rattle.wit_merging_laws.specs.MatchFacts.{WorldMatch, goes_to, world_is, world_type_is}
 use Rattle.wit_merging_laws.specs.MatchedOnce.{world_in_table, world_once}
 use Rattle.wit_merging_laws.specs.TypesStand as types
 use Rattle.wit_merging_laws.specs.TypesStand.{matched_some}
@@ -157,7 +158,7 @@ module _ (m : Merging) (valid : IsValid m.graph) (valid_other : IsValid m.other)
         by : (o : Option WorldItem) → found_item m (entries_of exported into) k ≡ o → EntryThere exported k held
         by None none = absurd (differs exported (differ.absent (entry k held) has none))
         by (Some here) at =
-            let at_key = some_of (λ (k' : WorldKey). lookup (same_key k') (entries_of exported into)) (found_key m k) here at in
+            let at_key = some_parts (λ (k' : WorldKey). lookup (same_key k') (entries_of exported into)) (found_key m k) here at in
             elim (cases_Bool (same_sort held here)) [
               | inl same ↦ record { k' = at_key.0; here = here; key_is = at_key.1; looked = at_key.2; same = same; agrees = λ text other. differs exported (differ.apart (entry k held) here text has at other) }
               | inr other ↦ absurd (differs exported (differ.apart (entry k held) here _ has at (differ.sorts other)))

@@ -79,6 +79,7 @@ abbrev pub retargeted : TypeDef → Option ℕ → TypeDef
 retargeted def None = def
 retargeted def (Some t) = record def { kind = kind.Type_ (type.Id t) }
 
+-- the types, each naming what it names then
 abbrev pub rewritten_types : Upgrade → List TypeDef
 rewritten_types u = map (λ (e : ℕ × TypeDef). retargeted e.1 (new_target u e.0 e.1)) (enumerate_from 0 u.graph.types)
 
@@ -88,7 +89,7 @@ rewritten_types u = map (λ (e : ℕ × TypeDef). retargeted e.1 (new_target u e
 abbrev pub relisted_at : Upgrade → ℕ → Graph
 relisted_at u w = record u.graph { types = rewritten_types u; worlds = slice_set u.graph.worlds w (listed_world u) }
 
--- the same of the world at a place, and of a graph without it nothing
+-- the same of the world at a place; a graph that has no world there is as it was
 abbrev pub relisted : TrackRule → Graph → ℕ → Graph
 relisted rule g w = option_map_or (λ (world : World). relisted_at (record { rule = rule; graph = g; world = world }) w) (slice_get g.worlds w) g
 

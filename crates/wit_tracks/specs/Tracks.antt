@@ -37,6 +37,7 @@ versioned packages interfaces i = option_and_then (versioned_of packages) (slice
 abbrev pub track_key : TrackRule → Versioned → PackageName × List ℕ
 track_key rule v = (record v.home { version = Some (track_by rule v.version) }, v.name)
 
+-- are two on one track?
 abbrev pub have_one_track : TrackRule → Versioned → Versioned → Bool
 have_one_track rule v w = same_package (track_key rule v).0 (track_key rule w).0 && bytes_eq v.name w.name
 

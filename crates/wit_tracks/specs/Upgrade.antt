@@ -31,6 +31,6 @@ abbrev pub first_or : ℕ → List ℕ → ℕ
 first_or i [] = i
 first_or i (j ∷ js) = j
 
--- the greatest on the track of interface i
+-- the greatest on the track of interface i: the first that stays there, or i itself where none does
 abbrev pub newest : Upgrade → ℕ → ℕ
 newest u i = first_or i (staying_on_track u i)

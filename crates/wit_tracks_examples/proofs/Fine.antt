@@ -13,7 +13,8 @@ use Rattle.wit_graph.specs.Imported.{HasConflict}
 use Rattle.wit_graph.specs.declared.error_kind.ResolveErrorKind.{ResolveErrorKind}
 use Rattle.wit_graph.specs.declared.graph.Graph.{Graph}
 use Rattle.wit_growth.specs.AllElaborated.{graph_package_uses}
-use Rattle.wit_growth.specs.TestFacts.{all_are, some_same}
+use Rattle.wit_growth.specs.OptionFacts.{some_same}
+use Rattle.wit_growth.specs.TestFacts.{all_are}
 use Rattle.wit_tracks.specs.Rewritten.{following, relisted_at, replaced_use, target_name, type_named}
 use Rattle.wit_tracks.specs.TrackCause.{Disagrees, IsComplete, IsTrackCause, UpgradeCause, conflict_4, functions_disagree_25, interface_cycle_22, package_cycle_6, type_cycle_23, type_missing_25}
 use Rattle.wit_tracks.specs.Upgrade.{Upgrade, newest}

@@ -5,7 +5,7 @@ use Rattle.wit_items.specs.declared.function.Param.{Param}
 use Rattle.wit_items.specs.declared.types.Type_.TheVariants as type
 use Rattle.wit_growth.specs.AgreementFacts.{functions_fine}
 use Rattle.wit_growth.specs.FunctionMismatch.{AreOfOneSort, FunctionMismatch, kinds_differ, parameter_counts_differ, parameter_names_differ, parameter_names_text, parameter_types_differ, result_counts_differ, results_differ}
-use Rattle.wit_growth.specs.TestFacts.{some_same}
+use Rattle.wit_growth.specs.OptionFacts.{some_same}
 use Rattle.wit_tracks_examples.specs.CauseExamples.{ExamplesOfMismatches, f_kind, f_of}
 
 -- the letter at which two texts differ

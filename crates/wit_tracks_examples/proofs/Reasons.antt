@@ -7,7 +7,7 @@ use Rattle.semver.specs.Order.{strip_zeros}
 use Rattle.wit_relations.specs.Cycles.{IsOnCycle}
 use Rattle.wit_relations.specs.MemberFacts.{Contains-cons_cases, Contains-here, Contains-nil, Contains-there}
 use Rattle.wit_relations.specs.Relation.{Reaches, direct}
-use Rattle.wit_items.specs.Reference.{type_references}
+use Rattle.wit_items.specs.Reference.{referred, type_references}
 use Rattle.wit_items.specs.declared.function.Function.{Function}
 use Rattle.wit_items.specs.declared.interface.Interface.{Interface}
 use Rattle.wit_items.specs.declared.track.TrackRule.TheVariants.{Published, WithPrereleases}
@@ -22,14 +22,16 @@ use Rattle.wit_graph.specs.declared.cause.Cause.TheVariants.{InterfaceCycle, Typ
 use Rattle.wit_graph.specs.declared.error_kind.ResolveErrorKind.{ResolveErrorKind}
 use Rattle.wit_graph.specs.declared.error_kind.ResolveErrorKind.TheVariants.{InvalidTransitiveDependency, PackageCycle, Semantic}
 use Rattle.wit_items.specs.declared.package_name.PackageName.{PackageName}
+use Rattle.wit_items.specs.declared.types.TypeDef.{TypeDef}
 use Rattle.wit_items.specs.declared.world.WorldKey.TheVariants as key
-use Rattle.wit_growth.specs.ListFacts.{contained_at}
+use Rattle.wit_growth.specs.ListFacts.{contained_at, in_row}
 use Rattle.wit_graph.specs.declared.graph.Graph.{Graph}
 use Rattle.wit_graph.specs.declared.graph.Package.{Package}
 use Rattle.wit_growth.specs.AgreementFacts.{functions_fine}
-use Rattle.wit_growth.specs.AllElaborated.{DependsOnItself, graph_package_uses}
+use Rattle.wit_growth.specs.AllElaborated.{DependsOnItself, RefersToItself, graph_package_uses}
 use Rattle.wit_growth.specs.FunctionMismatch.{FunctionMismatch, parameter_names_differ}
-use Rattle.wit_growth.specs.TestFacts.{all_are, all_uses, falls, no_cycle, not_on_cycle, only_one, some_same}
+use Rattle.wit_growth.specs.OptionFacts.{some_same}
+use Rattle.wit_growth.specs.TestFacts.{all_are, all_uses, falls, is_empty, no_cycle, not_on_cycle, nothing_in, only_one}
 use Rattle.wit_tracks.specs.Rewritten.{following, listed_world, relisted_at}
 use Rattle.wit_tracks.specs.TrackCause.{Disagrees, IsComplete, IsTrackCause, LacksType, UpgradeCause, conflict_4, functions_disagree_25, interface_cycle_22, package_cycle_6, type_cycle_23, type_missing_25}
 use Rattle.wit_tracks.specs.Upgrade.{Upgrade, is_replaced, newest}
@@ -48,14 +50,6 @@ rank_of ranks i = slice_index_or ranks i 0
 
 -- ---- what holds of graphs without functions, and of worlds without exports
 
-abbrev is_empty : {X : Type 0} → List X → Bool
-is_empty [] = true
-is_empty (x ∷ xs) = false
-
-has_none : {X : Type 0} (xs : List X) (x : X) → is_empty xs ≡ true → Contains xs x → ⊥
-has_none [] x none has = Contains-nil has
-has_none (y ∷ ys) x none has = cc
-
 abbrev no_function : Interface → Bool
 no_function interface = is_empty interface.functions
 
@@ -64,7 +58,7 @@ no_export world = is_empty world.exports
 
 no_functions : (u : Upgrade) → list_all no_function u.graph.interfaces ≡ true → (message : List ℕ) → Disagrees u message → ⊥
 no_functions u all message disagrees =
-    has_none disagrees.old.functions (disagrees.have.name, disagrees.have.function)
+    nothing_in disagrees.old.functions (disagrees.have.name, disagrees.have.function)
     (all_are no_function u.graph.interfaces all disagrees.old (contained_at u.graph.interfaces disagrees.f disagrees.old disagrees.old_is)) disagrees.have.has
 
 nothing_exported : (uses : List (List ℕ)) (exports : List Entry) → is_empty exports ≡ true → HasConflict uses exports → ⊥
@@ -263,6 +257,19 @@ no_interface_cycle =
 
 -- ---- 23
 
+-- type 1 is another name of itself
+t_refers_to_itself : (g : Graph) → slice_get g.types 1 ≡ Some (alias_in 1 (codes "t") 1) → RefersToItself g (codes "type `t` would refer to itself")
+t_refers_to_itself g is = record {
+  t = 1;
+  u = 1;
+  on_cycle = record { is_used = in_row (λ (def : TypeDef). referred def.kind) g.types 1 (alias_in 1 (codes "t") 1) 1 is (Contains-here 1 []); leads_back = ([], refl) };
+  def = alias_in 1 (codes "t") 1;
+  is = is;
+  name = codes "t";
+  name_is = refl;
+  message_is = refl;
+}
+
 abbrev own_type : Upgrade
 own_type = upgrade (with_newer (alias_in 1 (codes "t") 0)) (w_of_main (0 ∷ 1 ∷ []))
 
@@ -271,16 +278,7 @@ unfolding strip_zeros digits
 type_cycle = (
   w_of_main (0 ∷ 1 ∷ []),
   refl,
-  type_cycle_23 (codes "type `t` would refer to itself") (complete own_type refl) (record {
-    t = 1;
-    u = 1;
-    on_cycle = record { is_used = Contains-here 1 []; leads_back = ([], refl) };
-    def = alias_in 1 (codes "t") 1;
-    is = refl;
-    name = codes "t";
-    name_is = refl;
-    message_is = refl;
-  }),
+  type_cycle_23 (codes "type `t` would refer to itself") (complete own_type refl) (t_refers_to_itself (relisted_at own_type 0) refl),
 )
 
 no_type_cycle : IsFine (with_newer (number_in 1 (codes "t")))
@@ -457,16 +455,7 @@ unfolding strip_zeros digits
 cycle_beside = (
   w_of_main (0 ∷ 1 ∷ []),
   refl,
-  type_cycle_23 (codes "type `t` would refer to itself") (complete both_wrong refl) (record {
-    t = 1;
-    u = 1;
-    on_cycle = record { is_used = Contains-here 1 []; leads_back = ([], refl) };
-    def = alias_in 1 (codes "t") 1;
-    is = refl;
-    name = codes "t";
-    name_is = refl;
-    message_is = refl;
-  }),
+  type_cycle_23 (codes "type `t` would refer to itself") (complete both_wrong refl) (t_refers_to_itself (relisted_at both_wrong 0) refl),
 )
 
 pub causes : ExamplesOfCauses

@@ -37,22 +37,12 @@ use Rattle.wit_growth.specs.ListFacts.{at_map, contained_at, found_at, place_of,
 use Rattle.wit_growth.specs.NamedUses.{used_is_named}
 use Rattle.wit_unite.proofs.OnePlaceTurned.{set_split}
 use Rattle.wit_growth.specs.AllElaborated.{DependsOnItself, RefersToItself, UsesItself, all_elaborated, elaborated_world, interface_cycle_text}
+use Rattle.wit_growth.specs.OptionFacts.{some_same, some_there}
 use Rattle.wit_tracks.specs.Rewritten.{listed_world, new_target, relisted_at, retargeted, rewritten, rewritten_types}
 use Rattle.wit_tracks.specs.TrackCause.{IsAccepted, IsComplete, conflict_4, interface_cycle_22, package_cycle_6, type_cycle_23, type_missing_25}
 use Rattle.wit_tracks.specs.Upgrade.{Upgrade, is_replaced, newest}
 use Rattle.wit_tracks_laws.proofs.Greatest.{newest_stays}
 use Rattle.wit_tracks_laws.proofs.TypesAfter.{retargeted_name, retargeted_owner, turned_from, turned_type, type_after, type_into}
-
-some_same : {X : Type 0} (x y : X) → Some x ≡ Some y → x ≡ y
-some_same x y same = cc
-
-option_cases : {X : Type 0} (o : Option X) → (o ≡ None) ⊎ ((x : X) × (o ≡ Some x))
-option_cases None = inl refl
-option_cases (Some x) = inr (x, refl)
-
-some_name : {X : Type 0} (o : Option X) → IsSome o → (x : X) × (o ≡ Some x)
-some_name None is = cc
-some_name (Some x) is = (x, refl)
 
 some_and : (P : ℕ → Type 0) (o : Option ℕ) → IsSomeAnd o P → (p : ℕ) × (o ≡ Some p)
 some_and P None h = absurd h
@@ -191,7 +181,7 @@ module _ (u : Upgrade) (valid : IsValid u.graph) (w : ℕ) (there : slice_get u.
     id_of_named : (i : ℕ) → IsNamed interfaces i → (id : List ℕ) × (interface_id_at u.graph.packages interfaces i ≡ Some id)
     id_of_named i named =
         let found = found_at (λ (interface : Interface). IsSome interface.name) interfaces i named in
-        let name = some_name found.0.name found.2 in
+        let name = some_there found.0.name found.2 in
         let home = some_and _ found.0.package (valid.well_formed.tables.interfaces_listed i found.0 found.1) in
         (id_text u.graph.packages home.0 name.0, whole (slice_get interfaces i) found.0 found.1 name.0 home.0 name.1 home.1)
       where

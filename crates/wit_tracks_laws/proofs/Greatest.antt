@@ -5,7 +5,7 @@ use Rattle.std.specs.Ordering.{is_lt, ordering_reverse}
 use Rattle.std.specs.Str.{bytes_eq}
 use Rattle.std.specs.declared.cmp.Ordering.{Ordering}
 use Rattle.std.specs.declared.cmp.Ordering.TheVariants.{Less, Equal, Greater}
-use Rattle.std.proofs.lemmas.Bool.{and_parts, cases_Bool, false≢true, false_from_ne_true, not_from_false}
+use Rattle.std.proofs.lemmas.Bool.{and_parts, cases_Bool, false_from_ne_true, false≢true, not-true, not_from_false}
 use Rattle.std.proofs.lemmas.Slice.Eq.{bytes_eq-Decides}
 use Rattle.wit_values.specs.Version.{version_cmp, version_cmp_total}
 use Rattle.wit_relations.specs.FreshFacts.{any_from_contains, contains_from_any}
@@ -20,7 +20,7 @@ use Rattle.wit_tracks_laws.specs.TrackLaws.{IsGreatest}
 
 -- ---- tests
 
-both_true : (a b : Bool) → a ≡ true → b ≡ true → (a && b) ≡ true
+pub both_true : (a b : Bool) → a ≡ true → b ≡ true → (a && b) ≡ true
 both_true true b on also = also
 both_true false b on also = cc
 
@@ -200,10 +200,6 @@ module _ (u : Upgrade) where
   abbrev stays_test : ℕ → ℕ → Bool
   stays_test f j = on_track f j && not (is_replaced u j)
 
-  not_is : (b : Bool) → not b ≡ true → b ≡ false
-  not_is true on = cc
-  not_is false on = refl
-
   -- the first of a list that has one is one of its members
   first_among : (i m : ℕ) (xs : List ℕ) → Contains xs m → Contains xs (first_or i xs)
   first_among i m [] has = absurd (Contains-nil has)
@@ -216,7 +212,7 @@ module _ (u : Upgrade) where
       Contains-filtered (stays_test f) (imported u) some.0 some.1.is_imported (both_true (on_track f some.0) (not (is_replaced u some.0)) some.1.on (not_from_false (is_replaced u some.0) some.1.stays)) in
       let first = Contains-filter (stays_test f) (imported u) (newest u f) (first_among f some.0 (staying_on_track u f) there) in
       let parts = and_parts (on_track f (newest u f)) (not (is_replaced u (newest u f))) first.1 in
-      record { is_imported = first.0; on = parts.0; stays = not_is (is_replaced u (newest u f)) parts.1 }
+      record { is_imported = first.0; on = parts.0; stays = not-true (is_replaced u (newest u f)) parts.1 }
 
   less_from_greater : (v w : Versioned) → version_cmp v.version w.version ≡ Greater → is_below w v ≡ true
   less_from_greater v w greater = ap is_lt (version_cmp_total.antisymm w.version v.version ∙ ap ordering_reverse greater)

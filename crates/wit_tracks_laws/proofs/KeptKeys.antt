@@ -2,7 +2,7 @@
 -- the uses that follow, so elaboration adds nothing to them.
 use Rattle.std.proofs.Common.{◌≡◌, ◌∙◌, inl, inr, ℕ, Bool, true, false, not, ◌&&◌, List, [], ◌∷◌, ◌++◌, Option, None, Some, slice_get, refl, sym, ap, subst, Contains, nat_eq}
 use Rattle.std.specs.List.{flat_map, list_any}
-use Rattle.std.proofs.lemmas.Bool.{and_parts, cases_Bool, not_from_false}
+use Rattle.std.proofs.lemmas.Bool.{and_parts, cases_Bool, not-true, not_from_false}
 use Rattle.std.proofs.lemmas.List.Elements.{Contains-append_left, Contains-append_right}
 use Rattle.wit_relations.specs.FreshFacts.{any_from_contains, contains_from_any}
 use Rattle.wit_relations.specs.MemberFacts.{Contains-flat_map, Contains-flat_map_cases, Contains-here, Contains-nil}
@@ -25,21 +25,14 @@ use Rattle.wit_graph.specs.Valid.{IsValid}
 use Rattle.wit_growth.specs.DependencyFacts.{filter_map_from, filter_map_into}
 use Rattle.wit_growth.specs.EntryFacts.{holds as old_holds, import_uses as import_uses_imported, instance_interface, key_entry, no_function_root, one_of, type_root}
 use Rattle.wit_growth.specs.ListFacts.{Contains-map, from_row, in_row, place_of}
+use Rattle.wit_growth.specs.OptionFacts.{some_same}
 use Rattle.wit_growth.specs.PackageCycles.{ListsKey, ListsUses}
 use Rattle.wit_growth.specs.PackagesAcyclic.{is_there}
 use Rattle.wit_tracks.specs.Rewritten.{entry_types, following, is_replaced_entry, listed_world, rewritten_types, staying, types_of}
 use Rattle.wit_tracks.specs.TrackCause.{IsComplete}
 use Rattle.wit_tracks.specs.Upgrade.{Upgrade, imported, is_replaced, newest}
-use Rattle.wit_tracks_laws.proofs.Greatest.{newest_stays}
+use Rattle.wit_tracks_laws.proofs.Greatest.{both_true, newest_stays}
 use Rattle.wit_tracks_laws.proofs.TypesAfter.{needs_after}
-
-both_true : (a b : Bool) → a ≡ true → b ≡ true → (a && b) ≡ true
-both_true true b on also = also
-both_true false b on also = cc
-
-not_is : (b : Bool) → not b ≡ true → b ≡ false
-not_is true on = cc
-not_is false on = refl
 
 -- ---- entries
 
@@ -125,7 +118,7 @@ module _ (least : ImportsAreLeast) (u : Upgrade) (valid : IsValid u.graph) (w : 
   staying_from : (e : Entry) → Contains (staying u) e → Contains old.imports e × (is_replaced_entry u e ≡ false)
   staying_from e has =
       let parts = Contains-filter (λ (e : Entry). not (is_replaced_entry u e)) old.imports e has in
-      (parts.0, not_is (is_replaced_entry u e) parts.1)
+      (parts.0, not-true (is_replaced_entry u e) parts.1)
 
   key_replaced : (k : WorldKey) (j : ℕ) → k ≡ key.Interface j → list_any (is_replaced u) (id_of k) ≡ is_replaced u j
   key_replaced (key.Name name) j same = cc
@@ -246,9 +239,6 @@ module _ (least : ImportsAreLeast) (u : Upgrade) (valid : IsValid u.graph) (w : 
         | inr turned ↦ subst IsKept (sym turned.2) (newest_kept needs.f turned.0)
       ] in
       reached_kept need.1 need.5.0 j first need.5.1
-    where
-      some_same : (x y : ℕ) → Some x ≡ Some y → x ≡ y
-      some_same x y same = cc
 
   -- the test of it
   abbrev pub kept_test : ℕ → Bool
@@ -260,7 +250,7 @@ module _ (least : ImportsAreLeast) (u : Upgrade) (valid : IsValid u.graph) (w : 
   pub passed : (j : ℕ) → kept_test j ≡ true → IsKept j
   passed j on =
       let parts = and_parts (list_any (nat_eq j) (imported u)) (not (is_replaced u j)) on in
-      record { was = contains_from_any j (imported u) parts.0; stays = not_is (is_replaced u j) parts.1 }
+      record { was = contains_from_any j (imported u) parts.0; stays = not-true (is_replaced u j) parts.1 }
 
   -- the kept imports hold what the listed world needs
   pub kept_holds : HoldsImports (rewritten_types u) new_rows (staying u) old.exports (λ i. kept_test i ≡ true)

@@ -1,5 +1,5 @@
 -- The imports under labels stay as they were.
-use Rattle.std.proofs.Common.{◌≡◌, ◌∙◌, ◌⊎◌, inl, inr, ℕ, Bool, true, not, List, [], ◌∷◌, Option, None, Some, filter, map, slice_get, refl, sym, ap, Contains, nat_eq}
+use Rattle.std.proofs.Common.{◌≡◌, ◌∙◌, inl, inr, ℕ, Bool, true, not, List, [], ◌∷◌, Option, None, Some, filter, map, slice_get, refl, sym, ap, Contains, nat_eq}
 use Rattle.std.proofs.lemmas.Bool.{cases_Bool}
 use Rattle.wit_relations.specs.MemberFacts.{flat_map-same}
 use Rattle.wit_items.specs.Each.{SomeAt}
@@ -24,6 +24,7 @@ use Rattle.wit_growth.specs.DependencyFacts.{needs_from, needs_into}
 use Rattle.wit_growth.specs.ListFacts.{found_at, place_of, same_at}
 use Rattle.wit_growth.specs.AllElaborated.{elaborated_world}
 use Rattle.wit_growth.specs.LawsOfElaboration.{LawsOfElaboration}
+use Rattle.wit_growth.specs.OptionFacts.{option_cases}
 use Rattle.wit_tracks.specs.Rewritten.{is_replaced_entry, listed_world, new_target, relisted_at, retargeted, rewritten_types, staying}
 use Rattle.wit_tracks.specs.TrackCause.{IsComplete}
 use Rattle.wit_tracks.specs.Upgrade.{Upgrade, newest}
@@ -68,10 +69,6 @@ same_classes old new es same =
     (λ c among. filter-same (λ (e : Entry). nat_eq (class_of (role_of new e.1)) c) (λ (e : Entry). nat_eq (class_of (role_of old e.1)) c) es (λ e has. ap (λ (n : ℕ). nat_eq n c) (same e has)))
 
 -- ---- a type of a world that uses an interface uses one still
-
-option_cases : {X : Type 0} (o : Option X) → (o ≡ None) ⊎ ((x : X) × (o ≡ Some x))
-option_cases None = inl refl
-option_cases (Some x) = inr (x, refl)
 
 both_or_none : (new old : Option ℕ) → ((j : ℕ) → new ≡ Some j → (f : ℕ) × (old ≡ Some f)) → ((f : ℕ) → old ≡ Some f → (j : ℕ) × (new ≡ Some j)) → class_of (type_role new) ≡ class_of (type_role old)
 both_or_none None None back there = refl

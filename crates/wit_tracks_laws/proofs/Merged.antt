@@ -1,5 +1,5 @@
 -- What the named world is after the merge.
-use Rattle.std.proofs.Common.{◌≡◌, ◌∙◌, ◌↔◌, ℕ, Bool, true, false, ◌&&◌, List, [], Option, None, Some, IfSome, IsSomeAnd, length, option_and_then, option_map, slice_get, refl, sym, ap, subst, Contains}
+use Rattle.std.proofs.Common.{◌≡◌, ◌∙◌, ◌↔◌, ℕ, true, false, ◌&&◌, List, [], Option, None, Some, IfSome, IsSomeAnd, length, option_map, slice_get, refl, sym, ap, subst, Contains}
 use Rattle.std.proofs.lemmas.List.Elements.{All-contains}
 use Rattle.std.specs.Map.{keys_of}
 use Rattle.std.specs.Ordering.{is_eq, is_lt, ordering_reverse}
@@ -24,11 +24,12 @@ use Rattle.wit_graph.specs.declared.graph.Package.{Package}
 use Rattle.wit_growth.specs.ListFacts.{found_at, place_of, same_at}
 use Rattle.wit_growth.specs.AllElaborated.{elaborated_world}
 use Rattle.wit_growth.specs.LawsOfElaboration.{LawsOfElaboration}
+use Rattle.wit_growth.specs.OptionFacts.{some_parts}
 use Rattle.wit_tracks.specs.Rewritten.{listed_world, relisted_at, rewritten}
 use Rattle.wit_tracks.specs.Tracks.{Versioned, are_on_one_track, have_one_track, is_below, versioned, versioned_in, versioned_of}
 use Rattle.wit_tracks.specs.Upgrade.{Upgrade, is_replaced}
 use Rattle.wit_tracks_laws.proofs.Accepting.{complete, elaborates, in_order, listed_there, merged_is, new_types, new_uses, rewritten_is, uses_acyclic}
-use Rattle.wit_tracks_laws.proofs.Greatest.{both_from, both_into, stays_from, track_from, track_into}
+use Rattle.wit_tracks_laws.proofs.Greatest.{both_from, both_into, both_true, stays_from, track_from, track_into}
 use Rattle.wit_tracks_laws.proofs.KeptKeys.{IsKept, kept_holds, kept_root, kept_test, passed}
 use Rattle.wit_tracks_laws.specs.TrackLaws.{IsMerged}
 
@@ -75,10 +76,6 @@ module _ (laws : LawsOfElaboration) (rule : TrackRule) (g : Graph) (w : ℕ) (ol
       (laws.exports (new_types u merged.valid w merged.there) (new_uses u merged.valid w merged.there) (listed_world u) done k acyclic order is_elaborated)
 
 -- ---- one on each track
-
-some_parts : {X Y : Type 0} (f : X → Option Y) (o : Option X) (y : Y) → option_and_then f o ≡ Some y → (x : X) × (o ≡ Some x) × (f x ≡ Some y)
-some_parts f None y is = cc
-some_parts f (Some x) y is = (x, refl, is)
 
 -- where a version comes from
 record Comes (g : Graph) (i : ℕ) (v : Versioned) : Type 0 where
@@ -199,10 +196,6 @@ module _ (laws : LawsOfElaboration) (rule : TrackRule) (g : Graph) (w : ℕ) (ol
       let other = kept_imports laws rule g w old new merged j has_j in
       stays_from (record { rule = rule; graph = g; world = old }) i one.was one.stays j other.was
       (both_into (λ a b. have_one_track rule a b && is_below a b) (versioned g.packages g.interfaces i) (versioned g.packages g.interfaces j) v x at_i at_j (both_true (have_one_track rule v x) (is_below v x) on below))
-    where
-      both_true : (a b : Bool) → a ≡ true → b ≡ true → (a && b) ≡ true
-      both_true true b on also = also
-      both_true false b on also = cc
 
   other_way : (v x : Versioned) → have_one_track rule v x ≡ true → have_one_track rule x v ≡ true
   other_way v x on = let same = track_from rule v x on in track_into rule x v (record { home = sym same.home; name = sym same.name })

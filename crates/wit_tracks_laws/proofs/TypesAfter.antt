@@ -19,6 +19,7 @@ use Rattle.wit_growth.specs.DependencyFacts.{Needs, needs_from, needs_into}
 use Rattle.wit_growth.specs.Good.{HasGoodThings}
 use Rattle.wit_growth.specs.GoodIsValid.{good_things}
 use Rattle.wit_growth.specs.ListFacts.{at_map, found_at, from_map, place_of, same_at}
+use Rattle.wit_growth.specs.OptionFacts.{option_cases, some_by, some_parts, some_same, some_there}
 use Rattle.wit_growth.specs.PackagesAcyclic.{numbered_from, numbered_into}
 use Rattle.wit_tracks.specs.Rewritten.{following, name_of, new_target, replaced_use, retargeted, rewritten_types, target_name, type_named}
 use Rattle.wit_tracks.specs.TrackCause.{IsComplete, missing_text, upgrade_message}
@@ -26,27 +27,9 @@ use Rattle.wit_tracks.specs.Upgrade.{Upgrade, is_replaced, newest}
 
 -- ---- parts of options
 
-some_parts : {X Y : Type 0} (f : X → Option Y) (o : Option X) (y : Y) → option_and_then f o ≡ Some y → (x : X) × (o ≡ Some x) × (f x ≡ Some y)
-some_parts f None y is = cc
-some_parts f (Some x) y is = (x, refl, is)
-
-some_whole : {X Y : Type 0} (f : X → Option Y) (o : Option X) (x : X) → o ≡ Some x → option_and_then f o ≡ f x
-some_whole f o x is = ap (option_and_then f) is
-
-some_same : {X : Type 0} (x y : X) → Some x ≡ Some y → x ≡ y
-some_same x y same = cc
-
-option_cases : {X : Type 0} (o : Option X) → (o ≡ None) ⊎ ((x : X) × (o ≡ Some x))
-option_cases None = inl refl
-option_cases (Some x) = inr (x, refl)
-
 if_some : (P : ℕ → Type 0) (o : Option ℕ) (t : ℕ) → o ≡ Some t → IfSome o P → P t
 if_some P None t is h = cc
 if_some P (Some x) t is h = subst P (some_same x t is) h
-
-named_some : (o : Option (List ℕ)) → IsSome o → (name : List ℕ) × (o ≡ Some name)
-named_some None is = cc
-named_some (Some name) is = (name, refl)
 
 pub retargeted_name : (def : TypeDef) (o : Option ℕ) → (retargeted def o).name ≡ def.name
 retargeted_name def None = refl
@@ -99,7 +82,7 @@ module _ (u : Upgrade) where
       by g false on h = cc
 
   replaced_use_into : (t f : ℕ) → type_interface_dep types t ≡ Some f → is_replaced u f ≡ true → replaced_use u t ≡ Some f
-  replaced_use_into t f dep on = some_whole (λ (g : ℕ). if is_replaced u g then Some g else None) (type_interface_dep types t) f dep ∙ ap (λ (b : Bool). if b then Some f else None) on
+  replaced_use_into t f dep on = some_by (λ (g : ℕ). if is_replaced u g then Some g else None) (type_interface_dep types t) f dep ∙ ap (λ (b : Bool). if b then Some f else None) on
 
   pub turned_from : (t : ℕ) (def : TypeDef) (t' : ℕ) → new_target u t def ≡ Some t' → Turned t def t'
   turned_from t def t' is = by (list_any (nat_eq t) (following u)) refl is
@@ -116,8 +99,8 @@ module _ (u : Upgrade) where
   turned_into : (t : ℕ) (def : TypeDef) (t' : ℕ) → Turned t def t' → new_target u t def ≡ Some t'
   turned_into t def t' turned =
       ap (λ (b : Bool). if b then option_and_then (λ f. option_and_then (type_named u.graph.interfaces (newest u f)) (target_name types def)) (replaced_use u t) else None) turned.follows
-      ∙ some_whole (λ f. option_and_then (type_named u.graph.interfaces (newest u f)) (target_name types def)) (replaced_use u t) turned.f (replaced_use_into t turned.f turned.uses turned.replaced)
-      ∙ some_whole (type_named u.graph.interfaces (newest u turned.f)) (target_name types def) turned.name turned.named
+      ∙ some_by (λ f. option_and_then (type_named u.graph.interfaces (newest u f)) (target_name types def)) (replaced_use u t) turned.f (replaced_use_into t turned.f turned.uses turned.replaced)
+      ∙ some_by (type_named u.graph.interfaces (newest u turned.f)) (target_name types def) turned.name turned.named
       ∙ turned.found
 
   module _ (valid : IsValid u.graph) where
@@ -151,8 +134,8 @@ module _ (u : Upgrade) where
         let alias = if_some (λ (t : ℕ). SomeAt types t (λ (x : TypeDef). IsSome x.name × ((x.owner ≡ def.owner) ⊎ IsNamedInterface u.graph.interfaces x.owner))) (alias_target def.kind) target names (things.types t def at).alias in
         let found = found_at (λ (x : TypeDef). IsSome x.name × ((x.owner ≡ def.owner) ⊎ IsNamedInterface u.graph.interfaces x.owner)) types target alias in
         let same = same_at types target target found.0 named refl found.1 target_at in
-        let name = named_some named.name (subst (λ (x : TypeDef). IsSome x.name) same found.2.0) in
-        (name.0, some_whole (name_of types) (alias_target def.kind) target names ∙ some_whole (λ (x : TypeDef). x.name) (slice_get types target) named target_at ∙ name.1)
+        let name = some_there named.name (subst (λ (x : TypeDef). IsSome x.name) same found.2.0) in
+        (name.0, some_by (name_of types) (alias_target def.kind) target names ∙ some_by (λ (x : TypeDef). x.name) (slice_get types target) named target_at ∙ name.1)
 
     other_is_interface : (a : TypeOwner) (n j : ℕ) → other_owner a (owner.Interface n) ≡ Some j → j ≡ n
     other_is_interface (owner.World w) n j is = cc

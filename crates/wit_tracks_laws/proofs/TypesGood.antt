@@ -1,5 +1,5 @@
 -- The types and interfaces of a rewritten graph are good.
-use Rattle.std.proofs.Common.{◌≡◌, ◌<◌, ◌≢◌, ◌∙◌, ℕ, List, [], ◌∷◌, Option, None, Some, IsSome, is_some, length, slice_get, option_and_then, refl, sym, ap, subst, arith, Contains, if◌then◌else◌, ◌⊎◌, inl, inr}
+use Rattle.std.proofs.Common.{◌≡◌, ◌<◌, ◌≢◌, ◌∙◌, ℕ, List, [], ◌∷◌, Option, None, Some, IsSome, length, slice_get, refl, sym, ap, subst, arith, Contains, ◌⊎◌, inl, inr}
 use Rattle.std.specs.List.{enumerate_from}
 use Rattle.std.proofs.lemmas.List.{length-map}
 use Rattle.std.proofs.lemmas.List.Elements.{All-contains}
@@ -23,6 +23,8 @@ use Rattle.wit_graph.specs.Valid.{IsValid}
 use Rattle.wit_growth.specs.Good.{HasGoodThings, IsGoodInterface}
 use Rattle.wit_growth.specs.GoodIsValid.{good_things}
 use Rattle.wit_growth.specs.ListFacts.{found_at, from_row, in_row, some_at}
+use Rattle.wit_growth.specs.OptionFacts.{option_cases, some_parts}
+use Rattle.wit_growth.specs.OwnedFacts.{row, row_from, row_into}
 use Rattle.wit_growth.specs.PackagesAcyclic.{length-numbered}
 use Rattle.wit_tracks.specs.Rewritten.{new_target, retargeted, rewritten_types}
 use Rattle.wit_tracks.specs.Upgrade.{Upgrade, newest}
@@ -33,25 +35,6 @@ use Rattle.wit_tracks_laws.proofs.TypesAfter.{after, retargeted_name, retargeted
 alias_not_plain : (k : TypeDefKind) (t : ℕ) → alias_target k ≡ Some t → IsPlain k → ⊥
 alias_not_plain (kind.Type_ ty) t is plain = plain
 alias_not_plain other t is plain = cc
-
-some_parts : {X Y : Type 0} (f : X → Option Y) (o : Option X) (y : Y) → option_and_then f o ≡ Some y → (x : X) × (o ≡ Some x) × (f x ≡ Some y)
-some_parts f None y is = cc
-some_parts f (Some x) y is = (x, refl, is)
-
-row_from : (name : Option (List ℕ)) (ids : List ℕ) (k : ℕ) → Contains (if is_some name then [] else ids) k → (name ≡ None) × Contains ids k
-row_from None ids k has = (refl, has)
-row_from (Some name) ids k has = absurd (Contains-nil has)
-
-row_into : (name : Option (List ℕ)) (ids : List ℕ) (k : ℕ) → name ≡ None → Contains ids k → Contains (if is_some name then [] else ids) k
-row_into None ids k none has = has
-row_into (Some name) ids k none has = cc
-
-abbrev row : TypeDef → List ℕ
-row def = if is_some def.name then [] else referred def.kind
-
-name_cases : (o : Option (List ℕ)) → (o ≡ None) ⊎ ((name : List ℕ) × (o ≡ Some name))
-name_cases None = inl refl
-name_cases (Some name) = inr (name, refl)
 
 module _ (u : Upgrade) (valid : IsValid u.graph) (w : ℕ) (there : slice_get u.graph.worlds w ≡ Some u.world) where
   abbrev types : List TypeDef
@@ -158,7 +141,7 @@ module _ (u : Upgrade) (valid : IsValid u.graph) (w : ℕ) (there : slice_get u.
   on_the_way i [] j same = inl same
   on_the_way i (k ∷ path) j leads =
       let from = from_row (λ (d : TypeDef). referred d.kind) changed i k leads.0 in
-      by from.0 from.1 from.2 (name_cases from.0.name) (on_the_way k path j leads.1)
+      by from.0 from.1 from.2 (option_cases from.0.name) (on_the_way k path j leads.1)
     where
       by : (new : TypeDef) → slice_get changed i ≡ Some new → Contains (referred new.kind) k → (new.name ≡ None) ⊎ ((name : List ℕ) × (new.name ≡ Some name)) → IsPath (type_references types) k path j ⊎ NamedOn k j
           → IsPath (type_references types) i (k ∷ path) j ⊎ NamedOn i j

@@ -33,17 +33,13 @@ use Rattle.wit_growth.specs.OnePlace.{HasOnePlace, entries_of}
 use Rattle.wit_growth.specs.OnePlaceCarried.{named_not}
 use Rattle.wit_growth.specs.OnePlaceFrom.{HasOnePlace-from_once}
 use Rattle.wit_growth.specs.AllElaborated.{all_elaborated, elaborated_world}
+use Rattle.wit_growth.specs.ElaboratedCome.{settled_interface}
 use Rattle.wit_growth.specs.LawsOfElaboration.{LawsOfElaboration}
 use Rattle.wit_tracks.specs.Rewritten.{is_replaced_entry, relisted_at}
 use Rattle.wit_tracks.specs.TrackCause.{IsAccepted}
 use Rattle.wit_tracks.specs.Upgrade.{Upgrade, is_replaced}
 use Rattle.wit_tracks_laws.proofs.Accepting.{Relisted, elaborates, in_order, new_aliases, new_exports, new_imports, new_types, new_uses, relisted_from, relisted_worlds, uses_acyclic}
 use Rattle.wit_tracks_laws.proofs.TypesGood.{item_own_after}
-
-settled_instance : (held : WorldItem) → item_interface (settled_item held) ≡ item_interface held
-settled_instance (item.Interface i stability docs span external_id) = refl
-settled_instance (item.Function f) = refl
-settled_instance (item.Type_ t span) = refl
 
 abbrev entry : WorldKey → WorldItem → Entry
 entry k held = (k, held)
@@ -203,7 +199,7 @@ module _ (laws : LawsOfElaboration) (u : Upgrade) (valid : IsValid u.graph) (w :
         elim (import_from e (contained_at done.imports i e on)) [
           | inl stays ↦
               let place = place_of from.before.imports stays.0 (from.imports stays.0 stays.1) in
-              record { place = place.0; before = stays.0; was = place.1; held = sym (settled_instance stays.0.1) ∙ ap (λ (d : Entry). item_interface d.1) (sym stays.2) ∙ held; key = ap (λ (d : Entry). d.0) stays.2 }
+              record { place = place.0; before = stays.0; was = place.1; held = sym (settled_interface stays.0.1) ∙ ap (λ (d : Entry). item_interface d.1) (sym stays.2) ∙ held; key = ap (λ (d : Entry). d.0) stays.2 }
           | inr added ↦
               let same : added.f ≡ f = same_one added.f f (sym added.held ∙ held) in
               absurd (named_not interfaces added.f added.named (subst (λ (i : ℕ). is_unnamed interfaces i ≡ true) (sym same) unnamed))
