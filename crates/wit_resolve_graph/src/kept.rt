@@ -61,22 +61,15 @@ impl Kept {
 impl TryClone for Kept {
     fn try_clone(&self) -> Result<Kept, AllocError> {
         let elaborator = self.elaborator.try_clone()?;
-        let valid_bits = copied(self.valid_bits.allocator(), self.valid_bits.as_slice())?;
+        let valid_bits = self
+            .valid_bits
+            .as_slice()
+            .to_vec(self.valid_bits.allocator())?;
         Ok(Kept {
             elaborator,
-            valid_bits,
+            valid_bits: Items::from_vec(valid_bits),
         })
     }
-}
-
-fn copied(alloc: Global, flags: &[bool]) -> Result<Items<bool>, AllocError>
-    ensures { IfOk result (λ copy. copy ≡ flags.now) }
-{
-    let mut copy = Items::new(alloc);
-    for flag in flags {
-        copy.push(*flag)?;
-    }
-    Ok(copy)
 }
 
 /// As the derived one.
