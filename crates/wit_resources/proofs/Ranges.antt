@@ -44,6 +44,16 @@ module _ {X : Type 0} where
       step = sym (append-nil (filter p (range_with_len 0 i))) ∙ (ap (λ (b : Bool). filter p (range_with_len 0 i) ++ cond b (i ∷ []) []) (sym fails)
           ∙ (sym (filter-append p (range_with_len 0 i) (i ∷ [])) ∙ ap (filter p) (sym (range-more i))))
 
+-- a table that is gone through: what is there, with what is left, and one of it more
+module _ {X Y : Type 0} (f : X → List Y) where
+  pub left-next : (now next whole : List Y) (left : List X) (x : X) (others : List X) → left ≡ x ∷ others → now ++ flat_map f left ≡ whole → next ≡ now ++ f x → next ++ flat_map f others ≡ whole
+  left-next now next whole left x others first so_far more =
+      ap (λ (l : List Y). l ++ flat_map f others) more ∙ (append_assoc now (f x) (flat_map f others) ∙ (ap (λ (l : List X). now ++ flat_map f l) (sym first) ∙ so_far))
+
+  -- where nothing is left
+  pub left-none : (now whole : List Y) (left : List X) → left ≡ [] → now ++ flat_map f left ≡ whole → now ≡ whole
+  left-none now whole left none so_far = sym (append-nil now) ∙ (ap (λ (l : List X). now ++ flat_map f l) (sym none) ∙ so_far)
+
 -- two functions that give the same
 pub map-same : {X Y : Type 0} (f g : X → Y) → ((x : X) → f x ≡ g x) → (xs : List X) → map f xs ≡ map g xs
 map-same f g same [] = refl

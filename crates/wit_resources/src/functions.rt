@@ -69,8 +69,8 @@ fn push_named<'a>(
 ) -> Result<(), AllocError>
     ensures { OnOk result (seen functions.new.items ≡ seen functions.old.items ++ active_named features.now named.now) }
 {
-    for index in 0..named.len() {
-        push_active(functions, features, named.entry_at(index).1)?;
+    for (_, function) in named.iter() {
+        push_active(functions, features, function)?;
     }
     Ok(())
 }
@@ -83,8 +83,8 @@ fn push_entries<'a>(
 ) -> Result<(), AllocError>
     ensures { OnOk result (seen functions.new.items ≡ seen functions.old.items ++ active_entries features.now entries.now) }
 {
-    for index in 0..entries.len() {
-        push_item(functions, features, entries.entry_at(index).1)?;
+    for (_, item) in entries.iter() {
+        push_item(functions, features, item)?;
     }
     Ok(())
 }

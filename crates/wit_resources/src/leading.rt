@@ -33,8 +33,8 @@ pub(crate) fn leads_to_resource(types: &[TypeDef], id: TypeId) -> bool
     is_resource(&types[place].kind)
 }
 
-/// The types of which it has to be known whether they lead to a resource, so that it is known of some: with each
-/// alias the type that it names. That is an earlier one, so one pass from the last type to the first is enough.
+/// The types that are asked for, and with each alias the type that it names: enough to tell which of those lead to a
+/// resource. An alias names an earlier type, so one pass from the last type to the first finds them.
 pub(crate) fn wanted(
     alloc: Global,
     adding: &Adding<'_>,

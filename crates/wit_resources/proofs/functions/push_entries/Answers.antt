@@ -1,9 +1,16 @@
-use Rattle.wit_items.specs.EachFacts.{pushed-next}
+use Rattle.std.specs.Map.Iter.{deref_pair}
+use Rattle.std.proofs.lemmas.Map.Iter.{rest_more, rest_all}
 use Rattle.wit_items.specs.Entries.{Entry}
 use Rattle.wit_resources.specs.Active.{active_item, seen}
+use Rattle.wit_resources.proofs.Ranges.{left-next, left-none}
 use Rattle.wit_resources.proofs.functions.push_entries.Goals as goal
 
-pub loop-index-preserved : goal.loop-index-preserved
-loop-index-preserved c =
-    pushed-next (λ (e : Entry). active_item c.args.features.now e.1) c.args.entries.now c.loop-index.index (c.entry_at.result.0.now, c.entry_at.result.1.now)
-    (seen c.args.functions.now.items) (seen c.loop-index.functions.items) (seen c.push_item.new.functions.items) c.entry_at.ensures c.loop-index.invariant c.in_ok-push_item.ensures
+pub loop-item-preserved : goal.loop-item-preserved
+loop-item-preserved c =
+    left-next (λ (e : Entry). active_item c.args.features.now e.1) (seen c.loop-item.functions.items) (seen c.push_item.new.functions.items) _ _ _ _
+    (rest_more deref_pair _ _ _ _ c.in-Some.is c.next.ensures.steps) c.loop-item.invariant c.in_ok-push_item.ensures
+
+pub returns : goal.returns
+returns c =
+    left-none (λ (e : Entry). active_item c.args.features.now e.1) (seen c.loop-item.functions.items) _ _
+    (rest_all deref_pair _ _ _ c.in-None.is c.next.ensures.steps) c.loop-item.invariant

@@ -1,10 +1,17 @@
 use Rattle.std.proofs.Common.{ℕ, List}
-use Rattle.wit_items.specs.EachFacts.{pushed-next}
+use Rattle.std.proofs.lemmas.Map.Iter.{rest_more, rest_all}
+use Rattle.wit_values.specs.Names.{deref_named}
 use Rattle.wit_items.specs.declared.function.Function.{Function}
 use Rattle.wit_resources.specs.Active.{active_one, seen}
+use Rattle.wit_resources.proofs.Ranges.{left-next, left-none}
 use Rattle.wit_resources.proofs.functions.push_named.Goals as goal
 
-pub loop-index-preserved : goal.loop-index-preserved
-loop-index-preserved c =
-    pushed-next (λ (e : List ℕ × Function). active_one c.args.features.now e.1) c.args.named.now c.loop-index.index (c.entry_at.result.0.now, c.entry_at.result.1.now)
-    (seen c.args.functions.now.items) (seen c.loop-index.functions.items) (seen c.push_active.new.functions.items) c.entry_at.ensures c.loop-index.invariant c.in_ok-push_active.ensures
+pub loop-function-preserved : goal.loop-function-preserved
+loop-function-preserved c =
+    left-next (λ (e : List ℕ × Function). active_one c.args.features.now e.1) (seen c.loop-function.functions.items) (seen c.push_active.new.functions.items) _ _ _ _
+    (rest_more deref_named _ _ _ _ c.in-Some.is c.next.ensures.steps) c.loop-function.invariant c.in_ok-push_active.ensures
+
+pub returns : goal.returns
+returns c =
+    left-none (λ (e : List ℕ × Function). active_one c.args.features.now e.1) (seen c.loop-function.functions.items) _ _
+    (rest_all deref_named _ _ _ c.in-None.is c.next.ensures.steps) c.loop-function.invariant
