@@ -2,6 +2,7 @@
 ghost use Rattle.std.specs.Prelude.{◌≡◌, ◌⊎◌, IfErr, IfOk, OnOk};
 ghost use Rattle.wit_adding.specs.Adding.{activity_of, addition_of, places_of, values_of};
 ghost use Rattle.wit_adding.specs.Cause.{IsCause};
+ghost use Rattle.wit_adding.specs.Passed.{GatesAreMet, HasResources, IsAllFound, NeedsNothingExcluded, ReturnsNoBorrow};
 ghost use Rattle.wit_adding.specs.Reasons.{PassesTheEnd};
 ghost use Rattle.wit_graph.specs.Valid.{IsValid};
 ghost use Rattle.wit_graph.specs.declared.error_kind.ResolveErrorKind.TheVariants.{OutOfMemory};
@@ -36,16 +37,48 @@ pub(crate) fn check(alloc: Global, adding: &Adding<'_>) -> ResolveResult<Checked
     ensures values { IfOk result (λ checked. checked.values ≡ values_of (addition_of adding.now)) }
     ensures cause { IfErr result (λ kind. (kind ≡ OutOfMemory) ⊎ IsCause (addition_of adding.now) kind) }
 {
-    let activity = activity(alloc, adding)?;
-    check_versions(alloc, adding, &activity)?;
-    check_references(alloc, adding, &activity)?;
-    let places = places(alloc, adding, &activity)?;
-    check_resources(alloc, adding, &places)?;
-    check_results(alloc, adding, &activity, &places)?;
+    let activity = checked_activity(alloc, adding)?;
+    let places = checked_places(alloc, adding, &activity)?;
     let values = values(alloc, adding, &activity, &places)?;
     Ok(Checked {
         activity,
         places,
         values,
     })
+}
+
+/// Refuses a package whose gates can't be met or that needs what is left out (9 to 12), else answers what takes part
+/// of it.
+fn checked_activity(alloc: Global, adding: &Adding<'_>) -> ResolveResult<Activity>
+    requires { IsShaped adding.now.handed.now }
+    ensures activity { IfOk result (λ activity. activity ≡ activity_of (addition_of adding.now)) }
+    ensures met { OnOk result (GatesAreMet (addition_of adding.now)) }
+    ensures needs { OnOk result (NeedsNothingExcluded (addition_of adding.now)) }
+    ensures cause { IfErr result (λ kind. (kind ≡ OutOfMemory) ⊎ IsCause (addition_of adding.now) kind) }
+{
+    let activity = activity(alloc, adding)?;
+    check_versions(alloc, adding, &activity)?;
+    check_references(alloc, adding, &activity)?;
+    Ok(activity)
+}
+
+/// Refuses a package that names what isn't there (1 to 3 and 13), where a type has to be a resource that is none (14)
+/// or a result holds a borrow (15), else answers where its things go.
+#[tactic(auto, using(crate::proofs::Checks::passed_image))]
+fn checked_places(alloc: Global, adding: &Adding<'_>, activity: &Activity) -> ResolveResult<Places>
+    requires shaped { IsShaped adding.now.handed.now }
+    requires valid { IsValid adding.now.graph.now }
+    requires activity { activity.now ≡ activity_of (addition_of adding.now) }
+    requires met { GatesAreMet (addition_of adding.now) }
+    requires needs { NeedsNothingExcluded (addition_of adding.now) }
+    ensures places { IfOk result (λ places. places ≡ places_of (addition_of adding.now)) }
+    ensures found { OnOk result (IsAllFound (addition_of adding.now)) }
+    ensures resources { OnOk result (HasResources (addition_of adding.now)) }
+    ensures no_borrow { OnOk result (ReturnsNoBorrow (addition_of adding.now)) }
+    ensures cause { IfErr result (λ kind. (kind ≡ OutOfMemory) ⊎ IsCause (addition_of adding.now) kind) }
+{
+    let places = places(alloc, adding, activity)?;
+    check_resources(alloc, adding, &places)?;
+    check_results(alloc, adding, activity, &places)?;
+    Ok(places)
 }

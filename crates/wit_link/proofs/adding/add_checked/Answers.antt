@@ -13,7 +13,7 @@ use Rattle.wit_graph.specs.declared.graph.Graph.{Graph}
 use Rattle.wit_adding.specs.Cause.{IsCause}
 use Rattle.wit_including.specs.Included as local
 use Rattle.wit_including.specs.RowsFacts.{rows_of_valid}
-use Rattle.wit_placing.specs.GrownFacts.{Begins-then, Grown-then}
+use Rattle.wit_placing.specs.GrownFacts.{Begins-same, Begins-then, Grown-then}
 use Rattle.wit_placing.specs.declared.worlds.PlacedWorld.{PlacedWorld}
 use Rattle.wit_link.specs.Appending.{IsAdded, addition}
 use Rattle.wit_link.specs.Including.{ready_worlds}
@@ -99,3 +99,12 @@ returns-in_err-add_world-clause-cause c =
     subst (λ (x : ResolveErrorKind). (x ≡ OutOfMemory) ⊎ IsCause a x) (sym same)
     (refused_here a c.loop-placed.yielded (into_iter_items c.next.new.self) c.in-Some.placed c.loop-placed.graph c.loop-placed.invariant.adding are (checked_image a c.requires.checked) c.in_err-add_world.field-0.0
     (subst (λ (home : ℕ). (c.in_err-add_world.field-0.0 ≡ OutOfMemory) ⊎ local.IsWorldCause home c.loop-placed.graph c.in-Some.placed.world c.in-Some.placed.includes c.in_err-add_world.field-0.0) id c.in_err-add_world.ensures.cause)))
+
+pub returns-in_err-worlds-clause-rows : goal.returns-in_err-worlds-clause-rows
+returns-in_err-worlds-clause-rows c = Begins-same c.args.elaborator.now
+
+pub returns-in_err-add_world-clause-grown : goal.returns-in_err-add_world-clause-grown
+returns-in_err-add_world-clause-grown c = Grown-then c.args.graph.now c.loop-placed.graph c.add_world.new.graph c.loop-placed.invariant.grown c.add_world.ensures.grown
+
+pub returns-in_err-add_world-clause-rows : goal.returns-in_err-add_world-clause-rows
+returns-in_err-add_world-clause-rows c = Begins-then c.args.elaborator.now c.loop-placed.elaborator c.add_world.new.elaborator c.loop-placed.invariant.rows c.add_world.ensures.rows

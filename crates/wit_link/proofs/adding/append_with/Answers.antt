@@ -1,8 +1,12 @@
-use Rattle.std.proofs.Common.{rules, ◌≡◌, ◌∙◌, ◌⊎◌, ℕ, inl, inr, true, false, subst, sym, IfOk, OnOk, Result, Ok, Err}
+use Rattle.std.proofs.Common.{◌≡◌, ◌∙◌, ℕ, inr, true, false, ap, subst, sym, take, IfOk, OnOk, Result, Ok, Err}
+use Rattle.std.specs.Result.{is_err}
 use Rattle.wit_graph.specs.declared.error_kind.ResolveErrorKind.{ResolveErrorKind}
 use Rattle.wit_adding.specs.Cause.{IsCause}
 use Rattle.wit_adding.specs.Addition.{Addition}
 use Rattle.wit_graph.specs.declared.graph.Graph.{Graph}
+use Rattle.wit_graph.specs.Valid.{IsValid}
+use Rattle.wit_placing.specs.Grown.{Grown}
+use Rattle.wit_placing.specs.GrownFacts.{Begins-as, Begins-same, Grown-same}
 use Rattle.wit_link.specs.Appending.{IsAdded, addition}
 use Rattle.wit_link.specs.Fits.{PackageFits}
 use Rattle.wit_link.proofs.Added.{is_new, taken, too_far}
@@ -35,3 +39,45 @@ pub returns-else-is_err-clause-refuses : goal.returns-else-is_err-clause-refuses
 returns-else-is_err-clause-refuses c =
     λ kind cause.
     accepted_not (addition c.args.features.now c.args.graph.now c.args.package c.args.span_offset) c.add_checked-added.new.graph c.add_checked-added.result c.add_checked-added.ensures.ok kind cause
+
+pub returns-then-contains_key-clause-grown : goal.returns-then-contains_key-clause-grown
+returns-then-contains_key-clause-grown c = Grown-same c.args.graph.now
+
+pub returns-then-not-spans_fit-clause-grown : goal.returns-then-not-spans_fit-clause-grown
+returns-then-not-spans_fit-clause-grown c = Grown-same c.args.graph.now
+
+pub returns-in_err-checked-clause-grown : goal.returns-in_err-checked-clause-grown
+returns-in_err-checked-clause-grown c = Grown-same c.args.graph.now
+
+pub returns-then-contains_key-clause-rows : goal.returns-then-contains_key-clause-rows
+returns-then-contains_key-clause-rows c = Begins-same c.args.elaborator.now
+
+pub returns-then-not-spans_fit-clause-rows : goal.returns-then-not-spans_fit-clause-rows
+returns-then-not-spans_fit-clause-rows c = Begins-same c.args.elaborator.now
+
+pub returns-in_err-checked-clause-rows : goal.returns-in_err-checked-clause-rows
+returns-in_err-checked-clause-rows c = Begins-same c.args.elaborator.now
+
+-- after a refusal the graph is cut back to what it was
+pub returns-then-is_err-clause-grown : goal.returns-then-is_err-clause-grown
+returns-then-is_err-clause-grown c =
+    let back = c.cut.ensures.back c.args.graph.now c.of-mark.ensures c.add_checked-added.ensures.grown in
+    subst (Grown c.args.graph.now) (sym back) (Grown-same c.args.graph.now)
+
+pub returns-then-is_err-clause-valid : goal.returns-then-is_err-clause-valid
+returns-then-is_err-clause-valid c =
+    let back = c.cut.ensures.back c.args.graph.now c.of-mark.ensures c.add_checked-added.ensures.grown in
+    subst IsValid (sym back) c.requires.valid
+
+pub returns-then-is_err-clause-rows : goal.returns-then-is_err-clause-rows
+returns-then-is_err-clause-rows c =
+    let rows = c.args.elaborator.now in
+    Begins-as rows c.cut-then-is_err.new.self (c.cut-then-is_err.ensures ∙ ap (λ (count : ℕ). take count c.add_checked-added.new.elaborator) c.interfaces-rows.ensures ∙ c.add_checked-added.ensures.rows)
+
+-- what is added is valid
+when_ok : {T E P : Type 0} (r : Result T E) → is_err r ≡ false → OnOk r P → P
+when_ok (Ok x) fine p = p
+when_ok (Err e) fine p = cc
+
+pub returns-else-is_err-clause-valid : goal.returns-else-is_err-clause-valid
+returns-else-is_err-clause-valid c = when_ok c.add_checked-added.result (sym c.is_err.ensures.value ∙ c.if-is_err.false) c.add_checked-added.ensures.valid

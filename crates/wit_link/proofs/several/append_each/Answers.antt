@@ -33,3 +33,9 @@ returns-in_err-id-clause-cause c =
     subst (λ (x : ResolveErrorKind). (x ≡ OutOfMemory) ⊎ IsOneRefused c.args.features.now c.args.graph.now c.args.packages x) (sym same)
     (refused_here c.args.features.now c.args.graph.now c.args.packages c.loop-package.yielded (into_iter_items c.next.new.self) c.in-Some.package c.loop-package.graph c.loop-package.ids are c.loop-package.invariant.pushed c.in_err-id.field-0.0
     c.in_err-id.ensures.cause))
+
+pub returns-in_err-push-clause-grown : goal.returns-in_err-push-clause-grown
+returns-in_err-push-clause-grown c = Grown-then c.args.graph.now c.loop-package.graph c.append_with.new.graph c.loop-package.invariant.grown c.append_with.ensures.grown
+
+pub returns-in_err-push-clause-rows : goal.returns-in_err-push-clause-rows
+returns-in_err-push-clause-rows c = Begins-then c.args.elaborator.now c.loop-package.elaborator c.append_with.new.elaborator c.loop-package.invariant.rows c.append_with.ensures.rows
