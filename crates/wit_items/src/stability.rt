@@ -4,7 +4,7 @@ ghost use Rattle.wit_items.specs.Stability.{IsStable};
 ghost use Rattle.wit_items.specs.declared.stability.Stability.TheVariants.{Unknown};
 
 use std::alloc::AllocError;
-use wit_values::{Text, TryClone, Version};
+use wit_values::{Text, TryClone, Version, try_clone_two};
 
 /// Documentation.
 #[derive(Debug, PartialEq, Eq, Drop)]
@@ -95,17 +95,20 @@ impl TryClone for Stability {
     fn try_clone(&self) -> Result<Stability, AllocError> {
         match self {
             Stability::Unknown => Ok(Stability::Unknown),
-            Stability::Stable { since, deprecated } => Ok(Stability::Stable {
-                since: since.try_clone()?,
-                deprecated: deprecated.try_clone()?,
-            }),
+            Stability::Stable { since, deprecated } => {
+                let (since, deprecated) = try_clone_two(since, deprecated)?;
+                Ok(Stability::Stable { since, deprecated })
+            }
             Stability::Unstable {
                 feature,
                 deprecated,
-            } => Ok(Stability::Unstable {
-                feature: feature.try_clone()?,
-                deprecated: deprecated.try_clone()?,
-            }),
+            } => {
+                let (feature, deprecated) = try_clone_two(feature, deprecated)?;
+                Ok(Stability::Unstable {
+                    feature,
+                    deprecated,
+                })
+            }
         }
     }
 }
