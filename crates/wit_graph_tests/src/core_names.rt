@@ -2,7 +2,9 @@
 ghost use Rattle.wit_items.specs.Reference.{type_references};
 ghost use Rattle.wit_relations.specs.Relation.{IsAcyclic};
 
-use crate::fixtures::{interface, interface_key, interface_owner, one, text, type_def};
+use crate::fixtures::{
+    assert_told, interface, interface_key, interface_owner, one, text, type_def,
+};
 use std::alloc::Global;
 use std::process::Abort;
 use wit_core_names::{
@@ -211,8 +213,11 @@ const IMPORTS: [ImportName; 14] = [
 #[test]
 fn resources_are_named(rt: HostRuntime) {
     for (mangling, interface, resource, intrinsic, wanted) in IMPORTS {
-        let name = import_name(&rt, rt.alloc(), mangling, interface, resource, intrinsic);
-        assert_eq!(rt; name.as_str(), wanted);
+        assert_told(
+            &rt,
+            import_name(&rt, rt.alloc(), mangling, interface, resource, intrinsic),
+            wanted,
+        );
     }
 }
 
@@ -252,7 +257,10 @@ const DTORS: [(ManglingAndAbi, usize, usize, &str); 5] = [
 #[test]
 fn destructors_are_named(rt: HostRuntime) {
     for (mangling, interface, resource, wanted) in DTORS {
-        let name = dtor_name(&rt, rt.alloc(), mangling, interface, resource);
-        assert_eq!(rt; name.as_str(), wanted);
+        assert_told(
+            &rt,
+            dtor_name(&rt, rt.alloc(), mangling, interface, resource),
+            wanted,
+        );
     }
 }

@@ -1,5 +1,5 @@
-//! Tests of what no clause says of the crates up to `wit_graph` and of those beside it, turns of worlds among them:
-//! that calls succeed where memory is ample, and values worked outside.
+//! Tests of what no clause says of the crates up to `wit_graph` and of those beside it: that calls succeed where
+//! memory is ample, and values worked outside.
 //!
 //! A test costs the proof little as long as it keeps to one form: what owns memory lives in one helper, which
 //! takes `.expect(rt, "memory")` for `?` and answers numbers or a text; the test compares.
@@ -16,17 +16,11 @@ mod errors;
 #[cfg(test)]
 mod fixtures;
 #[cfg(test)]
-mod labels;
-#[cfg(test)]
 mod names;
 #[cfg(test)]
 mod places;
 #[cfg(test)]
-mod same;
-#[cfg(test)]
 mod shape;
-#[cfg(test)]
-mod turning;
 #[cfg(test)]
 mod validity;
 #[cfg(test)]

@@ -1,5 +1,5 @@
 //! Names and use paths as WIT writes them.
-use crate::fixtures::{package_name, text};
+use crate::fixtures::{assert_told, package_name, text};
 use std::alloc::Global;
 use std::cmp::Ordering;
 use std::process::Abort;
@@ -17,12 +17,18 @@ fn kebab_names_are_told(rt: HostRuntime) {
     }
 }
 
-/// The parts of a use path, or why there are none.
+/// The parts of the copy of a use path, or why there are none.
 fn told(rt: &impl Abort, alloc: Global, path: &str) -> String {
     match parse_use_path(alloc, path) {
-        Ok(ParsedUsePath::Name(name)) => format!(in alloc; "{name}"),
-        Ok(ParsedUsePath::Package(package, name)) => format!(in alloc; "{name} of {package}"),
-        Err(fault) => format!(in alloc; "{fault}"),
+        Ok(path) => parts(rt, alloc, &path),
+        Err(fault) => format!(in alloc; "{fault}").expect(rt, "memory"),
+    }
+}
+
+fn parts(rt: &impl Abort, alloc: Global, path: &ParsedUsePath) -> String {
+    match path.try_clone().expect(rt, "memory") {
+        ParsedUsePath::Name(name) => format!(in alloc; "{name}"),
+        ParsedUsePath::Package(package, name) => format!(in alloc; "{name} of {package}"),
     }
     .expect(rt, "memory")
 }
@@ -61,12 +67,10 @@ const NO_PATHS: [&str; 20] = [
 #[test]
 fn use_paths_are_read(rt: HostRuntime) {
     for (path, parts) in PATHS {
-        let told = told(&rt, rt.alloc(), path);
-        assert_eq!(rt; told.as_str(), parts);
+        assert_told(&rt, told(&rt, rt.alloc(), path), parts);
     }
     for path in NO_PATHS {
-        let told = told(&rt, rt.alloc(), path);
-        assert_eq!(rt; told.as_str(), "invalid use path", "{path}");
+        assert_told(&rt, told(&rt, rt.alloc(), path), "invalid use path");
     }
 }
 
@@ -91,7 +95,10 @@ fn order_of_versions(rt: &impl Abort, alloc: Global) -> Ordering {
 
 #[test]
 fn package_names_are_shown_and_ordered(rt: HostRuntime) {
-    let shown = shown_names(&rt, rt.alloc());
-    assert_eq!(rt; shown.as_str(), "foo:bar foo:bar@1.0.0-rc.1+b");
+    assert_told(
+        &rt,
+        shown_names(&rt, rt.alloc()),
+        "foo:bar foo:bar@1.0.0-rc.1+b",
+    );
     assert_eq!(rt; order_of_versions(&rt, rt.alloc()), Ordering::Less);
 }

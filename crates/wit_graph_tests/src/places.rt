@@ -1,65 +1,26 @@
-//! Errors as they are told with their places, and tracks of versions.
-use crate::fixtures::{package_name, string};
+//! Errors that are told without a place, and tracks of versions.
+use crate::fixtures::{assert_told, string};
 use std::alloc::Global;
 use std::process::Abort;
-use wit_graph::{ResolveError, ResolveErrorKind};
+use wit_graph::ResolveError;
 use wit_items::{PackageName, SourceMap, Span, Version};
 
-/// Files of these paths, all with the same contents.
-fn files(rt: &impl Abort, alloc: Global, paths: &[&str], contents: &str) -> SourceMap {
+/// Where a span begins, and how the error `bad` at it is told, by a file of 25 bytes.
+fn bad_at(rt: &impl Abort, alloc: Global, span: Span) -> String {
     let mut map = SourceMap::new(alloc);
-    for path in paths {
-        map.push_str(alloc, path, string(rt, alloc, contents))
-            .expect(rt, "memory");
-    }
-    map
-}
-
-/// How the error `bad` at a span is told, and where the span begins.
-fn bad_at(rt: &impl Abort, alloc: Global, span: Span) -> (String, String) {
-    let map = files(rt, alloc, &["m.wit"], "package a:b;\nworld w {}\n");
+    let contents = string(rt, alloc, "package a:b;\nworld w {}\n");
+    map.push_str(alloc, "m.wit", contents).expect(rt, "memory");
     let error = ResolveError::new_semantic(span, string(rt, alloc, "bad"));
+    let place = map.render_location(alloc, span).expect(rt, "memory");
     let shown = error.render(alloc, &map).expect(rt, "memory");
-    (shown, map.render_location(alloc, span).expect(rt, "memory"))
-}
-
-#[test]
-fn an_error_is_shown_in_its_line(rt: HostRuntime) {
-    let (shown, place) = bad_at(&rt, rt.alloc(), Span::new(13, 18));
-    let lines = "bad\n     --> m.wit:2:1\n      |\n    2 | world w {}\n      | ^----";
-    assert_eq!(rt; shown.as_str(), lines);
-    assert_eq!(rt; place.as_str(), "m.wit:2:1");
+    format!(in alloc; "{place} {shown}").expect(rt, "memory")
 }
 
 #[test]
 fn an_error_without_a_place_is_its_text(rt: HostRuntime) {
     for span in [Span::unknown(), Span::new(25, 26)] {
-        let (shown, place) = bad_at(&rt, rt.alloc(), span);
-        assert_eq!(rt; shown.as_str(), "bad");
-        assert_eq!(rt; place.as_str(), "<unknown>");
+        assert_told(&rt, bad_at(&rt, rt.alloc(), span), "<unknown> bad");
     }
-}
-
-/// How a package that is defined twice is told.
-fn twice(rt: &impl Abort, alloc: Global, span1: Span, span2: Span) -> String {
-    let map = files(rt, alloc, &["a1.wit", "a2.wit"], "package foo:a;\n");
-    let name = package_name(rt, alloc, "foo", "a");
-    let kind = ResolveErrorKind::DuplicatePackage { name, span1, span2 };
-    ResolveError::from(kind)
-        .render(alloc, &map)
-        .expect(rt, "memory")
-}
-
-#[test]
-fn both_places_of_a_package_are_shown(rt: HostRuntime) {
-    let shown = twice(&rt, rt.alloc(), Span::new(24, 29), Span::new(8, 13));
-    let lines =
-        "package `foo:a` is defined in two different locations:\n  * a2.wit:1:9\n  * a1.wit:1:9";
-    assert_eq!(rt; shown.as_str(), lines);
-    let shown = twice(&rt, rt.alloc(), Span::new(24, 29), Span::unknown());
-    let lines =
-        "package `foo:a` is defined in two different locations:\n  * a2.wit:1:9\n  * <unknown>";
-    assert_eq!(rt; shown.as_str(), lines);
 }
 
 const TRACKS: [(&str, &str, &str); 4] = [
@@ -88,7 +49,7 @@ fn track(rt: &impl Abort, alloc: Global, version: &Version) -> String {
 fn versions_have_tracks(rt: HostRuntime) {
     for (text, shown, whole) in TRACKS {
         let version = Version::parse(rt.alloc(), text).expect(&rt, "a version");
-        assert_eq!(rt; track_text(&rt, rt.alloc(), &version).as_str(), shown);
-        assert_eq!(rt; track(&rt, rt.alloc(), &version).as_str(), whole);
+        assert_told(&rt, track_text(&rt, rt.alloc(), &version), shown);
+        assert_told(&rt, track(&rt, rt.alloc(), &version), whole);
     }
 }

@@ -1,5 +1,5 @@
 //! The calls on texts, lists, tables and versions that take memory, each once, and versions as SemVer has them.
-use crate::fixtures::{string, text};
+use crate::fixtures::{assert_told, string, text};
 use std::alloc::Global;
 use std::cmp::Ordering;
 use std::process::Abort;
@@ -17,8 +17,11 @@ fn shown_text(rt: &impl Abort, alloc: Global, kept: &str) -> String {
 
 #[test]
 fn texts_are_copied_and_shown(rt: HostRuntime) {
-    let shown = shown_text(&rt, rt.alloc(), "a\"\u{e9}");
-    assert_eq!(rt; shown.as_str(), "a\"\u{e9} \"a\\\"\u{e9}\"");
+    assert_told(
+        &rt,
+        shown_text(&rt, rt.alloc(), "a\"\u{e9}"),
+        "a\"\u{e9} \"a\\\"\u{e9}\"",
+    );
 }
 
 /// A list that has grown by each call that makes a list longer, copied.
@@ -34,8 +37,7 @@ fn shown_list(rt: &impl Abort, alloc: Global) -> String {
 
 #[test]
 fn lists_grow_and_are_copied(rt: HostRuntime) {
-    let shown = shown_list(&rt, rt.alloc());
-    assert_eq!(rt; shown.as_str(), "[10, 30, 40]");
+    assert_told(&rt, shown_list(&rt, rt.alloc()), "[10, 30, 40]");
 }
 
 /// A table of one text, copied.
@@ -66,12 +68,9 @@ fn shown_set(rt: &impl Abort, alloc: Global) -> String {
 
 #[test]
 fn tables_grow_and_are_copied(rt: HostRuntime) {
-    let shown = shown_table(&rt, rt.alloc());
-    assert_eq!(rt; shown.as_str(), "{\"b\": 1}");
-    let shown = shown_names(&rt, rt.alloc());
-    assert_eq!(rt; shown.as_str(), "{\"b\": 1}");
-    let shown = shown_set(&rt, rt.alloc());
-    assert_eq!(rt; shown.as_str(), "{\"b\", \"a\"}");
+    assert_told(&rt, shown_table(&rt, rt.alloc()), "{\"b\": 1}");
+    assert_told(&rt, shown_names(&rt, rt.alloc()), "{\"b\": 1}");
+    assert_told(&rt, shown_set(&rt, rt.alloc()), "{\"b\", \"a\"}");
 }
 
 /// What a version that is read and copied is shown as, or nothing where the text is no version.
@@ -113,12 +112,10 @@ const NO_VERSIONS: [&str; 9] = [
 #[test]
 fn versions_are_shown_as_they_were_read(rt: HostRuntime) {
     for text in VERSIONS {
-        let shown = shown_version(&rt, rt.alloc(), text);
-        assert_eq!(rt; shown.as_str(), text);
+        assert_told(&rt, shown_version(&rt, rt.alloc(), text), text);
     }
     for text in NO_VERSIONS {
-        let shown = shown_version(&rt, rt.alloc(), text);
-        assert_eq!(rt; shown.as_str(), "", "{text}");
+        assert_told(&rt, shown_version(&rt, rt.alloc(), text), "");
     }
 }
 

@@ -1,4 +1,5 @@
 //! Walks, cycles and uses of small rows, worked by hand.
+use crate::fixtures::assert_told;
 use std::alloc::Global;
 use std::process::Abort;
 use wit_relations::{CycleUse, Listing, find_cycle, is_acyclic, walk_order};
@@ -28,8 +29,7 @@ fn orders(rt: &impl Abort, alloc: Global) -> String {
 
 #[test]
 fn walks_list_uses_before_users(rt: HostRuntime) {
-    let orders = orders(&rt, rt.alloc());
-    assert_eq!(rt; orders.as_str(), "[0, 1, 2, 3] [0, 1, 3]");
+    assert_told(&rt, orders(&rt, rt.alloc()), "[0, 1, 2, 3] [0, 1, 3]");
 }
 
 /// A use on a cycle of these rows, where they have one.

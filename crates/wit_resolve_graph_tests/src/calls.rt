@@ -1,113 +1,109 @@
-//! Calls that nothing else makes, each once with ample memory: what was handed in is asked for by its place, what is
-//! read is copied, and what an error is, is written.
-use crate::parts::{list, string, text};
+//! Calls that nothing else makes, each once with ample memory: what was handed in is asked for by its place, and what
+//! an error is, is written.
+use crate::parts::{assert_told, list, package, string, text, world};
 use std::alloc::Global;
-use std::fmt::Write;
 use std::process::Abort;
-use wit_graph::{Cause, ResolveError, ResolveErrorKind};
+use wit_graph::{Cause, Features, ResolveError, ResolveErrorKind};
 use wit_items::{
-    InterfaceId, Items, Names, PackageId, ParsedUsePath, Span, Table, Text, TryClone, TypeId,
-    Version, WorldId, WorldKey, parse_use_path,
+    InterfaceId, Items, Names, PackageId, Span, Table, Text, TryClone, TypeId, Version, WorldId,
+    WorldKey,
 };
 use wit_resolve_graph::{Remap, Resolve};
 
-/// The copy of lists of two things each, of which the first is at place 5 and the second left out; and of a package
-/// at place 7.
+/// What the push of a package answers whose spans move so far.
+fn pushed(
+    rt: &impl Abort,
+    alloc: Global,
+    resolve: &mut Resolve,
+    offset: u32,
+) -> Result<usize, u32> {
+    let mut w = world(rt, alloc, "w");
+    w.span = Span::new(30, 37);
+    let mut made = package(rt, alloc, "main", "");
+    made.worlds = list(rt, alloc, [w]);
+    assert!(rt; made.is_shaped(alloc).expect(rt, "memory"));
+    match resolve.push(alloc, made, offset) {
+        Ok(id) => Ok(id.index()),
+        Err(refusal) => Err(refusal.number()),
+    }
+}
+
+/// What pushes answer where spans pass the last position, where they don't, and where the name is taken.
+fn pushes(rt: &impl Abort, alloc: Global) -> [Result<usize, u32>; 3] {
+    let mut resolve = Resolve::new(alloc);
+    let passed = pushed(rt, alloc, &mut resolve, 4294967295);
+    let taken = pushed(rt, alloc, &mut resolve, 7);
+    let again = pushed(rt, alloc, &mut resolve, 0);
+    [passed, taken, again]
+}
+
+#[test]
+fn a_package_is_pushed_once(rt: HostRuntime) {
+    assert!(rt; pushes(&rt, rt.alloc()) == [Err(27), Ok(0), Err(5)]);
+}
+
+/// Lists of two things each, of which the first is at place 5 and the second left out; and of a package at place 7.
 fn remap(rt: &impl Abort, alloc: Global) -> Remap {
     let types = list(rt, alloc, [Some(TypeId::from_index(5)), None]);
     let interfaces = list(rt, alloc, [Some(InterfaceId::from_index(5)), None]);
     let worlds = list(rt, alloc, [Some(WorldId::from_index(5)), None]);
     let packages = list(rt, alloc, [PackageId::from_index(7)]);
-    let made = Remap::from_lists(types, interfaces, worlds, packages);
-    made.try_clone().expect(rt, "memory")
+    Remap::from_lists(types, interfaces, worlds, packages)
 }
 
-/// What is told of a thing that is left out.
-fn write_refusal(rt: &impl Abort, out: &mut String, refusal: Option<ResolveError>) {
+/// The number and the place of the refusal that is told of a thing that is left out.
+fn told(rt: &impl Abort, refusal: Option<ResolveError>) -> (u32, u32) {
     let refusal = refusal.expect(rt, "a refusal");
-    let number = refusal.number();
-    let start = refusal.kind().span().start();
-    write!(out, "{number} at {start} {refusal}\n").expect(rt, "memory");
+    (refusal.number(), refusal.kind().span().start())
 }
 
 /// Where type 0 is, and what is told of the things that are left out, at position 3.
-fn answers(rt: &impl Abort, alloc: Global) -> (usize, String) {
-    let remap = remap(rt, alloc);
+fn answers(rt: &impl Abort, alloc: Global) -> (usize, [(u32, u32); 5]) {
+    let remap = remap(rt, alloc).try_clone().expect(rt, "memory");
     let span = Span::new(3, 4);
-    let mut out = String::new(alloc);
     assert!(rt; remap.types().len() == 2);
     assert!(rt; remap.interfaces().len() == 2);
     assert!(rt; remap.worlds().len() == 2);
     assert!(rt; remap.packages().len() == 1);
-    let ty = TypeId::from_index(1);
-    write_refusal(rt, &mut out, remap.map_type(alloc, ty, span).err());
-    let interface = InterfaceId::from_index(1);
-    let refused = remap.map_interface(alloc, interface, span).err();
-    write_refusal(rt, &mut out, refused);
-    let interface = InterfaceId::from_index(1);
-    let refused = remap.map_interface_for_type(alloc, interface, span).err();
-    write_refusal(rt, &mut out, refused);
-    let world = WorldId::from_index(1);
-    write_refusal(rt, &mut out, remap.map_world(alloc, world, span).err());
-    let world = WorldId::from_index(1);
-    let refused = remap.map_world_for_type(alloc, world, span).err();
-    write_refusal(rt, &mut out, refused);
     let here = remap.map_type(alloc, TypeId::from_index(0), span);
-    (here.expect(rt, "a type").index(), out)
+    let place = here.expect(rt, "a type").index();
+    let ty = remap.map_type(alloc, TypeId::from_index(1), span);
+    let interface = remap.map_interface(alloc, InterfaceId::from_index(1), span);
+    let of_type = remap.map_interface_for_type(alloc, InterfaceId::from_index(1), span);
+    let world = remap.map_world(alloc, WorldId::from_index(1), span);
+    let world_of_type = remap.map_world_for_type(alloc, WorldId::from_index(1), span);
+    let refusals = [
+        told(rt, ty.err()),
+        told(rt, interface.err()),
+        told(rt, of_type.err()),
+        told(rt, world.err()),
+        told(rt, world_of_type.err()),
+    ];
+    (place, refusals)
 }
 
 #[test]
 fn what_was_handed_in_is_found_or_left_out(rt: HostRuntime) {
-    let (place, told) = answers(&rt, rt.alloc());
-    assert_eq!(rt; place, 5);
-    assert_eq!(rt;
-        told.as_str(),
-        "11 at 3 found a reference to a type which is excluded due to its feature not being activated\n\
-        11 at 3 found a reference to a interface which is excluded due to its feature not being activated\n\
-        12 at 3 found a reference to a interface which is excluded due to its feature not being activated; this type is not gated by a feature but its interface is\n\
-        11 at 3 found a reference to a world which is excluded due to its feature not being activated\n\
-        12 at 3 found a reference to a world which is excluded due to its feature not being activated; this type is not gated by a feature but its world is\n"
-    );
+    let (place, refusals) = answers(&rt, rt.alloc());
+    assert!(rt; place == 5);
+    assert!(rt; refusals == [(11, 3), (11, 3), (12, 3), (11, 3), (12, 3)]);
 }
 
-/// The copy of a use path that is read.
-fn copied_path(rt: &impl Abort, alloc: Global, path: &str) -> String {
-    let path = parse_use_path(alloc, path).expect(rt, "a path");
-    match path.try_clone().expect(rt, "memory") {
-        ParsedUsePath::Name(name) => format!(in alloc; "{name}").expect(rt, "memory"),
-        ParsedUsePath::Package(package, name) => {
-            format!(in alloc; "{package} {name}").expect(rt, "memory")
-        }
-    }
-}
-
-#[test]
-fn use_paths_are_copied(rt: HostRuntime) {
-    let name = copied_path(&rt, rt.alloc(), "w");
-    assert_eq!(rt; name.as_str(), "w");
-    let path = copied_path(&rt, rt.alloc(), "foo:bar/w@1.0.0");
-    assert_eq!(rt; path.as_str(), "foo:bar@1.0.0 w");
-}
-
-/// The features that are on, after one was turned on twice, and whether all are.
-fn features(rt: &impl Abort, alloc: Global) -> String {
+/// Whether the features that are on stand in their order, after one was turned on twice, and whether all are on.
+fn features(rt: &impl Abort, alloc: Global) -> (bool, bool) {
     let mut resolve = Resolve::new(alloc);
     for name in ["g", "f", "g"] {
         resolve.add_feature(alloc, name).expect(rt, "memory");
     }
-    let mut out = String::new(alloc);
     let names = &resolve.features().names;
-    for place in 0..names.len() {
-        out.push_str(names.text_at(place)).expect(rt, "memory");
-    }
-    let all = resolve.all_features();
-    write!(out, " {all}").expect(rt, "memory");
-    out
+    assert!(rt; names.len() == 2);
+    let are_in_order = names.text_at(0) == "g" && names.text_at(1) == "f";
+    (are_in_order, resolve.all_features())
 }
 
 #[test]
 fn features_are_told_in_their_order(rt: HostRuntime) {
-    assert_eq!(rt; features(&rt, rt.alloc()).as_str(), "gf false");
+    assert!(rt; features(&rt, rt.alloc()) == (true, false));
 }
 
 /// The numbers and texts of a version, which is given to `semver` and back.
@@ -122,37 +118,43 @@ fn version_parts(rt: &impl Abort, alloc: Global) -> String {
 
 #[test]
 fn versions_have_their_parts(rt: HostRuntime) {
-    assert_eq!(rt;
-        version_parts(&rt, rt.alloc()).as_str(),
-        "1.2.3-rc.1+b 1 2 3 rc.1 b"
+    assert_told(
+        &rt,
+        version_parts(&rt, rt.alloc()),
+        "1.2.3-rc.1+b 1 2 3 rc.1 b",
     );
 }
 
-/// What is empty, and lists and tables made by the allocators of others.
-fn empty_ones(rt: &impl Abort, alloc: Global) -> [bool; 5] {
+/// What is empty of a `Resolve` to which nothing was pushed, and a text.
+fn empty_ones(alloc: Global) -> [bool; 3] {
     let text = Text::new(alloc);
     let resolve = Resolve::new(alloc);
-    let features = &resolve.features().names;
-    let mut items = Items::new(features.allocator());
-    items.push(text.len()).expect(rt, "memory");
+    [
+        text.is_empty(),
+        resolve.features().names.is_empty(),
+        resolve.source_map().is_empty(),
+    ]
+}
+
+/// Whether a list, a table and names, each made by the allocator of another one, are empty.
+fn made_by_others(rt: &impl Abort, alloc: Global) -> [bool; 3] {
+    let features = Features::new(alloc);
+    let mut items = Items::new(features.names.allocator());
+    items.push(features.names.len()).expect(rt, "memory");
     let table: Table<WorldKey, usize> = Table::new(items.allocator());
     let names: Names<usize> = Names::new(table.allocator());
     let more: Items<usize> = Items::new(names.allocator());
     [
-        text.is_empty(),
-        features.is_empty(),
-        resolve.source_map().is_empty(),
-        table.is_empty() && names.is_empty() && more.is_empty(),
         items.is_empty(),
+        table.is_empty() && names.is_empty(),
+        more.is_empty(),
     ]
 }
 
 #[test]
 fn what_is_empty_is_told(rt: HostRuntime) {
-    assert_eq!(rt;
-        empty_ones(&rt, rt.alloc()),
-        [true, true, true, true, false]
-    );
+    assert!(rt; empty_ones(rt.alloc()) == [true, true, true]);
+    assert!(rt; made_by_others(&rt, rt.alloc()) == [false, true, true]);
 }
 
 /// An error whose kind is written anew.
@@ -170,5 +172,5 @@ fn written_error(rt: &impl Abort, alloc: Global) -> String {
 
 #[test]
 fn errors_are_written_anew(rt: HostRuntime) {
-    assert_eq!(rt; written_error(&rt, rt.alloc()).as_str(), "26 worse");
+    assert_told(&rt, written_error(&rt, rt.alloc()), "26 worse");
 }

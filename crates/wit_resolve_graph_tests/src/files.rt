@@ -1,10 +1,12 @@
 //! Files of groups: a group whose package hands in the same file twice.
-use crate::parts::{file, group, interface, list, package, place, push_group};
+use crate::parts::{assert_told, file, group, interface, list, package, place, push_group};
+use crate::shown::shown;
+use crate::told::told;
 use std::alloc::Global;
 use std::fmt::Write;
 use std::process::Abort;
 use wit_items::{Span, UnresolvedPackage, UnresolvedPackageGroup};
-use wit_resolve_graph::{Resolve, SourceFault};
+use wit_resolve_graph::Resolve;
 
 const CONTENTS: &str = "package foo:same;\n\ninterface a {}\n";
 
@@ -34,55 +36,43 @@ fn twice(rt: &impl Abort, alloc: Global, nested: &str, main: &str) -> Unresolved
     made
 }
 
-/// The files, where each interface stands, and how a second push of the same names is refused.
-fn told(rt: &impl Abort, alloc: Global) -> String {
+/// Where the interfaces of two groups begin, and how a third one with one name twice is refused.
+fn outcome(rt: &impl Abort, alloc: Global) -> String {
     let mut resolve = Resolve::new(alloc);
     let first = twice(rt, alloc, "b", "c");
     push_group(rt, alloc, &mut resolve, first).expect(rt, "a package");
     let second = twice(rt, alloc, "d", "e");
     push_group(rt, alloc, &mut resolve, second).expect(rt, "a package");
+    let before = shown(rt, alloc, resolve.graph());
     let third = twice(rt, alloc, "same", "same");
-    let Err(refusal) = push_group(rt, alloc, &mut resolve, third) else {
-        panic!(rt; "a package");
-    };
-    let fault = SourceFault::Resolve(refusal);
-    let mut out = resolve.render_error(alloc, &fault).expect(rt, "memory");
-    write_places(rt, alloc, &mut out, &resolve);
-    out
+    let pushed = push_group(rt, alloc, &mut resolve, third);
+    let refusal = told(rt, alloc, before.as_str(), &resolve, pushed);
+    let starts = starts(rt, alloc, &resolve);
+    format!(in alloc; "{starts}{refusal}").expect(rt, "memory")
 }
 
-fn write_places(rt: &impl Abort, alloc: Global, out: &mut String, resolve: &Resolve) {
+fn starts(rt: &impl Abort, alloc: Global, resolve: &Resolve) -> String {
+    let mut out = String::new(alloc);
     for interface in resolve.interfaces() {
         let start = interface.span.start();
-        let shown = resolve
-            .render_location(alloc, interface.span)
-            .expect(rt, "memory");
-        write!(out, "\n{start} {shown}").expect(rt, "memory");
+        writeln!(out, "{start}").expect(rt, "memory");
     }
-    for name in resolve.source_map().source_names() {
-        write!(out, "\n{name}").expect(rt, "memory");
-    }
-    let end = resolve.source_map().end();
-    write!(out, "\n{end}").expect(rt, "memory");
+    out
 }
 
 #[test]
 fn a_file_may_be_handed_in_twice(rt: HostRuntime) {
-    assert_eq!(rt;
-        told(&rt, rt.alloc()).as_str(),
-        "package `foo:same` is defined in two different locations:\n\
+    assert_told(
+        &rt,
+        outcome(&rt, rt.alloc()),
+        "29\n\
+        64\n\
+        99\n\
+        134\n\
+        5 at 183-191 name foo:same also at 148-156\n\
+        package `foo:same` is defined in two different locations:\n\
         \x20 * same.wit:1:9\n\
         \x20 * same.wit:1:9\n\
-        29 same.wit:3:11\n\
-        64 same.wit:3:11\n\
-        99 same.wit:3:11\n\
-        134 same.wit:3:11\n\
-        same.wit\n\
-        same.wit\n\
-        same.wit\n\
-        same.wit\n\
-        same.wit\n\
-        same.wit\n\
-        210"
+        graph as before, files same.wit same.wit same.wit same.wit same.wit same.wit to 210",
     );
 }

@@ -1,9 +1,9 @@
 //! Refused pushes of packages built by hand: gates and what needs what is left out, borrows in results, and what a
 //! world holds. Each package is what its file says, as far as the refusal needs it.
 use crate::parts::{
-    entries, function, function_entry, functions, inline_interface, interface, interface_entry,
-    list, named, of_world, package, place, since, text, type_at, type_entry, unnamed, unstable,
-    world,
+    assert_told, entries, function, function_entry, functions, inline_interface, interface,
+    interface_entry, list, named, of_world, package, place, since, text, type_at, type_entry,
+    unnamed, unstable, world,
 };
 use crate::told::refused_file;
 use std::alloc::Global;
@@ -52,25 +52,27 @@ fn unreleased(rt: &impl Abort, alloc: Global) -> String {
 
 #[test]
 fn versions_of_gates_are_told(rt: HostRuntime) {
-    assert_eq!(rt;
-        without_version(&rt, rt.alloc()).as_str(),
+    assert_told(
+        &rt,
+        without_version(&rt, rt.alloc()),
         "9 at 120-123 message package [foo:main] contains a feature gate with a version specifier, so it must have a version\n\
         package [foo:main] contains a feature gate with a version specifier, so it must have a version\n\
         \x20    --> main.wit:5:3\n\
         \x20     |\n\
         \x20   5 |   run: async func();\n\
         \x20     |   ^--\n\
-        graph as before, files first.wit main.wit to 142"
+        graph as before, files first.wit main.wit to 142",
     );
-    assert_eq!(rt;
-        unreleased(&rt, rt.alloc()).as_str(),
+    assert_told(
+        &rt,
+        unreleased(&rt, rt.alloc()),
         "10 at 126-129 message feature gate cannot reference unreleased version 1.1.0 of package [foo:main@1.0.0] (current version 1.0.0)\n\
         feature gate cannot reference unreleased version 1.1.0 of package [foo:main@1.0.0] (current version 1.0.0)\n\
         \x20    --> main.wit:5:3\n\
         \x20     |\n\
         \x20   5 |   run: async func();\n\
         \x20     |   ^--\n\
-        graph as before, files first.wit main.wit to 148"
+        graph as before, files first.wit main.wit to 148",
     );
 }
 
@@ -127,25 +129,27 @@ fn excluded_owner(rt: &impl Abort, alloc: Global) -> String {
 
 #[test]
 fn what_is_left_out_is_told(rt: HostRuntime) {
-    assert_eq!(rt;
-        excluded(&rt, rt.alloc()).as_str(),
+    assert_told(
+        &rt,
+        excluded(&rt, rt.alloc()),
         "11 at 146-150 message found a reference to a type which is excluded due to its feature not being activated\n\
         found a reference to a type which is excluded due to its feature not being activated\n\
         \x20    --> main.wit:6:11\n\
         \x20     |\n\
         \x20   6 |   variant held { some(gone) }\n\
         \x20     |           ^---\n\
-        graph as before, files first.wit main.wit to 169"
+        graph as before, files first.wit main.wit to 169",
     );
-    assert_eq!(rt;
-        excluded_owner(&rt, rt.alloc()).as_str(),
+    assert_told(
+        &rt,
+        excluded_owner(&rt, rt.alloc()),
         "12 at 118-122 message found a reference to a world which is excluded due to its feature not being activated; this type is not gated by a feature but its world is\n\
         found a reference to a world which is excluded due to its feature not being activated; this type is not gated by a feature but its world is\n\
         \x20    --> main.wit:5:8\n\
         \x20     |\n\
         \x20   5 |   type held = u32;\n\
         \x20     |        ^---\n\
-        graph as before, files first.wit main.wit to 133"
+        graph as before, files first.wit main.wit to 133",
     );
 }
 
@@ -170,15 +174,16 @@ fn borrow_in_result(rt: &impl Abort, alloc: Global) -> String {
 
 #[test]
 fn a_borrow_in_a_result_is_told(rt: HostRuntime) {
-    assert_eq!(rt;
-        borrow_in_result(&rt, rt.alloc()).as_str(),
+    assert_told(
+        &rt,
+        borrow_in_result(&rt, rt.alloc()),
         "15 at 140-143 message function `run` returns a type which contains a `borrow<T>` which is not supported\n\
         function `run` returns a type which contains a `borrow<T>` which is not supported\n\
         \x20    --> main.wit:6:3\n\
         \x20     |\n\
         \x20   6 |   run: async func() -> v;\n\
         \x20     |   ^--\n\
-        graph as before, files first.wit main.wit to 167"
+        graph as before, files first.wit main.wit to 167",
     );
 }
 
@@ -217,23 +222,25 @@ fn twice(rt: &impl Abort, alloc: Global) -> String {
 
 #[test]
 fn conflicts_and_duplicates_are_told(rt: HostRuntime) {
-    assert_eq!(rt;
-        conflict(&rt, rt.alloc()).as_str(),
+    assert_told(
+        &rt,
+        conflict(&rt, rt.alloc()),
         "4 at 142-145 name out\n\
         interface `out` transitively depends on an interface in incompatible ways\n\
         \x20    --> main.wit:6:7\n\
         \x20     |\n\
         \x20   6 | world w {\n\
         \x20     |       ^--\n\
-        graph as before, files first.wit main.wit to 200"
+        graph as before, files first.wit main.wit to 200",
     );
-    assert_eq!(rt;
-        twice(&rt, rt.alloc()).as_str(),
+    assert_told(
+        &rt,
+        twice(&rt, rt.alloc()),
         "5 at 67-76 name foo:first also at 0-0\n\
         package `foo:first` is defined in two different locations:\n\
         \x20 * main.wit:1:9\n\
         \x20 * <unknown>\n\
-        graph as before, files first.wit main.wit to 79"
+        graph as before, files first.wit main.wit to 79",
     );
 }
 
@@ -282,20 +289,22 @@ fn setter_alone(rt: &impl Abort, alloc: Global) -> String {
 
 #[test]
 fn labels_are_told(rt: HostRuntime) {
-    assert_eq!(rt;
-        alike(&rt, rt.alloc()).as_str(),
+    assert_told(
+        &rt,
+        alike(&rt, rt.alloc()),
         "17 at 0-0 message export `RUN` in world `w` conflicts with export `run` (names must be strongly unique)\n\
         export `RUN` in world `w` conflicts with export `run` (names must be strongly unique)\n\
-        graph as before, files first.wit main.wit to 141"
+        graph as before, files first.wit main.wit to 141",
     );
-    assert_eq!(rt;
-        setter_alone(&rt, rt.alloc()).as_str(),
+    assert_told(
+        &rt,
+        setter_alone(&rt, rt.alloc()),
         "18 at 103-109 message import `[method][set]r.p` in world `w` has no corresponding getter `[method][get]r.p`\n\
         import `[method][set]r.p` in world `w` has no corresponding getter `[method][get]r.p`\n\
         \x20    --> main.wit:4:16\n\
         \x20     |\n\
         \x20   4 |   resource r { p: set; }\n\
         \x20     |                ^-----\n\
-        graph as before, files first.wit main.wit to 116"
+        graph as before, files first.wit main.wit to 116",
     );
 }

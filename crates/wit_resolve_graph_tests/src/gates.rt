@@ -1,7 +1,7 @@
 //! Deprecations are never asked: what takes part is what the version and the features say, and ids close up.
 use crate::parts::{
-    entries, function, function_entry, functions, interface, interface_entry, list, named,
-    of_world, package, push, shown_copy, since, type_entry, unstable, world,
+    assert_told, entries, function, function_entry, functions, interface, interface_entry, list,
+    named, of_world, package, push, shown_copy, since, type_entry, unstable, world,
 };
 use std::alloc::Global;
 use std::process::Abort;
@@ -143,6 +143,6 @@ const WITH_ALL_FEATURES: &str = "package 0 foo:gated@1.0.0\n\
 
 #[test]
 fn deprecations_are_never_asked(rt: HostRuntime) {
-    assert_eq!(rt; pushed(&rt, rt.alloc(), false).as_str(), WITHOUT_FEATURES);
-    assert_eq!(rt; pushed(&rt, rt.alloc(), true).as_str(), WITH_ALL_FEATURES);
+    assert_told(&rt, pushed(&rt, rt.alloc(), false), WITHOUT_FEATURES);
+    assert_told(&rt, pushed(&rt, rt.alloc(), true), WITH_ALL_FEATURES);
 }

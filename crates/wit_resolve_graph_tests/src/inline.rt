@@ -1,9 +1,9 @@
 //! Interfaces without a name, which stand under a label in one world: they belong to its package, what they use is
 //! imported before them, and an include copies them.
 use crate::parts::{
-    docs, entries, first_package, function, function_entry, functions, inline_interface, interface,
-    list, named, of_world, package, param, push, shown_copy, since, text, type_at, type_entry,
-    unstable, world,
+    assert_told, docs, entries, first_package, function, function_entry, functions,
+    inline_interface, interface, list, named, of_world, package, param, push, shown_copy, since,
+    text, type_at, type_entry, unstable, world,
 };
 use std::alloc::Global;
 use std::process::Abort;
@@ -138,7 +138,7 @@ const INLINE: &str = "package 0 foo:first\n\
 
 #[test]
 fn interfaces_without_a_name_stand_under_labels(rt: HostRuntime) {
-    assert_eq!(rt; pushed(&rt, rt.alloc()).as_str(), INLINE);
+    assert_told(&rt, pushed(&rt, rt.alloc()), INLINE);
 }
 
 // ---- includes
@@ -232,5 +232,5 @@ const INCLUDED: &str = "package 0 foo:inline@1.2.0\n\
 
 #[test]
 fn interfaces_without_a_name_are_copied(rt: HostRuntime) {
-    assert_eq!(rt; pushed_include(&rt, rt.alloc()).as_str(), INCLUDED);
+    assert_told(&rt, pushed_include(&rt, rt.alloc()), INCLUDED);
 }

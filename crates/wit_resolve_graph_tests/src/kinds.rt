@@ -2,8 +2,8 @@
 //! and their spans move by 100: what is added is the same at the next ids, and where a value is a resource stands
 //! an `own` of it, behind all types.
 use crate::parts::{
-    docs, first_package, interface, list, named, package, push, shown_copy, since, text, type_at,
-    unnamed, unstable,
+    assert_told, docs, first_package, interface, list, named, package, push, shown_copy, since,
+    text, type_at, unnamed, unstable,
 };
 use std::alloc::Global;
 use std::process::Abort;
@@ -258,5 +258,5 @@ const KINDS: &str = "package 0 foo:first\n\
 
 #[test]
 fn types_of_each_kind_are_added(rt: HostRuntime) {
-    assert_eq!(rt; pushed(&rt, rt.alloc()).as_str(), KINDS);
+    assert_told(&rt, pushed(&rt, rt.alloc()), KINDS);
 }

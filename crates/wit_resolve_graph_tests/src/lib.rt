@@ -30,3 +30,5 @@ mod refusals;
 mod shown;
 #[cfg(test)]
 mod told;
+#[cfg(test)]
+mod turning;

@@ -13,6 +13,11 @@ use wit_items::{
 };
 use wit_resolve_graph::Resolve;
 
+/// Ends the test where a text isn't the one that is wanted.
+pub fn assert_told(rt: &impl Abort, told: String, wanted: &str) {
+    assert_eq!(rt; told.as_str(), wanted);
+}
+
 pub fn string(rt: &impl Abort, alloc: Global, text: &str) -> String {
     String::from_str(alloc, text).expect(rt, "memory")
 }

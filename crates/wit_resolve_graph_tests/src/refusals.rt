@@ -1,8 +1,8 @@
 //! Refused pushes of packages built by hand: what they use of other packages, what they include, and a place that
 //! passes the end. Each package is what its file says, as far as the refusal needs it.
 use crate::parts::{
-    entries, function, function_entry, group, interface, list, name_foreign, named, package, place,
-    push_group, since, text, type_at, unnamed, world,
+    assert_told, entries, function, function_entry, group, interface, list, name_foreign, named,
+    package, place, push_group, since, text, type_at, unnamed, world,
 };
 use crate::shown::shown;
 use crate::told::{first, refused_file, told};
@@ -56,8 +56,9 @@ fn refused_use(
 #[test]
 fn a_package_that_is_not_there_is_told(rt: HostRuntime) {
     let contents = "package foo:main;\n\ninterface i {\n  use foo:gone/things.{item};\n}\n";
-    assert_eq!(rt;
-        refused_use(&rt, rt.alloc(), contents, "gone", "things", "item").as_str(),
+    assert_told(
+        &rt,
+        refused_use(&rt, rt.alloc(), contents, "gone", "things", "item"),
         "1 at 94-101 requested foo:gone known foo:first foo:main\n\
         package 'foo:gone' not found. known packages:\n\
         \x20   foo:first\n\
@@ -66,52 +67,55 @@ fn a_package_that_is_not_there_is_told(rt: HostRuntime) {
         \x20     |\n\
         \x20   4 |   use foo:gone/things.{item};\n\
         \x20     |   ^------\n\
-        graph as before, files first.wit main.wit to 125"
+        graph as before, files first.wit main.wit to 125",
     );
 }
 
 #[test]
 fn an_interface_that_is_not_there_is_told(rt: HostRuntime) {
     let contents = "package foo:main;\n\ninterface i {\n  use foo:first/others.{item};\n}\n";
-    assert_eq!(rt;
-        refused_use(&rt, rt.alloc(), contents, "first", "others", "item").as_str(),
+    assert_told(
+        &rt,
+        refused_use(&rt, rt.alloc(), contents, "first", "others", "item"),
         "3 at 108-114 interface others package foo:first\n\
         interface 'others' not found in package 'foo:first'\n\
         \x20    --> main.wit:4:17\n\
         \x20     |\n\
         \x20   4 |   use foo:first/others.{item};\n\
         \x20     |                 ^-----\n\
-        graph as before, files first.wit main.wit to 126"
+        graph as before, files first.wit main.wit to 126",
     );
 }
 
 #[test]
 fn a_package_that_uses_itself_is_told(rt: HostRuntime) {
     let contents = "package foo:main;\n\ninterface i {\n  use foo:main/things.{item};\n}\n";
-    assert_eq!(rt;
-        refused_use(&rt, rt.alloc(), contents, "main", "things", "item").as_str(),
+    assert_told(
+        &rt,
+        refused_use(&rt, rt.alloc(), contents, "main", "things", "item"),
         "6 at 94-101 package foo:main\n\
         package `foo:main` creates a dependency cycle\n\
         \x20    --> main.wit:4:3\n\
         \x20     |\n\
         \x20   4 |   use foo:main/things.{item};\n\
         \x20     |   ^------\n\
-        graph as before, files first.wit main.wit to 125"
+        graph as before, files first.wit main.wit to 125",
     );
 }
 
 #[test]
 fn a_type_that_is_not_defined_is_told(rt: HostRuntime) {
     let contents = "package foo:main;\n\ninterface i {\n  use foo:first/things.{tool};\n}\n";
-    assert_eq!(rt;
-        refused_use(&rt, rt.alloc(), contents, "first", "things", "tool").as_str(),
+    assert_told(
+        &rt,
+        refused_use(&rt, rt.alloc(), contents, "first", "things", "tool"),
         "13 at 116-120 message type `tool` not defined in interface\n\
         type `tool` not defined in interface\n\
         \x20    --> main.wit:4:25\n\
         \x20     |\n\
         \x20   4 |   use foo:first/things.{tool};\n\
         \x20     |                         ^---\n\
-        graph as before, files first.wit main.wit to 126"
+        graph as before, files first.wit main.wit to 126",
     );
 }
 
@@ -135,15 +139,16 @@ fn borrowing(rt: &impl Abort, alloc: Global) -> String {
 
 #[test]
 fn a_borrow_of_no_resource_is_told(rt: HostRuntime) {
-    assert_eq!(rt;
-        borrowing(&rt, rt.alloc()).as_str(),
+    assert_told(
+        &rt,
+        borrowing(&rt, rt.alloc()),
         "14 at 142-154 message type used in a handle must be a resource\n\
         type used in a handle must be a resource\n\
         \x20    --> main.wit:5:20\n\
         \x20     |\n\
         \x20   5 |   type held = list<borrow<item>>;\n\
         \x20     |                    ^-----------\n\
-        graph as before, files first.wit main.wit to 160"
+        graph as before, files first.wit main.wit to 160",
     );
 }
 
@@ -177,15 +182,16 @@ fn foreign_include(rt: &impl Abort, alloc: Global) -> String {
 
 #[test]
 fn a_world_that_is_not_there_is_told(rt: HostRuntime) {
-    assert_eq!(rt;
-        foreign_include(&rt, rt.alloc()).as_str(),
+    assert_told(
+        &rt,
+        foreign_include(&rt, rt.alloc()),
         "2 at 108-115 world service package foo:first\n\
         world 'service' not found in package 'foo:first'\n\
         \x20    --> main.wit:4:21\n\
         \x20     |\n\
         \x20   4 |   include foo:first/service;\n\
         \x20     |                     ^------\n\
-        graph as before, files first.wit main.wit to 120"
+        graph as before, files first.wit main.wit to 120",
     );
 }
 
@@ -209,15 +215,16 @@ fn shadowing(rt: &impl Abort, alloc: Global) -> String {
 
 #[test]
 fn a_label_that_is_there_is_told(rt: HostRuntime) {
-    assert_eq!(rt;
-        shadowing(&rt, rt.alloc()).as_str(),
+    assert_told(
+        &rt,
+        shadowing(&rt, rt.alloc()),
         "7 at 148-160 item_type export name run\n\
         export of `run` shadows previously exported items\n\
         \x20    --> main.wit:7:3\n\
         \x20     |\n\
         \x20   7 |   include base;\n\
         \x20     |   ^-----------\n\
-        graph as before, files first.wit main.wit to 165"
+        graph as before, files first.wit main.wit to 165",
     );
 }
 
@@ -253,15 +260,16 @@ fn mismatching(rt: &impl Abort, alloc: Global) -> String {
 
 #[test]
 fn deprecations_that_differ_are_told(rt: HostRuntime) {
-    assert_eq!(rt;
-        mismatching(&rt, rt.alloc()).as_str(),
+    assert_told(
+        &rt,
+        mismatching(&rt, rt.alloc()),
         "8 at 235-247 from since 1.0.0 deprecated 1.1.0 into since 1.0.0\n\
         mismatch in stability from 'stable 1.0.0 deprecated 1.1.0' to 'stable 1.0.0'\n\
         \x20    --> main.wit:14:3\n\
         \x20     |\n\
         \x20  14 |   include base;\n\
         \x20     |   ^-----------\n\
-        graph as before, files first.wit main.wit to 252"
+        graph as before, files first.wit main.wit to 252",
     );
 }
 
@@ -289,15 +297,16 @@ fn renaming(rt: &impl Abort, alloc: Global) -> String {
 
 #[test]
 fn a_renaming_of_nothing_is_told(rt: HostRuntime) {
-    assert_eq!(rt;
-        renaming(&rt, rt.alloc()).as_str(),
+    assert_told(
+        &rt,
+        renaming(&rt, rt.alloc()),
         "16 at 126-143 message no import or export kebab-name `stop`. Note that an ID does not support renaming\n\
         no import or export kebab-name `stop`. Note that an ID does not support renaming\n\
         \x20    --> main.wit:6:3\n\
         \x20     |\n\
         \x20   6 |   include base with { stop as go }\n\
         \x20     |   ^----------------\n\
-        graph as before, files first.wit main.wit to 162"
+        graph as before, files first.wit main.wit to 162",
     );
 }
 
@@ -322,10 +331,11 @@ fn passing(rt: &impl Abort, alloc: Global) -> String {
 
 #[test]
 fn a_place_that_passes_the_end_is_told(rt: HostRuntime) {
-    assert_eq!(rt;
-        passing(&rt, rt.alloc()).as_str(),
+    assert_told(
+        &rt,
+        passing(&rt, rt.alloc()),
         "27 at 0-0\n\
         source positions would pass 4294967295\n\
-        graph as before, files first.wit to 4294967259"
+        graph as before, files first.wit to 4294967259",
     );
 }

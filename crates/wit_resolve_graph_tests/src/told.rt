@@ -6,54 +6,82 @@ use std::alloc::{AllocError, Global};
 use std::fmt::Write;
 use std::process::Abort;
 use wit_graph::{ResolveError, ResolveErrorKind, ResolveResult};
-use wit_items::{PackageId, PackageName, UnresolvedPackage, UnresolvedPackageGroup};
+use wit_items::{
+    PackageId, PackageName, Span, Stability, Text, UnresolvedPackage, UnresolvedPackageGroup,
+};
 use wit_resolve_graph::{Resolve, SourceFault};
 
-/// The number of a refusal and its fields.
-fn write_fields(out: &mut String, refusal: &ResolveError) -> Result<(), AllocError> {
+/// The number of a refusal, its place and its fields.
+fn write_refusal(out: &mut String, refusal: &ResolveError) -> Result<(), AllocError> {
     let number = refusal.number();
     let (start, end) = (refusal.kind().span().start(), refusal.kind().span().end());
     write!(out, "{number} at {start}-{end}")?;
-    match refusal.kind() {
+    write_fields(out, refusal.kind())
+}
+
+fn write_fields(out: &mut String, kind: &ResolveErrorKind) -> Result<(), AllocError> {
+    match kind {
         ResolveErrorKind::PackageNotFound {
             requested,
             known,
             ..
-        } => {
-            write!(out, " requested {requested} known")?;
-            write_names(out, known.as_slice())
-        }
+        } => write_known(out, requested, known.as_slice()),
         ResolveErrorKind::WorldNotFound {
             requested,
             package,
             ..
-        } => write!(out, " world {requested} package {package}"),
+        } => write_missing(out, "world", requested, package),
         ResolveErrorKind::InterfaceNotFound {
             requested,
             package,
             ..
-        } => write!(out, " interface {requested} package {package}"),
+        } => write_missing(out, "interface", requested, package),
         ResolveErrorKind::InvalidTransitiveDependency { name, .. } => write!(out, " name {name}"),
-        ResolveErrorKind::DuplicatePackage { name, span2, .. } => {
-            let (start, end) = (span2.start(), span2.end());
-            write!(out, " name {name} also at {start}-{end}")
-        }
+        ResolveErrorKind::DuplicatePackage { name, span2, .. } => write_twice(out, name, *span2),
         ResolveErrorKind::PackageCycle { package, .. } => write!(out, " package {package}"),
         ResolveErrorKind::ItemShadowing {
             item_type,
             name,
             ..
-        } => write!(out, " item_type {item_type} name {name}"),
-        ResolveErrorKind::StabilityMismatch { from, into, .. } => {
-            out.push_str(" from")?;
-            write_stability(out, from)?;
-            out.push_str(" into")?;
-            write_stability(out, into)
-        }
+        } => write_shadowed(out, item_type, name),
+        ResolveErrorKind::StabilityMismatch { from, into, .. } => write_mismatch(out, from, into),
         ResolveErrorKind::Semantic { message, .. } => write!(out, " message {message}"),
-        ResolveErrorKind::OffsetOverflow => Ok(()),
-        ResolveErrorKind::OutOfMemory => Ok(()),
+        ResolveErrorKind::OffsetOverflow | ResolveErrorKind::OutOfMemory => Ok(()),
     }
+}
+
+fn write_known(
+    out: &mut String,
+    requested: &PackageName,
+    known: &[PackageName],
+) -> Result<(), AllocError> {
+    write!(out, " requested {requested} known")?;
+    write_names(out, known)
+}
+
+fn write_missing(
+    out: &mut String,
+    word: &str,
+    requested: &Text,
+    package: &PackageName,
+) -> Result<(), AllocError> {
+    write!(out, " {word} {requested} package {package}")
+}
+
+fn write_twice(out: &mut String, name: &PackageName, earlier: Span) -> Result<(), AllocError> {
+    let (start, end) = (earlier.start(), earlier.end());
+    write!(out, " name {name} also at {start}-{end}")
+}
+
+fn write_shadowed(out: &mut String, item_type: &Text, name: &Text) -> Result<(), AllocError> {
+    write!(out, " item_type {item_type} name {name}")
+}
+
+fn write_mismatch(out: &mut String, from: &Stability, into: &Stability) -> Result<(), AllocError> {
+    out.push_str(" from")?;
+    write_stability(out, from)?;
+    out.push_str(" into")?;
+    write_stability(out, into)
 }
 
 fn write_names(out: &mut String, names: &[PackageName]) -> Result<(), AllocError> {
@@ -86,23 +114,37 @@ pub fn told(
         panic!(rt; "a package");
     };
     let mut out = String::new(alloc);
-    write_fields(&mut out, &refusal).expect(rt, "memory");
+    write_refusal(&mut out, &refusal).expect(rt, "memory");
+    let line = line(rt, alloc, resolve, refusal);
+    let kept = kept(rt, alloc, before, resolve);
+    write!(out, "\n{line}\n{kept}, files").expect(rt, "memory");
+    write_files(&mut out, resolve).expect(rt, "memory");
+    out
+}
+
+/// The line in which a refusal is.
+fn line(rt: &impl Abort, alloc: Global, resolve: &Resolve, refusal: ResolveError) -> String {
     let fault = SourceFault::Resolve(refusal);
-    let shown_fault = resolve.render_error(alloc, &fault).expect(rt, "memory");
-    write!(out, "\n{shown_fault}\n").expect(rt, "memory");
+    resolve.render_error(alloc, &fault).expect(rt, "memory")
+}
+
+/// Whether the graph is shown as before.
+fn kept(rt: &impl Abort, alloc: Global, before: &str, resolve: &Resolve) -> &'static str {
     let after = shown(rt, alloc, resolve.graph());
-    let kept = if before == after.as_str() {
-        "graph as before, files"
+    if before == after.as_str() {
+        "graph as before"
     } else {
-        "another graph, files"
-    };
-    out.push_str(kept).expect(rt, "memory");
+        "another graph"
+    }
+}
+
+/// The names of the files, and where they end.
+fn write_files(out: &mut String, resolve: &Resolve) -> Result<(), AllocError> {
     for name in resolve.source_map().source_names() {
-        write!(out, " {name}").expect(rt, "memory");
+        write!(out, " {name}")?;
     }
     let end = resolve.source_map().end();
-    write!(out, " to {end}").expect(rt, "memory");
-    out
+    write!(out, " to {end}")
 }
 
 /// How the push of a group after the first one is refused.

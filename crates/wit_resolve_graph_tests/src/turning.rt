@@ -1,0 +1,167 @@
+//! Refused turns of worlds: what each says, and that the graph is as before in all its data.
+ghost use Rattle.std.specs.Prelude.{◌<◌, length};
+
+use crate::parts::{
+    assert_told, entries, function, function_entry, interface, interface_entry, list, named,
+    of_world, package, push, string, type_at, type_entry, world,
+};
+use crate::shown::shown;
+use std::alloc::Global;
+use std::process::Abort;
+use wit_graph::ResolveResult;
+use wit_items::{
+    FunctionKind, Items, Span, Type_, TypeDef, TypeDefKind, World, WorldId, WorldItem, WorldKey,
+};
+use wit_resolve_graph::Resolve;
+
+/// Types of interfaces `a`, `b`, which uses `a`, and `c`, which uses both, and type `k` of world `w`.
+fn types(rt: &impl Abort, alloc: Global) -> Items<TypeDef> {
+    list(
+        rt,
+        alloc,
+        [
+            named(rt, alloc, 0, "t", TypeDefKind::Type_(Type_::U32)),
+            named(rt, alloc, 1, "t", TypeDefKind::Type_(type_at(0))),
+            named(rt, alloc, 2, "t", TypeDefKind::Type_(type_at(0))),
+            named(rt, alloc, 2, "u", TypeDefKind::Type_(type_at(1))),
+            of_world(rt, alloc, 0, "k", TypeDefKind::Type_(Type_::U8)),
+        ],
+    )
+}
+
+/// World `w`, which imports `c` and type `k` and exports a function `k`, and world `v`, which has nothing.
+fn worlds(rt: &impl Abort, alloc: Global) -> Items<World> {
+    let k = function(rt, alloc, "k", FunctionKind::Freestanding);
+    let mut w = world(rt, alloc, "w");
+    w.imports = entries(
+        rt,
+        alloc,
+        [
+            interface_entry(2),
+            type_entry(rt, alloc, "k", 4, Span::new(7, 8)),
+        ],
+    );
+    w.exports = entries(rt, alloc, [function_entry(rt, alloc, k)]);
+    list(rt, alloc, [w, world(rt, alloc, "v")])
+}
+
+/// Package `foo:bar`, which has all that.
+fn resolve(rt: &impl Abort, alloc: Global) -> Resolve {
+    let mut made = package(rt, alloc, "bar", "");
+    made.types = types(rt, alloc);
+    made.interfaces = list(
+        rt,
+        alloc,
+        [
+            interface(rt, alloc, "a", &[("t", 0)]),
+            interface(rt, alloc, "b", &[("t", 1)]),
+            interface(rt, alloc, "c", &[("t", 2), ("u", 3)]),
+        ],
+    );
+    made.worlds = worlds(rt, alloc);
+    let mut resolve = Resolve::new(alloc);
+    push(rt, alloc, &mut resolve, &made, 0);
+    resolve
+}
+
+/// A turn: the exports become imports, or the imports of these digits become exports.
+#[derive(Clone, Copy)]
+enum Turn {
+    Importize,
+    Exportize(&'static [usize]),
+}
+
+/// The place of the interface that a key names, and one; 0 for a label.
+fn digit(key: &WorldKey) -> usize {
+    match key {
+        WorldKey::Interface(id) => id.index().wrapping_add(1),
+        WorldKey::Name(_) => 0,
+    }
+}
+
+/// What a turn of a world answers.
+fn answer_to(
+    rt: &impl Abort,
+    alloc: Global,
+    resolve: &mut Resolve,
+    place: usize,
+    turn: Turn,
+    out: &str,
+) -> ResolveResult<()> {
+    assert!(rt; place < resolve.worlds().len());
+    let world = WorldId::from_index(place);
+    let out = Some(string(rt, alloc, out));
+    match turn {
+        Turn::Importize => resolve.importize(alloc, world, out),
+        Turn::Exportize(moved) => {
+            let filter = |key: &WorldKey, _item: &WorldItem| moved.contains(&digit(key));
+            resolve.exportize(alloc, world, out, Some(filter))
+        }
+    }
+}
+
+/// What a turn says, and whether the whole graph is as before.
+fn said(rt: &impl Abort, alloc: Global, place: usize, asked: Turn, out: &str) -> String {
+    let mut resolve = resolve(rt, alloc);
+    let before = shown(rt, alloc, resolve.graph());
+    let text = match answer_to(rt, alloc, &mut resolve, place, asked, out) {
+        Ok(()) => string(rt, alloc, "done"),
+        Err(refusal) => {
+            let number = refusal.number();
+            format!(in alloc; "{number} {refusal}").expect(rt, "memory")
+        }
+    };
+    let after = shown(rt, alloc, resolve.graph());
+    let kept = if before == after {
+        "graph as before"
+    } else {
+        "another graph"
+    };
+    format!(in alloc; "{text}, {kept}").expect(rt, "memory")
+}
+
+/// The places of the worlds.
+const W: usize = 0;
+
+const V: usize = 1;
+
+const TURNS: [(usize, Turn, &str, &str); 6] = [
+    (
+        W,
+        Turn::Importize,
+        "x",
+        "19 world export `k` conflicts with import of same name, graph as before",
+    ),
+    (
+        V,
+        Turn::Importize,
+        "w",
+        "20 world `w` is already defined in package `foo:bar`, graph as before",
+    ),
+    (
+        W,
+        Turn::Exportize(&[1, 3]),
+        "v",
+        "20 world `v` is already defined in package `foo:bar`, graph as before",
+    ),
+    (
+        W,
+        Turn::Exportize(&[0, 1, 3]),
+        "x",
+        "21 type import `k` cannot be exported, graph as before",
+    ),
+    (
+        W,
+        Turn::Exportize(&[1, 3]),
+        "x",
+        "4 interface `foo:bar/c` transitively depends on an interface in incompatible ways, graph as before",
+    ),
+    (W, Turn::Exportize(&[3]), "x", "done, another graph"),
+];
+
+#[test]
+fn refused_turns_change_nothing(rt: HostRuntime) {
+    for (place, asked, out, wanted) in TURNS {
+        assert_told(&rt, said(&rt, rt.alloc(), place, asked, out), wanted);
+    }
+}
