@@ -1,5 +1,5 @@
 //! The names in core wasm of the functions of a `Resolve`, and what has none.
-use crate::fixtures::resolve_of;
+use crate::fixtures::{assert_told, resolve_of};
 use std::alloc::Global;
 use std::process::Abort;
 use wit_items::{Function, InterfaceId, TypeId, WorldKey};
@@ -199,12 +199,18 @@ const NO_IMPORTS: [(ManglingAndAbi, &str, Asked); 5] = [
 #[test]
 fn imports_are_named(rt: HostRuntime) {
     for (mangling, is_of_x, function, asked, wanted) in IMPORTS {
-        let name = import_name(&rt, rt.alloc(), mangling, is_of_x, function, asked);
-        assert_eq!(rt; name.as_str(), wanted);
+        assert_told(
+            &rt,
+            import_name(&rt, rt.alloc(), mangling, is_of_x, function, asked),
+            wanted,
+        );
     }
     for (mangling, function, asked) in NO_IMPORTS {
-        let name = import_name(&rt, rt.alloc(), mangling, true, function, asked);
-        assert_eq!(rt; name.as_str(), "none");
+        assert_told(
+            &rt,
+            import_name(&rt, rt.alloc(), mangling, true, function, asked),
+            "none",
+        );
     }
 }
 
@@ -326,7 +332,10 @@ const EXPORTS: [(ManglingAndAbi, bool, Exported, &str); 20] = [
 #[test]
 fn exports_are_named(rt: HostRuntime) {
     for (mangling, is_of_x, exported, wanted) in EXPORTS {
-        let name = export_name(&rt, rt.alloc(), mangling, is_of_x, exported);
-        assert_eq!(rt; name.as_str(), wanted);
+        assert_told(
+            &rt,
+            export_name(&rt, rt.alloc(), mangling, is_of_x, exported),
+            wanted,
+        );
     }
 }

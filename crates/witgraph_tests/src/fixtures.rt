@@ -4,6 +4,11 @@ use std::process::Abort;
 use wit_resolve_graph::Resolve;
 use wit_script::{ScriptCommand, read_script};
 
+/// Ends the test where a text isn't the one that is wanted.
+pub fn assert_told(rt: &impl Abort, told: String, wanted: &str) {
+    assert_eq!(rt; told.as_str(), wanted);
+}
+
 /// A `Resolve` with the packages of a script, each pushed by itself.
 pub fn resolve_of(rt: &impl Abort, alloc: Global, script: &str) -> Resolve {
     let mut resolve = Resolve::new(alloc);

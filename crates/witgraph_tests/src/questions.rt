@@ -1,5 +1,5 @@
 //! The questions of a `Resolve`, each with ample memory, and what they answer of a small package.
-use crate::fixtures::resolve_of;
+use crate::fixtures::{assert_told, resolve_of};
 use std::alloc::Global;
 use std::fmt::Write;
 use std::process::Abort;
@@ -56,8 +56,11 @@ fn write_place(rt: &impl Abort, text: &mut String, word: &str, place: usize) {
 fn dependencies_are_told(rt: HostRuntime) {
     assert_eq!(rt; interface_dep(&rt, rt.alloc(), 0), None);
     assert_eq!(rt; interface_dep(&rt, rt.alloc(), 5), Some(0));
-    let text = dependencies(&rt, rt.alloc());
-    assert_eq!(rt; text.as_str(), "uses 0;package 0;package 1;");
+    assert_told(
+        &rt,
+        dependencies(&rt, rt.alloc()),
+        "uses 0;package 0;package 1;",
+    );
 }
 
 /// The canonical names of interface `x` and of world `w`, of the key of `x` and of a label, and what
@@ -99,8 +102,7 @@ const CANONICAL: [(&str, &str); 6] = [
 #[test]
 fn canonical_names_have_the_track(rt: HostRuntime) {
     for (version, names) in CANONICAL {
-        let told = canonical_names(&rt, rt.alloc(), version);
-        assert_eq!(rt; told.as_str(), names);
+        assert_told(&rt, canonical_names(&rt, rt.alloc(), version), names);
     }
 }
 
@@ -181,6 +183,5 @@ fn values_are_told(rt: HostRuntime) {
     ] {
         assert_eq!(rt; are_all_bits_valid(&rt, rt.alloc(), ty), wanted);
     }
-    let text = futures(&rt, rt.alloc());
-    assert_eq!(rt; text.as_str(), "type 2;type 3;type 4;");
+    assert_told(&rt, futures(&rt, rt.alloc()), "type 2;type 3;type 4;");
 }

@@ -3,12 +3,13 @@ ghost use Rattle.std.specs.Prelude.{IfOk, IsErr};
 ghost use Rattle.wit_items.specs.Shape.{IsGroupShaped};
 ghost use Rattle.wit_package_sources.specs.Names.{ArePlaced};
 
+use crate::fixtures::assert_told;
 use std::alloc::{AllocError, Global};
 use std::collections::BTreeMap;
 use std::process::Abort;
 use wit_items::{
-    Docs, Function, FunctionKind, Interface, Items, Names, PackageId, PackageName, SourceMap, Span,
-    Stability, Table, Text, TryClone, UnresolvedPackage, UnresolvedPackageGroup,
+    Docs, Interface, Items, Names, PackageId, PackageName, SourceMap, Span, Stability, Table, Text,
+    TryClone, UnresolvedPackage, UnresolvedPackageGroup,
 };
 use wit_resolve_graph::{PackageSources, ParseFault, Resolve, SourceFault};
 
@@ -32,59 +33,52 @@ fn unreadable(
 }
 
 /// Where the text of a file can't be read, and how it is told.
-fn fault(rt: &impl Abort, alloc: Global, resolve: &mut Resolve) -> (u32, u32, String) {
+fn fault(rt: &impl Abort, alloc: Global, resolve: &mut Resolve) -> String {
     let contents = "package a:b;\nworld w {}\n";
     let parse = |source_map: SourceMap| unreadable(rt, alloc, source_map);
     let Err(fault) = resolve.push_source(alloc, "m.wit", contents, parse) else {
         panic!(rt; "a package");
     };
     let shown = resolve.render_error(alloc, &fault).expect(rt, "memory");
-    match fault {
-        SourceFault::Parse { span, .. } => (span.start(), span.end(), shown),
-        SourceFault::Resolve(_) => (0, 0, shown),
-    }
+    let (start, end) = match fault {
+        SourceFault::Parse { span, .. } => (span.start(), span.end()),
+        SourceFault::Resolve(_) => (0, 0),
+    };
+    format!(in alloc; "{start}-{end} {shown}\n").expect(rt, "memory")
 }
 
 /// What comes of two such files.
-fn faults(rt: &impl Abort, alloc: Global) -> [(u32, u32, String); 2] {
+fn faults(rt: &impl Abort, alloc: Global) -> String {
     let mut resolve = Resolve::new(alloc);
     let first = fault(rt, alloc, &mut resolve);
     let second = fault(rt, alloc, &mut resolve);
-    [first, second]
+    format!(in alloc; "{first}{second}").expect(rt, "memory")
 }
 
 #[test]
 fn faults_stand_in_the_files_that_follow(rt: HostRuntime) {
-    let [
-        (start, end, shown),
-        (second_start, second_end, second_shown),
-    ] = faults(&rt, rt.alloc());
-    let lines = "bad\n     --> m.wit:2:1\n      |\n    2 | world w {}\n      | ^----";
-    assert_eq!(rt; (start, end), (13, 18));
-    assert_eq!(rt; shown.as_str(), lines);
-    assert_eq!(rt; (second_start, second_end), (38, 43));
-    assert_eq!(rt; second_shown.as_str(), lines);
+    assert_told(
+        &rt,
+        faults(&rt, rt.alloc()),
+        "13-18 bad\n\
+        \x20    --> m.wit:2:1\n\
+        \x20     |\n\
+        \x20   2 | world w {}\n\
+        \x20     | ^----\n\
+        38-43 bad\n\
+        \x20    --> m.wit:2:1\n\
+        \x20     |\n\
+        \x20   2 | world w {}\n\
+        \x20     | ^----\n",
+    );
 }
 
-/// An interface with a function, at their places in the file.
+/// An interface, at its place in the file.
 fn interface(rt: &impl Abort, alloc: Global) -> Interface {
-    let function = Function {
-        name: text(rt, alloc, "second-func"),
-        kind: FunctionKind::Freestanding,
-        params: Items::new(alloc),
-        result_: None,
-        docs: Docs::none(),
-        stability: Stability::Unknown,
-        span: Span::new(51, 62),
-        external_id: None,
-    };
-    let name = String::from_str(alloc, "second-func").expect(rt, "memory");
-    let mut functions = Names::new(alloc);
-    functions.push(name, function).expect(rt, "memory");
     Interface {
         name: Some(text(rt, alloc, "second-iface")),
         types: Names::new(alloc),
-        functions,
+        functions: Names::new(alloc),
         docs: Docs::none(),
         stability: Stability::Unknown,
         package: None,
@@ -132,15 +126,7 @@ fn parsed(
 
 const FIRST: &str = "package test:first;\n\ninterface first-iface {\n    first-func: func();\n}\n";
 
-const SECOND: &str =
-    "package test:second;\n\ninterface second-iface {\n    second-func: func();\n}\n";
-
-/// The spans of the interface and of its function, where they are there.
-fn spans(resolve: &Resolve) -> Option<[Span; 2]> {
-    let interface = resolve.interfaces().first()?;
-    let function = interface.functions.get("second-func")?;
-    Some([interface.span, function.span])
-}
+const SECOND: &str = "package test:second;\n\ninterface second-iface {}\n";
 
 /// A file before which nothing stands.
 fn file(rt: &impl Abort, alloc: Global, path: &str, contents: &str) -> SourceMap {
@@ -162,32 +148,20 @@ fn second_package(rt: &impl Abort, alloc: Global) -> Resolve {
     resolve
 }
 
-/// Where the interface and its function stand.
-fn places(rt: &impl Abort, alloc: Global) -> [(u32, u32, String); 2] {
+/// Where the interface stands.
+fn place(rt: &impl Abort, alloc: Global) -> String {
     let resolve = second_package(rt, alloc);
-    let [interface, function] = spans(&resolve).expect(rt, "an interface");
-    let first = resolve
-        .render_location(alloc, interface)
+    let interface = resolve.interfaces().first().expect(rt, "an interface");
+    let (start, end) = (interface.span.start(), interface.span.end());
+    let shown = resolve
+        .render_location(alloc, interface.span)
         .expect(rt, "memory");
-    let second = resolve
-        .render_location(alloc, function)
-        .expect(rt, "memory");
-    [
-        (interface.start(), interface.end(), first),
-        (function.start(), function.end(), second),
-    ]
+    format!(in alloc; "{start}-{end} {shown}").expect(rt, "memory")
 }
 
 #[test]
 fn spans_move_with_their_file(rt: HostRuntime) {
-    let [
-        (start, end, place),
-        (second_start, second_end, second_place),
-    ] = places(&rt, rt.alloc());
-    assert_eq!(rt; (start, end), (104, 116));
-    assert_eq!(rt; place.as_str(), "second.wit:3:11");
-    assert_eq!(rt; (second_start, second_end), (123, 134));
-    assert_eq!(rt; second_place.as_str(), "second.wit:4:5");
+    assert_told(&rt, place(&rt, rt.alloc()), "104-116 second.wit:3:11");
 }
 
 /// The files of these paths.
@@ -243,10 +217,7 @@ fn names(rt: &impl Abort, alloc: Global, sources: &PackageSources) -> String {
 fn packages_have_their_sources(rt: HostRuntime) {
     let sources = two_packages(&rt, rt.alloc());
     let copy = sources.try_clone().expect(&rt, "memory");
-    assert_eq!(rt;
-        names(&rt, rt.alloc(), &copy).as_str(),
-        "abc of 1: bc, none"
-    );
+    assert_told(&rt, names(&rt, rt.alloc(), &copy), "abc of 1: bc, none");
 }
 
 #[test]
@@ -255,8 +226,5 @@ fn one_source_is_of_one_package(rt: HostRuntime) {
     let sources = PackageSources::from_single_source(rt.alloc(), package, "m").expect(
         &rt, "memory",
     );
-    assert_eq!(rt;
-        names(&rt, rt.alloc(), &sources).as_str(),
-        "m of 1: m, none"
-    );
+    assert_told(&rt, names(&rt, rt.alloc(), &sources), "m of 1: m, none");
 }
