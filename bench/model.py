@@ -1,8 +1,8 @@
 """An independent model of what `witgraph` prints: the rules written once more, plainly and without care for speed.
 
 `answers` reads a script and tells for each command which texts it may print: where several causes hold, a refusal
-may name any of them. `bench/compare.py` compares the program with it. It knows every line but `other`, `merge` and
-`semver`, which scripts don't take yet.
+may name any of them. `bench/compare.py` compares the program with it. The lines `other`, `merge` and `semver`, which
+scripts don't take yet, are understood where `Rules.merging` says so.
 """
 import re
 
@@ -94,10 +94,11 @@ def renamed(label, old, new):
 
 
 class Type:
-    """A type, of a package that is handed in or of the graph. `kind` is its word and what it names."""
+    """A type, of a package that is handed in or of the graph. `kind` is its word and what it names, `fields` the names
+    of those of a record."""
 
-    def __init__(self, name, kind, owner, note):
-        self.name, self.kind, self.owner, self.note = name, kind, owner, note
+    def __init__(self, name, kind, owner, note, fields=None):
+        self.name, self.kind, self.owner, self.note, self.fields = name, kind, owner, note, fields
 
     def references(self):
         return [it for it in self.kind[1:] if isinstance(it, Type)]
@@ -111,8 +112,8 @@ class Type:
 
 
 class Function:
-    def __init__(self, name, resource, parts, result, note):
-        self.name, self.resource, self.parts, self.result, self.note = name, resource, parts, result, note
+    def __init__(self, name, resource, names, parts, result, note):
+        self.name, self.resource, self.names, self.parts, self.result, self.note = name, resource, names, parts, result, note
 
     def references(self):
         return [it for it in [*self.parts, self.result, self.resource] if isinstance(it, Type)]
@@ -231,7 +232,8 @@ class Reader:
             self.add_named(rest[0], kind if isinstance(kind, tuple) else ("alias", kind), note)
         elif word == "record":
             need(len(rest) >= 2)
-            self.add_named(rest[0], ("record", *(self.reference(it, note) for it in map(self.part, rest[1:]))), note)
+            names, parts = zip(*map(self.part, rest[1:]))
+            self.add_named(rest[0], ("record", *(self.reference(it, note) for it in parts)), note).fields = names
         elif word == "resource":
             need(len(rest) == 1)
             self.add_named(rest[0], ("resource",), note)
@@ -293,6 +295,7 @@ class Reader:
         ty = self.scope.types[name] = self.add_type(name, kind, self.scope, note)
         if isinstance(self.scope, World):
             self.enter("import", Entry(name, ty, note))
+        return ty
 
     def named(self, name):
         need(name in self.scope.types)
@@ -301,7 +304,7 @@ class Reader:
     def part(self, text):
         name, colon, ty = text.partition(":")
         need(name)
-        return ty
+        return name, ty
 
     def kind(self, text, note):
         """A reference, or the kind of a type that the text writes in place."""
@@ -333,7 +336,8 @@ class Reader:
         need(found)
         groups, rest = groups_of(found[1])
         need(rest and not rest.startswith("["))
-        parts = [self.reference(self.part(it), note) for it in found[2].split(",")] if found[2] else []
+        parts = [self.part(it) for it in found[2].split(",")] if found[2] else []
+        names, parts = [name for name, _ in parts], [self.reference(ty, note) for _, ty in parts]
         result = found[3] and self.reference(found[3], note)
         resource = None
         if groups == ["[constructor]"]:
@@ -343,7 +347,7 @@ class Reader:
             resource = self.named(rest.partition(".")[0])
         else:
             need(groups in ([], ["[get]"], ["[set]"]))
-        return Function(found[1], resource, parts, result, note)
+        return Function(found[1], resource, names, parts, result, note)
 
 
 # elaboration
@@ -456,7 +460,7 @@ class Copier:
             return ty
         if id(ty) not in self.copies:
             self.kept.append(ty)
-            copy = self.copies[id(ty)] = Type(ty.name, None, ty.owner and self.to, ty.note)
+            copy = self.copies[id(ty)] = Type(ty.name, None, ty.owner and self.to, ty.note, ty.fields)
             copy.kind = (ty.kind[0], *(self.type(it) for it in ty.kind[1:]))
         return self.copies[id(ty)]
 
@@ -466,7 +470,7 @@ class Copier:
             copy.name = label
             return copy
         if isinstance(item, Function):
-            return Function(label, self.type(item.resource), [self.type(it) for it in item.parts], self.type(item.result), item.note)
+            return Function(label, self.type(item.resource), item.names, [self.type(it) for it in item.parts], self.type(item.result), item.note)
         return item
 
 
@@ -646,13 +650,13 @@ class Addition:
         return self.images[thing]
 
     def moved(self, function):
-        return Function(function.name, self.image(function.resource), [self.image(it) for it in function.parts], self.image(function.result), function.note)
+        return Function(function.name, self.image(function.resource), function.names, [self.image(it) for it in function.parts], self.image(function.result), function.note)
 
     def move(self):
         package, name = self.package, self.package.name
         things = [*package.types, *package.interfaces.values(), *package.worlds.values()]
         for it in (it for it in things if self.active[it]):
-            self.images[it] = Type(it.name, None, None, it.note) if isinstance(it, Type) else type(it)(it.name, it.note, name)
+            self.images[it] = Type(it.name, None, None, it.note, it.fields) if isinstance(it, Type) else type(it)(it.name, it.note, name)
         for ty in (it for it in package.types if self.active[it] and not isinstance(it.owner, Foreign)):
             self.images[ty].kind = (ty.kind[0], *(self.image(it) for it in ty.kind[1:]))
             self.images[ty].owner = self.image(ty.owner)
@@ -691,7 +695,7 @@ class Addition:
 
 class Graph:
     def __init__(self):
-        self.packages, self.features, self.all_features = [], set(), False
+        self.packages, self.features, self.all_features, self.tracks = [], set(), False, "published"
 
     def find(self, name):
         return next((it for it in self.packages if it.name.key == name.key), None)
@@ -795,44 +799,64 @@ class Graph:
 
 # scripts
 
+
+class Rules:
+    # whether scripts take merges, and whether matched types are compared by structure
+    merging, by_structure = False, False
+
+
 # of each command how many words it takes
 COMMANDS = {"feature": (1, 1), "all-features": (0, 0), "push": (0, 0), "importize": (2, 3), "exportize": (3, 10**9), "print": (2, 2), "select": (1, 2), "tracks": (1, 1)}
+MERGING = {"other": (0, 0), "merge": (0, 0), "semver": (2, 2)}
 
 
 def commands_of(text):
     """The commands with their packages; or the number of the first line that isn't understood."""
-    reader, commands, number, last = Reader(), [], 0, 0
+    reader, commands, number, last, is_other = Reader(), [], 0, 0, False
+    known = COMMANDS | (MERGING if Rules.merging else {})
     for number, line in enumerate(text.split("\n"), 1):
         words = [it for it in line.split(" ") if it]
         if not words or words[0].startswith("#"):
             continue
         last = number
         try:
-            if words[0] not in COMMANDS:
+            if words[0] not in known:
                 reader.line(words)
                 continue
-            least, most = COMMANDS[words[0]]
+            least, most = known[words[0]]
             need(least <= len(words) - 1 <= most)
             need(bool(reader.packages) == (words[0] == "push") and all(it.is_shaped() for it in reader.packages))
-            if words[0] in ("importize", "exportize", "print", "select"):
+            if words[0] in ("other", "merge"):
+                need(is_other == (words[0] == "merge"))
+                is_other = not is_other
+            if words[0] in ("importize", "exportize", "print", "select", "semver"):
                 words[1] = PackageName.read(words[1])
             need(words[0] != "tracks" or words[1] in ("published", "with-prereleases"))
             commands.append((words, reader.packages))
             reader = Reader()
         except NotUnderstood:
             return number
-    return last if reader.packages else commands
+    return last if reader.packages or is_other else commands
 
 
-def answer(graph, words, packages):
-    """The texts that a command may print, None where it prints nothing."""
-    word = words[0]
+def set_up(graph, words):
+    graph.features |= {words[1]} if words[0] == "feature" else set()
+    graph.all_features |= words[0] == "all-features"
+    graph.tracks = words[1] if words[0] == "tracks" else graph.tracks
+
+
+def answer(graphs, words, packages):
+    """The texts that a command may print, None where it prints nothing. It works on the last of the graphs."""
+    word, graph = words[0], graphs[-1]
+    if word in ("feature", "all-features", "tracks"):
+        return set_up(graph, words)
+    if word == "other":
+        return graphs.append(Graph())
     if word == "push":
         causes, done = graph.push(packages), f"pushed {packages[0].name}"
-    elif word in ("feature", "all-features", "tracks"):
-        graph.features |= {words[1]} if word == "feature" else set()
-        graph.all_features |= word == "all-features"
-        return None
+    elif word == "merge":
+        other, done = graphs.pop(), "merged"
+        causes = merged(graphs, *merging().merge(graphs[-1], other))
     else:
         package = graph.find(words[1])
         if word == "select":
@@ -844,9 +868,24 @@ def answer(graph, words, packages):
             lines = [f"\n  {side} {it.shown()}" for side, entries in world.lists() for it in entries]
             return {f"world {package.name.id_of(world.name)}" + "".join(lines)}
         exports, done = word == "exportize", "done"
+        if word == "semver":
+            causes = merged(graphs, *merging().merge_by_track(graph, words[1], words[2], graph.tracks))
+            return {f"refused {number} {text}" for number, text in causes} or {done}
         new = words[3] if words[3:] and not (exports and words[3] == "-") else f"{world.name}-{word[:6]}ized"
         causes = graph.turn(package, world, new, exports, words[4:])
     return {f"refused {number} {text}" for number, text in causes} or {done}
+
+
+def merging():
+    import model_merging
+
+    return model_merging
+
+
+def merged(graphs, graph, causes):
+    if not causes:
+        graphs[-1] = graph
+    return causes
 
 
 def answers(text):
@@ -854,8 +893,8 @@ def answers(text):
     commands = commands_of(text)
     if isinstance(commands, int):
         return commands
-    graph = Graph()
-    told = [answer(graph, *it) for it in commands]
+    graphs = [Graph()]
+    told = [answer(graphs, *it) for it in commands]
     return [it for it in told if it is not None]
 
 
