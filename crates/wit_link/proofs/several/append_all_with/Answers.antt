@@ -1,5 +1,9 @@
-use Rattle.std.proofs.Common.{ℕ, IfOk, List, OnOk, Result, Ok, Err}
+use Rattle.std.proofs.Common.{◌∙◌, ℕ, ap, subst, sym, take, IfOk, List, OnErr, OnOk, Result, Ok, Err}
+use Rattle.wit_graph.specs.Elaboration.{graph_uses}
+use Rattle.wit_graph.specs.Valid.{IsValid}
 use Rattle.wit_graph.specs.declared.error_kind.ResolveErrorKind.{ResolveErrorKind}
+use Rattle.wit_placing.specs.Grown.{Grown}
+use Rattle.wit_placing.specs.GrownFacts.{Begins-as, Grown-same}
 use Rattle.wit_link.specs.Several.{ArePushed}
 use Rattle.wit_link.proofs.OneAfterAnother.{never_refused}
 use Rattle.wit_link.proofs.several.append_all_with.Goals as goal
@@ -13,3 +17,31 @@ returns-else-is_err-clause-refuses c =
     λ kind is.
     on_ok (ArePushed c.args.features.now c.args.graph.now c.args.packages c.append_each-added.new.graph) c.append_each-added.result c.append_each-added.ensures.ok
     (λ ids pushed. never_refused c.args.features.now c.args.graph.now c.args.packages c.append_each-added.new.graph ids pushed kind is)
+
+-- after a refusal the graph is cut back to what it was, and so are its rows
+pub returns-then-is_err-clause-valid : goal.returns-then-is_err-clause-valid
+returns-then-is_err-clause-valid c =
+    let back = c.cut.ensures.back c.args.graph.now c.of-mark.ensures c.append_each-added.ensures.grown in
+    subst IsValid (sym back) c.requires.valid
+
+pub returns-then-is_err-clause-grown : goal.returns-then-is_err-clause-grown
+returns-then-is_err-clause-grown c =
+    let back = c.cut.ensures.back c.args.graph.now c.of-mark.ensures c.append_each-added.ensures.grown in
+    subst (Grown c.args.graph.now) (sym back) (Grown-same c.args.graph.now)
+
+pub returns-then-is_err-clause-rows : goal.returns-then-is_err-clause-rows
+returns-then-is_err-clause-rows c =
+    let rows = c.args.elaborator.now in
+    Begins-as rows c.cut-then-is_err.new.self (c.cut-then-is_err.ensures ∙ ap (λ (count : ℕ). take count c.append_each-added.new.elaborator) c.interfaces-rows.ensures ∙ c.append_each-added.ensures.rows)
+
+pub returns-then-is_err-clause-uses : goal.returns-then-is_err-clause-uses
+returns-then-is_err-clause-uses c =
+    let back = c.cut.ensures.back c.args.graph.now c.of-mark.ensures c.append_each-added.ensures.grown in
+    c.cut-then-is_err.ensures ∙ ap (λ (count : ℕ). take count c.append_each-added.new.elaborator) c.interfaces-rows.ensures ∙ c.append_each-added.ensures.rows ∙ c.requires.uses ∙ ap graph_uses (sym back)
+
+on_err : {T E P : Type 0} (r : Result T E) → P → OnErr r P
+on_err (Ok x) p = tt
+on_err (Err e) p = p
+
+pub returns-then-is_err-clause-err : goal.returns-then-is_err-clause-err
+returns-then-is_err-clause-err c = on_err c.append_each-added.result (c.cut.ensures.back c.args.graph.now c.of-mark.ensures c.append_each-added.ensures.grown)
