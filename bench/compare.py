@@ -1,5 +1,5 @@
 #!/usr/bin/env python3
-"""Compares the program with an independent model of the rules (`bench/model.py`) on random scripts.
+"""Compares the program with an independent model of the rules (`bench/model`) on random scripts.
 
     python3 bench/compare.py PATH/TO/witgraph_cases [--first N] [--many N] [--kind KIND]..
     python3 bench/compare.py --stored crates/witgraph_cases/stdin crates/witgraph_cases/stdout
@@ -8,6 +8,9 @@ The program is that of the stored cases, which runs many scripts at once. Script
 one that differs can be made again (`--first N --many 1`). Kinds, by turns where none is named: `mixed`, `chains` of
 uses, `exports` of such chains, `notes` with packages that all have versions, and `broken`, where some lines of a
 script are changed at random. Ends with status 1 where a script is answered otherwise than the model says.
+
+With `--merging` the model understands `other`, `merge` and `semver`, too, and with `--structure` it also compares the
+structures of types that a merge makes one. Random scripts have no such lines, stored ones may.
 """
 import argparse
 import random
@@ -22,7 +25,9 @@ INTERFACES = ["i", "j", "k", "l"]
 WORLDS = ["w", "v", "x", "w-importized", "w-exportized"]
 TYPES = ["t", "u", "r", "s", "o"]
 LABELS = [*TYPES, "f", "g", "p", "lab", "lib"]
-NOTES = ["@since=1.0.0", "@since=0.9.0", "@since=1.1.0", "@unstable=f", "@unstable=g", "@since=2.0.0", "@since=1.0.0-rc.1"]
+# the first are met by every version from 1.0.0 on
+MET_NOTES = ["@since=1.0.0", "@since=0.9.0"]
+NOTES = [*MET_NOTES, "@since=1.1.0", "@unstable=f", "@unstable=g", "@since=2.0.0", "@since=1.0.0-rc.1"]
 SELECTED = ["", " w", " v", " a:p/w", " b:r/v", " a:q/x", " a:p/w@1.0.0", " a:p/q/w", " b:r/w@2.0.0", " W_"]
 KINDS = ["mixed", "chains", "notes", "exports", "broken"]
 
@@ -48,7 +53,7 @@ class Writer:
     def write(self, line):
         """Adds a line to the package, where it is understood."""
         if self.may(self.noted) and not line.startswith("package"):
-            line += " " + self.one(NOTES[:2] if self.kind == "notes" else NOTES)
+            line += " " + self.one(MET_NOTES if self.kind == "notes" else NOTES)
         reader = model.Reader()
         try:
             for it in [*self.block, line]:
@@ -60,6 +65,7 @@ class Writer:
         return True
 
     def type(self, names, depth=0):
+        """The text of a type, written with these names."""
         chance = self.random.random()
         if chance < 0.3 or depth > 2:
             return self.one(["u32", "string", "bool", "u8"])
@@ -67,13 +73,16 @@ class Writer:
             return self.one(names)
         if chance < 0.75 or not names:
             return f"{self.one(['list', 'option', 'future', 'stream'])}<{self.type(names, depth + 1)}>"
-        return self.one(["future", "stream"]) if chance < 0.8 else f"{self.one(['own', 'borrow', 'borrow'])}<{self.one(names)}>"
+        if chance < 0.8:
+            return self.one(["future", "stream"])
+        return f"{self.one(['own', 'borrow', 'borrow'])}<{self.one(names)}>"
 
     def signature(self, names):
         name = self.one(["f", "g", "h", "p", "P"])
         if names and self.may(0.3):
             of = self.one(names)
-            name = self.one([f"[constructor]{of}", *(f"{it}{of}.{name}" for it in ("[method]", "[static]", "[method][get]", "[method][set]", "[static][get]"))])
+            groups = ["[method]", "[static]", "[method][get]", "[method][set]", "[static][get]"]
+            name = self.one([f"[constructor]{of}", *(f"{it}{of}.{name}" for it in groups)])
         elif self.may(0.3):
             name = self.one(["[get]", "[set]", "[get]"]) + name
         parts = ",".join(f"{self.one('xyz')}:{self.type(names)}" for _ in range(self.one([0, 0, 1, 1, 2])))
@@ -84,7 +93,8 @@ class Writer:
         if chance < 0.25:
             return f"resource {name}"
         if chance < 0.35:
-            return f"record {name} " + " ".join(f"{self.one('abc')}:{self.type(names)}" for _ in range(self.one([1, 1, 2])))
+            fields = [f"{self.one('abc')}:{self.type(names)}" for _ in range(self.one([1, 1, 2]))]
+            return " ".join(["record", name, *fields])
         return f"type {name} {self.type(names)}"
 
     def path(self):
@@ -98,7 +108,9 @@ class Writer:
         path, types = self.path()
         if path and ":" in path and self.may(0.02):
             types = TYPES
-        return f"use {path} {self.one(types)}" + (f" {self.one([*TYPES, 'm', 'n'])}" if self.may(0.4) else "") if types else None
+        if not types:
+            return None
+        return f"use {path} {self.one(types)}" + (f" {self.one([*TYPES, 'm', 'n'])}" if self.may(0.4) else "")
 
     def item_line(self):
         path, _ = self.path()
@@ -112,28 +124,39 @@ class Writer:
             return None
         path, names = self.one(of), LABELS
         if path in self.reader.package.worlds:
-            entries = [it for _, entries in self.reader.package.worlds[path].lists() for it in entries]
-            names = [model.groups_of(it.label)[1].partition(".")[0] for it in entries if it.label] or LABELS
-        return f"include {path}" + (f" {self.one(names)}={self.one([*LABELS, 'n1', 'n2', 'n3'])}" if self.may(0.5) else "")
+            labels = [it.label for it in self.reader.package.worlds[path].entries() if it.label]
+            names = [model.groups_of(it)[1].partition(".")[0] for it in labels] or LABELS
+        renames = f" {self.one(names)}={self.one([*LABELS, 'n1', 'n2', 'n3'])}" if self.may(0.5) else ""
+        return f"include {path}{renames}"
 
-    def statement(self, world):
-        """A line of an interface, or of a world."""
+    def interface_line(self):
+        """A line of an interface, None where there is nothing to name."""
         names, chance = list(self.reader.scope.types), self.random.random()
-        if world is None:
-            if self.kind in ("chains", "exports"):
-                chance = 0.3 + chance * 0.45
-            return self.type_line(names) if chance < 0.35 else self.use_line() if chance < 0.8 else f"func {self.signature(names)}"
+        if self.kind in ("chains", "exports"):
+            chance = 0.3 + chance * 0.45
+        if chance < 0.35:
+            return self.type_line(names)
+        return self.use_line() if chance < 0.8 else f"func {self.signature(names)}"
+
+    def world_line(self, world):
+        """A line of a world, None where there is nothing to name."""
+        names, chance = list(self.reader.scope.types), self.random.random()
         if self.kind in ("chains", "exports") and self.may(0.7):
             chance = 0
         if self.kind == "notes":
             chance = self.one([0, 0, 0.9, chance])
         if chance < 0.4:
             return self.item_line()
+        if chance < 0.55:
+            return self.use_line()
         if chance < 0.65:
-            return self.use_line() if chance < 0.55 else self.type_line(names)
-        return f"{self.one(['import-func', 'export-func'])} {self.signature(names)}" if chance < 0.8 else self.include_line(world)
+            return self.type_line(names)
+        if chance < 0.8:
+            return f"{self.one(['import-func', 'export-func'])} {self.signature(names)}"
+        return self.include_line(world)
 
     def package(self, name):
+        """Writes a package, and answers it as it is read."""
         self.block = []
         self.write(f"package {name}")
         scopes = [("interface", it) for it in self.random.sample(INTERFACES, self.random.randint(0, 4))]
@@ -141,13 +164,14 @@ class Writer:
         for word, it in scopes:
             if self.write(f"{word} {it}"):
                 for _ in range(self.random.randint(0, 8 if word == "world" else 5)):
-                    line = self.statement(it if word == "world" else None)
+                    line = self.world_line(it) if word == "world" else self.interface_line()
                     if line:
                         self.write(line)
         self.lines += self.block
         return self.reader.package
 
     def learn(self, package):
+        """Lets later lines name what a package has."""
         for name, interface in package.interfaces.items():
             self.interfaces[package.name.id_of(name)] = list(interface.types)
         self.worlds += [package.name.id_of(it) for it in package.worlds]
@@ -175,12 +199,15 @@ class Writer:
             self.lines = before[3]
 
     def turn(self):
+        """Writes a command that turns a world."""
         package, world = self.one(self.turned)
         if self.may(0.4):
             self.lines.append(f"importize {package} {world}" + self.one(["", " z", " " + self.one(WORLDS)]))
         else:
-            keys = [self.one([*self.interfaces, "t", "f", "lab"]) for _ in range(self.one([0, 1, 2, 3])) if self.interfaces]
-            self.lines.append(" ".join([f"exportize {package} {world}", self.one(["-", "-", "z", self.one(WORLDS)]), *keys]))
+            keys, many = [*self.interfaces, "t", "f", "lab"], self.one([0, 1, 2, 3])
+            keys = [self.one(keys) for _ in range(many if self.interfaces else 0)]
+            name = self.one(["-", "-", "z", self.one(WORLDS)])
+            self.lines.append(" ".join([f"exportize {package} {world} {name}", *keys]))
 
     def script(self):
         for _ in range(self.random.randint(2, 8)):
@@ -192,7 +219,8 @@ class Writer:
                     self.turn()
         for package in sorted({str(it) for it, _ in self.turned}):
             worlds = [it for of, it in self.turned if str(of) == package]
-            self.lines += [f"print {package} {it}" for it in [*worlds, "z", *(f"{it}-{self.one(['im', 'ex'])}portized" for it in worlds)]]
+            turned = [f"{it}-{self.one(['im', 'ex'])}portized" for it in worlds]
+            self.lines += [f"print {package} {it}" for it in [*worlds, "z", *turned]]
             if self.may(0.3):
                 self.lines.append(f"select {package}" + self.one(SELECTED))
         if self.kind == "broken":
@@ -200,45 +228,59 @@ class Writer:
         return "\n".join(self.lines) + "\n"
 
     def break_lines(self):
+        """Changes some lines, mostly so that they aren't understood."""
         for _ in range(self.one([0, 1, 1, 2]) if self.lines else 0):
             at = self.random.randrange(len(self.lines))
             words = self.lines[at].split(" ")
             word = self.random.randrange(len(words))
             text = words[word]
             place = self.random.randrange(len(text) + 1)
-            changed = [text[:place] + text[place + 1 :], text[:place] + self.one("aB1-.@:/[](),<># ") + text[place:], self.one(self.lines).split(" ")[-1]]
-            words[word] = self.one(changed)
-            self.lines[at : at + 1] = self.one([[" ".join(words)]] * 6 + [[], [self.lines[at]] * 2, [" " + self.lines[at] + " "], ["", self.lines[at], "# a note"]])
+            less, more = text[:place] + text[place + 1 :], text[:place] + self.one("aB1-.@:/[](),<># ") + text[place:]
+            words[word] = self.one([less, more, self.one(self.lines).split(" ")[-1]])
+            line, changed = self.lines[at], [" ".join(words)]
+            others = [[], [line, line], [f" {line} "], ["", line, "# a note"]]
+            self.lines[at : at + 1] = self.one([changed] * 6 + others)
 
 
 def cases_of(text):
+    """The cases of a text by their names."""
     return {it.partition("\n")[0]: it.partition("\n")[2] for it in text.split("=== ")[1:]}
 
 
-def compared(scripts, printed):
-    differ = [name for name, script in scripts.items() if not model.is_right(script, printed.get(name, ""))]
+def compared(scripts, printed, rules):
+    """Shows which scripts are answered otherwise, the first of them with what they print."""
+    differ = [name for name, script in scripts.items() if not model.is_right(script, printed.get(name, ""), rules)]
     for name in differ[:5]:
-        print(f"{name} differs\n{scripts[name]}--- may print\n{model.answers(scripts[name])}\n--- prints\n{printed.get(name, '')}")
+        print(f"{name} differs\n{scripts[name]}--- may print\n{model.answers(scripts[name], rules)}")
+        print(f"--- prints\n{printed.get(name, '')}")
     print(f"{len(scripts)} scripts, {len(differ)} differ")
     return 1 if differ else 0
+
+
+def read(path):
+    with open(path, encoding="utf-8") as file:
+        return file.read()
 
 
 def main():
     parser = argparse.ArgumentParser()
     parser.add_argument("files", nargs="+")
     parser.add_argument("--stored", action="store_true")
+    parser.add_argument("--merging", action="store_true")
+    parser.add_argument("--structure", action="store_true")
     parser.add_argument("--first", type=int, default=1)
     parser.add_argument("--many", type=int, default=1000)
     parser.add_argument("--kind", action="append", choices=KINDS)
     asked = parser.parse_args()
+    rules = model.Rules(merging=asked.merging or asked.structure, by_structure=asked.structure)
     if asked.stored:
-        stdin, stdout = (cases_of(open(it, encoding="utf-8").read()) for it in asked.files)
-        return compared(stdin, stdout)
+        stdin, stdout = (cases_of(read(it)) for it in asked.files)
+        return compared(stdin, stdout, rules)
     numbers = range(asked.first, asked.first + asked.many)
     scripts = {str(it): Writer(it, asked.kind or KINDS).script() for it in numbers}
     given = "".join(f"=== {name}\n{script}" for name, script in scripts.items())
     ran = subprocess.run(asked.files, input=given, stdout=subprocess.PIPE, encoding="utf-8", check=True)
-    return compared(scripts, cases_of(ran.stdout))
+    return compared(scripts, cases_of(ran.stdout), rules)
 
 
 if __name__ == "__main__":

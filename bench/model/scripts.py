@@ -1,0 +1,151 @@
+"""Scripts: their commands, and what each may print."""
+from dataclasses import dataclass
+
+from .graph import Graph
+from .merging import merge
+from .names import NotUnderstood, PackageName, need
+from .reader import Reader
+from .tracks import merge_by_track
+
+# of each command how many words it takes
+COMMANDS = {
+    "feature": (1, 1),
+    "all-features": (0, 0),
+    "push": (0, 0),
+    "importize": (2, 3),
+    "exportize": (3, 10**9),
+    "print": (2, 2),
+    "select": (1, 2),
+    "tracks": (1, 1),
+}
+MERGING = {"other": (0, 0), "merge": (0, 0), "semver": (2, 2)}
+# whose first word is the name of a package
+OF_PACKAGES = {"importize", "exportize", "print", "select", "semver"}
+
+
+@dataclass(frozen=True)
+class Rules:
+    """Whether scripts take merges, and whether types that are to be one are then compared by their structures."""
+
+    merging: bool = False
+    by_structure: bool = False
+
+
+def commands_of(text, rules):
+    """The commands with their packages; or the number of the first line that isn't understood."""
+    reader, commands, last, is_other = Reader(), [], 0, False
+    known = COMMANDS | (MERGING if rules.merging else {})
+    for number, line in enumerate(text.split("\n"), 1):
+        words = [it for it in line.split(" ") if it]
+        if not words or words[0].startswith("#"):
+            continue
+        last = number
+        try:
+            if words[0] not in known:
+                reader.line(words)
+                continue
+            if words[0] in ("other", "merge"):
+                need(is_other == (words[0] == "merge"))
+                is_other = not is_other
+            commands.append((read_command(words, known[words[0]], reader.packages), reader.packages))
+            reader = Reader()
+        except NotUnderstood:
+            return number
+    return last if reader.packages or is_other else commands
+
+
+def read_command(words, counts, packages):
+    """The words of a command that ends these packages, the name of a package being read."""
+    least, most = counts
+    need(least <= len(words) - 1 <= most)
+    need(bool(packages) == (words[0] == "push") and all(it.is_shaped() for it in packages))
+    need(words[0] != "tracks" or words[1] in ("published", "with-prereleases"))
+    return [words[0], PackageName.read(words[1]), *words[2:]] if words[0] in OF_PACKAGES else words
+
+
+def told(causes, done):
+    """What may be printed: one of the causes, where there are some."""
+    return {f"refused {number} {text}" for number, text in causes} or {done}
+
+
+class Session:
+    """The graphs of a script. A command works on the last of them."""
+
+    def __init__(self, rules):
+        self.rules, self.graphs = rules, [Graph()]
+
+    def answer(self, words, packages):
+        """The texts that a command may print, None where it prints nothing."""
+        graph = self.graphs[-1]
+        match words:
+            case ["feature", name]:
+                graph.features.add(name)
+            case ["all-features"]:
+                graph.all_features = True
+            case ["tracks", rule]:
+                graph.tracks = rule
+            case ["other"]:
+                self.graphs.append(Graph())
+            case ["push"]:
+                return told(graph.push(packages), f"pushed {packages[0].name}")
+            case ["merge"]:
+                other = self.graphs.pop()
+                return self.merged(merge(self.graphs[-1], other, self.rules.by_structure), "merged")
+            case ["select", name, *path]:
+                package = graph.find(name)
+                return {graph.select(package, *path) if package else "no package"}
+            case [word, name, world, *rest]:
+                package = graph.find(name)
+                if package is None or world not in package.worlds:
+                    return {"no world"}
+                return self.answer_of(word, package, package.worlds[world], rest)
+        return None
+
+    def answer_of(self, word, package, world, rest):
+        """The texts that a command may print that is asked of a world."""
+        graph = self.graphs[-1]
+        if word == "print":
+            return {shown(package, world)}
+        if word == "semver":
+            return self.merged(merge_by_track(graph, package.name, world.name, graph.tracks), "done")
+        exports, new = word == "exportize", f"{world.name}-{word.removesuffix('ize')}ized"
+        if rest and not (exports and rest[0] == "-"):
+            new = rest[0]
+        return told(graph.turn(package, world, new, exports, rest[1:]), "done")
+
+    def merged(self, made, done):
+        """Takes the graph that was made, where nothing speaks against it."""
+        graph, causes = made
+        if not causes:
+            self.graphs[-1] = graph
+        return told(causes, done)
+
+
+def shown(package, world):
+    """What `print` prints."""
+    lines = [f"\n  {side} {it.shown()}" for side, entries in world.lists() for it in entries]
+    return f"world {package.name.id_of(world.name)}" + "".join(lines)
+
+
+def answers(text, rules=Rules()):
+    """What each command of a script may print; or the number of the first line that isn't understood."""
+    commands = commands_of(text, rules)
+    if isinstance(commands, int):
+        return commands
+    session = Session(rules)
+    texts = [session.answer(*it) for it in commands]
+    return [it for it in texts if it is not None]
+
+
+def is_right(text, printed, rules=Rules()):
+    """Whether a program may print this for a script."""
+    may_print = answers(text, rules)
+    if isinstance(may_print, int):
+        return printed == f"line {may_print}: not understood\n"
+    for texts in may_print:
+        # (of two texts of which one begins the other, the longer one was meant)
+        said = max((it for it in texts if printed.startswith(it + "\n")), key=len, default=None)
+        if said is None:
+            return False
+        printed = printed[len(said) + 1 :]
+    return not printed
