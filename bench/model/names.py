@@ -63,7 +63,7 @@ class PackageName:
 def read_use_path(text):
     """The package and the name of `ns:pkg/name[@version]`, None for the package of a name alone."""
     found = PATH.fullmatch(text)
-    need(found and (found[1] is not None or found[4] is None))
+    need(found and (found[1] is not None or found[4] is None) and found[4] != "")
     need(all(KEBAB.fullmatch(it) for it in (found[1], found[2], found[3]) if it is not None))
     if found[1] is None:
         return None, found[3]
