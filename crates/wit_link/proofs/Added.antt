@@ -1,5 +1,5 @@
 -- An addition that passes each of its steps is accepted.
-use Rattle.std.proofs.Common.{◌≡◌, ◌≢◌, ◌∙◌, ◌⊎◌, inl, inr, ℕ, ◌+◌, ◌<◌, ◌^◌, zero, suc, true, false, List, [], ◌∷◌, Option, None, Some, unwrap_or, length, map, slice_get, refl, sym, ap, subst, is_some, arith, Contains}
+use Rattle.std.proofs.Common.{◌≡◌, ◌∙◌, ◌⊎◌, inl, inr, ℕ, ◌<◌, ◌^◌, suc, true, false, List, [], ◌∷◌, Option, None, Some, unwrap_or, length, map, slice_get, refl, sym, ap, subst, is_some, arith, Contains}
 use Rattle.std.proofs.lemmas.List.FromFn.{get_or-map-range_with_len, length-map-range_with_len}
 use Rattle.std.proofs.lemmas.Option.{slice_get-get_or, slice_get_within}
 use Rattle.std.specs.Map.{lookup}
@@ -21,7 +21,7 @@ use Rattle.wit_adding.specs.Gates.{include_is_active}
 use Rattle.wit_adding.specs.Pushed.{pushed}
 use Rattle.wit_adding.specs.WorldReasons.{WorldIsFine}
 use Rattle.wit_adding.specs.Passed.{has_image}
-use Rattle.wit_adding.specs.Reasons.{HasImage, HasPackage, PassesTheEnd}
+use Rattle.wit_adding.specs.Reasons.{HasImage, HasPackage}
 use Rattle.wit_adding.specs.OwnThingFacts.{own_world_from}
 use Rattle.wit_including.specs.AdditionFacts.{placed_include, placed_includes}
 use Rattle.wit_placing.specs.Added.{added_world}

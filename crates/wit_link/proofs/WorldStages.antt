@@ -1,11 +1,9 @@
 -- The worlds of an addition, one after another: each is ready when its turn comes, and leads to the next stage.
-use Rattle.std.proofs.Common.{◌≡◌, ◌∙◌, ◌⊎◌, inl, inr, ℕ, ◌+◌, ◌<◌, ◌≤◌, zero, suc, List, [], ◌∷◌, ◌++◌, map, filter, fold, length, take, Option, None, Some, slice_get, refl, sym, ap, subst, arith, below_more}
+use Rattle.std.proofs.Common.{◌≡◌, ◌∙◌, ◌⊎◌, inl, inr, ℕ, ◌+◌, ◌<◌, ◌≤◌, zero, suc, List, [], ◌∷◌, ◌++◌, fold, length, take, Some, slice_get, refl, sym, ap, subst, arith, below_more}
 use Rattle.std.proofs.lemmas.Bool.{cases_lt}
 use Rattle.std.proofs.lemmas.List.{length-map, length_push}
 use Rattle.std.proofs.lemmas.Option.{slice_get_within}
-use Rattle.std.specs.List.{range_with_len}
 use Rattle.wit_values.specs.Lists.{slice_get-behind}
-use Rattle.wit_sources.specs.Span.{moved_by}
 use Rattle.wit_items.specs.Shape.{IsShaped}
 use Rattle.wit_items.specs.declared.world.World.{World}
 use Rattle.wit_items.specs.declared.world.WorldInclude.{WorldInclude}
@@ -19,7 +17,7 @@ use Rattle.wit_adding.specs.Cause.{IsCause, IsReached}
 use Rattle.wit_adding.specs.Include.{Lists}
 use Rattle.wit_adding.specs.Pushed.{pushed, with_parts, with_world, with_worlds}
 use Rattle.wit_adding.specs.Reasons.{HasImage}
-use Rattle.wit_adding.specs.WorldReasons.{AtWorld, HaveLists, IncludeIsFine, WorldIsFine, made, written}
+use Rattle.wit_adding.specs.WorldReasons.{AtWorld, HaveLists, WorldIsFine, made, written}
 use Rattle.wit_adding_laws.specs.StageFacts.{IncludedAreThere, IncludesCanBe, WorldsCanBe}
 use Rattle.wit_including.specs.AdditionFacts.{home, image_at, next_stage, placed_includes, reached_fine, world_cause}
 use Rattle.wit_including.specs.Included as local

@@ -9,7 +9,6 @@ use Rattle.wit_graph.specs.AnswerFacts.{told_err}
 use Rattle.wit_graph.specs.Valid.{IsValid}
 use Rattle.wit_graph.specs.declared.error_kind.ResolveErrorKind.{ResolveErrorKind}
 use Rattle.wit_graph.specs.declared.error_kind.ResolveErrorKind.TheVariants.{OutOfMemory}
-use Rattle.wit_graph.specs.declared.graph.Graph.{Graph}
 use Rattle.wit_adding.specs.Cause.{IsCause}
 use Rattle.wit_including.specs.Included as local
 use Rattle.wit_including.specs.RowsFacts.{rows_of_valid}

@@ -1,4 +1,4 @@
-use Rattle.std.proofs.Common.{rules, ◌≡◌, ◌∙◌, IfOk, List, Ok, Err, Result, ap, map}
+use Rattle.std.proofs.Common.{◌≡◌, ◌∙◌, IfOk, List, Ok, Err, Result, ap, map}
 use Rattle.wit_adding.specs.Adding.{places_of}
 use Rattle.wit_adding.specs.declared.adding.Places.{Places}
 use Rattle.wit_placing.specs.declared.worlds.PlacedWorld.{PlacedWorld}

@@ -1,5 +1,4 @@
-use Rattle.std.proofs.Common.{◌≡◌, ◌++◌, map}
-use Rattle.std.specs.Vec.Iter.{into_iter_items}
+use Rattle.std.proofs.Common.{◌≡◌, map}
 use Rattle.wit_link.specs.Including.{world_with}
 use Rattle.wit_link.proofs.including.place_includes.Given as goal
 

@@ -1,7 +1,6 @@
 use Rattle.std.proofs.Common.{◌∙◌, ℕ, ap, subst, sym, take, IfOk, List, OnErr, OnOk, Result, Ok, Err}
 use Rattle.wit_graph.specs.Elaboration.{graph_uses}
 use Rattle.wit_graph.specs.Valid.{IsValid}
-use Rattle.wit_graph.specs.declared.error_kind.ResolveErrorKind.{ResolveErrorKind}
 use Rattle.wit_placing.specs.Grown.{Grown}
 use Rattle.wit_placing.specs.GrownFacts.{Begins-as, Grown-same}
 use Rattle.wit_link.specs.Several.{ArePushed}
