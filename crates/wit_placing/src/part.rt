@@ -134,7 +134,6 @@ pub(crate) fn taken_places<S, T: Drop>(
     ensures { IfOk result (λ taken. taken ≡ taken_places (is_new first.now places.now) items) }
 {
     let mut taken = Items::new(alloc);
-    taken.reserve(items.len())?;
     for (index, item) in items.into_vec().into_iter().enumerate() {
         if is_new(places, first, index) {
             taken.push((index, item))?;

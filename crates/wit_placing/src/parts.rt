@@ -66,7 +66,6 @@ fn placed_types(
     ensures { IfOk result (λ placed. placed ≡ map (λ e. type_image (maps_of mover.now) e.1) types) }
 {
     let mut placed = Items::new(alloc);
-    placed.reserve(types.len())?;
     for item in types.into_vec() {
         let (_, mut ty) = item;
         ty.place(mover);
@@ -110,7 +109,6 @@ fn placed_interfaces(
     ensures { IfOk result (λ placed. placed ≡ map (λ e. interface_image (maps_of mover.now) (cut_interface (kept_of part.now) e.1)) interfaces) }
 {
     let mut placed = Items::new(alloc);
-    placed.reserve(interfaces.len())?;
     for item in interfaces.into_vec() {
         let (_, mut interface) = item;
         part.cut_interface(&mut interface);

@@ -17,7 +17,7 @@ loop-item-init c =
     let f = λ (e : ℕ × TypeDef). type_image (maps_of c.args.mover.now) e.1 in
     let whole : into_iter_items c.into_iter-item-iterator.result ≡ c.args.types = c.into_iter-item-iterator.ensures.into_iter_gives.0 ∙ c.into_vec-item-items.ensures in
     record {
-      all = rw (c.reserve.ensures.same ∙ c.new-placed.ensures) (ap (map f) whole);
+      all = rw c.new-placed.ensures (ap (map f) whole);
       fits = λ i x at. c.requires i x (ap (λ (l : List (ℕ × TypeDef)). slice_get l i) (sym whole) ∙ at);
     }
 
