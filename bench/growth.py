@@ -14,7 +14,7 @@ import tempfile
 import time
 
 # sizes other than 1,000, 10,000 and 100,000
-SIZES = {"pushes": [1000, 10000]}
+SIZES = {"pushes": [1000, 10000, 30000]}
 
 
 def chain(size):
