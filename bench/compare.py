@@ -100,6 +100,8 @@ class Writer:
     def path(self):
         """A path of an interface, and its types."""
         own = self.reader.package.interfaces
+        if self.may(0.01):
+            return "c:q/i", TYPES  # which is nowhere
         if self.interfaces and (not own or self.may(self.foreign)):
             return self.one(list(self.interfaces.items()))
         return self.one([(name, list(it.types)) for name, it in own.items()]) if own else (None, [])
