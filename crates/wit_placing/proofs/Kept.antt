@@ -2,6 +2,7 @@
 use Rattle.std.proofs.Common.{◌≡◌, ◌∙◌, ℕ, zero, suc, ◌+◌, Bool, true, false, cond, List, [], ◌∷◌, ◌++◌, map, filter, slice_get, Some, refl, ap, subst, sym, append_assoc}
 use Rattle.std.specs.List.{enumerate_from}
 use Rattle.wit_items.specs.Each.{Each}
+use Rattle.wit_adding.specs.Ranks.{taken}
 
 module _ {X : Type 0} (P : X → Type 0) (kept : X → Bool) where
   pub Each-filter : (xs : List X) → Each P xs → Each P (filter kept xs)
@@ -37,3 +38,13 @@ module _ {X Y : Type 0} (f : X → Y) where
 pub map-pairs : {A X Y : Type 0} (f : X → Y) (es : List (A × X)) → map (λ (e : A × X). f e.1) es ≡ map f (map (λ (e : A × X). e.1) es)
 map-pairs f [] = refl
 map-pairs {A} {X} f (e ∷ es) = ap (λ l. f e.1 ∷ l) (map-pairs {A = A} f es)
+
+module _ {X : Type 0} (P : X → Type 0) where
+  Each-seconds : (es : List (ℕ × X)) → Each (λ (e : ℕ × X). P e.1) es → Each P (map (λ (e : ℕ × X). e.1) es)
+  Each-seconds [] each i x at = cc
+  Each-seconds (e ∷ es) each zero x at = let same : e.1 ≡ x = cc in subst P same (each zero e refl)
+  Each-seconds (e ∷ es) each (suc i) x at = Each-seconds es (λ j. each (suc j)) i x at
+
+  -- and of what is taken
+  pub Each-taken : (kept : ℕ → Bool) (xs : List X) → Each P xs → Each P (taken kept xs)
+  Each-taken kept xs each = Each-seconds (filter (λ e. kept e.0) (enumerate_from 0 xs)) (Each-filter (λ (e : ℕ × X). P e.1) (λ e. kept e.0) (enumerate_from 0 xs) (Each-enumerated P 0 xs each))

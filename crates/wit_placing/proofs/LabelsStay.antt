@@ -1,5 +1,5 @@
 -- In an addition labels stay, and so do the names of types.
-use Rattle.std.proofs.Common.{◌≡◌, ℕ, List, Option, None, Some, option_map, refl, sym, ap}
+use Rattle.std.proofs.Common.{◌≡◌, ◌∙◌, ℕ, List, [], ◌∷◌, map, Option, None, Some, option_map, refl, sym, ap}
 use Rattle.wit_items.specs.declared.types.TypeDef.{TypeDef}
 use Rattle.wit_items.specs.declared.types.TypeOwner.{TypeOwner}
 use Rattle.wit_items.specs.declared.types.TypeOwner.TheVariants as owner
@@ -15,3 +15,7 @@ same_name m owner.None (Some name) = refl
 
 pub name_stays : (m : Mover) (def : TypeDef) → record (type_image (maps_of m) def) { name = def.name } ≡ type_image (maps_of m) def
 name_stays m def = ap (λ (n : Option (List ℕ)). let new : TypeDef = record (type_image (maps_of m) def) { name = n } in new) (sym (same_name m def.owner def.name))
+
+pub names_stay : (m : Mover) (defs : List TypeDef) → map (λ (def : TypeDef). let new : TypeDef = record (type_image (maps_of m) def) { name = def.name } in new) defs ≡ map (type_image (maps_of m)) defs
+names_stay m [] = refl
+names_stay m (def ∷ defs) = ap (λ (d : TypeDef). d ∷ map (λ (def : TypeDef). let new : TypeDef = record (type_image (maps_of m) def) { name = def.name } in new) defs) (name_stays m def) ∙ ap (λ l. type_image (maps_of m) def ∷ l) (names_stay m defs)

@@ -10,4 +10,5 @@ pub mod Places
 pub mod Ready
 pub mod Rows
 pub mod SpansFit
+pub mod Turns
 pub mod WhereNew

@@ -1,9 +1,11 @@
 //! What of a package takes part, and what of that is its own.
-ghost use Rattle.std.specs.Prelude.{◌≡◌, IfOk, filter};
+ghost use Rattle.std.specs.Prelude.{◌≡◌, IfOk, drop, filter, slice_get};
+ghost use Rattle.std.specs.Option.{option_copied};
+ghost use Rattle.std.specs.Slice.Iter.{iter_rest};
 ghost use Rattle.wit_adding.specs.Gates.{include_is_active, is_active};
-ghost use Rattle.wit_adding.specs.Ranks.{taken_places};
+ghost use Rattle.wit_adding.specs.Ranks.{taken, taken_places};
 ghost use Rattle.wit_growth.specs.Cut.{cut_interface};
-ghost use Rattle.wit_placing.specs.Parts.{is_new, kept_of};
+ghost use Rattle.wit_placing.specs.Parts.{is_from, is_new, kept_of};
 
 use std::alloc::{AllocError, Global};
 use std::mem;
@@ -114,14 +116,40 @@ impl<'a> Part<'a> {
     }
 }
 
+/// Whether where a thing goes is an id from the first one on.
+fn is_from<S>(place: Option<&Option<Id<S>>>, first: &Id<S>) -> bool
+    ensures { result ≡ is_from first.now (option_copied place.entry) }
+{
+    match place {
+        Some(Some(id)) => first <= id,
+        _ => false,
+    }
+}
+
 /// Whether what stands at a place goes to an id that isn't there yet.
 fn is_new<S>(places: &[Option<Id<S>>], first: &Id<S>, index: usize) -> bool
     ensures { result ≡ is_new first.now places.now index }
 {
-    match places.get(index) {
-        Some(Some(id)) => first <= id,
-        _ => false,
-    }
+    is_from(places.get(index), first)
+}
+
+/// What goes to ids from the first one on.
+pub(crate) fn taken<S, T: Drop>(
+    items: Items<T>,
+    places: &[Option<Id<S>>],
+    first: &Id<S>,
+) -> Items<T>
+    ensures { result ≡ taken (is_new first.now places.now) items }
+{
+    let mut items = items.into_vec();
+    let mut places = places.iter();
+    items.retain(
+        move |_item: &T| -> bool
+            ensures answer { result ≡ is_from first.entry.now (slice_get (iter_rest places.entry) 0) }
+            ensures rest { iter_rest places.exit ≡ drop 1 (iter_rest places.entry) }
+        { is_from(places.next(), first) },
+    );
+    Items::from_vec(items)
 }
 
 /// What goes to ids from the first one on, each with its place.

@@ -22,7 +22,7 @@ ghost use Rattle.wit_placing.specs.Tables.{interfaces_at};
 ghost use Rattle.wit_placing.specs.Worlds.{placed_world};
 
 use crate::mover::Mover;
-use crate::part::{Part, taken_places};
+use crate::part::{Part, taken, taken_places};
 use crate::place::Place;
 use crate::tables::{interface_table, world_table};
 use crate::worlds::{PlacedWorld, placed_worlds};
@@ -38,7 +38,6 @@ use wit_items::{
 /// Adds the types of a package that are its own, at their places, and the `own`s. Where there is no memory some of
 /// them may be there.
 fn add_types(
-    alloc: Global,
     graph: &mut Graph,
     mover: &Mover<'_>,
     types: Items<TypeDef>,
@@ -49,29 +48,11 @@ fn add_types(
     ensures grown { Grown graph.old graph.new }
 {
     let first = TypeId::from_index(graph.types.len());
-    let own = taken_places(alloc, types, mover.places.types.as_slice(), &first)?;
-    let mut placed = placed_types(alloc, mover, own)?;
-    placed.append(owns)?;
-    graph.types.append(placed)?;
+    let mut own = taken(types, mover.places.types.as_slice(), &first);
+    own.place(mover);
+    own.append(owns)?;
+    graph.types.append(own)?;
     Ok(())
-}
-
-/// Types at their places.
-fn placed_types(
-    alloc: Global,
-    mover: &Mover<'_>,
-    types: Items<(usize, TypeDef)>,
-) -> Result<Items<TypeDef>, AllocError>
-    requires { Each (λ e. TypeFits (Fits mover.now.offset) e.1) types }
-    ensures { IfOk result (λ placed. placed ≡ map (λ e. type_image (maps_of mover.now) e.1) types) }
-{
-    let mut placed = Items::new(alloc);
-    for item in types.into_vec() {
-        let (_, mut ty) = item;
-        ty.place(mover);
-        placed.push(ty)?;
-    }
-    Ok(placed)
 }
 
 /// Adds the interfaces of a package that are its own, of each what takes part, at their places, and answers the
@@ -175,7 +156,7 @@ fn move_parts(
 {
     let mut handed = handed;
     let types = mem::replace(&mut handed.types, Items::new(alloc));
-    add_types(alloc, graph, mover, types, owns)?;
+    add_types(graph, mover, types, owns)?;
     let worlds = mem::replace(&mut handed.worlds, Items::new(alloc));
     let first = WorldId::from_index(graph.worlds.len());
     let own = taken_places(alloc, worlds, mover.places.worlds.as_slice(), &first)?;

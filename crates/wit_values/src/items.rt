@@ -97,13 +97,18 @@ impl<T> Items<T> {
         self.inner.reserve(additional)
     }
 
-    /// Moves the items of another list to the end. Where there is no memory the list is as before.
+    /// Moves the items of another list to the end; an empty list takes the other as it is. Where there is no memory
+    /// the list is as before.
     pub fn append(&mut self, other: Items<T>) -> Result<(), AllocError>
     where
         T: Drop,
         ensures ok { OnOk result (self.new ≡ self.old ++ other) }
         ensures err { OnErr result (self.new ≡ self.old) }
     {
+        if self.inner.is_empty() {
+            *self = other;
+            return Ok(());
+        }
         let mut items = other.inner;
         self.inner.append(&mut items)
     }
