@@ -58,13 +58,13 @@ impl Marks {
         ensures nodes { IfOk result (λ marks. HaveNodes marks interfaces) }
         ensures none { IfOk result (λ marks. (marks.walked.order ≡ []) × (marks.exported.order ≡ []) × (marks.reaching.order ≡ []) × (marks.outside.order ≡ []) × (marks.leading.order ≡ [])) }
     {
-        Ok(Marks {
-            walked: Listing::new(alloc, interfaces)?,
-            exported: Listing::new(alloc, interfaces)?,
-            reaching: Listing::new(alloc, interfaces)?,
-            outside: Listing::new(alloc, interfaces)?,
-            leading: Listing::new(alloc, interfaces)?,
-        })
+        let mut marks = Marks::empty(alloc);
+        marks.walked = Listing::new(alloc, interfaces)?;
+        marks.exported = Listing::new(alloc, interfaces)?;
+        marks.reaching = Listing::new(alloc, interfaces)?;
+        marks.outside = Listing::new(alloc, interfaces)?;
+        marks.leading = Listing::new(alloc, interfaces)?;
+        Ok(marks)
     }
 
     /// One interface more, which isn't marked for anything. Where there is no memory, it may be there for some marks.
