@@ -13,8 +13,8 @@ use Rattle.wit_items.specs.declared.world.WorldKey.{WorldKey}
 use Rattle.wit_items.specs.declared.world.WorldKey.TheVariants as key
 use Rattle.wit_values.specs.Table.{HasDistinctKeys}
 use Rattle.wit_graph.proofs.Filters.{Contains-filter}
-use Rattle.wit_graph.specs.Listed.{IsListed}
-use Rattle.wit_graph.specs.ListedFacts.{IsListed-of_world}
+use Rattle.wit_graph.specs.Sound.{HasSoundEntries}
+use Rattle.wit_graph.specs.SoundFacts.{HasSoundEntries-of_world}
 use Rattle.wit_graph.specs.Valid.{IsValid}
 use Rattle.wit_growth.specs.Cut.{ItemIsKept, cut_world}
 use Rattle.wit_growth.specs.CutIsGood.{distinct_kept}
@@ -169,13 +169,13 @@ module _ (a : Addition) (valid : IsValid a.graph) (shaped : IsShaped a.handed) (
         let takes = export_takes a shaped image w whole of from.0 from.1 in
         subst (λ (d : Entry). IsExport interfaces d.0 d.1) from.2 (export_goes w from.0.0 from.0.1 takes.1 (was_export a shaped image w whole of from.0 takes.0))
 
-    pub is_listed : IsListed types (length interfaces) (listed_own a w whole).imports (listed_own a w whole).exports
-    is_listed = IsListed-of_world types interfaces (aliases_named a valid shaped image types interfaces are) (world_place a w) (listed_own a w whole) listed_imports listed_exports
+    pub is_listed : HasSoundEntries types (length interfaces) (listed_own a w whole).imports (listed_own a w whole).exports
+    is_listed = HasSoundEntries-of_world types interfaces (aliases_named a valid shaped image types interfaces are) (world_place a w) (listed_own a w whole) listed_imports listed_exports
 
   -- the keys and ids of each world that takes part are in order before it is elaborated
   pub listed_worlds : (k : ℕ) (e : ℕ × World) → slice_get (own_worlds a) k ≡ Some e
-      → IsListed types (length interfaces) (with_placed (world_image (addition_maps a) e.0 e.1)).imports (with_placed (world_image (addition_maps a) e.0 e.1)).exports
+      → HasSoundEntries types (length interfaces) (with_placed (world_image (addition_maps a) e.0 e.1)).imports (with_placed (world_image (addition_maps a) e.0 e.1)).exports
   listed_worlds k e at =
       let is = own_world_from a k e at in
-      subst (λ (world : World). IsListed types (length interfaces) (with_placed (world_image (addition_maps a) e.0 world)).imports (with_placed (world_image (addition_maps a) e.0 world)).exports) is.is
+      subst (λ (world : World). HasSoundEntries types (length interfaces) (with_placed (world_image (addition_maps a) e.0 world)).imports (with_placed (world_image (addition_maps a) e.0 world)).exports) is.is
       (is_listed e.0 is.world (record { there = is.there; takes = is.own }))

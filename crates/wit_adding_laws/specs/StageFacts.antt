@@ -9,7 +9,7 @@ use Rattle.wit_items.specs.declared.types.TypeDef.{TypeDef}
 use Rattle.wit_items.specs.declared.world.World.{World}
 use Rattle.wit_items.specs.declared.world.WorldInclude.{WorldInclude}
 use Rattle.wit_graph.specs.Elaboration.{graph_uses}
-use Rattle.wit_graph.specs.Listed.{IsListed}
+use Rattle.wit_graph.specs.Sound.{HasSoundEntries}
 use Rattle.wit_graph.specs.Valid.{IsValid}
 use Rattle.wit_graph.specs.declared.graph.Graph.{Graph}
 use Rattle.wit_growth.specs.Good.{IsGoodInterface, IsGoodWorld}
@@ -48,7 +48,7 @@ IncludedAreThere = (a : Addition) (k j : ℕ) → IsValid a.graph → IsShaped a
 -- what is begun of a world can be finished: the graph is on its way, and the keys and ids of the lists are in order
 pub record CanFinishBegun (b : Begun) : Type 0 where
   pub graph : IsOnItsWay b.graph
-  pub listed : IsListed b.graph.types (length b.graph.interfaces) (placed b.lists.imports) (placed b.lists.exports)
+  pub listed : HasSoundEntries b.graph.types (length b.graph.interfaces) (placed b.lists.imports) (placed b.lists.exports)
 
 -- before each world that is reached is finished, where its includes are fine
 abbrev pub WorldsCanBe : Type 0

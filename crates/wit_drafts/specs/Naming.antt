@@ -1,5 +1,5 @@
 -- What the names in the lines of a package name.
-use Rattle.std.specs.Prelude.{ℕ, ◌-◌, ◌==◌, Bool, false, List, length, nat_eq, slice_get, Option, Some, None, option_and_then, if◌then◌else◌}
+use Rattle.std.specs.Prelude.{ℕ, ◌-◌, ◌==◌, List, length, slice_get, Option, Some, None, option_and_then, if◌then◌else◌}
 use Rattle.std.specs.Map.{lookup}
 use Rattle.std.specs.Option.{option_map}
 use Rattle.std.specs.Str.{bytes_eq}
@@ -16,16 +16,13 @@ use Rattle.wit_items.specs.declared.use_path.ParsedUsePath.TheVariants as path
 use Rattle.wit_items.specs.declared.world.World.{World}
 use Rattle.wit_items.specs.declared.world.WorldItem.{WorldItem}
 use Rattle.wit_items.specs.declared.world.WorldItem.TheVariants as item
-use Rattle.wit_items.specs.declared.world.WorldKey.{WorldKey}
 use Rattle.wit_items.specs.declared.world.WorldKey.TheVariants as key
+pub use Rattle.wit_items.specs.WorldKeyFacts.{same_key}
+pub use Rattle.wit_sources.specs.Span.{Place}
 use Rattle.wit_lines.specs.Token.{primitive_of}
 use Rattle.wit_drafts.specs.declared.draft.Draft.{Draft}
 use Rattle.wit_drafts.specs.declared.draft.Scope.{Scope}
 use Rattle.wit_drafts.specs.declared.draft.Scope.TheVariants as scope
-
--- a span as contracts see it: its start and its end, or None where it is unknown
-abbrev pub Place : Type 0
-Place = Option (ℕ × ℕ)
 
 -- the place before so many
 abbrev pub last_place : ℕ → Option ℕ
@@ -56,13 +53,6 @@ type_at p name at = option_and_then (λ (interface : Interface). lookup (bytes_e
 -- the earlier type of this name in the interface into which lines go
 abbrev pub interface_type : Draft → List ℕ → Option ℕ
 interface_type p name = option_and_then (type_at p name) (open_interface p)
-
--- two keys are the same
-abbrev pub same_key : WorldKey → WorldKey → Bool
-same_key (key.Name label) (key.Name other) = bytes_eq label other
-same_key (key.Name label) (key.Interface j) = false
-same_key (key.Interface i) (key.Name other) = false
-same_key (key.Interface i) (key.Interface j) = nat_eq i j
 
 -- the type that an entry of a world is
 abbrev pub type_item : WorldItem → Option ℕ

@@ -2,7 +2,7 @@
 ghost use Rattle.std.specs.Prelude.{◌≡◌, ◌⊎◌, IfErr, IfOk, OnOk, OnErr, length};
 ghost use Rattle.wit_finishing.specs.Finished.{CanFinish, IsFinishCause, with_finished};
 ghost use Rattle.wit_graph.specs.Elaboration.{graph_uses};
-ghost use Rattle.wit_graph.specs.Listed.{IsListed};
+ghost use Rattle.wit_graph.specs.Sound.{HasSoundEntries};
 ghost use Rattle.wit_graph.specs.declared.error_kind.ResolveErrorKind.TheVariants.{OutOfMemory};
 ghost use Rattle.wit_labels.specs.Setters.{placed};
 ghost use Rattle.wit_relations.specs.Relation.{IsAcyclic};
@@ -28,7 +28,7 @@ pub fn finish_world(
 ) -> ResolveResult<()>
     requires uses { elaborator.old ≡ graph_uses graph.old }
     requires acyclic { IsAcyclic (graph_uses graph.old) }
-    requires listed { IsListed graph.old.types (length graph.old.interfaces) (placed world.imports) (placed world.exports) }
+    requires listed { HasSoundEntries graph.old.types (length graph.old.interfaces) (placed world.imports) (placed world.exports) }
     ensures ok { OnOk result (graph.new ≡ with_finished graph.old world) }
     ensures fine { OnOk result (CanFinish graph.old world) }
     ensures err { OnErr result (graph.new ≡ graph.old) }

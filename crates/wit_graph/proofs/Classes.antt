@@ -9,7 +9,7 @@ use Rattle.wit_items.specs.declared.types.TypeDef.{TypeDef}
 use Rattle.wit_items.specs.declared.world.WorldKey.{WorldKey}
 use Rattle.wit_items.specs.declared.world.WorldKey.TheVariants.{Name, Interface}
 use Rattle.wit_relations.specs.MemberFacts.{Contains-nil, Contains-here, Contains-there, Contains-cons_cases, Contains-flat_map, Contains-flat_map_cases}
-use Rattle.wit_graph.specs.Entries.{Entry, Role, Instance, TypeUse, TypeDefinition, FreeFunction, ResourceFunction, role_of, class_of, of_class, by_class, id_of, ids_of}
+use Rattle.wit_graph.specs.Entries.{Entry, Role, Instance, TypeUse, TypeDefinition, FreeFunction, ResourceFunction, role_of, class_of, of_class, by_class, key_interface, keyed_interfaces}
 use Rattle.wit_graph.specs.ElaborationLaws.{stands_on, DependenciesFirst}
 use Rattle.wit_graph.proofs.Filters.{Contains-filter, Contains-filtered, filter-all, filter-none, filter-pass, filter-fail}
 use Rattle.wit_graph.proofs.FreshEntries.{AllNew, AllNew-append, AllNew-over, AllNew-filter, AllNew-one, Contains-keys}
@@ -83,10 +83,10 @@ module _ (types : List TypeDef) where
 
   -- ---- dependencies first, by class
 
-  own_class : (e : Entry) (j : ℕ) → ((i : ℕ) → e.0 ≡ Interface i → (role_of types e.1) ≡ Instance i) → Contains (id_of e.0) j → class_of (role_of types e.1) ≡ 0
+  own_class : (e : Entry) (j : ℕ) → ((i : ℕ) → e.0 ≡ Interface i → (role_of types e.1) ≡ Instance i) → Contains (key_interface e.0) j → class_of (role_of types e.1) ≡ 0
   own_class e j own has = of_key e.0 refl has
     where
-      of_key : (k : WorldKey) → e.0 ≡ k → Contains (id_of k) j → class_of (role_of types e.1) ≡ 0
+      of_key : (k : WorldKey) → e.0 ≡ k → Contains (key_interface k) j → class_of (role_of types e.1) ≡ 0
       of_key (Name n) is has = absurd (Contains-nil has)
       of_key (Interface i) is has = ap class_of (own i is)
 
@@ -96,45 +96,45 @@ module _ (types : List TypeDef) where
       elim (cases_Bool (nat_eq (class_of (role_of types e.1)) 0)) [
         | inl kept ↦ rw (filter-pass (λ (e : Entry). nat_eq (class_of (role_of types e.1)) 0) e es kept) (
           (λ k d below. wider _ (df.0 k d below)),
-          DependenciesFirst-instances uses es (seen ++ id_of e.0) (more ++ id_of e.0) (λ j has. elim (Contains-append_cases seen (id_of e.0) j has)
-              [ inl old ↦ Contains-append_left more (id_of e.0) j (wider j old) | inr new ↦ Contains-append_right more (id_of e.0) j new ]) (λ f i has. own f i (Contains-there e f es has)) df.1,
+          DependenciesFirst-instances uses es (seen ++ key_interface e.0) (more ++ key_interface e.0) (λ j has. elim (Contains-append_cases seen (key_interface e.0) j has)
+              [ inl old ↦ Contains-append_left more (key_interface e.0) j (wider j old) | inr new ↦ Contains-append_right more (key_interface e.0) j new ]) (λ f i has. own f i (Contains-there e f es has)) df.1,
         )
         | inr left ↦ rw (filter-fail (λ (e : Entry). nat_eq (class_of (role_of types e.1)) 0) e es left)
-            (DependenciesFirst-instances uses es (seen ++ id_of e.0) more (λ j has. elim (Contains-append_cases seen (id_of e.0) j has) [
+            (DependenciesFirst-instances uses es (seen ++ key_interface e.0) more (λ j has. elim (Contains-append_cases seen (key_interface e.0) j has) [
               | inl old ↦ wider j old
               | inr new ↦ absurd (eqb-false (class_of (role_of types e.1)) 0 left (own_class e j (λ i. own e i (Contains-here e es)) new))
             ]) (λ f i has. own f i (Contains-there e f es has)) df.1)
       ]
 
-  pub ids_of-instances : (es : List Entry) → AreOwn types es → (j : ℕ) → Contains (ids_of es) j → Contains (ids_of (of_class types 0 es)) j
-  ids_of-instances es own j has =
-      let part = Contains-flat_map_cases (λ (e : Entry). id_of e.0) es j has in
+  pub keyed_interfaces-instances : (es : List Entry) → AreOwn types es → (j : ℕ) → Contains (keyed_interfaces es) j → Contains (keyed_interfaces (of_class types 0 es)) j
+  keyed_interfaces-instances es own j has =
+      let part = Contains-flat_map_cases (λ (e : Entry). key_interface e.0) es j has in
       let zeroth = own_class part.0 j (λ i. own part.0 i part.1.0) part.1.1 in
-      Contains-flat_map (λ (e : Entry). id_of e.0) (of_class types 0 es) part.0 j (Contains-filtered (λ (e : Entry). nat_eq (class_of (role_of types e.1)) 0) es part.0 part.1.0 (rw zeroth refl)) part.1.1
+      Contains-flat_map (λ (e : Entry). key_interface e.0) (of_class types 0 es) part.0 j (Contains-filtered (λ (e : Entry). nat_eq (class_of (role_of types e.1)) 0) es part.0 part.1.0 (rw zeroth refl)) part.1.1
 
   -- what an entry stands on is among the interfaces of its list
-  pub DependenciesFirst-stands : (uses : List (List ℕ)) (es : List Entry) (seen : List ℕ) (e : Entry) (j : ℕ) → DependenciesFirst types uses seen es → Contains es e → Contains (stands_on uses (role_of types e.1)) j → Contains (seen ++ ids_of es) j
+  pub DependenciesFirst-stands : (uses : List (List ℕ)) (es : List Entry) (seen : List ℕ) (e : Entry) (j : ℕ) → DependenciesFirst types uses seen es → Contains es e → Contains (stands_on uses (role_of types e.1)) j → Contains (seen ++ keyed_interfaces es) j
   DependenciesFirst-stands uses [] seen e j df has on = absurd (Contains-nil has)
   DependenciesFirst-stands uses (x ∷ es) seen e j df has on =
       elim (Contains-cons_cases x e es has) [
         | inl same ↦ Contains-append_left seen _ j (All-contains (Contains seen) (stands_on uses (role_of types x.1)) j df.0 (subst (λ (z : Entry). Contains (stands_on uses (role_of types z.1)) j) (sym same) on))
-        | inr there ↦ rw (append_assoc seen (id_of x.0) (ids_of es)) at (DependenciesFirst-stands uses es (seen ++ id_of x.0) e j df.1 there on)
+        | inr there ↦ rw (append_assoc seen (key_interface x.0) (keyed_interfaces es)) at (DependenciesFirst-stands uses es (seen ++ key_interface x.0) e j df.1 there on)
       ]
 
   pub DependenciesFirst-static : (uses : List (List ℕ)) (es : List Entry) (seen : List ℕ) → ((e : Entry) → Contains es e → All (Contains seen) (stands_on uses (role_of types e.1))) → DependenciesFirst types uses seen es
   DependenciesFirst-static uses [] seen each = tt
   DependenciesFirst-static uses (e ∷ es) seen each = (
     each e (Contains-here e es),
-    DependenciesFirst-static uses es (seen ++ id_of e.0) (λ f has k d below. Contains-append_left seen (id_of e.0) _ (each f (Contains-there e f es has) k d below)),
+    DependenciesFirst-static uses es (seen ++ key_interface e.0) (λ f has k d below. Contains-append_left seen (key_interface e.0) _ (each f (Contains-there e f es has) k d below)),
   )
 
   pub DependenciesFirst-by_class : (uses : List (List ℕ)) (es : List Entry) → AreOwn types es → DependenciesFirst types uses [] es → DependenciesFirst types uses [] (by_class types es)
   DependenciesFirst-by_class uses es own df =
       let rest : List Entry = flat_map (λ c. of_class types c es) (1 ∷ 2 ∷ 3 ∷ 4 ∷ []) in
       DependenciesFirst-append types uses (of_class types 0 es) rest [] (DependenciesFirst-instances uses es [] [] (λ j has. has) own df)
-      (DependenciesFirst-static uses rest (ids_of (of_class types 0 es)) (λ e has k d below.
+      (DependenciesFirst-static uses rest (keyed_interfaces (of_class types 0 es)) (λ e has k d below.
       let part = Contains-flat_map_cases (λ c. of_class types c es) (1 ∷ 2 ∷ 3 ∷ 4 ∷ []) e has in
-      ids_of-instances es own _ (DependenciesFirst-stands uses es [] e _ df (of_class-in part.0 es e part.1.1).0 (Contains-get_or (stands_on uses (role_of types e.1)) k d below))))
+      keyed_interfaces-instances es own _ (DependenciesFirst-stands uses es [] e _ df (of_class-in part.0 es e part.1.1).0 (Contains-get_or (stands_on uses (role_of types e.1)) k d below))))
 
   -- an entry is in its class
   class_among : (role : Role) → Contains (0 ∷ 1 ∷ 2 ∷ 3 ∷ 4 ∷ []) (class_of role)

@@ -10,7 +10,7 @@ use Rattle.wit_relations.specs.Relation.{direct, IsPath, Reaches, IsAcyclic}
 use Rattle.wit_relations.specs.Walks.{UsesFirst, walk, first_of_each}
 use Rattle.wit_graph.specs.Elaborated.{needs}
 use Rattle.wit_graph.specs.Elaborating.{AreMarked, AreOutside, HasMarkedUse, TellsExported}
-use Rattle.wit_graph.specs.Entries.{Entry, Instance, instance_of}
+use Rattle.wit_graph.specs.Entries.{Entry, Instance, item_interface}
 use Rattle.wit_graph.specs.Imported.{HasConflict, LeadsToConflict, IsInConflict, exported_keys, exported_interfaces}
 use Rattle.wit_graph.proofs.ExportSteps.{all_needs}
 
@@ -23,18 +23,18 @@ tells_keys listed exports is i = (
 
 -- each use of an exported interface was walked
 use_walked : (uses : List (List ℕ)) → IsAcyclic uses → (exports : List Entry) (walked : List ℕ) → walked ≡ first_of_each (all_needs uses exports) →
-    (e : Entry) (i j : ℕ) → Contains exports e → Contains (instance_of e.1) i → Contains (direct uses i) j → Contains walked j
+    (e : Entry) (i j : ℕ) → Contains exports e → Contains (item_interface e.1) i → Contains (direct uses i) j → Contains walked j
 use_walked uses acyclic exports walked is e i j has here among =
     let inside = All-contains (λ x. x < length uses) (direct uses i) j (acyclic.in_range i) among in
     let own : Contains (needs uses (Instance i)) j = Contains-flat_map (walk uses) (direct uses i) j j among (Contains-walk_end uses acyclic j inside) in
-    let all : Contains (all_needs uses exports) j = Contains-flat_map (λ k. needs uses (Instance k)) (exported_interfaces exports) i j (Contains-flat_map (λ (f : Entry). instance_of f.1) exports e i has here) own in
+    let all : Contains (all_needs uses exports) j = Contains-flat_map (λ k. needs uses (Instance k)) (exported_interfaces exports) i j (Contains-flat_map (λ (f : Entry). item_interface f.1) exports e i has here) own in
     subst (λ xs. Contains xs j) (sym is) (fresh_all [] (all_needs uses exports) j all)
 
 -- an exported interface has a marked use exactly where it leads to a conflict
 pub marks_tell : (uses : List (List ℕ)) → IsAcyclic uses → (exports : List Entry) (walked exported reaching outside leading : List ℕ) →
     walked ≡ first_of_each (all_needs uses exports) → UsesFirst uses [] walked → TellsExported exported exports →
     AreMarked uses walked exported reaching → AreOutside walked reaching exported outside → AreMarked uses walked outside leading →
-    (e : Entry) → (i : ℕ) → Contains exports e → Contains (instance_of e.1) i → HasMarkedUse uses leading i ↔ LeadsToConflict uses exports i
+    (e : Entry) → (i : ℕ) → Contains exports e → Contains (item_interface e.1) i → HasMarkedUse uses leading i ↔ LeadsToConflict uses exports i
 marks_tell uses acyclic exports walked exported reaching outside leading walked_is first tells are_reaching are_outside are_leading e i has here = (
   λ found.
       let to = are_leading.sound found.0 found.2 in
@@ -54,7 +54,7 @@ marks_tell uses acyclic exports walked exported reaching outside leading walked_
 pub conflict_found : (uses : List (List ℕ)) (exports : List Entry) → HasConflict uses exports → (e : Entry) × Contains exports e × IsInConflict uses exports e
 conflict_found uses exports conflict =
     let need = conflict.1 in
-    let part = Contains-flat_map_cases (λ (f : Entry). instance_of f.1) exports need.0 need.2 in
+    let part = Contains-flat_map_cases (λ (f : Entry). item_interface f.1) exports need.0 need.2 in
     (part.0, part.1.0, (need.0, part.1.1, (need.1, need.1, need.3, ([], refl), need.4, (conflict.0, need.5, conflict.2))))
 
 path_on : (uses : List (List ℕ)) (i j : ℕ) (path : List ℕ) (m : ℕ) → IsPath uses i path j → Reaches uses j m → Reaches uses i m
@@ -75,4 +75,4 @@ module _ (uses : List (List ℕ)) (exports : List Entry) (own : (j : ℕ) → Co
   pub conflict_from : (e : Entry) → Contains exports e → IsInConflict uses exports e → HasConflict uses exports
   conflict_from e has conflict =
       let leads = conflict.2 in
-      leaves conflict.0 leads.0 leads.3.0 leads.1 leads.5.0 (Contains-flat_map (λ (f : Entry). instance_of f.1) exports e conflict.0 has conflict.1) leads.2 leads.3.1 leads.4 leads.5.1 leads.5.2
+      leaves conflict.0 leads.0 leads.3.0 leads.1 leads.5.0 (Contains-flat_map (λ (f : Entry). item_interface f.1) exports e conflict.0 has conflict.1) leads.2 leads.3.1 leads.4 leads.5.1 leads.5.2

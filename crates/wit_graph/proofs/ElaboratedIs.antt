@@ -17,9 +17,9 @@ use Rattle.wit_relations.specs.Relation.{IsAcyclic}
 use Rattle.wit_relations.specs.Walks.{Listed}
 use Rattle.wit_graph.specs.Elaborated.{dependency_of, needs, export_carries, import_walk, import_steps, export_imports, export_walk, elaborated_imports, elaborated_exports}
 use Rattle.wit_graph.specs.Elaborating.{TellsExported, is_listed, walked_exports, walked_imports}
-use Rattle.wit_graph.specs.Entries.{Entry, Instance, role_of, instance_of, id_of, is_instance, is_interface, same_key, by_class, fresh_entries}
+use Rattle.wit_graph.specs.Entries.{Entry, Instance, role_of, item_interface, key_interface, is_instance, is_interface, same_key, by_class, fresh_entries}
 use Rattle.wit_graph.specs.Imported.{HasConflict, exported_keys, exported_interfaces, is_exported}
-use Rattle.wit_graph.specs.Listed.{IsRoleInRange}
+use Rattle.wit_graph.specs.Sound.{IsRoleInRange}
 use Rattle.wit_graph.proofs.ExportedUses.{key_here}
 use Rattle.wit_graph.proofs.Filters.{Contains-filter, not_true}
 use Rattle.wit_graph.proofs.FirstClasses.{AllNew-from_distinct}
@@ -60,18 +60,18 @@ module _ (types : List TypeDef) (uses : List (List ℕ)) (acyclic : IsAcyclic us
   -- an exported key is an exported interface, in range
   pub own_keys : (j : ℕ) → Contains (exported_keys exports) j → Contains (exported_interfaces exports) j
   own_keys j has =
-      let part = Contains-flat_map_cases (λ (e : Entry). id_of e.0) exports j has in
+      let part = Contains-flat_map_cases (λ (e : Entry). key_interface e.0) exports j has in
       let role = listed.own_exports part.0 j part.1.0 (key_here part.0.0 j part.1.1) in
-      Contains-flat_map (λ (e : Entry). instance_of e.1) exports part.0 j part.1.0 (subst (λ xs. Contains xs j) (sym (instance_from_role types part.0.1 j role)) (Contains-here j []))
+      Contains-flat_map (λ (e : Entry). item_interface e.1) exports part.0 j part.1.0 (subst (λ xs. Contains xs j) (sym (instance_from_role types part.0.1 j role)) (Contains-here j []))
 
-  instance_below : (x : WorldItem) (i : ℕ) → Contains (instance_of x) i → IsRoleInRange (length uses) (role_of types x) → i < length uses
+  instance_below : (x : WorldItem) (i : ℕ) → Contains (item_interface x) i → IsRoleInRange (length uses) (role_of types x) → i < length uses
   instance_below (item.Interface k stability docs span external_id) i has inside = elim (Contains-cons_cases k i [] has) [ inl same ↦ subst (λ m. m < length uses) same inside | inr none ↦ absurd (Contains-nil none) ]
   instance_below (item.Function function) i has inside = absurd (Contains-nil has)
   instance_below (item.Type_ id span) i has inside = absurd (Contains-nil has)
 
   pub interface_below : (i : ℕ) → Contains (exported_interfaces exports) i → i < length uses
   interface_below i has =
-      let part = Contains-flat_map_cases (λ (e : Entry). instance_of e.1) exports i has in
+      let part = Contains-flat_map_cases (λ (e : Entry). item_interface e.1) exports i has in
       instance_below part.0.1 i part.1.1 (listed.exports_in_range part.0 part.1.0)
 
   pub interfaces_below : All (λ i. i < length uses) (exported_interfaces exports)
@@ -94,7 +94,7 @@ module _ (types : List TypeDef) (uses : List (List ℕ)) (acyclic : IsAcyclic us
   import_parts : (key : WorldKey) (x : WorldItem) → Contains exports (key, x) → walked_imports uses E (key, x) ≡ export_imports uses E (key, x)
   import_parts key (item.Interface i stability docs span external_id) has =
       let e : Entry = (key, item.Interface i stability docs span external_id) in
-      let exported = Contains-flat_map (λ (f : Entry). instance_of f.1) exports e i has (Contains-here i []) in
+      let exported = Contains-flat_map (λ (f : Entry). item_interface f.1) exports e i has (Contains-here i []) in
       rw (append-nil (needs uses (Instance i)), append-nil (map (dependency_of (export_carries e.1)) (import_steps uses E i)))
       (ap (λ (js : List ℕ). map (dependency_of (export_carries e.1)) js) (sym (imports_of_walk uses acyclic exports own no_conflict i (below i exported) exported)))
   import_parts key (item.Function function) has = refl
@@ -104,7 +104,7 @@ module _ (types : List TypeDef) (uses : List (List ℕ)) (acyclic : IsAcyclic us
   export_parts : (key : WorldKey) (x : WorldItem) → Contains exports (key, x) → is_instance x ≡ true → walked_exports uses E (key, x) ≡ export_walk types uses E (key, x)
   export_parts key (item.Interface i stability docs span external_id) has is =
       let e : Entry = (key, item.Interface i stability docs span external_id) in
-      let exported = Contains-flat_map (λ (f : Entry). instance_of f.1) exports e i has (Contains-here i []) in
+      let exported = Contains-flat_map (λ (f : Entry). item_interface f.1) exports e i has (Contains-here i []) in
       rw (append-nil (needs uses (Instance i)))
       (ap (λ (js : List ℕ). map (dependency_of (export_carries e.1)) js ++ e ∷ []) (sym (exports_of_walk uses acyclic exports own no_conflict i (below i exported) exported)))
   export_parts key (item.Function function) has is = absurd (false≢true is)
@@ -126,7 +126,7 @@ module _ (types : List TypeDef) (uses : List (List ℕ)) (acyclic : IsAcyclic us
       let old = Contains-filter (λ (g : Entry). not (is_interface g)) exports f.0 f.1.0 in
       let part = Contains-flat_map_cases (walked_exports uses E) (filter is_interface exports) e has in
       let root = Contains-filter is_interface exports part.0 part.1.0 in
-      let nodes : List ℕ = filter E (flat_map (λ i. needs uses (Instance i)) (instance_of part.0.1)) in
+      let nodes : List ℕ = filter E (flat_map (λ i. needs uses (Instance i)) (item_interface part.0.1)) in
       elim (Contains-append_cases (map (dependency_of (export_carries part.0.1)) nodes) (part.0 ∷ []) e part.1.1) [
         | inl deps ↦
             let dep = Contains-deps (export_carries part.0.1) nodes e deps in

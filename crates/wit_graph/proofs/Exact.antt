@@ -12,10 +12,10 @@ use Rattle.wit_relations.specs.MemberFacts.{Contains-nil, Contains-here, Contain
 use Rattle.wit_relations.specs.WalkFacts.{Reaches-from_walk, walk-from_IsPath}
 use Rattle.wit_relations.specs.Relation.{direct, IsPath, Reaches, IsAcyclic}
 use Rattle.wit_relations.specs.Walks.{walk}
-use Rattle.wit_graph.specs.Entries.{Entry, Role, Instance, TypeUse, TypeDefinition, FreeFunction, ResourceFunction, role_of, instance_of, id_of, ids_of, by_class}
+use Rattle.wit_graph.specs.Entries.{Entry, Role, Instance, TypeUse, TypeDefinition, FreeFunction, ResourceFunction, role_of, item_interface, key_interface, keyed_interfaces, by_class}
 use Rattle.wit_graph.specs.Elaborated.{dependency_of, needs, import_carries, export_carries, settled_item, import_walk, import_steps_within, import_steps, export_imports}
 use Rattle.wit_graph.specs.Imported.{Needed, roots_of, IsImported, exported_interfaces, is_exported}
-use Rattle.wit_graph.specs.Listed.{IsRoleInRange}
+use Rattle.wit_graph.specs.Sound.{IsRoleInRange}
 use Rattle.wit_graph.proofs.Classes.{by_class_in, in_by_class}
 use Rattle.wit_graph.proofs.ExportedUses.{key_here, exported_entry, id_inj}
 use Rattle.wit_graph.proofs.FreshEntries.{Contains-keys, Contains-deps, deps-Contains, fresh_entries_in, fresh_entries_all}
@@ -64,14 +64,14 @@ reached_needs uses acyclic key FreeFunction r j inside own root reached = absurd
 reached_needs uses acyclic key ResourceFunction r j inside own root reached = absurd (Contains-nil root)
 
 -- an item is one interface at most
-instance_one : (x : WorldItem) (i : ℕ) → Contains (instance_of x) i → instance_of x ≡ i ∷ []
+instance_one : (x : WorldItem) (i : ℕ) → Contains (item_interface x) i → item_interface x ≡ i ∷ []
 instance_one (item.Interface j stability docs span external_id) i has = elim (Contains-cons_cases j i [] has) [ inl same ↦ ap (λ k. k ∷ []) same | inr none ↦ absurd (Contains-nil none) ]
 instance_one (item.Function function) i has = absurd (Contains-nil has)
 instance_one (item.Type_ id span) i has = absurd (Contains-nil has)
 
 module _ (types : List TypeDef) where
   -- an exported interface is in range
-  pub instance_below : (interfaces : ℕ) (e : Entry) (x : ℕ) → Contains (instance_of e.1) x → IsRoleInRange interfaces (role_of types e.1) → x < interfaces
+  pub instance_below : (interfaces : ℕ) (e : Entry) (x : ℕ) → Contains (item_interface e.1) x → IsRoleInRange interfaces (role_of types e.1) → x < interfaces
   instance_below interfaces e x has inside =
       let role = role_from_instance types e.1 x (instance_one e.1 x has) in
       let inside' : IsRoleInRange interfaces (Instance x) = subst (λ r. IsRoleInRange interfaces r) role inside in
@@ -88,7 +88,7 @@ module _ (types : List TypeDef) where
       (λ on there.
       let e = exported_entry exports part.0 on in
       steps_needed uses acyclic exports own members part.0 j
-      (Contains-flat_map (λ (e : Entry). instance_of e.1) exports e.0 part.0 e.1.0 (subst (λ xs. Contains xs part.0) (sym (instance_from_role types e.0.1 part.0 (own e.0 part.0 e.1.0 e.1.1))) (Contains-here part.0 []))) there)
+      (Contains-flat_map (λ (e : Entry). item_interface e.1) exports e.0 part.0 e.1.0 (subst (λ xs. Contains xs part.0) (sym (instance_from_role types e.0.1 part.0 (own e.0 part.0 e.1.0 e.1.1))) (Contains-here part.0 []))) there)
       (λ off there. (i, part.0, exported, part.1.0, λ has'. false≢true (sym off ∙ any_from_contains part.0 _ has'), Reaches-from_walk uses acyclic part.0 (All-contains (λ x. x < length uses) (direct uses i) part.0 (acyclic.in_range i) part.1.0) j there))
       part.1.1
 
@@ -118,9 +118,9 @@ module _ (types : List TypeDef) where
     unfolding import_steps
     steps_of i k exported has = steps_needed uses acyclic exports (λ e i. listed.own_exports e i) (length uses) i k exported has
 
-    pub exact_to : (j : ℕ) → Contains (ids_of (by_class types made)) j → IsImported types uses imports exports j
+    pub exact_to : (j : ℕ) → Contains (keyed_interfaces (by_class types made)) j → IsImported types uses imports exports j
     exact_to j has =
-        let at = Contains-flat_map_cases (λ (e : Entry). id_of e.0) (by_class types made) j has in
+        let at = Contains-flat_map_cases (λ (e : Entry). key_interface e.0) (by_class types made) j has in
         let key = key_here at.0.0 j at.1.1 in
         elim (Contains-append_cases (from_imports types uses acyclic imports exports listed) (from_exports types uses acyclic imports exports listed) at.0 (fresh_entries_in [] _ at.0 (by_class_in types made at.0 at.1.0))) [
           | inl of_import ↦
@@ -142,23 +142,23 @@ module _ (types : List TypeDef) where
               let part = Contains-flat_map_cases (export_imports uses (is_exported exports)) exports at.0 of_export in
               let dep = export_import types uses acyclic imports exports listed part.0 at.0 part.1.1 in
               let same : dep.1 ≡ j = id_inj (ap (λ (z : Entry). z.0) dep.4 ∙ key) in
-              inl (steps_of dep.0 j (Contains-flat_map (λ (e : Entry). instance_of e.1) exports part.0 dep.0 part.1.0 dep.2) (subst (λ x. Contains (import_steps uses (is_exported exports) dep.0) x) same dep.3))
+              inl (steps_of dep.0 j (Contains-flat_map (λ (e : Entry). item_interface e.1) exports part.0 dep.0 part.1.0 dep.2) (subst (λ x. Contains (import_steps uses (is_exported exports) dep.0) x) same dep.3))
         ]
 
-    listed_id : (e : Entry) (j : ℕ) → Contains (from_imports types uses acyclic imports exports listed ++ from_exports types uses acyclic imports exports listed) e → e.0 ≡ Interface j → Contains (ids_of (by_class types made)) j
+    listed_id : (e : Entry) (j : ℕ) → Contains (from_imports types uses acyclic imports exports listed ++ from_exports types uses acyclic imports exports listed) e → e.0 ≡ Interface j → Contains (keyed_interfaces (by_class types made)) j
     listed_id e j has key =
         let at = Contains-keys made e.0 (fresh_entries_all [] (from_imports types uses acyclic imports exports listed ++ from_exports types uses acyclic imports exports listed) e has) in
-        Contains-flat_map (λ (e : Entry). id_of e.0) (by_class types made) at.0 j (in_by_class types made at.0 at.1.0) (subst (λ k. Contains (id_of k) j) (sym (at.1.1 ∙ key)) (Contains-here j []))
+        Contains-flat_map (λ (e : Entry). key_interface e.0) (by_class types made) at.0 j (in_by_class types made at.0 at.1.0) (subst (λ k. Contains (key_interface k) j) (sym (at.1.1 ∙ key)) (Contains-here j []))
 
-    pub exact_from : (j : ℕ) → IsImported types uses imports exports j → Contains (ids_of (by_class types made)) j
+    pub exact_from : (j : ℕ) → IsImported types uses imports exports j → Contains (keyed_interfaces (by_class types made)) j
     exact_from j (inl need) =
-        let part = Contains-flat_map_cases (λ (e : Entry). instance_of e.1) exports need.0 need.2 in
+        let part = Contains-flat_map_cases (λ (e : Entry). item_interface e.1) exports need.0 need.2 in
         let inside = instance_below (length uses) part.0 need.0 part.1.1 (listed.exports_in_range part.0 part.1.0) in
         let step = needed_steps uses acyclic (is_exported exports) need.0 need.1 j inside need.3 (no_any_from need.1 _ need.4) need.5 in
         listed_id (dependency_of (export_carries part.0.1) j) j
         (Contains-append_right (from_imports types uses acyclic imports exports listed) (from_exports types uses acyclic imports exports listed) (dependency_of (export_carries part.0.1) j)
         (Contains-flat_map (export_imports uses (is_exported exports)) exports part.0 (dependency_of (export_carries part.0.1) j) part.1.0
-        (Contains-flat_map (λ i. map (dependency_of (export_carries part.0.1)) (import_steps uses (is_exported exports) i)) (instance_of part.0.1) need.0 (dependency_of (export_carries part.0.1) j) part.1.1
+        (Contains-flat_map (λ i. map (dependency_of (export_carries part.0.1)) (import_steps uses (is_exported exports) i)) (item_interface part.0.1) need.0 (dependency_of (export_carries part.0.1) j) part.1.1
         (deps-Contains (export_carries part.0.1) (import_steps uses (is_exported exports) need.0) j step)))) refl
     exact_from j (inr need) =
         let part = Contains-flat_map_cases (λ (e : Entry). roots_of uses e.0 (role_of types e.1)) imports need.0 need.1 in

@@ -12,7 +12,7 @@ use Rattle.wit_items.specs.declared.package_name.PackageName.{PackageName}
 use Rattle.wit_items.specs.declared.world.World.{World}
 use Rattle.wit_graph.proofs.EachLemmas.{EachAt-nil, EachAt-one, EachAt-two, HasDistinctKeys-nil, HasDistinctKeys-one, HasDistinctKeys-two, differ_by_test, none_in}
 use Rattle.wit_graph.specs.Elaborated.{Elaborated, import_steps, import_steps_within}
-use Rattle.wit_graph.specs.Entries.{ids_of}
+use Rattle.wit_graph.specs.Entries.{keyed_interfaces}
 use Rattle.wit_graph.specs.Examples.{ExamplesOfValidity, empty_graph}
 use Rattle.wit_graph.specs.Samples.{entry_of, foo_bar, foo_bar_of, interface_of, labelled_entry, sample, sample_interfaces, sample_types, world_of}
 use Rattle.wit_graph.specs.Valid.{HasKebabNames, HasOwners, HasReferences, HasTables, HasWorlds, IsValid}
@@ -179,7 +179,7 @@ not_closed valid =
 user_first : IsValid (sample (entry_of 1 ∷ entry_of 0 ∷ []) []) → ⊥
 unfolding walk walk_within import_steps import_steps_within
 user_first valid =
-    let other : 1 ≡ 0 = ap (λ (w : World). slice_index (ids_of w.imports) 0) (valid.canonical 0 (world_of (codes "w") (entry_of 1 ∷ entry_of 0 ∷ []) []) refl).world_is in
+    let other : 1 ≡ 0 = ap (λ (w : World). slice_index (keyed_interfaces w.imports) 0) (valid.canonical 0 (world_of (codes "w") (entry_of 1 ∷ entry_of 0 ∷ []) []) refl).world_is in
     absurd (omega (arith, other))
 
 capital : HasKebabNames (foo_bar_of [] [] ∷ []) (interface_of (Some (codes "aB")) [] ∷ []) → ⊥

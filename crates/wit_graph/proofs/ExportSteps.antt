@@ -9,7 +9,7 @@ use Rattle.wit_relations.specs.FreshFacts.{fresh-append}
 use Rattle.wit_relations.specs.MemberFacts.{Contains-here, Contains-flat_map}
 use Rattle.wit_relations.specs.Walks.{fresh, first_of_each}
 use Rattle.wit_graph.specs.Elaborated.{needs}
-use Rattle.wit_graph.specs.Entries.{Entry, Instance, instance_of, id_of}
+use Rattle.wit_graph.specs.Entries.{Entry, Instance, item_interface, key_interface}
 use Rattle.wit_graph.specs.Imported.{exported_keys, exported_interfaces}
 use Rattle.wit_graph.proofs.Marking.{contains_at}
 
@@ -21,24 +21,24 @@ pub given_at : (f : Entry → List ℕ) (es : List Entry) (at : ℕ) (e : Entry)
 given_at f es at e i is gives = Contains-flat_map f es e i (contains_at es at e is) (subst (λ xs. Contains xs i) gives (Contains-here i []))
 
 -- one more key, or none
-pub keys_more : (es : List Entry) (at : ℕ) (e : Entry) (i : ℕ) (now new : List ℕ) → slice_get es at ≡ Some e → i ∷ [] ≡ id_of e.0 → now ≡ first_of_each (exported_keys (take at es)) → new ≡ now ++ fresh now (i ∷ []) → new ≡ first_of_each (exported_keys (take (at + 1) es))
+pub keys_more : (es : List Entry) (at : ℕ) (e : Entry) (i : ℕ) (now new : List ℕ) → slice_get es at ≡ Some e → i ∷ [] ≡ key_interface e.0 → now ≡ first_of_each (exported_keys (take at es)) → new ≡ now ++ fresh now (i ∷ []) → new ≡ first_of_each (exported_keys (take (at + 1) es))
 keys_more es at e i now new is gives now_is new_is =
-    new_is ∙ rw (now_is, flat_map-next (λ (f : Entry). id_of f.0) es at e is, ← gives, fresh-append [] (exported_keys (take at es)) (i ∷ [])) refl
+    new_is ∙ rw (now_is, flat_map-next (λ (f : Entry). key_interface f.0) es at e is, ← gives, fresh-append [] (exported_keys (take at es)) (i ∷ [])) refl
 
-pub keys_same : (es : List Entry) (at : ℕ) (e : Entry) (now new : List ℕ) → slice_get es at ≡ Some e → [] ≡ id_of e.0 → now ≡ first_of_each (exported_keys (take at es)) → new ≡ now → new ≡ first_of_each (exported_keys (take (at + 1) es))
-keys_same es at e now new is gives now_is new_is = new_is ∙ now_is ∙ rw (flat_map-next (λ (f : Entry). id_of f.0) es at e is, ← gives, append-nil) refl
+pub keys_same : (es : List Entry) (at : ℕ) (e : Entry) (now new : List ℕ) → slice_get es at ≡ Some e → [] ≡ key_interface e.0 → now ≡ first_of_each (exported_keys (take at es)) → new ≡ now → new ≡ first_of_each (exported_keys (take (at + 1) es))
+keys_same es at e now new is gives now_is new_is = new_is ∙ now_is ∙ rw (flat_map-next (λ (f : Entry). key_interface f.0) es at e is, ← gives, append-nil) refl
 
 -- one more interface walked, or none
 abbrev pub all_needs : List (List ℕ) → List Entry → List ℕ
 all_needs uses es = flat_map (λ i. needs uses (Instance i)) (exported_interfaces es)
 
-pub needs_more : (uses : List (List ℕ)) (es : List Entry) (at : ℕ) (e : Entry) (i : ℕ) (now new : List ℕ) → slice_get es at ≡ Some e → i ∷ [] ≡ instance_of e.1 → now ≡ first_of_each (all_needs uses (take at es)) → new ≡ now ++ fresh now (needs uses (Instance i)) →
+pub needs_more : (uses : List (List ℕ)) (es : List Entry) (at : ℕ) (e : Entry) (i : ℕ) (now new : List ℕ) → slice_get es at ≡ Some e → i ∷ [] ≡ item_interface e.1 → now ≡ first_of_each (all_needs uses (take at es)) → new ≡ now ++ fresh now (needs uses (Instance i)) →
     new ≡ first_of_each (all_needs uses (take (at + 1) es))
 needs_more uses es at e i now new is gives now_is new_is =
-    new_is ∙ rw (now_is, flat_map-next (λ (f : Entry). instance_of f.1) es at e is, ← gives, flat_map-append (λ j. needs uses (Instance j)) (exported_interfaces (take at es)) (i ∷ []), append-nil (needs uses (Instance i)), fresh-append [] (all_needs uses (take at es)) (needs uses (Instance i))) refl
+    new_is ∙ rw (now_is, flat_map-next (λ (f : Entry). item_interface f.1) es at e is, ← gives, flat_map-append (λ j. needs uses (Instance j)) (exported_interfaces (take at es)) (i ∷ []), append-nil (needs uses (Instance i)), fresh-append [] (all_needs uses (take at es)) (needs uses (Instance i))) refl
 
-pub needs_same : (uses : List (List ℕ)) (es : List Entry) (at : ℕ) (e : Entry) (now new : List ℕ) → slice_get es at ≡ Some e → [] ≡ instance_of e.1 → now ≡ first_of_each (all_needs uses (take at es)) → new ≡ now → new ≡ first_of_each (all_needs uses (take (at + 1) es))
-needs_same uses es at e now new is gives now_is new_is = new_is ∙ now_is ∙ rw (flat_map-next (λ (f : Entry). instance_of f.1) es at e is, ← gives, append-nil) refl
+pub needs_same : (uses : List (List ℕ)) (es : List Entry) (at : ℕ) (e : Entry) (now new : List ℕ) → slice_get es at ≡ Some e → [] ≡ item_interface e.1 → now ≡ first_of_each (all_needs uses (take at es)) → new ≡ now → new ≡ first_of_each (all_needs uses (take (at + 1) es))
+needs_same uses es at e now new is gives now_is new_is = new_is ∙ now_is ∙ rw (flat_map-next (λ (f : Entry). item_interface f.1) es at e is, ← gives, append-nil) refl
 
 -- an option that has nothing gives nothing
 pub nothing_given : {X : Type 0} (o : Option X) (ys : List X) → ((x : X) → o ≡ Some x → ⊥) → option_to_list o ≡ ys → [] ≡ ys

@@ -10,7 +10,7 @@ use Rattle.wit_relations.specs.FreshFacts.{any_from_contains, contains_from_any}
 use Rattle.wit_relations.specs.WalkFacts.{Reaches-from_walk}
 use Rattle.wit_relations.specs.Relation.{direct, IsPath, IsAcyclic}
 use Rattle.wit_relations.specs.Walks.{walk}
-use Rattle.wit_graph.specs.Entries.{Entry, Role, Instance, TypeUse, TypeDefinition, FreeFunction, ResourceFunction, class_of, id_of, ids_of}
+use Rattle.wit_graph.specs.Entries.{Entry, Role, Instance, TypeUse, TypeDefinition, FreeFunction, ResourceFunction, class_of, key_interface, keyed_interfaces}
 use Rattle.wit_graph.specs.Elaborated.{needs, exported_uses}
 use Rattle.wit_graph.specs.Imported.{is_exported}
 use Rattle.wit_graph.proofs.Filters.{Contains-filter}
@@ -54,18 +54,18 @@ inner_exported exported uses acyclic TypeDefinition j zeroth has = absurd (Conta
 inner_exported exported uses acyclic FreeFunction j zeroth has = absurd (Contains-nil has)
 inner_exported exported uses acyclic ResourceFunction j zeroth has = absurd (Contains-nil has)
 
-pub key_here : (k : WorldKey) (j : ℕ) → Contains (id_of k) j → k ≡ Interface j
+pub key_here : (k : WorldKey) (j : ℕ) → Contains (key_interface k) j → k ≡ Interface j
 key_here (Name label) j has = absurd (Contains-nil has)
 key_here (Interface i) j has = elim (Contains-cons_cases i j [] has) [ inl same ↦ ap (λ x. Interface x) same | inr none ↦ absurd (Contains-nil none) ]
 
 pub exported_entry : (exports : List Entry) (j : ℕ) → is_exported exports j ≡ true → (e : Entry) × (Contains exports e × (e.0 ≡ Interface j))
 exported_entry exports j found =
-    let part = Contains-flat_map_cases (λ (e : Entry). id_of e.0) exports j (contains_from_any j (ids_of exports) found) in
+    let part = Contains-flat_map_cases (λ (e : Entry). key_interface e.0) exports j (contains_from_any j (keyed_interfaces exports) found) in
     (part.0, (part.1.0, key_here part.0.0 j part.1.1))
 
 pub entry_exported : (exports : List Entry) (e : Entry) (j : ℕ) → Contains exports e → e.0 ≡ Interface j → is_exported exports j ≡ true
 entry_exported exports e j has is =
-    any_from_contains j (ids_of exports) (Contains-flat_map (λ (e : Entry). id_of e.0) exports e j has (subst (λ k. Contains (id_of k) j) (sym is) (Contains-here j [])))
+    any_from_contains j (keyed_interfaces exports) (Contains-flat_map (λ (e : Entry). key_interface e.0) exports e j has (subst (λ k. Contains (key_interface k) j) (sym is) (Contains-here j [])))
 
 pub id_inj : {i j : ℕ} → Interface i ≡ Interface j → i ≡ j
 id_inj same = cc

@@ -15,7 +15,7 @@ use Rattle.wit_relations.specs.Walks.{Listed, fresh}
 use Rattle.wit_graph.specs.declared.entries.Lists.{Lists}
 use Rattle.wit_graph.specs.Elaborated.{Carried, dependency_of, export_carries, needs}
 use Rattle.wit_graph.specs.Elaborating.{IsWalk, IsExporting, walked_exports, walked_imports}
-use Rattle.wit_graph.specs.Entries.{Entry, Instance, instance_of, is_instance, is_interface, fresh_entries}
+use Rattle.wit_graph.specs.Entries.{Entry, Instance, item_interface, is_instance, is_interface, fresh_entries}
 use Rattle.wit_graph.proofs.ExportSteps.{flat_map-next}
 use Rattle.wit_graph.proofs.Filters.{Contains-filtered, filter-pass, filter-fail}
 use Rattle.wit_graph.proofs.FreshEntries.{fresh_entries-next, fresh_entries-filter, dependency_added, key_stays}
@@ -71,12 +71,12 @@ module _ (uses : List (List ℕ)) (exported : ℕ → Bool) (e : Entry) (s : Car
 
 -- ---- one more entry of a list
 
-pub instance_is : (x : WorldItem) (i : ℕ) → i ∷ [] ≡ instance_of x → is_instance x ≡ true
+pub instance_is : (x : WorldItem) (i : ℕ) → i ∷ [] ≡ item_interface x → is_instance x ≡ true
 instance_is (item.Interface j stability docs span external_id) i gives = refl
 instance_is (item.Function function) i gives = cc
 instance_is (item.Type_ id span) i gives = cc
 
-pub no_instance_is : (x : WorldItem) → [] ≡ instance_of x → is_instance x ≡ false
+pub no_instance_is : (x : WorldItem) → [] ≡ item_interface x → is_instance x ≡ false
 no_instance_is (item.Interface j stability docs span external_id) gives = cc
 no_instance_is (item.Function function) gives = refl
 no_instance_is (item.Type_ id span) gives = refl
@@ -88,10 +88,10 @@ pub filter-skip : (p : Entry → Bool) (es : List Entry) (at : ℕ) (e : Entry) 
 filter-skip p es at e is fails = rw (take-next_at es at e is, filter-append p (take at es) (e ∷ []), filter-fail p e [] fails, append-nil) refl
 
 module _ (uses : List (List ℕ)) (exported : ℕ → Bool) (es : List Entry) (at : ℕ) (e : Entry) (is : slice_get es at ≡ Some e) where
-  needed_is : (i : ℕ) → i ∷ [] ≡ instance_of e.1 → flat_map (λ j. needs uses (Instance j)) (instance_of e.1) ≡ needs uses (Instance i)
+  needed_is : (i : ℕ) → i ∷ [] ≡ item_interface e.1 → flat_map (λ j. needs uses (Instance j)) (item_interface e.1) ≡ needs uses (Instance i)
   needed_is i gives = rw (← gives, append-nil (needs uses (Instance i))) refl
 
-  pub exports_more : (i : ℕ) (old now new : List Entry) → i ∷ [] ≡ instance_of e.1 → now ≡ old ++ fresh_entries (keys_of old) (flat_map (walked_exports uses exported) (filter is_interface (take at es))) →
+  pub exports_more : (i : ℕ) (old now new : List Entry) → i ∷ [] ≡ item_interface e.1 → now ≡ old ++ fresh_entries (keys_of old) (flat_map (walked_exports uses exported) (filter is_interface (take at es))) →
       new ≡ now ++ fresh_entries (keys_of now) (map (dependency_of (export_carries e.1)) (filter exported (needs uses (Instance i))) ++ e ∷ []) →
       new ≡ old ++ fresh_entries (keys_of old) (flat_map (walked_exports uses exported) (filter is_interface (take (at + 1) es)))
   exports_more i old now new gives first then =
@@ -99,7 +99,7 @@ module _ (uses : List (List ℕ)) (exported : ℕ → Bool) (es : List Entry) (a
       (fresh_entries-next old now new (flat_map (walked_exports uses exported) (filter is_interface (take at es))) (walked_exports uses exported e) first
       (then ∙ ap (λ (xs : List ℕ). now ++ fresh_entries (keys_of now) (map (dependency_of (export_carries e.1)) (filter exported xs) ++ e ∷ [])) (sym (needed_is i gives))))
 
-  pub imports_more : (i : ℕ) (old now new : List Entry) → i ∷ [] ≡ instance_of e.1 → now ≡ old ++ fresh_entries (keys_of old) (flat_map (walked_imports uses exported) (take at es)) →
+  pub imports_more : (i : ℕ) (old now new : List Entry) → i ∷ [] ≡ item_interface e.1 → now ≡ old ++ fresh_entries (keys_of old) (flat_map (walked_imports uses exported) (take at es)) →
       new ≡ now ++ fresh_entries (keys_of now) (map (dependency_of (export_carries e.1)) (filter (λ j. not (exported j)) (needs uses (Instance i)))) →
       new ≡ old ++ fresh_entries (keys_of old) (flat_map (walked_imports uses exported) (take (at + 1) es))
   imports_more i old now new gives first then =
@@ -107,10 +107,10 @@ module _ (uses : List (List ℕ)) (exported : ℕ → Bool) (es : List Entry) (a
       (fresh_entries-next old now new (flat_map (walked_imports uses exported) (take at es)) (walked_imports uses exported e) first
       (then ∙ ap (λ (xs : List ℕ). now ++ fresh_entries (keys_of now) (map (dependency_of (export_carries e.1)) (filter (λ j. not (exported j)) xs))) (sym (needed_is i gives))))
 
-  pub exports_skip : [] ≡ instance_of e.1 → flat_map (walked_exports uses exported) (filter is_interface (take (at + 1) es)) ≡ flat_map (walked_exports uses exported) (filter is_interface (take at es))
+  pub exports_skip : [] ≡ item_interface e.1 → flat_map (walked_exports uses exported) (filter is_interface (take (at + 1) es)) ≡ flat_map (walked_exports uses exported) (filter is_interface (take at es))
   exports_skip gives = ap (λ (xs : List Entry). flat_map (walked_exports uses exported) xs) (filter-skip is_interface es at e is (no_instance_is e.1 gives))
 
-  pub imports_skip : [] ≡ instance_of e.1 → flat_map (walked_imports uses exported) (take (at + 1) es) ≡ flat_map (walked_imports uses exported) (take at es)
+  pub imports_skip : [] ≡ item_interface e.1 → flat_map (walked_imports uses exported) (take (at + 1) es) ≡ flat_map (walked_imports uses exported) (take at es)
   imports_skip gives =
       flat_map-next (walked_imports uses exported) es at e is
       ∙ ap (λ (xs : List ℕ). flat_map (walked_imports uses exported) (take at es) ++ map (dependency_of (export_carries e.1)) (filter (λ j. not (exported j)) (flat_map (λ j. needs uses (Instance j)) xs))) (sym gives)

@@ -10,7 +10,7 @@ use Rattle.wit_relations.specs.Relation.{IsAcyclic}
 use Rattle.wit_graph.specs.Entries.{Entry, Role, Instance, role_of, is_interface, fresh_entries}
 use Rattle.wit_graph.specs.Elaborated.{Carried, dependency_of, needs, entry_walk, export_carries, exported_uses, elaborated_exports}
 use Rattle.wit_graph.specs.Imported.{is_exported}
-use Rattle.wit_graph.specs.Listed.{IsRoleInRange}
+use Rattle.wit_graph.specs.Sound.{IsRoleInRange}
 use Rattle.wit_graph.proofs.Absorbed.{absorbed}
 use Rattle.wit_graph.proofs.ExportedUses.{among-acyclic, inner_exported, exported_entry, entry_exported, id_inj}
 use Rattle.wit_graph.proofs.Filters.{Contains-filter, Contains-filtered, filter-all, filter-none, not_true}

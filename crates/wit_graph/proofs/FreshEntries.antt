@@ -14,7 +14,7 @@ use Rattle.wit_items.specs.declared.world.WorldKey.TheVariants.{Name, Interface}
 use Rattle.wit_relations.specs.MemberFacts.{Contains-nil, Contains-here, Contains-there, Contains-cons_cases, Contains-flat_map, Contains-flat_map_cases}
 use Rattle.wit_relations.specs.FreshFacts.{fresh-seen, fresh-new, any_from_contains, contains_from_any, no_any_from}
 use Rattle.wit_relations.specs.Walks.{fresh}
-use Rattle.wit_graph.specs.Entries.{Entry, same_key, id_of, ids_of, fresh_entries}
+use Rattle.wit_graph.specs.Entries.{Entry, same_key, key_interface, keyed_interfaces, fresh_entries}
 use Rattle.wit_graph.specs.Elaborated.{Carried, dependency_of}
 use Rattle.wit_graph.proofs.Filters.{filter-all, filter-pass, filter-fail}
 
@@ -167,46 +167,46 @@ deps-Contains carried (i ∷ js) j has =
       | inr there ↦ Contains-there (dependency_of carried i) (dependency_of carried j) (map (dependency_of carried) js) (deps-Contains carried js j there)
     ]
 
-abbrev pub ids_of_keys : List WorldKey → List ℕ
-ids_of_keys keys = flat_map id_of keys
+abbrev pub interfaces_of_keys : List WorldKey → List ℕ
+interfaces_of_keys keys = flat_map key_interface keys
 
-pub ids_of-map : (carried : Carried) (js : List ℕ) → ids_of (map (dependency_of carried) js) ≡ js
-ids_of-map carried [] = refl
-ids_of-map carried (j ∷ js) = ap (λ xs. j ∷ xs) (ids_of-map carried js)
+pub keyed_interfaces-map : (carried : Carried) (js : List ℕ) → keyed_interfaces (map (dependency_of carried) js) ≡ js
+keyed_interfaces-map carried [] = refl
+keyed_interfaces-map carried (j ∷ js) = ap (λ xs. j ∷ xs) (keyed_interfaces-map carried js)
 
-pub ids-push : (seen : List WorldKey) (k : WorldKey) → ids_of_keys (seen ++ k ∷ []) ≡ ids_of_keys seen ++ id_of k
-ids-push seen k = rw (flat_map-append id_of seen (k ∷ []), append-nil (id_of k)) refl
+pub ids-push : (seen : List WorldKey) (k : WorldKey) → interfaces_of_keys (seen ++ k ∷ []) ≡ interfaces_of_keys seen ++ key_interface k
+ids-push seen k = rw (flat_map-append key_interface seen (k ∷ []), append-nil (key_interface k)) refl
 
-pub id_known : (j : ℕ) (seen : List WorldKey) → Contains (ids_of_keys seen) j → list_any (same_key (Interface j)) seen ≡ true
+pub id_known : (j : ℕ) (seen : List WorldKey) → Contains (interfaces_of_keys seen) j → list_any (same_key (Interface j)) seen ≡ true
 id_known j seen has =
-    let part = Contains-flat_map_cases id_of seen j has in
+    let part = Contains-flat_map_cases key_interface seen j has in
     known_from_contains (Interface j) seen (subst (λ k. Contains seen k) (id_is part.0 part.1.1) part.1.0)
   where
-    id_is : (k : WorldKey) → Contains (id_of k) j → k ≡ Interface j
+    id_is : (k : WorldKey) → Contains (key_interface k) j → k ≡ Interface j
     id_is (Name n) has = absurd (Contains-nil has)
     id_is (Interface i) has = elim (Contains-cons_cases i j [] has) [ inl same ↦ ap (λ x. Interface x) same | inr none ↦ absurd (Contains-nil none) ]
 
-known_id : (j : ℕ) (seen : List WorldKey) → list_any (same_key (Interface j)) seen ≡ true → Contains (ids_of_keys seen) j
-known_id j seen known = Contains-flat_map id_of seen (Interface j) j (contains_from_known (Interface j) seen known) (0, omega arith, refl)
+known_id : (j : ℕ) (seen : List WorldKey) → list_any (same_key (Interface j)) seen ≡ true → Contains (interfaces_of_keys seen) j
+known_id j seen known = Contains-flat_map key_interface seen (Interface j) j (contains_from_known (Interface j) seen known) (0, omega arith, refl)
 
 -- the fresh entries of dependencies are those of the fresh interfaces
-pub fresh_entries-dependencies : (s : Carried) (js : List ℕ) (seen : List WorldKey) → fresh_entries seen (map (dependency_of s) js) ≡ map (dependency_of s) (fresh (ids_of_keys seen) js)
+pub fresh_entries-dependencies : (s : Carried) (js : List ℕ) (seen : List WorldKey) → fresh_entries seen (map (dependency_of s) js) ≡ map (dependency_of s) (fresh (interfaces_of_keys seen) js)
 fresh_entries-dependencies s [] seen = refl
 fresh_entries-dependencies s (j ∷ js) seen =
     elim (cases_Bool (list_any (same_key (Interface j)) seen)) [
       | inl known ↦
-          rw (fresh_entries-known seen (dependency_of s j) (map (dependency_of s) js) known, fresh-seen (ids_of_keys seen) j js (any_from_contains j (ids_of_keys seen) (known_id j seen known))) (fresh_entries-dependencies s js seen)
+          rw (fresh_entries-known seen (dependency_of s j) (map (dependency_of s) js) known, fresh-seen (interfaces_of_keys seen) j js (any_from_contains j (interfaces_of_keys seen) (known_id j seen known))) (fresh_entries-dependencies s js seen)
       | inr new ↦
-          let absent = no_any_from j (ids_of_keys seen) (λ has. false≢true (sym new ∙ id_known j seen has)) in
-          rw (fresh_entries-new seen (dependency_of s j) (map (dependency_of s) js) new, fresh-new (ids_of_keys seen) j js absent, ← ids-push seen (Interface j), ← fresh_entries-dependencies s js (seen ++ Interface j ∷ [])) refl
+          let absent = no_any_from j (interfaces_of_keys seen) (λ has. false≢true (sym new ∙ id_known j seen has)) in
+          rw (fresh_entries-new seen (dependency_of s j) (map (dependency_of s) js) new, fresh-new (interfaces_of_keys seen) j js absent, ← ids-push seen (Interface j), ← fresh_entries-dependencies s js (seen ++ Interface j ∷ [])) refl
     ]
 
-pub ids_of-keys : (es : List Entry) → ids_of_keys (keys_of es) ≡ ids_of es
-ids_of-keys [] = refl
-ids_of-keys (e ∷ es) = ap (λ xs. id_of e.0 ++ xs) (ids_of-keys es)
+pub keyed_interfaces-keys : (es : List Entry) → interfaces_of_keys (keys_of es) ≡ keyed_interfaces es
+keyed_interfaces-keys [] = refl
+keyed_interfaces-keys (e ∷ es) = ap (λ xs. key_interface e.0 ++ xs) (keyed_interfaces-keys es)
 
-pub ids_of-append : (xs ys : List Entry) → ids_of (xs ++ ys) ≡ ids_of xs ++ ids_of ys
-ids_of-append xs ys = flat_map-append (λ (e : Entry). id_of e.0) xs ys
+pub keyed_interfaces-append : (xs ys : List Entry) → keyed_interfaces (xs ++ ys) ≡ keyed_interfaces xs ++ keyed_interfaces ys
+keyed_interfaces-append xs ys = flat_map-append (λ (e : Entry). key_interface e.0) xs ys
 
 pub keys_of-append : (xs ys : List Entry) → keys_of (xs ++ ys) ≡ keys_of xs ++ keys_of ys
 keys_of-append xs ys = map-append (λ (e : Entry). e.0) xs ys

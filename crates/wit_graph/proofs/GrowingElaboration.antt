@@ -8,7 +8,7 @@ use Rattle.wit_items.specs.declared.world.WorldItem.TheVariants as item
 use Rattle.wit_items.specs.declared.world.World.{World}
 use Rattle.wit_relations.specs.MemberFacts.{Contains-nil, Contains-cons_cases, Contains-flat_map_cases, flat_map-same}
 use Rattle.wit_relations.specs.Relation.{direct, IsAcyclic}
-use Rattle.wit_graph.specs.Entries.{Entry, role_of, instance_of, is_instance, is_interface, class_of, of_class, by_class, fresh_entries}
+use Rattle.wit_graph.specs.Entries.{Entry, role_of, item_interface, is_instance, is_interface, class_of, of_class, by_class, fresh_entries}
 use Rattle.wit_graph.specs.Elaborated.{Carried, dependency_of, needs, import_carries, export_carries, settled_item, import_walk, export_imports, export_walk, import_steps, exported_uses, elaborated_imports, elaborated_exports}
 use Rattle.wit_graph.specs.Imported.{Needed, HasConflict, is_exported}
 use Rattle.wit_graph.specs.KeptByElaboration.{ElaborationIsLocal, SameRoles, SameCarried}
@@ -39,9 +39,9 @@ module _ (types wider : List TypeDef) where
   module _ (uses rows : List (List ℕ)) (acyclic : IsAcyclic uses) (grown : IsAcyclic (uses ++ rows)) (imports exports : List Entry) (listed : InOrder types (length uses) imports exports) where
     -- ---- conflicts
 
-    exported_below : (x : ℕ) → Contains (flat_map (λ (e : Entry). instance_of e.1) exports) x → x < length uses
+    exported_below : (x : ℕ) → Contains (flat_map (λ (e : Entry). item_interface e.1) exports) x → x < length uses
     exported_below x has =
-        let part = Contains-flat_map_cases (λ (e : Entry). instance_of e.1) exports x has in
+        let part = Contains-flat_map_cases (λ (e : Entry). item_interface e.1) exports x has in
         instance_below types (length uses) part.0 x part.1.1 (listed.exports_in_range part.0 part.1.0)
 
     pub Needed-left : (j : ℕ) → Needed (uses ++ rows) exports j → Needed uses exports j
@@ -63,7 +63,7 @@ module _ (types wider : List TypeDef) where
 
       export_imports-same : (e : Entry) → Contains exports e → export_imports uses (is_exported exports) e ≡ export_imports (uses ++ rows) (is_exported exports) e
       export_imports-same e has =
-          flat_map-same (λ i. map (dependency_of (export_carries e.1)) (import_steps uses (is_exported exports) i)) (λ i. map (dependency_of (export_carries e.1)) (import_steps (uses ++ rows) (is_exported exports) i)) (instance_of e.1)
+          flat_map-same (λ i. map (dependency_of (export_carries e.1)) (import_steps uses (is_exported exports) i)) (λ i. map (dependency_of (export_carries e.1)) (import_steps (uses ++ rows) (is_exported exports) i)) (item_interface e.1)
           (λ i among. ap (map (dependency_of (export_carries e.1))) (sym (import_steps-left uses acyclic rows grown (is_exported exports) i (instance_below types (length uses) e i among (listed.exports_in_range e has)))))
 
       -- what is made has the same role too
@@ -80,7 +80,7 @@ module _ (types wider : List TypeDef) where
 
       export_roles : (e : Entry) → SameRoles types wider (export_imports uses (is_exported exports) e)
       export_roles e f there =
-          let part = Contains-flat_map_cases (λ i. map (dependency_of (export_carries e.1)) (import_steps uses (is_exported exports) i)) (instance_of e.1) f there in
+          let part = Contains-flat_map_cases (λ i. map (dependency_of (export_carries e.1)) (import_steps uses (is_exported exports) i)) (item_interface e.1) f there in
           let dep = Contains-deps (export_carries e.1) (import_steps uses (is_exported exports) part.0) f part.1.1 in
           subst (λ (z : Entry). role_of types z.1 ≡ role_of wider z.1) dep.1.1 refl
 

@@ -9,7 +9,7 @@ use Rattle.wit_relations.specs.Relation.{direct, IsPath, IsAcyclic}
 use Rattle.wit_relations.specs.Walks.{walk}
 use Rattle.wit_graph.specs.Elaborated.{needs, import_steps, exported_uses}
 use Rattle.wit_graph.specs.Entries.{Role, Instance, TypeUse, TypeDefinition, FreeFunction, ResourceFunction}
-use Rattle.wit_graph.specs.Listed.{IsRoleInRange}
+use Rattle.wit_graph.specs.Sound.{IsRoleInRange}
 use Rattle.wit_graph.proofs.ExportedUses.{among-acyclic}
 use Rattle.wit_graph.proofs.Steps.{steps_are}
 

@@ -10,11 +10,11 @@ use Rattle.wit_relations.specs.FreshFacts.{any_from_contains, contains_from_any}
 use Rattle.wit_relations.specs.MemberFacts.{Contains-nil, Contains-here, Contains-there, Contains-cons_cases, Contains-flat_map, Contains-flat_map_cases}
 use Rattle.wit_relations.specs.Relation.{IsAcyclic}
 use Rattle.wit_relations.specs.Walks.{UsesFirst}
-use Rattle.wit_graph.specs.Entries.{Entry, Instance, role_of, instance_of, is_interface, ids_of, same_key, by_class, fresh_entries}
+use Rattle.wit_graph.specs.Entries.{Entry, Instance, role_of, item_interface, is_interface, keyed_interfaces, same_key, by_class, fresh_entries}
 use Rattle.wit_graph.specs.Elaborated.{Carried, dependency_of, needs, import_carries, export_carries, settled_item, import_walk, import_steps, export_imports, elaborated_imports, elaborated_exports}
 use Rattle.wit_graph.specs.ElaborationLaws.{DependenciesFirst}
 use Rattle.wit_graph.specs.Imported.{HasConflict, exported_keys, is_exported}
-use Rattle.wit_graph.specs.Listed.{IsRoleInRange}
+use Rattle.wit_graph.specs.Sound.{IsRoleInRange}
 use Rattle.wit_graph.proofs.Absorbed.{absorbed}
 use Rattle.wit_graph.proofs.Classes.{by_class-new, by_class-by_class, by_class_in, in_by_class, DependenciesFirst-by_class}
 use Rattle.wit_graph.proofs.ExportedUses.{id_inj}
@@ -42,7 +42,7 @@ module _ (types : List TypeDef) where
   DependenciesFirst-each : {X : Type 0} (uses : List (List ℕ)) (f : X → List Entry) (xs : List X) (seen : List ℕ) → ((x : X) → Contains xs x → (more : List ℕ) → DependenciesFirst types uses more (f x)) → DependenciesFirst types uses seen (flat_map f xs)
   DependenciesFirst-each uses f [] seen each = tt
   DependenciesFirst-each uses f (x ∷ xs) seen each =
-      DependenciesFirst-append types uses (f x) (flat_map f xs) seen (each x (Contains-here x xs) seen) (DependenciesFirst-each uses f xs (seen ++ ids_of (f x)) (λ y has. each y (Contains-there x y xs has)))
+      DependenciesFirst-append types uses (f x) (flat_map f xs) seen (each x (Contains-here x xs) seen) (DependenciesFirst-each uses f xs (seen ++ keyed_interfaces (f x)) (λ y has. each y (Contains-there x y xs has)))
 
   module _ (uses : List (List ℕ)) (acyclic : IsAcyclic uses) (imports exports : List Entry) (listed : InOrder types (length uses) imports exports) where
     abbrev pub from_imports : List Entry
@@ -63,9 +63,9 @@ module _ (types : List TypeDef) where
     dependency_fine : (s : Carried) (j : ℕ) → j < length uses → IsFine (dependency_of s j)
     dependency_fine s j below = record { own = λ i is. ap (λ x. Instance x) (id_inj is); inside = below; is_settled = refl }
 
-    pub export_import : (e f : Entry) → Contains (export_imports uses (is_exported exports) e) f → (i : ℕ) × (j : ℕ) × (Contains (instance_of e.1) i) × (Contains (import_steps uses (is_exported exports) i) j) × (dependency_of (export_carries e.1) j ≡ f)
+    pub export_import : (e f : Entry) → Contains (export_imports uses (is_exported exports) e) f → (i : ℕ) × (j : ℕ) × (Contains (item_interface e.1) i) × (Contains (import_steps uses (is_exported exports) i) j) × (dependency_of (export_carries e.1) j ≡ f)
     export_import e f has =
-        let part = Contains-flat_map_cases (λ i. map (dependency_of (export_carries e.1)) (import_steps uses (is_exported exports) i)) (instance_of e.1) f has in
+        let part = Contains-flat_map_cases (λ i. map (dependency_of (export_carries e.1)) (import_steps uses (is_exported exports) i)) (item_interface e.1) f has in
         let dep = Contains-deps (export_carries e.1) (import_steps uses (is_exported exports) part.0) f part.1.1 in
         (part.0, dep.0, part.1.0, dep.1.0, dep.1.1)
 
@@ -109,8 +109,8 @@ module _ (types : List TypeDef) where
         DependenciesFirst-fresh types uses (from_imports ++ from_exports) [] [] (λ j has. has)
         (DependenciesFirst-append types uses from_imports from_exports []
         (entry_walks_first types uses acyclic (import_carries types) settled_item (role_of-settled types) (by_class types imports) [] (λ e has. listed.imports_in_range e (by_class_in types imports e has)))
-        (DependenciesFirst-each uses (export_imports uses (is_exported exports)) exports (ids_of from_imports) (λ e has more.
-        DependenciesFirst-each uses (λ i. map (dependency_of (export_carries e.1)) (import_steps uses (is_exported exports) i)) (instance_of e.1) more (λ i among more'.
+        (DependenciesFirst-each uses (export_imports uses (is_exported exports)) exports (keyed_interfaces from_imports) (λ e has more.
+        DependenciesFirst-each uses (λ i. map (dependency_of (export_carries e.1)) (import_steps uses (is_exported exports) i)) (item_interface e.1) more (λ i among more'.
         DependenciesFirst-map types uses (export_carries e.1) (import_steps uses (is_exported exports) i) more' (steps_first i more')))))
 
     imports_absorbed : fresh_entries [] (flat_map (import_walk types uses) (by_class types all_imports)) ≡ by_class types all_imports
@@ -120,7 +120,7 @@ module _ (types : List TypeDef) where
         tt (λ f i has. (import_fine f (by_class_in types all_imports f has)).own i) (λ f has. (import_fine f (by_class_in types all_imports f has)).inside) (λ f has. (import_fine f (by_class_in types all_imports f has)).is_settled)
 
     -- an interface that is exported after elaboration was exported before
-    exported_before : (e : Entry) (i : ℕ) → Contains (elaborated_exports types uses exports) e → Contains (instance_of e.1) i → (d : Entry) × (Contains exports d × Contains (instance_of d.1) i)
+    exported_before : (e : Entry) (i : ℕ) → Contains (elaborated_exports types uses exports) e → Contains (item_interface e.1) i → (d : Entry) × (Contains exports d × Contains (item_interface d.1) i)
     exported_before e i has among =
         elim (Contains-append_cases (functions types uses acyclic imports exports listed) (kept types uses acyclic imports exports listed) e has) [
           | inl old ↦ (e, ((Contains-filter (λ (e : Entry). not (is_interface e)) exports e old).0, among))
@@ -128,7 +128,7 @@ module _ (types : List TypeDef) where
             | inl own ↦ (e, (own.0, among))
             | inr dep ↦
                 let d = exported_below types uses acyclic imports exports listed dep.1 dep.3 in
-                let same : Contains (dep.1 ∷ []) i = subst (λ (z : Entry). Contains (instance_of z.1) i) (sym dep.2) among in
+                let same : Contains (dep.1 ∷ []) i = subst (λ (z : Entry). Contains (item_interface z.1) i) (sym dep.2) among in
                 (d.0, (d.1.0, subst (λ xs. Contains xs i) (sym (instance_from_role types d.0.1 dep.1 d.1.1)) same))
           ]
         ]
@@ -142,7 +142,7 @@ module _ (types : List TypeDef) where
         let g : Entry = dependency_of (export_carries old.0.1) dep.1 in
         let inside : Contains from_exports g =
         Contains-flat_map (export_imports uses (is_exported exports)) exports old.0 g old.1.0
-        (Contains-flat_map (λ i. map (dependency_of (export_carries old.0.1)) (import_steps uses (is_exported exports) i)) (instance_of old.0.1) dep.0 g old.1.1 (deps-Contains (export_carries old.0.1) (import_steps uses (is_exported exports) dep.0) dep.1 dep.3)) in
+        (Contains-flat_map (λ i. map (dependency_of (export_carries old.0.1)) (import_steps uses (is_exported exports) i)) (item_interface old.0.1) dep.0 g old.1.1 (deps-Contains (export_carries old.0.1) (import_steps uses (is_exported exports) dep.0) dep.1 dep.3)) in
         let there : Contains (keys_of (by_class types all_imports)) g.0 = made_known (from_imports ++ from_exports) (by_class types all_imports) (in_by_class types all_imports) g (Contains-append_right from_imports from_exports g inside) in
         known_from_contains f.0 (keys_of (by_class types all_imports)) (subst (λ k. Contains (keys_of (by_class types all_imports)) k) (ap (λ (z : Entry). z.0) dep.4) there)
 
@@ -168,10 +168,10 @@ module _ (types : List TypeDef) where
     pub no_conflict_again : HasConflict uses (elaborated_exports types uses exports) → HasConflict uses exports
     no_conflict_again conflict =
         let need = conflict.1 in
-        let at = Contains-flat_map_cases (λ (e : Entry). instance_of e.1) (elaborated_exports types uses exports) need.0 need.2 in
+        let at = Contains-flat_map_cases (λ (e : Entry). item_interface e.1) (elaborated_exports types uses exports) need.0 need.2 in
         let old = exported_before at.0 need.0 at.1.0 at.1.1 in (
           conflict.0,
-          (need.0, need.1, Contains-flat_map (λ (e : Entry). instance_of e.1) exports old.0 need.0 old.1.0 old.1.1, need.3, λ has. need.4 (key_kept need.1 has), need.5),
+          (need.0, need.1, Contains-flat_map (λ (e : Entry). item_interface e.1) exports old.0 need.0 old.1.0 old.1.1, need.3, λ has. need.4 (key_kept need.1 has), need.5),
           key_before conflict.0 conflict.2,
         )
 

@@ -4,7 +4,7 @@ use Rattle.std.proofs.lemmas.List.Elements.{Contains-get_or}
 use Rattle.wit_items.specs.declared.types.TypeDef.{TypeDef}
 use Rattle.wit_items.specs.declared.world.World.{World}
 use Rattle.wit_relations.specs.Relation.{direct, IsPath}
-use Rattle.wit_graph.specs.Entries.{Entry, ids_of}
+use Rattle.wit_graph.specs.Entries.{Entry, keyed_interfaces}
 use Rattle.wit_graph.specs.Elaborated.{elaborated_imports}
 use Rattle.wit_graph.specs.Imported.{IsImported}
 use Rattle.wit_graph.specs.KeptByElaboration.{ImportsAreLeast, HoldsImports}
@@ -36,14 +36,14 @@ pub imports_are_least : ImportsAreLeast
 imports_are_least types uses old new acyclic listed is =
     let order = in_order types (length uses) old.imports old.exports listed in
     let imports_are : new.imports ≡ elaborated_imports types uses old.imports old.exports = ap (λ (w : World). w.imports) is.world_is in
-    let imported : (j : ℕ) → Contains (ids_of new.imports) j → IsImported types uses old.imports old.exports j =
-    λ j has. exact_to types uses acyclic old.imports old.exports order j (subst (λ es. Contains (ids_of es) j) imports_are has) in
-    let there : (j : ℕ) → IsImported types uses old.imports old.exports j → Contains (ids_of new.imports) j =
-    λ j need. subst (λ es. Contains (ids_of es) j) (sym imports_are) (exact_from types uses acyclic old.imports old.exports order j need) in (
+    let imported : (j : ℕ) → Contains (keyed_interfaces new.imports) j → IsImported types uses old.imports old.exports j =
+    λ j has. exact_to types uses acyclic old.imports old.exports order j (subst (λ es. Contains (keyed_interfaces es) j) imports_are has) in
+    let there : (j : ℕ) → IsImported types uses old.imports old.exports j → Contains (keyed_interfaces new.imports) j =
+    λ j need. subst (λ es. Contains (keyed_interfaces es) j) (sym imports_are) (exact_from types uses acyclic old.imports old.exports order j need) in (
       record {
         roots = λ r has. there r (inr (r, has, ([], refl)));
         needed = λ j need. there j (inl need);
         closed = λ i j has among. there j (imported_closed types uses old.imports old.exports i j (imported i has) among);
       },
-      λ test holds at d below. has_imported types uses old.imports old.exports (λ i. test i ≡ true) holds _ (imported _ (Contains-get_or (ids_of new.imports) at d below)),
+      λ test holds at d below. has_imported types uses old.imports old.exports (λ i. test i ≡ true) holds _ (imported _ (Contains-get_or (keyed_interfaces new.imports) at d below)),
     )

@@ -12,7 +12,7 @@ use Rattle.wit_relations.specs.Relation.{IsAcyclic}
 use Rattle.wit_graph.specs.Entries.{Entry, Instance, role_of, is_interface, by_class}
 use Rattle.wit_graph.specs.Elaborated.{elaborated_imports, elaborated_exports}
 use Rattle.wit_graph.specs.KeptByElaboration.{ListedStays}
-use Rattle.wit_graph.specs.Listed.{AreListed, IsRoleInRange, IsUnderOwnKey}
+use Rattle.wit_graph.specs.Sound.{AreSound, IsRoleInRange, IsUnderOwnKey}
 use Rattle.wit_graph.proofs.Classes.{by_class_in}
 use Rattle.wit_graph.proofs.ExportsAgain.{functions, kept, kept_own, kept_range}
 use Rattle.wit_graph.proofs.Filters.{Contains-filter}
@@ -30,21 +30,21 @@ module _ (types : List TypeDef) where
   under_own (Name label) x own = tt
   under_own (Interface i) x own = instance_from_role types x i (own i refl)
 
-  are_listed : (interfaces : ℕ) (es : List Entry) → AreOwn types es → ((e : Entry) → Contains es e → IsRoleInRange interfaces (role_of types e.1)) → AreListed types interfaces es
+  are_listed : (interfaces : ℕ) (es : List Entry) → AreOwn types es → ((e : Entry) → Contains es e → IsRoleInRange interfaces (role_of types e.1)) → AreSound types interfaces es
   are_listed interfaces es own inside = record {
     own_keys = each_element (λ (e : Entry). IsUnderOwnKey e.0 e.1) es (λ e has. under_own e.0 e.1 (λ i is. own e i has is));
     in_range = each_element (λ (e : Entry). IsRoleInRange interfaces (role_of types e.1)) es inside;
   }
 
   module _ (uses : List (List ℕ)) (acyclic : IsAcyclic uses) (imports exports : List Entry) (listed : InOrder types (length uses) imports exports) where
-    imports_listed : AreListed types (length uses) (elaborated_imports types uses imports exports)
+    imports_listed : AreSound types (length uses) (elaborated_imports types uses imports exports)
     imports_listed =
         let made : List Entry = all_imports types uses acyclic imports exports listed in
         are_listed (length uses) (by_class types made)
         (λ e i has is. (import_fine types uses acyclic imports exports listed e (by_class_in types made e has)).own i is)
         (λ e has. (import_fine types uses acyclic imports exports listed e (by_class_in types made e has)).inside)
 
-    exports_listed : AreListed types (length uses) (elaborated_exports types uses exports)
+    exports_listed : AreSound types (length uses) (elaborated_exports types uses exports)
     exports_listed =
         let others : List Entry = functions types uses acyclic imports exports listed in
         let interfaces : List Entry = kept types uses acyclic imports exports listed in
@@ -64,6 +64,6 @@ listed_stays types uses old new acyclic listed is =
     let imports_are : new.imports ≡ elaborated_imports types uses old.imports old.exports = ap (λ (w : World). w.imports) is.world_is in
     let exports_are : new.exports ≡ elaborated_exports types uses old.exports = ap (λ (w : World). w.exports) is.world_is in
     record {
-      of_imports = subst (λ es. AreListed types (length uses) es) (sym imports_are) (imports_listed types uses acyclic old.imports old.exports order);
-      of_exports = subst (λ es. AreListed types (length uses) es) (sym exports_are) (exports_listed types uses acyclic old.imports old.exports order);
+      of_imports = subst (λ es. AreSound types (length uses) es) (sym imports_are) (imports_listed types uses acyclic old.imports old.exports order);
+      of_exports = subst (λ es. AreSound types (length uses) es) (sym exports_are) (exports_listed types uses acyclic old.imports old.exports order);
     }

@@ -9,11 +9,11 @@ use Rattle.wit_relations.specs.MemberFacts.{Contains-nil, Contains-here, Contain
 use Rattle.wit_relations.specs.WalkFacts.{Reaches-from_walk}
 use Rattle.wit_relations.specs.Relation.{direct, IsPath, IsAcyclic}
 use Rattle.wit_relations.specs.Walks.{walk}
-use Rattle.wit_graph.specs.Entries.{Entry, Role, Instance, TypeUse, TypeDefinition, FreeFunction, ResourceFunction, role_of, is_interface, id_of, by_class}
+use Rattle.wit_graph.specs.Entries.{Entry, Role, Instance, TypeUse, TypeDefinition, FreeFunction, ResourceFunction, role_of, is_interface, key_interface, by_class}
 use Rattle.wit_graph.specs.Elaborated.{dependency_of, needs, import_carries, export_carries, settled_item, import_walk, import_steps_within, import_steps, export_imports, elaborated_imports, elaborated_exports}
 use Rattle.wit_graph.specs.Imported.{IsImported, exported_keys, is_exported}
 use Rattle.wit_graph.specs.KeptByElaboration.{ElaboratedEntries, IsSettled, IsMadeImport, IsMadeExport}
-use Rattle.wit_graph.specs.Listed.{IsRoleInRange}
+use Rattle.wit_graph.specs.Sound.{IsRoleInRange}
 use Rattle.wit_graph.proofs.Classes.{by_class_in}
 use Rattle.wit_graph.proofs.Exact.{exact_to}
 use Rattle.wit_graph.proofs.ExportsAgain.{functions, kept, made}
@@ -70,8 +70,8 @@ module _ (types : List TypeDef) (uses : List (List ℕ)) (acyclic : IsAcyclic us
   abbrev elaborated : List Entry
   elaborated = by_class types (all_imports types uses acyclic imports exports listed)
 
-  is_imported : (e : Entry) (j : ℕ) → Contains elaborated e → Contains (id_of e.0) j → IsImported types uses imports exports j
-  is_imported e j has key = exact_to types uses acyclic imports exports listed j (Contains-flat_map (λ (f : Entry). id_of f.0) elaborated e j has key)
+  is_imported : (e : Entry) (j : ℕ) → Contains elaborated e → Contains (key_interface e.0) j → IsImported types uses imports exports j
+  is_imported e j has key = exact_to types uses acyclic imports exports listed j (Contains-flat_map (λ (f : Entry). key_interface f.0) elaborated e j has key)
 
   import_is : (e : Entry) → Contains elaborated e → IsSettled imports e ⊎ IsMadeImport types uses imports exports e
   import_is e has =
@@ -89,7 +89,7 @@ module _ (types : List TypeDef) (uses : List (List ℕ)) (acyclic : IsAcyclic us
                     dep.0,
                     sym dep.1.1,
                     elim (needs_used uses acyclic (role_of types part.0.1) dep.0 (listed.imports_in_range part.0 root) dep.1.0) [ inl used ↦ inl used | inr role ↦ inr (part.0, root, role) ],
-                    is_imported e dep.0 has (subst (λ (z : Entry). Contains (id_of z.0) dep.0) dep.1.1 (Contains-here dep.0 [])),
+                    is_imported e dep.0 has (subst (λ (z : Entry). Contains (key_interface z.0) dep.0) dep.1.1 (Contains-here dep.0 [])),
                   )
               | inr last ↦ elim (Contains-cons_cases (part.0.0, settled_item part.0.1) e [] last) [ inl same ↦ inl (part.0, root, sym same) | inr none ↦ absurd (Contains-nil none) ]
             ]
@@ -101,7 +101,7 @@ module _ (types : List TypeDef) (uses : List (List ℕ)) (acyclic : IsAcyclic us
               dep.1,
               sym dep.4,
               inl (all_steps_used uses acyclic (is_exported exports) dep.0 dep.1 dep.3),
-              is_imported e dep.1 has (subst (λ (z : Entry). Contains (id_of z.0) dep.1) dep.4 (Contains-here dep.1 [])),
+              is_imported e dep.1 has (subst (λ (z : Entry). Contains (key_interface z.0) dep.1) dep.4 (Contains-here dep.1 [])),
             )
       ]
 

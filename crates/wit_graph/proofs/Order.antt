@@ -13,11 +13,11 @@ use Rattle.wit_relations.specs.MemberFacts.{Contains-nil, Contains-here, Contain
 use Rattle.wit_relations.specs.WalkFacts.{UsesFirst-walk, UsesFirst-flat_map, Contains-walk_end}
 use Rattle.wit_relations.specs.Relation.{direct, IsAcyclic}
 use Rattle.wit_relations.specs.Walks.{UsesFirst, walk}
-use Rattle.wit_graph.specs.Entries.{Entry, Role, Instance, TypeUse, TypeDefinition, FreeFunction, ResourceFunction, role_of, same_key, id_of, ids_of, fresh_entries}
+use Rattle.wit_graph.specs.Entries.{Entry, Role, Instance, TypeUse, TypeDefinition, FreeFunction, ResourceFunction, role_of, same_key, key_interface, keyed_interfaces, fresh_entries}
 use Rattle.wit_graph.specs.Elaborated.{Carried, dependency_of, needs, entry_walk}
 use Rattle.wit_graph.specs.ElaborationLaws.{stands_on, DependenciesFirst}
-use Rattle.wit_graph.specs.Listed.{IsRoleInRange}
-use Rattle.wit_graph.proofs.FreshEntries.{ids_of_keys, ids_of-map, contains_from_known, fresh_entries-known, fresh_entries-new}
+use Rattle.wit_graph.specs.Sound.{IsRoleInRange}
+use Rattle.wit_graph.proofs.FreshEntries.{interfaces_of_keys, keyed_interfaces-map, contains_from_known, fresh_entries-known, fresh_entries-new}
 
 module _ (types : List TypeDef) where
   -- an entry under an interface's key is that interface
@@ -28,13 +28,13 @@ module _ (types : List TypeDef) where
   DependenciesFirst-wider uses [] seen more wider df = tt
   DependenciesFirst-wider uses (e ∷ es) seen more wider df = (
     λ k d below. wider _ (df.0 k d below),
-    DependenciesFirst-wider uses es (seen ++ id_of e.0) (more ++ id_of e.0) (λ j has. elim (Contains-append_cases seen (id_of e.0) j has)
-        [ inl old ↦ Contains-append_left more (id_of e.0) j (wider j old) | inr new ↦ Contains-append_right more (id_of e.0) j new ]) df.1,
+    DependenciesFirst-wider uses es (seen ++ key_interface e.0) (more ++ key_interface e.0) (λ j has. elim (Contains-append_cases seen (key_interface e.0) j has)
+        [ inl old ↦ Contains-append_left more (key_interface e.0) j (wider j old) | inr new ↦ Contains-append_right more (key_interface e.0) j new ]) df.1,
   )
 
-  pub DependenciesFirst-append : (uses : List (List ℕ)) (xs ys : List Entry) (seen : List ℕ) → DependenciesFirst types uses seen xs → DependenciesFirst types uses (seen ++ ids_of xs) ys → DependenciesFirst types uses seen (xs ++ ys)
+  pub DependenciesFirst-append : (uses : List (List ℕ)) (xs ys : List Entry) (seen : List ℕ) → DependenciesFirst types uses seen xs → DependenciesFirst types uses (seen ++ keyed_interfaces xs) ys → DependenciesFirst types uses seen (xs ++ ys)
   DependenciesFirst-append uses [] ys seen first then = rw append-nil at then
-  DependenciesFirst-append uses (e ∷ xs) ys seen first then = (first.0, DependenciesFirst-append uses xs ys (seen ++ id_of e.0) first.1 (rw (append_assoc seen (id_of e.0) (ids_of xs)) then))
+  DependenciesFirst-append uses (e ∷ xs) ys seen first then = (first.0, DependenciesFirst-append uses xs ys (seen ++ key_interface e.0) first.1 (rw (append_assoc seen (key_interface e.0) (keyed_interfaces xs)) then))
 
   pub DependenciesFirst-map : (uses : List (List ℕ)) (carried : Carried) (js seen : List ℕ) → UsesFirst uses seen js → DependenciesFirst types uses seen (map (dependency_of carried) js)
   DependenciesFirst-map uses carried [] seen first = tt
@@ -65,7 +65,7 @@ module _ (types : List TypeDef) where
     entry_walk_first carries settle keeps e seen inside =
         DependenciesFirst-append uses (map (dependency_of (carries e.1)) (needs uses (role_of types e.1))) ((e.0, settle e.1) ∷ []) seen (DependenciesFirst-map uses (carries e.1) (needs uses (role_of types e.1)) seen (needs_first (role_of types e.1) seen inside))
         ((
-          λ k d below. rw (ids_of-map (carries e.1) (needs uses (role_of types e.1)))
+          λ k d below. rw (keyed_interfaces-map (carries e.1) (needs uses (role_of types e.1)))
               (Contains-append_right seen (needs uses (role_of types e.1)) _
               (needs_hold (role_of types e.1) _ inside (All-contains (Contains (stands_on uses (role_of types e.1))) (stands_on uses (role_of types (settle e.1))) _ (rw (keeps e.1) (All-contains_itself (stands_on uses (role_of types e.1)))) (Contains-get_or (stands_on uses (role_of types (settle e.1))) k d below)))),
           tt,
@@ -75,22 +75,22 @@ module _ (types : List TypeDef) where
     entry_walks_first carries settle keeps [] seen inside = tt
     entry_walks_first carries settle keeps (e ∷ es) seen inside =
         DependenciesFirst-append uses (entry_walk types uses carries settle e) (flat_map (entry_walk types uses carries settle) es) seen (entry_walk_first carries settle keeps e seen (inside e (Contains-here e es)))
-        (entry_walks_first carries settle keeps es (seen ++ ids_of (entry_walk types uses carries settle e)) (λ f has. inside f (Contains-there e f es has)))
+        (entry_walks_first carries settle keeps es (seen ++ keyed_interfaces (entry_walk types uses carries settle e)) (λ f has. inside f (Contains-there e f es has)))
 
-  pub DependenciesFirst-fresh : (uses : List (List ℕ)) (es : List Entry) (before : List ℕ) (seen : List WorldKey) → ((j : ℕ) → Contains before j → Contains (ids_of_keys seen) j) → DependenciesFirst types uses before es → DependenciesFirst types uses (ids_of_keys seen) (fresh_entries seen es)
+  pub DependenciesFirst-fresh : (uses : List (List ℕ)) (es : List Entry) (before : List ℕ) (seen : List WorldKey) → ((j : ℕ) → Contains before j → Contains (interfaces_of_keys seen) j) → DependenciesFirst types uses before es → DependenciesFirst types uses (interfaces_of_keys seen) (fresh_entries seen es)
   DependenciesFirst-fresh uses [] before seen wider df = tt
   DependenciesFirst-fresh uses (e ∷ es) before seen wider df =
       elim (cases_Bool (list_any (same_key e.0) seen)) [
         | inl known ↦ rw (fresh_entries-known seen e es known)
-            (DependenciesFirst-fresh uses es (before ++ id_of e.0) seen (λ j has. elim (Contains-append_cases before (id_of e.0) j has) [
+            (DependenciesFirst-fresh uses es (before ++ key_interface e.0) seen (λ j has. elim (Contains-append_cases before (key_interface e.0) j has) [
               | inl old ↦ wider j old
-              | inr own ↦ Contains-flat_map id_of seen e.0 j (contains_from_known e.0 seen known) own
+              | inr own ↦ Contains-flat_map key_interface seen e.0 j (contains_from_known e.0 seen known) own
             ]) df.1)
         | inr new ↦ rw (fresh_entries-new seen e es new) (
           (λ k d below. wider _ (df.0 k d below)),
-          subst (λ ids. DependenciesFirst types uses ids (fresh_entries (seen ++ e.0 ∷ []) es)) (rw (flat_map-append id_of seen (e.0 ∷ []), append-nil (id_of e.0)) refl)
-              (DependenciesFirst-fresh uses es (before ++ id_of e.0) (seen ++ e.0 ∷ []) (λ j has. rw (flat_map-append id_of seen (e.0 ∷ []), append-nil (id_of e.0))
-              (elim (Contains-append_cases before (id_of e.0) j has)
-              [ inl old ↦ Contains-append_left (ids_of_keys seen) (id_of e.0) j (wider j old) | inr own ↦ Contains-append_right (ids_of_keys seen) (id_of e.0) j own ])) df.1),
+          subst (λ ids. DependenciesFirst types uses ids (fresh_entries (seen ++ e.0 ∷ []) es)) (rw (flat_map-append key_interface seen (e.0 ∷ []), append-nil (key_interface e.0)) refl)
+              (DependenciesFirst-fresh uses es (before ++ key_interface e.0) (seen ++ e.0 ∷ []) (λ j has. rw (flat_map-append key_interface seen (e.0 ∷ []), append-nil (key_interface e.0))
+              (elim (Contains-append_cases before (key_interface e.0) j has)
+              [ inl old ↦ Contains-append_left (interfaces_of_keys seen) (key_interface e.0) j (wider j old) | inr own ↦ Contains-append_right (interfaces_of_keys seen) (key_interface e.0) j own ])) df.1),
         )
       ]

@@ -10,7 +10,7 @@ use Rattle.wit_relations.specs.MemberFacts.{Contains-nil, Contains-here, Contain
 use Rattle.wit_relations.specs.WalkFacts.{Reaches-from_walk, walk-from_IsPath}
 use Rattle.wit_relations.specs.Relation.{direct, IsAcyclic}
 use Rattle.wit_relations.specs.Walks.{walk}
-use Rattle.wit_graph.specs.Entries.{Entry, instance_of}
+use Rattle.wit_graph.specs.Entries.{Entry, item_interface}
 use Rattle.wit_graph.specs.ElaborationLaws.{ConflictsAreRefused}
 use Rattle.wit_graph.specs.Imported.{IsInConflict, IsRefusedKey, exported_keys, is_exported}
 use Rattle.wit_graph.proofs.ConflictIs.{conflict_found, conflict_from}
@@ -71,14 +71,14 @@ module _ (uses : List (List ℕ)) (acyclic : IsAcyclic uses) (exports : List Ent
   leads i = list_any (λ j. list_any is_outside (walk uses j)) (direct uses i)
 
   abbrev conflicts : Entry → Bool
-  conflicts e = list_any leads (instance_of e.1)
+  conflicts e = list_any leads (item_interface e.1)
 
   used_below : (i j : ℕ) → Contains (direct uses i) j → j < length uses
   used_below i j among = All-contains (λ x. x < length uses) (direct uses i) j (acyclic.in_range i) among
 
   conflicts_is : (e : Entry) → conflicts e ≡ true → IsInConflict uses exports e
   conflicts_is e found =
-      let i = passing leads (instance_of e.1) found in
+      let i = passing leads (item_interface e.1) found in
       let j = passing (λ k. list_any is_outside (walk uses k)) (direct uses i.0) i.1.1 in
       let below = used_below i.0 j.0 j.1.0 in
       let d = passing is_outside (walk uses j.0) j.1.1 in
@@ -93,7 +93,7 @@ module _ (uses : List (List ℕ)) (acyclic : IsAcyclic uses) (exports : List Ent
       let leads' = conflict.2 in
       let below = used_below conflict.0 leads'.0 leads'.2 in
       let below' = path_below uses acyclic leads'.0 leads'.3.0 leads'.1 below leads'.3.1 in
-      passes leads (instance_of e.1) conflict.0 conflict.1
+      passes leads (item_interface e.1) conflict.0 conflict.1
       (passes (λ k. list_any is_outside (walk uses k)) (direct uses conflict.0) leads'.0 leads'.2
       (passes is_outside (walk uses leads'.0) leads'.1 (walk-from_IsPath uses acyclic leads'.0 leads'.3.0 leads'.1 below leads'.3.1)
       (both (not (is_exported exports leads'.1)) (list_any (is_exported exports) (walk uses leads'.1)) (ap not (no_any_from leads'.1 (exported_keys exports) leads'.4))

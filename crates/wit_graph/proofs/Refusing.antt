@@ -16,7 +16,7 @@ use Rattle.wit_graph.specs.Elaboration.{AreElaborated, graph_uses, HasConflictAt
 use Rattle.wit_graph.specs.Entries.{Entry}
 use Rattle.wit_graph.specs.IdText.{key_text}
 use Rattle.wit_graph.specs.Imported.{HasConflict, IsRefusedKey, IsRefusedName, exported_keys, exported_interfaces}
-use Rattle.wit_graph.specs.Listed.{IsListed}
+use Rattle.wit_graph.specs.Sound.{HasSoundEntries}
 use Rattle.wit_graph.proofs.ConflictIs.{conflict_found, conflict_from}
 use Rattle.wit_graph.proofs.ElaboratedIs.{interfaces_below, keys_below, own_keys}
 use Rattle.wit_graph.proofs.Marking.{contains_at}
@@ -39,11 +39,11 @@ split_at (z ∷ zs) zero x at = let same : z ≡ x = cc in ap (λ y. y ∷ zs) s
 split_at (z ∷ zs) (suc i) x at = ap (λ l. z ∷ l) (split_at zs i x at)
 
 -- the same lists, in order over the rows
-pub listed_over : (g : Graph) (uses : List (List ℕ)) (w : World) → uses ≡ graph_uses g → IsListed g.types (length g.interfaces) w.imports w.exports → IsListed g.types (length uses) w.imports w.exports
+pub listed_over : (g : Graph) (uses : List (List ℕ)) (w : World) → uses ≡ graph_uses g → HasSoundEntries g.types (length g.interfaces) w.imports w.exports → HasSoundEntries g.types (length uses) w.imports w.exports
 listed_over g uses w uses_are listed =
-    subst (λ n. IsListed g.types n w.imports w.exports) (sym (ap length uses_are ∙ length-map g.interfaces (interface_uses g.types))) listed
+    subst (λ n. HasSoundEntries g.types n w.imports w.exports) (sym (ap length uses_are ∙ length-map g.interfaces (interface_uses g.types))) listed
 
-module _ (g : Graph) (uses : List (List ℕ)) (w : World) (acyclic : IsAcyclic uses) (listed : IsListed g.types (length uses) w.imports w.exports) where
+module _ (g : Graph) (uses : List (List ℕ)) (w : World) (acyclic : IsAcyclic uses) (listed : HasSoundEntries g.types (length uses) w.imports w.exports) where
   pub interfaces_in_range : All (λ i. i < length uses) (exported_interfaces w.exports)
   interfaces_in_range = interfaces_below g.types uses acyclic w.imports w.exports (in_order g.types (length uses) w.imports w.exports listed)
 

@@ -7,9 +7,9 @@ use Rattle.wit_items.specs.declared.types.TypeDef.{TypeDef}
 use Rattle.wit_items.specs.declared.world.WorldItem.{WorldItem}
 use Rattle.wit_items.specs.declared.world.WorldItem.TheVariants as item
 use Rattle.wit_relations.specs.MemberFacts.{Contains-nil, Contains-cons_cases}
-use Rattle.wit_graph.specs.Entries.{Entry, Instance, type_role, function_role, role_of, instance_of, is_instance, class_of}
+use Rattle.wit_graph.specs.Entries.{Entry, Instance, type_role, function_role, role_of, item_interface, is_instance, class_of}
 use Rattle.wit_graph.specs.Elaborated.{settled_item}
-use Rattle.wit_graph.specs.Listed.{IsUnderOwnKey, IsRoleInRange, IsListed}
+use Rattle.wit_graph.specs.Sound.{IsUnderOwnKey, IsRoleInRange, HasSoundEntries}
 use Rattle.wit_graph.proofs.Order.{AreOwn}
 
 -- what is so of each element is so of a member
@@ -37,12 +37,12 @@ module _ (types : List TypeDef) where
   role_of-settled (item.Function function) = refl
   role_of-settled (item.Type_ id span) = refl
 
-  pub role_from_instance : (x : WorldItem) (i : ℕ) → instance_of x ≡ i ∷ [] → role_of types x ≡ Instance i
+  pub role_from_instance : (x : WorldItem) (i : ℕ) → item_interface x ≡ i ∷ [] → role_of types x ≡ Instance i
   role_from_instance (item.Interface j stability docs span external_id) i same = let one : j ≡ i = cc in ap (λ k. Instance k) one
   role_from_instance (item.Function function) i same = cc
   role_from_instance (item.Type_ id span) i same = cc
 
-  pub instance_from_role : (x : WorldItem) (i : ℕ) → role_of types x ≡ Instance i → instance_of x ≡ i ∷ []
+  pub instance_from_role : (x : WorldItem) (i : ℕ) → role_of types x ≡ Instance i → item_interface x ≡ i ∷ []
   instance_from_role (item.Interface j stability docs span external_id) i same = let one : j ≡ i = cc in ap (λ k. k ∷ []) one
   instance_from_role (item.Function function) i same = absurd (function_role-other (resource_of function.kind) i same)
   instance_from_role (item.Type_ id span) i same = absurd (type_role-other (type_interface_dep types id) i same)
@@ -67,7 +67,7 @@ module _ (types : List TypeDef) where
   own_from : (es : List Entry) → AllByRecursion (λ (e : Entry). IsUnderOwnKey e.0 e.1) es → AreOwn types es
   own_from es all e i has is = role_from_instance e.1 i (subst (λ k. IsUnderOwnKey k e.1) is (each_member (λ (f : Entry). IsUnderOwnKey f.0 f.1) es e all has))
 
-  pub in_order : (interfaces : ℕ) (imports exports : List Entry) → IsListed types interfaces imports exports → InOrder interfaces imports exports
+  pub in_order : (interfaces : ℕ) (imports exports : List Entry) → HasSoundEntries types interfaces imports exports → InOrder interfaces imports exports
   in_order interfaces imports exports listed = record {
     own_imports = own_from imports listed.of_imports.own_keys;
     own_exports = own_from exports listed.of_exports.own_keys;

@@ -9,7 +9,7 @@ use Rattle.wit_relations.specs.Relation.{direct, IsPath, IsAcyclic}
 use Rattle.wit_relations.specs.Walks.{UsesFirst, walk}
 use Rattle.wit_graph.specs.Entries.{Role, Instance, TypeUse, TypeDefinition, FreeFunction, ResourceFunction}
 use Rattle.wit_graph.specs.Elaborated.{needs, import_steps_within, import_steps}
-use Rattle.wit_graph.specs.Listed.{IsRoleInRange}
+use Rattle.wit_graph.specs.Sound.{IsRoleInRange}
 
 pub path_below : (uses : List (List ℕ)) → IsAcyclic uses → (i : ℕ) (path : List ℕ) (j : ℕ) → i < length uses → IsPath uses i path j → j < length uses
 path_below uses acyclic i [] j here same = omega arith

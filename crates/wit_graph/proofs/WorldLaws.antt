@@ -4,7 +4,7 @@ use Rattle.std.specs.List.{flat_map}
 use Rattle.wit_items.specs.declared.types.TypeDef.{TypeDef}
 use Rattle.wit_items.specs.declared.world.World.{World}
 use Rattle.wit_relations.specs.MemberFacts.{Contains-flat_map, Contains-flat_map_cases}
-use Rattle.wit_graph.specs.Entries.{Entry, role_of, instance_of, id_of, ids_of}
+use Rattle.wit_graph.specs.Entries.{Entry, role_of, item_interface, key_interface, keyed_interfaces}
 use Rattle.wit_graph.specs.Elaborated.{Elaborated, elaborated_imports, elaborated_exports}
 use Rattle.wit_graph.specs.ElaborationLaws.{ElaboratesOnce, ImportsAreExact, ImportsKeepOrder, OrderIsFree, SameEntries, DependenciesFirst}
 use Rattle.wit_graph.specs.Imported.{Needed, HasConflict, IsImported, roots_of}
@@ -31,8 +31,8 @@ pub imports_are_exact : ImportsAreExact
 imports_are_exact types uses old new j acyclic listed is =
     let order = in_order types (length uses) old.imports old.exports listed in
     let imports_are : new.imports ≡ elaborated_imports types uses old.imports old.exports = ap (λ (w : World). w.imports) is.world_is in (
-      λ has. exact_to types uses acyclic old.imports old.exports order j (subst (λ i. Contains (ids_of i) j) imports_are has),
-      λ need. subst (λ i. Contains (ids_of i) j) (sym imports_are) (exact_from types uses acyclic old.imports old.exports order j need),
+      λ has. exact_to types uses acyclic old.imports old.exports order j (subst (λ i. Contains (keyed_interfaces i) j) imports_are has),
+      λ need. subst (λ i. Contains (keyed_interfaces i) j) (sym imports_are) (exact_from types uses acyclic old.imports old.exports order j need),
     )
 
 pub imports_keep_order : ImportsKeepOrder
@@ -53,15 +53,15 @@ needed_either : (uses : List (List ℕ)) (xs ys : List Entry) → SameEntries xs
 needed_either uses xs ys same j need = (
   need.0,
   need.1,
-  same_flat (λ (e : Entry). instance_of e.1) xs ys same need.0 need.2,
+  same_flat (λ (e : Entry). item_interface e.1) xs ys same need.0 need.2,
   need.3,
-  λ has. need.4 (same_flat (λ (e : Entry). id_of e.0) ys xs (other_way xs ys same) need.1 has),
+  λ has. need.4 (same_flat (λ (e : Entry). key_interface e.0) ys xs (other_way xs ys same) need.1 has),
   need.5,
 )
 
 conflict_either : (uses : List (List ℕ)) (xs ys : List Entry) → SameEntries xs ys → HasConflict uses xs → HasConflict uses ys
 conflict_either uses xs ys same conflict =
-    (conflict.0, needed_either uses xs ys same conflict.0 conflict.1, same_flat (λ (e : Entry). id_of e.0) xs ys same conflict.0 conflict.2)
+    (conflict.0, needed_either uses xs ys same conflict.0 conflict.1, same_flat (λ (e : Entry). key_interface e.0) xs ys same conflict.0 conflict.2)
 
 imported_either : (types : List TypeDef) (uses : List (List ℕ)) (imports imports' exports exports' : List Entry) → SameEntries imports imports' → SameEntries exports exports' → (j : ℕ) →
     IsImported types uses imports exports j → IsImported types uses imports' exports' j

@@ -13,7 +13,7 @@ use Rattle.wit_items.specs.declared.world.WorldKey.TheVariants.{Interface}
 pub use Rattle.wit_graph.specs.declared.entries.Carried.{Carried}
 use Rattle.wit_relations.specs.Relation.{direct}
 use Rattle.wit_relations.specs.Walks.{walk}
-use Rattle.wit_graph.specs.Entries.{Entry, Role, Instance, TypeUse, TypeDefinition, FreeFunction, ResourceFunction, role_of, instance_of, is_interface, fresh_entries, by_class}
+use Rattle.wit_graph.specs.Entries.{Entry, Role, Instance, TypeUse, TypeDefinition, FreeFunction, ResourceFunction, role_of, item_interface, is_interface, fresh_entries, by_class}
 use Rattle.wit_graph.specs.Imported.{HasConflict, is_exported}
 
 -- ---- what a dependency carries
@@ -71,7 +71,7 @@ import_steps uses exported i = import_steps_within uses exported (length uses) i
 
 -- what the export of an interface needs imported
 abbrev pub export_imports : List (List ℕ) → (ℕ → Bool) → Entry → List Entry
-export_imports uses exported e = flat_map (λ i. map (dependency_of (export_carries e.1)) (import_steps uses exported i)) (instance_of e.1)
+export_imports uses exported e = flat_map (λ i. map (dependency_of (export_carries e.1)) (import_steps uses exported i)) (item_interface e.1)
 
 -- the uses of exported interfaces alone
 abbrev pub exported_uses : (ℕ → Bool) → List (List ℕ) → List (List ℕ)

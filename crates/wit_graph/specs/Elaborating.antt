@@ -7,7 +7,7 @@ use Rattle.wit_relations.specs.Relation.{direct, Reaches}
 use Rattle.wit_relations.specs.Walks.{Listed, UsesFirst}
 use Rattle.wit_graph.specs.declared.marks.Marks.{Marks}
 use Rattle.wit_graph.specs.Elaborated.{dependency_of, export_carries, needs}
-use Rattle.wit_graph.specs.Entries.{Entry, Instance, instance_of}
+use Rattle.wit_graph.specs.Entries.{Entry, Instance, item_interface}
 use Rattle.wit_graph.specs.Imported.{exported_keys, IsInConflict}
 
 -- what was walked has all its uses walked before it
@@ -76,8 +76,8 @@ pub record IsExporting (uses : List (List ℕ)) (exported : ℕ → Bool) (walke
 
 -- where the walk of an exported interface is parted by what is exported: the exports of its members, then its own
 abbrev pub walked_exports : List (List ℕ) → (ℕ → Bool) → Entry → List Entry
-walked_exports uses exported e = map (dependency_of (export_carries e.1)) (filter exported (flat_map (λ i. needs uses (Instance i)) (instance_of e.1))) ++ e ∷ []
+walked_exports uses exported e = map (dependency_of (export_carries e.1)) (filter exported (flat_map (λ i. needs uses (Instance i)) (item_interface e.1))) ++ e ∷ []
 
 -- and the imports of the others
 abbrev pub walked_imports : List (List ℕ) → (ℕ → Bool) → Entry → List Entry
-walked_imports uses exported e = map (dependency_of (export_carries e.1)) (filter (λ i. not (exported i)) (flat_map (λ i. needs uses (Instance i)) (instance_of e.1)))
+walked_imports uses exported e = map (dependency_of (export_carries e.1)) (filter (λ i. not (exported i)) (flat_map (λ i. needs uses (Instance i)) (item_interface e.1)))

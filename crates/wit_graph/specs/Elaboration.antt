@@ -12,15 +12,15 @@ use Rattle.wit_graph.specs.Elaborated.{Elaborated, elaborated_imports, elaborate
 use Rattle.wit_graph.specs.Entries.{Entry}
 use Rattle.wit_graph.specs.IdText.{key_text}
 use Rattle.wit_graph.specs.Imported.{HasConflict, IsRefusedName}
-use Rattle.wit_graph.specs.Listed.{IsListed}
+use Rattle.wit_graph.specs.Sound.{HasSoundEntries}
 
 -- which interfaces of a graph use which
 abbrev pub graph_uses : Graph → List (List ℕ)
 graph_uses g = uses_of g.types g.interfaces
 
 -- the keys and ids of the world at a place are in order
-abbrev pub IsListedAt : Graph → ℕ → Type 0
-IsListedAt g id = ForSome (slice_get g.worlds id) (λ (world : World). IsListed g.types (length g.interfaces) world.imports world.exports)
+abbrev pub HasSoundEntriesAt : Graph → ℕ → Type 0
+HasSoundEntriesAt g id = ForSome (slice_get g.worlds id) (λ (world : World). HasSoundEntries g.types (length g.interfaces) world.imports world.exports)
 
 -- the exports of the world at a place are in conflict
 abbrev pub HasConflictAt : Graph → ℕ → Type 0
@@ -59,4 +59,4 @@ IsErrorAt g world at e =
 pub record CanElaborate (g : Graph) (id : ℕ) : Type 0 where
   pub there : id < length g.worlds
   pub acyclic : IsAcyclic (graph_uses g)
-  pub listed : IsListedAt g id
+  pub listed : HasSoundEntriesAt g id

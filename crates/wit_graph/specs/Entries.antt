@@ -1,6 +1,5 @@
 -- The entries of a world: their keys, what they are to its elaboration, and their order by class.
 use Rattle.std.specs.Prelude.{ℕ, Bool, true, false, List, [], ◌∷◌, ◌++◌, Option, Some, None, filter, nat_eq, if◌then◌else◌}
-use Rattle.std.specs.Str.{bytes_eq}
 use Rattle.std.specs.List.{flat_map, list_any}
 use Rattle.wit_items.specs.Function.{resource_of}
 use Rattle.wit_items.specs.Uses.{type_interface_dep}
@@ -9,30 +8,21 @@ use Rattle.wit_items.specs.declared.world.WorldItem.{WorldItem}
 use Rattle.wit_items.specs.declared.world.WorldItem.TheVariants as item
 use Rattle.wit_items.specs.declared.world.WorldKey.{WorldKey}
 use Rattle.wit_items.specs.declared.world.WorldKey.TheVariants.{Name, Interface}
+pub use Rattle.wit_items.specs.Entries.{Entry, item_interface}
+pub use Rattle.wit_items.specs.WorldKeyFacts.{same_key}
 pub use Rattle.wit_graph.specs.declared.role.Role.{Role}
 pub use Rattle.wit_graph.specs.declared.role.Role.TheVariants.{Instance, TypeUse, TypeDefinition, FreeFunction, ResourceFunction}
 
--- an import or an export: a key, and what stands under it
-abbrev pub Entry : Type 0
-Entry = WorldKey × WorldItem
-
 -- ---- keys
 
--- two keys are the same label, or name the same interface
-abbrev pub same_key : WorldKey → WorldKey → Bool
-same_key (Name a) (Name b) = bytes_eq a b
-same_key (Interface i) (Interface j) = nat_eq i j
-same_key (Name a) (Interface j) = false
-same_key (Interface i) (Name b) = false
-
 -- the interface that a key names: none where it is a label
-abbrev pub id_of : WorldKey → List ℕ
-id_of (Name label) = []
-id_of (Interface i) = i ∷ []
+abbrev pub key_interface : WorldKey → List ℕ
+key_interface (Name label) = []
+key_interface (Interface i) = i ∷ []
 
 -- the interfaces that stand in a list under their own keys
-abbrev pub ids_of : List Entry → List ℕ
-ids_of entries = flat_map (λ (e : Entry). id_of e.0) entries
+abbrev pub keyed_interfaces : List Entry → List ℕ
+keyed_interfaces entries = flat_map (λ (e : Entry). key_interface e.0) entries
 
 -- the entries whose keys are not among those seen, of each key the first
 abbrev pub fresh_entries : List WorldKey → List Entry → List Entry
@@ -40,12 +30,6 @@ fresh_entries seen [] = []
 fresh_entries seen (e ∷ es) = if list_any (same_key e.0) seen then fresh_entries seen es else e ∷ fresh_entries (seen ++ e.0 ∷ []) es
 
 -- ---- items
-
--- the interface that an item is: none where it is a function or a type
-abbrev pub instance_of : WorldItem → List ℕ
-instance_of (item.Interface i stability docs span external_id) = i ∷ []
-instance_of (item.Function function) = []
-instance_of (item.Type_ id span) = []
 
 -- is the item an interface?
 abbrev pub is_instance : WorldItem → Bool

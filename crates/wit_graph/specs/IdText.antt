@@ -1,5 +1,5 @@
 -- The texts that name things of a graph from outside.
--- Source: `id_of`, `id_of_name` and `name_world_key` of wit-parser 0.263.0; the component model's
+-- Source: `key_interface`, `id_of_name` and `name_world_key` of wit-parser 0.263.0; the component model's
 -- interface names.
 use Rattle.std.specs.Prelude.{ℕ, List, [], ◌∷◌, ◌++◌, Option, slice_get, option_and_then, unwrap_or}
 use Rattle.std.specs.Option.{option_map, option_map_or}

@@ -10,21 +10,21 @@ use Rattle.wit_items.specs.declared.world.WorldKey.{WorldKey}
 use Rattle.wit_items.specs.declared.world.WorldKey.TheVariants as key
 use Rattle.wit_relations.specs.Relation.{direct, Reaches}
 use Rattle.wit_graph.specs.declared.graph.Package.{Package}
-use Rattle.wit_graph.specs.Entries.{Entry, Role, Instance, TypeUse, TypeDefinition, FreeFunction, ResourceFunction, role_of, instance_of, ids_of}
+use Rattle.wit_graph.specs.Entries.{Entry, Role, Instance, TypeUse, TypeDefinition, FreeFunction, ResourceFunction, role_of, item_interface, keyed_interfaces}
 use Rattle.wit_graph.specs.IdText.{key_text}
 
 -- ---- exports
 
 -- the interfaces that are exported under their own keys
 abbrev pub exported_keys : List Entry → List ℕ
-exported_keys exports = ids_of exports
+exported_keys exports = keyed_interfaces exports
 
 abbrev pub is_exported : List Entry → ℕ → Bool
 is_exported exports i = list_any (nat_eq i) (exported_keys exports)
 
 -- all exported interfaces, under labels or under their own keys
 abbrev pub exported_interfaces : List Entry → List ℕ
-exported_interfaces exports = flat_map (λ (e : Entry). instance_of e.1) exports
+exported_interfaces exports = flat_map (λ (e : Entry). item_interface e.1) exports
 
 -- ---- imports
 
@@ -64,7 +64,7 @@ LeadsToConflict uses exports i =
 
 -- so does the interface of this entry
 abbrev pub IsInConflict : List (List ℕ) → List Entry → Entry → Type 0
-IsInConflict uses exports e = (i : ℕ) × Contains (instance_of e.1) i × LeadsToConflict uses exports i
+IsInConflict uses exports e = (i : ℕ) × Contains (item_interface e.1) i × LeadsToConflict uses exports i
 
 -- the refused key is that of the first export that leads to the conflict
 abbrev pub IsRefusedKey : List (List ℕ) → List Entry → WorldKey → Type 0

@@ -7,10 +7,10 @@ use Rattle.wit_items.specs.declared.world.World.{World}
 use Rattle.wit_items.specs.declared.world.WorldKey.{WorldKey}
 use Rattle.wit_items.specs.declared.world.WorldKey.TheVariants.{Name, Interface}
 use Rattle.wit_relations.specs.Relation.{direct, IsAcyclic}
-use Rattle.wit_graph.specs.Entries.{Entry, TypeUse, role_of, ids_of, by_class}
+use Rattle.wit_graph.specs.Entries.{Entry, TypeUse, role_of, keyed_interfaces, by_class}
 use Rattle.wit_graph.specs.Elaborated.{Carried, Elaborated, dependency_of, import_carries, settled_item}
 use Rattle.wit_graph.specs.Imported.{Needed, IsImported, exported_keys, roots_of}
-use Rattle.wit_graph.specs.Listed.{IsListed}
+use Rattle.wit_graph.specs.Sound.{HasSoundEntries}
 use Rattle.wit_values.specs.Table.{HasDistinctKeys}
 
 -- ---- a graph that grows
@@ -26,19 +26,19 @@ SameCarried types wider entries = (e : Entry) → Contains entries e → import_
 -- more interfaces, and other types over which the imports are and carry what they were and did, change no elaboration
 abbrev pub ElaborationIsLocal : Type 0
 ElaborationIsLocal = (types wider : List TypeDef) (uses rows : List (List ℕ)) (old new : World) → IsAcyclic uses → IsAcyclic (uses ++ rows) →
-    IsListed types (length uses) old.imports old.exports → SameRoles types wider old.imports → SameCarried types wider old.imports →
+    HasSoundEntries types (length uses) old.imports old.exports → SameRoles types wider old.imports → SameCarried types wider old.imports →
     Elaborated types uses old new → Elaborated wider (uses ++ rows) old new
 
 -- ---- the keys
 
 -- no two imports of an elaborated world have one key, nor have two exports where no two of those listed had
 abbrev pub ElaboratedOnce : Type 0
-ElaboratedOnce = (types : List TypeDef) (uses : List (List ℕ)) (old new : World) → IsAcyclic uses → IsListed types (length uses) old.imports old.exports →
+ElaboratedOnce = (types : List TypeDef) (uses : List (List ℕ)) (old new : World) → IsAcyclic uses → HasSoundEntries types (length uses) old.imports old.exports →
     Elaborated types uses old new → HasDistinctKeys new.imports × (HasDistinctKeys old.exports → HasDistinctKeys new.exports)
 
 -- the keys of the exports stay
 abbrev pub ExportKeysStay : Type 0
-ExportKeysStay = (types : List TypeDef) (uses : List (List ℕ)) (old new : World) (k : WorldKey) → IsAcyclic uses → IsListed types (length uses) old.imports old.exports →
+ExportKeysStay = (types : List TypeDef) (uses : List (List ℕ)) (old new : World) (k : WorldKey) → IsAcyclic uses → HasSoundEntries types (length uses) old.imports old.exports →
     Elaborated types uses old new → Contains (keys_of new.exports) k ↔ Contains (keys_of old.exports) k
 
 -- is the key a label?
@@ -56,7 +56,7 @@ settled e = (e.0, settled_item e.1)
 
 -- the imports under labels are those that were listed, by class
 abbrev pub LabelsStay : Type 0
-LabelsStay = (types : List TypeDef) (uses : List (List ℕ)) (old new : World) → IsAcyclic uses → IsListed types (length uses) old.imports old.exports → HasDistinctKeys old.imports →
+LabelsStay = (types : List TypeDef) (uses : List (List ℕ)) (old new : World) → IsAcyclic uses → HasSoundEntries types (length uses) old.imports old.exports → HasDistinctKeys old.imports →
     Elaborated types uses old new → labelled new.imports ≡ map settled (labelled (by_class types old.imports))
 
 -- ---- the entries
@@ -80,15 +80,15 @@ IsMadeExport exports e = (carried : Carried) × (j : ℕ) × (e ≡ dependency_o
 
 -- each import was listed or is a dependency, and so is each export
 abbrev pub ElaboratedEntries : Type 0
-ElaboratedEntries = (types : List TypeDef) (uses : List (List ℕ)) (old new : World) (e : Entry) → IsAcyclic uses → IsListed types (length uses) old.imports old.exports →
+ElaboratedEntries = (types : List TypeDef) (uses : List (List ℕ)) (old new : World) (e : Entry) → IsAcyclic uses → HasSoundEntries types (length uses) old.imports old.exports →
     Elaborated types uses old new →
     (Contains new.imports e → IsSettled old.imports e ⊎ IsMadeImport types uses old.imports old.exports e)
     × (Contains new.exports e → Contains old.exports e ⊎ IsMadeExport old.exports e)
 
 -- the keys and ids of an elaborated world are in order too
 abbrev pub ListedStays : Type 0
-ListedStays = (types : List TypeDef) (uses : List (List ℕ)) (old new : World) → IsAcyclic uses → IsListed types (length uses) old.imports old.exports →
-    Elaborated types uses old new → IsListed types (length uses) new.imports new.exports
+ListedStays = (types : List TypeDef) (uses : List (List ℕ)) (old new : World) → IsAcyclic uses → HasSoundEntries types (length uses) old.imports old.exports →
+    Elaborated types uses old new → HasSoundEntries types (length uses) new.imports new.exports
 
 -- ---- the least imports
 
@@ -100,7 +100,7 @@ pub record HoldsImports (types : List TypeDef) (uses : List (List ℕ)) (imports
 
 -- the interfaces that an elaborated world imports are such a set, and each such set that a test tells has them all
 abbrev pub ImportsAreLeast : Type 0
-ImportsAreLeast = (types : List TypeDef) (uses : List (List ℕ)) (old new : World) → IsAcyclic uses → IsListed types (length uses) old.imports old.exports →
+ImportsAreLeast = (types : List TypeDef) (uses : List (List ℕ)) (old new : World) → IsAcyclic uses → HasSoundEntries types (length uses) old.imports old.exports →
     Elaborated types uses old new →
-    HoldsImports types uses old.imports old.exports (Contains (ids_of new.imports))
-    × ((test : ℕ → Bool) → HoldsImports types uses old.imports old.exports (λ i. test i ≡ true) → All (λ i. test i ≡ true) (ids_of new.imports))
+    HoldsImports types uses old.imports old.exports (Contains (keyed_interfaces new.imports))
+    × ((test : ℕ → Bool) → HoldsImports types uses old.imports old.exports (λ i. test i ≡ true) → All (λ i. test i ≡ true) (keyed_interfaces new.imports))

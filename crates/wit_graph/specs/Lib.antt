@@ -13,8 +13,8 @@ pub mod HeldFacts
 pub mod IdText
 pub mod Imported
 pub mod KeptByElaboration
-pub mod Listed
-pub mod ListedFacts
+pub mod Sound
+pub mod SoundFacts
 pub mod Questions
 pub mod Relations
 pub mod Rendered

@@ -7,7 +7,7 @@ ghost use Rattle.std.specs.Prelude.{◌≡◌, ◌++◌, ◌∷◌, ◌<◌, ◌
 ghost use Rattle.std.specs.List.{flat_map};
 ghost use Rattle.wit_graph.specs.Elaborated.{needs};
 ghost use Rattle.wit_graph.specs.Elaborating.{AreMarked, AreOutside, HasMarkedUse, HaveNodes, IsFirstConflict, IsWalk, TellsExported};
-ghost use Rattle.wit_graph.specs.Entries.{Entry, instance_of};
+ghost use Rattle.wit_graph.specs.Entries.{Entry, item_interface};
 ghost use Rattle.wit_graph.specs.Imported.{LeadsToConflict, exported_interfaces, exported_keys};
 ghost use Rattle.wit_relations.specs.Relation.{IsAcyclic, direct};
 ghost use Rattle.wit_relations.specs.Walks.{UsesFirst, first_of_each, fresh};
@@ -162,7 +162,7 @@ fn first_conflict(
 ) -> Option<usize>
     requires in_range { All (λ i. i < length uses.now) (exported_interfaces exports.now) }
     requires uses_in_range { (i : ℕ) → All (λ j. j < leading.now.nodes) (direct uses.now i) }
-    requires marked { (e : Entry) → (i : ℕ) → Contains exports.now e → Contains (instance_of e.1) i → HasMarkedUse uses.now leading.now.order i ↔ LeadsToConflict uses.now exports.now i }
+    requires marked { (e : Entry) → (i : ℕ) → Contains exports.now e → Contains (item_interface e.1) i → HasMarkedUse uses.now leading.now.order i ↔ LeadsToConflict uses.now exports.now i }
     ensures { IsFirstConflict uses.now exports.now result }
 {
     for index in 0..exports.len() {

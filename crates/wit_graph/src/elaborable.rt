@@ -2,7 +2,7 @@
 ghost use Rattle.std.specs.Prelude.{◌≡◌, ◌↔◌, ◌<◌, IfOk, IsTrue, length};
 ghost use Rattle.wit_graph.specs.Elaboration.{CanElaborate};
 ghost use Rattle.wit_graph.specs.Entries.{role_of};
-ghost use Rattle.wit_graph.specs.Listed.{AreListed, IsListed, IsRoleInRange, IsUnderOwnKey};
+ghost use Rattle.wit_graph.specs.Sound.{AreSound, HasSoundEntries, IsRoleInRange, IsUnderOwnKey};
 
 use crate::graph::Graph;
 use crate::role::{Role, item_interface};
@@ -21,7 +21,7 @@ pub fn is_elaborable(alloc: Global, graph: &Graph, world: WorldId) -> Result<boo
         return Ok(false);
     };
     let types = graph.types.as_slice();
-    if !is_listed(types, graph.interfaces.len(), listed) {
+    if !has_sound_entries(types, graph.interfaces.len(), listed) {
         return Ok(false);
     }
     let uses = uses_of(alloc, types, graph.interfaces.as_slice())?;
@@ -30,15 +30,15 @@ pub fn is_elaborable(alloc: Global, graph: &Graph, world: WorldId) -> Result<boo
 
 /// Whether the keys and ids of a world are in order, over these types and so many interfaces: what
 /// stands under the key of an interface is that interface, and the interfaces of all entries are there.
-fn is_listed(types: &[TypeDef], interfaces: usize, world: &World) -> bool
-    ensures { IsTrue result ↔ IsListed types.now interfaces world.now.imports world.now.exports }
+fn has_sound_entries(types: &[TypeDef], interfaces: usize, world: &World) -> bool
+    ensures { IsTrue result ↔ HasSoundEntries types.now interfaces world.now.imports world.now.exports }
 {
-    are_listed(types, interfaces, &world.imports) && are_listed(types, interfaces, &world.exports)
+    are_sound(types, interfaces, &world.imports) && are_sound(types, interfaces, &world.exports)
 }
 
 /// Whether the keys and ids of entries are in order.
-fn are_listed(types: &[TypeDef], interfaces: usize, entries: &Table<WorldKey, WorldItem>) -> bool
-    ensures { IsTrue result ↔ AreListed types.now interfaces entries.now }
+fn are_sound(types: &[TypeDef], interfaces: usize, entries: &Table<WorldKey, WorldItem>) -> bool
+    ensures { IsTrue result ↔ AreSound types.now interfaces entries.now }
 {
     for index in 0..entries.len() {
         let (key, item) = entries.entry_at(index);

@@ -5,9 +5,9 @@
 ghost use Rattle.std.specs.Prelude.{◌≡◌, ◌<◌, ◌++◌, ◌∷◌, [], IfOk, IfErr, OnOk, OnErr, length, take};
 ghost use Rattle.wit_graph.specs.Elaborated.{elaborated_exports, elaborated_imports};
 ghost use Rattle.wit_graph.specs.Elaborating.{HaveNodes, TellsExported};
-ghost use Rattle.wit_graph.specs.Elaboration.{AreElaborated, ElaboratesWorld, HasConflictAt, IsConflictError, IsElaborationError, IsErrorAt, IsListedAt, graph_uses};
+ghost use Rattle.wit_graph.specs.Elaboration.{AreElaborated, ElaboratesWorld, HasConflictAt, IsConflictError, IsElaborationError, IsErrorAt, HasSoundEntriesAt, graph_uses};
 ghost use Rattle.wit_graph.specs.Imported.{HasConflict};
-ghost use Rattle.wit_graph.specs.Listed.{IsListed};
+ghost use Rattle.wit_graph.specs.Sound.{HasSoundEntries};
 ghost use Rattle.wit_graph.specs.declared.error_kind.ResolveErrorKind.TheVariants.{OutOfMemory};
 ghost use Rattle.wit_items.specs.Uses.{uses_of};
 ghost use Rattle.wit_relations.specs.Relation.{IsAcyclic};
@@ -128,7 +128,7 @@ impl Elaborator {
         requires uses { self.old ≡ graph_uses graph.old }
         requires world { world < length graph.old.worlds }
         requires acyclic { IsAcyclic (graph_uses graph.old) }
-        requires listed { IsListedAt graph.old world }
+        requires listed { HasSoundEntriesAt graph.old world }
         ensures ok { OnOk result (ElaboratesWorld graph.old world graph.new) }
         ensures err { OnErr result (graph.new ≡ graph.old) }
         ensures cause { IfErr result (IsElaborationError graph.old world) }
@@ -153,7 +153,7 @@ impl Elaborator {
         requires uses { self.old ≡ graph_uses graph.now }
         requires world { world < length graph.now.worlds }
         requires acyclic { IsAcyclic (graph_uses graph.now) }
-        requires listed { IsListedAt graph.now world }
+        requires listed { HasSoundEntriesAt graph.now world }
         ensures ok { IfOk result (AreElaborated graph.now world) }
         ensures cause { IfErr result (IsElaborationError graph.now world) }
         ensures same { self.new ≡ self.old }
@@ -166,7 +166,7 @@ impl Elaborator {
     pub fn lists_for(&mut self, alloc: Global, graph: &Graph, world: &World) -> ResolveResult<Lists>
         requires uses { self.old ≡ graph_uses graph.now }
         requires acyclic { IsAcyclic (graph_uses graph.now) }
-        requires listed { IsListed graph.now.types (length graph.now.interfaces) world.now.imports world.now.exports }
+        requires listed { HasSoundEntries graph.now.types (length graph.now.interfaces) world.now.imports world.now.exports }
         ensures no_conflict { OnOk result (HasConflict (graph_uses graph.now) world.now.exports → ⊥) }
         ensures imports { IfOk result (λ lists. lists.imports ≡ elaborated_imports graph.now.types (graph_uses graph.now) world.now.imports world.now.exports) }
         ensures exports { IfOk result (λ lists. lists.exports ≡ elaborated_exports graph.now.types (graph_uses graph.now) world.now.exports) }
@@ -222,7 +222,7 @@ fn lists_of(
     world: &World,
 ) -> Result<Lists, AllocError>
     requires acyclic { IsAcyclic uses.now }
-    requires listed { IsListed types.now (length uses.now) world.now.imports world.now.exports }
+    requires listed { HasSoundEntries types.now (length uses.now) world.now.imports world.now.exports }
     requires no_conflict { HasConflict uses.now world.now.exports → ⊥ }
     requires nodes { HaveNodes marks.old (length uses.now) }
     requires exported { TellsExported marks.old.exported.order world.now.exports }
@@ -265,7 +265,7 @@ fn lists_of(
 pub fn elaborate(alloc: Global, graph: &mut Graph, world: WorldId) -> ResolveResult<()>
     requires world { world < length graph.old.worlds }
     requires acyclic { IsAcyclic (graph_uses graph.old) }
-    requires listed { IsListedAt graph.old world }
+    requires listed { HasSoundEntriesAt graph.old world }
     ensures ok { OnOk result (ElaboratesWorld graph.old world graph.new) }
     ensures err { OnErr result (graph.new ≡ graph.old) }
     ensures cause { IfErr result (IsElaborationError graph.old world) }

@@ -5,7 +5,7 @@ ghost use Rattle.std.specs.Map.{keys_of};
 ghost use Rattle.wit_graph.specs.Elaborated.{dependency_of, import_carries, import_walk, needs};
 ghost use Rattle.wit_graph.specs.Elaborating.{IsImporting, IsWalk};
 ghost use Rattle.wit_graph.specs.Entries.{by_class, fresh_entries, of_class, role_of};
-ghost use Rattle.wit_graph.specs.Listed.{AreListed, IsRoleInRange, IsUnderOwnKey};
+ghost use Rattle.wit_graph.specs.Sound.{AreSound, IsRoleInRange, IsUnderOwnKey};
 ghost use Rattle.wit_relations.specs.Relation.{IsAcyclic};
 ghost use Rattle.wit_relations.specs.Walks.{fresh};
 
@@ -116,7 +116,7 @@ fn import_class(
     class: u32,
 ) -> Result<(), AllocError>
     requires acyclic { IsAcyclic uses.now }
-    requires listed { AreListed types.now (length uses.now) listed.now }
+    requires listed { AreSound types.now (length uses.now) listed.now }
     requires state { IsImporting uses.now walked.old imports.old }
     ensures imports { OnOk result (imports.new ≡ imports.old ++ fresh_entries (keys_of imports.old) (flat_map (import_walk types.now uses.now) (of_class types.now class listed.now))) }
     ensures state { OnOk result (IsImporting uses.now walked.new imports.new) }
@@ -140,7 +140,7 @@ pub(crate) fn import_listed(
     listed: &Table<WorldKey, WorldItem>,
 ) -> Result<Table<WorldKey, WorldItem>, AllocError>
     requires acyclic { IsAcyclic uses.now }
-    requires listed { AreListed types.now (length uses.now) listed.now }
+    requires listed { AreSound types.now (length uses.now) listed.now }
     requires walk { IsWalk uses.now walked.old }
     requires none { walked.old.order ≡ [] }
     ensures imports { IfOk result (λ imports. imports ≡ fresh_entries [] (flat_map (import_walk types.now uses.now) (by_class types.now listed.now))) }

@@ -1,13 +1,13 @@
 //! What the items of a world are to its elaboration.
 ghost use Rattle.std.specs.Prelude.{◌≡◌};
 ghost use Rattle.std.specs.Option.{option_to_list};
-ghost use Rattle.wit_graph.specs.Entries.{class_of, id_of, instance_of, role_of};
+ghost use Rattle.wit_graph.specs.Entries.{class_of, key_interface, item_interface, role_of};
 
 use wit_items::{InterfaceId, TypeDef, WorldItem, WorldKey, type_interface_dep};
 
 /// The interface that a key names, None where it is a label.
 pub(crate) fn key_interface(key: &WorldKey) -> Option<InterfaceId>
-    ensures { option_to_list result ≡ id_of key.now }
+    ensures { option_to_list result ≡ key_interface key.now }
 {
     match key {
         WorldKey::Interface(id) => Some(*id),
@@ -17,7 +17,7 @@ pub(crate) fn key_interface(key: &WorldKey) -> Option<InterfaceId>
 
 /// The interface that an item is, None where it is a function or a type.
 pub(crate) fn item_interface(item: &WorldItem) -> Option<InterfaceId>
-    ensures { option_to_list result ≡ instance_of item.now }
+    ensures { option_to_list result ≡ item_interface item.now }
 {
     match item {
         WorldItem::Interface { id, .. } => Some(*id),

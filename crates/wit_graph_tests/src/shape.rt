@@ -12,6 +12,7 @@ use wit_items::{
     TypeOwner, UnresolvedPackage, UnresolvedPackageGroup, World, WorldId, WorldInclude, WorldItem,
     WorldKey,
 };
+use wit_shape::{is_group_shaped, is_shaped};
 
 /// What is changed of a shaped package.
 #[derive(Clone, Copy, Debug, PartialEq, Eq)]
@@ -113,24 +114,24 @@ const BREAKS: [Change; 40] = [
 ];
 
 /// Whether the package with this change is shaped.
-fn is_shaped(rt: &impl Abort, alloc: Global, change: Change) -> bool {
+fn keeps_shape(rt: &impl Abort, alloc: Global, change: Change) -> bool {
     let package = package(rt, alloc, change);
-    package.is_shaped(alloc).expect(rt, "memory")
+    is_shaped(alloc, &package).expect(rt, "memory")
 }
 
 /// Whether the group of a main and a nested package is shaped.
-fn is_group_shaped(rt: &impl Abort, alloc: Global, main: Change, nested: Change) -> bool {
+fn group_keeps_shape(rt: &impl Abort, alloc: Global, main: Change, nested: Change) -> bool {
     let group = group(rt, alloc, main, nested);
-    group.is_shaped(alloc).expect(rt, "memory")
+    is_group_shaped(alloc, &group).expect(rt, "memory")
 }
 
 #[test]
 fn each_rule_is_asked(rt: HostRuntime) {
     for change in KEEPS {
-        assert_eq!(rt; is_shaped(&rt, rt.alloc(), change), true, "{change:?}");
+        assert_eq!(rt; keeps_shape(&rt, rt.alloc(), change), true, "{change:?}");
     }
     for change in BREAKS {
-        assert_eq!(rt; is_shaped(&rt, rt.alloc(), change), false, "{change:?}");
+        assert_eq!(rt; keeps_shape(&rt, rt.alloc(), change), false, "{change:?}");
     }
 }
 
@@ -141,7 +142,7 @@ fn each_package_of_a_group_is_asked(rt: HostRuntime) {
         (Change::NotListed, Change::Nothing, false),
         (Change::Nothing, Change::NotListed, false),
     ] {
-        let shaped = is_group_shaped(&rt, rt.alloc(), main, nested);
+        let shaped = group_keeps_shape(&rt, rt.alloc(), main, nested);
         assert_eq!(rt; shaped, wanted, "{main:?} {nested:?}");
     }
 }

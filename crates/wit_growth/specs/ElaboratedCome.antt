@@ -11,7 +11,7 @@ use Rattle.wit_items.specs.declared.world.WorldItem.TheVariants as item
 use Rattle.wit_graph.specs.Elaborated.{Elaborated, settled_item}
 use Rattle.wit_graph.specs.Imported.{exported_keys}
 use Rattle.wit_graph.specs.KeptByElaboration.{ElaboratedEntries, ElaboratedOnce, IsUsed, settled}
-use Rattle.wit_graph.specs.Listed.{IsListed}
+use Rattle.wit_graph.specs.Sound.{HasSoundEntries}
 use Rattle.wit_graph.specs.declared.graph.Graph.{Graph}
 use Rattle.wit_growth.specs.Covered.{EntryComes, IsDependency, IsNoType, ItemComes, WorldComes}
 use Rattle.wit_growth.specs.Sources.{Source}
@@ -29,7 +29,7 @@ settled_comes s w (item.Function f) held comes = (comes.0, ap settled_item comes
 settled_comes s w (item.Type_ t span) held comes = (comes.0, ap settled_item comes.1)
 
 module _ {K : Type 0} (at : K → Source) (g : Graph) (w : ℕ) (listed done : World) (entries : ElaboratedEntries) (once : ElaboratedOnce)
-    (acyclic : IsAcyclic (uses_of g.types g.interfaces)) (in_order : IsListed g.types (length (uses_of g.types g.interfaces)) listed.imports listed.exports)
+    (acyclic : IsAcyclic (uses_of g.types g.interfaces)) (in_order : HasSoundEntries g.types (length (uses_of g.types g.interfaces)) listed.imports listed.exports)
     (used_named : (j : ℕ) → IsUsed g.types (uses_of g.types g.interfaces) listed.imports j → IsNamed g.interfaces j)
     (exported_named : (j : ℕ) → Contains (exported_keys listed.exports) j → IsNamed g.interfaces j)
     (comes : WorldComes at g w listed) (elaborated : Elaborated g.types (uses_of g.types g.interfaces) listed done) where

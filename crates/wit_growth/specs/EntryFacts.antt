@@ -18,10 +18,10 @@ use Rattle.wit_items.specs.declared.world.WorldItem.TheVariants as item
 use Rattle.wit_items.specs.declared.world.WorldKey.{WorldKey}
 use Rattle.wit_items.specs.declared.world.WorldKey.TheVariants as key
 use Rattle.wit_graph.specs.Elaborated.{Elaborated, settled_item}
-use Rattle.wit_graph.specs.Entries.{Entry, function_role, id_of, ids_of, instance_of, role_of, type_role}
+use Rattle.wit_graph.specs.Entries.{Entry, function_role, key_interface, keyed_interfaces, item_interface, role_of, type_role}
 use Rattle.wit_graph.specs.Imported.{exported_keys, roots_of}
 use Rattle.wit_graph.specs.KeptByElaboration.{HoldsImports, ImportsAreLeast}
-use Rattle.wit_graph.specs.ListedFacts.{dep_is_named, lists_in_order, named_within}
+use Rattle.wit_graph.specs.SoundFacts.{dep_is_named, lists_in_order, named_within}
 use Rattle.wit_graph.specs.Relations.{entry_interface, entry_interfaces, world_interfaces}
 use Rattle.wit_growth.specs.DependencyFacts.{filter_map_into}
 use Rattle.wit_growth.specs.ListFacts.{place_of}
@@ -38,7 +38,7 @@ settled_interface types (item.Interface i stability docs span external_id) = ref
 settled_interface types (item.Function f) = refl
 settled_interface types (item.Type_ t span) = refl
 
-pub instance_interface : (types : List TypeDef) (held : WorldItem) (i : ℕ) → Contains (instance_of held) i → entry_interface types held ≡ Some i
+pub instance_interface : (types : List TypeDef) (held : WorldItem) (i : ℕ) → Contains (item_interface held) i → entry_interface types held ≡ Some i
 instance_interface types (item.Interface f stability docs span external_id) i has = ap Some (one_of f i has)
 instance_interface types (item.Function f) i has = absurd (Contains-nil has)
 instance_interface types (item.Type_ t span) i has = absurd (Contains-nil has)
@@ -55,12 +55,12 @@ import_interface interfaces types w (key.Name name) held j same is = cc
 import_interface interfaces types w (key.Interface f) held j same is = export_interface interfaces types (key.Interface f) held j same is
 
 -- an id among the keys is that of an entry
-pub key_entry : (es : List Entry) (j : ℕ) → Contains (ids_of es) j → (e : Entry) × Contains es e × (e.0 ≡ key.Interface j)
+pub key_entry : (es : List Entry) (j : ℕ) → Contains (keyed_interfaces es) j → (e : Entry) × Contains es e × (e.0 ≡ key.Interface j)
 key_entry es j has =
-    let from = Contains-flat_map_cases (λ (e : Entry). id_of e.0) es j has in
+    let from = Contains-flat_map_cases (λ (e : Entry). key_interface e.0) es j has in
     (from.0, from.1.0, is from.0.0 from.1.1)
   where
-    is : (k : WorldKey) → Contains (id_of k) j → k ≡ key.Interface j
+    is : (k : WorldKey) → Contains (key_interface k) j → k ≡ key.Interface j
     is (key.Name name) none = absurd (Contains-nil none)
     is (key.Interface i) one = ap key.Interface (one_of i j one)
 
@@ -139,7 +139,7 @@ type_root uses (Some x) (key.Interface f) r has = ap Some (one_of x r has)
 
 -- those of an entry begin at what it names, or at what an interface uses that stands there
 pub root_interface : (types : List TypeDef) (uses : List (List ℕ)) (k : WorldKey) (held : WorldItem) (r : ℕ) → Contains (roots_of uses k (role_of types held)) r
-    → (i : ℕ) × (entry_interface types held ≡ Some i) × ((i ≡ r) ⊎ (Contains (instance_of held) i × Contains (direct uses i) r))
+    → (i : ℕ) × (entry_interface types held ≡ Some i) × ((i ≡ r) ⊎ (Contains (item_interface held) i × Contains (direct uses i) r))
 root_interface types uses (key.Interface f) (item.Interface id stability docs span external_id) r has = (id, refl, inl (one_of id r has))
 root_interface types uses (key.Name name) (item.Interface id stability docs span external_id) r has = (id, refl, inr (Contains-here id [], has))
 root_interface types uses k (item.Function f) r has = absurd (no_function_root uses (resource_of f.kind) k r has)
@@ -161,11 +161,11 @@ module _ (least : ImportsAreLeast) (types : List TypeDef) (interfaces : List Int
   rows = uses_of types interfaces
 
   -- its imports under their own keys are closed
-  pub holds : HoldsImports types rows world.imports world.exports (Contains (ids_of world.imports))
+  pub holds : HoldsImports types rows world.imports world.exports (Contains (keyed_interfaces world.imports))
   holds = (least types rows world world acyclic (lists_in_order types interfaces aliases w world has_imports has_exports) canonical).0
 
   -- what an import uses is imported under its own key
-  pub import_uses : (e : Entry) (i j : ℕ) → Contains world.imports e → entry_interface types e.1 ≡ Some i → Contains (direct rows i) j → Contains (ids_of world.imports) j
+  pub import_uses : (e : Entry) (i j : ℕ) → Contains world.imports e → entry_interface types e.1 ≡ Some i → Contains (direct rows i) j → Contains (keyed_interfaces world.imports) j
   import_uses e i j has is edge =
       elim (role_interface types rows e.0 e.1 i is) [
         | inl root ↦ holds.closed i j (holds.roots i (Contains-flat_map (λ (e : Entry). roots_of rows e.0 (role_of types e.1)) world.imports e i has root)) edge
@@ -173,14 +173,14 @@ module _ (least : ImportsAreLeast) (types : List TypeDef) (interfaces : List Int
       ]
 
   -- what an export uses is exported so, or imported
-  pub export_uses : (e : Entry) (i j : ℕ) → Contains world.exports e → Contains (instance_of e.1) i → Contains (direct rows i) j → ListsKey world j
+  pub export_uses : (e : Entry) (i j : ℕ) → Contains world.exports e → Contains (item_interface e.1) i → Contains (direct rows i) j → ListsKey world j
   export_uses e i j has instance edge = by (list_any (nat_eq j) (exported_keys world.exports)) refl
     where
       by : (b : Bool) → list_any (nat_eq j) (exported_keys world.exports) ≡ b → ListsKey world j
       by true is = inr (contains_from_any j (exported_keys world.exports) is)
       by false is =
           inl (holds.needed j
-          (i, j, Contains-flat_map (λ (e : Entry). instance_of e.1) world.exports e i has instance, edge, (λ among. let yes = any_from_contains j (exported_keys world.exports) among in cc), ([], refl)))
+          (i, j, Contains-flat_map (λ (e : Entry). item_interface e.1) world.exports e i has instance, edge, (λ among. let yes = any_from_contains j (exported_keys world.exports) among in cc), ([], refl)))
 
   pub canonical_lists_uses : ListsUses interfaces rows world
   canonical_lists_uses = record {

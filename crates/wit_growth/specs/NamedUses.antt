@@ -12,7 +12,7 @@ use Rattle.wit_items.specs.declared.world.WorldItem.TheVariants as item
 use Rattle.wit_relations.specs.Relation.{direct}
 use Rattle.wit_graph.specs.Entries.{function_role, role_of, type_role}
 use Rattle.wit_graph.specs.KeptByElaboration.{IsUsed}
-use Rattle.wit_graph.specs.ListedFacts.{dep_is_named}
+use Rattle.wit_graph.specs.SoundFacts.{dep_is_named}
 use Rattle.wit_graph.specs.declared.role.Role.TheVariants.{TypeUse}
 use Rattle.wit_growth.specs.DependencyFacts.{filter_map_from}
 use Rattle.wit_growth.specs.ListFacts.{from_row}

@@ -16,10 +16,10 @@ use Rattle.wit_items.specs.Uses.{interface_uses, uses_of}
 use Rattle.wit_items.specs.declared.interface.Interface.{Interface}
 use Rattle.wit_items.specs.declared.types.TypeDef.{TypeDef}
 use Rattle.wit_items.specs.declared.world.World.{World}
-use Rattle.wit_graph.specs.Entries.{Entry, instance_of, role_of}
+use Rattle.wit_graph.specs.Entries.{Entry, item_interface, role_of}
 use Rattle.wit_graph.specs.Imported.{IsImported, roots_of}
 use Rattle.wit_graph.specs.KeptByElaboration.{ElaboratedEntries}
-use Rattle.wit_graph.specs.ListedFacts.{lists_in_order}
+use Rattle.wit_graph.specs.SoundFacts.{lists_in_order}
 use Rattle.wit_graph.specs.Relations.{entry_interface, entry_interfaces, other_package, package_interfaces, package_needs, package_uses, world_interfaces}
 use Rattle.wit_graph.specs.Valid.{IsInTable}
 use Rattle.wit_graph.specs.declared.graph.Package.{Package}
@@ -224,7 +224,7 @@ module _ (entries : ElaboratedEntries) (types : List TypeDef) (interfaces : List
 
     imported_leads : (j : ℕ) → IsImported types uses old.imports old.exports j → Leads p j
     imported_leads j (inl need) =
-        let d = Contains-flat_map_cases (λ (d : Entry). instance_of d.1) old.exports need.0 need.2 in
+        let d = Contains-flat_map_cases (λ (d : Entry). item_interface d.1) old.exports need.0 need.2 in
         let named = export_named types old d.0 need.0 d.1.0 (instance_interface types d.0.1 need.0 d.1.1) in
         let first = use_leads need.0 need.1 named (λ unnamed. from.lists_uses.exports d.0 need.0 need.1 d.1.0 d.1.1 unnamed need.3) need.3 in
         leads_along p need.1 need.5.0 j first (used_is_named types interfaces are.aliases need.0 need.1 need.3) need.5.1

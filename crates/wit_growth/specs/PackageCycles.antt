@@ -10,20 +10,20 @@ use Rattle.wit_items.specs.declared.interface.Interface.{Interface}
 use Rattle.wit_items.specs.declared.types.TypeDef.{TypeDef}
 use Rattle.wit_items.specs.declared.world.World.{World}
 use Rattle.wit_graph.specs.Elaborated.{Elaborated}
-use Rattle.wit_graph.specs.Entries.{Entry, ids_of, instance_of}
+use Rattle.wit_graph.specs.Entries.{Entry, keyed_interfaces, item_interface}
 use Rattle.wit_graph.specs.Relations.{package_uses}
 use Rattle.wit_graph.specs.Valid.{IsInTable}
 use Rattle.wit_graph.specs.declared.graph.Package.{Package}
 
 -- the world imports or exports interface j under its own key
 abbrev pub ListsKey : World → ℕ → Type 0
-ListsKey world j = Contains (ids_of world.imports) j ⊎ Contains (ids_of world.exports) j
+ListsKey world j = Contains (keyed_interfaces world.imports) j ⊎ Contains (keyed_interfaces world.exports) j
 
 -- what an interface without a name uses, the world in which it stands lists: such an interface is in no table, so
 -- its uses count for no package
 pub record ListsUses (interfaces : List Interface) (uses : List (List ℕ)) (world : World) : Type 0 where
-  pub imports : (e : Entry) (f j : ℕ) → Contains world.imports e → Contains (instance_of e.1) f → is_unnamed interfaces f ≡ true → Contains (direct uses f) j → ListsKey world j
-  pub exports : (e : Entry) (f j : ℕ) → Contains world.exports e → Contains (instance_of e.1) f → is_unnamed interfaces f ≡ true → Contains (direct uses f) j → ListsKey world j
+  pub imports : (e : Entry) (f j : ℕ) → Contains world.imports e → Contains (item_interface e.1) f → is_unnamed interfaces f ≡ true → Contains (direct uses f) j → ListsKey world j
+  pub exports : (e : Entry) (f j : ℕ) → Contains world.exports e → Contains (item_interface e.1) f → is_unnamed interfaces f ≡ true → Contains (direct uses f) j → ListsKey world j
 
 -- a world is elaborated from the one that was listed at its place
 pub record IsElaboratedFrom (types : List TypeDef) (interfaces : List Interface) (listed : List World) (w : ℕ) (new : World) : Type 0 where

@@ -13,8 +13,8 @@ use Rattle.wit_items.specs.declared.world.WorldItem.TheVariants as item
 use Rattle.wit_items.specs.declared.world.WorldKey.{WorldKey}
 use Rattle.wit_items.specs.declared.world.WorldKey.TheVariants as key
 use Rattle.wit_graph.specs.Entries as graph
-use Rattle.wit_graph.specs.Entries.{instance_of}
-use Rattle.wit_graph.specs.Listed.{IsUnderOwnKey}
+use Rattle.wit_graph.specs.Entries.{item_interface}
+use Rattle.wit_graph.specs.Sound.{IsUnderOwnKey}
 use Rattle.wit_growth.specs.Image.{Maps, entry_image}
 use Rattle.wit_adding.specs.Include.{Begun, copy_maps, has_key, is_other_package, joined, joined_entry, joined_item, new_item}
 use Rattle.wit_including.specs.Included.{CanBeIncluded, HaveOwnKeys, with_one}
@@ -25,18 +25,18 @@ use Rattle.wit_including.proofs.IncludeSteps.{IsKeyed, exports_keyed, imports_ke
 abbrev pub AreOwn : List Entry → Type 0
 AreOwn entries = AllByRecursion (λ (e : Entry). IsUnderOwnKey e.0 e.1) entries
 
-own_as : (k : WorldKey) (v w : WorldItem) → instance_of w ≡ instance_of v → IsUnderOwnKey k v → IsUnderOwnKey k w
+own_as : (k : WorldKey) (v w : WorldItem) → item_interface w ≡ item_interface v → IsUnderOwnKey k v → IsUnderOwnKey k w
 own_as (key.Name label) v w same own = tt
 own_as (key.Interface i) v w same own = same ∙ own
 
-joined_instance : (other : Bool) (from into : WorldItem) → instance_of (joined_item other from into) ≡ instance_of into
+joined_instance : (other : Bool) (from into : WorldItem) → item_interface (joined_item other from into) ≡ item_interface into
 joined_instance other (item.Interface i stability docs span external_id) (item.Interface i' stability' docs' span' external_id') = refl
 joined_instance other (item.Interface i stability docs span external_id) (item.Function f) = refl
 joined_instance other (item.Interface i stability docs span external_id) (item.Type_ t span') = refl
 joined_instance other (item.Function f) into = refl
 joined_instance other (item.Type_ t span) into = refl
 
-new_instance : (other : Bool) (k : WorldKey) (held : WorldItem) → instance_of (new_item other k held) ≡ instance_of held
+new_instance : (other : Bool) (k : WorldKey) (held : WorldItem) → item_interface (new_item other k held) ≡ item_interface held
 new_instance false k held = refl
 new_instance true (key.Name label) held = refl
 new_instance true (key.Interface f) (item.Interface i Unknown docs span external_id) = refl

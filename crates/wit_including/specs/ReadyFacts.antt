@@ -11,7 +11,7 @@ use Rattle.wit_items.specs.declared.world.WorldInclude.{WorldInclude}
 use Rattle.wit_items.specs.declared.world.WorldItem.{WorldItem}
 use Rattle.wit_items.specs.declared.world.WorldKey.{WorldKey}
 use Rattle.wit_items.specs.declared.world.WorldKey.TheVariants as key
-use Rattle.wit_graph.specs.Listed.{IsListed, IsUnderOwnKey}
+use Rattle.wit_graph.specs.Sound.{HasSoundEntries, IsUnderOwnKey}
 use Rattle.wit_graph.specs.Valid.{IsValid}
 use Rattle.wit_graph.specs.declared.graph.Graph.{Graph}
 use Rattle.wit_growth.specs.ListFacts.{contained_at, from_map, place_of}
@@ -81,7 +81,7 @@ module _ (there : IncludedAreThere) (includes : IncludesCanBe) (worlds : WorldsC
   can_finish fine = subst CanFinishBegun (sym (begun_same a k at)) (worlds a k valid shaped image reached (λ j. include_reached a k j at (fine j)) at)
 
   -- its lists are in order before its includes
-  listed : IsListed (with_parts a).types (length (with_parts a).interfaces) (placed (image_at a at.place at.world).imports) (placed (image_at a at.place at.world).exports)
+  listed : HasSoundEntries (with_parts a).types (length (with_parts a).interfaces) (placed (image_at a at.place at.world).imports) (placed (image_at a at.place at.world).exports)
   listed = listed_worlds a valid shaped image (with_parts a).types (with_parts a).interfaces (record { types_are = refl; interfaces_are = refl }) k (at.place, at.world) at.is
 
   none_before : (i : ℕ) → i < 0 → Fine i

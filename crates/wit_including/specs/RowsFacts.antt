@@ -1,6 +1,6 @@
 -- What the interfaces of a graph use stays what it was, where the graph grows: of a valid graph, and of one on its way.
 -- For the proofs of the crates above.
-use Rattle.std.proofs.Common.{◌≡◌, ◌∙◌, ℕ, ◌<◌, suc, List, [], ◌∷◌, ◌++◌, map, filter_map, length, take, drop, Option, None, Some, option_and_then, slice_get, refl, sym, ap, Contains, arith}
+use Rattle.std.proofs.Common.{◌≡◌, ◌∙◌, ℕ, ◌<◌, List, ◌++◌, length, take, drop, Option, None, Some, option_and_then, slice_get, refl, sym, ap, Contains, arith}
 use Rattle.std.proofs.lemmas.List.{length-map, take-append-drop}
 use Rattle.std.proofs.lemmas.List.Elements.{All-contains}
 use Rattle.wit_values.specs.Lists.{slice_get-append}
@@ -19,22 +19,8 @@ use Rattle.wit_graph.specs.declared.graph.Graph.{Graph}
 use Rattle.wit_growth.specs.GoodTypes.{alias_referred}
 use Rattle.wit_growth.specs.ListFacts.{found_at, get_at, in_row}
 use Rattle.wit_placing.specs.Grown.{Grown}
+use Rattle.wit_including_laws.specs.CanonicalStays.{dep_of, filter_map_agrees, map_agrees, named_dep}
 use Rattle.wit_adding_laws.specs.StageFacts.{IsOnItsWay}
-
--- the interface that what an alias names belongs to, where that isn't its own owner
-abbrev named_dep : List TypeDef → TypeOwner → ℕ → Option ℕ
-named_dep types by target = option_and_then (λ (named : TypeDef). other_owner by named.owner) (slice_get types target)
-
-dep_of : (types : List TypeDef) (id : ℕ) (def : TypeDef) → slice_get types id ≡ Some def → type_interface_dep types id ≡ option_and_then (named_dep types def.owner) (alias_target def.kind)
-dep_of types id def at = ap (λ (o : Option TypeDef). option_and_then (λ (d : TypeDef). option_and_then (named_dep types d.owner) (alias_target d.kind)) o) at
-
-filter_map_agrees : {X Y : Type 0} (f g : X → Option Y) (xs : List X) → ((i : ℕ) (x : X) → slice_get xs i ≡ Some x → f x ≡ g x) → filter_map f xs ≡ filter_map g xs
-filter_map_agrees f g [] same = refl
-filter_map_agrees f g (x ∷ xs) same = rw (same 0 x refl, filter_map_agrees f g xs (λ i. same (suc i))) refl
-
-map_agrees : {X Y : Type 0} (f g : X → Y) (xs : List X) → ((i : ℕ) (x : X) → slice_get xs i ≡ Some x → f x ≡ g x) → map f xs ≡ map g xs
-map_agrees f g [] same = refl
-map_agrees f g (x ∷ xs) same = rw (same 0 x refl, map_agrees f g xs (λ i. same (suc i))) refl
 
 module _ (g : Graph) (references : IsAcyclic (type_references g.types)) (own : EachAt (ListsOwn g.types) g.interfaces) (more : List TypeDef) where
   -- what an alias names is there

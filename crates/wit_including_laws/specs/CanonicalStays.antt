@@ -22,16 +22,16 @@ use Rattle.wit_items.specs.declared.world.WorldKey.TheVariants as key
 use Rattle.wit_graph.specs.Elaborated.{Elaborated, import_carries}
 use Rattle.wit_graph.specs.Entries.{role_of, type_role}
 use Rattle.wit_graph.specs.KeptByElaboration.{ElaborationIsLocal}
-use Rattle.wit_graph.specs.ListedFacts.{lists_in_order}
+use Rattle.wit_graph.specs.SoundFacts.{lists_in_order}
 use Rattle.wit_graph.specs.declared.graph.Graph.{Graph}
 use Rattle.wit_growth.specs.Good.{HasGoodItems}
 use Rattle.wit_growth.specs.ListFacts.{found_at, place_of}
 
 -- the interface that what an alias names belongs to, where that isn't its own owner
-abbrev named_dep : List TypeDef → TypeOwner → ℕ → Option ℕ
+abbrev pub named_dep : List TypeDef → TypeOwner → ℕ → Option ℕ
 named_dep types by target = option_and_then (λ (named : TypeDef). other_owner by named.owner) (slice_get types target)
 
-dep_of : (types : List TypeDef) (id : ℕ) (def : TypeDef) → slice_get types id ≡ Some def → type_interface_dep types id ≡ option_and_then (named_dep types def.owner) (alias_target def.kind)
+pub dep_of : (types : List TypeDef) (id : ℕ) (def : TypeDef) → slice_get types id ≡ Some def → type_interface_dep types id ≡ option_and_then (named_dep types def.owner) (alias_target def.kind)
 dep_of types id def at = ap (λ (o : Option TypeDef). option_and_then (λ (d : TypeDef). option_and_then (named_dep types d.owner) (alias_target d.kind)) o) at
 
 -- an alias needs the same in a longer list, where what it names is in the shorter one
@@ -43,11 +43,11 @@ dep_stays types more by (Some t) P there =
     ap (λ (o : Option TypeDef). option_and_then (λ (n : TypeDef). other_owner by n.owner) o) (slice_get-append types more t named.0 named.1 ∙ sym named.1)
 
 -- functions that agree on the elements give the same
-filter_map_agrees : {X Y : Type 0} (f g : X → Option Y) (xs : List X) → ((i : ℕ) (x : X) → slice_get xs i ≡ Some x → f x ≡ g x) → filter_map f xs ≡ filter_map g xs
+pub filter_map_agrees : {X Y : Type 0} (f g : X → Option Y) (xs : List X) → ((i : ℕ) (x : X) → slice_get xs i ≡ Some x → f x ≡ g x) → filter_map f xs ≡ filter_map g xs
 filter_map_agrees f g [] same = refl
 filter_map_agrees f g (x ∷ xs) same = rw (same 0 x refl, filter_map_agrees f g xs (λ i. same (suc i))) refl
 
-map_agrees : {X Y : Type 0} (f g : X → Y) (xs : List X) → ((i : ℕ) (x : X) → slice_get xs i ≡ Some x → f x ≡ g x) → map f xs ≡ map g xs
+pub map_agrees : {X Y : Type 0} (f g : X → Y) (xs : List X) → ((i : ℕ) (x : X) → slice_get xs i ≡ Some x → f x ≡ g x) → map f xs ≡ map g xs
 map_agrees f g [] same = refl
 map_agrees f g (x ∷ xs) same = rw (same 0 x refl, map_agrees f g xs (λ i. same (suc i))) refl
 

@@ -10,7 +10,7 @@ use Rattle.wit_relations.specs.FreshFacts.{any_from_contains, contains_from_any}
 use Rattle.wit_relations.specs.MemberFacts.{Contains-cons_cases, Contains-flat_map, Contains-flat_map_cases, Contains-here, Contains-nil}
 use Rattle.wit_items.specs.Entries.{Entry, IsImport, held_interfaces, is_unnamed, item_interface, placed_interfaces}
 use Rattle.wit_items.specs.Ownership.{IsListed, IsNamed}
-use Rattle.wit_graph.specs.ListedFacts.{named_within}
+use Rattle.wit_graph.specs.SoundFacts.{named_within}
 use Rattle.wit_items.specs.Reference.{function_references, referred}
 use Rattle.wit_items.specs.declared.function.Function.{Function}
 use Rattle.wit_items.specs.declared.interface.Interface.{Interface}

@@ -14,7 +14,7 @@ use Rattle.wit_items.specs.declared.world.WorldItem.TheVariants as item
 use Rattle.wit_items.specs.declared.world.WorldKey.{WorldKey}
 use Rattle.wit_items.specs.declared.world.WorldKey.TheVariants as key
 use Rattle.wit_graph.specs.Entries.{same_key}
-use Rattle.wit_graph.specs.ListedFacts.{named_within}
+use Rattle.wit_graph.specs.SoundFacts.{named_within}
 use Rattle.wit_graph.specs.declared.graph.Graph.{Graph}
 use Rattle.wit_growth.specs.CoveredIsValid.{covered_items}
 use Rattle.wit_growth.specs.Cut.{cut_interface, kept_whole}

@@ -13,11 +13,11 @@ use Rattle.wit_items.specs.declared.world.WorldItem.{WorldItem}
 use Rattle.wit_items.specs.declared.world.WorldItem.TheVariants as item
 use Rattle.wit_items.specs.declared.world.WorldKey.{WorldKey}
 use Rattle.wit_items.specs.declared.world.WorldKey.TheVariants as key
-use Rattle.wit_graph.specs.Entries.{id_of}
+use Rattle.wit_graph.specs.Entries.{key_interface}
 use Rattle.wit_graph.specs.Imported.{exported_keys}
 use Rattle.wit_graph.specs.KeptByElaboration.{IsUsed}
-use Rattle.wit_graph.specs.Listed.{IsListed}
-use Rattle.wit_graph.specs.ListedFacts.{IsListed-of_world, lists_in_order}
+use Rattle.wit_graph.specs.Sound.{HasSoundEntries}
+use Rattle.wit_graph.specs.SoundFacts.{HasSoundEntries-of_world, lists_in_order}
 use Rattle.wit_graph.specs.declared.graph.Graph.{Graph}
 use Rattle.wit_growth.specs.ListFacts.{contained_at, place_of}
 use Rattle.wit_growth.specs.NamedUses.{IsUsed_named}
@@ -26,7 +26,7 @@ use Rattle.wit_labels.specs.Setters.{placed}
 use Rattle.wit_including_laws.specs.OnItsWay.{StandsSoFar}
 use Rattle.wit_including_laws.specs.PlacedFacts.{placed_distinct, placed_in}
 
-pub named_export : (interfaces : List Interface) (k : WorldKey) (held : WorldItem) (j : ℕ) → Contains (id_of k) j → IsExport interfaces k held → IsNamed interfaces j
+pub named_export : (interfaces : List Interface) (k : WorldKey) (held : WorldItem) (j : ℕ) → Contains (key_interface k) j → IsExport interfaces k held → IsNamed interfaces j
 named_export interfaces (key.Name name) held j has is = absurd (Contains-nil has)
 named_export interfaces (key.Interface f) (item.Interface i stability docs span external_id) j has is =
     elim (Contains-cons_cases f j [] has) [ inl same ↦ subst (IsNamed interfaces) same is.1 | inr none ↦ absurd (Contains-nil none) ]
@@ -49,10 +49,10 @@ module _ (g : Graph) (stands : StandsSoFar g) where
         ((stands.items.worlds w world at).exports place.0 e place.1).is
 
     -- keys and ids are in order, over the interfaces and over the rows of their uses
-    pub placed_listed : IsListed g.types (length g.interfaces) (placed world.imports) (placed world.exports)
-    placed_listed = IsListed-of_world g.types g.interfaces aliases_named w (with_placed world) placed_imports placed_exports
+    pub placed_listed : HasSoundEntries g.types (length g.interfaces) (placed world.imports) (placed world.exports)
+    placed_listed = HasSoundEntries-of_world g.types g.interfaces aliases_named w (with_placed world) placed_imports placed_exports
 
-    pub placed_in_order : IsListed g.types (length (uses_of g.types g.interfaces)) (placed world.imports) (placed world.exports)
+    pub placed_in_order : HasSoundEntries g.types (length (uses_of g.types g.interfaces)) (placed world.imports) (placed world.exports)
     placed_in_order = lists_in_order g.types g.interfaces aliases_named w (with_placed world) placed_imports placed_exports
 
     pub imports_distinct : HasDistinctKeys (placed world.imports)
@@ -67,6 +67,6 @@ module _ (g : Graph) (stands : StandsSoFar g) where
 
     pub exported_named : (j : ℕ) → Contains (exported_keys (placed world.exports)) j → IsNamed g.interfaces j
     exported_named j has =
-        let part = Contains-flat_map_cases (λ (e : Entry). id_of e.0) (placed world.exports) j has in
+        let part = Contains-flat_map_cases (λ (e : Entry). key_interface e.0) (placed world.exports) j has in
         let place = place_of (placed world.exports) part.0 part.1.0 in
         named_export g.interfaces part.0.0 part.0.1 j part.1.1 (placed_exports place.0 part.0 place.1)

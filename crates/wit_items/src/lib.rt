@@ -3,13 +3,13 @@
 #![tactic(auto)]
 
 pub mod abi;
+pub mod foreign;
 pub mod function;
 pub mod ids;
 pub mod interface;
 pub mod laws;
 pub mod package_name;
 pub mod reference;
-pub mod shape;
 pub mod stability;
 mod track;
 pub mod types;
@@ -19,6 +19,7 @@ pub mod uses;
 pub mod world;
 
 pub use crate::abi::{LiftLowerAbi, ManglingAndAbi};
+pub use crate::foreign::{foreign_interfaces, foreign_worlds};
 pub use crate::function::{AccessorKind, Function, FunctionKind, Param};
 pub use crate::ids::{
     Id, InterfaceId, InterfaceSort, PackageId, PackageSort, TypeId, TypeSort, WorldId, WorldSort,
@@ -26,7 +27,6 @@ pub use crate::ids::{
 pub use crate::interface::Interface;
 pub use crate::package_name::PackageName;
 pub use crate::reference::{function_references, referred, type_references};
-pub use crate::shape::foreign::{foreign_interfaces, foreign_worlds};
 pub use crate::stability::{Docs, Stability};
 pub use crate::track::TrackRule;
 pub use crate::types::{

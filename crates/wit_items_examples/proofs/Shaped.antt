@@ -15,7 +15,7 @@ use Rattle.wit_items.specs.declared.types.TypeOwner.{TypeOwner}
 use Rattle.wit_items.specs.declared.types.TypeOwner.TheVariants as owner
 use Rattle.wit_items.specs.declared.types.Type_.TheVariants as type
 use Rattle.wit_items.specs.declared.unresolved.AstItem.TheVariants as ast
-use Rattle.wit_items.proofs.Shown.{tells_named}
+use Rattle.wit_shape.proofs.Telling.{tells_named}
 use Rattle.wit_values.specs.Lists.{HasDistinctKeys-nil, HasDistinctKeys-one, HasDistinctKeys-two, differ}
 use Rattle.wit_items_examples.specs.Shape.{entry_of, function_of, named, shaped_package}
 

@@ -8,7 +8,7 @@ use Rattle.wit_items.specs.Reference.{type_references}
 use Rattle.wit_items.specs.declared.package_name.PackageName.{PackageName}
 use Rattle.wit_items.specs.declared.world.WorldKey.TheVariants as key
 use Rattle.wit_graph.specs.Elaboration.{graph_uses}
-use Rattle.wit_graph.specs.Entries.{instance_of}
+use Rattle.wit_graph.specs.Entries.{item_interface}
 use Rattle.wit_graph.specs.Imported.{IsInConflict as IsEntryInConflict}
 use Rattle.wit_graph.specs.Samples.{entry_of}
 use Rattle.wit_graph.specs.declared.cause.Cause.TheVariants as cause
@@ -57,7 +57,7 @@ not_b (suc (suc k), below, is) = absurd (omega (arith, below))
 not_first : (f : Entry) → Contains (entry_of 0 ∷ []) f → IsEntryInConflict (graph_uses (joined_graph (merging exports_two c_uses_b))) (entry_of 0 ∷ entry_of 2 ∷ []) f → ⊥
 not_first f inside c =
     let same : entry_of 0 ≡ f = only_one (entry_of 0) f inside in
-    let i : 0 ≡ c.0 = only_one 0 c.0 (subst (λ (e : Entry). Contains (instance_of e.1) c.0) (sym same) c.1) in
+    let i : 0 ≡ c.0 = only_one 0 c.0 (subst (λ (e : Entry). Contains (item_interface e.1) c.0) (sym same) c.1) in
     none_in c.2.0 (subst (λ (x : ℕ). Contains (direct (graph_uses (joined_graph (merging exports_two c_uses_b))) x) c.2.0) (sym i) c.2.2)
 
 conflict : IsMergeCause (merging exports_two c_uses_b) (InvalidTransitiveDependency (Some (30, 31)) (codes "foo:bar/c"))

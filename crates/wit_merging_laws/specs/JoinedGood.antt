@@ -7,8 +7,8 @@ use Rattle.wit_items.specs.Ownership.{AliasesNamed}
 use Rattle.wit_items.specs.declared.world.World.{World}
 use Rattle.wit_graph.specs.Elaboration.{graph_uses}
 use Rattle.wit_graph.specs.Imported.{HasConflict}
-use Rattle.wit_graph.specs.Listed.{IsListed}
-use Rattle.wit_graph.specs.ListedFacts.{lists_in_order}
+use Rattle.wit_graph.specs.Sound.{HasSoundEntries}
+use Rattle.wit_graph.specs.SoundFacts.{lists_in_order}
 use Rattle.wit_graph.specs.Valid.{IsValid}
 use Rattle.wit_graph.specs.declared.graph.Graph.{Graph}
 use Rattle.wit_growth.specs.CoveredIsValid.{IsGoodWhere-of_covered}
@@ -49,5 +49,5 @@ module _ (m : Merging) (valid : IsValid m.graph) (valid_other : IsValid m.other)
     pub listed_exports : HasExports g.interfaces listed
     listed_exports i e on = (joined_good.exports_are w' listed there refl i e on).is
 
-    pub in_order : IsListed g.types (length (graph_uses g)) listed.imports listed.exports
+    pub in_order : HasSoundEntries g.types (length (graph_uses g)) listed.imports listed.exports
     in_order = lists_in_order g.types g.interfaces aliases w' listed listed_imports listed_exports

@@ -27,7 +27,7 @@ use Rattle.wit_merging_laws.specs.JoinedGood.{CanElaborate, in_order}
 use Rattle.wit_merging_laws.specs.ListedStand.{worlds_come}
 use Rattle.wit_merging_laws.specs.MatchedOnce.{one_under}
 use Rattle.wit_merging_laws.specs.UnitedWorlds.{entries_from, is_elaborated}
-use Rattle.wit_merging_laws.specs.UsesListed.{entry}
+use Rattle.wit_merging_laws.specs.WorldsStand.{entry}
 
 -- what elaboration adds stands under no label
 no_label : (label : List ℕ) (j : ℕ) → key.Name label ≡ key.Interface j → ⊥

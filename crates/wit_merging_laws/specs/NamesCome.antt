@@ -43,7 +43,8 @@ use Rattle.wit_merging_laws.specs.PackagesStand.{package_at_from}
 use Rattle.wit_merging_laws.specs.PackagesStand as packages
 use Rattle.wit_merging_laws.specs.TypesStand.{matched_some}
 use Rattle.wit_merging_laws.specs.UnitedWorlds.{named_key}
-use Rattle.wit_merging_laws.specs.UsesListed.{entry, image_entry, unmatched, world_keeps_entries}
+use Rattle.wit_merging_laws.specs.UsesListed.{image_entry, unmatched, world_keeps_entries}
+use Rattle.wit_merging_laws.specs.WorldsStand.{entry}
 use Rattle.wit_merging_laws.specs.WholeFacts.{interface_from}
 
 -- a label comes of that label, the key of an interface of the key of one that goes there

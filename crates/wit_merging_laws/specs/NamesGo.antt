@@ -17,7 +17,7 @@ use Rattle.wit_growth.specs.OnePlace.{entries_of}
 use Rattle.wit_growth.specs.OnePlaceCarried.{unnamed_same}
 use Rattle.wit_merging_laws.specs.MatchFacts.{no_name}
 use Rattle.wit_merging_laws.specs.Names.{HasName, InterfaceName, IsInterface, IsNamedSo, IsPackage, IsWorld, Name, at_label, in_package, of_export, of_function, of_interface, of_label, of_package, of_type, of_world}
-use Rattle.wit_merging_laws.specs.UsesListed.{entry}
+use Rattle.wit_merging_laws.specs.WorldsStand.{entry}
 
 -- ---- parts
 

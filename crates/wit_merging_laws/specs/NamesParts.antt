@@ -45,9 +45,9 @@ use Rattle.wit_merging_laws.specs.MatchFacts.{goes_to, interface_is, world_is}
 use Rattle.wit_merging_laws.specs.NamesGo.{InterfaceGoes, ItemGoes, Part, Places, WorldGoes}
 use Rattle.wit_merging_laws.specs.PackagesStand.{ListsMoved, old_package_at, package_keeps, package_stands, world_keeps}
 use Rattle.wit_merging_laws.specs.TypesStand.{matched_some}
-use Rattle.wit_merging_laws.specs.UsesListed.{entry, key_goes, world_keeps_entries}
+use Rattle.wit_merging_laws.specs.UsesListed.{key_goes, world_keeps_entries}
 use Rattle.wit_merging_laws.specs.WholeFacts.{types_within}
-use Rattle.wit_merging_laws.specs.WorldsStand.{entry_there}
+use Rattle.wit_merging_laws.specs.WorldsStand.{entry, entry_there}
 
 -- the places of the things of the graph, which stay, and of those of the other
 abbrev pub staying : Places

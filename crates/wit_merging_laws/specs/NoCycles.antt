@@ -20,7 +20,7 @@ use Rattle.wit_graph.specs.Elaboration.{graph_uses}
 use Rattle.wit_graph.specs.ElaborationLaws.{ConflictsAreRefused}
 use Rattle.wit_graph.specs.IdText.{id_text, interface_id_at, interface_id_text, key_text}
 use Rattle.wit_graph.specs.Imported.{HasConflict}
-use Rattle.wit_graph.specs.ListedFacts.{named_within}
+use Rattle.wit_graph.specs.SoundFacts.{named_within}
 use Rattle.wit_graph.specs.Valid.{IsValid}
 use Rattle.wit_graph.specs.declared.cause.Cause.TheVariants as cause
 use Rattle.wit_graph.specs.declared.error_kind.ResolveErrorKind.TheVariants.{InvalidTransitiveDependency, Semantic}

@@ -18,7 +18,7 @@ use Rattle.wit_items.specs.declared.world.WorldItem.TheVariants as item
 use Rattle.wit_items.specs.declared.world.WorldKey.{WorldKey}
 use Rattle.wit_items.specs.declared.world.WorldKey.TheVariants as key
 use Rattle.wit_graph.specs.Elaboration.{graph_uses}
-use Rattle.wit_graph.specs.Entries.{ids_of, role_of}
+use Rattle.wit_graph.specs.Entries.{keyed_interfaces, role_of}
 use Rattle.wit_graph.specs.Imported.{roots_of}
 use Rattle.wit_graph.specs.Valid.{IsValid}
 use Rattle.wit_graph.specs.declared.graph.Graph.{Graph}
@@ -43,10 +43,11 @@ use Rattle.wit_merging_laws.specs.Names.{HasImport, IsInterface, IsPackage, IsWo
 use Rattle.wit_merging_laws.specs.NamesGo.{Part, interface_back, interface_goes, world_goes}
 use Rattle.wit_merging_laws.specs.NamesParts.{going_to, graph_part, other_part, staying}
 use Rattle.wit_merging_laws.specs.NoCycles.{are_one, can_elaborate}
-use Rattle.wit_merging_laws.specs.SharedWorlds.{holds_test, import_from, import_into, key_interface}
+use Rattle.wit_merging_laws.specs.SharedWorlds.{holds_test, import_from, import_into, keyed_import}
 use Rattle.wit_merging_laws.specs.TypesStand.{matched_some}
 use Rattle.wit_merging_laws.specs.UnitedWorlds.{is_elaborated, named_key}
-use Rattle.wit_merging_laws.specs.UsesListed.{entry, key_in, world_keeps_entries}
+use Rattle.wit_merging_laws.specs.UsesListed.{key_in, world_keeps_entries}
+use Rattle.wit_merging_laws.specs.WorldsStand.{entry}
 use Rattle.wit_merging_laws.specs.ValidUnions.{united_valid}
 
 -- ---- names tell apart
@@ -71,7 +72,7 @@ module _ (g : Graph) (valid : IsValid g) where
       (subst (λ (n : List ℕ). Contains other.0.worlds (n, w)) a.2.0 (subst (λ (x : Package). Contains x.worlds (a.0.name, w)) same mine.2)) (subst (λ (n : List ℕ). Contains other.0.worlds (n, v)) b.2.0 other.2)
 
 -- what a world of a valid graph imports is there
-imported_there : (h : Graph) → IsValid h → (w : ℕ) (world : World) (i : ℕ) → slice_get h.worlds w ≡ Some world → Contains (ids_of world.imports) i → (interface : Interface) × (slice_get h.interfaces i ≡ Some interface)
+imported_there : (h : Graph) → IsValid h → (w : ℕ) (world : World) (i : ℕ) → slice_get h.worlds w ≡ Some world → Contains (keyed_interfaces world.imports) i → (interface : Interface) × (slice_get h.interfaces i ≡ Some interface)
 imported_there h valid w world i there has =
     let e = key_entry world.imports i has in
     let place = place_of world.imports e.0 e.1 in
@@ -95,12 +96,12 @@ record Imports (g : Graph) (w i : ℕ) : Type 0 where
   held : WorldItem
   has : SomeAt g.worlds w (λ (there : World). Contains there.imports (entry (key.Interface i) held))
 
-imports_it : (g : Graph) (w : ℕ) (world : World) (i : ℕ) → slice_get g.worlds w ≡ Some world → Contains (ids_of world.imports) i → Imports g w i
+imports_it : (g : Graph) (w : ℕ) (world : World) (i : ℕ) → slice_get g.worlds w ≡ Some world → Contains (keyed_interfaces world.imports) i → Imports g w i
 imports_it g w world i there has =
     let e = key_entry world.imports i has in
     record { held = e.0.1; has = some_at (λ (x : World). Contains x.imports (entry (key.Interface i) e.0.1)) g.worlds w world there (subst (λ (k : WorldKey). Contains world.imports (entry k e.0.1)) e.2 e.1) }
 
-imported_by : (g : Graph) (w : ℕ) (world : World) (i : ℕ) (held : WorldItem) → slice_get g.worlds w ≡ Some world → SomeAt g.worlds w (λ (there : World). Contains there.imports (entry (key.Interface i) held)) → Contains (ids_of world.imports) i
+imported_by : (g : Graph) (w : ℕ) (world : World) (i : ℕ) (held : WorldItem) → slice_get g.worlds w ≡ Some world → SomeAt g.worlds w (λ (there : World). Contains there.imports (entry (key.Interface i) held)) → Contains (keyed_interfaces world.imports) i
 imported_by g w world i held there has =
     let found = found_at (λ (x : World). Contains x.imports (entry (key.Interface i) held)) g.worlds w has in
     let same = same_at g.worlds w w found.0 world refl found.1 there in
@@ -157,7 +158,7 @@ module _ (laws : LawsOfElaboration) (m : Merging) (valid : IsValid m.graph) (val
       done_at = at_map (elaborated_world g) g.worlds w' listed listed_at
 
       -- an interface of the graph under its name
-      in_graph : (i : ℕ) → Contains (ids_of into.imports) i → IsInterface (united m) of name i → HasImport m.graph home world of name
+      in_graph : (i : ℕ) → Contains (keyed_interfaces into.imports) i → IsInterface (united m) of name i → HasImport m.graph home world of name
       in_graph i has is =
           let by = imports_it m.graph w' into i into_there has in
           let at = imported_there m.graph valid w' into i into_there has in
@@ -184,9 +185,9 @@ module _ (laws : LawsOfElaboration) (m : Merging) (valid : IsValid m.graph) (val
           let same = world_unique (united m) all_valid home world v w' is_world (world_goes m.graph (united m) staying mine home world w' is_mine) in
           let imported = imported_by (united m) w' done i held done_at (subst (λ (x : ℕ). SomeAt (united m).worlds x (λ (y : World). Contains y.imports (entry (key.Interface i) held))) same has) in
           let all = (laws.least g.types (graph_uses g) listed done elaborates.acyclic (in_order m valid valid_other one w' listed listed_at) (is_elaborated laws m valid valid_other one elaborates w' listed listed_at)).1
-          (λ j. list_any (nat_eq j) (ids_of into.imports)) (holds_test laws.least m valid valid_other one w w' old into there found into_there) in
-          let kept = All-contains (λ j. list_any (nat_eq j) (ids_of into.imports) ≡ true) (ids_of done.imports) i all imported in
-          in_graph i (contains_from_any i (ids_of into.imports) kept) is_interface
+          (λ j. list_any (nat_eq j) (keyed_interfaces into.imports)) (holds_test laws.least m valid valid_other one w w' old into there found into_there) in
+          let kept = All-contains (λ j. list_any (nat_eq j) (keyed_interfaces into.imports) ≡ true) (keyed_interfaces done.imports) i all imported in
+          in_graph i (contains_from_any i (keyed_interfaces into.imports) kept) is_interface
 
       into_united : HasImport m.graph home world of name → HasImport (united m) home world of name
       into_united (v, i, held, is_world, is_interface, has) =
@@ -195,7 +196,7 @@ module _ (laws : LawsOfElaboration) (m : Merging) (valid : IsValid m.graph) (val
           let e = key_entry into.imports i imported in
           let now = (world_keeps_entries m (w', into)).into false (entry (key.Interface i) e.0.1) (subst (λ (k : WorldKey). Contains into.imports (entry k e.0.1)) e.2 e.1) in
           let place = place_of listed.imports (entry (key.Interface i) now.0) now.1 in
-          let is = key_interface g.interfaces g.types w' (key.Interface i) now.0 i refl (listed_imports m valid valid_other one w' listed listed_at place.0 (entry (key.Interface i) now.0) place.1) in
+          let is = keyed_import g.interfaces g.types w' (key.Interface i) now.0 i refl (listed_imports m valid valid_other one w' listed listed_at place.0 (entry (key.Interface i) now.0) place.1) in
           let root = Contains-flat_map (λ (e : Entry). roots_of (graph_uses g) e.0 (role_of g.types e.1)) listed.imports (entry (key.Interface i) now.0) i now.1 (key_root g.types (graph_uses g) now.0 i is) in
           let holds = (laws.least g.types (graph_uses g) listed done elaborates.acyclic (in_order m valid valid_other one w' listed listed_at) (is_elaborated laws m valid valid_other one elaborates w' listed listed_at)).0 in
           let by = imports_it (united m) w' done i done_at (holds.roots i root) in

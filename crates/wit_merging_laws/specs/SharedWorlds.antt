@@ -22,7 +22,7 @@ use Rattle.wit_items.specs.declared.world.WorldKey.{WorldKey}
 use Rattle.wit_items.specs.declared.world.WorldKey.TheVariants as key
 use Rattle.wit_graph.proofs.FreshEntries.{same_key-true}
 use Rattle.wit_graph.specs.Elaboration.{graph_uses}
-use Rattle.wit_graph.specs.Entries.{ids_of, instance_of, role_of, same_key, type_role}
+use Rattle.wit_graph.specs.Entries.{keyed_interfaces, role_of, same_key, type_role}
 use Rattle.wit_graph.specs.Imported.{Needed, roots_of}
 use Rattle.wit_graph.specs.KeptByElaboration.{HoldsImports, ImportsAreLeast}
 use Rattle.wit_graph.specs.Relations.{entry_interface}
@@ -48,8 +48,8 @@ use Rattle.wit_merging_laws.specs.ListedStand.{interfaces_apart}
 use Rattle.wit_merging_laws.specs.MatchedOnce.{lists_distinct, one_under}
 use Rattle.wit_merging_laws.specs.NamesParts.{item_matched}
 use Rattle.wit_merging_laws.specs.UsesFrom.{old_needs, use_from}
-use Rattle.wit_merging_laws.specs.UsesListed.{entry, held_one, key_goes, key_in, one_held, partner_lists_key, world_keeps_entries}
-use Rattle.wit_merging_laws.specs.WorldsStand.{differs, entry_there}
+use Rattle.wit_merging_laws.specs.UsesListed.{held_one, key_goes, key_in, one_held, partner_lists_key, world_keeps_entries}
+use Rattle.wit_merging_laws.specs.WorldsStand.{entry, differs, entry_there}
 
 -- ---- items
 
@@ -102,16 +102,16 @@ own_key interfaces types w (key.Interface g) (item.Function fn) f i same is impo
 own_key interfaces types w (key.Interface g) (item.Type_ t span) f i same is import = absurd import
 
 -- and under such a key stands an interface
-pub key_interface : (interfaces : List Interface) (types : List TypeDef) (w : ℕ) (k : WorldKey) (held : WorldItem) (f : ℕ) → k ≡ key.Interface f → IsImport interfaces types w k held → item_interface held ≡ f ∷ []
-key_interface interfaces types w (key.Name label) held f same import = cc
-key_interface interfaces types w (key.Interface g) (item.Interface id stability docs span external_id) f same import = let one : g ≡ f = cc in ap (λ (x : ℕ). x ∷ []) (import.0 ∙ one)
-key_interface interfaces types w (key.Interface g) (item.Function fn) f same import = absurd import
-key_interface interfaces types w (key.Interface g) (item.Type_ t span) f same import = absurd import
+pub keyed_import : (interfaces : List Interface) (types : List TypeDef) (w : ℕ) (k : WorldKey) (held : WorldItem) (f : ℕ) → k ≡ key.Interface f → IsImport interfaces types w k held → item_interface held ≡ f ∷ []
+keyed_import interfaces types w (key.Name label) held f same import = cc
+keyed_import interfaces types w (key.Interface g) (item.Interface id stability docs span external_id) f same import = let one : g ≡ f = cc in ap (λ (x : ℕ). x ∷ []) (import.0 ∙ one)
+keyed_import interfaces types w (key.Interface g) (item.Function fn) f same import = absurd import
+keyed_import interfaces types w (key.Interface g) (item.Type_ t span) f same import = absurd import
 
 -- ---- what a world lists of what its entries use
 
 abbrev SideLists : Bool → World → ℕ → Type 0
-SideLists false world j = Contains (ids_of world.imports) j
+SideLists false world j = Contains (keyed_interfaces world.imports) j
 SideLists true world j = ListsKey world j
 
 module _ (least : ImportsAreLeast) (h : Graph) (valid : IsValid h) (w : ℕ) (world : World) (there : slice_get h.worlds w ≡ Some world) where
@@ -123,7 +123,7 @@ module _ (least : ImportsAreLeast) (h : Graph) (valid : IsValid h) (w : ℕ) (wo
       export_uses least h.types h.interfaces valid.well_formed.references.aliases valid.no_cycles.uses w world (valid.well_formed.worlds.imports w world there) (valid.well_formed.worlds.exports w world there)
       (valid.canonical w world there) e i j has (one_held e.1 i is) edge
 
-  valid_holds : HoldsImports h.types (graph_uses h) world.imports world.exports (Contains (ids_of world.imports))
+  valid_holds : HoldsImports h.types (graph_uses h) world.imports world.exports (Contains (keyed_interfaces world.imports))
   valid_holds =
       entries.holds least h.types h.interfaces valid.well_formed.references.aliases valid.no_cycles.uses w world (valid.well_formed.worlds.imports w world there) (valid.well_formed.worlds.exports w world there)
       (valid.canonical w world there)
@@ -202,7 +202,7 @@ module _ (least : ImportsAreLeast) (m : Merging) (valid : IsValid m.graph) (vali
         some_key a b same = cc
 
     -- what the other world imports, this one imports at its place; and the other way
-    pub import_into : (j : ℕ) → Contains (ids_of old.imports) j → Contains (ids_of into.imports) (interface_place m j)
+    pub import_into : (j : ℕ) → Contains (keyed_interfaces old.imports) j → Contains (keyed_interfaces into.imports) (interface_place m j)
     import_into j has =
         let e = key_entry old.imports j has in
         let listed = subst (λ (k : WorldKey). Contains old.imports (entry k e.0.1)) e.2 e.1 in
@@ -210,13 +210,13 @@ module _ (least : ImportsAreLeast) (m : Merging) (valid : IsValid m.graph) (vali
         key_in into.imports (interface_place m j) here.here
         (subst (λ (k : WorldKey). Contains into.imports (entry k here.here)) (key_goes m j here.k' here.key_is) (Contains-from_lookup same_key-true here.k' here.here into.imports here.looked))
 
-    pub import_from : (i : ℕ) → Contains (ids_of into.imports) i → (j : ℕ) × (i ≡ interface_place m j) × Contains (ids_of old.imports) j
+    pub import_from : (i : ℕ) → Contains (keyed_interfaces into.imports) i → (j : ℕ) × (i ≡ interface_place m j) × Contains (keyed_interfaces old.imports) j
     import_from i has =
         let e = key_entry into.imports i has in
         let from = covered false e.0 e.1 in
         by from.0.0 (from.2 ∙ ap (λ (k : WorldKey). Some k) e.2) from.0.1 from.1
       where
-        by : (k : WorldKey) → found_key m k ≡ Some (key.Interface i) → (held : WorldItem) → Contains old.imports (entry k held) → (j : ℕ) × (i ≡ interface_place m j) × Contains (ids_of old.imports) j
+        by : (k : WorldKey) → found_key m k ≡ Some (key.Interface i) → (held : WorldItem) → Contains old.imports (entry k held) → (j : ℕ) × (i ≡ interface_place m j) × Contains (keyed_interfaces old.imports) j
         by (key.Name label) is held has = cc
         by (key.Interface j) is held has = (j, one_key (key_goes m j (key.Interface i) is), key_in old.imports j held has)
           where
@@ -244,30 +244,30 @@ module _ (least : ImportsAreLeast) (m : Merging) (valid : IsValid m.graph) (vali
     import_is : (e : Entry) → Contains into.imports e → IsImport m.graph.interfaces m.graph.types w' e.0 e.1
     import_is e has = let place = place_of into.imports e has in valid.well_formed.worlds.imports w' into into_there place.0 e place.1
 
-    closed : (i j : ℕ) → Contains (ids_of into.imports) i → Contains (direct uses i) j → Contains (ids_of into.imports) j
+    closed : (i j : ℕ) → Contains (keyed_interfaces into.imports) i → Contains (direct uses i) j → Contains (keyed_interfaces into.imports) j
     closed i j has edge =
         let e = key_entry into.imports i has in
-        used false e.0 i j e.1 (key_interface m.graph.interfaces m.graph.types w' e.0.0 e.0.1 i e.2 (import_is e.0 e.1)) edge
+        used false e.0 i j e.1 (keyed_import m.graph.interfaces m.graph.types w' e.0.0 e.0.1 i e.2 (import_is e.0 e.1)) edge
 
-    reached : (i : ℕ) (path : List ℕ) (j : ℕ) → Contains (ids_of into.imports) i → IsPath uses i path j → Contains (ids_of into.imports) j
-    reached i [] j has same = subst (Contains (ids_of into.imports)) same has
+    reached : (i : ℕ) (path : List ℕ) (j : ℕ) → Contains (keyed_interfaces into.imports) i → IsPath uses i path j → Contains (keyed_interfaces into.imports) j
+    reached i [] j has same = subst (Contains (keyed_interfaces into.imports)) same has
     reached i (k ∷ path) j has leads = reached k path j (closed i k has leads.0) leads.1
 
-    needed : (j : ℕ) → Needed uses listed.exports j → Contains (ids_of into.imports) j
+    needed : (j : ℕ) → Needed uses listed.exports j → Contains (keyed_interfaces into.imports) j
     needed j need =
-        let e = Contains-flat_map_cases (λ (e : Entry). instance_of e.1) listed.exports need.0 need.2 in
+        let e = Contains-flat_map_cases (λ (e : Entry). item_interface e.1) listed.exports need.0 need.2 in
         let from = (world_keeps_entries m (w', into)).from true e.0 e.1.0 in
         let lists = used true from.0 need.0 need.1 from.1 (sym from.3 ∙ held_one e.0.1 need.0 e.1.1) need.3 in
         reached need.1 need.5.0 j (elim lists [ inl imported ↦ imported | inr exported ↦ absurd (need.4 (exported_too need.1 exported)) ]) need.5.1
       where
-        exported_too : (d : ℕ) → Contains (ids_of into.exports) d → Contains (ids_of listed.exports) d
+        exported_too : (d : ℕ) → Contains (keyed_interfaces into.exports) d → Contains (keyed_interfaces listed.exports) d
         exported_too d has =
             let e = key_entry into.exports d has in
             let now = (world_keeps_entries m (w', into)).into true (entry (key.Interface d) e.0.1) (subst (λ (k : WorldKey). Contains into.exports (entry k e.0.1)) e.2 e.1) in
             key_in listed.exports d now.0 now.1
 
     -- where an import begins
-    type_root : (k : WorldKey) (t : ℕ) (span : _) (r : ℕ) → Contains listed.imports (entry k (item.Type_ t span)) → type_interface_dep g.types t ≡ Some r → Contains (ids_of into.imports) r
+    type_root : (k : WorldKey) (t : ℕ) (span : _) (r : ℕ) → Contains listed.imports (entry k (item.Type_ t span)) → type_interface_dep g.types t ≡ Some r → Contains (keyed_interfaces into.imports) r
     type_root k t span r has dep =
         let before = type_import m (w', into) k t span has in
         let def = type_there k (import_is (entry k (item.Type_ t span)) before) in
@@ -284,11 +284,11 @@ module _ (least : ImportsAreLeast) (m : Merging) (valid : IsValid m.graph) (vali
         type_root_at (key.Name label) (Some x) is = let same : x ≡ r = cc in subst (λ (y : ℕ). Contains (y ∷ []) r) (sym same) (Contains-here r [])
         type_root_at (key.Interface f) (Some x) is = let same : x ≡ r = cc in subst (λ (y : ℕ). Contains (y ∷ []) r) (sym same) (Contains-here r [])
 
-    root : (k : WorldKey) (held : WorldItem) (r : ℕ) → Contains listed.imports (entry k held) → Contains (roots_of uses k (role_of g.types held)) r → Contains (ids_of into.imports) r
+    root : (k : WorldKey) (held : WorldItem) (r : ℕ) → Contains listed.imports (entry k held) → Contains (roots_of uses k (role_of g.types held)) r → Contains (keyed_interfaces into.imports) r
     root (key.Interface f) (item.Interface id stability docs span external_id) r has root_is =
         let from = (world_keeps_entries m (w', into)).from false (entry (key.Interface f) (item.Interface id stability docs span external_id)) has in
         let mine = own_key m.graph.interfaces m.graph.types w' from.0.0 from.0.1 f id (sym from.2) (sym from.3) (import_is from.0 from.1) in
-        subst (Contains (ids_of into.imports)) (sym mine ∙ one_of id r root_is)
+        subst (Contains (keyed_interfaces into.imports)) (sym mine ∙ one_of id r root_is)
         (key_in into.imports f from.0.1 (subst (λ (k : WorldKey). Contains into.imports (entry k from.0.1)) (sym from.2) from.1))
     root (key.Name label) (item.Interface id stability docs span external_id) r has root_is =
         let from = (world_keeps_entries m (w', into)).from false (entry (key.Name label) (item.Interface id stability docs span external_id)) has in
@@ -296,17 +296,17 @@ module _ (least : ImportsAreLeast) (m : Merging) (valid : IsValid m.graph) (vali
     root k (item.Function fn) r has root_is = let at = root_interface g.types uses k (item.Function fn) r root_is in let is = at.1 in cc
     root k (item.Type_ t span) r has root_is = by (root_interface g.types uses k (item.Type_ t span) r root_is)
       where
-        by : (i : ℕ) × (entry_interface g.types (item.Type_ t span) ≡ Some i) × ((i ≡ r) ⊎ (Contains (instance_of (item.Type_ t span)) i × Contains (direct uses i) r)) → Contains (ids_of into.imports) r
+        by : (i : ℕ) × (entry_interface g.types (item.Type_ t span) ≡ Some i) × ((i ≡ r) ⊎ (Contains (item_interface (item.Type_ t span)) i × Contains (direct uses i) r)) → Contains (keyed_interfaces into.imports) r
         by (i, is, inl same) = type_root k t span r has (is ∙ ap Some same)
         by (i, is, inr used) = absurd (Contains-nil used.0)
 
-    roots : (r : ℕ) → Contains (flat_map (λ (e : Entry). roots_of uses e.0 (role_of g.types e.1)) listed.imports) r → Contains (ids_of into.imports) r
+    roots : (r : ℕ) → Contains (flat_map (λ (e : Entry). roots_of uses e.0 (role_of g.types e.1)) listed.imports) r → Contains (keyed_interfaces into.imports) r
     roots r has = let from = Contains-flat_map_cases (λ (e : Entry). roots_of uses e.0 (role_of g.types e.1)) listed.imports r has in root from.0.0 from.0.1 r from.1.0 from.1.1
 
     -- so they are all that the listed world must import
-    pub holds_test : HoldsImports g.types uses listed.imports listed.exports (λ j. list_any (nat_eq j) (ids_of into.imports) ≡ true)
+    pub holds_test : HoldsImports g.types uses listed.imports listed.exports (λ j. list_any (nat_eq j) (keyed_interfaces into.imports) ≡ true)
     holds_test = record {
-      roots = λ r has. any_from_contains r (ids_of into.imports) (roots r has);
-      needed = λ j need. any_from_contains j (ids_of into.imports) (needed j need);
-      closed = λ i j on edge. any_from_contains j (ids_of into.imports) (closed i j (contains_from_any i (ids_of into.imports) on) edge);
+      roots = λ r has. any_from_contains r (keyed_interfaces into.imports) (roots r has);
+      needed = λ j need. any_from_contains j (keyed_interfaces into.imports) (needed j need);
+      closed = λ i j on edge. any_from_contains j (keyed_interfaces into.imports) (closed i j (contains_from_any i (keyed_interfaces into.imports) on) edge);
     }

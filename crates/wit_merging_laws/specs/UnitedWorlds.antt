@@ -15,10 +15,10 @@ use Rattle.wit_graph.proofs.Classes.{in_by_class}
 use Rattle.wit_graph.proofs.Filters.{Contains-filter, Contains-filtered}
 use Rattle.wit_graph.specs.Elaborated.{Elaborated}
 use Rattle.wit_graph.specs.Elaboration.{graph_uses}
-use Rattle.wit_graph.specs.Entries.{by_class, id_of}
+use Rattle.wit_graph.specs.Entries.{by_class, key_interface}
 use Rattle.wit_graph.specs.Imported.{exported_keys}
 use Rattle.wit_graph.specs.KeptByElaboration.{IsMadeExport, IsMadeImport, IsSettled, IsUsed, is_label, labelled, settled}
-use Rattle.wit_graph.specs.Listed.{IsListed}
+use Rattle.wit_graph.specs.Sound.{HasSoundEntries}
 use Rattle.wit_graph.specs.Valid.{IsValid}
 use Rattle.wit_graph.specs.declared.graph.Graph.{Graph}
 use Rattle.wit_growth.specs.AllElaborated.{elaborated_world}
@@ -41,7 +41,7 @@ use Rattle.wit_merging_laws.specs.TypesStand as types
 use Rattle.wit_merging_laws.specs.WorldsStand.{entry, joined_stands, listed_by, lists_it}
 
 -- an exported key is that of an interface with a name
-pub named_key : (interfaces : List Interface) (k : WorldKey) (held : WorldItem) (j : ℕ) → Contains (id_of k) j → IsExport interfaces k held → IsNamed interfaces j
+pub named_key : (interfaces : List Interface) (k : WorldKey) (held : WorldItem) (j : ℕ) → Contains (key_interface k) j → IsExport interfaces k held → IsNamed interfaces j
 named_key interfaces (key.Name name) held j has is = absurd (Contains-nil has)
 named_key interfaces (key.Interface f) (item.Interface i stability docs span external_id) j has is = elim (Contains-cons_cases f j [] has) [
   | inl same ↦ subst (IsNamed interfaces) same is.1
@@ -58,7 +58,7 @@ module _ (laws : LawsOfElaboration) (m : Merging) (valid : IsValid m.graph) (val
   at = merge_sources m.graph m.other (merge_maps m)
 
   module _ (w' : ℕ) (listed : World) (there : slice_get g.worlds w' ≡ Some listed) where
-    abbrev order : IsListed g.types (length (graph_uses g)) listed.imports listed.exports
+    abbrev order : HasSoundEntries g.types (length (graph_uses g)) listed.imports listed.exports
     order = in_order m valid valid_other one w' listed there
 
     pub is_elaborated : Elaborated g.types (graph_uses g) listed (elaborated_world g listed)
@@ -82,7 +82,7 @@ module _ (laws : LawsOfElaboration) (m : Merging) (valid : IsValid m.graph) (val
 
     pub exported_is_named : (j : ℕ) → Contains (exported_keys listed.exports) j → IsNamed g.interfaces j
     exported_is_named j has =
-        let from = Contains-flat_map_cases (λ (e : Entry). id_of e.0) listed.exports j has in
+        let from = Contains-flat_map_cases (λ (e : Entry). key_interface e.0) listed.exports j has in
         let place = place_of listed.exports from.0 from.1.0 in
         named_key g.interfaces from.0.0 from.0.1 j from.1.1 (listed_exports m valid valid_other one w' listed there place.0 from.0 place.1)
 

@@ -17,7 +17,7 @@ use Rattle.wit_items.specs.declared.world.WorldKey.{WorldKey}
 use Rattle.wit_items.specs.declared.world.WorldKey.TheVariants as key
 use Rattle.wit_graph.proofs.FreshEntries.{same_key-true}
 use Rattle.wit_graph.specs.Elaboration.{graph_uses}
-use Rattle.wit_graph.specs.Entries.{id_of, ids_of, instance_of}
+use Rattle.wit_graph.specs.Entries.{key_interface, keyed_interfaces}
 use Rattle.wit_graph.specs.KeptByElaboration.{ImportsAreLeast}
 use Rattle.wit_graph.specs.Valid.{IsValid}
 use Rattle.wit_graph.specs.declared.graph.Graph.{Graph}
@@ -41,10 +41,7 @@ use Rattle.wit_merging_laws.specs.MatchFacts.{goes_to, interface_is, spot_home, 
 use Rattle.wit_merging_laws.specs.OnceStand.{entry_held, image_held, spot_key, spot_of}
 use Rattle.wit_merging_laws.specs.TypesStand.{matched_some}
 use Rattle.wit_merging_laws.specs.UsesFrom.{UseOfOther, use_from}
-use Rattle.wit_merging_laws.specs.WorldsStand.{entry_there}
-
-abbrev pub entry : WorldKey → WorldItem → Entry
-entry k held = (k, held)
+use Rattle.wit_merging_laws.specs.WorldsStand.{entry, entry_there}
 
 -- the key of an interface is looked for as the key of that at its place
 pub key_goes : (m : Merging) (j : ℕ) (k : WorldKey) → found_key m (key.Interface j) ≡ Some k → k ≡ key.Interface (interface_place m j)
@@ -56,8 +53,8 @@ key_goes m j k = by (found_interface m j) refl
 
 -- ---- keys that a world lists
 
-pub key_in : (es : List Entry) (j : ℕ) (held : WorldItem) → Contains es (entry (key.Interface j) held) → Contains (ids_of es) j
-key_in es j held has = Contains-flat_map (λ (e : Entry). id_of e.0) es (entry (key.Interface j) held) j has (Contains-here j [])
+pub key_in : (es : List Entry) (j : ℕ) (held : WorldItem) → Contains es (entry (key.Interface j) held) → Contains (keyed_interfaces es) j
+key_in es j held has = Contains-flat_map (λ (e : Entry). key_interface e.0) es (entry (key.Interface j) held) j has (Contains-here j [])
 
 lists_key : (exported : Bool) (world : World) (j : ℕ) (held : WorldItem) → Contains (entries_of exported world) (entry (key.Interface j) held) → ListsKey world j
 lists_key false world j held has = inl (key_in world.imports j held has)
@@ -69,7 +66,7 @@ record Keyed (world : World) (j : ℕ) : Type 0 where
   held : WorldItem
   has : Contains (entries_of exported world) (entry (key.Interface j) held)
 
-keyed_by : (exported : Bool) (world : World) (j : ℕ) → Contains (ids_of (entries_of exported world)) j → Keyed world j
+keyed_by : (exported : Bool) (world : World) (j : ℕ) → Contains (keyed_interfaces (entries_of exported world)) j → Keyed world j
 keyed_by exported world j has =
     let e = key_entry (entries_of exported world) j has in
     record { exported = exported; held = e.0.1; has = subst (λ (k : WorldKey). Contains (entries_of exported world) (entry k e.0.1)) e.2 e.1 }
@@ -77,12 +74,12 @@ keyed_by exported world j has =
 keyed : (world : World) (j : ℕ) → ListsKey world j → Keyed world j
 keyed world j lists = elim lists [ inl has ↦ keyed_by false world j has | inr has ↦ keyed_by true world j has ]
 
-pub held_one : (held : WorldItem) (f : ℕ) → Contains (instance_of held) f → item_interface held ≡ f ∷ []
+pub held_one : (held : WorldItem) (f : ℕ) → Contains (item_interface held) f → item_interface held ≡ f ∷ []
 held_one (item.Interface i stability docs span external_id) f has = elim (Contains-cons_cases i f [] has) [ inl same ↦ ap (λ (x : ℕ). x ∷ []) same | inr none ↦ absurd (Contains-nil none) ]
 held_one (item.Function fn) f has = absurd (Contains-nil has)
 held_one (item.Type_ t span) f has = absurd (Contains-nil has)
 
-pub one_held : (held : WorldItem) (f : ℕ) → item_interface held ≡ f ∷ [] → Contains (instance_of held) f
+pub one_held : (held : WorldItem) (f : ℕ) → item_interface held ≡ f ∷ [] → Contains (item_interface held) f
 one_held (item.Interface i stability docs span external_id) f is = subst (λ (x : List ℕ). Contains x f) (sym is) (Contains-here f [])
 one_held (item.Function fn) f is = cc
 one_held (item.Type_ t span) f is = cc

@@ -59,14 +59,14 @@ entry k held = (k, held)
 -- ---- types that worlds list
 
 -- a type that an entry lists: the entry is it, under its name
-pub record Lists (e : Entry) (name : List ℕ) (t : ℕ) : Type 0 where
+pub record ListsType (e : Entry) (name : List ℕ) (t : ℕ) : Type 0 where
   pub span : Option (ℕ × ℕ)
   pub is : e ≡ entry (key.Name name) (item.Type_ t span)
 
-pub lists_is : (e : Entry) (name : List ℕ) (t : ℕ) → Contains (listed_type e.0 e.1) (name, t) → Lists e name t
+pub lists_is : (e : Entry) (name : List ℕ) (t : ℕ) → Contains (listed_type e.0 e.1) (name, t) → ListsType e name t
 lists_is e name t has = by e.0 e.1 has
   where
-    by : (k : WorldKey) (held : WorldItem) → Contains (listed_type k held) (name, t) → Lists (entry k held) name t
+    by : (k : WorldKey) (held : WorldItem) → Contains (listed_type k held) (name, t) → ListsType (entry k held) name t
     by (key.Name label) (item.Type_ u span) has = elim (Contains-cons_cases (label, u) (name, t) [] has) [
       | inl same ↦ record { span = span; is = λ i. entry (key.Name (same i).0) (item.Type_ (same i).1 span) }
       | inr none ↦ absurd (Contains-nil none)

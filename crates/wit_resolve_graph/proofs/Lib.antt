@@ -5,4 +5,3 @@ mod NamedWorlds
 mod OneOrder
 mod Runs
 mod RunsKeep
-mod Selected

@@ -5,7 +5,6 @@ pub mod Grouping
 pub mod Kept
 pub mod Named
 pub mod RunLaws
-pub mod Selection
 pub mod Sources
 pub mod SourcesExamples
 pub mod State

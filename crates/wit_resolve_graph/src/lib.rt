@@ -11,7 +11,6 @@ mod push_source;
 mod questions;
 pub mod resolve;
 mod running;
-mod select;
 pub mod sources;
 mod turning;
 
@@ -29,4 +28,5 @@ pub use wit_items::{LiftLowerAbi, ManglingAndAbi, TrackRule};
 pub use wit_link::Remap;
 pub use wit_package_sources::{PackageSourceNames, PackageSources};
 pub use wit_questions::{InterfaceDirectDeps, PackageDirectDeps};
+pub use wit_shape::{is_group_shaped, is_shaped};
 pub use wit_valid::is_valid;

@@ -12,7 +12,7 @@ ghost use Rattle.wit_adding.specs.Cause.{IsCause};
 ghost use Rattle.wit_link.specs.Appending.{IsAdded, addition};
 ghost use Rattle.wit_link.specs.Groups.{IsGroupsCause};
 ghost use Rattle.wit_questions.specs.ValidBits.{TellValidBits};
-ghost use Rattle.wit_resolve_graph.specs.Selection.{IsSaid, selected_world};
+ghost use Rattle.wit_selecting.specs.Selection.{IsSaid, selected_world};
 ghost use Rattle.wit_resolve_graph.specs.State.{new_state};
 ghost use Rattle.wit_resolve_graph.specs.Step.{PushesGroups, RefusesGroups, with_feature};
 ghost use Rattle.wit_unite.specs.TurnCause.{AreAnswers, Exportizes, IsExportizeCause, IsImportizeCause, RefusesExportize, imports_at};
@@ -20,7 +20,6 @@ ghost use Rattle.wit_unite.specs.Turned.{exportized, importized, turned};
 
 use crate::groups::{add_packages, place_groups};
 use crate::kept::{Kept, append_kept};
-use crate::select::select_world;
 use std::alloc::{AllocError, Global};
 use std::fmt;
 use std::marker::Model;
@@ -29,6 +28,7 @@ use wit_items::{
     Interface, InterfaceId, Items, PackageId, PackageName, SourceMap, Table, TrackRule, TryClone,
     TypeDef, UnresolvedPackage, UnresolvedPackageGroup, World, WorldId, WorldItem, WorldKey,
 };
+use wit_selecting::select_world;
 use wit_unite::{exportize, exportize_answered, importize};
 use wit_valid::is_valid;
 use wit_values::try_clone_four;

@@ -8,7 +8,7 @@ use wit_items::{
     InterfaceId, Items, Names, PackageId, Span, Table, Text, TryClone, TypeId, Version, WorldId,
     WorldKey,
 };
-use wit_resolve_graph::{Remap, Resolve};
+use wit_resolve_graph::{Remap, Resolve, is_shaped};
 
 /// What the push of a package answers whose spans move so far.
 fn pushed(
@@ -21,7 +21,7 @@ fn pushed(
     w.span = Span::new(30, 37);
     let mut made = package(rt, alloc, "main", "");
     made.worlds = list(rt, alloc, [w]);
-    assert!(rt; made.is_shaped(alloc).expect(rt, "memory"));
+    assert!(rt; is_shaped(alloc, &made).expect(rt, "memory"));
     match resolve.push(alloc, made, offset) {
         Ok(id) => Ok(id.index()),
         Err(refusal) => Err(refusal.number()),

@@ -17,13 +17,13 @@ use Rattle.wit_items.specs.PackageOrder.{same_package}
 use Rattle.wit_items.specs.declared.package_name.PackageName.{PackageName}
 use Rattle.wit_lines.specs.declared.request.Request.{Request}
 use Rattle.wit_lines.specs.declared.request.Request.TheVariants as request
-use Rattle.wit_resolve_graph.specs.Selection.{IsSelection}
+use Rattle.wit_selecting.specs.Selection.{IsSelection}
 use Rattle.wit_resolve_graph.specs.State.{State, new_state}
 use Rattle.wit_resolve_graph.specs.declared.command.Command.{Command}
 use Rattle.wit_resolve_graph.specs.declared.command.Command.TheVariants.{AddFeature, SetAllFeatures, SetTrackRule, PushGroups, Merge, Importize, Exportize, Semver}
 use Rattle.wit_resolve_graph.specs.declared.command.Reply.{Reply}
 use Rattle.wit_resolve_graph.specs.declared.command.Reply.TheVariants as reply
-use Rattle.wit_script.specs.World.{world_id_at, world_text_at}
+use Rattle.wit_script.specs.World.{world_id_text_at, world_text_at}
 use Rattle.wit_script.specs.declared.answer.Stage.{Stage}
 use Rattle.wit_script.specs.declared.answer.Telling.{Telling}
 use Rattle.wit_script.specs.declared.answer.Telling.TheVariants.{Aloud, Quietly}
@@ -132,7 +132,7 @@ IsPrinted g owner world text =
 
 -- `selected ID`
 abbrev pub selected_text : Graph → ℕ → List ℕ
-selected_text g id = codes "selected " ++ (world_id_at g id ++ codes "\n")
+selected_text g id = codes "selected " ++ (world_id_text_at g id ++ codes "\n")
 
 -- the line of a choice
 abbrev pub choice_text : Graph → Result ℕ ResolveErrorKind → List ℕ

@@ -31,17 +31,17 @@ abbrev pub entry_line : Graph → List ℕ → WorldKey × WorldItem → List �
 entry_line g word entry = codes "  " ++ (word ++ (codes " " ++ (entry_text g entry.0 entry.1 ++ codes "\n")))
 
 -- the id text of a world that has a package
-abbrev pub world_id : Graph → World → List ℕ
-world_id g world = option_map_or (λ owner. id_text g.packages owner world.name) world.package []
+abbrev pub world_id_text : Graph → World → List ℕ
+world_id_text g world = option_map_or (λ owner. id_text g.packages owner world.name) world.package []
 
 -- the same of a world by its place
-abbrev pub world_id_at : Graph → ℕ → List ℕ
-world_id_at g w = option_map_or (world_id g) (slice_get g.worlds w) []
+abbrev pub world_id_text_at : Graph → ℕ → List ℕ
+world_id_text_at g w = option_map_or (world_id_text g) (slice_get g.worlds w) []
 
 -- the lines of a world: its id text, its imports, its exports
 abbrev pub world_text : Graph → World → List ℕ
 world_text g world =
-    codes "world " ++ (world_id g world ++ (codes "\n" ++
+    codes "world " ++ (world_id_text g world ++ (codes "\n" ++
     (flat_map (entry_line g (codes "import")) world.imports ++ flat_map (entry_line g (codes "export")) world.exports)))
 
 -- the same of a world by its place

@@ -8,7 +8,7 @@ ghost use Rattle.wit_script.specs.Answer.{IsAnswered, IsChoice, Answers, Answers
 ghost use Rattle.wit_script.specs.Ready.{is_taken};
 ghost use Rattle.wit_script.specs.declared.answer.Stage.{Stage};
 
-use crate::printer::{print_world, world_id};
+use crate::printer::{print_world, world_id_text};
 use crate::ready::{ReadyCommand, ScriptCommand};
 use std::alloc::{AllocError, Global};
 use wit_items::{Items, PackageId, PackageName, Text, WorldId};
@@ -285,6 +285,6 @@ fn selected(
         None => None,
     };
     let world = resolve.select_world(alloc, &[id], text)?;
-    let id_text = world_id(alloc, resolve.graph(), world)?;
+    let id_text = world_id_text(alloc, resolve.graph(), world)?;
     Ok(format!(in alloc; "selected {id_text}\n")?)
 }

@@ -2,7 +2,7 @@
 ghost use Rattle.std.specs.Prelude.{◌≡◌, ◌++◌, IfErr, IfOk, OnOk, string_bytes};
 ghost use Rattle.std.specs.List.{flat_map};
 ghost use Rattle.wit_graph.specs.declared.error_kind.ResolveErrorKind.TheVariants.{OutOfMemory};
-ghost use Rattle.wit_script.specs.World.{world_id_at, world_text_at, entry_text, entry_line, labelled_text};
+ghost use Rattle.wit_script.specs.World.{world_id_text_at, world_text_at, entry_text, entry_line, labelled_text};
 
 use std::alloc::Global;
 use std::fmt::Write;
@@ -19,7 +19,7 @@ pub fn print_world(alloc: Global, resolve: &Resolve, id: WorldId) -> ResolveResu
     let Some(world) = graph.worlds.get(id.index()) else {
         return Ok(String::new(alloc));
     };
-    let id_text = world_id(alloc, graph, id)?;
+    let id_text = world_id_text(alloc, graph, id)?;
     let mut text = format!(in alloc; "world {id_text}\n")?;
     print_entries(alloc, graph, "import", &world.imports, &mut text)?;
     print_entries(alloc, graph, "export", &world.exports, &mut text)?;
@@ -27,8 +27,8 @@ pub fn print_world(alloc: Global, resolve: &Resolve, id: WorldId) -> ResolveResu
 }
 
 /// The id text of a world. Empty where it isn't there or has no package.
-pub fn world_id(alloc: Global, graph: &Graph, id: WorldId) -> ResolveResult<String>
-    ensures text { IfOk result (λ text. string_bytes text ≡ world_id_at graph.now id) }
+pub fn world_id_text(alloc: Global, graph: &Graph, id: WorldId) -> ResolveResult<String>
+    ensures text { IfOk result (λ text. string_bytes text ≡ world_id_text_at graph.now id) }
     ensures err { IfErr result (λ e. e ≡ OutOfMemory) }
 {
     let Some(world) = graph.worlds.get(id.index()) else {

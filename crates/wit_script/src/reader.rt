@@ -17,6 +17,7 @@ use std::mem;
 use wit_drafts::Draft;
 use wit_items::{Items, PackageName, Stability, UnresolvedPackageGroup};
 use wit_lines::{LineFault, PackageLine, Request, Statement, lines, read_line};
+use wit_resolve_graph::is_group_shaped;
 
 /// What the lines so far say.
 #[derive(Drop)]
@@ -35,7 +36,7 @@ fn are_shaped(alloc: Global, groups: &[UnresolvedPackageGroup]) -> Result<bool, 
     ensures { IfOk result (λ shaped. IsTrue shaped ↔ Each IsGroupShaped groups.now) }
 {
     for group in groups {
-        if !group.is_shaped(alloc)? {
+        if !is_group_shaped(alloc, group)? {
             return Ok(false);
         }
     }

@@ -1,7 +1,7 @@
 -- Packages that are handed in together: which depend on which, in which order they are added, and why they
 -- can't be put in an order.
 -- Source: `sort_unresolved_packages` and `visit` of wit-parser 0.263.0.
-use Rattle.std.specs.Prelude.{◌≡◌, ◌⊎◌, ◌≤◌, ◌<◌, ◌^◌, ℕ, List, map, length, slice_get, Option, Some, IsPermutation, IsSortedByKey, position}
+use Rattle.std.specs.Prelude.{◌≡◌, ◌⊎◌, ◌≤◌, ◌<◌, ◌^◌, ℕ, List, map, length, slice_get, Some, IsPermutation, IsSortedByKey, position}
 use Rattle.std.specs.List.{AllZip, filter_map, flat_map, range_with_len}
 use Rattle.std.specs.Option.{option_cmp}
 use Rattle.wit_relations.specs.Cycles.{IsOnCycle}
@@ -11,14 +11,11 @@ use Rattle.wit_items.specs.Each.{Each, SomeAt}
 use Rattle.wit_items.specs.Foreign.{ForeignItem}
 use Rattle.wit_items.specs.PackageOrder.{package_cmp, same_package}
 use Rattle.wit_sources.specs.Span.{moved_by}
+pub use Rattle.wit_sources.specs.Span.{Place}
 use Rattle.wit_items.specs.declared.package_name.PackageName.{PackageName}
 use Rattle.wit_items.specs.declared.unresolved.UnresolvedPackage.{UnresolvedPackage}
 use Rattle.wit_graph.specs.declared.error_kind.ResolveErrorKind.{ResolveErrorKind}
 use Rattle.wit_graph.specs.declared.error_kind.ResolveErrorKind.TheVariants.{DuplicatePackage, PackageCycle, OffsetOverflow}
-
--- a place in the sources, or an unknown one
-abbrev pub Place : Type 0
-Place = Option (ℕ × ℕ)
 
 -- a package that is handed in, and the offset by which its spans move
 abbrev pub Handed : Type 0

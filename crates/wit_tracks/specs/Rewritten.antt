@@ -15,7 +15,7 @@ use Rattle.wit_items.specs.declared.types.TypeDefKind.TheVariants as kind
 use Rattle.wit_items.specs.declared.types.Type_.TheVariants as type
 use Rattle.wit_items.specs.declared.world.World.{World}
 use Rattle.wit_items.specs.declared.world.WorldItem.TheVariants as item
-use Rattle.wit_graph.specs.Entries.{Entry, id_of}
+use Rattle.wit_graph.specs.Entries.{Entry, key_interface}
 use Rattle.wit_graph.specs.declared.graph.Graph.{Graph}
 use Rattle.wit_growth.specs.AllElaborated.{all_elaborated}
 use Rattle.wit_tracks.specs.Upgrade.{Upgrade, is_replaced, newest}
@@ -24,7 +24,7 @@ use Rattle.wit_tracks.specs.Upgrade.{Upgrade, is_replaced, newest}
 
 -- is it under the key of a replaced interface?
 abbrev pub is_replaced_entry : Upgrade → Entry → Bool
-is_replaced_entry u e = list_any (is_replaced u) (id_of e.0)
+is_replaced_entry u e = list_any (is_replaced u) (key_interface e.0)
 
 -- the imports that stay
 abbrev pub staying : Upgrade → List Entry

@@ -4,7 +4,7 @@ use Rattle.std.specs.Prelude.{ℕ, Bool, not, ◌&&◌, List, [], ◌∷◌, fil
 use Rattle.std.specs.List.{list_any}
 use Rattle.wit_items.specs.declared.track.TrackRule.{TrackRule}
 use Rattle.wit_items.specs.declared.world.World.{World}
-use Rattle.wit_graph.specs.Entries.{ids_of}
+use Rattle.wit_graph.specs.Entries.{keyed_interfaces}
 use Rattle.wit_graph.specs.declared.graph.Graph.{Graph}
 use Rattle.wit_tracks.specs.Tracks.{are_on_one_track, is_outdone_by}
 
@@ -16,7 +16,7 @@ pub record Upgrade : Type 0 where
 
 -- the interfaces that the world imports under their own keys, not under labels
 abbrev pub imported : Upgrade → List ℕ
-imported u = ids_of u.world.imports
+imported u = keyed_interfaces u.world.imports
 
 -- is interface i one of them, of which another is of a greater version on its track?
 abbrev pub is_replaced : Upgrade → ℕ → Bool

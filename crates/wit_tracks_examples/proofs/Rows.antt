@@ -9,7 +9,7 @@ use Rattle.wit_items.specs.declared.types.TypeDef.{TypeDef}
 use Rattle.wit_items.specs.Uses.{alias_target}
 use Rattle.wit_items.specs.declared.world.World.{World}
 use Rattle.wit_graph.specs.Elaborated.{import_steps, import_steps_within}
-use Rattle.wit_graph.specs.Entries.{Entry, instance_of}
+use Rattle.wit_graph.specs.Entries.{Entry, item_interface}
 use Rattle.wit_graph.specs.declared.graph.Graph.{Graph}
 use Rattle.wit_tracks_examples.specs.RewrittenExamples.{ExamplesOfRewriting, ExamplesOfRules}
 use Rattle.wit_tracks_examples.specs.TrackExamples.{ExamplesOfTracks}
@@ -21,7 +21,7 @@ imports_at : ℕ → Graph → List Entry
 imports_at w g = option_map_or (λ (world : World). world.imports) (slice_get g.worlds w) []
 
 import_at : ℕ → ℕ → Graph → ℕ
-import_at w i g = slice_index_or (flat_map (λ (e : Entry). instance_of e.1) (imports_at w g)) i 99
+import_at w i g = slice_index_or (flat_map (λ (e : Entry). item_interface e.1) (imports_at w g)) i 99
 
 import_count : ℕ → Graph → ℕ
 import_count w g = length (imports_at w g)

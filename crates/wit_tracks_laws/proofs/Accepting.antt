@@ -26,8 +26,8 @@ use Rattle.wit_graph.specs.ElaborationLaws.{ConflictsAreRefused}
 use Rattle.wit_graph.specs.Entries.{Entry}
 use Rattle.wit_graph.specs.IdText.{id_text, interface_id_at, interface_id_text, key_text}
 use Rattle.wit_graph.specs.Imported.{HasConflict}
-use Rattle.wit_graph.specs.Listed.{IsListed}
-use Rattle.wit_graph.specs.ListedFacts.{lists_in_order, named_within}
+use Rattle.wit_graph.specs.Sound.{HasSoundEntries}
+use Rattle.wit_graph.specs.SoundFacts.{lists_in_order, named_within}
 use Rattle.wit_graph.specs.Valid.{IsValid}
 use Rattle.wit_graph.specs.declared.cause.Cause.TheVariants as cause
 use Rattle.wit_graph.specs.declared.error_kind.ResolveErrorKind.TheVariants.{InvalidTransitiveDependency, PackageCycle, Semantic}
@@ -153,7 +153,7 @@ module _ (u : Upgrade) (valid : IsValid u.graph) (w : ℕ) (there : slice_get u.
       let from = relisted_from v world at in
       subst (HasExports interfaces) (sym from.is) (valid.well_formed.worlds.exports v from.before from.at)
 
-  pub in_order : (v : ℕ) (world : World) → slice_get relisted_worlds v ≡ Some world → IsListed new_types (length new_uses) world.imports world.exports
+  pub in_order : (v : ℕ) (world : World) → slice_get relisted_worlds v ≡ Some world → HasSoundEntries new_types (length new_uses) world.imports world.exports
   in_order v world at = lists_in_order new_types interfaces new_aliases v world (new_imports v world at) (new_exports v world at)
 
   pub listed_there : slice_get relisted_worlds w ≡ Some (listed_world u)

@@ -18,7 +18,7 @@ use Rattle.wit_items.specs.declared.world.WorldItem.TheVariants as item
 use Rattle.wit_items.specs.declared.world.WorldKey.{WorldKey}
 use Rattle.wit_items.specs.declared.world.WorldKey.TheVariants as key
 use Rattle.wit_graph.proofs.Filters.{Contains-filter, Contains-filtered}
-use Rattle.wit_graph.specs.Entries.{Entry, id_of, ids_of, instance_of, role_of, type_role}
+use Rattle.wit_graph.specs.Entries.{Entry, key_interface, keyed_interfaces, item_interface, role_of, type_role}
 use Rattle.wit_graph.specs.Imported.{Needed, exported_keys, roots_of}
 use Rattle.wit_graph.specs.KeptByElaboration.{HoldsImports, ImportsAreLeast}
 use Rattle.wit_graph.specs.Valid.{IsValid}
@@ -37,18 +37,18 @@ use Rattle.wit_tracks_laws.proofs.TypesAfter.{needs_after}
 -- ---- entries
 
 -- the key of an interface holds that interface
-held_of_key : (interfaces : List Interface) (types : List TypeDef) (w : ℕ) (k : WorldKey) (held : WorldItem) (i : ℕ) → k ≡ key.Interface i → IsImport interfaces types w k held → Contains (instance_of held) i
+held_of_key : (interfaces : List Interface) (types : List TypeDef) (w : ℕ) (k : WorldKey) (held : WorldItem) (i : ℕ) → k ≡ key.Interface i → IsImport interfaces types w k held → Contains (item_interface held) i
 held_of_key interfaces types w (key.Name name) held i same is = cc
 held_of_key interfaces types w (key.Interface f) (item.Interface id stability docs span external_id) i same is = let one : f ≡ i = cc in subst (λ (x : ℕ). Contains (id ∷ []) x) (is.0 ∙ one) (Contains-here id [])
 held_of_key interfaces types w (key.Interface f) (item.Function fn) i same is = absurd is
 held_of_key interfaces types w (key.Interface f) (item.Type_ t span) i same is = absurd is
 
 -- an entry's key is among the ids
-key_into : (es : List Entry) (e : Entry) (j : ℕ) → Contains es e → e.0 ≡ key.Interface j → Contains (ids_of es) j
-key_into es e j has is = Contains-flat_map (λ (e : Entry). id_of e.0) es e j has (subst (λ (k : WorldKey). Contains (id_of k) j) (sym is) (Contains-here j []))
+key_into : (es : List Entry) (e : Entry) (j : ℕ) → Contains es e → e.0 ≡ key.Interface j → Contains (keyed_interfaces es) j
+key_into es e j has is = Contains-flat_map (λ (e : Entry). key_interface e.0) es e j has (subst (λ (k : WorldKey). Contains (key_interface k) j) (sym is) (Contains-here j []))
 
 -- an entry's types are those of the interface that it holds
-types_in : (interfaces : List Interface) (k : WorldKey) (held : WorldItem) (i : ℕ) (interface : Interface) (t : ℕ) → Contains (instance_of held) i → slice_get interfaces i ≡ Some interface → Contains (types_of interface) t
+types_in : (interfaces : List Interface) (k : WorldKey) (held : WorldItem) (i : ℕ) (interface : Interface) (t : ℕ) → Contains (item_interface held) i → slice_get interfaces i ≡ Some interface → Contains (types_of interface) t
     → Contains (entry_types interfaces (k, held)) t
 types_in interfaces k (item.Interface id stability docs span external_id) i interface t holds at has =
     is_there types_of (slice_get interfaces id) interface t (ap (slice_get interfaces) (one_of id i holds) ∙ at) has
@@ -59,7 +59,7 @@ own_type : (interfaces : List Interface) (k : WorldKey) (held : WorldItem) (t : 
 own_type interfaces k held t span is = subst (λ (x : WorldItem). Contains (entry_types interfaces (k, x)) t) (sym is) (Contains-here t [])
 
 -- an item is one interface
-same_instance : (held : WorldItem) (a b : ℕ) → Contains (instance_of held) a → Contains (instance_of held) b → a ≡ b
+same_instance : (held : WorldItem) (a b : ℕ) → Contains (item_interface held) a → Contains (item_interface held) b → a ≡ b
 same_instance (item.Interface id stability docs span external_id) a b first second = sym (one_of id a first) ∙ one_of id b second
 same_instance (item.Function fn) a b first second = absurd (Contains-nil first)
 same_instance (item.Type_ t span) a b first second = absurd (Contains-nil first)
@@ -67,7 +67,7 @@ same_instance (item.Type_ t span) a b first second = absurd (Contains-nil first)
 -- where the imports of an entry begin, by what stands there
 data Begins (types : List TypeDef) (uses : List (List ℕ)) (k : WorldKey) (held : WorldItem) (r : ℕ) : Type 0 where
   at_key : k ≡ key.Interface r → Begins types uses k held r
-  at_use : (i : ℕ) → Contains (instance_of held) i → Contains (direct uses i) r → Begins types uses k held r
+  at_use : (i : ℕ) → Contains (item_interface held) i → Contains (direct uses i) r → Begins types uses k held r
   at_type : (t : ℕ) (span : _) → held ≡ item.Type_ t span → type_interface_dep types t ≡ Some r → Begins types uses k held r
 
 type_root_into : (uses : List (List ℕ)) (o : Option ℕ) (k : WorldKey) (r : ℕ) → o ≡ Some r → Contains (roots_of uses k (type_role o)) r
@@ -120,7 +120,7 @@ module _ (least : ImportsAreLeast) (u : Upgrade) (valid : IsValid u.graph) (w : 
       let parts = Contains-filter (λ (e : Entry). not (is_replaced_entry u e)) old.imports e has in
       (parts.0, not-true (is_replaced_entry u e) parts.1)
 
-  key_replaced : (k : WorldKey) (j : ℕ) → k ≡ key.Interface j → list_any (is_replaced u) (id_of k) ≡ is_replaced u j
+  key_replaced : (k : WorldKey) (j : ℕ) → k ≡ key.Interface j → list_any (is_replaced u) (key_interface k) ≡ is_replaced u j
   key_replaced (key.Name name) j same = cc
   key_replaced (key.Interface i) j same = let one : i ≡ j = cc in or_false (is_replaced u i) ∙ ap (is_replaced u) one
     where
@@ -129,7 +129,7 @@ module _ (least : ImportsAreLeast) (u : Upgrade) (valid : IsValid u.graph) (w : 
       or_false false = refl
 
   -- its keys are those that are kept
-  pub kept_from : (j : ℕ) → Contains (ids_of (staying u)) j → IsKept j
+  pub kept_from : (j : ℕ) → Contains (keyed_interfaces (staying u)) j → IsKept j
   kept_from j has =
       let entry = key_entry (staying u) j has in
       let parts = staying_from entry.0 entry.1 in
@@ -147,7 +147,7 @@ module _ (least : ImportsAreLeast) (u : Upgrade) (valid : IsValid u.graph) (w : 
   -- ---- what follows needs what is kept
 
   -- the types of the interface that an entry of the lists holds follow
-  follows : (e : Entry) (i : ℕ) (interface : Interface) (t : ℕ) → Contains (staying u ++ old.exports) e → Contains (instance_of e.1) i → slice_get u.graph.interfaces i ≡ Some interface → Contains (types_of interface) t → Contains (following u) t
+  follows : (e : Entry) (i : ℕ) (interface : Interface) (t : ℕ) → Contains (staying u ++ old.exports) e → Contains (item_interface e.1) i → slice_get u.graph.interfaces i ≡ Some interface → Contains (types_of interface) t → Contains (following u) t
   follows e i interface t has holds_i at listed =
       Contains-flat_map (entry_types u.graph.interfaces) (staying u ++ old.exports) e t has (types_in u.graph.interfaces e.0 e.1 i interface t holds_i at listed)
 
@@ -186,7 +186,7 @@ module _ (least : ImportsAreLeast) (u : Upgrade) (valid : IsValid u.graph) (w : 
         before = λ f dep. in_row (interface_uses u.graph.types) u.graph.interfaces i from.0 f from.1 (filter_map_into (λ (e : List ℕ × ℕ). type_interface_dep u.graph.types e.1) from.0.types e.0 f e.1 dep);
       }
 
-  import_uses : (e : Entry) (i j : ℕ) → Contains (staying u) e → Contains (instance_of e.1) i → Contains (direct new_rows i) j → ((f : ℕ) → Contains (direct rows i) f → Contains (imported u) f) → IsKept j
+  import_uses : (e : Entry) (i j : ℕ) → Contains (staying u) e → Contains (item_interface e.1) i → Contains (direct new_rows i) j → ((f : ℕ) → Contains (direct rows i) f → Contains (imported u) f) → IsKept j
   import_uses e i j has holds_i edge was =
       let of = edge_of i j edge in
       kept_dep of.t j (follows e i of.interface of.t (Contains-append_left (staying u) old.exports e has) holds_i of.at of.listed) of.dep (λ f dep. was f (of.before f dep))
@@ -195,7 +195,7 @@ module _ (least : ImportsAreLeast) (u : Upgrade) (valid : IsValid u.graph) (w : 
   root_into e r has root = holds.roots r (Contains-flat_map (λ (e : Entry). roots_of rows e.0 (role_of u.graph.types e.1)) old.imports e r has root)
 
   -- an old import's instance uses what was imported
-  uses_imported : (e : Entry) (i f : ℕ) → Contains old.imports e → Contains (instance_of e.1) i → Contains (direct rows i) f → Contains (imported u) f
+  uses_imported : (e : Entry) (i f : ℕ) → Contains old.imports e → Contains (item_interface e.1) i → Contains (direct rows i) f → Contains (imported u) f
   uses_imported e i f has holds_i edge =
       import_uses_imported least u.graph.types u.graph.interfaces valid.well_formed.references.aliases valid.no_cycles.uses w old (valid.well_formed.worlds.imports w old there)
       (valid.well_formed.worlds.exports w old there) (valid.canonical w old there) e i f has (instance_interface u.graph.types e.1 i holds_i) edge
@@ -226,7 +226,7 @@ module _ (least : ImportsAreLeast) (u : Upgrade) (valid : IsValid u.graph) (w : 
 
   needed_kept : (j : ℕ) → Needed new_rows old.exports j → IsKept j
   needed_kept j need =
-      let e = Contains-flat_map_cases (λ (e : Entry). instance_of e.1) old.exports need.0 need.2 in
+      let e = Contains-flat_map_cases (λ (e : Entry). item_interface e.1) old.exports need.0 need.2 in
       let of = edge_of need.0 need.1 need.3 in
       let follow = follows e.0 need.0 of.interface of.t (Contains-append_right (staying u) old.exports e.0 e.1.0) e.1.1 of.at of.listed in
       let needs = needs_after u valid complete of.t need.1 of.dep in
@@ -269,7 +269,7 @@ module _ (least : ImportsAreLeast) (u : Upgrade) (valid : IsValid u.graph) (w : 
       (key_root u.graph.interfaces u.graph.types (rewritten_types u) new_rows w entry.0.0 entry.0.1 j entry.2 (import_is entry.0 before.0))
 
   -- what the interfaces of the listed world use it lists
-  kept_key : (j : ℕ) → IsKept j → Contains (ids_of (staying u)) j
+  kept_key : (j : ℕ) → IsKept j → Contains (keyed_interfaces (staying u)) j
   kept_key j kept = let entry = kept_into j kept in key_into (staying u) entry.0 j entry.1 entry.2
 
   pub named_lists_uses : ListsUses u.graph.interfaces new_rows (listed_world u)
@@ -278,8 +278,8 @@ module _ (least : ImportsAreLeast) (u : Upgrade) (valid : IsValid u.graph) (w : 
     exports = λ e f j has holds_f unnamed edge. exported e f j has holds_f edge (list_any (nat_eq j) (exported_keys old.exports)) refl;
   }
     where
-      exported : (e : Entry) (f j : ℕ) → Contains old.exports e → Contains (instance_of e.1) f → Contains (direct new_rows f) j → (b : Bool) → list_any (nat_eq j) (exported_keys old.exports) ≡ b → ListsKey (listed_world u) j
+      exported : (e : Entry) (f j : ℕ) → Contains old.exports e → Contains (item_interface e.1) f → Contains (direct new_rows f) j → (b : Bool) → list_any (nat_eq j) (exported_keys old.exports) ≡ b → ListsKey (listed_world u) j
       exported e f j has holds_f edge true is = inr (contains_from_any j (exported_keys old.exports) is)
       exported e f j has holds_f edge false is =
           inl (kept_key j (needed_kept j
-          (f, j, Contains-flat_map (λ (e : Entry). instance_of e.1) old.exports e f has holds_f, edge, (λ among. let yes = any_from_contains j (exported_keys old.exports) among in cc), ([], refl))))
+          (f, j, Contains-flat_map (λ (e : Entry). item_interface e.1) old.exports e f has holds_f, edge, (λ among. let yes = any_from_contains j (exported_keys old.exports) among in cc), ([], refl))))

@@ -16,7 +16,7 @@ use Rattle.wit_items.specs.declared.world.WorldKey.TheVariants as key
 use Rattle.wit_graph.proofs.Filters.{Contains-filter, filter-all, filter-fail, filter-flat_map, filter-pass, filter-same}
 use Rattle.wit_graph.specs.Entries.{Entry, by_class, class_of, of_class, role_of, type_role}
 use Rattle.wit_graph.specs.KeptByElaboration.{is_label, labelled, settled}
-use Rattle.wit_graph.specs.ListedFacts.{lists_in_order}
+use Rattle.wit_graph.specs.SoundFacts.{lists_in_order}
 use Rattle.wit_graph.specs.Valid.{IsValid}
 use Rattle.wit_graph.specs.declared.graph.Graph.{Graph}
 use Rattle.wit_growth.specs.CutIsGood.{distinct_kept}

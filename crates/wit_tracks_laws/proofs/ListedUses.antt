@@ -17,7 +17,7 @@ use Rattle.wit_items.specs.declared.world.WorldItem.TheVariants as item
 use Rattle.wit_items.specs.declared.world.WorldKey.{WorldKey}
 use Rattle.wit_items.specs.declared.world.WorldKey.TheVariants as key
 use Rattle.wit_graph.proofs.Filters.{Contains-filter}
-use Rattle.wit_graph.specs.Entries.{Entry, instance_of}
+use Rattle.wit_graph.specs.Entries.{Entry}
 use Rattle.wit_graph.specs.KeptByElaboration.{ImportsAreLeast}
 use Rattle.wit_graph.specs.Valid.{IsValid}
 use Rattle.wit_growth.specs.DependencyFacts.{filter_map_from, filter_map_into}
@@ -38,7 +38,7 @@ use Rattle.wit_tracks_laws.proofs.Accepting.{new_uses, relisted_worlds}
 use Rattle.wit_tracks_laws.proofs.KeptKeys.{named_lists_uses}
 use Rattle.wit_tracks_laws.proofs.TypesAfter.{needs_after}
 
-instance_item : (held : WorldItem) (i : ℕ) → Contains (instance_of held) i → item_interface held ≡ i ∷ []
+instance_item : (held : WorldItem) (i : ℕ) → Contains (item_interface held) i → item_interface held ≡ i ∷ []
 instance_item (item.Interface id stability docs span external_id) i has = ap (λ (x : ℕ). x ∷ []) (one_of id i has)
 instance_item (item.Function f) i has = absurd (Contains-nil has)
 instance_item (item.Type_ t span) i has = absurd (Contains-nil has)
@@ -104,7 +104,7 @@ module _ (least : ImportsAreLeast) (u : Upgrade) (valid : IsValid u.graph) (w : 
 
   module _ (v : ℕ) (elsewhere : v ≡ w → ⊥) (world : World) (at : slice_get u.graph.worlds v ≡ Some world) where
     -- what an interface without a name uses that stands in it, it used before
-    used_before : (b : Bool) (e : Entry) (f j : ℕ) → Contains (entries_of b world) e → Contains (instance_of e.1) f → is_unnamed interfaces f ≡ true → Contains (direct (new_uses u valid w there) f) j → Contains (direct (uses_of types interfaces) f) j
+    used_before : (b : Bool) (e : Entry) (f j : ℕ) → Contains (entries_of b world) e → Contains (item_interface e.1) f → is_unnamed interfaces f ≡ true → Contains (direct (new_uses u valid w there) f) j → Contains (direct (uses_of types interfaces) f) j
     used_before b e f j has holds_f unnamed edge =
         let row = from_row (interface_uses (rewritten_types u)) interfaces f j edge in
         let n = filter_map_from (λ (n : List ℕ × ℕ). type_interface_dep (rewritten_types u) n.1) row.0.types j row.2 in

@@ -15,8 +15,8 @@ use Rattle.wit_items.specs.declared.track.TrackRule.{TrackRule}
 use Rattle.wit_items.specs.declared.world.World.{World}
 use Rattle.wit_items.specs.declared.world.WorldKey.{WorldKey}
 use Rattle.wit_graph.specs.Elaborated.{Elaborated}
-use Rattle.wit_graph.specs.Entries.{ids_of}
-use Rattle.wit_graph.specs.Listed.{IsListed}
+use Rattle.wit_graph.specs.Entries.{keyed_interfaces}
+use Rattle.wit_graph.specs.Sound.{HasSoundEntries}
 use Rattle.wit_graph.specs.Valid.{IsValid}
 use Rattle.wit_relations.specs.Relation.{IsAcyclic}
 use Rattle.wit_graph.specs.declared.graph.Graph.{Graph}
@@ -43,7 +43,7 @@ module _ (laws : LawsOfElaboration) (rule : TrackRule) (g : Graph) (w : ℕ) (ol
   pub is_done : new ≡ done
   is_done = merged_is rule g w old new merged.there merged.is
 
-  order : IsListed (new_types u merged.valid w merged.there) (length (new_uses u merged.valid w merged.there)) (listed_world u).imports (listed_world u).exports
+  order : HasSoundEntries (new_types u merged.valid w merged.there) (length (new_uses u merged.valid w merged.there)) (listed_world u).imports (listed_world u).exports
   order = in_order u merged.valid w merged.there w (listed_world u) (listed_there u merged.valid w merged.there)
 
   acyclic : IsAcyclic (new_uses u merged.valid w merged.there)
@@ -52,21 +52,21 @@ module _ (laws : LawsOfElaboration) (rule : TrackRule) (g : Graph) (w : ℕ) (ol
   is_elaborated : Elaborated (new_types u merged.valid w merged.there) (new_uses u merged.valid w merged.there) (listed_world u) done
   is_elaborated = elaborates u merged.valid w merged.there merged.accepted laws.refused w (listed_world u) (listed_there u merged.valid w merged.there)
 
-  pub kept_imports : (j : ℕ) → Contains (ids_of new.imports) j → IsKept laws.least u merged.valid w merged.there (complete u merged.valid w merged.there merged.accepted) j
+  pub kept_imports : (j : ℕ) → Contains (keyed_interfaces new.imports) j → IsKept laws.least u merged.valid w merged.there (complete u merged.valid w merged.there merged.accepted) j
   kept_imports j has =
       let all = (laws.least (new_types u merged.valid w merged.there) (new_uses u merged.valid w merged.there) (listed_world u) done acyclic order is_elaborated).1
       (kept_test laws.least u merged.valid w merged.there (complete u merged.valid w merged.there merged.accepted))
       (kept_holds laws.least u merged.valid w merged.there (complete u merged.valid w merged.there merged.accepted)) in
       passed laws.least u merged.valid w merged.there (complete u merged.valid w merged.there merged.accepted) j
-      (All-contains (λ i. kept_test laws.least u merged.valid w merged.there (complete u merged.valid w merged.there merged.accepted) i ≡ true) (ids_of done.imports) j all
-      (subst (λ (x : World). Contains (ids_of x.imports) j) is_done has))
+      (All-contains (λ i. kept_test laws.least u merged.valid w merged.there (complete u merged.valid w merged.there merged.accepted) i ≡ true) (keyed_interfaces done.imports) j all
+      (subst (λ (x : World). Contains (keyed_interfaces x.imports) j) is_done has))
 
-  pub keys_are_exact : (j : ℕ) → Contains (ids_of new.imports) j ↔ (Contains (ids_of old.imports) j × (is_replaced u j ≡ false))
+  pub keys_are_exact : (j : ℕ) → Contains (keyed_interfaces new.imports) j ↔ (Contains (keyed_interfaces old.imports) j × (is_replaced u j ≡ false))
   keys_are_exact j = (
     λ has. let kept = kept_imports j has in (kept.was, kept.stays),
     λ kept.
         let holds = (laws.least (new_types u merged.valid w merged.there) (new_uses u merged.valid w merged.there) (listed_world u) done acyclic order is_elaborated).0 in
-        subst (λ (x : World). Contains (ids_of x.imports) j) (sym is_done)
+        subst (λ (x : World). Contains (keyed_interfaces x.imports) j) (sym is_done)
         (holds.roots j (kept_root laws.least u merged.valid w merged.there (complete u merged.valid w merged.there merged.accepted) j (record { was = kept.0; stays = kept.1 }))),
   )
 
@@ -189,7 +189,7 @@ module _ (g : Graph) (valid : IsValid g) where
           one_interface i j v x a b homes track.name
 
 module _ (laws : LawsOfElaboration) (rule : TrackRule) (g : Graph) (w : ℕ) (old new : World) (merged : IsMerged rule g w old new) where
-  not_outdone : (i j : ℕ) (v x : Versioned) → Contains (ids_of new.imports) i → Contains (ids_of new.imports) j → versioned g.packages g.interfaces i ≡ Some v → versioned g.packages g.interfaces j ≡ Some x
+  not_outdone : (i j : ℕ) (v x : Versioned) → Contains (keyed_interfaces new.imports) i → Contains (keyed_interfaces new.imports) j → versioned g.packages g.interfaces i ≡ Some v → versioned g.packages g.interfaces j ≡ Some x
       → have_one_track rule v x ≡ true → is_below v x ≡ true → ⊥
   not_outdone i j v x has_i has_j at_i at_j on below =
       let one = kept_imports laws rule g w old new merged i has_i in
@@ -200,7 +200,7 @@ module _ (laws : LawsOfElaboration) (rule : TrackRule) (g : Graph) (w : ℕ) (ol
   other_way : (v x : Versioned) → have_one_track rule v x ≡ true → have_one_track rule x v ≡ true
   other_way v x on = let same = track_from rule v x on in track_into rule x v (record { home = sym same.home; name = sym same.name })
 
-  pub one_on_each : (i j : ℕ) → Contains (ids_of new.imports) i → Contains (ids_of new.imports) j → are_on_one_track rule (rewritten rule g w).packages (rewritten rule g w).interfaces i j ≡ true → i ≡ j
+  pub one_on_each : (i j : ℕ) → Contains (keyed_interfaces new.imports) i → Contains (keyed_interfaces new.imports) j → are_on_one_track rule (rewritten rule g w).packages (rewritten rule g w).interfaces i j ≡ true → i ≡ j
   one_on_each i j has_i has_j on =
       let here : are_on_one_track rule g.packages g.interfaces i j ≡ true =
       subst (λ (x : Graph). are_on_one_track rule x.packages x.interfaces i j ≡ true) (rewritten_is rule g w old merged.there) on in

@@ -16,9 +16,9 @@ use Rattle.wit_items.specs.declared.world.WorldKey.TheVariants as key
 use Rattle.wit_graph.proofs.Classes.{in_by_class}
 use Rattle.wit_graph.proofs.Filters.{Contains-filter, Contains-filtered}
 use Rattle.wit_graph.specs.Elaborated.{Elaborated, settled_item}
-use Rattle.wit_graph.specs.Entries.{Entry, by_class, id_of}
+use Rattle.wit_graph.specs.Entries.{Entry, by_class, key_interface}
 use Rattle.wit_graph.specs.KeptByElaboration.{IsSettled, is_label, labelled, settled}
-use Rattle.wit_graph.specs.Listed.{IsListed}
+use Rattle.wit_graph.specs.Sound.{HasSoundEntries}
 use Rattle.wit_graph.specs.Valid.{IsOfPackage, IsValid}
 use Rattle.wit_graph.specs.declared.graph.Graph.{Graph}
 use Rattle.wit_growth.specs.Covered.{IsDependency}
@@ -48,7 +48,7 @@ entry k held = (k, held)
 listed_is : (u : Upgrade) (e : Entry) (n : List ℕ × ℕ) → Contains (listed_type e.0 e.1) n → (not (is_replaced_entry u e) ≡ true) × (is_label e.0 ≡ true) × (settled e ≡ e)
 listed_is u e n has = by e.0 e.1 has
   where
-    by : (k : WorldKey) (held : WorldItem) → Contains (listed_type k held) n → (not (list_any (is_replaced u) (id_of k)) ≡ true) × (is_label k ≡ true) × (entry k (settled_item held) ≡ entry k held)
+    by : (k : WorldKey) (held : WorldItem) → Contains (listed_type k held) n → (not (list_any (is_replaced u) (key_interface k)) ≡ true) × (is_label k ≡ true) × (entry k (settled_item held) ≡ entry k held)
     by (key.Name name) (item.Type_ t span) has = (refl, refl, refl)
     by (key.Name name) (item.Interface i stability docs span external_id) has = absurd (Contains-nil has)
     by (key.Name name) (item.Function fn) has = absurd (Contains-nil has)
@@ -80,7 +80,7 @@ module _ (laws : LawsOfElaboration) (u : Upgrade) (valid : IsValid u.graph) (w :
     abbrev pub done : World
     done = elaborated_world relisted listed
 
-    order : IsListed types (length uses) listed.imports listed.exports
+    order : HasSoundEntries types (length uses) listed.imports listed.exports
     order = in_order u valid w there v listed at
 
     is_elaborated : Elaborated types uses listed done

@@ -10,7 +10,7 @@ use Rattle.wit_items.specs.declared.world.World.{World}
 use Rattle.wit_items.specs.declared.world.WorldKey.{WorldKey}
 use Rattle.wit_graph.specs.Elaborated.{Elaborated}
 use Rattle.wit_graph.specs.Elaboration.{graph_uses}
-use Rattle.wit_graph.specs.Entries.{ids_of}
+use Rattle.wit_graph.specs.Entries.{keyed_interfaces}
 use Rattle.wit_graph.specs.KeptByElaboration.{labelled}
 use Rattle.wit_graph.specs.Valid.{IsValid}
 use Rattle.wit_graph.specs.declared.graph.Graph.{Graph}
@@ -43,11 +43,11 @@ pub record IsMerged (rule : TrackRule) (g : Graph) (w : ℕ) (old new : World) :
 -- comes back and nothing new is needed
 abbrev pub KeysAreExact : Type 0
 KeysAreExact = (rule : TrackRule) (g : Graph) (w : ℕ) (old new : World) (j : ℕ) → IsMerged rule g w old new
-    → Contains (ids_of new.imports) j ↔ (Contains (ids_of old.imports) j × (is_replaced (record { rule = rule; graph = g; world = old }) j ≡ false))
+    → Contains (keyed_interfaces new.imports) j ↔ (Contains (keyed_interfaces old.imports) j × (is_replaced (record { rule = rule; graph = g; world = old }) j ≡ false))
 
 -- no two of them are on one track
 abbrev pub OneOnEachTrack : Type 0
-OneOnEachTrack = (rule : TrackRule) (g : Graph) (w : ℕ) (old new : World) (i j : ℕ) → IsMerged rule g w old new → Contains (ids_of new.imports) i → Contains (ids_of new.imports) j
+OneOnEachTrack = (rule : TrackRule) (g : Graph) (w : ℕ) (old new : World) (i j : ℕ) → IsMerged rule g w old new → Contains (keyed_interfaces new.imports) i → Contains (keyed_interfaces new.imports) j
     → are_on_one_track rule (rewritten rule g w).packages (rewritten rule g w).interfaces i j ≡ true → i ≡ j
 
 -- the imports under labels stay as they were

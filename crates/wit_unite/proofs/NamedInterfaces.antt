@@ -11,7 +11,7 @@ use Rattle.wit_items.specs.declared.world.WorldItem.TheVariants as item
 use Rattle.wit_items.specs.declared.world.WorldKey.{WorldKey}
 use Rattle.wit_items.specs.declared.world.WorldKey.TheVariants as key
 use Rattle.wit_graph.specs.Elaboration.{graph_uses}
-use Rattle.wit_graph.specs.Entries.{Entry, ids_of, instance_of, role_of}
+use Rattle.wit_graph.specs.Entries.{Entry, keyed_interfaces, item_interface, role_of}
 use Rattle.wit_graph.specs.Imported.{HasConflict, IsImported, Needed, roots_of}
 use Rattle.wit_graph.specs.Relations.{entry_interface, entry_interfaces, world_interfaces}
 use Rattle.wit_graph.specs.Valid.{IsValid}
@@ -62,7 +62,7 @@ module _ (g : Graph) (valid : IsValid g) (w : ℕ) (old : World) (there : slice_
   listed_key = key_named g.interfaces g.types w old old_imports old_exports
 
   -- what an import uses is imported under its own key
-  pub import_uses : (e : Entry) (i j : ℕ) → Contains old.imports e → entry_interface g.types e.1 ≡ Some i → Contains (direct rows i) j → Contains (ids_of old.imports) j
+  pub import_uses : (e : Entry) (i j : ℕ) → Contains old.imports e → entry_interface g.types e.1 ≡ Some i → Contains (direct rows i) j → Contains (keyed_interfaces old.imports) j
   import_uses = canonical_import_uses laws.least g.types g.interfaces valid.well_formed.references.aliases valid.no_cycles.uses w old old_imports old_exports (valid.canonical w old there)
 
   -- with an interface all that it uses is named
@@ -80,7 +80,7 @@ module _ (g : Graph) (valid : IsValid g) (w : ℕ) (old : World) (there : slice_
             (export_uses laws.least g.types g.interfaces valid.well_formed.references.aliases valid.no_cycles.uses w old old_imports old_exports (valid.canonical w old there) e.0 i j e.1 instance edge)
       ]
     where
-      exported_instance : (k : WorldKey) (held : WorldItem) → IsExport g.interfaces k held → entry_interface g.types held ≡ Some i → Contains (instance_of held) i
+      exported_instance : (k : WorldKey) (held : WorldItem) → IsExport g.interfaces k held → entry_interface g.types held ≡ Some i → Contains (item_interface held) i
       exported_instance k (item.Interface id stability docs span external_id) is same = let one : id ≡ i = cc in subst (λ (x : ℕ). Contains (id ∷ []) x) one (Contains-here id [])
       exported_instance k (item.Function f) is same = cc
       exported_instance (key.Name name) (item.Type_ t span) is same = absurd is
@@ -93,7 +93,7 @@ module _ (g : Graph) (valid : IsValid g) (w : ℕ) (old : World) (there : slice_
   -- what the turned lists import is named
   needed_named : (j : ℕ) → Needed rows turn.exports j → Named j
   needed_named j need =
-      let e = Contains-flat_map_cases (λ (e : Entry). instance_of e.1) turn.exports need.0 need.2 in
+      let e = Contains-flat_map_cases (λ (e : Entry). item_interface e.1) turn.exports need.0 need.2 in
       let user = listed_named e.0 need.0 (from.exports e.0 e.1.0).0 (instance_interface g.types e.0.1 need.0 e.1.1) in
       reached_named need.1 need.5.0 j (closed need.0 need.1 user need.3) need.5.1
 

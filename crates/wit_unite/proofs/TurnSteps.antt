@@ -7,7 +7,7 @@ use Rattle.wit_relations.specs.MemberFacts.{Contains-nil}
 use Rattle.wit_graph.specs.Elaboration.{IsConflictError, graph_uses}
 use Rattle.wit_graph.specs.Entries.{Entry}
 use Rattle.wit_graph.specs.Imported.{HasConflict, IsRefusedName}
-use Rattle.wit_graph.specs.Listed.{IsListed}
+use Rattle.wit_graph.specs.Sound.{HasSoundEntries}
 use Rattle.wit_graph.specs.Valid.{IsValid}
 use Rattle.wit_graph.specs.declared.error_kind.ResolveErrorKind.{ResolveErrorKind}
 use Rattle.wit_graph.specs.declared.error_kind.ResolveErrorKind.TheVariants.{PackageNotFound, WorldNotFound, InterfaceNotFound, InvalidTransitiveDependency, DuplicatePackage, PackageCycle, ItemShadowing, StabilityMismatch, Semantic, OffsetOverflow, OutOfMemory}
@@ -86,7 +86,7 @@ turned_same g w current turn f there same =
 -- ---- the lists are in order
 
 pub importized_in_order : (g : Graph) → IsValid g → (w : ℕ) (current : World) (out : Option (List ℕ)) → slice_get g.worlds w ≡ Some current → ((label : List ℕ) → HasClash current label → ⊥)
-    → IsListed g.types (length g.interfaces) (type_entries current.imports ++ current.exports) []
+    → HasSoundEntries g.types (length g.interfaces) (type_entries current.imports ++ current.exports) []
 importized_in_order g valid w current out there clear =
     in_order_over g valid w current there (importized out current)
     (importized_comes current out (valid.well_formed.worlds.distinct_imports w current there) (valid.well_formed.worlds.distinct_exports w current there) (under_labels g valid w current there) clear)
@@ -94,7 +94,7 @@ importized_in_order g valid w current out there clear =
 
 pub exportized_in_order : (g : Graph) → IsValid g → (w : ℕ) (current : World) (answers : List Bool) (out : Option (List ℕ)) → slice_get g.worlds w ≡ Some current
     → length answers ≡ length current.imports → ((label : List ℕ) → HasTypeAt (answered true current.imports answers) label → ⊥)
-    → IsListed g.types (length g.interfaces) (answered false current.imports answers) (answered true current.imports answers)
+    → HasSoundEntries g.types (length g.interfaces) (answered false current.imports answers) (answered true current.imports answers)
 exportized_in_order g valid w current answers out there count clear =
     in_order_over g valid w current there (exportized answers out current)
     (exportized_comes current answers out (valid.well_formed.worlds.distinct_imports w current there) (under_labels g valid w current there)

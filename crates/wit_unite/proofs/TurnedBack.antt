@@ -18,7 +18,7 @@ use Rattle.wit_relations.specs.Relation.{IsPath, direct}
 use Rattle.wit_graph.proofs.Classes.{by_class_in, in_by_class}
 use Rattle.wit_graph.proofs.Filters.{Contains-filter, Contains-filtered}
 use Rattle.wit_graph.specs.Elaboration.{graph_uses}
-use Rattle.wit_graph.specs.Entries.{Entry, by_class, id_of, ids_of, instance_of, role_of}
+use Rattle.wit_graph.specs.Entries.{Entry, by_class, key_interface, keyed_interfaces, item_interface, role_of}
 use Rattle.wit_graph.specs.Imported.{exported_interfaces, roots_of}
 use Rattle.wit_graph.specs.KeptByElaboration.{is_label, labelled, settled}
 use Rattle.wit_graph.specs.Valid.{IsValid}
@@ -85,12 +85,12 @@ module _ (laws : LawsOfElaboration) (g : Graph) (valid : IsValid g) (w : ℕ) (a
         | inl stays ↦ none_false old.imports answers many all stays.0 stays.1
         | inr made ↦ elim made.4 [
           | inl need ↦
-              let x = Contains-flat_map_cases (λ (e : Entry). instance_of e.1) turn.exports need.0 need.2 in
+              let x = Contains-flat_map_cases (λ (e : Entry). item_interface e.1) turn.exports need.0 need.2 in
               let user = answered_from true old.imports answers x.0 x.1.0 in
               let used = import_uses g valid w old there turn accepted.from laws accepted.no_conflict x.0 need.0 need.1 (contained_at old.imports user.0 x.0 user.1) (instance_interface g.types x.0.1 need.0 x.1.1) need.3 in
               let entry = key_entry old.imports need.1 used in
-              need.4 (Contains-flat_map (λ (e : Entry). id_of e.0) turn.exports entry.0 need.1 (all_true old.imports answers many all entry.0 entry.1)
-              (subst (λ (k : WorldKey). Contains (id_of k) need.1) (sym entry.2) (Contains-here need.1 [])))
+              need.4 (Contains-flat_map (λ (e : Entry). key_interface e.0) turn.exports entry.0 need.1 (all_true old.imports answers many all entry.0 entry.1)
+              (subst (λ (k : WorldKey). Contains (key_interface k) need.1) (sym entry.2) (Contains-here need.1 [])))
           | inr reached ↦
               let root = Contains-flat_map_cases (λ (e : Entry). roots_of (graph_uses g) e.0 (role_of g.types e.1)) turn.imports reached.0 reached.1 in
               none_false old.imports answers many all root.0 root.1.0
@@ -123,11 +123,11 @@ is_name k label same = ap is_label same
 key_settled : (e : Entry) → (settled e).0 ≡ e.0
 key_settled e = refl
 
-id_key : (es : List Entry) (j : ℕ) → Contains (keys_of es) (key.Interface j) ↔ Contains (ids_of es) j
+id_key : (es : List Entry) (j : ℕ) → Contains (keys_of es) (key.Interface j) ↔ Contains (keyed_interfaces es) j
 id_key es j = (
   λ has.
       let entry = entry_of_key es (key.Interface j) has in
-      Contains-flat_map (λ (e : Entry). id_of e.0) es entry.0 j entry.1 (subst (λ (k : WorldKey). Contains (id_of k) j) (sym entry.2) (Contains-here j [])),
+      Contains-flat_map (λ (e : Entry). key_interface e.0) es entry.0 j entry.1 (subst (λ (k : WorldKey). Contains (key_interface k) j) (sym entry.2) (Contains-here j [])),
   λ has. let entry = key_entry es j has in subst (Contains (keys_of es)) entry.2 (key_of_entry es entry.0 entry.1),
 )
 
@@ -165,13 +165,13 @@ module _ (laws : LawsOfElaboration) (g : Graph) (valid : IsValid g) (w : ℕ) (o
       )
 
   -- where an import begins that was an export: at its own key, or at a use of it
-  began : (e : Entry) → Contains old.exports e → (r : ℕ) → Contains (roots_of (graph_uses g) e.0 (role_of g.types e.1)) r → (x : ℕ) × Contains (instance_of e.1) x × (((e.0 ≡ key.Interface x) × (x ≡ r)) ⊎ Contains (direct (graph_uses g) x) r)
+  began : (e : Entry) → Contains old.exports e → (r : ℕ) → Contains (roots_of (graph_uses g) e.0 (role_of g.types e.1)) r → (x : ℕ) × Contains (item_interface e.1) x × (((e.0 ≡ key.Interface x) × (x ≡ r)) ⊎ Contains (direct (graph_uses g) x) r)
   began e has r root =
       let place = place_of old.exports e has in
       by e.0 e.1 (valid.well_formed.worlds.exports w old there place.0 e place.1) root
     where
       by : (k : WorldKey) (held : WorldItem) → IsExport g.interfaces k held → Contains (roots_of (graph_uses g) k (role_of g.types held)) r
-          → (x : ℕ) × Contains (instance_of held) x × (((k ≡ key.Interface x) × (x ≡ r)) ⊎ Contains (direct (graph_uses g) x) r)
+          → (x : ℕ) × Contains (item_interface held) x × (((k ≡ key.Interface x) × (x ≡ r)) ⊎ Contains (direct (graph_uses g) x) r)
       by (key.Interface f) (item.Interface i stability docs span external_id) is root = (i, Contains-here i [], inl (ap key.Interface (sym is.0), one_of i r root))
       by (key.Name name) (item.Interface i stability docs span external_id) is root = (i, Contains-here i [], inr root)
       by k (item.Function f) is root = let never = root_interface g.types (graph_uses g) k (item.Function f) r root in let none = never.1 in cc
@@ -179,7 +179,7 @@ module _ (laws : LawsOfElaboration) (g : Graph) (valid : IsValid g) (w : ℕ) (o
       by (key.Name name) (item.Type_ t span) is root = absurd is
 
   -- the interfaces under their own keys are those that were so exported, and what is behind
-  id_kept : (j : ℕ) → Contains (ids_of mid.imports) j ↔ (Contains (keys_of old.exports) (key.Interface j) ⊎ IsBehind (graph_uses g) old.exports j)
+  id_kept : (j : ℕ) → Contains (keyed_interfaces mid.imports) j ↔ (Contains (keys_of old.exports) (key.Interface j) ⊎ IsBehind (graph_uses g) old.exports j)
   id_kept j =
       let imported = laws.exact g.types (graph_uses g) before mid j valid.no_cycles.uses (in_order g valid w old there turn accepted.from) (is_elaborated g valid w old there turn accepted.from laws accepted.no_conflict) in (
         λ has. elim (imported.0 has) [
@@ -188,7 +188,7 @@ module _ (laws : LawsOfElaboration) (g : Graph) (valid : IsValid g) (w : ℕ) (o
               let e = Contains-flat_map_cases (λ (e : Entry). roots_of (graph_uses g) e.0 (role_of g.types e.1)) turn.imports reached.0 reached.1 in
               let export = subst (λ (es : List Entry). Contains es e.0) imports_are e.1.0 in
               let start = began e.0 export reached.0 e.1.1 in
-              let instance = Contains-flat_map (λ (e : Entry). instance_of e.1) old.exports e.0 start.0 export start.1 in
+              let instance = Contains-flat_map (λ (e : Entry). item_interface e.1) old.exports e.0 start.0 export start.1 in
               elim start.2 [
                 | inl own ↦ from_own e.0 export start.0 own.0 instance reached.2.0 (subst (λ (x : ℕ). IsPath (graph_uses g) x reached.2.0 j) (sym own.1) reached.2.1)
                 | inr edge ↦ inr (start.0, reached.0, instance, edge, reached.2)
@@ -200,7 +200,7 @@ module _ (laws : LawsOfElaboration) (g : Graph) (valid : IsValid g) (w : ℕ) (o
               let root : Contains (roots_of (graph_uses g) entry.0.0 (role_of g.types entry.0.1)) j = own_root entry.0.0 entry.0.1 entry.2 (export_is entry.0 entry.1) in
               (j, in_roots entry.0 entry.1 j root, ([], refl))
           | inr behind ↦
-              let e = Contains-flat_map_cases (λ (e : Entry). instance_of e.1) old.exports behind.0 behind.2 in
+              let e = Contains-flat_map_cases (λ (e : Entry). item_interface e.1) old.exports behind.0 behind.2 in
               elim (behind_root e.0.0 e.0.1 behind.0 (export_is e.0 e.1.0) e.1.1) [
                 | inl root ↦ (behind.0, in_roots e.0 e.1.0 behind.0 root, (behind.1 ∷ behind.4.0, (behind.3, behind.4.1)))
                 | inr roots ↦ (behind.1, in_roots e.0 e.1.0 behind.1 (roots behind.1 behind.3), behind.4)
@@ -225,7 +225,7 @@ module _ (laws : LawsOfElaboration) (g : Graph) (valid : IsValid g) (w : ℕ) (o
       own_root (key.Interface f) (item.Function fn) same is = absurd is
       own_root (key.Interface f) (item.Type_ t span) same is = absurd is
 
-      behind_root : (k : WorldKey) (held : WorldItem) (x : ℕ) → IsExport g.interfaces k held → Contains (instance_of held) x
+      behind_root : (k : WorldKey) (held : WorldItem) (x : ℕ) → IsExport g.interfaces k held → Contains (item_interface held) x
           → Contains (roots_of (graph_uses g) k (role_of g.types held)) x ⊎ ((d : ℕ) → Contains (direct (graph_uses g) x) d → Contains (roots_of (graph_uses g) k (role_of g.types held)) d)
       behind_root (key.Interface f) (item.Interface i stability docs span external_id) x is has = inl has
       behind_root (key.Name name) (item.Interface i stability docs span external_id) x is has = inr (λ d edge. subst (λ (y : ℕ). Contains (direct (graph_uses g) y) d) (sym (one_of i x has)) edge)

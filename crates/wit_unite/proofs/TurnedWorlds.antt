@@ -17,8 +17,8 @@ use Rattle.wit_graph.specs.Elaboration.{graph_uses}
 use Rattle.wit_graph.specs.Entries.{Entry, by_class}
 use Rattle.wit_graph.specs.Imported.{HasConflict}
 use Rattle.wit_graph.specs.KeptByElaboration.{IsSettled, is_label, labelled, settled}
-use Rattle.wit_graph.specs.Listed.{IsListed}
-use Rattle.wit_graph.specs.ListedFacts.{IsListed-of_world}
+use Rattle.wit_graph.specs.Sound.{HasSoundEntries}
+use Rattle.wit_graph.specs.SoundFacts.{HasSoundEntries-of_world}
 use Rattle.wit_graph.specs.Valid.{IsValid}
 use Rattle.wit_graph.specs.declared.graph.Graph.{Graph}
 use Rattle.wit_growth.specs.Covered.{IsDependency}
@@ -76,13 +76,13 @@ module _ (g : Graph) (valid : IsValid g) (w : ℕ) (old : World) (there : slice_
       record { is = export_from_import g.interfaces g.types w e.0 e.1 good.is comes.1; own = good.own; home = good.home }
 
   -- the turned lists are in order
-  pub in_order_over : (n : ℕ) → n ≡ length g.interfaces → IsListed g.types n turn.imports turn.exports
+  pub in_order_over : (n : ℕ) → n ≡ length g.interfaces → HasSoundEntries g.types n turn.imports turn.exports
   in_order_over n same =
-      subst (λ (m : ℕ). IsListed g.types m turn.imports turn.exports) (sym same)
-      (IsListed-of_world g.types g.interfaces valid.well_formed.references.aliases w listed (λ i e on. (old_entry e (from.imports e (contained_at turn.imports i e on))).is)
+      subst (λ (m : ℕ). HasSoundEntries g.types m turn.imports turn.exports) (sym same)
+      (HasSoundEntries-of_world g.types g.interfaces valid.well_formed.references.aliases w listed (λ i e on. (old_entry e (from.imports e (contained_at turn.imports i e on))).is)
       (λ i e on. (exported e (contained_at turn.exports i e on)).is))
 
-  pub in_order : IsListed g.types (length uses) turn.imports turn.exports
+  pub in_order : HasSoundEntries g.types (length uses) turn.imports turn.exports
   in_order = in_order_over (length uses) (length-map g.interfaces (interface_uses g.types))
 
   module _ (laws : LawsOfElaboration) (no_conflict : HasConflict (graph_uses g) turn.exports → ⊥) where

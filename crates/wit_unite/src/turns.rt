@@ -7,7 +7,7 @@ ghost use Rattle.std.specs.Option.{option_map};
 ghost use Rattle.wit_graph.specs.Elaborated.{elaborated_exports, elaborated_imports};
 ghost use Rattle.wit_graph.specs.Elaboration.{IsConflictError, graph_uses};
 ghost use Rattle.wit_graph.specs.Imported.{HasConflict};
-ghost use Rattle.wit_graph.specs.Listed.{IsListed};
+ghost use Rattle.wit_graph.specs.Sound.{HasSoundEntries};
 ghost use Rattle.wit_graph.specs.Valid.{IsValid};
 ghost use Rattle.wit_graph.specs.declared.error_kind.ResolveErrorKind.{ResolveErrorKind};
 ghost use Rattle.wit_graph.specs.declared.error_kind.ResolveErrorKind.TheVariants.{OutOfMemory};
@@ -83,7 +83,7 @@ fn with_lists(world: &World, name: Text, lists: Lists) -> Result<World, AllocErr
 /// The elaboration of a world over the types and interfaces of a graph.
 fn elaborated(alloc: Global, graph: &Graph, world: World) -> ResolveResult<World>
     requires acyclic { IsAcyclic (graph_uses graph.now) }
-    requires listed { IsListed graph.now.types (length graph.now.interfaces) world.imports world.exports }
+    requires listed { HasSoundEntries graph.now.types (length graph.now.interfaces) world.imports world.exports }
     ensures ok { IfOk result (λ new. new ≡ record world { imports = elaborated_imports graph.now.types (graph_uses graph.now) world.imports world.exports; exports = elaborated_exports graph.now.types (graph_uses graph.now) world.exports }) }
     ensures no_conflict { OnOk result (HasConflict (graph_uses graph.now) world.exports → ⊥) }
     ensures cause { IfErr result (IsConflictError graph.now world) }
@@ -120,7 +120,7 @@ fn turn(
 ) -> ResolveResult<()>
     requires world { HasHomeAt graph.old world }
     requires acyclic { IsAcyclic (graph_uses graph.old) }
-    requires listed { IsListed graph.old.types (length graph.old.interfaces) lists.imports lists.exports }
+    requires listed { HasSoundEntries graph.old.types (length graph.old.interfaces) lists.imports lists.exports }
     requires free { IsFreeAt graph.old world name }
     ensures ok { OnOk result (graph.new ≡ turned graph.old world (λ _. record { name = name; imports = lists.imports; exports = lists.exports })) }
     ensures no_conflict { OnOk result (HasConflict (graph_uses graph.old) lists.exports → ⊥) }

@@ -2,7 +2,7 @@
 ghost use Rattle.std.specs.Prelude.{◌≡◌, ◌↔◌, IfErr, IfOk, IsTrue, Some, false, length, slice_get};
 ghost use Rattle.wit_graph.specs.Elaborated.{Elaborated};
 ghost use Rattle.wit_graph.specs.Elaboration.{graph_uses};
-ghost use Rattle.wit_graph.specs.Listed.{IsListed};
+ghost use Rattle.wit_graph.specs.Sound.{HasSoundEntries};
 ghost use Rattle.wit_graph.specs.declared.error_kind.ResolveErrorKind.TheVariants.{OutOfMemory};
 ghost use Rattle.wit_items.specs.Each.{Each};
 ghost use Rattle.wit_items.specs.declared.world.World.{World};
@@ -16,7 +16,7 @@ use wit_items::{World, WorldId};
 /// Whether each world is its own elaboration.
 pub(crate) fn are_canonical(alloc: Global, graph: &Graph) -> ResolveResult<bool>
     requires acyclic { IsAcyclic (graph_uses graph.now) }
-    requires listed { Each (λ (world : World). IsListed graph.now.types (length graph.now.interfaces) world.imports world.exports) graph.now.worlds }
+    requires listed { Each (λ (world : World). HasSoundEntries graph.now.types (length graph.now.interfaces) world.imports world.exports) graph.now.worlds }
     ensures holds { IfOk result (λ canonical. IsTrue canonical ↔ Each (λ (world : World). Elaborated graph.now.types (graph_uses graph.now) world world) graph.now.worlds) }
     ensures err { IfErr result (λ e. e ≡ OutOfMemory) }
 {
@@ -45,7 +45,7 @@ fn is_canonical(
     requires uses { elaborator.old ≡ graph_uses graph.now }
     requires there { slice_get graph.now.worlds index ≡ Some world.now }
     requires acyclic { IsAcyclic (graph_uses graph.now) }
-    requires listed { IsListed graph.now.types (length graph.now.interfaces) world.now.imports world.now.exports }
+    requires listed { HasSoundEntries graph.now.types (length graph.now.interfaces) world.now.imports world.now.exports }
     ensures holds { IfOk result (λ canonical. IsTrue canonical ↔ Elaborated graph.now.types (graph_uses graph.now) world.now world.now) }
     ensures err { IfErr result (λ e. e ≡ OutOfMemory) }
     ensures same { elaborator.new ≡ elaborator.old }

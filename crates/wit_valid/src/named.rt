@@ -9,8 +9,8 @@ ghost use Rattle.wit_valid.specs.Parts.{IsNamed};
 use crate::package_names::has_package_names;
 use crate::tables::has_tables;
 use wit_graph::{Graph, Package};
-use wit_items::shape::names::are_interfaces_kebab;
 use wit_items::{Interface, is_kebab_name};
+use wit_shape::names::are_interfaces_kebab;
 
 /// Whether each thing stands under its name where it should, and the names are kebab names.
 pub(crate) fn is_named(graph: &Graph) -> bool

@@ -2,22 +2,22 @@
 ghost use Rattle.std.specs.Prelude.{◌↔◌, IfOk, IsTrue};
 ghost use Rattle.wit_graph.specs.Valid.{HasOwners, HasReferences, HasWorlds};
 ghost use Rattle.wit_items.specs.Reference.{type_references};
-ghost use Rattle.wit_items.specs.Shown.{TellsEach};
+ghost use Rattle.wit_shape.specs.Shown.{TellsEach};
 ghost use Rattle.wit_relations.specs.Relation.{IsAcyclic};
 ghost use Rattle.wit_valid.specs.Parts.{IsOwned};
 
 use crate::world_homes::{export_own, import_own, include_nothing};
 use std::alloc::{AllocError, Global};
 use wit_graph::Graph;
-use wit_items::shape::keys::{interfaces_keys_differ, worlds_keys_differ};
-use wit_items::shape::own::{
+use wit_items::{Interface, Items, TypeDef, World};
+use wit_shape::keys::{interfaces_keys_differ, worlds_keys_differ};
+use wit_shape::own::{
     all_exports_use_own, all_functions_use_own, all_imports_use_own, all_refer_to_own,
 };
-use wit_items::shape::owners::{all_list_own, all_name_functions, are_listed};
-use wit_items::shape::references::{all_alias_named, are_plain_if_unnamed};
-use wit_items::shape::shown::{Shown, shown_by_each};
-use wit_items::shape::worlds::{all_have_exports, all_have_imports, stand_once};
-use wit_items::{Interface, Items, TypeDef, World};
+use wit_shape::owners::{all_list_own, all_name_functions, are_listed};
+use wit_shape::references::{all_alias_named, are_plain_if_unnamed};
+use wit_shape::shown::{Shown, shown_by_each};
+use wit_shape::worlds::{all_have_exports, all_have_imports, stand_once};
 
 /// Whether owners, references and worlds are in order.
 pub(crate) fn is_owned(alloc: Global, graph: &Graph) -> Result<bool, AllocError>

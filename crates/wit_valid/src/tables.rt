@@ -6,8 +6,8 @@ ghost use Rattle.wit_items.specs.Each.{Each, EachAt};
 ghost use Rattle.wit_values.specs.Table.{HasDistinctKeys};
 
 use wit_graph::Package;
-use wit_items::shape::names::{has_name, is_text};
 use wit_items::{Interface, InterfaceId, Names, PackageId, World, WorldId};
+use wit_shape::names::{has_name, is_text};
 
 /// Whether named interfaces and worlds stand in the tables of their packages under their names, and
 /// the tables have nothing else.

@@ -12,7 +12,7 @@ use crate::named::is_named;
 use crate::own::is_owned;
 use std::alloc::Global;
 use wit_graph::{Graph, ResolveResult};
-use wit_items::shape::unknown::is_unknown;
+use wit_shape::unknown::is_unknown;
 
 /// Whether a graph is valid, as the graph of each `Resolve` is: packages, interfaces and worlds stand
 /// under their names, which are kebab names; types and functions belong to what lists them and refer

@@ -11,7 +11,7 @@ use wit_items::{
     Docs, Interface, Items, Names, PackageId, PackageName, SourceMap, Span, Stability, Table, Text,
     TryClone, UnresolvedPackage, UnresolvedPackageGroup,
 };
-use wit_resolve_graph::{PackageSources, ParseFault, Resolve, SourceFault};
+use wit_resolve_graph::{PackageSources, ParseFault, Resolve, SourceFault, is_group_shaped};
 
 fn text(rt: &impl Abort, alloc: Global, text: &str) -> Text {
     Text::try_from_str(alloc, text).expect(rt, "memory")
@@ -118,7 +118,7 @@ fn parsed(
         nested: Items::new(alloc),
         source_map,
     };
-    if group.is_shaped(alloc).expect(rt, "memory") {
+    if is_group_shaped(alloc, &group).expect(rt, "memory") {
         return Ok(group);
     }
     Err(ParseFault::OutOfMemory)

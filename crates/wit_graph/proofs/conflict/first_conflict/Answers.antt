@@ -1,6 +1,6 @@
 use Rattle.std.proofs.Common.{◌<◌, length, arith}
 use Rattle.std.proofs.lemmas.List.Elements.{All-contains}
-use Rattle.wit_graph.specs.Entries.{Entry, instance_of}
+use Rattle.wit_graph.specs.Entries.{Entry, item_interface}
 use Rattle.wit_graph.specs.Imported.{IsInConflict, exported_interfaces}
 use Rattle.wit_graph.proofs.ExportSteps.{given_at, nothing_given}
 use Rattle.wit_graph.proofs.FirstConflict.{conflict_here, conflict_passed, marked_use, no_interface, use_marked}
@@ -11,7 +11,7 @@ use Rattle.wit_graph.proofs.conflict.first_conflict.Goals as goal
 pub direct_uses-requires : goal.direct_uses-requires
 direct_uses-requires c =
     let e : Entry = (c.entry_at.result.0.now, c.entry_at.result.1.now) in
-    let has = given_at (λ (f : Entry). instance_of f.1) c.args.exports.now c.loop-index.index e c.in-Some.id c.entry_at.ensures c.in-Some.ensures in
+    let has = given_at (λ (f : Entry). item_interface f.1) c.args.exports.now c.loop-index.index e c.in-Some.id c.entry_at.ensures c.in-Some.ensures in
     let below : c.in-Some.id < length c.args.uses.now = All-contains (λ i. i < length c.args.uses.now) (exported_interfaces c.args.exports.now) c.in-Some.id c.requires.in_range has in
     omega (arith, c.index.ensures)
 
@@ -35,7 +35,7 @@ loop-index-preserved c =
           cc)
       | in_default w ↦
           no_interface c.args.uses.now c.args.exports.now c.args.leading.now.order c.requires.marked c.loop-index.index e c.entry_at.ensures
-          (nothing_given c.item_interface.result (instance_of e.1) w.in_default.not-Some c.item_interface.ensures)
+          (nothing_given c.item_interface.result (item_interface e.1) w.in_default.not-Some c.item_interface.ensures)
     ])
 
 pub returns : goal.returns

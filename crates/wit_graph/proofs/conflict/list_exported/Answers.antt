@@ -1,7 +1,7 @@
 use Rattle.std.proofs.Common.{◌<◌, ℕ, [], ◌∷◌, List, ap, ◌∙◌, arith}
 use Rattle.std.proofs.lemmas.List.Elements.{All-contains}
 use Rattle.wit_relations.specs.Walks.{Listed}
-use Rattle.wit_graph.specs.Entries.{Entry, id_of}
+use Rattle.wit_graph.specs.Entries.{Entry, key_interface}
 use Rattle.wit_graph.specs.Imported.{exported_keys}
 use Rattle.wit_graph.proofs.ExportSteps.{given_at, keys_more, keys_same, nothing_given}
 use Rattle.wit_graph.proofs.conflict.list_exported.Goals.{in-Some+in_ok-add_node, in_default}
@@ -10,7 +10,7 @@ use Rattle.wit_graph.proofs.conflict.list_exported.Goals as goal
 pub add_node-requires : goal.add_node-requires
 add_node-requires c =
     let e : Entry = (c.entry_at.result.0.now, c.entry_at.result.1.now) in
-    let has = given_at (λ (f : Entry). id_of f.0) c.args.exports.now c.loop-index.index e c.in-Some.id c.entry_at.ensures c.in-Some.ensures in
+    let has = given_at (λ (f : Entry). key_interface f.0) c.args.exports.now c.loop-index.index e c.in-Some.id c.entry_at.ensures c.in-Some.ensures in
     let below : c.in-Some.id < c.args.exported.now.nodes = All-contains (λ i. i < c.args.exported.now.nodes) (exported_keys c.args.exports.now) c.in-Some.id c.requires.in_range has in
     omega (arith, c.index.ensures, c.loop-index.invariant.nodes)
 
@@ -28,7 +28,7 @@ loop-index-preserved c =
       | in_default w ↦ record {
         order_is =
             keys_same c.args.exports.now c.loop-index.index e c.loop-index.exported.order c.match-key_interface.exported.order c.entry_at.ensures
-            (nothing_given c.key_interface.result (id_of e.0) w.in_default.not-Some c.key_interface.ensures) c.loop-index.invariant.order_is (ap (λ (l : Listed). l.order) w.exported-is);
+            (nothing_given c.key_interface.result (key_interface e.0) w.in_default.not-Some c.key_interface.ensures) c.loop-index.invariant.order_is (ap (λ (l : Listed). l.order) w.exported-is);
         nodes = ap (λ (l : Listed). l.nodes) w.exported-is ∙ c.loop-index.invariant.nodes;
       }
     ]

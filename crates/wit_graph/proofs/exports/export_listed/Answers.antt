@@ -4,7 +4,7 @@ use Rattle.std.proofs.lemmas.List.Elements.{All-contains}
 use Rattle.wit_relations.specs.Walks.{Listed}
 use Rattle.wit_graph.specs.declared.entries.Lists.{Lists}
 use Rattle.wit_graph.specs.Elaborating.{is_listed}
-use Rattle.wit_graph.specs.Entries.{Entry, fresh_entries, instance_of}
+use Rattle.wit_graph.specs.Entries.{Entry, fresh_entries, item_interface}
 use Rattle.wit_graph.specs.Imported.{exported_interfaces}
 use Rattle.wit_graph.proofs.ExportSteps.{given_at, nothing_given}
 use Rattle.wit_graph.proofs.Exporting.{exports_more, imports_more, exports_skip, imports_skip, exporting_same}
@@ -14,7 +14,7 @@ use Rattle.wit_graph.proofs.exports.export_listed.Goals as goal
 pub export_entry-requires-clause-interface : goal.export_entry-requires-clause-interface
 export_entry-requires-clause-interface c =
     let e : Entry = (c.entry_at.result.0.now, c.entry_at.result.1.now) in
-    let has = given_at (λ (f : Entry). instance_of f.1) c.args.listed.now c.loop-index.index e c.in-Some.id c.entry_at.ensures c.in-Some.ensures in
+    let has = given_at (λ (f : Entry). item_interface f.1) c.args.listed.now c.loop-index.index e c.in-Some.id c.entry_at.ensures c.in-Some.ensures in
     All-contains (λ i. i < length c.args.uses.now) (exported_interfaces c.args.listed.now) c.in-Some.id c.requires.in_range has
 
 pub loop-index-preserved : goal.loop-index-preserved
@@ -33,7 +33,7 @@ loop-index-preserved c =
         nodes = ap (λ (l : Listed). l.nodes) w.walked-is ∙ w.in_ok-export_entry.ensures.nodes ∙ c.loop-index.invariant.nodes;
       }
       | in_default w ↦
-          let none = nothing_given c.item_interface.result (instance_of e.1) w.in_default.not-Some c.item_interface.ensures in
+          let none = nothing_given c.item_interface.result (item_interface e.1) w.in_default.not-Some c.item_interface.ensures in
           record {
             exports_are =
                 ap (λ (l : Lists). l.exports) w.lists-is ∙ c.loop-index.invariant.exports_are

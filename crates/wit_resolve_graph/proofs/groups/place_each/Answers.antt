@@ -1,6 +1,7 @@
-use Rattle.std.proofs.Common.{◌≡◌, ◌∙◌, ◌⊎◌, ◌∷◌, ◌++◌, [], ap, refl, sym, subst, rules, IfErr, IsErrAnd, List, Result, Ok, Err}
+use Rattle.std.proofs.Common.{◌≡◌, ◌∙◌, ◌⊎◌, ◌∷◌, ◌++◌, [], ap, refl, sym, subst, rules, List}
 use Rattle.std.specs.Vec.Iter.{into_iter_items}
 use Rattle.std.proofs.lemmas.List.{append_assoc}
+use Rattle.wit_graph.specs.AnswerFacts.{told_err}
 use Rattle.wit_graph.specs.declared.error_kind.ResolveErrorKind.{ResolveErrorKind}
 use Rattle.wit_graph.specs.declared.error_kind.ResolveErrorKind.TheVariants.{OutOfMemory}
 use Rattle.wit_items.specs.declared.unresolved.UnresolvedPackageGroup.{UnresolvedPackageGroup}
@@ -9,10 +10,6 @@ use Rattle.wit_placing.specs.Grown.{Begins}
 use Rattle.wit_sources.specs.SourceMap.{Sources}
 use Rattle.wit_resolve_graph.proofs.Grouped.{begins_still, begins_with_files, more_files, more_fits, more_taken, passes_there}
 use Rattle.wit_resolve_graph.proofs.groups.place_each.Goals as goal
-
-told_err : {T E : Type 0} {P Q : E → Type 0} (r : Result T E) → IsErrAnd r P → ((e : E) → P e → Q e) → IfErr r Q
-told_err (Ok v) is gives = tt
-told_err (Err e) is gives = gives e is
 
 pub returns-in_err-place_group-clause-cause : goal.returns-in_err-place_group-clause-cause
 returns-in_err-place_group-clause-cause c =

@@ -5,7 +5,7 @@ use Rattle.wit_graph.specs.AnswerFacts.{told_err}
 use Rattle.wit_graph.specs.Elaboration.{graph_uses}
 use Rattle.wit_graph.specs.Entries.{Entry}
 use Rattle.wit_graph.specs.Imported.{HasConflict}
-use Rattle.wit_graph.specs.Listed.{IsListed}
+use Rattle.wit_graph.specs.Sound.{HasSoundEntries}
 use Rattle.wit_graph.specs.Valid.{IsValid}
 use Rattle.wit_graph.specs.declared.error_kind.ResolveErrorKind.{ResolveErrorKind}
 use Rattle.wit_graph.specs.declared.error_kind.ResolveErrorKind.TheVariants.{OutOfMemory}
@@ -49,8 +49,8 @@ turn-requires-clause-listed c =
     let there : slice_get c.args.graph.now.worlds c.args.world ≡ Some c.at.result.now = subst (λ (i : ℕ). slice_get c.args.graph.now.worlds i ≡ Some c.at.result.now) c.index.ensures c.at.ensures in
     let count : length c.args.answers.now ≡ length c.at.result.now.imports = c.requires.answers ∙ ap (λ (o : Option World). length (option_map_or (λ (x : World). x.imports) o [])) there in
     let order = exportized_in_order c.args.graph.now c.requires.valid c.args.world c.at.result.now c.args.answers.now (option_map string_bytes c.args.out) there count c.in_ok-lists.ensures.no_type in
-    subst (λ (es : List Entry). IsListed c.args.graph.now.types (length c.args.graph.now.interfaces) c.in_ok-lists.lists.imports es) (sym c.in_ok-lists.ensures.exports)
-    (subst (λ (es : List Entry). IsListed c.args.graph.now.types (length c.args.graph.now.interfaces) es (answered true c.at.result.now.imports c.args.answers.now)) (sym c.in_ok-lists.ensures.imports) order)
+    subst (λ (es : List Entry). HasSoundEntries c.args.graph.now.types (length c.args.graph.now.interfaces) c.in_ok-lists.lists.imports es) (sym c.in_ok-lists.ensures.exports)
+    (subst (λ (es : List Entry). HasSoundEntries c.args.graph.now.types (length c.args.graph.now.interfaces) es (answered true c.at.result.now.imports c.args.answers.now)) (sym c.in_ok-lists.ensures.imports) order)
 
 pub returns-in_err-turn-clause-cause : goal.returns-in_err-turn-clause-cause
 returns-in_err-turn-clause-cause c =

@@ -3,7 +3,7 @@ use Rattle.std.specs.Option.{option_map}
 use Rattle.wit_items.specs.declared.world.World.{World}
 use Rattle.wit_graph.specs.AnswerFacts.{told_err}
 use Rattle.wit_graph.specs.Entries.{Entry}
-use Rattle.wit_graph.specs.Listed.{IsListed}
+use Rattle.wit_graph.specs.Sound.{HasSoundEntries}
 use Rattle.wit_graph.specs.Valid.{IsValid}
 use Rattle.wit_graph.specs.declared.error_kind.ResolveErrorKind.{ResolveErrorKind}
 use Rattle.wit_graph.specs.declared.error_kind.ResolveErrorKind.TheVariants.{OutOfMemory}
@@ -52,8 +52,8 @@ pub turn-requires-clause-listed : goal.turn-requires-clause-listed
 turn-requires-clause-listed c =
     let there : slice_get c.args.graph.now.worlds c.args.world ≡ Some c.at.result.now = subst (λ (i : ℕ). slice_get c.args.graph.now.worlds i ≡ Some c.at.result.now) c.index.ensures c.at.ensures in
     let order = importized_in_order c.args.graph.now c.requires.valid c.args.world c.at.result.now (option_map string_bytes c.args.out) there c.in_ok-lists.ensures.no_clash in
-    subst (λ (es : List Entry). IsListed c.args.graph.now.types (length c.args.graph.now.interfaces) c.in_ok-lists.lists.imports es) (sym c.in_ok-lists.ensures.exports)
-    (subst (λ (es : List Entry). IsListed c.args.graph.now.types (length c.args.graph.now.interfaces) es []) (sym c.in_ok-lists.ensures.imports) order)
+    subst (λ (es : List Entry). HasSoundEntries c.args.graph.now.types (length c.args.graph.now.interfaces) c.in_ok-lists.lists.imports es) (sym c.in_ok-lists.ensures.exports)
+    (subst (λ (es : List Entry). HasSoundEntries c.args.graph.now.types (length c.args.graph.now.interfaces) es []) (sym c.in_ok-lists.ensures.imports) order)
 
 pub returns-clause-refuses : goal.returns-clause-refuses
 returns-clause-refuses c =

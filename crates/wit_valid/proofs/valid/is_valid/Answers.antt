@@ -1,6 +1,4 @@
-use Rattle.std.proofs.Common.{List, subst, sym}
-use Rattle.wit_graph.specs.ListedFacts.{IsListed-of_world}
-use Rattle.wit_graph.specs.Valid.{IsValid}
+use Rattle.wit_graph.specs.SoundFacts.{HasSoundEntries-of_world}
 use Rattle.wit_graph.specs.declared.graph.Graph.{Graph}
 use Rattle.wit_valid.specs.Parts.{IsNamed, IsOwned}
 use Rattle.wit_valid.proofs.Refusals.{IfOk-weaker}
@@ -9,7 +7,7 @@ use Rattle.wit_valid.proofs.valid.is_valid.Goals as goal
 pub are_canonical-requires-clause-listed : goal.are_canonical-requires-clause-listed
 are_canonical-requires-clause-listed c =
     let owned : IsOwned c.args.graph.now = c.in_ok-is_owned.ensures.0 c.if-not-branch-2.false in
-    λ w world at. IsListed-of_world c.args.graph.now.types c.args.graph.now.interfaces owned.references.aliases w world (owned.worlds.imports w world at) (owned.worlds.exports w world at)
+    λ w world at. HasSoundEntries-of_world c.args.graph.now.types c.args.graph.now.interfaces owned.references.aliases w world (owned.worlds.imports w world at) (owned.worlds.exports w world at)
 
 pub returns-clause-holds : goal.returns-clause-holds
 returns-clause-holds c =

@@ -1,7 +1,0 @@
-use Rattle.std.proofs.Common.{take}
-use Rattle.wit_graph.specs.Listed.{AreListed}
-use Rattle.wit_graph.proofs.elaborable.are_listed.Given as goal
-
--- so far they are
-abbrev pub invariant-loop-index : goal.invariant-loop-index
-invariant-loop-index l = AreListed l.types l.interfaces (take l.index l.entries)

@@ -1,8 +1,0 @@
-use Rattle.std.proofs.Common.{◌≡◌, ◌++◌, take}
-use Rattle.std.specs.List.{flat_map}
-use Rattle.wit_items.specs.Foreign.{ForeignItem, interface_id}
-use Rattle.wit_items.proofs.shape.foreign.push_interfaces.Given as goal
-
--- those of the first ones have been added
-abbrev pub invariant-loop-index : goal.invariant-loop-index
-invariant-loop-index l = l.ids ≡ l.fn.ids ++ flat_map (λ (e : ForeignItem). interface_id e.1.0) (take l.index l.named)

@@ -1,9 +1,0 @@
-use Rattle.std.proofs.Common.{ℕ, List}
-use Rattle.wit_items.specs.EachFacts.{EachBelow}
-use Rattle.wit_items.specs.Ownership.{IsTypeOf}
-use Rattle.wit_items.specs.declared.types.TypeOwner.TheVariants as owner
-use Rattle.wit_items.proofs.shape.owners.lists_own.Given as goal
-
--- the first ones are
-abbrev pub invariant-loop-index : goal.invariant-loop-index
-invariant-loop-index l = EachBelow l.index (λ _ (e : List ℕ × ℕ). IsTypeOf l.types (owner.Interface l.owner) e.0 e.1) l.interface.types

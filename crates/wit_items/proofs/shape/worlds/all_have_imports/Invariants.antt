@@ -1,7 +1,0 @@
-use Rattle.wit_items.specs.EachFacts.{EachBelow}
-use Rattle.wit_items.specs.Entries.{HasImports}
-use Rattle.wit_items.proofs.shape.worlds.all_have_imports.Given as goal
-
--- the first ones have
-abbrev pub invariant-loop-index : goal.invariant-loop-index
-invariant-loop-index l = EachBelow l.index (HasImports l.interfaces l.types) l.worlds

@@ -1,7 +1,0 @@
-use Rattle.wit_items.specs.ReferenceFacts.{IsAcyclic-references}
-use Rattle.wit_items.proofs.unresolved.UnresolvedPackage.is_shaped.Goals as goal
-
-pub keeps_to_own-requires : goal.keeps_to_own-requires
-keeps_to_own-requires c =
-    let references = c.in_ok-has_references.ensures.0 c.if-not-branch-3.false in
-    IsAcyclic-references c.args.self.now.types references.earlier

@@ -1,0 +1,4 @@
+pub mod Distinct
+pub mod Telling
+pub mod TypesListed
+pub mod Unnamed

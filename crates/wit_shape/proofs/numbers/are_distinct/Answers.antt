@@ -1,0 +1,46 @@
+use Rattle.std.proofs.Common.{◌≡◌, ℕ, ◌+◌, ◌<◌, ◌++◌, ◌∷◌, [], List, take, get_or, eqb, ap, subst, sym, ◌∙◌}
+use Rattle.std.specs.Prelude.{Contains}
+use Rattle.std.specs.List.{IsDistinct}
+use Rattle.std.proofs.lemmas.Bool.Decides.{Decides-eqb}
+use Rattle.std.proofs.lemmas.List.{take_more}
+use Rattle.std.proofs.lemmas.Option.{slice_get-get_or}
+use Rattle.wit_relations.specs.Walks.{Listed}
+use Rattle.wit_shape.proofs.Distinct.{apart_push, met_twice}
+use Rattle.wit_shape.proofs.numbers.are_distinct.Goals as goal
+
+pub loop-number-init : goal.loop-number-init
+unfolding IsDistinct
+loop-number-init c = record { listed = ap (λ (l : Listed). l.order) c.in_ok-met.ensures; nodes = ap (λ (l : Listed). l.nodes) c.in_ok-met.ensures; differ = tt }
+
+pub has-requires : goal.has-requires
+has-requires c =
+    subst (λ (n : ℕ). get_or c.args.numbers.now c.loop-number.number-index 0 < n) (sym c.loop-number.invariant.nodes)
+    (c.requires c.loop-number.number-index _ (slice_get-get_or c.args.numbers.now c.loop-number.number-index 0 c.loop-number-test.true))
+
+pub returns-then-has : goal.returns-then-has
+returns-then-has c =
+    let number : ℕ = get_or c.args.numbers.now c.loop-number.number-index 0 in
+    let listed : Contains (take c.loop-number.number-index c.args.numbers.now) number =
+    subst (λ (l : List ℕ). Contains l number) c.loop-number.invariant.listed (c.has.ensures.0 c.if-has.true) in (
+      λ h. cc,
+      λ apart. absurd (met_twice Decides-eqb c.args.numbers.now c.loop-number.number-index number
+          (slice_get-get_or c.args.numbers.now c.loop-number.number-index 0 c.loop-number-test.true) listed apart),
+    )
+
+pub push-requires-clause-in_range : goal.push-requires-clause-in_range
+push-requires-clause-in_range c =
+    subst (λ (n : ℕ). get_or c.args.numbers.now c.loop-number.number-index 0 < n) (sym c.loop-number.invariant.nodes)
+    (c.requires c.loop-number.number-index _ (slice_get-get_or c.args.numbers.now c.loop-number.number-index 0 c.loop-number-test.true))
+
+pub loop-number-preserved : goal.loop-number-preserved
+loop-number-preserved c =
+    let number : ℕ = get_or c.args.numbers.now c.loop-number.number-index 0 in
+    let one_more : take (c.loop-number.number-index + 1) c.args.numbers.now ≡ take c.loop-number.number-index c.args.numbers.now ++ number ∷ [] =
+    take_more c.args.numbers.now c.loop-number.number-index 0 c.loop-number-test.true in
+    let new : Contains (take c.loop-number.number-index c.args.numbers.now) number → ⊥ =
+    λ there. let found = c.has.ensures.1 (subst (λ (l : List ℕ). Contains l number) (sym c.loop-number.invariant.listed) there) in cc in
+    record {
+      listed = ap (λ (l : Listed). l.order) c.in_ok-push.ensures.ok ∙ ap (λ (l : List ℕ). l ++ number ∷ []) c.loop-number.invariant.listed ∙ sym one_more;
+      nodes = ap (λ (l : Listed). l.nodes) c.in_ok-push.ensures.ok ∙ c.loop-number.invariant.nodes;
+      differ = subst (λ (l : List ℕ). IsDistinct eqb l) (sym one_more) (apart_push Decides-eqb (take c.loop-number.number-index c.args.numbers.now) number c.loop-number.invariant.differ new);
+    }

@@ -1,0 +1,8 @@
+use Rattle.wit_items.specs.EachFacts.{EachBelow}
+use Rattle.wit_items.specs.Ownership.{IsListed}
+use Rattle.wit_items.specs.declared.types.TypeDef.{TypeDef}
+use Rattle.wit_shape.proofs.owners.are_listed.Given as goal
+
+-- the first ones are
+abbrev pub invariant-loop-index : goal.invariant-loop-index
+invariant-loop-index l = EachBelow l.index (λ i (def : TypeDef). IsListed l.interfaces l.worlds i def.name def.owner) l.types

@@ -1,0 +1,10 @@
+use Rattle.std.proofs.Common.{◌<◌}
+use Rattle.wit_items.specs.Each.{Each}
+use Rattle.wit_items.specs.EachFacts.{EachBelow}
+use Rattle.wit_items.specs.Reference.{referred}
+use Rattle.wit_items.specs.declared.types.TypeDef.{TypeDef}
+use Rattle.wit_shape.proofs.references.all_refer_back.Given as goal
+
+-- the first ones do
+abbrev pub invariant-loop-index : goal.invariant-loop-index
+invariant-loop-index l = EachBelow l.index (λ i (def : TypeDef). Each (λ id. id < i) (referred def.kind)) l.types

@@ -1,0 +1,129 @@
+//! What types refer to.
+ghost use Rattle.std.specs.Prelude.{◌≡◌, ◌↔◌, ◌<◌, ◌⊎◌, None, IfOk, IsSome, IsTrue};
+ghost use Rattle.wit_items.specs.Each.{Each, EachAt, SomeAt};
+ghost use Rattle.wit_items.specs.Ownership.{AliasesNamed, IsNamed, IsNamedInterface, IsPlain};
+ghost use Rattle.wit_items.specs.Reference.{referred};
+ghost use Rattle.wit_items.specs.Shape.{HasReferences};
+ghost use Rattle.wit_items.specs.declared.types.TypeDef.{TypeDef};
+
+use std::alloc::{AllocError, Global};
+use wit_items::{
+    Interface, InterfaceId, TypeDef, TypeDefKind, TypeId, TypeOwner, UnresolvedPackage,
+    alias_target, referred,
+};
+
+/// Whether types refer to earlier types, aliases to named types, and types without names are
+/// neither aliases nor resources.
+pub(crate) fn has_references(
+    alloc: Global,
+    unresolved: &UnresolvedPackage,
+) -> Result<bool, AllocError>
+    ensures { IfOk result (λ holds. IsTrue holds ↔ HasReferences unresolved.now) }
+{
+    let types = unresolved.types.as_slice();
+    if !all_alias_named(types, unresolved.interfaces.as_slice()) {
+        return Ok(false);
+    }
+    if !are_plain_if_unnamed(types) {
+        return Ok(false);
+    }
+    all_refer_back(alloc, types)
+}
+
+/// Whether each type refers to earlier types.
+fn all_refer_back(alloc: Global, types: &[TypeDef]) -> Result<bool, AllocError>
+    ensures { IfOk result (λ back. IsTrue back ↔ EachAt (λ i (def : TypeDef). Each (λ id. id < i) (referred def.kind)) types.now) }
+{
+    for (index, def) in types.iter().enumerate() {
+        if !refers_back(alloc, index, def)? {
+            return Ok(false);
+        }
+    }
+    Ok(true)
+}
+
+fn refers_back(alloc: Global, index: usize, def: &TypeDef) -> Result<bool, AllocError>
+    ensures { IfOk result (λ back. IsTrue back ↔ Each (λ id. id < index) (referred def.now.kind)) }
+{
+    let ids = referred(alloc, &def.kind)?;
+    Ok(are_before(ids.as_slice(), index))
+}
+
+fn are_before(ids: &[TypeId], index: usize) -> bool
+    ensures { IsTrue result ↔ Each (λ id. id < index) ids.now }
+{
+    ids.iter().all(|id| id.index() < index)
+}
+
+/// Whether each alias of a type names a named type of its own owner or of an interface with a name.
+pub fn all_alias_named(types: &[TypeDef], interfaces: &[Interface]) -> bool
+    ensures { IsTrue result ↔ Each (AliasesNamed types.now interfaces.now) types.now }
+{
+    types
+        .iter()
+        .all(|def| aliases_named(types, interfaces, def))
+}
+
+fn aliases_named(types: &[TypeDef], interfaces: &[Interface], def: &TypeDef) -> bool
+    ensures { IsTrue result ↔ AliasesNamed types.now interfaces.now def.now }
+{
+    match alias_target(&def.kind) {
+        Some(target) => is_aliased(types, interfaces, def.owner, target),
+        None => true,
+    }
+}
+
+/// Whether there is such a type, it has a name, and an alias of this owner may name it.
+fn is_aliased(types: &[TypeDef], interfaces: &[Interface], owner: TypeOwner, target: TypeId) -> bool
+    ensures { IsTrue result ↔ SomeAt types.now target (λ (named : TypeDef). IsSome named.name × ((named.owner ≡ owner) ⊎ IsNamedInterface interfaces.now named.owner)) }
+{
+    match types.get(target.index()) {
+        Some(named) => named.name.is_some() && may_own_aliased(interfaces, owner, named.owner),
+        None => false,
+    }
+}
+
+fn may_own_aliased(interfaces: &[Interface], owner: TypeOwner, other: TypeOwner) -> bool
+    ensures { IsTrue result ↔ ((other ≡ owner) ⊎ IsNamedInterface interfaces.now other) }
+{
+    other == owner || is_named_interface(interfaces, other)
+}
+
+fn is_named_interface(interfaces: &[Interface], owner: TypeOwner) -> bool
+    ensures { IsTrue result ↔ IsNamedInterface interfaces.now owner }
+{
+    match owner {
+        TypeOwner::Interface(id) => is_named(interfaces, id),
+        TypeOwner::World(_) | TypeOwner::None => false,
+    }
+}
+
+/// Whether there is such an interface, and it has a name.
+pub(crate) fn is_named(interfaces: &[Interface], id: InterfaceId) -> bool
+    ensures { IsTrue result ↔ IsNamed interfaces.now id }
+{
+    match interfaces.get(id.index()) {
+        Some(interface) => interface.name.is_some(),
+        None => false,
+    }
+}
+
+/// Whether no type without a name is an alias or a resource.
+pub fn are_plain_if_unnamed(types: &[TypeDef]) -> bool
+    ensures { IsTrue result ↔ Each (λ (def : TypeDef). (def.name ≡ None) → IsPlain def.kind) types.now }
+{
+    types.iter().all(|def| is_plain_if_unnamed(def))
+}
+
+fn is_plain_if_unnamed(def: &TypeDef) -> bool
+    ensures { IsTrue result ↔ ((def.now.name ≡ None) → IsPlain def.now.kind) }
+{
+    def.name.is_some() || is_plain(&def.kind)
+}
+
+/// Whether a kind is neither an alias nor a resource.
+fn is_plain(kind: &TypeDefKind) -> bool
+    ensures { IsTrue result ↔ IsPlain kind.now }
+{
+    !matches!(kind, TypeDefKind::Type_(_) | TypeDefKind::Resource)
+}
