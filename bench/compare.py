@@ -231,7 +231,9 @@ class Writer:
 
     def break_lines(self):
         """Changes some lines, mostly so that they aren't understood."""
-        for _ in range(self.one([0, 1, 1, 2]) if self.lines else 0):
+        for _ in range(self.one([0, 1, 1, 2])):
+            if not self.lines:
+                return
             at = self.random.randrange(len(self.lines))
             words = self.lines[at].split(" ")
             word = self.random.randrange(len(words))

@@ -47,8 +47,8 @@ class PackageName:
 
     @staticmethod
     def read(text):
-        base, at, version = text.partition("@")
-        namespace, _, name = base.partition(":")
+        namespace, _, rest = text.partition(":")
+        name, at, version = rest.partition("@")
         need(namespace and name and (version or not at))
         return PackageName(namespace, name, version or None)
 

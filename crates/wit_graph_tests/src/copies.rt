@@ -66,7 +66,7 @@ fn interfaces_tell_what_they_use(rt: HostRuntime) {
 fn kinds_of_functions_tell_resource_and_accessor(rt: HostRuntime) {
     let id = TypeId::from_index(4);
     let (get, set) = (Some(AccessorKind::Getter), Some(AccessorKind::Setter));
-    for (kind, resource, accessor) in [
+    for &(kind, resource, accessor) in &[
         (FunctionKind::Freestanding, None, None),
         (FunctionKind::AsyncFreestanding, None, None),
         (FunctionKind::Method(id), Some(id), None),

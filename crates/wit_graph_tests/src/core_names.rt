@@ -212,7 +212,7 @@ const IMPORTS: [ImportName; 14] = [
 
 #[test]
 fn resources_are_named(rt: HostRuntime) {
-    for (mangling, interface, resource, intrinsic, wanted) in IMPORTS {
+    for &(mangling, interface, resource, intrinsic, wanted) in &IMPORTS {
         assert_told(
             &rt,
             import_name(&rt, rt.alloc(), mangling, interface, resource, intrinsic),
@@ -256,7 +256,7 @@ const DTORS: [(ManglingAndAbi, usize, usize, &str); 5] = [
 
 #[test]
 fn destructors_are_named(rt: HostRuntime) {
-    for (mangling, interface, resource, wanted) in DTORS {
+    for &(mangling, interface, resource, wanted) in &DTORS {
         assert_told(
             &rt,
             dtor_name(&rt, rt.alloc(), mangling, interface, resource),

@@ -1,9 +1,8 @@
 //! A world whose export needs a long chain of interfaces. What elaboration makes of worlds is in the cases of
 //! `witgraph_cases`.
 use crate::fixtures::{
-    interface, interface_item, interface_key, interface_owner, type_at, type_def, world,
+    entries, interface, interface_item, interface_key, interface_owner, type_at, type_def, world,
 };
-use indexmap::IndexMap;
 use std::alloc::Global;
 use std::process::Abort;
 use wit_graph::{Graph, elaborate, is_elaborable};
@@ -27,12 +26,8 @@ fn add_interface(rt: &impl Abort, alloc: Global, graph: &mut Graph, place: usize
 
 /// A world that exports the last interface.
 fn exporting_world(rt: &impl Abort, alloc: Global) -> World {
-    let mut exports = IndexMap::new(alloc);
     let last = LENGTH - 1;
-    exports
-        .insert(interface_key(last), interface_item(last))
-        .expect(rt, "memory");
-    let exports = Table::from_map(exports);
+    let exports = entries(rt, alloc, [(interface_key(last), interface_item(last))]);
     world(
         rt,
         alloc,

@@ -88,7 +88,7 @@ fn number_and_text(rt: &impl Abort, alloc: Global, told: Told) -> String {
 
 #[test]
 fn errors_have_their_texts(rt: HostRuntime) {
-    for (told, text) in TEXTS {
+    for &(told, text) in &TEXTS {
         assert_told(&rt, number_and_text(&rt, rt.alloc(), told), text);
     }
 }

@@ -1,6 +1,7 @@
 //! Parts of packages, as tests need them.
 use indexmap::IndexMap;
 use std::alloc::Global;
+use std::hash::Hash;
 use std::process::Abort;
 use wit_items::{
     Docs, Function, FunctionKind, Interface, InterfaceId, Items, Names, PackageId, PackageName,
@@ -34,6 +35,43 @@ pub fn one<T: Drop>(rt: &impl Abort, alloc: Global, item: T) -> Items<T> {
     let mut items = Items::new(alloc);
     items.push(item).expect(rt, "memory");
     items
+}
+
+/// The last of several values under one key stands.
+fn mapped<K: Eq + Hash + Drop, V: Drop, const N: usize>(
+    rt: &impl Abort,
+    alloc: Global,
+    entries: [(K, V); N],
+) -> IndexMap<K, V> {
+    let mut map = IndexMap::new(alloc);
+    for (key, value) in Vec::from_array(alloc, entries).expect(rt, "memory") {
+        map.insert(key, value).expect(rt, "memory");
+    }
+    map
+}
+
+pub fn table<K: Eq + Hash + Drop, V: Drop, const N: usize>(
+    rt: &impl Abort,
+    alloc: Global,
+    entries: [(K, V); N],
+) -> Table<K, V> {
+    Table::from_map(mapped(rt, alloc, entries))
+}
+
+pub fn entries<const N: usize>(
+    rt: &impl Abort,
+    alloc: Global,
+    entries: [(WorldKey, WorldItem); N],
+) -> Table<WorldKey, WorldItem> {
+    table(rt, alloc, entries)
+}
+
+pub fn names<V: Drop, const N: usize>(
+    rt: &impl Abort,
+    alloc: Global,
+    entries: [(String, V); N],
+) -> Names<V> {
+    Names::from_map(mapped(rt, alloc, entries))
 }
 
 pub fn package_name(rt: &impl Abort, alloc: Global, namespace: &str, name: &str) -> PackageName {
@@ -169,4 +207,26 @@ pub fn interface_key(index: usize) -> WorldKey {
 /// The key that is a label.
 pub fn label(rt: &impl Abort, alloc: Global, name: &str) -> WorldKey {
     WorldKey::Name(text(rt, alloc, name))
+}
+
+/// The entry of a function under its label.
+pub fn function_entry(
+    rt: &impl Abort,
+    alloc: Global,
+    name: &str,
+    function: Function,
+) -> (WorldKey, WorldItem) {
+    (label(rt, alloc, name), WorldItem::Function(function))
+}
+
+/// The entry of a type under its label.
+pub fn type_entry(
+    rt: &impl Abort,
+    alloc: Global,
+    name: &str,
+    index: usize,
+) -> (WorldKey, WorldItem) {
+    let id = TypeId::from_index(index);
+    let span = Span::unknown();
+    (label(rt, alloc, name), WorldItem::Type_ { id, span })
 }

@@ -7,10 +7,10 @@ use wit_items::{PackageName, ParsedUsePath, TryClone, Version, is_kebab_name, pa
 
 #[test]
 fn kebab_names_are_told(rt: HostRuntime) {
-    for name in ["a", "foo-bar", "a1-B2", "FOO-bar", "a-1", "Z"] {
+    for &name in &["a", "foo-bar", "a1-B2", "FOO-bar", "a-1", "Z"] {
         assert!(rt; is_kebab_name(name), "{name}");
     }
-    for name in [
+    for &name in &[
         "", "-", "-a", "a-", "a--b", "1a", "aB", "a-bC", "a_b", "a b", "é", "a:b", "a/b", "a@b",
     ] {
         assert!(rt; !is_kebab_name(name), "{name}");
@@ -66,10 +66,10 @@ const NO_PATHS: [&str; 20] = [
 
 #[test]
 fn use_paths_are_read(rt: HostRuntime) {
-    for (path, parts) in PATHS {
+    for &(path, parts) in &PATHS {
         assert_told(&rt, told(&rt, rt.alloc(), path), parts);
     }
-    for path in NO_PATHS {
+    for &path in &NO_PATHS {
         assert_told(&rt, told(&rt, rt.alloc(), path), "invalid use path");
     }
 }

@@ -47,7 +47,7 @@ fn track(rt: &impl Abort, alloc: Global, version: &Version) -> String {
 
 #[test]
 fn versions_have_tracks(rt: HostRuntime) {
-    for (text, shown, whole) in TRACKS {
+    for &(text, shown, whole) in &TRACKS {
         let version = Version::parse(rt.alloc(), text).expect(&rt, "a version");
         assert_told(&rt, track_text(&rt, rt.alloc(), &version), shown);
         assert_told(&rt, track(&rt, rt.alloc(), &version), whole);

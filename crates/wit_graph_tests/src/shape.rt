@@ -1,9 +1,8 @@
 //! A shaped package, and for each rule of the shape packages that break it.
 use crate::fixtures::{
-    function, interface, interface_item, interface_key, interface_owner, label, one, package_name,
-    string, text, type_at, type_def, world,
+    entries, function, function_entry, interface, interface_item, interface_key, interface_owner,
+    label, names, one, package_name, string, table, text, type_at, type_def, type_entry, world,
 };
-use indexmap::IndexMap;
 use std::alloc::Global;
 use std::process::Abort;
 use wit_items::{
@@ -127,10 +126,10 @@ fn group_keeps_shape(rt: &impl Abort, alloc: Global, main: Change, nested: Chang
 
 #[test]
 fn each_rule_is_asked(rt: HostRuntime) {
-    for change in KEEPS {
+    for &change in &KEEPS {
         assert_eq!(rt; keeps_shape(&rt, rt.alloc(), change), true, "{change:?}");
     }
-    for change in BREAKS {
+    for &change in &BREAKS {
         assert_eq!(rt; keeps_shape(&rt, rt.alloc(), change), false, "{change:?}");
     }
 }
@@ -220,30 +219,40 @@ fn foreign_deps(
     alloc: Global,
     change: Change,
 ) -> Table<PackageName, Names<(AstItem, Items<Stability>)>> {
-    let mut named = IndexMap::new(alloc);
-    let gates = gates(rt, alloc, change != Change::GateMissing);
-    let item = AstItem::Interface(InterfaceId::from_index(0));
-    named
-        .insert(string(rt, alloc, "e"), (item, gates))
-        .expect(rt, "memory");
-    let gates = self::gates(rt, alloc, true);
-    let item = AstItem::World(WorldId::from_index(0));
-    named
-        .insert(string(rt, alloc, "v"), (item, gates))
-        .expect(rt, "memory");
-    let mut deps = IndexMap::new(alloc);
-    deps.insert(package_name(rt, alloc, "c", "d"), Names::from_map(named))
-        .expect(rt, "memory");
-    if change == Change::ForeignTwice {
-        let mut named = IndexMap::new(alloc);
-        let item = AstItem::Interface(InterfaceId::from_index(0));
-        named
-            .insert(string(rt, alloc, "e"), (item, self::gates(rt, alloc, true)))
-            .expect(rt, "memory");
-        deps.insert(package_name(rt, alloc, "c", "e"), Names::from_map(named))
-            .expect(rt, "memory");
+    let first = (
+        package_name(rt, alloc, "c", "d"),
+        foreign_items(rt, alloc, change),
+    );
+    if change != Change::ForeignTwice {
+        return table(rt, alloc, [first]);
     }
-    Table::from_map(deps)
+    let again = names(rt, alloc, [foreign_interface(rt, alloc, true)]);
+    table(
+        rt,
+        alloc,
+        [first, (package_name(rt, alloc, "c", "e"), again)],
+    )
+}
+
+/// Interface `e` and world `v`.
+fn foreign_items(
+    rt: &impl Abort,
+    alloc: Global,
+    change: Change,
+) -> Names<(AstItem, Items<Stability>)> {
+    let interface = foreign_interface(rt, alloc, change != Change::GateMissing);
+    let item = AstItem::World(WorldId::from_index(0));
+    let world = (string(rt, alloc, "v"), (item, gates(rt, alloc, true)));
+    names(rt, alloc, [interface, world])
+}
+
+fn foreign_interface(
+    rt: &impl Abort,
+    alloc: Global,
+    is_gated: bool,
+) -> (String, (AstItem, Items<Stability>)) {
+    let item = AstItem::Interface(InterfaceId::from_index(0));
+    (string(rt, alloc, "e"), (item, gates(rt, alloc, is_gated)))
 }
 
 /// One gate, or none.
@@ -403,7 +412,6 @@ fn interface_a(rt: &impl Abort, alloc: Global, change: Change) -> Interface {
 }
 
 fn functions(rt: &impl Abort, alloc: Global, change: Change) -> Names<Function> {
-    let mut functions = IndexMap::new(alloc);
     let key = if change == Change::FunctionUnderOtherName {
         "ff"
     } else {
@@ -421,36 +429,29 @@ fn functions(rt: &impl Abort, alloc: Global, change: Change) -> Names<Function> 
         FunctionKind::Freestanding,
         type_at(parameter),
     );
-    functions
-        .insert(string(rt, alloc, key), first)
-        .expect(rt, "memory");
     let kind = FunctionKind::Method(TypeId::from_index(2));
     let second = function(rt, alloc, "[method]r.m", kind, Type_::U32);
-    functions
-        .insert(string(rt, alloc, "[method]r.m"), second)
-        .expect(rt, "memory");
-    Names::from_map(functions)
+    names(
+        rt,
+        alloc,
+        [
+            (string(rt, alloc, key), first),
+            (string(rt, alloc, "[method]r.m"), second),
+        ],
+    )
 }
 
 /// The foreign world `v`, then `w`, which includes it, and `x`, which includes `w`.
 fn worlds(rt: &impl Abort, alloc: Global, change: Change) -> Items<World> {
     let mut worlds = Items::new(alloc);
-    let mut entries = IndexMap::new(alloc);
-    if change == Change::ForeignWorldHoldsEntry {
-        entries
-            .insert(interface_key(1), interface_item(1))
-            .expect(rt, "memory");
-    }
+    let held = if change == Change::ForeignWorldHoldsEntry {
+        entries(rt, alloc, [(interface_key(1), interface_item(1))])
+    } else {
+        Table::new(alloc)
+    };
     let empty = Table::new(alloc);
     worlds
-        .push(world(
-            rt,
-            alloc,
-            "v",
-            Table::from_map(entries),
-            empty,
-            Items::new(alloc),
-        ))
+        .push(world(rt, alloc, "v", held, empty, Items::new(alloc)))
         .expect(rt, "memory");
     worlds.push(world_w(rt, alloc, change)).expect(rt, "memory");
     let name = match change {
@@ -503,22 +504,29 @@ fn includes(rt: &impl Abort, alloc: Global, world: usize) -> Items<WorldInclude>
 
 /// Interface `a`, type `y`, function `g`, and the interface without a name under `in-place`.
 fn imports(rt: &impl Abort, alloc: Global, change: Change) -> Table<WorldKey, WorldItem> {
-    let mut imports = IndexMap::new(alloc);
     let (named, held) = match change {
         Change::KeyOfOther => (1, 2),
         Change::KeyOfUnnamed => (3, 3),
         _ => (1, 1),
     };
-    imports
-        .insert(interface_key(named), interface_item(held))
-        .expect(rt, "memory");
-    let item = WorldItem::Type_ {
-        id: TypeId::from_index(7),
-        span: Span::unknown(),
+    let in_place = match change {
+        Change::LabelOfNothing => 4,
+        Change::KeyOfUnnamed => 1,
+        _ => 3,
     };
-    imports
-        .insert(label(rt, alloc, "y"), item)
-        .expect(rt, "memory");
+    entries(
+        rt,
+        alloc,
+        [
+            (interface_key(named), interface_item(held)),
+            type_entry(rt, alloc, "y", 7),
+            imported_function(rt, alloc, change),
+            (label(rt, alloc, "in-place"), interface_item(in_place)),
+        ],
+    )
+}
+
+fn imported_function(rt: &impl Abort, alloc: Global, change: Change) -> (WorldKey, WorldItem) {
     let name = if change == Change::LabelOfOtherFunction {
         "gg"
     } else {
@@ -529,53 +537,26 @@ fn imports(rt: &impl Abort, alloc: Global, change: Change) -> Table<WorldKey, Wo
     } else {
         7
     };
-    let item = function(
-        rt,
-        alloc,
-        name,
-        FunctionKind::Freestanding,
-        type_at(parameter),
-    );
-    imports
-        .insert(label(rt, alloc, "g"), WorldItem::Function(item))
-        .expect(rt, "memory");
-    let held = match change {
-        Change::LabelOfNothing => 4,
-        Change::KeyOfUnnamed => 1,
-        _ => 3,
-    };
-    imports
-        .insert(label(rt, alloc, "in-place"), interface_item(held))
-        .expect(rt, "memory");
-    Table::from_map(imports)
+    let kind = FunctionKind::Freestanding;
+    let item = function(rt, alloc, name, kind, type_at(parameter));
+    function_entry(rt, alloc, "g", item)
 }
 
-/// Interface `b`, function `h`, and interface `a` under `again`.
+/// Interface `b`, function `h`, and interface `a` under `again`, or type `y` in its place.
 fn exports(rt: &impl Abort, alloc: Global, change: Change) -> Table<WorldKey, WorldItem> {
-    let mut exports = IndexMap::new(alloc);
-    exports
-        .insert(interface_key(2), interface_item(2))
-        .expect(rt, "memory");
     let item = function(rt, alloc, "h", FunctionKind::Freestanding, Type_::U32);
-    exports
-        .insert(label(rt, alloc, "h"), WorldItem::Function(item))
-        .expect(rt, "memory");
-    let held = if change == Change::UnnamedInTwoPlaces {
-        3
-    } else {
-        1
+    let last = match change {
+        Change::TypeExported => type_entry(rt, alloc, "y", 7),
+        Change::UnnamedInTwoPlaces => (label(rt, alloc, "again"), interface_item(3)),
+        _ => (label(rt, alloc, "again"), interface_item(1)),
     };
-    exports
-        .insert(label(rt, alloc, "again"), interface_item(held))
-        .expect(rt, "memory");
-    if change == Change::TypeExported {
-        let item = WorldItem::Type_ {
-            id: TypeId::from_index(7),
-            span: Span::unknown(),
-        };
-        exports
-            .insert(label(rt, alloc, "y"), item)
-            .expect(rt, "memory");
-    }
-    Table::from_map(exports)
+    entries(
+        rt,
+        alloc,
+        [
+            (interface_key(2), interface_item(2)),
+            function_entry(rt, alloc, "h", item),
+            last,
+        ],
+    )
 }

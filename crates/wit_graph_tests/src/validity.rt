@@ -102,7 +102,7 @@ fn is_valid_with(rt: &impl Abort, alloc: Global, breach: Breach) -> bool {
 #[test]
 fn each_clause_of_validity_is_asked(rt: HostRuntime) {
     assert_eq!(rt; is_valid_with(&rt, rt.alloc(), Breach::Nothing), true);
-    for breach in BREACHES {
+    for &breach in &BREACHES {
         assert_eq!(rt; is_valid_with(&rt, rt.alloc(), breach), false, "{breach:?}");
     }
 }

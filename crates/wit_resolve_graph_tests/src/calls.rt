@@ -2,6 +2,7 @@
 //! an error is, is written.
 use crate::parts::{assert_told, list, package, string, text, world};
 use std::alloc::Global;
+use std::fmt::Write;
 use std::process::Abort;
 use wit_graph::{Cause, Features, ResolveError, ResolveErrorKind};
 use wit_items::{
@@ -10,36 +11,31 @@ use wit_items::{
 };
 use wit_resolve_graph::{Remap, Resolve, is_shaped};
 
-/// What the push of a package answers whose spans move so far.
-fn pushed(
-    rt: &impl Abort,
-    alloc: Global,
-    resolve: &mut Resolve,
-    offset: u32,
-) -> Result<usize, u32> {
+/// The number of the refusal of a package whose spans move so far, or 0.
+fn refusal_of(rt: &impl Abort, alloc: Global, resolve: &mut Resolve, offset: u32) -> u32 {
     let mut w = world(rt, alloc, "w");
     w.span = Span::new(30, 37);
     let mut made = package(rt, alloc, "main", "");
-    made.worlds = list(rt, alloc, [w]);
+    made.worlds.push(w).expect(rt, "memory");
     assert!(rt; is_shaped(alloc, &made).expect(rt, "memory"));
     match resolve.push(alloc, made, offset) {
-        Ok(id) => Ok(id.index()),
-        Err(refusal) => Err(refusal.number()),
+        Ok(_) => 0,
+        Err(refusal) => refusal.number(),
     }
 }
 
-/// What pushes answer where spans pass the last position, where they don't, and where the name is taken.
-fn pushes(rt: &impl Abort, alloc: Global) -> [Result<usize, u32>; 3] {
+/// How pushes are refused where spans pass the last position, where they don't, and where the name is taken.
+fn refusals(rt: &impl Abort, alloc: Global) -> [u32; 3] {
     let mut resolve = Resolve::new(alloc);
-    let passed = pushed(rt, alloc, &mut resolve, 4294967295);
-    let taken = pushed(rt, alloc, &mut resolve, 7);
-    let again = pushed(rt, alloc, &mut resolve, 0);
-    [passed, taken, again]
+    let passed = refusal_of(rt, alloc, &mut resolve, 4294967295);
+    let fitting = refusal_of(rt, alloc, &mut resolve, 7);
+    let taken = refusal_of(rt, alloc, &mut resolve, 0);
+    [passed, fitting, taken]
 }
 
 #[test]
 fn a_package_is_pushed_once(rt: HostRuntime) {
-    assert!(rt; pushes(&rt, rt.alloc()) == [Err(27), Ok(0), Err(5)]);
+    assert_eq!(rt; refusals(&rt, rt.alloc()), [27, 0, 5]);
 }
 
 /// Lists of two things each, of which the first is at place 5 and the second left out; and of a package at place 7.
@@ -51,42 +47,56 @@ fn remap(rt: &impl Abort, alloc: Global) -> Remap {
     Remap::from_lists(types, interfaces, worlds, packages)
 }
 
-/// The number and the place of the refusal that is told of a thing that is left out.
-fn told(rt: &impl Abort, refusal: Option<ResolveError>) -> (u32, u32) {
+/// Writes the number and the place of the refusal that is told of a thing that is left out.
+fn write_told(rt: &impl Abort, out: &mut String, refusal: Option<ResolveError>) {
     let refusal = refusal.expect(rt, "a refusal");
-    (refusal.number(), refusal.kind().span().start())
+    let (number, start) = (refusal.number(), refusal.kind().span().start());
+    write!(out, " {number} at {start}").expect(rt, "memory");
 }
 
 /// Where type 0 is, and what is told of the things that are left out, at position 3.
-fn answers(rt: &impl Abort, alloc: Global) -> (usize, [(u32, u32); 5]) {
+fn answers(rt: &impl Abort, alloc: Global) -> String {
     let remap = remap(rt, alloc).try_clone().expect(rt, "memory");
-    let span = Span::new(3, 4);
     assert!(rt; remap.types().len() == 2);
     assert!(rt; remap.interfaces().len() == 2);
     assert!(rt; remap.worlds().len() == 2);
     assert!(rt; remap.packages().len() == 1);
+    let span = Span::new(3, 4);
     let here = remap.map_type(alloc, TypeId::from_index(0), span);
     let place = here.expect(rt, "a type").index();
-    let ty = remap.map_type(alloc, TypeId::from_index(1), span);
-    let interface = remap.map_interface(alloc, InterfaceId::from_index(1), span);
-    let of_type = remap.map_interface_for_type(alloc, InterfaceId::from_index(1), span);
-    let world = remap.map_world(alloc, WorldId::from_index(1), span);
-    let world_of_type = remap.map_world_for_type(alloc, WorldId::from_index(1), span);
-    let refusals = [
-        told(rt, ty.err()),
-        told(rt, interface.err()),
-        told(rt, of_type.err()),
-        told(rt, world.err()),
-        told(rt, world_of_type.err()),
-    ];
-    (place, refusals)
+    let mut out = format!(in alloc; "{place}").expect(rt, "memory");
+    let (interface, world) = (InterfaceId::from_index(1), WorldId::from_index(1));
+    write_told(
+        rt,
+        &mut out,
+        remap.map_type(alloc, TypeId::from_index(1), span).err(),
+    );
+    write_told(
+        rt,
+        &mut out,
+        remap.map_interface(alloc, interface, span).err(),
+    );
+    write_told(
+        rt,
+        &mut out,
+        remap.map_interface_for_type(alloc, interface, span).err(),
+    );
+    write_told(rt, &mut out, remap.map_world(alloc, world, span).err());
+    write_told(
+        rt,
+        &mut out,
+        remap.map_world_for_type(alloc, world, span).err(),
+    );
+    out
 }
 
 #[test]
 fn what_was_handed_in_is_found_or_left_out(rt: HostRuntime) {
-    let (place, refusals) = answers(&rt, rt.alloc());
-    assert!(rt; place == 5);
-    assert!(rt; refusals == [(11, 3), (11, 3), (12, 3), (11, 3), (12, 3)]);
+    assert_told(
+        &rt,
+        answers(&rt, rt.alloc()),
+        "5 11 at 3 11 at 3 12 at 3 11 at 3 12 at 3",
+    );
 }
 
 /// Whether the features that are on stand in their order, after one was turned on twice, and whether all are on.

@@ -1,5 +1,5 @@
 //! Files of groups: a group whose package hands in the same file twice.
-use crate::parts::{assert_told, file, group, interface, list, package, place, push_group};
+use crate::parts::{assert_told, file, group, interface, package, place, push_group};
 use crate::shown::shown;
 use crate::told::told;
 use std::alloc::Global;
@@ -17,7 +17,7 @@ fn in_copy(rt: &impl Abort, alloc: Global, name: &str, start: u32) -> Unresolved
     a.span = moved(rt, word, start);
     let mut made = package(rt, alloc, name, "");
     made.package_name_span = moved(rt, place(rt, CONTENTS, "foo:same"), start);
-    made.interfaces = list(rt, alloc, [a]);
+    made.interfaces.push(a).expect(rt, "memory");
     made
 }
 
@@ -32,7 +32,9 @@ fn twice(rt: &impl Abort, alloc: Global, nested: &str, main: &str) -> Unresolved
     let again = file(rt, alloc, "same.wit", CONTENTS);
     let start = made.source_map.append(alloc, again).expect(rt, "positions");
     assert_eq!(rt; start, 35);
-    made.nested = list(rt, alloc, [in_copy(rt, alloc, nested, 0)]);
+    made.nested
+        .push(in_copy(rt, alloc, nested, 0))
+        .expect(rt, "memory");
     made
 }
 

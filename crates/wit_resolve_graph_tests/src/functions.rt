@@ -1,8 +1,8 @@
 //! Functions of each kind, async ones among them, in an interface and in a world.
 use crate::parts::{
     assert_told, docs, entries, first_package, function, function_entry, functions, interface,
-    list, named, of_world, package, param, push, shown_copy, since, text, type_at, type_entry,
-    unnamed, unstable, world,
+    interface_list, list, named, of_world, package, param, push, shown_copy, since, text, type_at,
+    type_entry, type_list, unnamed, unstable, world, world_list,
 };
 use std::alloc::Global;
 use std::process::Abort;
@@ -116,8 +116,8 @@ fn pushed(
 
 fn pushed_interface(rt: &impl Abort, alloc: Global) -> String {
     let r = named(rt, alloc, 0, "r", TypeDefKind::Resource);
-    let types = list(rt, alloc, [r, borrow_of(alloc, 0)]);
-    let interfaces = list(rt, alloc, [functions_interface(rt, alloc)]);
+    let types = type_list(rt, alloc, [r, borrow_of(alloc, 0)]);
+    let interfaces = interface_list(rt, alloc, [functions_interface(rt, alloc)]);
     pushed(rt, alloc, types, interfaces, Items::new(alloc))
 }
 
@@ -197,8 +197,8 @@ fn functions_world(rt: &impl Abort, alloc: Global) -> World {
 fn pushed_world(rt: &impl Abort, alloc: Global) -> String {
     let mut r = of_world(rt, alloc, 0, "r", TypeDefKind::Resource);
     r.docs = docs(rt, alloc, "Its own.");
-    let types = list(rt, alloc, [r, borrow_of(alloc, 0)]);
-    let worlds = list(rt, alloc, [functions_world(rt, alloc)]);
+    let types = type_list(rt, alloc, [r, borrow_of(alloc, 0)]);
+    let worlds = world_list(rt, alloc, [functions_world(rt, alloc)]);
     pushed(rt, alloc, types, Items::new(alloc), worlds)
 }
 

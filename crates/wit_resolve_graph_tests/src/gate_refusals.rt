@@ -2,8 +2,8 @@
 //! world holds. Each package is what its file says, as far as the refusal needs it.
 use crate::parts::{
     assert_told, entries, function, function_entry, functions, inline_interface, interface,
-    interface_entry, list, named, of_world, package, place, since, text, type_at, type_entry,
-    unnamed, unstable, world,
+    interface_entry, interface_list, list, named, of_world, package, place, since, text, type_at,
+    type_entry, type_list, unnamed, unstable, world, world_list,
 };
 use crate::told::refused_file;
 use std::alloc::Global;
@@ -28,7 +28,7 @@ fn gated(
     let mut i = interface(rt, alloc, "i", &[]);
     i.functions = functions(rt, alloc, [run]);
     let mut main = package(rt, alloc, "main", version);
-    main.interfaces = list(rt, alloc, [i]);
+    main.interfaces = interface_list(rt, alloc, [i]);
     refused_file(rt, alloc, contents, main)
 }
 
@@ -99,8 +99,8 @@ fn excluded(rt: &impl Abort, alloc: Global) -> String {
     let mut held = named(rt, alloc, 0, "held", TypeDefKind::Variant { cases });
     held.span = place(rt, contents, "held");
     let mut main = package(rt, alloc, "main", "");
-    main.types = list(rt, alloc, [gone, held]);
-    main.interfaces = list(
+    main.types = type_list(rt, alloc, [gone, held]);
+    main.interfaces = interface_list(
         rt,
         alloc,
         [interface(rt, alloc, "i", &[("gone", 0), ("held", 1)])],
@@ -122,8 +122,8 @@ fn excluded_owner(rt: &impl Abort, alloc: Global) -> String {
         [type_entry(rt, alloc, "held", 0, Span::unknown())],
     );
     let mut main = package(rt, alloc, "main", "");
-    main.types = list(rt, alloc, [held]);
-    main.worlds = list(rt, alloc, [w]);
+    main.types = type_list(rt, alloc, [held]);
+    main.worlds = world_list(rt, alloc, [w]);
     refused_file(rt, alloc, contents, main)
 }
 
@@ -167,8 +167,8 @@ fn borrow_in_result(rt: &impl Abort, alloc: Global) -> String {
     let mut i = interface(rt, alloc, "i", &[("r", 0), ("v", 2)]);
     i.functions = functions(rt, alloc, [run]);
     let mut main = package(rt, alloc, "main", "");
-    main.types = list(rt, alloc, [r, unnamed(alloc, borrow), v]);
-    main.interfaces = list(rt, alloc, [i]);
+    main.types = type_list(rt, alloc, [r, unnamed(alloc, borrow), v]);
+    main.interfaces = interface_list(rt, alloc, [i]);
     refused_file(rt, alloc, contents, main)
 }
 
@@ -202,13 +202,13 @@ fn conflict(rt: &impl Abort, alloc: Global) -> String {
     let a = interface(rt, alloc, "a", &[("t", 0)]);
     let b = interface(rt, alloc, "b", &[("t", 1)]);
     let inline = inline_interface(rt, alloc, &[("t", 2)]);
-    main.interfaces = list(rt, alloc, [a, b, inline]);
+    main.interfaces = interface_list(rt, alloc, [a, b, inline]);
     let (_own_key, item) = interface_entry(2);
     let out = (WorldKey::Name(text(rt, alloc, "out")), item);
     let mut w = world(rt, alloc, "w");
     w.exports = entries(rt, alloc, [interface_entry(0), out]);
     w.span = place(rt, contents, "w {");
-    main.worlds = list(rt, alloc, [w]);
+    main.worlds = world_list(rt, alloc, [w]);
     refused_file(rt, alloc, contents, main)
 }
 
@@ -261,7 +261,7 @@ fn alike(rt: &impl Abort, alloc: Global) -> String {
         ],
     );
     let mut main = package(rt, alloc, "main", "");
-    main.worlds = list(rt, alloc, [w]);
+    main.worlds = world_list(rt, alloc, [w]);
     refused_file(rt, alloc, contents, main)
 }
 
@@ -282,8 +282,8 @@ fn setter_alone(rt: &impl Abort, alloc: Global) -> String {
         ],
     );
     let mut main = package(rt, alloc, "main", "");
-    main.types = list(rt, alloc, [r]);
-    main.worlds = list(rt, alloc, [w]);
+    main.types = type_list(rt, alloc, [r]);
+    main.worlds = world_list(rt, alloc, [w]);
     refused_file(rt, alloc, contents, main)
 }
 

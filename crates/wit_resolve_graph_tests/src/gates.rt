@@ -1,12 +1,13 @@
 //! Deprecations are never asked: what takes part is what the version and the features say, and ids close up.
 use crate::parts::{
-    assert_told, entries, function, function_entry, functions, interface, interface_entry, list,
-    named, of_world, package, push, shown_copy, since, type_entry, unstable, world,
+    assert_told, entries, function, function_entry, functions, interface, interface_entry,
+    interface_list, named, of_world, package, push, shown_copy, since, type_entry, type_list,
+    unstable, world, world_list,
 };
 use std::alloc::Global;
 use std::process::Abort;
 use wit_items::{
-    Function, FunctionKind, Interface, Items, Names, Span, Stability, Type_, TypeDef, TypeDefKind,
+    Function, FunctionKind, Interface, Items, Span, Stability, Type_, TypeDef, TypeDefKind,
     UnresolvedPackage, World,
 };
 use wit_resolve_graph::Resolve;
@@ -32,7 +33,7 @@ fn types(rt: &impl Abort, alloc: Global) -> Items<TypeDef> {
     let mut k = of_world(rt, alloc, 1, "k", TypeDefKind::Type_(Type_::U64));
     k.stability = asking(rt, alloc);
     let l = of_world(rt, alloc, 1, "l", TypeDefKind::Type_(Type_::Bool));
-    list(rt, alloc, [gone, t, g, k, l])
+    type_list(rt, alloc, [gone, t, g, k, l])
 }
 
 fn gated(rt: &impl Abort, alloc: Global, name: &str, stability: Stability) -> Function {
@@ -42,20 +43,27 @@ fn gated(rt: &impl Abort, alloc: Global, name: &str, stability: Stability) -> Fu
 }
 
 fn interfaces(rt: &impl Abort, alloc: Global) -> Items<Interface> {
-    let two: Names<Function> = functions(
+    let mut h = interface(rt, alloc, "h", &[("g", 2)]);
+    h.stability = asking(rt, alloc);
+    interface_list(
         rt,
         alloc,
         [
-            gated(rt, alloc, "left", asking(rt, alloc)),
-            gated(rt, alloc, "stays", kept(rt, alloc)),
+            first_interface(rt, alloc),
+            h,
+            interface(rt, alloc, "j", &[]),
         ],
-    );
+    )
+}
+
+/// Interface `i`, with a function that takes no part and one that does.
+fn first_interface(rt: &impl Abort, alloc: Global) -> Interface {
+    let left = gated(rt, alloc, "left", asking(rt, alloc));
+    let stays = gated(rt, alloc, "stays", kept(rt, alloc));
     let mut i = interface(rt, alloc, "i", &[("gone", 0), ("t", 1)]);
-    i.functions = two;
+    i.functions = functions(rt, alloc, [left, stays]);
     i.stability = kept(rt, alloc);
-    let mut h = interface(rt, alloc, "h", &[("g", 2)]);
-    h.stability = asking(rt, alloc);
-    list(rt, alloc, [i, h, interface(rt, alloc, "j", &[])])
+    i
 }
 
 /// World `lost`, and world `w` with a type and a function that take part.
@@ -82,7 +90,7 @@ fn worlds(rt: &impl Abort, alloc: Global) -> Items<World> {
             function_entry(rt, alloc, stays),
         ],
     );
-    list(rt, alloc, [lost, w])
+    world_list(rt, alloc, [lost, w])
 }
 
 /// What the graph holds where all features are on, or none.

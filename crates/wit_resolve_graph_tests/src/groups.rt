@@ -1,5 +1,5 @@
 //! Groups of several packages, built by hand: in which order they are added, and how they are refused.
-use crate::parts::{assert_told, interface, list, name_foreign, package};
+use crate::parts::{assert_told, interface, interface_list, name_foreign, package};
 use crate::{parts, told};
 use std::alloc::Global;
 use std::process::Abort;
@@ -14,7 +14,7 @@ use wit_resolve_graph::{Resolve, is_group_shaped};
 fn holding(rt: &impl Abort, alloc: Global, name: &str, own: &str) -> UnresolvedPackage {
     let mut made = package(rt, alloc, name, "");
     made.package_name_span = Span::new(8, 13);
-    made.interfaces = list(rt, alloc, [interface(rt, alloc, own, &[])]);
+    made.interfaces = interface_list(rt, alloc, [interface(rt, alloc, own, &[])]);
     made
 }
 
@@ -31,7 +31,7 @@ fn naming(
     let item = (named, AstItem::Interface(InterfaceId::from_index(0)));
     name_foreign(rt, alloc, &mut made, home, Span::new(2, 4), item);
     let foreign = interface(rt, alloc, named, &[]);
-    made.interfaces = list(rt, alloc, [foreign, interface(rt, alloc, own, &[])]);
+    made.interfaces = interface_list(rt, alloc, [foreign, interface(rt, alloc, own, &[])]);
     made
 }
 
@@ -60,16 +60,24 @@ fn push_two(
     resolve.push_groups(alloc, main, deps)
 }
 
-/// The id that is answered, or the number of the refusal, then how many packages and positions there are.
+/// The place that is answered, or the number of the refusal, then how many packages and positions there are.
 fn outcome(
+    rt: &impl Abort,
+    alloc: Global,
     resolve: &Resolve,
     pushed: ResolveResult<PackageId>,
-) -> (Result<usize, u32>, usize, u32) {
-    let answer = match pushed {
-        Ok(id) => Ok(id.index()),
-        Err(refusal) => Err(refusal.number()),
-    };
-    (answer, resolve.packages().len(), resolve.source_map().end())
+) -> String {
+    let (count, end) = (resolve.packages().len(), resolve.source_map().end());
+    match pushed {
+        Ok(id) => {
+            let place = id.index();
+            format!(in alloc; "package {place} of {count} to {end}").expect(rt, "memory")
+        }
+        Err(refusal) => {
+            let number = refusal.number();
+            format!(in alloc; "refused by {number}, {count} to {end}").expect(rt, "memory")
+        }
+    }
 }
 
 /// A package: its name, its interface, and which package it names and which interface of it; empty where it
@@ -85,73 +93,92 @@ fn made(rt: &impl Abort, alloc: Global, package: Made) -> UnresolvedPackage {
 }
 
 /// What comes of pushing two packages.
-fn pushed(
-    rt: &impl Abort,
-    alloc: Global,
-    main: Made,
-    dep: Made,
-) -> (Result<usize, u32>, usize, u32) {
+fn pushed(rt: &impl Abort, alloc: Global, main: Made, dep: Made) -> String {
     let mut resolve = Resolve::new(alloc);
     let main = group(rt, alloc, "main.wit", made(rt, alloc, main));
     let dep = group(rt, alloc, "dep.wit", made(rt, alloc, dep));
     let answer = push_two(rt, alloc, &mut resolve, main, dep);
-    outcome(&resolve, answer)
+    outcome(rt, alloc, &resolve, answer)
 }
 
-/// Two packages, what the push answers, and how many packages are there then.
-const PAIRS: [(Made, Made, Result<usize, u32>, usize); 5] = [
+/// Two packages, and what comes of their push.
+const PAIRS: [(Made, Made, &str); 5] = [
     // The first name is added first.
-    (("a", "i", "", ""), ("b", "i", "", ""), Ok(0), 2),
+    (
+        ("a", "i", "", ""),
+        ("b", "i", "", ""),
+        "package 0 of 2 to 32",
+    ),
     // A dependency is added first.
-    (("a", "j", "dep", "i"), ("dep", "i", "", ""), Ok(1), 2),
+    (
+        ("a", "j", "dep", "i"),
+        ("dep", "i", "", ""),
+        "package 1 of 2 to 32",
+    ),
     // Packages that name each other, and one that names itself, are refused.
-    (("a", "i", "b", "j"), ("b", "j", "a", "i"), Err(6), 0),
-    (("a", "j", "a", "i"), ("b", "i", "", ""), Err(6), 0),
+    (
+        ("a", "i", "b", "j"),
+        ("b", "j", "a", "i"),
+        "refused by 6, 0 to 32",
+    ),
+    (
+        ("a", "j", "a", "i"),
+        ("b", "i", "", ""),
+        "refused by 6, 0 to 32",
+    ),
     // A later refusal takes earlier packages back.
-    (("a", "i", "", ""), ("b", "j", "a", "other"), Err(3), 0),
+    (
+        ("a", "i", "", ""),
+        ("b", "j", "a", "other"),
+        "refused by 3, 0 to 32",
+    ),
 ];
 
 #[test]
 fn packages_are_added_all_or_none(rt: HostRuntime) {
-    for (main, dep, answer, count) in PAIRS {
-        assert!(rt; pushed(&rt, rt.alloc(), main, dep) == (answer, count, 32));
+    for &(main, dep, wanted) in &PAIRS {
+        assert_told(&rt, pushed(&rt, rt.alloc(), main, dep), wanted);
     }
 }
 
 /// What comes of a group with a nested package.
-fn pushed_nested(rt: &impl Abort, alloc: Global) -> (Result<usize, u32>, usize, u32) {
+fn pushed_nested(rt: &impl Abort, alloc: Global) -> String {
     let mut resolve = Resolve::new(alloc);
     let nested = holding(rt, alloc, "a", "i");
     let mut group = group(rt, alloc, "main.wit", holding(rt, alloc, "b", "i"));
     group.nested.push(nested).expect(rt, "memory");
     assert!(rt; is_group_shaped(alloc, &group).expect(rt, "memory"));
     let answer = resolve.push_group(alloc, group);
-    outcome(&resolve, answer)
+    outcome(rt, alloc, &resolve, answer)
 }
 
 #[test]
 fn a_nested_package_is_added_too(rt: HostRuntime) {
-    assert!(rt; pushed_nested(&rt, rt.alloc()) == (Ok(1), 2, 16));
+    assert_told(&rt, pushed_nested(&rt, rt.alloc()), "package 1 of 2 to 16");
 }
 
 /// What comes of files that end at this position, and of a second file.
-fn pushed_files(rt: &impl Abort, alloc: Global, end: u32) -> (Result<usize, u32>, usize, u32) {
+fn pushed_files(rt: &impl Abort, alloc: Global, end: u32) -> String {
     let mut resolve = Resolve::new(alloc);
     let mut main = group(rt, alloc, "main.wit", holding(rt, alloc, "a", "i"));
     main.source_map = SourceMap::with_base(alloc, end);
     let dep = group(rt, alloc, "dep.wit", holding(rt, alloc, "b", "i"));
     let answer = push_two(rt, alloc, &mut resolve, main, dep);
-    outcome(&resolve, answer)
+    outcome(rt, alloc, &resolve, answer)
 }
 
 #[test]
 fn files_that_pass_the_end_are_taken_back(rt: HostRuntime) {
-    for (end, outcome) in [
-        (4294967279, (Ok(0), 2, 4294967295)),
-        (4294967280, (Err(27), 0, 0)),
-    ] {
-        assert!(rt; pushed_files(&rt, rt.alloc(), end) == outcome);
-    }
+    assert_told(
+        &rt,
+        pushed_files(&rt, rt.alloc(), 4294967279),
+        "package 0 of 2 to 4294967295",
+    );
+    assert_told(
+        &rt,
+        pushed_files(&rt, rt.alloc(), 4294967280),
+        "refused by 27, 0 to 0",
+    );
 }
 
 /// How a push of two packages of one name is refused.

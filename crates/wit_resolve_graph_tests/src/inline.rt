@@ -2,8 +2,8 @@
 //! imported before them, and an include copies them.
 use crate::parts::{
     assert_told, docs, entries, first_package, function, function_entry, functions,
-    inline_interface, interface, list, named, of_world, package, param, push, shown_copy, since,
-    text, type_at, type_entry, unstable, world,
+    inline_interface, interface, interface_list, list, named, of_world, package, param, push,
+    shown_copy, since, text, type_at, type_entry, type_list, unstable, world, world_list,
 };
 use std::alloc::Global;
 use std::process::Abort;
@@ -40,7 +40,7 @@ fn interfaces(rt: &impl Abort, alloc: Global) -> Items<Interface> {
     imported.functions = functions(rt, alloc, [f]);
     imported.docs = docs(rt, alloc, "Written in place.");
     imported.span = Span::new(50, 53);
-    list(
+    interface_list(
         rt,
         alloc,
         [
@@ -60,7 +60,7 @@ fn types(rt: &impl Abort, alloc: Global) -> Items<TypeDef> {
         span: Span::new(55, 56),
     };
     let fields = list(rt, alloc, [x]);
-    list(
+    type_list(
         rt,
         alloc,
         [
@@ -86,7 +86,7 @@ fn worlds(rt: &impl Abort, alloc: Global) -> Items<World> {
     w.exports = entries(rt, alloc, [out]);
     let mut v = world(rt, alloc, "v");
     v.exports = entries(rt, alloc, [only]);
-    list(rt, alloc, [w, v])
+    world_list(rt, alloc, [w, v])
 }
 
 fn pushed(rt: &impl Abort, alloc: Global) -> String {
@@ -199,9 +199,9 @@ fn pushed_include(rt: &impl Abort, alloc: Global) -> String {
     let mut inline = inline_interface(rt, alloc, &[("t", 0)]);
     inline.span = Span::new(25, 26);
     let mut made = package(rt, alloc, "inline", "1.2.0");
-    made.types = list(rt, alloc, [t, k]);
-    made.interfaces = list(rt, alloc, [inline]);
-    made.worlds = list(rt, alloc, [base(rt, alloc), derived(rt, alloc)]);
+    made.types = type_list(rt, alloc, [t, k]);
+    made.interfaces = interface_list(rt, alloc, [inline]);
+    made.worlds = world_list(rt, alloc, [base(rt, alloc), derived(rt, alloc)]);
     let mut resolve = Resolve::new(alloc);
     push(rt, alloc, &mut resolve, &made, 100);
     shown_copy(rt, alloc, &resolve)

@@ -2,8 +2,8 @@
 //! and their spans move by 100: what is added is the same at the next ids, and where a value is a resource stands
 //! an `own` of it, behind all types.
 use crate::parts::{
-    assert_told, docs, first_package, interface, list, named, package, push, shown_copy, since,
-    text, type_at, unnamed, unstable,
+    assert_told, docs, first_package, interface, interface_list, list, named, package, push,
+    shown_copy, since, text, type_at, type_list, unnamed, unstable,
 };
 use std::alloc::Global;
 use std::process::Abort;
@@ -94,7 +94,7 @@ fn shape(rt: &impl Abort, alloc: Global) -> TypeDef {
 
 /// Types 0 to 4, which have parts.
 fn types_with_parts(rt: &impl Abort, alloc: Global) -> Items<TypeDef> {
-    list(
+    type_list(
         rt,
         alloc,
         [
@@ -159,7 +159,7 @@ fn aliases(rt: &impl Abort, alloc: Global) -> Items<TypeDef> {
         ok: None,
         err: Some(type_at(2)),
     };
-    list(
+    type_list(
         rt,
         alloc,
         [
@@ -198,7 +198,7 @@ fn kinds_package(rt: &impl Abort, alloc: Global) -> UnresolvedPackage {
     made.docs = docs(rt, alloc, "Kinds.");
     made.package_name_span = Span::new(8, 17);
     made.types = types;
-    made.interfaces = list(rt, alloc, [kinds_interface(rt, alloc)]);
+    made.interfaces = interface_list(rt, alloc, [kinds_interface(rt, alloc)]);
     made
 }
 

@@ -35,6 +35,32 @@ pub fn list<T: Drop, const N: usize>(rt: &impl Abort, alloc: Global, items: [T; 
     Items::from_vec(Vec::from_array(alloc, items).expect(rt, "memory"))
 }
 
+// A call of `list` takes long to prove where what it lists has many parts, so these are named once.
+
+pub fn type_list<const N: usize>(
+    rt: &impl Abort,
+    alloc: Global,
+    types: [TypeDef; N],
+) -> Items<TypeDef> {
+    list(rt, alloc, types)
+}
+
+pub fn interface_list<const N: usize>(
+    rt: &impl Abort,
+    alloc: Global,
+    interfaces: [Interface; N],
+) -> Items<Interface> {
+    list(rt, alloc, interfaces)
+}
+
+pub fn world_list<const N: usize>(
+    rt: &impl Abort,
+    alloc: Global,
+    worlds: [World; N],
+) -> Items<World> {
+    list(rt, alloc, worlds)
+}
+
 /// The place of the first such words in a text.
 pub fn place(rt: &impl Abort, contents: &str, words: &str) -> Span {
     let start = contents.find(words).expect(rt, "the words");
@@ -280,24 +306,35 @@ pub fn name_foreign(
     item: (&str, AstItem),
 ) {
     let (name, id) = item;
+    let items = foreign_item(rt, alloc, name, id);
+    let mut foreign_deps = Table::new(alloc);
+    foreign_deps
+        .push(package_name(rt, alloc, home, ""), items)
+        .expect(rt, "memory");
+    package.foreign_deps = foreign_deps;
+    package.foreign_dep_spans.push(span).expect(rt, "memory");
+}
+
+fn foreign_item(
+    rt: &impl Abort,
+    alloc: Global,
+    name: &str,
+    id: AstItem,
+) -> Names<(AstItem, Items<Stability>)> {
     let notes = list(rt, alloc, [Stability::Unknown]);
     let mut items = Names::new(alloc);
     items
         .push(string(rt, alloc, name), (id, notes))
         .expect(rt, "memory");
-    let home = package_name(rt, alloc, home, "");
-    let mut foreign_deps = Table::new(alloc);
-    foreign_deps.push(home, items).expect(rt, "memory");
-    package.foreign_deps = foreign_deps;
-    package.foreign_dep_spans = list(rt, alloc, [span]);
+    items
 }
 
 /// Package `foo:first` with interface `things`, whose type `item` is `u32`.
 pub fn first_package(rt: &impl Abort, alloc: Global) -> UnresolvedPackage {
     let mut first = package(rt, alloc, "first", "");
     let item = named(rt, alloc, 0, "item", TypeDefKind::Type_(Type_::U32));
-    first.types = list(rt, alloc, [item]);
-    first.interfaces = list(rt, alloc, [interface(rt, alloc, "things", &[("item", 0)])]);
+    first.types = type_list(rt, alloc, [item]);
+    first.interfaces = interface_list(rt, alloc, [interface(rt, alloc, "things", &[("item", 0)])]);
     first
 }
 

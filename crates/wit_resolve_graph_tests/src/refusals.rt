@@ -1,8 +1,9 @@
 //! Refused pushes of packages built by hand: what they use of other packages, what they include, and a place that
 //! passes the end. Each package is what its file says, as far as the refusal needs it.
 use crate::parts::{
-    assert_told, entries, function, function_entry, group, interface, list, name_foreign, named,
-    package, place, push_group, since, text, type_at, unnamed, world,
+    assert_told, entries, function, function_entry, group, interface, interface_list, list,
+    name_foreign, named, package, place, push_group, since, text, type_at, type_list, unnamed,
+    world, world_list,
 };
 use crate::shown::shown;
 use crate::told::{first, refused_file, told};
@@ -32,10 +33,10 @@ fn using(
     let mut foreign = interface(rt, alloc, named_interface, &[(used, 0)]);
     foreign.span = place(rt, contents, named_interface);
     let own = interface(rt, alloc, "i", &[(used, 1)]);
-    made.interfaces = list(rt, alloc, [foreign, own]);
+    made.interfaces = interface_list(rt, alloc, [foreign, own]);
     let unknown = named(rt, alloc, 0, used, TypeDefKind::Unknown);
     let alias = named(rt, alloc, 1, used, TypeDefKind::Type_(type_at(0)));
-    made.types = list(rt, alloc, [unknown, alias]);
+    made.types = type_list(rt, alloc, [unknown, alias]);
     made.unknown_type_spans = list(rt, alloc, [place(rt, contents, used)]);
     made
 }
@@ -128,10 +129,10 @@ fn borrowing(rt: &impl Abort, alloc: Global) -> String {
     let alias = named(rt, alloc, 1, "item", TypeDefKind::Type_(type_at(0)));
     let borrow = TypeDefKind::Handle(Handle::Borrow(TypeId::from_index(1)));
     let held = named(rt, alloc, 1, "held", TypeDefKind::List(type_at(2)));
-    main.types = list(rt, alloc, [unknown, alias, unnamed(alloc, borrow), held]);
+    main.types = type_list(rt, alloc, [unknown, alias, unnamed(alloc, borrow), held]);
     let foreign = interface(rt, alloc, "things", &[("item", 0)]);
     let own = interface(rt, alloc, "i", &[("item", 1), ("held", 3)]);
-    main.interfaces = list(rt, alloc, [foreign, own]);
+    main.interfaces = interface_list(rt, alloc, [foreign, own]);
     let required = (TypeId::from_index(0), place(rt, contents, "borrow<item>"));
     main.required_resource_types = list(rt, alloc, [required]);
     refused_file(rt, alloc, contents, main)
@@ -176,7 +177,7 @@ fn foreign_include(rt: &impl Abort, alloc: Global) -> String {
     let mut service = world(rt, alloc, "service");
     service.span = place(rt, contents, "service");
     let w = including(rt, alloc, contents, "include");
-    main.worlds = list(rt, alloc, [service, w]);
+    main.worlds = world_list(rt, alloc, [service, w]);
     refused_file(rt, alloc, contents, main)
 }
 
@@ -209,7 +210,7 @@ fn shadowing(rt: &impl Abort, alloc: Global) -> String {
     let mut w = including(rt, alloc, contents, "include base");
     w.exports = runs(rt, alloc);
     let mut main = package(rt, alloc, "main", "");
-    main.worlds = list(rt, alloc, [base, w]);
+    main.worlds = world_list(rt, alloc, [base, w]);
     refused_file(rt, alloc, contents, main)
 }
 
@@ -253,8 +254,8 @@ fn mismatching(rt: &impl Abort, alloc: Global) -> String {
     let mut w = including(rt, alloc, contents, "include base");
     w.imports = imports_under(rt, alloc, since(rt, alloc, "1.0.0", ""));
     let mut main = package(rt, alloc, "main", "1.2.0");
-    main.interfaces = list(rt, alloc, [interface(rt, alloc, "i", &[])]);
-    main.worlds = list(rt, alloc, [base, w]);
+    main.interfaces = interface_list(rt, alloc, [interface(rt, alloc, "i", &[])]);
+    main.worlds = world_list(rt, alloc, [base, w]);
     refused_file(rt, alloc, contents, main)
 }
 
@@ -291,7 +292,7 @@ fn renaming(rt: &impl Abort, alloc: Global) -> String {
     let mut w = world(rt, alloc, "w");
     w.includes = list(rt, alloc, [include]);
     let mut main = package(rt, alloc, "main", "");
-    main.worlds = list(rt, alloc, [base, w]);
+    main.worlds = world_list(rt, alloc, [base, w]);
     refused_file(rt, alloc, contents, main)
 }
 
@@ -323,7 +324,7 @@ fn passing(rt: &impl Abort, alloc: Global) -> String {
     w.span = Span::new(30, 37);
     let mut main = package(rt, alloc, "main", "");
     main.package_name_span = place(rt, contents, "foo:main");
-    main.worlds = list(rt, alloc, [w]);
+    main.worlds = world_list(rt, alloc, [w]);
     let main = group(rt, alloc, "main.wit", contents, main);
     let pushed = push_group(rt, alloc, &mut resolve, main);
     told(rt, alloc, before.as_str(), &resolve, pushed)

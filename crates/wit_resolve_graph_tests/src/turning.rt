@@ -2,8 +2,8 @@
 ghost use Rattle.std.specs.Prelude.{◌<◌, length};
 
 use crate::parts::{
-    assert_told, entries, function, function_entry, interface, interface_entry, list, named,
-    of_world, package, push, string, type_at, type_entry, world,
+    assert_told, entries, function, function_entry, interface, interface_entry, interface_list,
+    named, of_world, package, push, string, type_at, type_entry, type_list, world, world_list,
 };
 use crate::shown::shown;
 use std::alloc::Global;
@@ -16,7 +16,7 @@ use wit_resolve_graph::Resolve;
 
 /// Types of interfaces `a`, `b`, which uses `a`, and `c`, which uses both, and type `k` of world `w`.
 fn types(rt: &impl Abort, alloc: Global) -> Items<TypeDef> {
-    list(
+    type_list(
         rt,
         alloc,
         [
@@ -42,14 +42,14 @@ fn worlds(rt: &impl Abort, alloc: Global) -> Items<World> {
         ],
     );
     w.exports = entries(rt, alloc, [function_entry(rt, alloc, k)]);
-    list(rt, alloc, [w, world(rt, alloc, "v")])
+    world_list(rt, alloc, [w, world(rt, alloc, "v")])
 }
 
 /// Package `foo:bar`, which has all that.
 fn resolve(rt: &impl Abort, alloc: Global) -> Resolve {
     let mut made = package(rt, alloc, "bar", "");
     made.types = types(rt, alloc);
-    made.interfaces = list(
+    made.interfaces = interface_list(
         rt,
         alloc,
         [
@@ -161,7 +161,7 @@ const TURNS: [(usize, Turn, &str, &str); 6] = [
 
 #[test]
 fn refused_turns_change_nothing(rt: HostRuntime) {
-    for (place, asked, out, wanted) in TURNS {
+    for &(place, asked, out, wanted) in &TURNS {
         assert_told(&rt, said(&rt, rt.alloc(), place, asked, out), wanted);
     }
 }

@@ -198,14 +198,14 @@ const NO_IMPORTS: [(ManglingAndAbi, &str, Asked); 5] = [
 
 #[test]
 fn imports_are_named(rt: HostRuntime) {
-    for (mangling, is_of_x, function, asked, wanted) in IMPORTS {
+    for &(mangling, is_of_x, function, asked, wanted) in &IMPORTS {
         assert_told(
             &rt,
             import_name(&rt, rt.alloc(), mangling, is_of_x, function, asked),
             wanted,
         );
     }
-    for (mangling, function, asked) in NO_IMPORTS {
+    for &(mangling, function, asked) in &NO_IMPORTS {
         assert_told(
             &rt,
             import_name(&rt, rt.alloc(), mangling, true, function, asked),
@@ -331,7 +331,7 @@ const EXPORTS: [(ManglingAndAbi, bool, Exported, &str); 20] = [
 
 #[test]
 fn exports_are_named(rt: HostRuntime) {
-    for (mangling, is_of_x, exported, wanted) in EXPORTS {
+    for &(mangling, is_of_x, exported, wanted) in &EXPORTS {
         assert_told(
             &rt,
             export_name(&rt, rt.alloc(), mangling, is_of_x, exported),

@@ -101,7 +101,7 @@ const CANONICAL: [(&str, &str); 6] = [
 
 #[test]
 fn canonical_names_have_the_track(rt: HostRuntime) {
-    for (version, names) in CANONICAL {
+    for &(version, names) in &CANONICAL {
         assert_told(&rt, canonical_names(&rt, rt.alloc(), version), names);
     }
 }

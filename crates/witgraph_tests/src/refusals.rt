@@ -62,7 +62,7 @@ const REFUSALS: [(&str, &str); 3] = [
 
 #[test]
 fn refusals_are_told_at_their_lines(rt: HostRuntime) {
-    for (script, told) in REFUSALS {
+    for &(script, told) in &REFUSALS {
         assert_told(&rt, rendered(&rt, rt.alloc(), script), told);
     }
 }

@@ -109,7 +109,7 @@ const CHOICES: [Choice; 14] = [
 
 #[test]
 fn worlds_are_chosen_among_several_packages(rt: HostRuntime) {
-    for (script, mains, text, wanted) in CHOICES {
+    for &(script, mains, text, wanted) in &CHOICES {
         assert_told(&rt, selected(&rt, rt.alloc(), script, mains, text), wanted);
     }
 }
