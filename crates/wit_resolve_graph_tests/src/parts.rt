@@ -35,7 +35,7 @@ pub fn list<T: Drop, const N: usize>(rt: &impl Abort, alloc: Global, items: [T; 
     Items::from_vec(Vec::from_array(alloc, items).expect(rt, "memory"))
 }
 
-// A call of `list` takes long to prove where what it lists has many parts, so these are named once.
+// ---- lists of what a package holds
 
 pub fn type_list<const N: usize>(
     rt: &impl Abort,
