@@ -62,14 +62,28 @@ class Record:
         return "tests" if "--test" in words else "proof", words[words.index("--crate-name") + 1], ""
 
     def watched(self, must_fail):
-        """The call that tries an edit, whose processes are noted as the edit's. The check after a crate's last one is, too."""
+        """The call that tries an edit, whose processes are noted as the edit's."""
 
         def watching(crate, edit, *more):
             self.here.edit = "edit", crate.name, os.path.basename(edit)
             try:
                 return must_fail(crate, edit, *more)
             finally:
-                self.here.edit = "edit", crate.name, "(last)"
+                self.here.edit = None
+
+        return watching
+
+    def over(self, checked):
+        """The call that checks a crate with some texts in place of its own. With none it is the check that its edits begin with, or the last one over it."""
+
+        def watching(crate, texts, *more):
+            if texts:
+                return checked(crate, texts, *more)
+            self.here.edit = "edit", crate.name, "(seed)"
+            try:
+                return checked(crate, texts, *more)
+            finally:
+                self.here.edit = None
 
         return watching
 
@@ -103,7 +117,7 @@ def run(path, words):
     rt, record = loaded(), Record(path)
     os.chdir(TOP)
     subprocess.Popen._try_wait = lambda process, flags: record.wait(process, flags)
-    rt.must_fail = record.watched(rt.must_fail)
+    rt.must_fail, rt.checked = record.watched(rt.must_fail), record.over(rt.checked)
     rt.Crate.ci = record.proving(rt.Crate.ci)
     began = time.time()
     status = rt.main(words)
@@ -152,7 +166,7 @@ def show(path, with_edits):
                 edits[note["crate"]][note["edit"]] += note["seconds"]
     chains = {}
     for crate, uses in crates().items():
-        print(row(crate, took[crate], functions[crate], len([it for it in edits[crate] if it != "(last)"])))
+        print(row(crate, took[crate], functions[crate], len([it for it in edits[crate] if it != "(seed)"])))
         for edit, seconds in edits[crate].items() if with_edits else ():
             print(f"    {seconds:6.1f}  {edit}")
         longest = max((chains[use] for use in uses), default=(0, []))

@@ -174,11 +174,11 @@ module _ (u : Upgrade) (valid : IsValid u.graph) (w : ℕ) (there : slice_get u.
 
     -- ---- no interface uses itself
 
-    end_named : (i k : ℕ) (path : List ℕ) (j : ℕ) → IsPath new_uses i (k ∷ path) j → IsNamed interfaces j
+    pub end_named : (i k : ℕ) (path : List ℕ) (j : ℕ) → IsPath new_uses i (k ∷ path) j → IsNamed interfaces j
     end_named i k [] j leads = subst (IsNamed interfaces) leads.1 (used_is_named new_types interfaces new_aliases i k leads.0)
     end_named i k (x ∷ path) j leads = end_named k x path j leads.1
 
-    id_of_named : (i : ℕ) → IsNamed interfaces i → (id : List ℕ) × (interface_id_at u.graph.packages interfaces i ≡ Some id)
+    pub id_of_named : (i : ℕ) → IsNamed interfaces i → (id : List ℕ) × (interface_id_at u.graph.packages interfaces i ≡ Some id)
     id_of_named i named =
         let found = found_at (λ (interface : Interface). IsSome interface.name) interfaces i named in
         let name = some_there found.0.name found.2 in

@@ -25,7 +25,7 @@ both_true true b on also = also
 both_true false b on also = cc
 
 -- some element passes
-any_of : {X : Type 0} (test : X → Bool) (xs : List X) → list_any test xs ≡ true → (x : X) × Contains xs x × (test x ≡ true)
+pub any_of : {X : Type 0} (test : X → Bool) (xs : List X) → list_any test xs ≡ true → (x : X) × Contains xs x × (test x ≡ true)
 any_of test [] found = cc
 any_of test (x ∷ xs) found = by (test x) refl found (λ h. any_of test xs h)
   where
@@ -33,7 +33,7 @@ any_of test (x ∷ xs) found = by (test x) refl found (λ h. any_of test xs h)
     by true is h rest = (x, Contains-here x xs, is)
     by false is h rest = let more = rest h in (more.0, Contains-there x more.0 xs more.1, more.2)
 
-any_with : {X : Type 0} (test : X → Bool) (xs : List X) (x : X) → Contains xs x → test x ≡ true → list_any test xs ≡ true
+pub any_with : {X : Type 0} (test : X → Bool) (xs : List X) (x : X) → Contains xs x → test x ≡ true → list_any test xs ≡ true
 any_with test [] x has passes = absurd (Contains-nil has)
 any_with test (y ∷ ys) x has passes = elim (Contains-cons_cases y x ys has) [
   | inl same ↦ here (test y) (ap test same ∙ passes)
@@ -84,7 +84,7 @@ module _ (below : ℕ → ℕ → Bool) (trans : (a b c : ℕ) → below a b ≡
 
 -- ---- versions on one track
 
-lt_is : (o : Ordering) → is_lt o ≡ true → o ≡ Less
+pub lt_is : (o : Ordering) → is_lt o ≡ true → o ≡ Less
 lt_is Less on = refl
 lt_is Equal on = cc
 lt_is Greater on = cc
@@ -94,11 +94,11 @@ own_reverse Less turned less = cc
 own_reverse Equal turned less = cc
 own_reverse Greater turned less = cc
 
-below_trans : (a b c : Versioned) → is_below a b ≡ true → is_below b c ≡ true → is_below a c ≡ true
+pub below_trans : (a b c : Versioned) → is_below a b ≡ true → is_below b c ≡ true → is_below a c ≡ true
 below_trans a b c first second =
     ap is_lt (version_cmp_total.trans a.version b.version c.version (lt_is (version_cmp a.version b.version) first) (lt_is (version_cmp b.version c.version) second))
 
-below_itself : (a : Versioned) → is_below a a ≡ true → ⊥
+pub below_itself : (a : Versioned) → is_below a a ≡ true → ⊥
 below_itself a on = own_reverse (version_cmp a.version a.version) (version_cmp_total.antisymm a.version a.version) (lt_is (version_cmp a.version a.version) on)
 
 pub record SameTrack (rule : TrackRule) (v w : Versioned) : Type 0 where
@@ -123,7 +123,7 @@ both_from test (Some v) (Some w) on = (v, w, refl, refl, on)
 pub both_into : (test : Versioned → Versioned → Bool) (a b : Option Versioned) (v w : Versioned) → a ≡ Some v → b ≡ Some w → test v w ≡ true → both test a b ≡ true
 both_into test a b v w first second on = subst (λ (o : Option Versioned). both test o b ≡ true) (sym first) (subst (λ (o : Option Versioned). both test (Some v) o ≡ true) (sym second) on)
 
-inside : (v w : Versioned) → Some v ≡ Some w → v ≡ w
+pub inside : (v w : Versioned) → Some v ≡ Some w → v ≡ w
 inside v w same = cc
 
 module _ (u : Upgrade) where

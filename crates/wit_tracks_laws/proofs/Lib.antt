@@ -1,12 +1,12 @@
-mod Accepting
-mod EachElaborated
-mod Greatest
-mod Kept
-mod KeptKeys
-mod KeptLabels
-mod ListedUses
-mod Merged
-mod TypesAfter
-mod TypesGood
-mod ValidRewriting
-mod WorldsGood
+pub mod Accepting
+pub mod EachElaborated
+pub mod Greatest
+pub mod Kept
+pub mod KeptKeys
+pub mod KeptLabels
+pub mod ListedUses
+pub mod Merged
+pub mod TypesAfter
+pub mod TypesGood
+pub mod ValidRewriting
+pub mod WorldsGood

@@ -172,7 +172,7 @@ module _ (g : Graph) (valid : IsValid g) where
       some_same v w (ap (λ (n : PackageName). n.version) (same_name a b (version_ties v w ∙ ap is_eq same)))
 
   -- on one track either one is below the other, or they are one
-  one_track : (rule : TrackRule) (i j : ℕ) (v x : Versioned) → versioned g.packages g.interfaces i ≡ Some v → versioned g.packages g.interfaces j ≡ Some x → have_one_track rule v x ≡ true
+  pub one_track : (rule : TrackRule) (i j : ℕ) (v x : Versioned) → versioned g.packages g.interfaces i ≡ Some v → versioned g.packages g.interfaces j ≡ Some x → have_one_track rule v x ≡ true
       → (is_below v x ≡ true → ⊥) → (is_below x v ≡ true → ⊥) → i ≡ j
   one_track rule i j v x at_i at_j on not_below not_above = by (version_cmp v.version x.version) refl
     where
@@ -197,7 +197,7 @@ module _ (laws : LawsOfElaboration) (rule : TrackRule) (g : Graph) (w : ℕ) (ol
       stays_from (record { rule = rule; graph = g; world = old }) i one.was one.stays j other.was
       (both_into (λ a b. have_one_track rule a b && is_below a b) (versioned g.packages g.interfaces i) (versioned g.packages g.interfaces j) v x at_i at_j (both_true (have_one_track rule v x) (is_below v x) on below))
 
-  other_way : (v x : Versioned) → have_one_track rule v x ≡ true → have_one_track rule x v ≡ true
+  pub other_way : (v x : Versioned) → have_one_track rule v x ≡ true → have_one_track rule x v ≡ true
   other_way v x on = let same = track_from rule v x on in track_into rule x v (record { home = sym same.home; name = sym same.name })
 
   pub one_on_each : (i j : ℕ) → Contains (keyed_interfaces new.imports) i → Contains (keyed_interfaces new.imports) j → are_on_one_track rule (rewritten rule g w).packages (rewritten rule g w).interfaces i j ≡ true → i ≡ j
