@@ -165,7 +165,7 @@ module _ (g : Graph) (valid : IsValid g) where
           let found = found_at (λ (home : Package). Contains home.interfaces (v.name, i)) g.packages c.p listed in
           subst (λ (x : Package). Contains x.interfaces (v.name, i)) (same_at g.packages c.p c.p found.0 c.home refl found.1 c.there) found.2
 
-  equal_versions : (v w : Parts) → version_cmp v w ≡ Equal → v ≡ w
+  pub equal_versions : (v w : Parts) → version_cmp v w ≡ Equal → v ≡ w
   equal_versions v w same =
       let a : PackageName = record { namespace = []; name = []; version = Some v } in
       let b : PackageName = record { namespace = []; name = []; version = Some w } in
