@@ -1,0 +1,4 @@
+pub mod AllWorlds
+pub mod OnCycles
+pub mod Searching
+pub mod Settled

@@ -1,0 +1,5 @@
+pub mod Asked
+pub mod Elaborations
+pub mod Reasons
+pub mod Rounds
+pub mod Told

@@ -1,0 +1,30 @@
+//! A graph whose worlds were listed anew is settled.
+ghost use Rattle.std.specs.Prelude.{◌≡◌, ◌⊎◌, IfErr, OnErr, OnOk};
+ghost use Rattle.wit_graph.specs.declared.error_kind.ResolveErrorKind.{ResolveErrorKind};
+ghost use Rattle.wit_graph.specs.declared.error_kind.ResolveErrorKind.TheVariants.{OutOfMemory};
+ghost use Rattle.wit_growth.specs.AllElaborated.{all_elaborated};
+ghost use Rattle.wit_settling.specs.Asked.{CanSettle};
+ghost use Rattle.wit_settling.specs.Reasons.{SettleCause};
+
+use crate::cycles::{check_interfaces, check_packages, check_types};
+use crate::elaborating::elaborate_all;
+use std::alloc::Global;
+use wit_graph::{Graph, ResolveResult};
+
+/// Elaborates all worlds of a graph in which nothing depends on itself.
+///
+/// It is refused where a type refers to itself (23), an interface uses itself (22) or a package depends on itself (6),
+/// through whatever others, and where what the exports of some world need from outside is exported (4). After a refusal
+/// the graph is as before.
+pub fn settle(alloc: Global, graph: &mut Graph) -> ResolveResult<()>
+    requires { CanSettle graph.old }
+    ensures ok { OnOk result (graph.new ≡ all_elaborated graph.old) }
+    ensures err { OnErr result (graph.new ≡ graph.old) }
+    ensures cause { IfErr result (λ e. (e ≡ OutOfMemory) ⊎ SettleCause graph.old e) }
+    ensures refuses { (e : ResolveErrorKind) → SettleCause graph.old e → OnOk result ⊥ }
+{
+    check_types(alloc, graph)?;
+    check_interfaces(alloc, graph)?;
+    check_packages(alloc, graph)?;
+    elaborate_all(alloc, graph)
+}
