@@ -159,6 +159,20 @@ module _ (u : Upgrade) (valid : IsValid u.graph) (w : ℕ) (there : slice_get u.
   pub listed_there : slice_get relisted_worlds w ≡ Some (listed_world u)
   listed_there = slice_get-set u.graph.worlds w u.world (listed_world u) there
 
+  -- an interface with a name has an id text
+  pub id_of_named : (i : ℕ) → IsNamed interfaces i → (id : List ℕ) × (interface_id_at u.graph.packages interfaces i ≡ Some id)
+  id_of_named i named =
+      let found = found_at (λ (interface : Interface). IsSome interface.name) interfaces i named in
+      let name = some_there found.0.name found.2 in
+      let home = some_and _ found.0.package (valid.well_formed.tables.interfaces_listed i found.0 found.1) in
+      (id_text u.graph.packages home.0 name.0, whole (slice_get interfaces i) found.0 found.1 name.0 home.0 name.1 home.1)
+    where
+      whole : (o : Option Interface) (interface : Interface) → o ≡ Some interface → (name : List ℕ) (p : ℕ) → interface.name ≡ Some name → interface.package ≡ Some p
+          → option_and_then (interface_id_text u.graph.packages) o ≡ Some (id_text u.graph.packages p name)
+      whole o interface at name p named of =
+          ap (option_and_then (interface_id_text u.graph.packages)) at ∙ ap (option_and_then (λ (n : List ℕ). option_map (λ (q : ℕ). id_text u.graph.packages q n) interface.package)) named
+          ∙ ap (option_map (λ (q : ℕ). id_text u.graph.packages q name)) of
+
   module _ (accepted : IsAccepted u.rule u.graph w) where
     pub complete : IsComplete u
     complete message lacks = accepted (Semantic None message cause.UpgradeMismatch) (u.world, there, type_missing_25 message lacks)
@@ -174,22 +188,9 @@ module _ (u : Upgrade) (valid : IsValid u.graph) (w : ℕ) (there : slice_get u.
 
     -- ---- no interface uses itself
 
-    pub end_named : (i k : ℕ) (path : List ℕ) (j : ℕ) → IsPath new_uses i (k ∷ path) j → IsNamed interfaces j
+    end_named : (i k : ℕ) (path : List ℕ) (j : ℕ) → IsPath new_uses i (k ∷ path) j → IsNamed interfaces j
     end_named i k [] j leads = subst (IsNamed interfaces) leads.1 (used_is_named new_types interfaces new_aliases i k leads.0)
     end_named i k (x ∷ path) j leads = end_named k x path j leads.1
-
-    pub id_of_named : (i : ℕ) → IsNamed interfaces i → (id : List ℕ) × (interface_id_at u.graph.packages interfaces i ≡ Some id)
-    id_of_named i named =
-        let found = found_at (λ (interface : Interface). IsSome interface.name) interfaces i named in
-        let name = some_there found.0.name found.2 in
-        let home = some_and _ found.0.package (valid.well_formed.tables.interfaces_listed i found.0 found.1) in
-        (id_text u.graph.packages home.0 name.0, whole (slice_get interfaces i) found.0 found.1 name.0 home.0 name.1 home.1)
-      where
-        whole : (o : Option Interface) (interface : Interface) → o ≡ Some interface → (name : List ℕ) (p : ℕ) → interface.name ≡ Some name → interface.package ≡ Some p
-            → option_and_then (interface_id_text u.graph.packages) o ≡ Some (id_text u.graph.packages p name)
-        whole o interface at name p named of =
-            ap (option_and_then (interface_id_text u.graph.packages)) at ∙ ap (option_and_then (λ (n : List ℕ). option_map (λ (q : ℕ). id_text u.graph.packages q n) interface.package)) named
-            ∙ ap (option_map (λ (q : ℕ). id_text u.graph.packages q name)) of
 
     pub uses_acyclic : IsAcyclic new_uses
     uses_acyclic = record {

@@ -84,7 +84,7 @@ module _ (below : ℕ → ℕ → Bool) (trans : (a b c : ℕ) → below a b ≡
 
 -- ---- versions on one track
 
-pub lt_is : (o : Ordering) → is_lt o ≡ true → o ≡ Less
+lt_is : (o : Ordering) → is_lt o ≡ true → o ≡ Less
 lt_is Less on = refl
 lt_is Equal on = cc
 lt_is Greater on = cc

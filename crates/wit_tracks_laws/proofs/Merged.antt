@@ -197,7 +197,7 @@ module _ (laws : LawsOfElaboration) (rule : TrackRule) (g : Graph) (w : ℕ) (ol
       stays_from (record { rule = rule; graph = g; world = old }) i one.was one.stays j other.was
       (both_into (λ a b. have_one_track rule a b && is_below a b) (versioned g.packages g.interfaces i) (versioned g.packages g.interfaces j) v x at_i at_j (both_true (have_one_track rule v x) (is_below v x) on below))
 
-  pub other_way : (v x : Versioned) → have_one_track rule v x ≡ true → have_one_track rule x v ≡ true
+  other_way : (v x : Versioned) → have_one_track rule v x ≡ true → have_one_track rule x v ≡ true
   other_way v x on = let same = track_from rule v x on in track_into rule x v (record { home = sym same.home; name = sym same.name })
 
   pub one_on_each : (i j : ℕ) → Contains (keyed_interfaces new.imports) i → Contains (keyed_interfaces new.imports) j → are_on_one_track rule (rewritten rule g w).packages (rewritten rule g w).interfaces i j ≡ true → i ≡ j

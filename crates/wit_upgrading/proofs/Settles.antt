@@ -1,5 +1,5 @@
 -- The graph that is listed anew can be settled, and what speaks against settling it speaks against the merge.
-use Rattle.std.proofs.Common.{◌≡◌, ◌∙◌, ◌⊎◌, inl, inr, ℕ, List, [], ◌∷◌, Option, None, Some, IsSome, IsSomeAnd, option_and_then, option_map, Contains, get_or, length, slice_get, refl, sym, ap, subst, arith}
+use Rattle.std.proofs.Common.{◌≡◌, ◌⊎◌, inl, inr, ℕ, List, [], ◌∷◌, Option, None, Some, IsSome, Contains, get_or, length, slice_get, refl, sym, ap, subst, arith}
 use Rattle.std.proofs.lemmas.List.{length-map}
 use Rattle.std.proofs.lemmas.List.Elements.{Contains-get_or}
 use Rattle.wit_relations.specs.MemberFacts.{Contains-here, Contains-there}
@@ -7,12 +7,10 @@ use Rattle.wit_relations.specs.Relation.{IsPath, direct}
 use Rattle.wit_items.specs.Ownership.{IsNamed, IsPlain}
 use Rattle.wit_items.specs.Reference.{referred, type_references}
 use Rattle.wit_items.specs.Uses.{interface_uses}
-use Rattle.wit_items.specs.declared.interface.Interface.{Interface}
 use Rattle.wit_items.specs.declared.track.TrackRule.{TrackRule}
 use Rattle.wit_items.specs.declared.types.TypeDef.{TypeDef}
 use Rattle.wit_items.specs.declared.world.World.{World}
 use Rattle.wit_graph.specs.Elaboration.{graph_uses}
-use Rattle.wit_graph.specs.IdText.{id_text, interface_id_at, interface_id_text}
 use Rattle.wit_graph.specs.Sound.{HasSoundEntries}
 use Rattle.wit_graph.specs.SoundFacts.{named_within}
 use Rattle.wit_graph.specs.Valid.{IsValid}
@@ -20,14 +18,14 @@ use Rattle.wit_graph.specs.declared.error_kind.ResolveErrorKind.{ResolveErrorKin
 use Rattle.wit_graph.specs.declared.graph.Graph.{Graph}
 use Rattle.wit_growth.specs.AllElaborated.{all_elaborated, graph_package_uses}
 use Rattle.wit_growth.specs.GoodIsValid.{good_things}
-use Rattle.wit_growth.specs.ListFacts.{found_at, from_row, in_row}
+use Rattle.wit_growth.specs.ListFacts.{from_row, in_row}
 use Rattle.wit_growth.specs.NamedUses.{used_is_named}
-use Rattle.wit_growth.specs.OptionFacts.{option_cases, some_there}
+use Rattle.wit_growth.specs.OptionFacts.{option_cases}
 use Rattle.wit_growth.specs.PackageCycleFacts.{used_package}
 use Rattle.wit_tracks.specs.Rewritten.{new_target, relisted_at, retargeted, rewritten, rewritten_types}
 use Rattle.wit_tracks.specs.TrackCause.{Disagrees, IsAccepted, IsComplete, UpgradeCause, conflict_4, functions_disagree_25, interface_cycle_22, package_cycle_6, type_cycle_23, type_missing_25}
 use Rattle.wit_tracks.specs.Upgrade.{Upgrade}
-use Rattle.wit_tracks_laws.proofs.Accepting.{in_order, new_aliases, relisted_worlds, rewritten_is}
+use Rattle.wit_tracks_laws.proofs.Accepting.{id_of_named, in_order, new_aliases, relisted_worlds, rewritten_is}
 use Rattle.wit_tracks_laws.proofs.TypesAfter.{type_after}
 use Rattle.wit_tracks_laws.proofs.TypesGood.{refers_in_range, unnamed_plain}
 use Rattle.wit_settling.specs.Asked.{CanSettle, IsSomeNamed}
@@ -68,24 +66,6 @@ module _ (u : Upgrade) (valid : IsValid u.graph) (w : ℕ) (there : slice_get u.
       by new at has (inl none) (inl old) = inl (plain_edge i k new at none has, old)
       by new at has (inl none) (inr n) = inr (record { id = n.id; def = n.def; among = Contains-there i n.id (k ∷ path) n.among; is = n.is; named = n.named })
 
-  -- an interface with a name has an id text
-  id_of_named : (i : ℕ) → IsNamed u.graph.interfaces i → (id : List ℕ) × (interface_id_at u.graph.packages u.graph.interfaces i ≡ Some id)
-  id_of_named i named =
-      let found = found_at (λ (interface : Interface). IsSome interface.name) u.graph.interfaces i named in
-      let name = some_there found.0.name found.2 in
-      let home = some_and _ found.0.package (valid.well_formed.tables.interfaces_listed i found.0 found.1) in
-      (id_text u.graph.packages home.0 name.0, whole (slice_get u.graph.interfaces i) found.0 found.1 name.0 home.0 name.1 home.1)
-    where
-      some_and : (P : ℕ → Type 0) (o : Option ℕ) → IsSomeAnd o P → (p : ℕ) × (o ≡ Some p)
-      some_and P None h = absurd h
-      some_and P (Some p) h = (p, refl)
-
-      whole : (o : Option Interface) (interface : Interface) → o ≡ Some interface → (name : List ℕ) (p : ℕ) → interface.name ≡ Some name → interface.package ≡ Some p
-          → option_and_then (interface_id_text u.graph.packages) o ≡ Some (id_text u.graph.packages p name)
-      whole o interface at name p named of =
-          ap (option_and_then (interface_id_text u.graph.packages)) at ∙ ap (option_and_then (λ (n : List ℕ). option_map (λ (q : ℕ). id_text u.graph.packages q n) interface.package)) named
-          ∙ ap (option_map (λ (q : ℕ). id_text u.graph.packages q name)) of
-
   uses_long : length (graph_uses made) ≡ length u.graph.interfaces
   uses_long = length-map u.graph.interfaces (interface_uses changed)
 
@@ -100,7 +80,7 @@ module _ (u : Upgrade) (valid : IsValid u.graph) (w : ℕ) (there : slice_get u.
         used_package changed u.graph.interfaces u.graph.packages (good_things u.graph valid).interfaces_in_tables (relisted_worlds u valid w there) p (get_or (direct (graph_package_uses made) p) k d)
         (Contains-get_or (direct (graph_package_uses made) p) k d inside);
     used_named = λ i j has.
-        let id = id_of_named j (used_is_named changed u.graph.interfaces (new_aliases u valid w there) i j has) in
+        let id = id_of_named u valid w there j (used_is_named changed u.graph.interfaces (new_aliases u valid w there) i j has) in
         subst IsSome (sym id.1) refl;
     cycles_named = λ t k path leads. elim (named_among t (k ∷ path) t leads) [ inl old ↦ absurd (valid.no_cycles.types.no_cycle t k path old) | inr named ↦ named ];
     listed = λ v world at. subst (λ (n : ℕ). HasSoundEntries changed n world.imports world.exports) uses_long (in_order u valid w there v world at);
