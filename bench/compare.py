@@ -6,10 +6,10 @@
 
 The program is that of the stored cases, which runs many scripts at once. Scripts are told by their numbers, so that
 one that differs can be made again (`--first N --many 1`). Kinds, by turns where none is named: `mixed`, `chains` of
-uses, `exports` of such chains, `notes` with packages that all have versions, and `broken`, where some lines of a
-script are changed at random. Ends with status 1 where a script is answered otherwise than the model says.
+uses, `exports` of such chains, `notes` with packages that all have versions, `tracks` with several versions of the
+same packages that are merged by tracks, and `broken`, where some lines of a script are changed at random. Ends with status 1 where a script is answered otherwise than the model says.
 
-With `--merging` the model understands `other`, `merge` and `semver`, too, and with `--structure` it also compares the
+With `--merging` the model understands `other` and `merge`, too, and with `--structure` it also compares the
 structures of types that a merge makes one. Random scripts have no such lines, stored ones may.
 """
 import argparse
@@ -21,6 +21,7 @@ import model
 
 PACKAGES = ["a:p", "a:q", "b:r", "a:p@1.0.0", "a:p@1.1.0", "b:r@2.0.0", "b:r@1.0.0-rc.1", "a:q@1.0.0"]
 VERSIONED = ["a:p@1.0.0", "a:p@1.1.0", "b:r@2.0.0", "a:q@1.0.0", "a:q@1.2.0"]
+TRACKED = ["a:p@1.0.0", "a:p@1.1.0", "a:p@1.2.0-rc.1", "a:q@0.2.0", "a:q@0.2.1", "a:q@0.3.0", "b:r@0.0.1-rc.1", "b:r@0.0.1"]
 INTERFACES = ["i", "j", "k", "l"]
 WORLDS = ["w", "v", "x", "w-importized", "w-exportized"]
 TYPES = ["t", "u", "r", "s", "o"]
@@ -29,7 +30,7 @@ LABELS = [*TYPES, "f", "g", "p", "lab", "lib"]
 MET_NOTES = ["@since=1.0.0", "@since=0.9.0"]
 NOTES = [*MET_NOTES, "@since=1.1.0", "@unstable=f", "@unstable=g", "@since=2.0.0", "@since=1.0.0-rc.1"]
 SELECTED = ["", " w", " v", " a:p/w", " b:r/v", " a:q/x", " a:p/w@1.0.0", " a:p/q/w", " b:r/w@2.0.0", " W_"]
-KINDS = ["mixed", "chains", "notes", "exports", "broken"]
+KINDS = ["mixed", "chains", "notes", "exports", "tracks", "broken"]
 
 
 class Writer:
@@ -42,7 +43,7 @@ class Writer:
         # the types of interfaces of other packages, by path, and the worlds
         self.interfaces, self.worlds, self.turned, self.there = {}, [], [], set()
         self.foreign, self.kept = self.one([0.1, 0.3, 0.6]), self.one([0.2, 0.7])
-        self.noted = {"notes": 0.35, "chains": 0, "exports": 0}.get(self.kind, self.one([0, 0, 0.05, 0.15, 0.3]))
+        self.noted = {"notes": 0.35, "chains": 0, "exports": 0, "tracks": 0}.get(self.kind, self.one([0, 0, 0.05, 0.15, 0.3]))
 
     def one(self, of):
         return self.random.choice(of)
@@ -136,6 +137,9 @@ class Writer:
         names, chance = list(self.reader.scope.types), self.random.random()
         if self.kind in ("chains", "exports"):
             chance = 0.3 + chance * 0.45
+        if self.kind == "tracks" and self.may(0.85):
+            line = self.one([f"type {self.one('tu')} u32", "func f(x:u32)", None, None])
+            return line or self.use_line()
         if chance < 0.35:
             return self.type_line(names)
         return self.use_line() if chance < 0.8 else f"func {self.signature(names)}"
@@ -143,7 +147,7 @@ class Writer:
     def world_line(self, world):
         """A line of a world, None where there is nothing to name."""
         names, chance = list(self.reader.scope.types), self.random.random()
-        if self.kind in ("chains", "exports") and self.may(0.7):
+        if self.kind in ("chains", "exports", "tracks") and self.may(0.7):
             chance = 0
         if self.kind == "notes":
             chance = self.one([0, 0, 0.9, chance])
@@ -180,7 +184,8 @@ class Writer:
         self.turned += [(package.name, it) for it in package.worlds]
 
     def push(self):
-        names = self.random.sample(VERSIONED if self.kind == "notes" else PACKAGES, self.one([1, 1, 1, 2, 3]))
+        named = {"notes": VERSIONED, "tracks": [*TRACKED, "c:main"]}.get(self.kind, PACKAGES)
+        names = self.random.sample(named, self.one([1, 1, 1, 2, 3]))
         names = [it for it in names if it not in self.there or self.may(0.05)]
         before = dict(self.interfaces), list(self.worlds), list(self.turned), list(self.lines)
         packages = []
@@ -211,14 +216,21 @@ class Writer:
             name = self.one(["-", "-", "z", self.one(WORLDS)])
             self.lines.append(" ".join([f"exportize {package} {world} {name}", *keys]))
 
+    def merge(self):
+        """Writes a command that merges the imports of a world by tracks."""
+        package, world = self.one(self.turned)
+        if self.may(0.2):
+            self.lines.append(f"tracks {self.one(['published', 'with-prereleases'])}")
+        self.lines.append(f"semver {package} {world}")
+
     def script(self):
-        for _ in range(self.random.randint(2, 8)):
+        for _ in range(self.random.randint(2, 8) + 4 * (self.kind == "tracks")):
             if self.noted and self.may(0.15):
                 self.lines.append(self.one(["feature f", "feature g", "all-features"]))
             self.push()
             for _ in range(self.one([0, 0, 1, 2])):
                 if self.turned:
-                    self.turn()
+                    (self.merge if self.kind == "tracks" and self.may(0.8) else self.turn)()
         for package in sorted({str(it) for it, _ in self.turned}):
             worlds = [it for of, it in self.turned if str(of) == package]
             turned = [f"{it}-{self.one(['im', 'ex'])}portized" for it in worlds]

@@ -133,9 +133,30 @@ def pushes(size):
     yield "push"
 
 
+def tracks(size):
+    """Interfaces in two versions, and users of the first; a world imports all, and its imports are merged by tracks."""
+    for version in ("1.0.0", "1.1.0"):
+        yield f"package foo:bar@{version}"
+        for number in range(size):
+            yield f"interface i{number}"
+            yield "type t u32"
+        yield "push"
+    yield "package foo:main"
+    for number in range(size):
+        yield f"interface j{number}"
+        yield f"use foo:bar/i{number}@1.0.0 t"
+    yield "world w"
+    for number in range(size):
+        yield f"import j{number}"
+        yield f"import foo:bar/i{number}@1.1.0"
+    yield "push"
+    yield "semver foo:main w"
+    yield "print foo:main w"
+
+
 KINDS = {
     it.__name__: it
-    for it in (chain, separate, worlds, aliases, nested, fields, includes, resources, groups, pushes)
+    for it in (chain, separate, worlds, aliases, nested, fields, includes, resources, groups, pushes, tracks)
 }
 
 

@@ -17,8 +17,9 @@ COMMANDS = {
     "print": (2, 2),
     "select": (1, 2),
     "tracks": (1, 1),
+    "semver": (2, 2),
 }
-MERGING = {"other": (0, 0), "merge": (0, 0), "semver": (2, 2)}
+MERGING = {"other": (0, 0), "merge": (0, 0)}
 # whose first word is the name of a package
 OF_PACKAGES = {"importize", "exportize", "print", "select", "semver"}
 

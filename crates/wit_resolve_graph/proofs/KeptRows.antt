@@ -1,5 +1,5 @@
 -- What is kept beside a graph, after a turn of a world and after packages came.
-use Rattle.std.proofs.Common.{◌≡◌, ◌∙◌, ℕ, ◌≤◌, List, Bool, Option, None, Some, length, take, slice_get, OnOk, OnErr, Result, Ok, Err, refl, sym, ap, subst, arith, length-take}
+use Rattle.std.proofs.Common.{◌≡◌, ◌∙◌, ℕ, ◌≤◌, List, [], Bool, Option, None, Some, length, take, slice_get, OnOk, OnErr, Result, Ok, Err, refl, sym, ap, subst, arith, length-take}
 use Rattle.std.specs.Option.{option_map_or}
 use Rattle.wit_items.specs.declared.types.TypeDef.{TypeDef}
 use Rattle.wit_items.specs.declared.world.World.{World}
@@ -42,6 +42,13 @@ kept_after (Err e) g new kept of valid told leaves same = same_kept g new kept o
 
 pub kept_turned : {T E : Type 0} (r : Result T E) (g new : Graph) (kept : Kept) (w : ℕ) (turn : World → Turn) → AreKept g kept → IsValid new → OnOk r (new ≡ turned g w turn) → OnErr r (new ≡ g) → AreKept new kept
 kept_turned r g new kept w turn of valid ok = kept_after r g new kept of valid ok (λ is. subst (λ (h : Graph). LeavesTypes g h) (sym is) (turned_leaves g w turn))
+
+-- no flags tell nothing
+pub none_known : (types : List TypeDef) (flags : List Bool) → flags ≡ [] → AreValidBits types flags
+none_known types flags none = λ t flag at. absurd (no_flag flag (sym (ap (λ (l : List Bool). slice_get l t) none) ∙ at))
+  where
+    no_flag : (flag : Bool) → ◌≡◌ {A = Option Bool} None (Some flag) → ⊥
+    no_flag flag same = cc
 
 -- where packages came, there are no more flags than types, and they tell of theirs
 pub flags_within : (g new : Graph) (kept : Kept) → AreKept g kept → Grown g new → length kept.valid_bits ≤ length new.types

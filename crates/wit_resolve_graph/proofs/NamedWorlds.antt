@@ -81,3 +81,21 @@ world_within g valid name world w has =
     let place = place_of home.0.worlds (world, w) home.2 in
     let there = found_at (λ (x : World). (x.name ≡ world) × (x.package ≡ Some has.0)) g.worlds w (valid.well_formed.tables.world_tables has.0 home.0 home.1 place.0 (world, w) place.1) in
     slice_get_within g.worlds w there.0 there.1
+
+-- what is found of a name in a package of a name
+pub record Finds (g : Graph) (name : PackageName) (world : List ℕ) (o : Option ℕ) : Type 0 where
+  pub has : IfSome o (HasWorld g name world)
+  pub within : IfSome o (λ w. w < length g.worlds)
+  pub none : IfNone o ((w : ℕ) → HasWorld g name world w → ⊥)
+
+within_of : (g : Graph) → IsValid g → (name : PackageName) (world : List ℕ) (o : Option ℕ) → IfSome o (HasWorld g name world) → IfSome o (λ w. w < length g.worlds)
+within_of g valid name world None has = has
+within_of g valid name world (Some w) has = world_within g valid name world w has
+
+pub finds : (g h : Graph) → h ≡ g → IsValid g → (name : PackageName) (p : ℕ) → lookup (same_package name) h.package_names ≡ Some p
+    → (world : List ℕ) (home : Package) → slice_get h.packages p ≡ Some home → (o : Option ℕ) → o ≡ lookup (bytes_eq world) home.worlds → Finds g name world o
+finds g h same valid name p found world home at o is =
+    let named_so = ap (λ (x : Graph). lookup (same_package name) x.package_names) (sym same) ∙ found in
+    let there = ap (λ (x : Graph). slice_get x.packages p) (sym same) ∙ at in
+    let has = some_world g valid name p named_so world home there o is in
+    record { has = has; within = within_of g valid name world o has; none = none_world g valid name p named_so world home there o is }

@@ -3,9 +3,9 @@ use Rattle.std.specs.Prelude.{◌∷◌}
 use Rattle.std.specs.List.{AllByRecursion}
 use Rattle.wit_items.specs.Shape.{IsGroupShaped}
 use Rattle.wit_resolve_graph.specs.declared.command.Command.{Command}
-use Rattle.wit_resolve_graph.specs.declared.command.Command.TheVariants.{AddFeature, Exportize, Importize, PushGroups, SetAllFeatures, SetTrackRule}
+use Rattle.wit_resolve_graph.specs.declared.command.Command.TheVariants.{AddFeature, Exportize, Importize, Merge, PushGroups, Semver, SetAllFeatures, SetTrackRule}
 
--- groups are pushed that have their shape; features are turned on, the rule of tracks is set, and worlds are turned
+-- groups are pushed that have their shape, and graphs aren't merged; all else is taken
 abbrev pub IsSupported : Command → Type 0
 IsSupported (AddFeature name) = Unit {0}
 IsSupported (SetAllFeatures all) = Unit {0}
@@ -13,4 +13,5 @@ IsSupported (SetTrackRule rule) = Unit {0}
 IsSupported (PushGroups main deps) = AllByRecursion IsGroupShaped (main ∷ deps)
 IsSupported (Importize home world out) = Unit {0}
 IsSupported (Exportize home world out keys) = Unit {0}
-IsSupported _ = ⊥
+IsSupported (Semver home world) = Unit {0}
+IsSupported (Merge other) = ⊥

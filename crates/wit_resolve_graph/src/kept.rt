@@ -1,5 +1,6 @@
 //! What a `Resolve` keeps beside its graph.
 ghost use Rattle.std.specs.Prelude.{◌≡◌, ◌⊎◌, ◌≤◌, [], IfErr, IfOk, OnErr, OnOk, length, take};
+ghost use Rattle.wit_graph.specs.Valid.{IsValid};
 ghost use Rattle.wit_graph.specs.declared.error_kind.ResolveErrorKind.{ResolveErrorKind};
 ghost use Rattle.wit_graph.specs.declared.error_kind.ResolveErrorKind.TheVariants.{OutOfMemory};
 ghost use Rattle.wit_items.specs.Shape.{IsShaped};
@@ -33,6 +34,21 @@ impl Kept {
             elaborator: Elaborator::empty(alloc),
             valid_bits: Items::new(alloc),
         }
+    }
+
+    /// What is kept beside a graph. It goes over all types of the graph.
+    pub(crate) fn of(alloc: Global, graph: &Graph) -> Result<Kept, AllocError>
+        requires { IsValid graph.now }
+        ensures { IfOk result (AreKept graph.now) }
+    {
+        let types = graph.types.as_slice();
+        let elaborator = Elaborator::new(alloc, types, graph.interfaces.as_slice())?;
+        let mut valid_bits = Items::new(alloc);
+        add_valid_bits(alloc, &mut valid_bits, types)?;
+        Ok(Kept {
+            elaborator,
+            valid_bits,
+        })
     }
 
     /// Adds the flags of the types that came behind those that have one. Where there is no memory, the graph is cut

@@ -15,14 +15,16 @@ ghost use Rattle.wit_questions.specs.ValidBits.{TellValidBits};
 ghost use Rattle.wit_selecting.specs.Selection.{IsSaid, selected_world};
 ghost use Rattle.wit_resolve_graph.specs.State.{new_state};
 ghost use Rattle.wit_resolve_graph.specs.Step.{PushesGroups, RefusesGroups, with_feature};
+ghost use Rattle.wit_tracks.specs.Rewritten.{rewritten};
+ghost use Rattle.wit_tracks.specs.TrackCause.{IsTrackCause};
 ghost use Rattle.wit_unite.specs.TurnCause.{AreAnswers, Exportizes, IsExportizeCause, IsImportizeCause, RefusesExportize, imports_at};
 ghost use Rattle.wit_unite.specs.Turned.{exportized, importized, turned};
 
 use crate::groups::{add_packages, place_groups};
 use crate::kept::{Kept, append_kept};
 use std::alloc::{AllocError, Global};
-use std::fmt;
 use std::marker::Model;
+use std::{fmt, mem};
 use wit_graph::{Features, Graph, Package, ResolveErrorKind, ResolveResult};
 use wit_items::{
     Interface, InterfaceId, Items, PackageId, PackageName, SourceMap, Table, TrackRule, TryClone,
@@ -30,6 +32,7 @@ use wit_items::{
 };
 use wit_selecting::select_world;
 use wit_unite::{exportize, exportize_answered, importize};
+use wit_upgrading::merged_by_track;
 use wit_valid::is_valid;
 use wit_values::try_clone_four;
 
@@ -364,6 +367,26 @@ impl Resolve {
         ensures refuses { (kind : ResolveErrorKind) → IsExportizeCause self.old.graph world answers.now (option_map string_bytes out) kind → OnOk result ⊥ }
     {
         exportize_answered(alloc, &mut self.graph, world, out, answers)
+    }
+
+    /// Merges the imports of a world by tracks, with the rule that is in force: see
+    /// `wit_upgrading::merged_by_track`. The world is of this graph. After a refusal nothing has changed.
+    pub fn merge_world_imports_based_on_semver(
+        &mut self,
+        alloc: Global,
+        world: WorldId,
+    ) -> ResolveResult<()>
+        requires { world < length self.old.graph.worlds }
+        ensures ok { OnOk result (self.new ≡ record self.old { graph = rewritten self.old.track_rule self.old.graph world }) }
+        ensures err { OnErr result (self.new ≡ self.old) }
+        ensures cause { IfErr result (λ kind. (kind ≡ OutOfMemory) ⊎ IsTrackCause self.old.track_rule self.old.graph world kind) }
+        ensures refuses { (kind : ResolveErrorKind) → IsTrackCause self.old.track_rule self.old.graph world kind → OnOk result ⊥ }
+    {
+        let merged = merged_by_track(alloc, &self.graph, world, self.track_rule)?;
+        let kept = Kept::of(alloc, &merged)?;
+        drop(mem::replace(&mut self.graph, merged));
+        drop(mem::replace(&mut self.kept, kept));
+        Ok(())
     }
 }
 

@@ -8,7 +8,7 @@ ghost use Rattle.wit_resolve_graph.specs.declared.command.Command.TheVariants.{A
 
 use crate::command::{Command, Reply};
 use crate::resolve::Resolve;
-use crate::turning::{exportize, importize};
+use crate::turning::{exportize, importize, merge_world_imports};
 use std::alloc::Global;
 use wit_graph::ResolveResult;
 use wit_items::Text;
@@ -16,8 +16,7 @@ use wit_items::Text;
 /// Runs commands in order, and answers a reply to each. Room for all replies is made first; where there
 /// is none, nothing has changed.
 ///
-/// So far a command turns features on or a world, sets the rule of tracks, or is `PushGroups` with packages that
-/// `Resolve::push_groups` takes.
+/// So far a command is no `Merge`, and a `PushGroups` has packages that `Resolve::push_groups` takes.
 pub fn run(
     alloc: Global,
     resolve: &mut Resolve,
@@ -66,7 +65,10 @@ fn step(alloc: Global, resolve: &mut Resolve, command: Command) -> Reply
             out,
             keys,
         } => exportize(alloc, resolve, package, world, out, keys),
-        _ => unreachable!(),
+        Command::Semver { package, world } => {
+            merge_world_imports(alloc, resolve, package, world)
+        }
+        Command::Merge(_) => unreachable!(),
     }
 }
 

@@ -1,14 +1,13 @@
-//! The commands that turn a world.
-ghost use Rattle.std.specs.Prelude.{◌≡◌, ◌⊎◌, ◌<◌, IfErr, IfNone, IfOk, IfSome, OnErr, OnOk, length, ℕ, string_bytes};
+//! The commands that change a world.
+ghost use Rattle.std.specs.Prelude.{◌≡◌, ◌⊎◌, ◌<◌, IfErr, IfNone, IfOk, IfSome, OnErr, OnOk, length, string_bytes};
 ghost use Rattle.std.specs.List.{list_any};
 ghost use Rattle.std.specs.Map.{lookup};
 ghost use Rattle.std.specs.Option.{option_map};
 ghost use Rattle.std.specs.Str.{bytes_eq};
-ghost use Rattle.wit_graph.specs.Valid.{IsValid};
 ghost use Rattle.wit_graph.specs.declared.error_kind.ResolveErrorKind.{ResolveErrorKind};
 ghost use Rattle.wit_graph.specs.declared.error_kind.ResolveErrorKind.TheVariants.{OutOfMemory};
 ghost use Rattle.wit_resolve_graph.specs.Named.{HasWorld};
-ghost use Rattle.wit_resolve_graph.specs.Step.{Step, answers_at, is_listed_key, listed_answers};
+ghost use Rattle.wit_resolve_graph.specs.Step.{IsAbsent, Step, answers_at, is_listed_key, listed_answers};
 ghost use Rattle.wit_resolve_graph.specs.declared.command.Command.TheVariants as command;
 ghost use Rattle.wit_unite.specs.TurnCause.{IsExportizeCause};
 ghost use Rattle.wit_unite.specs.Turned.{exportized, turned};
@@ -30,13 +29,14 @@ fn world_in(home: &Package, world: &str) -> Option<WorldId>
 }
 
 /// The world of a name in the package of a name.
-fn world_named(graph: &Graph, package: &PackageName, world: &str) -> Option<WorldId>
-    requires { IsValid graph.now }
-    ensures some { IfSome result (HasWorld graph.now «package».now world.now) }
-    ensures none { IfNone result ((w : ℕ) → HasWorld graph.now «package».now world.now w → ⊥) }
+fn world_named(resolve: &Resolve, package: &PackageName, world: &Text) -> Option<WorldId>
+    ensures some { IfSome result (HasWorld resolve.now.graph «package».now world.now) }
+    ensures within { IfSome result (λ w. w < length resolve.now.graph.worlds) }
+    ensures none { IfNone result (IsAbsent resolve.now «package».now world.now) }
 {
+    let graph = resolve.graph();
     match graph.package_names.get(package) {
-        Some(id) => world_in(graph.packages.at(id.index()), world),
+        Some(id) => world_in(graph.packages.at(id.index()), world.as_str()),
         None => None,
     }
 }
@@ -61,7 +61,7 @@ pub(crate) fn importize(
 ) -> Reply
     ensures { Step resolve.old (command.Importize «package» world out) result resolve.new }
 {
-    let found = world_named(resolve.graph(), &package, world.as_str());
+    let found = world_named(resolve, &package, &world);
     match found {
         Some(id) => match resolve.importize(alloc, id, out_name(out)) {
             Ok(()) => Reply::Done,
@@ -167,9 +167,28 @@ pub(crate) fn exportize(
 ) -> Reply
     ensures { Step resolve.old (command.Exportize «package» world out keys) result resolve.new }
 {
-    let found = world_named(resolve.graph(), &package, world.as_str());
+    let found = world_named(resolve, &package, &world);
     match found {
         Some(id) => match exportize_listed(alloc, resolve, id, out, keys) {
+            Ok(()) => Reply::Done,
+            Err(refusal) => Reply::Refused(refusal),
+        },
+        None => Reply::NoWorld,
+    }
+}
+
+/// The reply to `Semver`.
+pub(crate) fn merge_world_imports(
+    alloc: Global,
+    resolve: &mut Resolve,
+    package: PackageName,
+    world: Text,
+) -> Reply
+    ensures { Step resolve.old (command.Semver «package» world) result resolve.new }
+{
+    let found = world_named(resolve, &package, &world);
+    match found {
+        Some(id) => match resolve.merge_world_imports_based_on_semver(alloc, id) {
             Ok(()) => Reply::Done,
             Err(refusal) => Reply::Refused(refusal),
         },

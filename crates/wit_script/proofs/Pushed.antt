@@ -104,7 +104,7 @@ taken-asked r request.Other other taken = cc
 taken-asked r request.Merge other taken = cc
 taken-asked r (request.Importize owner world out) other taken = refl
 taken-asked r (request.Exportize owner world out keys) other taken = refl
-taken-asked r (request.Semver owner world) other taken = cc
+taken-asked r (request.Semver owner world) other taken = refl
 taken-asked r (request.Print owner world) other taken = refl
 taken-asked r (request.Select owner text) other taken = refl
 

@@ -20,7 +20,7 @@ is_taken request.Other = false
 is_taken request.Merge = false
 is_taken (request.Importize owner world out) = true
 is_taken (request.Exportize owner world out keys) = true
-is_taken (request.Semver owner world) = false
+is_taken (request.Semver owner world) = true
 is_taken (request.Print owner world) = true
 is_taken (request.Select owner text) = true
 

@@ -133,6 +133,9 @@ fn reply_to(alloc: Global, stage: &mut Stage, request: Request) -> Result<String
             };
             stage.work(alloc, command, Telling::Aloud)
         }
+        Request::Semver { package, world } => {
+            stage.work(alloc, Command::Semver { package, world }, Telling::Aloud)
+        }
         Request::Print { package, world } => print(alloc, stage.active(), &package, &world),
         Request::Select { package, text } => select(alloc, stage.active(), &package, &text),
         _ => unreachable!(),

@@ -23,7 +23,7 @@ pub fn is_taken(request: &Request) -> bool
     ensures { result ≡ is_taken request.now }
 {
     match request {
-        Request::Other | Request::Merge | Request::Semver { .. } => false,
+        Request::Other | Request::Merge => false,
         _ => true,
     }
 }

@@ -64,7 +64,8 @@ pub record ExamplesOfScripts : Type 0 where
   pub first_package : Asks (first_package ++ codes "push\nprint foo:bar w\nselect foo:bar")
       (asks.Push first_group [] ∷ asks.Request (request.Print foo_bar (codes "w")) ∷ asks.Request (request.Select foo_bar None) ∷ [])
   pub features : Asks (codes "feature f\nall-features\n") (asks.Request (request.Feature (codes "f")) ∷ asks.Request request.AllFeatures ∷ [])
-  pub tracks : Asks (codes "tracks with-prereleases\ntracks published\n") (asks.Request (request.Tracks WithPrereleases) ∷ asks.Request (request.Tracks Published) ∷ [])
+  pub tracks : Asks (codes "tracks with-prereleases\ntracks published\nsemver foo:bar w\n")
+      (asks.Request (request.Tracks WithPrereleases) ∷ asks.Request (request.Tracks Published) ∷ asks.Request (request.Semver foo_bar (codes "w")) ∷ [])
   -- `-` is no name for `exportize` alone, and no key asks for no filter
   pub turns : Asks (codes "exportize foo:bar w - k\nexportize foo:bar w x\nimportize foo:bar w -\nimportize foo:bar w")
       (asks.Request (request.Exportize foo_bar (codes "w") None (Some (codes "k" ∷ [])))
@@ -89,6 +90,5 @@ pub record ExamplesOfScripts : Type 0 where
   pub foreign_twice : IsNotUnderstood (codes "package a:b\nworld w\nimport c:d/e\nimport c:d/e\n") 4
   -- one thing of another package as an interface and as a world
   pub foreign_twofold : IsNotUnderstood (codes "package a:b\nworld w\nimport c:d/e\ninclude c:d/e\n") 4
-  -- not accepted so far: another graph, imports merged by tracks
+  -- not accepted so far: another graph
   pub other_line : IsNotUnderstood (codes "feature f\nother\nmerge\n") 2
-  pub semver_line : IsNotUnderstood (codes "tracks published\nsemver a:b w\n") 2

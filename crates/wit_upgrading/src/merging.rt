@@ -1,5 +1,5 @@
 //! Imports of a world merged by tracks.
-ghost use Rattle.std.specs.Prelude.{◌≡◌, ◌⊎◌, ◌<◌, IfErr, IfOk, OnErr, OnOk, length};
+ghost use Rattle.std.specs.Prelude.{◌≡◌, ◌⊎◌, ◌<◌, IfErr, IfOk, OnOk, length};
 ghost use Rattle.wit_graph.specs.Valid.{IsValid};
 ghost use Rattle.wit_graph.specs.declared.error_kind.ResolveErrorKind.{ResolveErrorKind};
 ghost use Rattle.wit_graph.specs.declared.error_kind.ResolveErrorKind.TheVariants.{OutOfMemory};
@@ -11,7 +11,6 @@ use crate::relisting::relisted;
 use crate::staying::types_of_entries;
 use crate::upgrading::Upgrading;
 use std::alloc::Global;
-use std::mem;
 use wit_graph::{Graph, ResolveResult};
 use wit_items::{TrackRule, WorldId};
 use wit_settling::settle;
@@ -40,32 +39,30 @@ fn relisted_world(
     Ok(relisted(alloc, graph, world, imports, &targets)?)
 }
 
-/// Merges the imports of a world by tracks: of the interfaces that it imports under their own keys the
-/// greatest version on each track is left, what its other entries use of the others they use of the
-/// greatest, and all worlds are elaborated.
+/// A copy of a graph in which the imports of a world are merged by tracks: of the interfaces that it imports
+/// under their own keys the greatest version on each track is left, what its other entries use of the others
+/// they use of the greatest, and all worlds are elaborated. The world is of this graph.
 ///
 /// Refused where the greatest lacks a type that is used, or disagrees in a function (25), where a type
 /// would refer to itself (23), an interface use itself (22) or a package depend on itself (6), where the
-/// exports of some world are in conflict (4), and for memory (28); the graph is as before then.
+/// exports of some world are in conflict (4), and for memory (28).
 ///
 /// Source: `merge_world_imports_based_on_semver` of wit-parser 0.263.0.
-pub fn merge_by_track(
+pub fn merged_by_track(
     alloc: Global,
-    graph: &mut Graph,
+    graph: &Graph,
     world: WorldId,
     rule: TrackRule,
-) -> ResolveResult<()>
-    requires valid { IsValid graph.old }
-    requires world { world < length graph.old.worlds }
-    ensures ok { OnOk result (graph.new ≡ rewritten rule graph.old world) }
-    ensures valid { IsValid graph.new }
-    ensures err { OnErr result (graph.new ≡ graph.old) }
-    ensures cause { IfErr result (λ e. (e ≡ OutOfMemory) ⊎ IsTrackCause rule graph.old world e) }
-    ensures refuses { (e : ResolveErrorKind) → IsTrackCause rule graph.old world e → OnOk result ⊥ }
+) -> ResolveResult<Graph>
+    requires valid { IsValid graph.now }
+    requires world { world < length graph.now.worlds }
+    ensures ok { IfOk result (λ merged. merged ≡ rewritten rule graph.now world) }
+    ensures valid { IfOk result IsValid }
+    ensures cause { IfErr result (λ e. (e ≡ OutOfMemory) ⊎ IsTrackCause rule graph.now world e) }
+    ensures refuses { (e : ResolveErrorKind) → IsTrackCause rule graph.now world e → OnOk result ⊥ }
 {
     rewritten_stay_valid();
     let mut merged = relisted_world(alloc, graph, world, rule)?;
     settle(alloc, &mut merged)?;
-    drop(mem::replace(graph, merged));
-    Ok(())
+    Ok(merged)
 }

@@ -1,4 +1,4 @@
-use Rattle.std.proofs.Common.{ℕ, ◌≤◌, ◌+◌, ◌^◌, ◌≡◌, Some, inl, inr, ap, refl, length, lit≤, arith}
+use Rattle.std.proofs.Common.{ℕ, ◌≡◌, Some, inl, inr, ap, refl, length, lit≤, arith}
 use Rattle.std.specs.Fmt.{digits}
 use Rattle.wit_resolve_graph.specs.Sources.{PassesTheEnd}
 use Rattle.wit_resolve_graph.specs.SourcesExamples.{once, source}

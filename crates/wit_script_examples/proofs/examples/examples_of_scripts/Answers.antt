@@ -22,5 +22,4 @@ returns c = record {
   foreign_twice = inl (record { before = 3; reading = before 3 (codes "package a:b\nworld w\nimport c:d/e\nimport c:d/e\n"); read = refl; ready = tt; there = lit< tt; bad = tt; counted = refl });
   foreign_twofold = inl (record { before = 3; reading = before 3 (codes "package a:b\nworld w\nimport c:d/e\ninclude c:d/e\n"); read = refl; ready = tt; there = lit< tt; bad = tt; counted = refl });
   other_line = inl (record { before = 1; reading = after (codes "feature f"); read = refl; ready = (refl, tt); there = lit< tt; bad = tt; counted = refl });
-  semver_line = inl (record { before = 1; reading = after (codes "tracks published"); read = refl; ready = (refl, tt); there = lit< tt; bad = tt; counted = refl });
 }

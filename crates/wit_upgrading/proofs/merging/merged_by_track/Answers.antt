@@ -10,7 +10,7 @@ use Rattle.wit_settling.specs.Asked.{CanSettle}
 use Rattle.wit_settling.specs.Reasons.{SettleCause}
 use Rattle.wit_upgrading.specs.Replacing.{IsRelisted, upgrade}
 use Rattle.wit_upgrading.proofs.Settles.{accepted_from, can_settle, cause_from, rewritten_from}
-use Rattle.wit_upgrading.proofs.merging.merge_by_track.Goals as goal
+use Rattle.wit_upgrading.proofs.merging.merged_by_track.Goals as goal
 
 module _ (rule : TrackRule) (g : Graph) (w : ℕ) (made : Graph) (r : IsRelisted rule g w made) where
   refused : (e : ResolveErrorKind) → (e ≡ OutOfMemory) ⊎ SettleCause made e → (e ≡ OutOfMemory) ⊎ IsTrackCause rule g w e
@@ -38,7 +38,7 @@ returns-clause-valid c =
     let g = c.args.graph.now in
     let r = c.in_ok-merged.ensures.ok in
     let all = accepted c.args.rule g c.args.world c.in_ok-merged.merged r c.in_ok-settle.ensures.refuses in
-    subst IsValid (sym (c.replace.ensures.after ∙ c.in_ok-settle.ensures.ok ∙ rewritten_from c.args.rule g c.args.world r.world r.there c.in_ok-merged.merged r.is))
+    subst IsValid (sym (c.in_ok-settle.ensures.ok ∙ rewritten_from c.args.rule g c.args.world r.world r.there c.in_ok-merged.merged r.is))
     (c.rewritten_stay_valid.ensures c.args.rule g c.args.world r.world c.requires.valid r.there all)
 
 pub returns-clause-refuses : goal.returns-clause-refuses
