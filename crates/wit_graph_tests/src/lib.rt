@@ -16,6 +16,8 @@ mod errors;
 #[cfg(test)]
 mod fixtures;
 #[cfg(test)]
+mod matches;
+#[cfg(test)]
 mod names;
 #[cfg(test)]
 mod places;

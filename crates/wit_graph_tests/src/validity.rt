@@ -17,7 +17,7 @@ use wit_valid::is_valid;
 
 /// What is changed of a valid graph.
 #[derive(Clone, Copy, Debug, PartialEq, Eq)]
-enum Breach {
+pub(crate) enum Breach {
     Nothing,
     NameOfOther,
     PackageNotNamed,
@@ -109,7 +109,7 @@ fn each_clause_of_validity_is_asked(rt: HostRuntime) {
 
 /// Package `foo:bar` with interfaces `a`, `b`, which uses `a`, and one without a name, and world `w`, which
 /// imports them; and package `foo:baz` with interface `d`.
-fn graph(rt: &impl Abort, alloc: Global, breach: Breach) -> Graph {
+pub(crate) fn graph(rt: &impl Abort, alloc: Global, breach: Breach) -> Graph {
     let types = types(rt, alloc, breach);
     let interfaces = interfaces(rt, alloc, breach);
     let worlds = one(rt, alloc, world_w(rt, alloc, breach));

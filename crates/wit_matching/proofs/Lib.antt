@@ -1,0 +1,4 @@
+pub mod Mapped
+pub mod Matched
+pub mod Noted
+pub mod TypesFound
