@@ -81,6 +81,10 @@ fn things_are_matched_by_names_and_places(rt: HostRuntime) {
         (Breach::PackageNotKebab, " - 1; -; - - - 3; - - - - - 5"),
     ];
     for &(breach, text) in &told {
-        assert_eq!(rt; matches_of(&rt, rt.alloc(), breach).as_str(), text, "{breach:?}");
+        assert_eq!(rt;
+            matches_of(&rt, rt.alloc(), breach).as_str(),
+            text,
+            "{breach:?}"
+        );
     }
 }
