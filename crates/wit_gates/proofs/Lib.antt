@@ -1,7 +1,6 @@
 pub mod ForeignNotes
 pub mod Flags
 pub mod Ready
-pub mod Steps
 pub mod AskedNotes
 pub mod VersionsMet
 pub mod ReferencesStay

@@ -1,23 +1,19 @@
 -- One step of the exports.
-use Rattle.std.proofs.Common.{◌≡◌, ℕ, ◌+◌, Bool, true, false, not, inl, inr, List, [], ◌∷◌, ◌++◌, map, filter, take, drop, length, Some, slice_get, refl, sym, ap, ◌∙◌, subst, Contains}
+use Rattle.std.proofs.Common.{◌≡◌, ℕ, Bool, true, false, not, inl, inr, List, [], ◌∷◌, ◌++◌, map, filter, drop, length, refl, ap, ◌∙◌, subst, Contains}
 use Rattle.std.specs.List.{flat_map}
 use Rattle.std.specs.Map.{keys_of}
 use Rattle.std.proofs.lemmas.Bool.{false≢true}
 use Rattle.std.proofs.lemmas.List.{append-nil, drop_at}
-use Rattle.std.proofs.lemmas.List.Concat.{flat_map-append}
-use Rattle.std.proofs.lemmas.List.Elements.{Contains-append_cases, filter-append}
-use Rattle.wit_values.specs.Lists.{take-next_at}
+use Rattle.std.proofs.lemmas.List.Elements.{Contains-append_cases}
 use Rattle.wit_items.specs.declared.world.WorldItem.{WorldItem}
 use Rattle.wit_items.specs.declared.world.WorldItem.TheVariants as item
 use Rattle.wit_items.specs.declared.world.WorldKey.TheVariants.{Interface}
 use Rattle.wit_relations.specs.FreshFacts.{fresh_in}
 use Rattle.wit_relations.specs.Walks.{Listed, fresh}
-use Rattle.wit_graph.specs.declared.entries.Lists.{Lists}
 use Rattle.wit_graph.specs.Elaborated.{Carried, dependency_of, export_carries, needs}
 use Rattle.wit_graph.specs.Elaborating.{IsWalk, IsExporting, walked_exports, walked_imports}
-use Rattle.wit_graph.specs.Entries.{Entry, Instance, item_interface, is_instance, is_interface, fresh_entries}
-use Rattle.wit_graph.proofs.ExportSteps.{flat_map-next}
-use Rattle.wit_graph.proofs.Filters.{Contains-filtered, filter-pass, filter-fail}
+use Rattle.wit_graph.specs.Entries.{Entry, Instance, item_interface, is_instance, fresh_entries}
+use Rattle.wit_graph.proofs.Filters.{Contains-filtered}
 use Rattle.wit_graph.proofs.FreshEntries.{fresh_entries-next, fresh_entries-filter, dependency_added, key_stays}
 
 -- those of a walk that pass a test, as entries
@@ -76,46 +72,13 @@ instance_is (item.Interface j stability docs span external_id) i gives = refl
 instance_is (item.Function function) i gives = cc
 instance_is (item.Type_ id span) i gives = cc
 
-pub no_instance_is : (x : WorldItem) → [] ≡ item_interface x → is_instance x ≡ false
-no_instance_is (item.Interface j stability docs span external_id) gives = cc
-no_instance_is (item.Function function) gives = refl
-no_instance_is (item.Type_ id span) gives = refl
-
-pub filter-next : (p : Entry → Bool) (es : List Entry) (at : ℕ) (e : Entry) → slice_get es at ≡ Some e → p e ≡ true → filter p (take (at + 1) es) ≡ filter p (take at es) ++ e ∷ []
-filter-next p es at e is pass = rw (take-next_at es at e is, filter-append p (take at es) (e ∷ []), filter-pass p e [] pass) refl
-
-pub filter-skip : (p : Entry → Bool) (es : List Entry) (at : ℕ) (e : Entry) → slice_get es at ≡ Some e → p e ≡ false → filter p (take (at + 1) es) ≡ filter p (take at es)
-filter-skip p es at e is fails = rw (take-next_at es at e is, filter-append p (take at es) (e ∷ []), filter-fail p e [] fails, append-nil) refl
-
-module _ (uses : List (List ℕ)) (exported : ℕ → Bool) (es : List Entry) (at : ℕ) (e : Entry) (is : slice_get es at ≡ Some e) where
-  needed_is : (i : ℕ) → i ∷ [] ≡ item_interface e.1 → flat_map (λ j. needs uses (Instance j)) (item_interface e.1) ≡ needs uses (Instance i)
+-- what an entry adds
+module _ (uses : List (List ℕ)) (exported : ℕ → Bool) (e : Entry) where
+  needed_is : (i : ℕ) → i ∷ [] ≡ item_interface e.1 → needs uses (Instance i) ≡ flat_map (λ j. needs uses (Instance j)) (item_interface e.1)
   needed_is i gives = rw (← gives, append-nil (needs uses (Instance i))) refl
 
-  pub exports_more : (i : ℕ) (old now new : List Entry) → i ∷ [] ≡ item_interface e.1 → now ≡ old ++ fresh_entries (keys_of old) (flat_map (walked_exports uses exported) (filter is_interface (take at es))) →
-      new ≡ now ++ fresh_entries (keys_of now) (map (dependency_of (export_carries e.1)) (filter exported (needs uses (Instance i))) ++ e ∷ []) →
-      new ≡ old ++ fresh_entries (keys_of old) (flat_map (walked_exports uses exported) (filter is_interface (take (at + 1) es)))
-  exports_more i old now new gives first then =
-      rw (filter-next is_interface es at e is (instance_is e.1 i gives), flat_map-append (walked_exports uses exported) (filter is_interface (take at es)) (e ∷ []), append-nil (walked_exports uses exported e))
-      (fresh_entries-next old now new (flat_map (walked_exports uses exported) (filter is_interface (take at es))) (walked_exports uses exported e) first
-      (then ∙ ap (λ (xs : List ℕ). now ++ fresh_entries (keys_of now) (map (dependency_of (export_carries e.1)) (filter exported xs) ++ e ∷ [])) (sym (needed_is i gives))))
+  pub exports_of : (i : ℕ) → i ∷ [] ≡ item_interface e.1 → map (dependency_of (export_carries e.1)) (filter exported (needs uses (Instance i))) ++ e ∷ [] ≡ walked_exports uses exported e
+  exports_of i gives = ap (λ (xs : List ℕ). map (dependency_of (export_carries e.1)) (filter exported xs) ++ e ∷ []) (needed_is i gives)
 
-  pub imports_more : (i : ℕ) (old now new : List Entry) → i ∷ [] ≡ item_interface e.1 → now ≡ old ++ fresh_entries (keys_of old) (flat_map (walked_imports uses exported) (take at es)) →
-      new ≡ now ++ fresh_entries (keys_of now) (map (dependency_of (export_carries e.1)) (filter (λ j. not (exported j)) (needs uses (Instance i)))) →
-      new ≡ old ++ fresh_entries (keys_of old) (flat_map (walked_imports uses exported) (take (at + 1) es))
-  imports_more i old now new gives first then =
-      rw (flat_map-next (walked_imports uses exported) es at e is)
-      (fresh_entries-next old now new (flat_map (walked_imports uses exported) (take at es)) (walked_imports uses exported e) first
-      (then ∙ ap (λ (xs : List ℕ). now ++ fresh_entries (keys_of now) (map (dependency_of (export_carries e.1)) (filter (λ j. not (exported j)) xs))) (sym (needed_is i gives))))
-
-  pub exports_skip : [] ≡ item_interface e.1 → flat_map (walked_exports uses exported) (filter is_interface (take (at + 1) es)) ≡ flat_map (walked_exports uses exported) (filter is_interface (take at es))
-  exports_skip gives = ap (λ (xs : List Entry). flat_map (walked_exports uses exported) xs) (filter-skip is_interface es at e is (no_instance_is e.1 gives))
-
-  pub imports_skip : [] ≡ item_interface e.1 → flat_map (walked_imports uses exported) (take (at + 1) es) ≡ flat_map (walked_imports uses exported) (take at es)
-  imports_skip gives =
-      flat_map-next (walked_imports uses exported) es at e is
-      ∙ ap (λ (xs : List ℕ). flat_map (walked_imports uses exported) (take at es) ++ map (dependency_of (export_carries e.1)) (filter (λ j. not (exported j)) (flat_map (λ j. needs uses (Instance j)) xs))) (sym gives)
-      ∙ append-nil (flat_map (walked_imports uses exported) (take at es))
-
-pub exporting_same : (uses : List (List ℕ)) (exported : ℕ → Bool) (walked walked' : Listed) (lists lists' : Lists) → walked' ≡ walked → lists' ≡ lists → IsExporting uses exported walked lists.imports lists.exports → IsExporting uses exported walked' lists'.imports lists'.exports
-exporting_same uses exported walked walked' lists lists' walked_is lists_are is =
-    subst (λ w. IsExporting uses exported w lists'.imports lists'.exports) (sym walked_is) (subst (λ (l : Lists). IsExporting uses exported walked l.imports l.exports) (sym lists_are) is)
+  pub imports_of : (i : ℕ) → i ∷ [] ≡ item_interface e.1 → map (dependency_of (export_carries e.1)) (filter (λ j. not (exported j)) (needs uses (Instance i))) ≡ walked_imports uses exported e
+  imports_of i gives = ap (λ (xs : List ℕ). map (dependency_of (export_carries e.1)) (filter (λ j. not (exported j)) xs)) (needed_is i gives)

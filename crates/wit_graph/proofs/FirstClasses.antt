@@ -1,20 +1,19 @@
 -- The entries of the first classes, as a loop over the classes comes to them.
-use Rattle.std.proofs.Common.{◌≡◌, ℕ, zero, suc, ◌+◌, ◌<◌, ◌≤◌, Bool, true, false, List, [], ◌∷◌, ◌++◌, take, get_or, Some, slice_get, nat_eq, refl, sym, ap, ◌∙◌, subst, arith, inl, inr, Contains}
+use Rattle.std.proofs.Common.{◌≡◌, ℕ, zero, suc, ◌+◌, ◌<◌, ◌≤◌, Bool, true, false, List, [], ◌∷◌, ◌++◌, take, get_or, nat_eq, refl, sym, ap, ◌∙◌, subst, arith, inl, inr, Contains}
 use Rattle.std.specs.Cmp.{nat_eq_equiv}
 use Rattle.std.specs.List.{flat_map, IsDistinct, AllByRecursion}
 use Rattle.std.specs.Map.{keys_of}
-use Rattle.std.proofs.lemmas.Bool.{ne_eqb, false≢true}
+use Rattle.std.proofs.lemmas.Bool.{false≢true}
 use Rattle.std.proofs.lemmas.List.{append-nil, take_more, take_all}
 use Rattle.std.proofs.lemmas.List.Concat.{flat_map-append}
-use Rattle.std.proofs.lemmas.List.Elements.{filter-append, Contains-append_cases}
-use Rattle.wit_values.specs.Lists.{take-next_at}
+use Rattle.std.proofs.lemmas.List.Elements.{Contains-append_cases}
 use Rattle.wit_items.specs.declared.types.TypeDef.{TypeDef}
 use Rattle.wit_items.specs.declared.world.WorldKey.{WorldKey}
 use Rattle.wit_items.specs.contracts.world.WorldKeyPartialEq.TheImpl.{eq-value}
 use Rattle.wit_relations.specs.MemberFacts.{Contains-nil, Contains-cons_cases, Contains-here, Contains-there}
 use Rattle.wit_graph.specs.Entries.{Entry, same_key, role_of, class_of, of_class, by_class, fresh_entries}
 use Rattle.wit_graph.proofs.Classes.{by_class-new}
-use Rattle.wit_graph.proofs.Filters.{filter-pass, filter-fail}
+use Rattle.wit_graph.proofs.Filters.{filter-pass}
 use Rattle.wit_graph.proofs.FreshEntries.{AllNew, same_key-refl, absent_from, fresh_entries-next, fresh_entries-all_new}
 use Rattle.wit_graph.proofs.Keys.{key_eq-same}
 use Rattle.wit_graph.proofs.Roles.{each_member}
@@ -42,32 +41,11 @@ module _ (types : List TypeDef) where
   pub first_classes-all : (c : ℕ) (entries : List Entry) → 5 ≤ c → first_classes types c entries ≡ by_class types entries
   first_classes-all c entries all = ap (λ cs. flat_map (λ d. of_class types d entries) cs) (take_all c classes all)
 
-  -- one more entry, of the class or not
-  pub of_class-next : (c : ℕ) (es : List Entry) (at : ℕ) (e : Entry) → slice_get es at ≡ Some e → class_of (role_of types e.1) ≡ c → of_class types c (take (at + 1) es) ≡ of_class types c (take at es) ++ e ∷ []
-  of_class-next c es at e is same =
-      rw (take-next_at es at e is, filter-append (λ (f : Entry). nat_eq (class_of (role_of types f.1)) c) (take at es) (e ∷ []), filter-pass (λ (f : Entry). nat_eq (class_of (role_of types f.1)) c) e [] (subst (λ d. nat_eq (class_of (role_of types e.1)) d ≡ true) same (nat_eq_equiv.refl (class_of (role_of types e.1))))) refl
-
-  pub of_class-skip : (c : ℕ) (es : List Entry) (at : ℕ) (e : Entry) → slice_get es at ≡ Some e → nat_eq (class_of (role_of types e.1)) c ≡ false → of_class types c (take (at + 1) es) ≡ of_class types c (take at es)
-  of_class-skip c es at e is other =
-      rw (take-next_at es at e is, filter-append (λ (f : Entry). nat_eq (class_of (role_of types f.1)) c) (take at es) (e ∷ []), filter-fail (λ (f : Entry). nat_eq (class_of (role_of types f.1)) c) e [] other, append-nil) refl
-
-  -- one step over the entries of a class: a copy more, or none
-  pub class_copied : (c : ℕ) (es : List Entry) (at : ℕ) (e : Entry) (old now new : List Entry) → slice_get es at ≡ Some e → class_of (role_of types e.1) ≡ c →
-      now ≡ old ++ fresh_entries (keys_of old) (of_class types c (take at es)) → new ≡ now ++ fresh_entries (keys_of now) (e ∷ []) →
-      new ≡ old ++ fresh_entries (keys_of old) (of_class types c (take (at + 1) es))
-  class_copied c es at e old now new is same first then =
-      rw (of_class-next c es at e is same) (fresh_entries-next old now new (of_class types c (take at es)) (e ∷ []) first then)
-
-  pub class_passed : (c : ℕ) (es : List Entry) (at : ℕ) (e : Entry) → slice_get es at ≡ Some e → (class_of (role_of types e.1) ≡ c → ⊥) → of_class types c (take (at + 1) es) ≡ of_class types c (take at es)
-  class_passed c es at e is other = of_class-skip c es at e is (ne_eqb (class_of (role_of types e.1)) c other)
-
-  -- the same of walks
-  pub class_walked : (f : Entry → List Entry) (c : ℕ) (es : List Entry) (at : ℕ) (e : Entry) (old now new : List Entry) → slice_get es at ≡ Some e → class_of (role_of types e.1) ≡ c →
-      now ≡ old ++ fresh_entries (keys_of old) (flat_map f (of_class types c (take at es))) → new ≡ now ++ fresh_entries (keys_of now) (f e) →
-      new ≡ old ++ fresh_entries (keys_of old) (flat_map f (of_class types c (take (at + 1) es)))
-  class_walked f c es at e old now new is same first then =
-      rw (of_class-next c es at e is same, flat_map-append f (of_class types c (take at es)) (e ∷ []), append-nil (f e))
-      (fresh_entries-next old now new (flat_map f (of_class types c (take at es))) (f e) first then)
+  -- entries of which some are left, and the first of these is of the class
+  pub class_first : (c : ℕ) {left others : List Entry} {e : Entry} → left ≡ e ∷ others → class_of (role_of types e.1) ≡ c → of_class types c left ≡ e ∷ of_class types c others
+  class_first c {left} {others} {e} first same =
+      ap (of_class types c) first
+      ∙ filter-pass (λ (f : Entry). nat_eq (class_of (role_of types f.1)) c) e others (subst (λ d. nat_eq (class_of (role_of types e.1)) d ≡ true) same (nat_eq_equiv.refl (class_of (role_of types e.1))))
 
   -- one class more
   pub classes_walked : (f : Entry → List Entry) (c : ℕ) (es now new : List Entry) → c < 5 → now ≡ fresh_entries [] (flat_map f (first_classes types c es)) →

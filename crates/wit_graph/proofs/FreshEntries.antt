@@ -216,6 +216,11 @@ pub fresh_entries-next : (old now new xs ys : List Entry) → now ≡ old ++ fre
 fresh_entries-next old now new xs ys first then =
     then ∙ rw (first, keys_of-append old (fresh_entries (keys_of old) xs), append_assoc old (fresh_entries (keys_of old) xs) (fresh_entries (keys_of old ++ keys_of (fresh_entries (keys_of old) xs)) ys), fresh_entries-append (keys_of old) xs ys) refl
 
+-- the same where a part of a list has been added, and the rest is left
+pub fresh_entries-left : (xs part rest now new whole : List Entry) → xs ≡ part ++ rest → now ++ fresh_entries (keys_of now) xs ≡ whole → new ≡ now ++ fresh_entries (keys_of now) part → new ++ fresh_entries (keys_of new) rest ≡ whole
+fresh_entries-left xs part rest now new whole parts so_far new_is =
+    rw (new_is, keys_of-append now (fresh_entries (keys_of now) part), append_assoc now (fresh_entries (keys_of now) part) (fresh_entries (keys_of now ++ keys_of (fresh_entries (keys_of now) part)) rest), ← fresh_entries-append (keys_of now) part rest, ← parts) so_far
+
 -- entries whose keys are all new stay
 pub fresh_entries-all_new : (seen : List WorldKey) (es : List Entry) → AllNew seen es → fresh_entries seen es ≡ es
 fresh_entries-all_new seen [] new = refl

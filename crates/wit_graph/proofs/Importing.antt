@@ -1,5 +1,5 @@
 -- One step of the imports.
-use Rattle.std.proofs.Common.{◌≡◌, ℕ, ◌+◌, ◌<◌, ◌≤◌, arith, length-append, List, [], ◌∷◌, ◌++◌, inl, inr, map, take, drop, get_or, length, refl, sym, ap, ◌∙◌, subst, append_assoc, Contains}
+use Rattle.std.proofs.Common.{◌≡◌, ℕ, ◌+◌, ◌<◌, ◌≤◌, arith, length-append, List, [], ◌∷◌, ◌++◌, inl, inr, map, take, drop, get_or, length, refl, ap, ◌∙◌, subst, append_assoc, Contains}
 use Rattle.std.specs.List.{flat_map}
 use Rattle.std.specs.Map.{keys_of}
 use Rattle.std.proofs.lemmas.List.{append-nil, drop_at, take_more}
@@ -65,7 +65,3 @@ module _ (types : List TypeDef) (uses : List (List ℕ)) where
           let now : List Entry = old ++ fresh_entries (keys_of old) (map (dependency_of s) walked) in
           subst (λ es. Contains (keys_of es) (Interface i)) (fresh_entries-next old now (now ++ fresh_entries (keys_of now) ((f.0, settled_item f.1) ∷ [])) (map (dependency_of s) walked) ((f.0, settled_item f.1) ∷ []) refl refl)
           (key_stays now _ (Interface i) (dependency_added s walked old i has))
-
-pub importing_same : (uses : List (List ℕ)) (walked walked' : Listed) (imports imports' : List Entry) → walked' ≡ walked → imports' ≡ imports → IsImporting uses walked imports → IsImporting uses walked' imports'
-importing_same uses walked walked' imports imports' walked_is imports_is is =
-    subst (λ w. IsImporting uses w imports') (sym walked_is) (subst (λ es. IsImporting uses walked es) (sym imports_is) is)

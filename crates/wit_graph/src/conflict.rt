@@ -42,8 +42,7 @@ fn list_exported(
     ensures ok { OnOk result (exported.new.order ≡ first_of_each (exported_keys exports.now)) }
     ensures nodes { exported.new.nodes ≡ exported.old.nodes }
 {
-    for index in 0..exports.len() {
-        let (key, _) = exports.entry_at(index);
+    for (key, _) in exports.iter() {
         if let Some(id) = key_interface(key) {
             add_node(exported, id.index())?;
         }
@@ -65,8 +64,7 @@ fn walk_exports(
     ensures ok { OnOk result (walked.new.order ≡ first_of_each (flat_map (λ i. needs uses.now (Role.Instance i)) (exported_interfaces exports.now))) }
     ensures walk { IsWalk uses.now walked.new }
 {
-    for index in 0..exports.len() {
-        let (_, item) = exports.entry_at(index);
+    for (_, item) in exports.iter() {
         if let Some(id) = item_interface(item) {
             walk_needs(alloc, uses, walked, Role::Instance(id))?;
         }

@@ -40,8 +40,7 @@ fn has_sound_entries(types: &[TypeDef], interfaces: usize, world: &World) -> boo
 fn are_sound(types: &[TypeDef], interfaces: usize, entries: &Table<WorldKey, WorldItem>) -> bool
     ensures { IsTrue result ↔ AreSound types.now interfaces entries.now }
 {
-    for index in 0..entries.len() {
-        let (key, item) = entries.entry_at(index);
+    for (key, item) in entries.iter() {
         if !is_under_own_key(key, item) || !is_role_in_range(Role::of(types, item), interfaces) {
             return false;
         }

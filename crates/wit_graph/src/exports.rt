@@ -110,8 +110,7 @@ pub(crate) fn add_functions(
 ) -> Result<(), AllocError>
     ensures { OnOk result (exports.new ≡ exports.old ++ fresh_entries (keys_of exports.old) (filter (λ e. not (is_interface e)) listed.now)) }
 {
-    for index in 0..listed.len() {
-        let (key, item) = listed.entry_at(index);
+    for (key, item) in listed.iter() {
         match item_interface(item) {
             Some(_) => {}
             None => add_copy(exports, key, item)?,
@@ -138,8 +137,7 @@ pub(crate) fn export_listed(
     ensures imports { OnOk result (lists.new.imports ≡ lists.old.imports ++ fresh_entries (keys_of lists.old.imports) (flat_map (walked_imports uses.now (is_listed exported.now)) listed.now)) }
     ensures nodes { walked.new.nodes ≡ walked.old.nodes }
 {
-    for index in 0..listed.len() {
-        let (key, item) = listed.entry_at(index);
+    for (key, item) in listed.iter() {
         if let Some(id) = item_interface(item) {
             export_entry(alloc, uses, exported, walked, lists, key, item, id)?;
         }

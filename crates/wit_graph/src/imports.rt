@@ -122,8 +122,7 @@ fn import_class(
     ensures state { OnOk result (IsImporting uses.now walked.new imports.new) }
     ensures nodes { walked.new.nodes ≡ walked.old.nodes }
 {
-    for index in 0..listed.len() {
-        let (key, item) = listed.entry_at(index);
+    for (key, item) in listed.iter() {
         if Role::of(types, item).class() == class {
             import_entry(alloc, types, uses, walked, imports, key, item)?;
         }
@@ -162,8 +161,7 @@ fn add_class(
 ) -> Result<(), AllocError>
     ensures { OnOk result (sorted.new ≡ sorted.old ++ fresh_entries (keys_of sorted.old) (of_class types.now class entries.now)) }
 {
-    for index in 0..entries.len() {
-        let (key, item) = entries.entry_at(index);
+    for (key, item) in entries.iter() {
         if Role::of(types, item).class() == class {
             add_copy(sorted, key, item)?;
         }

@@ -1,6 +1,6 @@
 -- Facts on what holds of the first elements of a list, each at its place: the steps of a loop that tests
 -- them, for the proofs of this crate and of the crates above. They say nothing about this crate's code.
-use Rattle.std.proofs.Common.{◌≡◌, ℕ, zero, suc, ◌+◌, ◌<◌, ◌≤◌, ◌++◌, ◌∷◌, [], ◌⊎◌, inl, inr, List, Bool, true, false, length, take, flat_map, refl, Option, None, Some, slice_get, subst, sym, ap, ◌∙◌, append_assoc, arith}
+use Rattle.std.proofs.Common.{◌≡◌, ℕ, zero, suc, ◌+◌, ◌<◌, ◌≤◌, ◌++◌, ◌∷◌, [], ◌⊎◌, inl, inr, List, Bool, true, false, length, take, flat_map, refl, Option, None, Some, slice_get, subst, sym, arith}
 use Rattle.std.proofs.lemmas.Grind.{flat_map-append}
 use Rattle.std.proofs.lemmas.List.{append-nil}
 use Rattle.wit_values.specs.Lists.{take-next_at}
@@ -16,21 +16,28 @@ pub record EachBelow {X : Type 0} (n : ℕ) (P : ℕ → X → Type 0) (xs : Lis
 below_or_same : (i n : ℕ) → i < n + 1 → (i < n) ⊎ (i ≡ n)
 below_or_same i n within = grind arith
 
-module _ {X : Type 0} where
-  at_same : (P : ℕ → X → Type 0) (xs : List X) (n i : ℕ) (x y : X) → i ≡ n → slice_get xs n ≡ Some x → slice_get xs i ≡ Some y → P n x → P i y
-  at_same P xs n i x y same at there here =
-      let equal : x ≡ y = cc in
-      subst (λ (k : ℕ). P k y) (sym same) (subst (λ (z : X). P n z) equal here)
+module _ {X : Type 0} {P : ℕ → X → Type 0} {xs : List X} {n : ℕ} where
+  -- one more, of which P holds whatever it is
+  pub one_skip : EachBelow n P xs → ((x : X) → slice_get xs n ≡ Some x → P n x) → EachBelow (n + 1) P xs
+  one_skip below here = record {
+    each = λ i y within there. elim (below_or_same i n within) [
+      | inl earlier ↦ below.each i y earlier there
+      | inr same ↦ subst (λ (k : ℕ). P k y) (sym same) (here y (subst (λ (k : ℕ). slice_get xs k ≡ Some y) same there))
+    ];
+  }
 
+  -- one more, of which P holds
+  pub one_more : EachBelow n P xs → (x : X) → slice_get xs n ≡ Some x → P n x → EachBelow (n + 1) P xs
+  one_more below x at here = one_skip below (λ y there. let same : x ≡ y = inside (sym at) there in subst (P n) same here)
+    where
+      inside : {y : X} → Some x ≡ slice_get xs n → slice_get xs n ≡ Some y → x ≡ y
+      inside {y} first second = cc
+
+module _ {X : Type 0} where
   -- one more, of which a test says that P holds
   pub more : {P : ℕ → X → Type 0} {xs : List X} {n : ℕ} {b : Bool} → EachBelow n P xs → (x : X) → slice_get xs n ≡ Some x → IsTrue b ↔ P n x → b ≡ true
       → EachBelow (n + 1) P xs
-  more {P} {xs} {n} below x at test passed = record {
-    each = λ i y within there. elim (below_or_same i n within) [
-      | inl earlier ↦ below.each i y earlier there
-      | inr same ↦ at_same P xs n i x y same at there (test.0 passed)
-    ];
-  }
+  more below x at test passed = one_more below x at (test.0 passed)
 
   -- lists that are written out
   pub EachAt-nil : (P : ℕ → X → Type 0) → EachAt P []
@@ -53,6 +60,9 @@ module _ {X : Type 0} where
   pub all : {P : ℕ → X → Type 0} {xs : List X} {n : ℕ} → EachBelow n P xs → length xs ≤ n → (true ≡ true) ↔ EachAt P xs
   all {P} {xs} {n} below reached = (λ _. λ i x at. let within : i < length xs = slice_get_within xs i x at in below.each i x (omega arith) at, λ _. refl)
 
+  pub all_of : {P : ℕ → X → Type 0} {xs : List X} {n : ℕ} → EachBelow n P xs → length xs ≤ n → EachAt P xs
+  all_of below reached = (all below reached).0 refl
+
   -- not all, since a test says that P doesn't hold of this one
   pub fails : {P : ℕ → X → Type 0} {xs : List X} {n : ℕ} {b : Bool} → EachBelow n P xs → (x : X) → slice_get xs n ≡ Some x → IsTrue b ↔ P n x → b ≡ false
       → (false ≡ true) ↔ EachAt P xs
@@ -61,17 +71,6 @@ module _ {X : Type 0} where
   -- of the first elements and one more, what each gives
   pub flat_map-next : {Y : Type 0} (f : X → List Y) (xs : List X) (i : ℕ) (x : X) → slice_get xs i ≡ Some x → flat_map f (take (i + 1) xs) ≡ flat_map f (take i xs) ++ f x
   flat_map-next f xs i x at = rw (take-next_at xs i x at, flat_map-append f (take i xs) (x ∷ []), append-nil) refl
-
-  -- what has been gathered, with what one more gives
-  pub gathered-next : {Y : Type 0} (f : X → List Y) (xs : List X) (i : ℕ) (x : X) (before after : List Y) → slice_get xs i ≡ Some x
-      → before ≡ flat_map f (take i xs) → after ≡ before ++ f x → after ≡ flat_map f (take (i + 1) xs)
-  gathered-next f xs i x before after at gathered added = added ∙ ap (λ ys. ys ++ f x) gathered ∙ sym (flat_map-next f xs i x at)
-
-  -- the same behind what was there
-  pub pushed-next : {Y : Type 0} (f : X → List Y) (xs : List X) (i : ℕ) (x : X) (start before after : List Y) → slice_get xs i ≡ Some x
-      → before ≡ start ++ flat_map f (take i xs) → after ≡ before ++ f x → after ≡ start ++ flat_map f (take (i + 1) xs)
-  pushed-next f xs i x start before after at gathered added =
-      added ∙ ap (λ ys. ys ++ f x) gathered ∙ append_assoc start (flat_map f (take i xs)) (f x) ∙ ap (λ ys. start ++ ys) (sym (flat_map-next f xs i x at))
 
   -- a list of no elements
   pub nil_from_length : (xs : List X) → length xs ≡ 0 → xs ≡ []

@@ -17,8 +17,7 @@ pub fn foreign_interfaces(
     ensures { IfOk result (λ ids. ids ≡ foreign_interfaces deps.now) }
 {
     let mut ids = Items::new(alloc);
-    for index in 0..deps.len() {
-        let (_, named) = deps.entry_at(index);
+    for (_, named) in deps.iter() {
         push_interfaces(&mut ids, named)?;
     }
     Ok(ids)
@@ -30,8 +29,7 @@ fn push_interfaces(
 ) -> Result<(), AllocError>
     ensures { OnOk result (ids.new ≡ ids.old ++ flat_map (λ (e : ForeignItem). interface_id e.1.0) named.now) }
 {
-    for index in 0..named.len() {
-        let (_, (item, _)) = named.entry_at(index);
+    for (_, (item, _)) in named.iter() {
         push_interface(ids, *item)?;
     }
     Ok(())
@@ -54,8 +52,7 @@ pub fn foreign_worlds(
     ensures { IfOk result (λ ids. ids ≡ foreign_worlds deps.now) }
 {
     let mut ids = Items::new(alloc);
-    for index in 0..deps.len() {
-        let (_, named) = deps.entry_at(index);
+    for (_, named) in deps.iter() {
         push_worlds(&mut ids, named)?;
     }
     Ok(ids)
@@ -67,8 +64,7 @@ fn push_worlds(
 ) -> Result<(), AllocError>
     ensures { OnOk result (ids.new ≡ ids.old ++ flat_map (λ (e : ForeignItem). world_id e.1.0) named.now) }
 {
-    for index in 0..named.len() {
-        let (_, (item, _)) = named.entry_at(index);
+    for (_, (item, _)) in named.iter() {
         push_world(ids, *item)?;
     }
     Ok(())

@@ -42,8 +42,7 @@ pub fn interface_uses(
     ensures { IfOk result (λ uses. uses ≡ interface_uses types.now interface.now) }
 {
     let mut uses = Items::new(alloc);
-    for index in 0..interface.types.len() {
-        let (_, id) = interface.types.entry_at(index);
+    for (_, id) in interface.types.iter() {
         match type_interface_dep(types, *id) {
             Some(used) => uses.push(used.index())?,
             None => {}

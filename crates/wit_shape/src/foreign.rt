@@ -65,8 +65,7 @@ fn are_foreign(
 ) -> bool
     ensures { IsTrue result ↔ Each (IsForeign interfaces.now worlds.now) named.now }
 {
-    for index in 0..named.len() {
-        let (name, (item, gates)) = named.entry_at(index);
+    for (name, (item, gates)) in named.iter() {
         if !is_foreign(interfaces, worlds, name, *item, gates) {
             return false;
         }
@@ -82,8 +81,7 @@ fn all_are_foreign(
 ) -> bool
     ensures { IsTrue result ↔ Each (λ (e : PackageName × List ForeignItem). Each (IsForeign interfaces.now worlds.now) e.1) deps.now }
 {
-    for index in 0..deps.len() {
-        let (_, named) = deps.entry_at(index);
+    for (_, named) in deps.iter() {
         if !are_foreign(interfaces, worlds, named) {
             return false;
         }

@@ -160,8 +160,7 @@ fn functions_use_own(
     requires { TellsEach types.now shown.now }
     ensures { IfOk result (λ own. IsTrue own ↔ FunctionsUseOwn types.now owner interface.now) }
 {
-    for index in 0..interface.functions.len() {
-        let (_, function) = interface.functions.entry_at(index);
+    for (_, function) in interface.functions.iter() {
         if !uses_own(alloc, types, shown, TypeOwner::Interface(owner), function)? {
             return Ok(false);
         }
@@ -229,8 +228,7 @@ fn entries_use_own(
     requires { TellsEach types.now shown.now }
     ensures { IfOk result (λ own. IsTrue own ↔ EntriesUseOwn types.now owner entries.now) }
 {
-    for index in 0..entries.len() {
-        let (_, item) = entries.entry_at(index);
+    for (_, item) in entries.iter() {
         if !item_uses_own(alloc, types, shown, owner, item)? {
             return Ok(false);
         }

@@ -146,8 +146,7 @@ fn lists_own_at(types: &[TypeDef], index: usize, interface: &Interface) -> bool
 fn lists_own(types: &[TypeDef], owner: InterfaceId, interface: &Interface) -> bool
     ensures { IsTrue result ↔ ListsOwn types.now owner interface.now }
 {
-    for index in 0..interface.types.len() {
-        let (name, id) = interface.types.entry_at(index);
+    for (name, id) in interface.types.iter() {
         if !is_type_of(types, TypeOwner::Interface(owner), name, *id) {
             return false;
         }
@@ -177,8 +176,7 @@ pub fn all_name_functions(interfaces: &[Interface]) -> bool
 fn names_functions(interface: &Interface) -> bool
     ensures { IsTrue result ↔ NamesFunctions interface.now }
 {
-    for index in 0..interface.functions.len() {
-        let (name, function) = interface.functions.entry_at(index);
+    for (name, function) in interface.functions.iter() {
         if !is_text(&function.name, name) {
             return false;
         }

@@ -92,8 +92,7 @@ fn is_below(id: TypeId, bound: usize) -> bool
 fn lists_unknown_alone(unknown: usize, interface: &Interface) -> bool
     ensures { IsTrue result ↔ Each (λ (e : List ℕ × ℕ). e.1 < unknown) interface.now.types }
 {
-    for index in 0..interface.types.len() {
-        let (_, id) = interface.types.entry_at(index);
+    for (_, id) in interface.types.iter() {
         if !is_below(*id, unknown) {
             return false;
         }

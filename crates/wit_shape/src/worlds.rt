@@ -93,8 +93,7 @@ fn has_imports_at(interfaces: &[Interface], types: &[TypeDef], index: usize, wor
 fn has_imports(interfaces: &[Interface], types: &[TypeDef], owner: WorldId, world: &World) -> bool
     ensures { IsTrue result ↔ HasImports interfaces.now types.now owner world.now }
 {
-    for index in 0..world.imports.len() {
-        let (key, item) = world.imports.entry_at(index);
+    for (key, item) in world.imports.iter() {
         if !is_import(interfaces, types, owner, key, item) {
             return false;
         }
@@ -112,8 +111,7 @@ pub fn all_have_exports(interfaces: &[Interface], worlds: &[World]) -> bool
 fn has_exports(interfaces: &[Interface], world: &World) -> bool
     ensures { IsTrue result ↔ HasExports interfaces.now world.now }
 {
-    for index in 0..world.exports.len() {
-        let (key, item) = world.exports.entry_at(index);
+    for (key, item) in world.exports.iter() {
         if !is_export(interfaces, key, item) {
             return false;
         }
@@ -204,8 +202,7 @@ fn push_entries(
 ) -> Result<(), AllocError>
     ensures { OnOk result (ids.new ≡ ids.old ++ held_interfaces entries.now) }
 {
-    for index in 0..entries.len() {
-        let (_, item) = entries.entry_at(index);
+    for (_, item) in entries.iter() {
         push_item(ids, item)?;
     }
     Ok(())

@@ -1,7 +1,7 @@
-use Rattle.std.proofs.Common.{take}
+use Rattle.std.proofs.Common.{◌↔◌}
 use Rattle.wit_graph.specs.Sound.{AreSound}
 use Rattle.wit_graph.proofs.elaborable.are_sound.Given as goal
 
--- so far they are
-abbrev pub invariant-loop-index : goal.invariant-loop-index
-invariant-loop-index l = AreSound l.types l.interfaces (take l.index l.entries)
+-- those that are left decide
+abbrev pub invariant-loop-key : goal.invariant-loop-key
+invariant-loop-key l = AreSound l.types l.interfaces l.key-iterator ↔ AreSound l.types l.interfaces l.entries

@@ -1,31 +1,21 @@
-use Rattle.std.proofs.Common.{◌≡◌, ◌++◌, List, sym, ap, ◌∙◌}
+use Rattle.std.proofs.Common.{◌≡◌, sym, ap, ◌∙◌}
+use Rattle.std.proofs.lemmas.Map.Iter.{rest_more}
 use Rattle.std.specs.List.{flat_map}
-use Rattle.std.specs.Map.{keys_of}
-use Rattle.wit_relations.specs.Walks.{Listed}
+use Rattle.std.specs.Map.Iter.{deref_pair}
 use Rattle.wit_graph.specs.Elaborated.{import_walk}
-use Rattle.wit_graph.specs.Entries.{Entry, Role, class_of, fresh_entries, role_of}
-use Rattle.wit_graph.proofs.FirstClasses.{class_walked, class_passed}
-use Rattle.wit_graph.proofs.Importing.{importing_same}
-use Rattle.wit_graph.proofs.imports.import_class.Goals.{then-class+in_ok-import_entry, else-class}
+use Rattle.wit_graph.specs.Entries.{Entry, Role, class_of, role_of}
+use Rattle.wit_graph.proofs.FirstClasses.{class_first}
+use Rattle.wit_graph.proofs.FreshEntries.{fresh_entries-left}
 use Rattle.wit_graph.proofs.imports.import_class.Goals as goal
 
-pub loop-index-preserved : goal.loop-index-preserved
-loop-index-preserved c =
-    let e : Entry = (c.entry_at.result.0.now, c.entry_at.result.1.now) in
+pub loop-key-preserved-in-Continue-1 : goal.loop-key-preserved-in-Continue-1
+loop-key-preserved-in-Continue-1 c =
+    let e : Entry = (c.in-Some.key.now, c.in-Some.item.now) in
     let walk = import_walk c.args.types.now c.args.uses.now in
     let class : c.class.result ≡ class_of (role_of c.args.types.now e.1) = c.class.ensures ∙ ap (λ (r : Role). class_of r) c.of.ensures in
-    elim c.if-class.branch [
-      | then-class+in_ok-import_entry w ↦ record {
-        imports_are = class_walked c.args.types.now walk c.args.class c.args.listed.now c.loop-index.index e c.args.imports.now c.loop-index.imports c.if-class.imports c.entry_at.ensures (sym class ∙ w.if-class.true)
-            c.loop-index.invariant.imports_are (w.imports-is ∙ w.in_ok-import_entry.ensures.imports);
-        nodes = ap (λ (l : Listed). l.nodes) w.walked-is ∙ w.in_ok-import_entry.ensures.nodes ∙ c.loop-index.invariant.nodes;
-        state = importing_same c.args.uses.now w.import_entry.new.walked c.if-class.walked w.import_entry.new.imports c.if-class.imports w.walked-is w.imports-is w.in_ok-import_entry.ensures.state;
-      }
-      | else-class w ↦ record {
-        imports_are =
-            w.imports-is ∙ c.loop-index.invariant.imports_are
-            ∙ ap (λ (es : List Entry). c.args.imports.now ++ fresh_entries (keys_of c.args.imports.now) (flat_map walk es)) (sym (class_passed c.args.types.now c.args.class c.args.listed.now c.loop-index.index e c.entry_at.ensures (λ same. w.if-class.false (class ∙ same))));
-        nodes = ap (λ (l : Listed). l.nodes) w.walked-is ∙ c.loop-index.invariant.nodes;
-        state = importing_same c.args.uses.now c.loop-index.walked c.if-class.walked c.loop-index.imports c.if-class.imports w.walked-is w.imports-is c.loop-index.invariant.state;
-      }
-    ]
+    let first = class_first c.args.types.now c.args.class (rest_more deref_pair _ _ _ _ c.in-Some.is c.next.ensures.steps) (sym class ∙ c.if-class.true) in
+    record {
+      imports_are = fresh_entries-left _ (walk e) _ _ _ _ (ap (flat_map walk) first) c.loop-key.invariant.imports_are c.in_ok-import_entry.ensures.imports;
+      nodes = c.in_ok-import_entry.ensures.nodes ∙ c.loop-key.invariant.nodes;
+      state = c.in_ok-import_entry.ensures.state;
+    }

@@ -1,4 +1,4 @@
-use Rattle.std.proofs.Common.{◌≡◌, ◌++◌, take}
+use Rattle.std.proofs.Common.{◌≡◌, ◌++◌}
 use Rattle.std.specs.List.{flat_map}
 use Rattle.std.specs.Map.{keys_of}
 use Rattle.wit_graph.specs.Elaborated.{import_walk}
@@ -6,9 +6,11 @@ use Rattle.wit_graph.specs.Elaborating.{IsImporting}
 use Rattle.wit_graph.specs.Entries.{fresh_entries, of_class}
 use Rattle.wit_graph.proofs.imports.import_class.Given as goal
 
-abbrev pub invariant-loop-index : goal.invariant-loop-index
-invariant-loop-index l = record {
-  imports_are : l.imports ≡ l.fn.imports ++ fresh_entries (keys_of l.fn.imports) (flat_map (import_walk l.types l.uses) (of_class l.types l.class (take l.index l.listed)));
+-- what is imported, and what those will import that are left
+abbrev pub invariant-loop-key : goal.invariant-loop-key
+invariant-loop-key l = record {
+  imports_are : l.imports ++ fresh_entries (keys_of l.imports) (flat_map (import_walk l.types l.uses) (of_class l.types l.class l.key-iterator))
+      ≡ l.fn.imports ++ fresh_entries (keys_of l.fn.imports) (flat_map (import_walk l.types l.uses) (of_class l.types l.class l.listed));
   nodes : l.walked.nodes ≡ l.fn.walked.nodes;
   state : IsImporting l.uses l.walked l.imports;
 }

@@ -1,12 +1,17 @@
-use Rattle.std.proofs.Common.{arith}
-use Rattle.wit_items.specs.EachFacts.{more, all, fails}
+use Rattle.std.proofs.Common.{◌∙◌}
+use Rattle.std.proofs.lemmas.Map.Iter.{rest_all, rest_more}
+use Rattle.wit_values.specs.Names.{deref_named}
+use Rattle.wit_items.specs.YieldedFacts.{left_fails, left_more, left_none, left_start}
 use Rattle.wit_shape.proofs.own.functions_use_own.Goals as goal
 
-pub returns-then-not-branch : goal.returns-then-not-branch
-returns-then-not-branch c = fails c.loop-index.invariant _ c.entry_at.ensures c.in_ok-uses_own.ensures c.if-not-branch.true
+pub loop-function-init : goal.loop-function-init
+loop-function-init c = left_start (c.into_iter-function-iterator.ensures.into_iter_gives ∙ c.iter-function-items.ensures.rest)
 
-pub loop-index-preserved : goal.loop-index-preserved
-loop-index-preserved c = more c.loop-index.invariant _ c.entry_at.ensures c.in_ok-uses_own.ensures c.if-not-branch.false
+pub returns-then-not-branch : goal.returns-then-not-branch
+returns-then-not-branch c = left_fails (rest_more deref_named _ _ _ _ c.in-Some.is c.next.ensures.steps) c.loop-function.invariant c.in_ok-uses_own.ensures c.if-not-branch.true
+
+pub loop-function-preserved : goal.loop-function-preserved
+loop-function-preserved c = left_more (rest_more deref_named _ _ _ _ c.in-Some.is c.next.ensures.steps) c.loop-function.invariant c.in_ok-uses_own.ensures c.if-not-branch.false
 
 pub returns : goal.returns
-returns c = all c.loop-index.invariant (omega arith)
+returns c = left_none (rest_all deref_named _ _ _ c.in-None.is c.next.ensures.steps) c.loop-function.invariant

@@ -1,9 +1,9 @@
 use Rattle.std.proofs.Common.{ℕ, List}
-use Rattle.wit_items.specs.EachFacts.{EachBelow}
+use Rattle.wit_items.specs.YieldedFacts.{LeftDecide}
 use Rattle.wit_items.specs.Ownership.{IsTypeOf}
 use Rattle.wit_items.specs.declared.types.TypeOwner.TheVariants as owner
 use Rattle.wit_shape.proofs.owners.lists_own.Given as goal
 
--- the first ones are
-abbrev pub invariant-loop-index : goal.invariant-loop-index
-invariant-loop-index l = EachBelow l.index (λ _ (e : List ℕ × ℕ). IsTypeOf l.types (owner.Interface l.owner) e.0 e.1) l.interface.types
+-- those that are left decide
+abbrev pub invariant-loop-name : goal.invariant-loop-name
+invariant-loop-name l = LeftDecide (λ (e : List ℕ × ℕ). IsTypeOf l.types (owner.Interface l.owner) e.0 e.1) l.name-iterator l.interface.types

@@ -1,7 +1,7 @@
 use Rattle.std.proofs.Common.{ℕ, List, ◌<◌}
-use Rattle.wit_items.specs.EachFacts.{EachBelow}
+use Rattle.wit_items.specs.YieldedFacts.{LeftDecide}
 use Rattle.wit_shape.proofs.unknown.lists_unknown_alone.Given as goal
 
--- the first ones are
-abbrev pub invariant-loop-index : goal.invariant-loop-index
-invariant-loop-index l = EachBelow l.index (λ _ (e : List ℕ × ℕ). e.1 < l.unknown) l.interface.types
+-- those that are left decide
+abbrev pub invariant-loop-id : goal.invariant-loop-id
+invariant-loop-id l = LeftDecide (λ (e : List ℕ × ℕ). e.1 < l.unknown) l.id-iterator l.interface.types

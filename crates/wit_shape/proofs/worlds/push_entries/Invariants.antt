@@ -1,7 +1,7 @@
-use Rattle.std.proofs.Common.{◌≡◌, ◌++◌, take}
+use Rattle.std.proofs.Common.{◌≡◌, ◌++◌}
 use Rattle.wit_items.specs.Entries.{held_interfaces}
 use Rattle.wit_shape.proofs.worlds.push_entries.Given as goal
 
--- those of the first ones have been added
-abbrev pub invariant-loop-index : goal.invariant-loop-index
-invariant-loop-index l = l.ids ≡ l.fn.ids ++ held_interfaces (take l.index l.entries)
+-- what has been added, and what those will add that are left
+abbrev pub invariant-loop-item : goal.invariant-loop-item
+invariant-loop-item l = l.ids ++ held_interfaces l.item-iterator ≡ l.fn.ids ++ held_interfaces l.entries

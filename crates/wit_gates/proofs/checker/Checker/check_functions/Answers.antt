@@ -1,6 +1,6 @@
 use Rattle.std.proofs.Common.{◌∙◌}
 use Rattle.wit_values.specs.Names.{deref_named}
-use Rattle.wit_gates.proofs.Steps.{all_yielded, of_next, one_yielded}
+use Rattle.wit_items.specs.YieldedFacts.{all_yielded, of_next, one_yielded}
 use Rattle.wit_gates.proofs.checker.Checker.check_functions.Goals as goal
 
 pub check_note-requires : goal.check_note-requires

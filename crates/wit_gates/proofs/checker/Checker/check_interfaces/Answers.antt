@@ -1,6 +1,6 @@
 use Rattle.std.proofs.Common.{◌≡◌, ◌∙◌, ap, length, arith}
 use Rattle.wit_items.specs.Foreign.{foreign_interfaces}
-use Rattle.wit_gates.proofs.Steps.{all_of, one_more}
+use Rattle.wit_items.specs.EachFacts.{all_of, one_more}
 use Rattle.wit_gates.proofs.VersionsMet.{own-interface-asked}
 use Rattle.wit_gates.proofs.checker.Checker.check_interfaces.Goals as goal
 

@@ -3,7 +3,7 @@ use Rattle.wit_growth.specs.ListFacts.{place_of}
 use Rattle.wit_adding.specs.Gates.{asked_notes}
 use Rattle.wit_gates.specs.GateSteps.{IsMet}
 use Rattle.wit_gates.proofs.AskedNotes.{asked_all, asked_up_to, asks_next}
-use Rattle.wit_gates.proofs.Steps.{one_more}
+use Rattle.wit_items.specs.EachFacts.{one_more}
 use Rattle.wit_gates.proofs.checker.Checker.check_notes.Goals as goal
 
 pub check_note-requires : goal.check_note-requires

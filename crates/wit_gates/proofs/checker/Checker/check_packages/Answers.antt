@@ -5,7 +5,7 @@ use Rattle.wit_items.specs.Foreign.{ForeignItem}
 use Rattle.wit_items.specs.declared.package_name.PackageName.{PackageName}
 use Rattle.wit_gates.specs.GateSteps.{MeetsForeign}
 use Rattle.wit_gates.proofs.ForeignNotes.{Each-flat_map}
-use Rattle.wit_gates.proofs.Steps.{all_yielded, one_yielded}
+use Rattle.wit_items.specs.YieldedFacts.{all_yielded, one_yielded}
 use Rattle.wit_gates.proofs.VersionsMet.{items-named}
 use Rattle.wit_gates.proofs.checker.Checker.check_packages.Goals as goal
 

@@ -1,6 +1,6 @@
 use Rattle.std.proofs.Common.{arith}
 use Rattle.wit_adding.specs.Gates.{of_type}
-use Rattle.wit_gates.proofs.Steps.{all_of, one_more}
+use Rattle.wit_items.specs.EachFacts.{all_of, one_more}
 use Rattle.wit_gates.proofs.checker.Checker.check_types.Goals as goal
 
 pub check_note-requires : goal.check_note-requires

@@ -1,6 +1,6 @@
 use Rattle.std.proofs.Common.{◌≡◌, ◌∙◌, ap, length, arith}
 use Rattle.wit_items.specs.Foreign.{foreign_worlds}
-use Rattle.wit_gates.proofs.Steps.{all_of, one_more}
+use Rattle.wit_items.specs.EachFacts.{all_of, one_more}
 use Rattle.wit_gates.proofs.VersionsMet.{own-world-asked}
 use Rattle.wit_gates.proofs.checker.Checker.check_worlds.Goals as goal
 

@@ -3,7 +3,7 @@ use Rattle.std.proofs.lemmas.Bool.{false≢true}
 use Rattle.wit_growth.specs.ListFacts.{contained_at}
 use Rattle.wit_adding.specs.Reasons.{of_interface}
 use Rattle.wit_gates.proofs.Ready.{interface-flag}
-use Rattle.wit_gates.proofs.Steps.{all_of, one_more, one_skip}
+use Rattle.wit_items.specs.EachFacts.{all_of, one_more, one_skip}
 use Rattle.wit_gates.proofs.checker.Checker.look_at_interfaces.Goals as goal
 
 pub loop-index-preserved-then-not-flag_at : goal.loop-index-preserved-then-not-flag_at

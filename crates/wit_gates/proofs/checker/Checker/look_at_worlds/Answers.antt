@@ -4,7 +4,7 @@ use Rattle.wit_growth.specs.ListFacts.{contained_at}
 use Rattle.wit_adding.specs.Reasons.{of_include}
 use Rattle.wit_gates.proofs.Ready.{world-flag}
 use Rattle.wit_gates.proofs.ReferencesStay.{refers-entry}
-use Rattle.wit_gates.proofs.Steps.{all_of, one_more, one_skip}
+use Rattle.wit_items.specs.EachFacts.{all_of, one_more, one_skip}
 use Rattle.wit_gates.proofs.checker.Checker.look_at_worlds.Goals as goal
 
 pub loop-index-preserved-then-not-flag_at : goal.loop-index-preserved-then-not-flag_at
