@@ -1,0 +1,3 @@
+pub mod Differing
+pub mod OffsetFacts
+pub mod Stabilities

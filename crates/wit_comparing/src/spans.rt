@@ -1,0 +1,22 @@
+//! Whether the spans of a graph can be moved.
+ghost use Rattle.std.specs.Prelude.{◌≡◌, false, true};
+ghost use Rattle.wit_graph.specs.declared.graph.Graph.{Graph};
+ghost use Rattle.wit_merging.specs.Reasons.{PassesTheEnd};
+ghost use Rattle.wit_comparing.specs.Differing.{merging_by};
+
+use wit_fitting::parts_fit;
+use wit_graph::Graph;
+
+/// Whether no span of the other graph passes the last position when it is moved by an offset. All its spans are asked,
+/// also those of what is matched.
+pub fn spans_fit(other: &Graph, offset: u32) -> bool
+    ensures fit { result ≡ true → (graph : Graph) → PassesTheEnd (merging_by graph other.now offset) → ⊥ }
+    ensures pass { result ≡ false → (graph : Graph) → PassesTheEnd (merging_by graph other.now offset) }
+{
+    parts_fit(
+        other.types.as_slice(),
+        other.interfaces.as_slice(),
+        other.worlds.as_slice(),
+        offset,
+    )
+}
