@@ -4,17 +4,11 @@ use Rattle.std.specs.Prelude.{◌≡◌, ◌⊎◌, None, ℕ}
 use Rattle.wit_items.specs.Each.{Each}
 use Rattle.wit_sources.specs.Span.{moved_by}
 use Rattle.wit_items.specs.declared.unresolved.UnresolvedPackage.{UnresolvedPackage}
-use Rattle.wit_items.specs.declared.world.World.{World}
-use Rattle.wit_items.specs.declared.world.WorldInclude.{WorldInclude}
 use Rattle.wit_graph.specs.declared.error_kind.ResolveErrorKind.{ResolveErrorKind}
 use Rattle.wit_graph.specs.declared.error_kind.ResolveErrorKind.TheVariants.{DuplicatePackage, OffsetOverflow}
 use Rattle.wit_adding.specs.Gates.{Place}
-use Rattle.wit_placing.specs.Fits.{Fits, InterfaceFits, TypeFits, WorldFits}
-
--- those of a world with its entries, and of its includes
-pub record WholeWorldFits (offset : ℕ) (world : World) : Type 0 where
-  pub entries : WorldFits (Fits offset) world
-  pub includes : Each (λ (i : WorldInclude). Fits offset i.span) world.includes
+use Rattle.wit_placing.specs.Fits.{Fits}
+use Rattle.wit_fitting.specs.Fitting.{PartsFit}
 
 -- that of a type that has to be a resource
 abbrev pub RequiredFits : ℕ → ℕ × Place → Type 0
@@ -30,9 +24,7 @@ pub record ForeignFits (offset : ℕ) (u : UnresolvedPackage) : Type 0 where
 pub record PackageFits (offset : ℕ) (u : UnresolvedPackage) : Type 0 where
   pub name : Fits offset u.package_name_span
   pub foreign : ForeignFits offset u
-  pub types : Each (TypeFits (Fits offset)) u.types
-  pub interfaces : Each (InterfaceFits (Fits offset)) u.interfaces
-  pub worlds : Each (WholeWorldFits offset) u.worlds
+  pub parts : PartsFit offset u.types u.interfaces u.worlds
 
 -- the refusal of a package whose name is there: that it is there, with the place of the name, or that this
 -- place passes the end
