@@ -21,7 +21,7 @@ pub struct Going {
 
 /// Where the things of the other graph go, by what is found of them in the graph.
 ///
-/// Source: `Moves` and `Remap` of wit-parser 0.263.0.
+/// Source: `merge` of wit-parser 0.263.0.
 pub fn find_places(
     alloc: Global,
     graph: &Graph,
