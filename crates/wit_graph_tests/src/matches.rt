@@ -5,8 +5,7 @@ use std::fmt::Write;
 use std::process::Abort;
 use wit_graph::Graph;
 use wit_items::{Id, Items, TryClone};
-use wit_matching::{Matches, find_matches};
-use wit_moving::{Going, find_places};
+use wit_matching::{Going, Matches, find_matches, find_places};
 use wit_valid::is_valid;
 
 /// Of each package, world, interface and type of the graph with this change the place of that of the valid graph with

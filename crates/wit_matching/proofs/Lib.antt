@@ -1,4 +1,5 @@
 pub mod Mapped
 pub mod Matched
+mod Next
 pub mod Noted
 pub mod TypesFound

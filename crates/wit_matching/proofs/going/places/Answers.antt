@@ -1,9 +1,9 @@
 use Rattle.std.proofs.Common.{None, Some, ap, sym, ℕ}
 use Rattle.std.proofs.lemmas.Option.{get_or_from_slice_get}
 use Rattle.wit_adding.specs.RangeFacts.{range-pushed}
-use Rattle.wit_moving.specs.Going.{place_from}
-use Rattle.wit_moving.proofs.Next.{one_next, one_place}
-use Rattle.wit_moving.proofs.going.places.Goals as goal
+use Rattle.wit_matching.specs.Going.{place_from}
+use Rattle.wit_matching.proofs.Next.{one_next, one_place}
+use Rattle.wit_matching.proofs.going.places.Goals as goal
 
 pub loop-index-preserved : goal.loop-index-preserved
 loop-index-preserved g c =

@@ -5,7 +5,7 @@ use Rattle.wit_adding.specs.RankFacts.{after, rank-suc}
 use Rattle.wit_adding.specs.RangeFacts.{range-same}
 use Rattle.wit_adding.specs.Ranks.{rank}
 use Rattle.wit_matching.specs.Found.{AreFound}
-use Rattle.wit_moving.specs.Going.{moves, place_from}
+use Rattle.wit_matching.specs.Going.{moves, place_from}
 
 module _ (found : List (Option ℕ)) (first i : ℕ) where
   -- where it goes

@@ -2,9 +2,9 @@ use Rattle.std.proofs.Common.{◌∙◌, Some, ap, length, map, refl, ℕ}
 use Rattle.std.specs.List.{range_with_len}
 use Rattle.wit_matching.specs.Found.{merging}
 use Rattle.wit_merging.specs.Matches.{found_interface, found_package, found_type, found_world}
-use Rattle.wit_moving.specs.Going.{place_from}
-use Rattle.wit_moving.proofs.Next.{all_same, counted_same}
-use Rattle.wit_moving.proofs.going.find_places.Goals as goal
+use Rattle.wit_matching.specs.Going.{place_from}
+use Rattle.wit_matching.proofs.Next.{all_same, counted_same}
+use Rattle.wit_matching.proofs.going.find_places.Goals as goal
 
 pub returns : goal.returns
 returns c =

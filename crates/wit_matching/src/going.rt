@@ -3,13 +3,13 @@ ghost use Rattle.std.specs.Prelude.{◌≡◌, IfOk, OnOk, Some, is_some, length
 ghost use Rattle.std.specs.List.{range_with_len};
 ghost use Rattle.wit_adding.specs.RankFacts.{after};
 ghost use Rattle.wit_matching.specs.Found.{AreMatches, merging};
-ghost use Rattle.wit_moving.specs.Going.{going_of, place_from};
+ghost use Rattle.wit_matching.specs.Going.{going_of, place_from};
 
+use crate::matches::Matches;
 use std::alloc::{AllocError, Global};
 use wit_adding::Places;
 use wit_graph::Graph;
 use wit_items::{Id, Items, PackageId, TryClone};
-use wit_matching::Matches;
 
 /// Where the things of another graph go: what is matched to the one with which it is, all else to the next ids, in its
 /// order.

@@ -1,8 +1,8 @@
 use Rattle.std.proofs.Common.{◌≡◌, ◌+◌, map}
 use Rattle.std.specs.List.{range_with_len}
 use Rattle.wit_adding.specs.Ranks.{rank}
-use Rattle.wit_moving.specs.Going.{moves, place_from}
-use Rattle.wit_moving.proofs.going.package_places.Given as goal
+use Rattle.wit_matching.specs.Going.{moves, place_from}
+use Rattle.wit_matching.proofs.going.package_places.Given as goal
 
 -- the places of the first ones, and the next id
 abbrev pub invariant-loop-index : goal.invariant-loop-index

@@ -3,7 +3,7 @@ use Rattle.std.specs.Prelude.{ℕ, ◌+◌, Bool, not, List, get_or, is_some, Op
 use Rattle.wit_adding.specs.Ranks.{rank}
 use Rattle.wit_merging.specs.Matches.{Merging}
 use Rattle.wit_merging.specs.Moved as moved
-use Rattle.wit_moving.specs.declared.going.Going.{Going}
+use Rattle.wit_matching.specs.declared.going.Going.{Going}
 
 -- a thing that isn't found moves
 abbrev pub moves : List (Option ℕ) → ℕ → Bool
