@@ -51,9 +51,11 @@ pub(crate) enum Breach {
     TypeRefersToItself,
     PackageDependsOnItself,
     UserBeforeUsed,
+    TypeNotThere,
+    InterfaceNotThere,
 }
 
-const BREACHES: [Breach; 32] = [
+const BREACHES: [Breach; 34] = [
     Breach::NameOfOther,
     Breach::PackageNotNamed,
     Breach::InterfaceNotInTable,
@@ -86,6 +88,8 @@ const BREACHES: [Breach; 32] = [
     Breach::TypeRefersToItself,
     Breach::PackageDependsOnItself,
     Breach::UserBeforeUsed,
+    Breach::TypeNotThere,
+    Breach::InterfaceNotThere,
 ];
 
 /// The places of packages `foo:bar` and `foo:baz`.
@@ -183,7 +187,7 @@ fn listed_in_baz(breach: Breach) -> &'static [(&'static str, usize)] {
         Breach::InterfaceNotInTable => &[],
         Breach::InterfaceNotKebab => &[("D_", 3)],
         Breach::InterfaceInOtherTable => &[("d", 3), ("a", 0)],
-        Breach::InterfaceUsesItself => &[("d", 3), ("e", 4)],
+        Breach::InterfaceUsesItself | Breach::InterfaceNotThere => &[("d", 3), ("e", 4)],
         _ => &[("d", 3)],
     }
 }
@@ -235,6 +239,7 @@ fn types(rt: &impl Abort, alloc: Global, breach: Breach) -> Items<TypeDef> {
     let kind = match breach {
         Breach::UnnamedAlias => TypeDefKind::Type_(type_at(0)),
         Breach::TypeRefersToItself => TypeDefKind::List(type_at(1)),
+        Breach::TypeNotThere => TypeDefKind::List(type_at(6)),
         _ => TypeDefKind::List(type_at(0)),
     };
     add_type(rt, alloc, &mut types, "", kind, TypeOwner::None);

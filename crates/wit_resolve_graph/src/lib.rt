@@ -27,6 +27,9 @@ pub use wit_graph::{
 pub use wit_items::{LiftLowerAbi, ManglingAndAbi, TrackRule};
 pub use wit_link::Remap;
 pub use wit_package_sources::{PackageSourceNames, PackageSources};
-pub use wit_questions::{InterfaceDirectDeps, PackageDirectDeps};
+pub use wit_questions::{
+    InterfaceDirectDeps, PackageDirectDeps, canonicalized_id_of, canonicalized_id_of_name,
+    find_futures_and_streams, name_canonicalized_world_key,
+};
 pub use wit_shape::{is_group_shaped, is_shaped};
 pub use wit_valid::is_valid;

@@ -63,8 +63,8 @@ fn dependencies_are_told(rt: HostRuntime) {
     );
 }
 
-/// The canonical names of interface `x` and of world `w`, of the key of `x` and of a label, and what
-/// they leave out, where the package has this version.
+/// The canonical names of interface `x` and of world `w` and of the key of `x`, and what they leave
+/// out, where the package has this version.
 fn canonical_names(rt: &impl Abort, alloc: Global, version: &str) -> String {
     let script = format!(in alloc; "package foo:x{version}\ninterface x\nworld w\npush\n");
     let resolve = resolve_of(rt, alloc, script.expect(rt, "memory").as_str());
