@@ -89,7 +89,7 @@ interface_is_active features u i = some_active features (interface_notes u i)
 abbrev pub world_is_active : Features → UnresolvedPackage → ℕ → Bool
 world_is_active features u w = some_active features (world_notes u w)
 
--- a function takes part where its note is active and its interface, or its world, takes part
+-- a function of an interface, or of a world, that takes part does so where its note is active
 abbrev pub function_is_active : Features → Function → Bool
 function_is_active features f = is_active features f.stability
 

@@ -20,7 +20,7 @@ use Rattle.wit_graph.proofs.Filters.{Contains-filter, Contains-filtered}
 use Rattle.wit_graph.specs.Elaboration.{graph_uses}
 use Rattle.wit_graph.specs.Entries.{Entry, by_class, key_interface, keyed_interfaces, item_interface, role_of}
 use Rattle.wit_graph.specs.Imported.{exported_interfaces, roots_of}
-use Rattle.wit_graph.specs.KeptByElaboration.{is_label, labelled, settled}
+use Rattle.wit_graph.specs.KeptByElaboration.{IsSettled, is_label, labelled, settled}
 use Rattle.wit_graph.specs.Valid.{IsValid}
 use Rattle.wit_graph.specs.declared.error_kind.ResolveErrorKind.{ResolveErrorKind}
 use Rattle.wit_graph.specs.declared.graph.Graph.{Graph}
@@ -33,7 +33,7 @@ use Rattle.wit_unite.proofs.ListsFrom.{answered_from, answered_into}
 use Rattle.wit_unite.proofs.NamedInterfaces.{import_uses}
 use Rattle.wit_unite.proofs.TurnedWorlds.{in_order, is_elaborated, listed}
 use Rattle.wit_unite.specs.TurnCause.{IsExportizeCause, imports_at}
-use Rattle.wit_unite.specs.TurnLaws.{ExportizedImportsNothing, ImportizedExportsNothing, IsBehind, TurnedTwice}
+use Rattle.wit_unite.specs.TurnLaws.{AreFormerExports, ExportizedImportsNothing, ImportizedExportsNothing, IsBehind, TurnedTwice}
 use Rattle.wit_unite.specs.Turned.{Turn, answered, exportized, importized, turned, turned_at, turned_world, type_entries}
 
 inside : {X : Type 0} (x y : X) → Some x ≡ Some y → x ≡ y
@@ -145,17 +145,23 @@ module _ (laws : LawsOfElaboration) (g : Graph) (valid : IsValid g) (w : ℕ) (o
   imports_are : turn.imports ≡ old.exports
   imports_are = ap (λ (es : List Entry). es ++ old.exports) no_types
 
+  -- what is imported under a label was exported under it
+  label_from : (e : Entry) → Contains mid.imports e → is_label e.0 ≡ true → IsSettled old.exports e
+  label_from e has label =
+      let stays = laws.labels g.types (graph_uses g) before mid valid.no_cycles.uses (in_order g valid w old there turn accepted.from) accepted.from.distinct_imports (is_elaborated g valid w old there turn accepted.from laws accepted.no_conflict) in
+      let under = Contains-filtered (λ (e : Entry). is_label e.0) mid.imports e has label in
+      let from = Contains-map_cases settled (labelled (by_class g.types turn.imports)) e (subst (λ (es : List Entry). Contains es e) stays under) in
+      let sorted = (Contains-filter (λ (e : Entry). is_label e.0) (by_class g.types turn.imports) from.0 from.1).0 in
+      (from.0, subst (λ (es : List Entry). Contains es from.0) imports_are (by_class_in g.types turn.imports from.0 sorted), sym from.2)
+
   -- the labels of the imports are those that were exported
   label_kept : (label : List ℕ) → Contains (keys_of mid.imports) (key.Name label) ↔ Contains (keys_of old.exports) (key.Name label)
   label_kept label =
       let stays = laws.labels g.types (graph_uses g) before mid valid.no_cycles.uses (in_order g valid w old there turn accepted.from) accepted.from.distinct_imports (is_elaborated g valid w old there turn accepted.from laws accepted.no_conflict) in (
         λ has.
             let entry = entry_of_key mid.imports (key.Name label) has in
-            let under = Contains-filtered (λ (e : Entry). is_label e.0) mid.imports entry.0 entry.1 (is_name entry.0.0 label entry.2) in
-            let from = Contains-map_cases settled (labelled (by_class g.types turn.imports)) entry.0 (subst (λ (es : List Entry). Contains es entry.0) stays under) in
-            let sorted = (Contains-filter (λ (e : Entry). is_label e.0) (by_class g.types turn.imports) from.0 from.1).0 in
-            let listed_there = subst (λ (es : List Entry). Contains es from.0) imports_are (by_class_in g.types turn.imports from.0 sorted) in
-            subst (Contains (keys_of old.exports)) (ap (λ (e : Entry). e.0) from.2 ∙ entry.2) (key_of_entry old.exports from.0 listed_there),
+            let from = label_from entry.0 entry.1 (is_name entry.0.0 label entry.2) in
+            subst (Contains (keys_of old.exports)) (sym (ap (λ (e : Entry). e.0) from.2) ∙ entry.2) (key_of_entry old.exports from.0 from.1),
         λ has.
             let entry = entry_of_key old.exports (key.Name label) has in
             let sorted = in_by_class g.types turn.imports entry.0 (subst (λ (es : List Entry). Contains es entry.0) (sym imports_are) entry.1) in
@@ -253,28 +259,36 @@ module _ (laws : LawsOfElaboration) (g : Graph) (valid : IsValid g) (w : ℕ) (o
 
   module _ (valid_between : IsValid between) (answers : List Bool) (again : Option (List ℕ)) where
     turned_back : length answers ≡ length (imports_at between w) → Each (λ (answer : Bool). answer ≡ true) answers → ((error : ResolveErrorKind) → IsExportizeCause between w answers again error → ⊥)
-        → (new : World) → slice_get (turned between w (exportized answers again)).worlds w ≡ Some new → (k : WorldKey)
-        → Contains (keys_of new.exports) k ↔ (Contains (keys_of old.exports) k ⊎ ((j : ℕ) × (k ≡ key.Interface j) × IsBehind (graph_uses g) old.exports j))
-    turned_back count all clear new at k =
+        → (new : World) → slice_get (turned between w (exportized answers again)).worlds w ≡ Some new → AreFormerExports (graph_uses g) old.exports new.exports
+    turned_back count all clear new at =
         let many : length answers ≡ length mid.imports = count ∙ ap (λ (o : Option World). length (option_map_or (λ (world : World). world.imports) o [])) mid_there in
         let second = exportized_accepted laws between valid_between w again answers clear mid mid_there many in
         let from = world_at between w (exportized answers again) new at in
         let same : from.0 ≡ mid = same_at between.worlds w w from.0 mid refl from.1 mid_there in
         let new_is : new ≡ turned_world between mid (exportized answers again mid) = from.2 ∙ ap (λ (x : World). turned_world between x (exportized answers again x)) same in
-        let keys = laws.exports between.types (graph_uses between) (listed between valid_between w mid mid_there (exportized answers again mid) second.from) (turned_world between mid (exportized answers again mid)) k valid_between.no_cycles.uses
-        (in_order between valid_between w mid mid_there (exportized answers again mid) second.from) (is_elaborated between valid_between w mid mid_there (exportized answers again mid) second.from laws second.no_conflict) in
-        let moved = keys_all mid.imports answers many all k in
-        let stay = kept k in (
-          λ has. stay.0 (moved.0 (keys.0 (subst (λ (x : World). Contains (keys_of x.exports) k) new_is has))),
-          λ either. subst (λ (x : World). Contains (keys_of x.exports) k) (sym new_is) (keys.1 (moved.1 (stay.1 either))),
-        )
+        let last = listed between valid_between w mid mid_there (exportized answers again mid) second.from in
+        let sound = in_order between valid_between w mid mid_there (exportized answers again mid) second.from in
+        let made = is_elaborated between valid_between w mid mid_there (exportized answers again mid) second.from laws second.no_conflict in record {
+          keys = λ k.
+              let keys = laws.exports between.types (graph_uses between) last (turned_world between mid (exportized answers again mid)) k valid_between.no_cycles.uses sound made in
+              let moved = keys_all mid.imports answers many all k in
+              let stay = kept k in (
+                λ has. stay.0 (moved.0 (keys.0 (subst (λ (x : World). Contains (keys_of x.exports) k) new_is has))),
+                λ either. subst (λ (x : World). Contains (keys_of x.exports) k) (sym new_is) (keys.1 (moved.1 (stay.1 either))),
+              );
+          labels = λ e has label.
+              elim ((laws.entries between.types (graph_uses between) last (turned_world between mid (exportized answers again mid)) e valid_between.no_cycles.uses sound made).1 (subst (λ (x : World). Contains x.exports e) new_is has)) [
+                | inl stays ↦ let user = answered_from true mid.imports answers e stays in label_from e (contained_at mid.imports user.0 e user.1) label
+                | inr dependency ↦ let never : true ≡ false = sym label ∙ ap (λ (x : Entry). is_label x.0) dependency.2 in cc
+              ];
+        }
 
 pub turned_twice : LawsOfElaboration → TurnedTwice
-turned_twice laws g w old new out again answers k valid there no_types clear =
+turned_twice laws g w old new out again answers valid there no_types clear =
     let accepted = importized_accepted laws g valid w out clear old there in
     let at = turned_is g w (importized out) old there in
     let valid_between = subst IsValid at (importized_valid laws g valid w out clear) in
     subst (λ (h : Graph). length answers ≡ length (imports_at h w) → Each (λ (answer : Bool). answer ≡ true) answers → ((error : ResolveErrorKind) → IsExportizeCause h w answers again error → ⊥)
     → slice_get (turned h w (exportized answers again)).worlds w ≡ Some new
-    → Contains (keys_of new.exports) k ↔ (Contains (keys_of old.exports) k ⊎ ((j : ℕ) × (k ≡ key.Interface j) × IsBehind (graph_uses g) old.exports j))) (sym at)
-    (λ count all clear_again found. turned_back laws g valid w old there out no_types accepted valid_between answers again count all clear_again new found k)
+    → AreFormerExports (graph_uses g) old.exports new.exports) (sym at)
+    (λ count all clear_again found. turned_back laws g valid w old there out no_types accepted valid_between answers again count all clear_again new found)

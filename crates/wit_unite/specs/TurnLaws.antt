@@ -9,6 +9,7 @@ use Rattle.wit_relations.specs.Relation.{Reaches, direct}
 use Rattle.wit_graph.specs.Elaboration.{graph_uses}
 use Rattle.wit_graph.specs.Entries.{Entry}
 use Rattle.wit_graph.specs.Imported.{exported_interfaces}
+use Rattle.wit_graph.specs.KeptByElaboration.{IsSettled, is_label}
 use Rattle.wit_graph.specs.Valid.{IsValid}
 use Rattle.wit_graph.specs.declared.error_kind.ResolveErrorKind.{ResolveErrorKind}
 use Rattle.wit_graph.specs.declared.graph.Graph.{Graph}
@@ -37,12 +38,18 @@ ExportizedImportsNothing = (g : Graph) (w : ℕ) (answers : List Bool) (out : Op
 abbrev pub IsBehind : List (List ℕ) → List Entry → ℕ → Type 0
 IsBehind uses exports j = (x : ℕ) × (d : ℕ) × Contains (exported_interfaces exports) x × Contains (direct uses x) d × Reaches uses d j
 
+-- the exports of a world are under the keys of the former ones and, under its own key, each interface that is reached
+-- from a direct use of one of them; what is under a label is what was, an interface without its span
+pub record AreFormerExports (uses : List (List ℕ)) (former exports : List Entry) : Type 0 where
+  pub keys : (k : WorldKey) → Contains (keys_of exports) k ↔ (Contains (keys_of former) k ⊎ ((j : ℕ) × (k ≡ key.Interface j) × IsBehind uses former j))
+  pub labels : (e : Entry) → Contains exports e → is_label e.0 ≡ true → IsSettled former e
+
 -- where the exports of a world without types became its imports, and then all of them its exports, these are the
--- former ones and, under its own key, each interface that is reached from a direct use of one of them
+-- former ones and what is behind them
 abbrev pub TurnedTwice : Type 0
-TurnedTwice = (g : Graph) (w : ℕ) (old new : World) (out again : Option (List ℕ)) (answers : List Bool) (k : WorldKey) → IsValid g → slice_get g.worlds w ≡ Some old → type_entries old.imports ≡ []
+TurnedTwice = (g : Graph) (w : ℕ) (old new : World) (out again : Option (List ℕ)) (answers : List Bool) → IsValid g → slice_get g.worlds w ≡ Some old → type_entries old.imports ≡ []
     → ((error : ResolveErrorKind) → IsImportizeCause g w out error → ⊥)
     → length answers ≡ length (imports_at (turned g w (importized out)) w) → Each (λ answer. answer ≡ true) answers
     → ((error : ResolveErrorKind) → IsExportizeCause (turned g w (importized out)) w answers again error → ⊥)
     → slice_get (turned (turned g w (importized out)) w (exportized answers again)).worlds w ≡ Some new
-    → Contains (keys_of new.exports) k ↔ (Contains (keys_of old.exports) k ⊎ ((j : ℕ) × (k ≡ key.Interface j) × IsBehind (graph_uses g) old.exports j))
+    → AreFormerExports (graph_uses g) old.exports new.exports
