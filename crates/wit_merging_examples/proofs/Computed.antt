@@ -1,8 +1,11 @@
 -- The examples that compute.
-use Rattle.std.proofs.Common.{◌≡◌, ℕ, List, length, slice_get, flat_map, refl, ap, arith}
+use Rattle.std.proofs.Common.{◌≡◌, ℕ, List, [], length, slice_get, flat_map, codes, Option, None, Some, refl, ap, arith}
 use Rattle.std.specs.Option.{option_map_or}
+use Rattle.std.specs.Prelude.{unwrap_or}
+use Rattle.wit_values.specs.Lists.{differ}
 use Rattle.wit_relations.specs.Walks.{walk, walk_within}
 use Rattle.wit_items.specs.declared.types.TypeDef.{TypeDef}
+use Rattle.wit_items.specs.declared.types.TypeDefKind.{TypeDefKind}
 use Rattle.wit_items.specs.declared.types.TypeOwner.{TypeOwner}
 use Rattle.wit_items.specs.declared.types.TypeOwner.TheVariants as owner
 use Rattle.wit_items.specs.declared.world.World.{World}
@@ -28,6 +31,17 @@ matches = record {
   goes_across = refl;
 }
 
+-- how many imports some worlds have
+abbrev import_count : List World → ℕ
+import_count worlds = length (flat_map (λ (w : World). w.imports) worlds)
+
+-- the name and the kind of a type
+abbrev name_at : ℕ → List TypeDef → List ℕ
+name_at t types = unwrap_or (option_map_or (λ (def : TypeDef). def.name) (slice_get types t) None) []
+
+abbrev kind_at : ℕ → List TypeDef → Option TypeDefKind
+kind_at t types = option_map_or (λ (def : TypeDef). Some def.kind) (slice_get types t) None
+
 -- the world that owns a type, and that of type 1
 owner_world : TypeOwner → ℕ
 owner_world (owner.World w) = w
@@ -43,12 +57,31 @@ unions = record {
   nothing_comes = refl;
   into_nothing = refl;
   itself = refl;
+  name_not_lost = λ same. let count : 1 ≡ 0 = ap (λ (g : Graph). length g.package_names) same in absurd (omega (arith, count));
+  import_not_lost = λ same. let count : 3 ≡ 2 = ap (λ (g : Graph). import_count g.worlds) same in absurd (omega (arith, count));
+  not_empty = λ same. let count : 4 ≡ 0 = ap (λ (g : Graph). length g.types) same in absurd (omega (arith, count));
+  empty_package = λ same. let count : 2 ≡ 1 = ap (λ (g : Graph). length g.packages) same in absurd (omega (arith, count));
+  type_not_twice = λ same. let count : 4 ≡ 5 = ap (λ (g : Graph). length g.types) same in absurd (omega (arith, count));
+  package_not_twice = λ same. let count : 1 ≡ 2 = ap (λ (g : Graph). length g.packages) same in absurd (omega (arith, count));
+  name_not_twice = λ same. let count : 1 ≡ 2 = ap (λ (g : Graph). length g.package_names) same in absurd (omega (arith, count));
   grown = refl;
   stays = λ same. let count : 3 ≡ 1 = ap (λ (g : Graph). length g.types) same in absurd (omega (arith, count));
   less = refl;
   first_order = refl;
   second_order = refl;
+  first_not_turned = λ same. differ (codes "u") (codes "v") refl (ap (λ (g : Graph). name_at 1 g.types) same);
+  second_not_turned = λ same. differ (codes "v") (codes "u") refl (ap (λ (g : Graph). name_at 1 g.types) same);
+  first_not_less = λ same. let count : 3 ≡ 2 = ap (λ (g : Graph). length g.types) same in absurd (omega (arith, count));
+  second_not_less = λ same. let count : 3 ≡ 2 = ap (λ (g : Graph). length g.types) same in absurd (omega (arith, count));
+  first_import = λ same. let count : 1 ≡ 0 = ap (λ (g : Graph). import_count g.worlds) same in absurd (omega (arith, count));
+  second_import = λ same. let count : 1 ≡ 0 = ap (λ (g : Graph). import_count g.worlds) same in absurd (omega (arith, count));
+  orders_differ = λ same. differ (codes "u") (codes "v") refl (ap (λ (g : Graph). name_at 1 g.types) same);
   owned = refl;
+  not_plain = λ same. let count : 3 ≡ 2 = ap (λ (ts : List TypeDef). length ts) same in absurd (omega (arith, count));
+  not_borrowed = λ same. let kinds = ap (kind_at 2) same in cc;
+  not_before = λ same. let kinds = ap (kind_at 1) same in cc;
+  no_number = λ same. let kinds = ap (kind_at 0) same in cc;
+  no_own = refl;
   not_owned = refl;
   elaborated = refl;
   not_as_listed = λ same. let count : 2 ≡ 1 = ap (λ (ws : List World). length (flat_map (λ (w : World). w.imports) ws)) same in absurd (omega (arith, count));

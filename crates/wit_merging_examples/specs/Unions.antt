@@ -5,17 +5,19 @@ use Rattle.wit_items.specs.declared.types.Handle.TheVariants as handle
 use Rattle.wit_items.specs.declared.types.TypeDef.{TypeDef}
 use Rattle.wit_items.specs.declared.types.TypeDefKind.TheVariants as kind
 use Rattle.wit_items.specs.declared.types.TypeOwner.TheVariants as owner
+use Rattle.wit_items.specs.declared.types.Type_.{Type_}
 use Rattle.wit_items.specs.declared.types.Type_.TheVariants as type
 use Rattle.wit_items.specs.declared.world.World.{World}
 use Rattle.wit_items.specs.declared.world.WorldItem.TheVariants as item
 use Rattle.wit_items.specs.declared.world.WorldKey.TheVariants as key
 use Rattle.wit_graph.specs.Examples.{empty_graph}
-use Rattle.wit_graph.specs.Samples.{entry_of, foo_bar_of, function_of, interface_of, no_docs, type_in, type_of, unnamed, world_of}
+use Rattle.wit_graph.specs.Samples.{entry_of, foo_bar, foo_bar_of, function_of, interface_of, no_docs, type_in, type_of, unnamed, world_of}
 use Rattle.wit_graph.specs.declared.graph.Graph.{Graph}
+use Rattle.wit_graph.specs.declared.graph.Package.{Package}
 use Rattle.wit_merging.specs.Matches.{found_interface, found_package, found_type, found_world}
 use Rattle.wit_merging.specs.Moved.{going}
 use Rattle.wit_merging.specs.United.{united}
-use Rattle.wit_merging_examples.specs.Graphs.{a_uses_b, b_uses_a, foo_bar_alone, foo_named, gate_f, i_uses_j, inner, interface_in, merging, more, number_in, one_number, only_c, package_named, record_x, resource_t, three, two_numbers, world_of_i}
+use Rattle.wit_merging_examples.specs.Graphs.{a_uses_b, alias_in, b_uses_a, field_a, foo_bar_alone, foo_named, gate_f, i_uses_j, inner, interface_in, merging, more, number_in, one_number, only_c, package_named, record_x, resource_t, three, two_numbers, world_of_i}
 
 -- what is matched, and where things go
 pub record ExamplesOfMatches : Type 0 where
@@ -48,6 +50,14 @@ three_numbers second third = foo_bar_alone (number_in 0 (codes "t") ∷ number_i
 abbrev pub gated : Stability → Graph
 gated note = record one_number { types = record (number_in 0 (codes "t")) { stability = note } ∷ [] }
 
+-- a record x of interface i with a field of this type
+abbrev pub x_of : Type_ → TypeDef
+x_of ty = type_in 0 (codes "x") (kind.Record (field_a ty ∷ []))
+
+-- package foo:bar of the graph `three`
+abbrev pub home_of_three : Package
+home_of_three = foo_bar_of ((codes "a", 0) ∷ (codes "b", 1) ∷ (codes "c", 2) ∷ []) ((codes "w", 0) ∷ [])
+
 -- a function f under label f of world w
 abbrev pub world_function : Graph
 world_function = foo_bar_alone [] [] (world_of (codes "w") ((key.Name (codes "f"), item.Function (function_of (codes "f") [] None)) ∷ []) [] ∷ []) [] ((codes "w", 0) ∷ [])
@@ -68,6 +78,16 @@ pub record ExamplesOfUnions : Type 0 where
   pub nothing_comes : united (merging three empty_graph) ≡ three
   pub into_nothing : united (merging empty_graph three) ≡ three
   pub itself : united (merging three three) ≡ three
+  -- with nothing nothing goes, be it the list of a package's name alone or one import; and a package that holds nothing is
+  -- not nothing
+  pub name_not_lost : united (merging three empty_graph) ≡ record three { package_names = [] } → ⊥
+  pub import_not_lost : united (merging three empty_graph) ≡ record three { worlds = world_of (codes "w") (entry_of 0 ∷ entry_of 1 ∷ []) [] ∷ [] } → ⊥
+  pub not_empty : united (merging empty_graph three) ≡ empty_graph → ⊥
+  pub empty_package : united (merging three (record empty_graph { packages = package_named (codes "c") [] ∷ []; package_names = (foo_named (codes "c"), 0) ∷ [] })) ≡ three → ⊥
+  -- of a graph into itself nothing comes a second time: not a type, not the package, not its name
+  pub type_not_twice : united (merging three three) ≡ record three { types = number_in 0 (codes "t") ∷ alias_in 1 (codes "t") 0 ∷ alias_in 2 (codes "t") 0 ∷ alias_in 2 (codes "t2") 1 ∷ alias_in 2 (codes "t2") 1 ∷ [] } → ⊥
+  pub package_not_twice : united (merging three three) ≡ record three { packages = home_of_three ∷ home_of_three ∷ [] } → ⊥
+  pub name_not_twice : united (merging three three) ≡ record three { package_names = (foo_bar, 0) ∷ (foo_bar, 0) ∷ [] } → ⊥
   -- what isn't there comes: u to i, j to the package; and it isn't left out
   pub grown : united (merging one_number more) ≡ more
   pub stays : united (merging one_number more) ≡ one_number → ⊥
@@ -76,8 +96,24 @@ pub record ExamplesOfUnions : Type 0 where
   -- in both orders the same names, though not the same order
   pub first_order : united (merging (two_numbers (codes "u")) (two_numbers (codes "v"))) ≡ three_numbers (codes "u") (codes "v")
   pub second_order : united (merging (two_numbers (codes "v")) (two_numbers (codes "u"))) ≡ three_numbers (codes "v") (codes "u")
+  -- what is there stays before what comes, in each order; nothing is left out, and the world imports i still
+  pub first_not_turned : united (merging (two_numbers (codes "u")) (two_numbers (codes "v"))) ≡ three_numbers (codes "v") (codes "u") → ⊥
+  pub second_not_turned : united (merging (two_numbers (codes "v")) (two_numbers (codes "u"))) ≡ three_numbers (codes "u") (codes "v") → ⊥
+  pub first_not_less : united (merging (two_numbers (codes "u")) (two_numbers (codes "v"))) ≡ two_numbers (codes "u") → ⊥
+  pub second_not_less : united (merging (two_numbers (codes "v")) (two_numbers (codes "u"))) ≡ two_numbers (codes "v") → ⊥
+  pub first_import : united (merging (two_numbers (codes "u")) (two_numbers (codes "v"))) ≡ record (three_numbers (codes "u") (codes "v")) { worlds = world_of (codes "w") [] [] ∷ [] } → ⊥
+  pub second_import : united (merging (two_numbers (codes "v")) (two_numbers (codes "u"))) ≡ record (three_numbers (codes "v") (codes "u")) { worlds = world_of (codes "w") [] [] ∷ [] } → ⊥
+  -- so the two graphs that are made aren't equal
+  pub orders_differ : united (merging (two_numbers (codes "u")) (two_numbers (codes "v"))) ≡ united (merging (two_numbers (codes "v")) (two_numbers (codes "u"))) → ⊥
   -- t is a resource here, so a value of it is an `own`, which stands behind what moves; the record itself isn't kept out
   pub owned : (united (merging resource_t record_x)).types ≡ type_in 0 (codes "t") kind.Resource ∷ type_in 0 (codes "x") (kind.Record (record { name = codes "a"; ty = type.Id 2; docs = no_docs; span = None } ∷ [])) ∷ unnamed (kind.Handle (handle.Own 0)) ∷ []
+  -- not a plain value of it, not a `borrow`, not an `own` before the record, and t becomes no number
+  pub not_plain : (united (merging resource_t record_x)).types ≡ type_in 0 (codes "t") kind.Resource ∷ x_of (type.Id 0) ∷ [] → ⊥
+  pub not_borrowed : (united (merging resource_t record_x)).types ≡ type_in 0 (codes "t") kind.Resource ∷ x_of (type.Id 2) ∷ unnamed (kind.Handle (handle.Borrow 0)) ∷ [] → ⊥
+  pub not_before : (united (merging resource_t record_x)).types ≡ type_in 0 (codes "t") kind.Resource ∷ unnamed (kind.Handle (handle.Own 0)) ∷ x_of (type.Id 1) ∷ [] → ⊥
+  pub no_number : (united (merging resource_t record_x)).types ≡ number_in 0 (codes "t") ∷ x_of (type.Id 2) ∷ unnamed (kind.Handle (handle.Own 0)) ∷ [] → ⊥
+  -- where t is a number here too no `own` comes
+  pub no_own : united (merging one_number record_x) ≡ record_x
   -- and t stays what it is here
   pub not_owned : united (merging record_x resource_t) ≡ record_x
   -- i uses j now, so a world that imports i imports j, before it

@@ -1,0 +1,6 @@
+pub mod CanonicalNames
+pub mod Dependencies
+pub mod ExternalIds
+pub mod KeptImports
+pub mod TwoPlaces
+pub mod VersionTracks
