@@ -1,5 +1,6 @@
 mod Clashing
 mod Examples
+mod FirstSteps
 mod GroupSteps
 mod NewLabels
 mod PlacingSteps

@@ -1,14 +1,14 @@
 -- A label as its renamings make it.
-use Rattle.std.proofs.Common.{◌≡◌, ◌∙◌, ◌≤◌, ◌+◌, ℕ, true, false, List, [], ◌∷◌, ◌++◌, length, take, drop, ap, sym, subst, arith, Option, Some, None, slice_get}
+use Rattle.std.proofs.Common.{◌≡◌, ◌∙◌, ℕ, Bool, true, false, cond, List, [], ◌∷◌, ◌++◌, length, take, drop, refl, ap, sym, subst, arith, Option, Some, None, find, slice_get, true≢false}
 use Rattle.std.proofs.lemmas.Bool.{cond-true, cond-false}
-use Rattle.std.proofs.lemmas.List.{append_assoc, drop_all, take_all, take-append-drop}
-use Rattle.std.proofs.lemmas.List.Elements.{filter_map-append}
+use Rattle.std.proofs.lemmas.List.{append_assoc, drop_all, take_all}
 use Rattle.std.specs.Cmp.Lexicographic.{nat_list_eq_equiv}
 use Rattle.std.specs.Prelude.{◌==◌, unwrap_or}
-use Rattle.std.specs.List.{concat, before_first, filter_map, position_or_len}
+use Rattle.std.specs.List.{concat, before_first, cons_option, filter_map, position_or_len}
+use Rattle.std.specs.Option.{option_map}
 use Rattle.std.specs.Str.{bytes_eq}
 use Rattle.wit_items.specs.declared.world.IncludeName.{IncludeName}
-use Rattle.wit_values.specs.Lists.{filter_map-next_none, filter_map-next_some}
+use Rattle.wit_labels.specs.FirstRenamings.{is_of}
 use Rattle.wit_labels.specs.Groups.{begins_group, groups_of, rest_of}
 use Rattle.wit_labels.specs.Rename.{behind, renamed, renamed_behind, renamed_by, renamed_rest}
 
@@ -20,9 +20,10 @@ pub none_after : (rest : List ℕ) → [] ≡ drop (length rest) rest
 none_after rest = sym (drop_all (length rest) rest (omega arith))
 
 -- the label where the renaming is of it
-pub renamed_by-new : (name : IncludeName) (label groups rest word after new : List ℕ) → groups ≡ concat (groups_of label) → rest ≡ rest_of label → begins_group rest ≡ false
-    → word ≡ before_first (λ b. b == 46) rest → after ≡ drop (length word) rest → word ≡ name.name → new ≡ (groups ++ name.as_) ++ after → Some new ≡ renamed_by name label
-renamed_by-new name label groups rest word after new groups_are rest_is plain word_is after_is same made =
+pub renamed_by-new : (name : IncludeName) (label groups word after new : List ℕ) → begins_group (rest_of label) ≡ false → groups ≡ concat (groups_of label)
+    → word ≡ before_first (λ b. b == 46) (rest_of label) → after ≡ drop (length word) (rest_of label) → word ≡ name.name → new ≡ (groups ++ name.as_) ++ after → Some new ≡ renamed_by name label
+renamed_by-new name label groups word after new plain groups_are word_is after_is same made =
+    let rest = rest_of label in
     let first = before_first (λ b. b == 46) rest in
     let equal : bytes_eq first name.name ≡ true =
     subst (λ (w : List ℕ). bytes_eq w name.name ≡ true) (sym same ∙ word_is) (nat_list_eq_equiv.refl name.name) in
@@ -31,25 +32,56 @@ renamed_by-new name label groups rest word after new groups_are rest_is plain wo
     let whole : renamed_behind name groups rest ≡ Some (groups ++ (name.as_ ++ drop (length first) rest)) =
     cond-false (begins_group rest) None (behind groups (renamed_rest name rest)) plain ∙ ap (behind groups) inner in
     ap Some (made ∙ append_assoc groups name.as_ after ∙ ap (λ (w : List ℕ). groups ++ w) tail) ∙ sym whole
-    ∙ ap (λ (g : List ℕ). renamed_behind name g rest) groups_are ∙ ap (renamed_behind name (concat (groups_of label))) rest_is
+    ∙ ap (λ (g : List ℕ). renamed_behind name g rest) groups_are
 
--- the first renaming that is of the label
-pub renamed-first : (names : List IncludeName) (label : List ℕ) (i : ℕ) (name : IncludeName) (new : List ℕ) → slice_get names i ≡ Some name
-    → filter_map (λ (n : IncludeName). renamed_by n label) (take i names) ≡ [] → renamed_by name label ≡ Some new → new ≡ renamed names label
-renamed-first names label i name new at none is =
-    let f : IncludeName → Option (List ℕ) = λ (n : IncludeName). renamed_by n label in
-    let front : filter_map f (take (i + 1) names) ≡ new ∷ [] = filter_map-next_some f names i name new at is ∙ ap (λ (l : List (List ℕ)). l ++ new ∷ []) none in
-    let all : filter_map f names ≡ new ∷ filter_map f (drop (i + 1) names) =
-    ap (filter_map f) (sym (take-append-drop (i + 1) names)) ∙ filter_map-append f (take (i + 1) names) (drop (i + 1) names)
-    ∙ ap (λ (l : List (List ℕ)). l ++ filter_map f (drop (i + 1) names)) front in
-    sym (ap (λ (l : List (List ℕ)). unwrap_or (slice_get l 0) label) all)
+-- ---- the first renaming that is of a label
 
--- no renaming is of the label
-pub renamed-none : (names : List IncludeName) (label : List ℕ) (i : ℕ) → length names ≤ i → filter_map (λ (n : IncludeName). renamed_by n label) (take i names) ≡ [] → label ≡ renamed names label
-renamed-none names label i past none =
-    let all : filter_map (λ (n : IncludeName). renamed_by n label) names ≡ [] = ap (filter_map (λ (n : IncludeName). renamed_by n label)) (sym (take_all i names past)) ∙ none in
-    sym (ap (λ (l : List (List ℕ)). unwrap_or (slice_get l 0) label) all)
+abbrev word_of : List ℕ → List ℕ
+word_of label = before_first (λ b. b == 46) (rest_of label)
 
-pub none-next : (names : List IncludeName) (label : List ℕ) (i : ℕ) (name : IncludeName) → slice_get names i ≡ Some name
-    → filter_map (λ (n : IncludeName). renamed_by n label) (take i names) ≡ [] → renamed_by name label ≡ None → filter_map (λ (n : IncludeName). renamed_by n label) (take (i + 1) names) ≡ []
-none-next names label i name at none other = filter_map-next_none (λ (n : IncludeName). renamed_by n label) names i name at other ∙ none
+-- the label as this renaming makes it, where it is of its word
+abbrev made_by : List ℕ → IncludeName → List ℕ
+made_by label name = concat (groups_of label) ++ (name.as_ ++ drop (length (word_of label)) (rest_of label))
+
+first-made : (label : List ℕ) → begins_group (rest_of label) ≡ false → (names : List IncludeName)
+    → slice_get (filter_map (λ (n : IncludeName). renamed_by n label) names) 0 ≡ option_map (made_by label) (find (is_of (word_of label)) names)
+first-made label plain [] = refl
+first-made label plain (name ∷ names) = by (begins_group (rest_of label)) (bytes_eq (word_of label) name.name) plain (first-made label plain names)
+  where
+    f : IncludeName → Option (List ℕ)
+    f n = renamed_by n label
+
+    by : (open_bracket same : Bool) → open_bracket ≡ false → slice_get (filter_map f names) 0 ≡ option_map (made_by label) (find (is_of (word_of label)) names)
+        → slice_get (cons_option (cond open_bracket None (behind (concat (groups_of label)) (cond same (Some (name.as_ ++ drop (length (word_of label)) (rest_of label))) None))) (filter_map f names)) 0
+        ≡ option_map (made_by label) (cond same (Some name) (find (is_of (word_of label)) names))
+    by true same is rest = absurd (true≢false is)
+    by false true is rest = refl
+    by false false is rest = rest
+
+-- behind a bracket that isn't closed nothing is renamed
+none-made : (label : List ℕ) → begins_group (rest_of label) ≡ true → (names : List IncludeName) → filter_map (λ (n : IncludeName). renamed_by n label) names ≡ []
+none-made label unclosed [] = refl
+none-made label unclosed (name ∷ names) =
+    ap (λ (o : Option (List ℕ)). cons_option o (filter_map (λ (n : IncludeName). renamed_by n label) names)) (cond-true (begins_group (rest_of label)) None (behind (concat (groups_of label)) (renamed_rest name (rest_of label))) unclosed)
+    ∙ none-made label unclosed names
+
+pub renamed-unclosed : (names : List IncludeName) (label : List ℕ) → begins_group (rest_of label) ≡ true → label ≡ renamed names label
+renamed-unclosed names label unclosed = sym (ap (λ (l : List (List ℕ)). unwrap_or (slice_get l 0) label) (none-made label unclosed names))
+
+module _ (names : List IncludeName) (label word : List ℕ) (plain : begins_group (rest_of label) ≡ false) (word_is : word ≡ before_first (λ b. b == 46) (rest_of label)) where
+  by_word : (found : Option IncludeName) → found ≡ find (is_of word) names → renamed names label ≡ unwrap_or (option_map (made_by label) found) label
+  by_word found is =
+      ap (λ (o : Option (List ℕ)). unwrap_or o label) (first-made label plain names)
+      ∙ ap (λ (o : Option IncludeName). unwrap_or (option_map (made_by label) o) label) (sym (is ∙ ap (λ (w : List ℕ). find (is_of w) names) word_is))
+
+  -- the label as the first renaming of its word makes it
+  pub renamed-first : (groups after new : List ℕ) (name : IncludeName) → groups ≡ concat (groups_of label) → after ≡ drop (length word) (rest_of label)
+      → Some name ≡ find (is_of word) names → new ≡ (groups ++ name.as_) ++ after → new ≡ renamed names label
+  renamed-first groups after new name groups_are after_is is made =
+      let tail : after ≡ drop (length (word_of label)) (rest_of label) = after_is ∙ ap (λ (w : List ℕ). drop (length w) (rest_of label)) word_is in
+      made ∙ append_assoc groups name.as_ after ∙ ap (λ (g : List ℕ). g ++ (name.as_ ++ after)) groups_are ∙ ap (λ (t : List ℕ). concat (groups_of label) ++ (name.as_ ++ t)) tail
+      ∙ sym (by_word (Some name) is)
+
+  -- no renaming is of its word
+  pub renamed-none : None ≡ find (is_of word) names → label ≡ renamed names label
+  renamed-none is = sym (by_word None is)

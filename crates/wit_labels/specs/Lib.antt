@@ -1,4 +1,5 @@
 pub mod Examples
+pub mod FirstRenamings
 pub mod Groups
 pub mod Placing
 pub mod Rename

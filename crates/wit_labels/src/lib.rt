@@ -11,6 +11,6 @@ pub mod strong;
 
 pub use crate::groups::{has_group, rest_of, split_group};
 pub use crate::placing::place_setters;
-pub use crate::renaming::{rename, rename_first};
+pub use crate::renaming::{Renamings, rename};
 pub use crate::setters::{find_setter_without_getter, getter_label, is_setter_label};
 pub use crate::strong::{Clash, find_clash, strong_key};

@@ -4,5 +4,5 @@ use Rattle.wit_labels.proofs.renaming.rename.Goals as goal
 
 pub returns : goal.returns
 returns c =
-    renamed_by-new c.args.name.now c.args.label.now c.split_groups.result.0.now c.split_groups.result.1.now c.split_word.result.0.now c.split_word.result.1.now _
-    c.split_groups.ensures.groups c.split_groups.ensures.rest (search rules) c.split_word.ensures.word c.split_word.ensures.after (search rules) (search rules)
+    renamed_by-new c.args.name.now c.args.label.now c.in-Some.groups.now c.in-Some.word.now c.in-Some.after.now _
+    c.in-Some.ensures.plain c.in-Some.ensures.groups c.in-Some.ensures.word c.in-Some.ensures.after (search rules) (search rules)

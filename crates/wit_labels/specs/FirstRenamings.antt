@@ -1,0 +1,19 @@
+-- Which renaming of an include is the first of a word.
+use Rattle.std.specs.Prelude.{◌≡◌, ℕ, Bool, List, Option, None, Some, slice_get}
+use Rattle.std.specs.List.{find}
+use Rattle.std.specs.Map.{lookup}
+use Rattle.std.specs.Str.{bytes_eq}
+use Rattle.wit_items.specs.declared.world.IncludeName.{IncludeName}
+
+-- is the renaming of this word?
+abbrev pub is_of : List ℕ → IncludeName → Bool
+is_of word name = bytes_eq word name.name
+
+-- the place at which a renaming stands, none where there is no renaming
+abbrev pub IsPlaceOf : List IncludeName → Option ℕ → Option IncludeName → Type 0
+IsPlaceOf names None found = found ≡ None
+IsPlaceOf names (Some place) found = (name : IncludeName) × (slice_get names place ≡ Some name) × (found ≡ Some name)
+
+-- a table has under each word the place of the first renaming of it, and no word more
+abbrev pub TellsFirsts : List IncludeName → List (List ℕ × ℕ) → Type 0
+TellsFirsts names table = (word : List ℕ) → IsPlaceOf names (lookup (bytes_eq word) table) (find (is_of word) names)
