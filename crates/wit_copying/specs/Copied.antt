@@ -32,7 +32,7 @@ goes table id = unwrap_or (lookup (nat_eq id) table) id
 
 -- the maps that copies stand for
 abbrev pub maps_of : Copies → Maps
-maps_of c = include_maps (goes c.types) (goes c.interfaces) (renamed c.names.now) c.from c.into c.home
+maps_of c = include_maps (goes c.types) (goes c.interfaces) (renamed c.names) c.from c.into c.home
 
 -- the graph with images of some of its types and interfaces behind them
 abbrev pub with_images : Graph → Maps → (ℕ → Bool) → (ℕ → Bool) → Graph

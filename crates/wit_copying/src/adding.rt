@@ -23,13 +23,15 @@ use wit_graph::Graph;
 use wit_items::{
     IncludeName, Interface, InterfaceId, Items, PackageId, Table, TypeDef, TypeId, WorldId,
 };
+use wit_labels::Renamings;
 
 /// Puts copies of what goes with world `from` at the ends of a graph's types and interfaces, for an include of it in
 /// world `into` of package `home` under some renamings. Where there is no memory some of them may be there: the graph
 /// begins as it was, and a mark cuts it back.
 ///
-/// It takes a step for each entry of the world, for each type that these name, also through others without a name or
-/// of the world, and for each type that one of these refers to; and what sorting takes for those that are copied.
+/// It takes a step for each renaming, for each entry of the world, for each type that these name, also through others
+/// without a name or of the world, and for each type that one of these refers to; and what sorting takes for those that
+/// are copied.
 pub fn add_copies<'a>(
     alloc: Global,
     graph: &mut Graph,
@@ -47,6 +49,7 @@ pub fn add_copies<'a>(
     ensures from { IfOk result (λ copies. copies.from ≡ from) }
     ensures grown { Grown graph.old graph.new }
 {
+    let names = Renamings::new(alloc, names)?;
     let interfaces = going_interfaces(alloc, graph, from)?;
     let types = copied_types(alloc, graph, from, &interfaces)?;
     let copies = Copies {

@@ -8,10 +8,10 @@ ghost use Rattle.wit_copying.specs.Copied.{maps_of};
 use std::alloc::{AllocError, Global};
 use std::mem;
 use wit_items::{
-    IncludeName, Interface, InterfaceId, Items, PackageId, Span, Table, Text, TryClone, TypeDef,
-    TypeId, TypeOwner, WorldId, WorldItem, WorldKey,
+    Interface, InterfaceId, Items, PackageId, Span, Table, Text, TryClone, TypeDef, TypeId,
+    TypeOwner, WorldId, WorldItem, WorldKey,
 };
-use wit_labels::rename_first;
+use wit_labels::Renamings;
 use wit_placing::{Moves, Place};
 
 /// Where what an include copies of a world goes. An id that isn't there stays.
@@ -25,7 +25,7 @@ pub struct Copies<'a> {
     /// The package of that world.
     pub home: PackageId,
     /// How labels are renamed.
-    pub names: &'a Items<IncludeName>,
+    pub names: Renamings<'a>,
 }
 
 /// As the derived one: each field is let go. A call of it costs the check less.
@@ -37,10 +37,11 @@ impl<'a> Drop for Copies<'a> {
             from: _,
             into: _,
             home: _,
-            names: _,
+            names,
         } = self;
         drop(types);
         drop(interfaces);
+        drop(names);
     }
 }
 
@@ -83,9 +84,9 @@ impl<'a> Moves for Copies<'a> {
 impl<'a> Copies<'a> {
     /// A label of the included world, renamed.
     fn label(&self, alloc: Global, label: &Text) -> Result<Text, AllocError>
-        ensures { IfOk result (λ new. new ≡ renamed self.now.names.now label.now) }
+        ensures { IfOk result (λ new. new ≡ renamed self.now.names label.now) }
     {
-        rename_first(alloc, label.as_str(), self.names)
+        self.names.rename(alloc, label.as_str())
     }
 
     /// The copy of a type. A type of the included world is renamed with its label.
@@ -105,7 +106,7 @@ impl<'a> Copies<'a> {
 
     /// A name of a type of the included world, renamed.
     fn name(&self, alloc: Global, name: &Option<Text>) -> Result<Option<Text>, AllocError>
-        ensures { IfOk result (λ new. new ≡ option_map (renamed self.now.names.now) name.now) }
+        ensures { IfOk result (λ new. new ≡ option_map (renamed self.now.names) name.now) }
     {
         match name {
             Some(label) => Ok(Some(self.label(alloc, label)?)),

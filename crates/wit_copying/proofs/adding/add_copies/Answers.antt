@@ -1,4 +1,4 @@
-use Rattle.std.proofs.Common.{◌≡◌, ◌∙◌, ℕ, List, Some, Contains, is_some, length, map, nat_eq, ap, slice_get, subst, sym, ◌<◌}
+use Rattle.std.proofs.Common.{◌≡◌, ◌∙◌, ℕ, List, Some, Contains, is_some, length, nat_eq, ap, slice_get, subst, sym, ◌<◌}
 use Rattle.std.specs.Map.{keys_of, lookup}
 use Rattle.wit_items.specs.declared.world.IncludeName.{IncludeName}
 use Rattle.wit_items.specs.declared.world.World.{World}
@@ -41,6 +41,14 @@ module _ (g : Graph) (from : ℕ) (world : World) (types interfaces : List (ℕ 
   interface_keys : keys_of interfaces ≡ places (goes_with g world) g.interfaces
   interface_keys = ap keys_of interfaces_is ∙ numbered-keys (length g.interfaces) (places (goes_with g world) g.interfaces)
 
+-- renamings that are those of the include
+names_go : (types interfaces : List (ℕ × ℕ)) (made names : List IncludeName) (from into home : ℕ) → made ≡ names
+    → include_maps (goes types) (goes interfaces) (renamed made) from into home ≡ include_maps (goes types) (goes interfaces) (renamed names) from into home
+names_go types interfaces made names from into home is = ap (λ (n : List IncludeName). include_maps (goes types) (goes interfaces) (renamed n) from into home) is
+
+pub returns-in_err-names-clause-grown : goal.returns-in_err-names-clause-grown
+returns-in_err-names-clause-grown c = Grown-same c.args.graph.now
+
 pub copied_types-requires-clause-going : goal.copied_types-requires-clause-going
 copied_types-requires-clause-going c =
     let g = c.args.graph.now in
@@ -74,7 +82,8 @@ pub returns-clause-maps : goal.returns-clause-maps
 returns-clause-maps c = λ world at.
     let g = c.args.graph.now in
     let tables : TypesAt g c.args.from c.in_ok-types.types = subst (λ (x : Graph). TypesAt x c.args.from c.in_ok-types.types) c.in_ok-interfaces.ensures.same c.in_ok-types.ensures.table in
-    maps_go g c.args.from world c.in_ok-types.types c.in_ok-interfaces.interfaces (tables world at) (c.in_ok-interfaces.ensures.table world at) c.args.names.now c.args.into c.args.home
+    names_go c.in_ok-types.types c.in_ok-interfaces.interfaces c.in_ok-names.names c.args.names.now c.args.from c.args.into c.args.home c.in_ok-names.ensures
+    ∙ maps_go g c.args.from world c.in_ok-types.types c.in_ok-interfaces.interfaces (tables world at) (c.in_ok-interfaces.ensures.table world at) c.args.names.now c.args.into c.args.home
 
 pub returns-clause-ok : goal.returns-clause-ok
 returns-clause-ok c = λ world at.
@@ -86,8 +95,9 @@ returns-clause-ok c = λ world at.
     let interfaces_is = c.in_ok-interfaces.ensures.table world at in
     let copied = is_copied g from world in
     let going = goes_with g world in
-    let m : Maps = include_maps (goes c.in_ok-types.types) (goes c.in_ok-interfaces.interfaces) (renamed c.args.names.now) from c.args.into c.args.home in
-    let m_is : m ≡ copy_maps g from world c.args.names.now c.args.into c.args.home = maps_go g from world c.in_ok-types.types c.in_ok-interfaces.interfaces types_is interfaces_is c.args.names.now c.args.into c.args.home in
+    let m : Maps = include_maps (goes c.in_ok-types.types) (goes c.in_ok-interfaces.interfaces) (renamed c.in_ok-names.names) from c.args.into c.args.home in
+    let m_is : m ≡ copy_maps g from world c.args.names.now c.args.into c.args.home =
+    names_go c.in_ok-types.types c.in_ok-interfaces.interfaces c.in_ok-names.names c.args.names.now from c.args.into c.args.home c.in_ok-names.ensures ∙ maps_go g from world c.in_ok-types.types c.in_ok-interfaces.interfaces types_is interfaces_is c.args.names.now c.args.into c.args.home in
     c.in_ok-append_copies.ensures.ok copied going
     (type_keys g from world c.in_ok-types.types c.in_ok-interfaces.interfaces types_is interfaces_is ∙ ap (λ (x : Graph). places copied x.types) (sym same))
     (interface_keys g from world c.in_ok-types.types c.in_ok-interfaces.interfaces types_is interfaces_is ∙ ap (λ (x : Graph). places going x.interfaces) (sym same))
