@@ -51,7 +51,7 @@ main_at (e ∷ es) n p has = elim (Contains-cons_cases (named_version e) (foo_ma
 only_w : (w : ℕ) → Contains (called (codes "w") 0 ∷ []) (codes "w", w) → 0 ≡ w
 only_w w has = ap (λ (e : List ℕ × ℕ). e.1) (only_one (codes "w", 0) (codes "w", w) has)
 
-abbrev letter : List ℕ → ℕ
+abbrev pub letter : List ℕ → ℕ
 letter text = slice_index_or text 0 0
 
 no_v : (w : ℕ) → Contains (called (codes "w") 0 ∷ []) (codes "v", w) → ⊥
@@ -99,11 +99,11 @@ w_of_releases = (2, third_in _ _ (foo_main, 2), Contains-here w_entry [])
 
 -- ---- the rule of tracks of a state
 
-abbrev is_with_prereleases : TrackRule → Bool
+abbrev pub is_with_prereleases : TrackRule → Bool
 is_with_prereleases Published = false
 is_with_prereleases WithPrereleases = true
 
-abbrev is_other_rule : State → Bool
+abbrev pub is_other_rule : State → Bool
 is_other_rule s = is_with_prereleases s.track_rule
 
 -- the graph after one step

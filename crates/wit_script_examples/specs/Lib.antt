@@ -1,4 +1,7 @@
 pub mod LineExamples
+pub mod MergeExamples
+pub mod OtherExamples
 pub mod PackageExamples
 pub mod ScriptExamples
+pub mod SmallGraphs
 pub mod StepExamples

@@ -1,5 +1,7 @@
 //! What lines, packages and scripts say, and what isn't understood.
 ghost use Rattle.wit_script_examples.specs.LineExamples.{ExamplesOfLines};
+ghost use Rattle.wit_script_examples.specs.MergeExamples.{ExamplesOfMerges, ExamplesOfRefusedMerges};
+ghost use Rattle.wit_script_examples.specs.OtherExamples.{ExamplesOfMergeLines, ExamplesOfOtherLines};
 ghost use Rattle.wit_script_examples.specs.PackageExamples.{ExamplesOfPackages};
 ghost use Rattle.wit_script_examples.specs.ScriptExamples.{ExamplesOfScripts};
 ghost use Rattle.wit_script_examples.specs.StepExamples.{ExamplesOfAnswers, ExamplesOfSteps};
@@ -39,3 +41,23 @@ pub fn examples_of_answers()
     examples_of_rules();
     examples_of_causes();
 }
+
+/// Steps in which another graph goes into one, and what they aren't.
+pub fn examples_of_merges()
+    ensures { ExamplesOfMerges }
+{}
+
+/// Steps in which it is refused, what is left then, and refusals without a reason.
+pub fn examples_of_refused_merges()
+    ensures { ExamplesOfRefusedMerges }
+{}
+
+/// What a script answers to `other`, and which graphs are there then.
+pub fn examples_of_other_lines()
+    ensures { ExamplesOfOtherLines }
+{}
+
+/// What it answers to `merge`, and which graphs are there then.
+pub fn examples_of_merge_lines()
+    ensures { ExamplesOfMergeLines }
+{}
