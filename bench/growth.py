@@ -98,6 +98,18 @@ def includes(size):
     yield f"print foo:bar w{size - 1}"
 
 
+def renames(size):
+    """One include that renames each of that many labels."""
+    yield "package foo:bar"
+    yield "world base"
+    for number in range(size):
+        yield f"import-func f{number}()"
+    yield "world w"
+    yield "include base " + " ".join(f"f{number}=g{number}" for number in range(size))
+    yield "push"
+    yield "print foo:bar w"
+
+
 def resources(size):
     """Resources, and functions that take one each; each resource has one `own`, however often it is taken."""
     yield "package foo:bar"
@@ -156,7 +168,7 @@ def tracks(size):
 
 KINDS = {
     it.__name__: it
-    for it in (chain, separate, worlds, aliases, nested, fields, includes, resources, groups, pushes, tracks)
+    for it in (chain, separate, worlds, aliases, nested, fields, includes, renames, resources, groups, pushes, tracks)
 }
 
 
