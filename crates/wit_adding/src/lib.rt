@@ -2,8 +2,8 @@
 //! the steps of an addition hand on to each other, and which notes let their items take part.
 #![tactic(auto)]
 
-pub mod adding;
-pub mod gates;
+mod adding;
+mod gates;
 
 pub use crate::adding::{Activity, Adding, Places, Values};
 pub use crate::gates::is_active;

@@ -5,9 +5,9 @@
 mod comparing;
 mod entries;
 mod messages;
-pub mod mismatch;
-pub mod spans;
-pub mod stabilities;
+mod mismatch;
+mod spans;
+mod stabilities;
 
 pub use crate::mismatch::find_mismatch;
 pub use crate::spans::spans_fit;

@@ -1,8 +1,8 @@
 //! What an `include` copies of a world, and the copies at the ends of the graph.
 #![tactic(auto)]
 
-pub mod adding;
-pub mod copies;
+mod adding;
+mod copies;
 mod going;
 mod leading;
 mod mentions;

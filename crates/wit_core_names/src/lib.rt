@@ -2,8 +2,8 @@
 #![tactic(auto)]
 
 mod conditions;
-pub mod export;
-pub mod import;
+mod export;
+mod import;
 pub mod laws;
 mod legacy;
 mod parts;

@@ -2,7 +2,7 @@
 //! go after their getters, and the world is elaborated and put behind the worlds of the graph.
 #![tactic(auto)]
 
-pub mod finishing;
+mod finishing;
 mod labels;
 
 pub use crate::finishing::finish_world;

@@ -2,6 +2,6 @@
 //! before graphs are merged.
 #![tactic(auto)]
 
-pub mod fitting;
+mod fitting;
 
 pub use crate::fitting::{all_fit, fits, parts_fit};

@@ -3,11 +3,11 @@
 #![tactic(auto)]
 
 mod checker;
-pub mod messages;
+mod messages;
 mod needs;
-pub mod references;
-pub mod taking_part;
-pub mod versions;
+mod references;
+mod taking_part;
+mod versions;
 
 pub use crate::messages::{excluded_message, excluded_owner_message};
 pub use crate::references::check_references;

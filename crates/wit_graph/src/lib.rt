@@ -1,23 +1,23 @@
 //! The graph of WIT packages, its errors and questions, and the elaboration of its worlds.
 #![tactic(auto)]
 
-pub mod cause;
+mod cause;
 mod conflict;
-pub mod elaborable;
-pub mod elaboration;
-pub mod entries;
-pub mod error;
+mod elaborable;
+mod elaboration;
+mod entries;
+mod error;
 mod error_copies;
-pub mod error_kind;
+mod error_kind;
 mod exports;
-pub mod features;
-pub mod graph;
+mod features;
+mod graph;
 mod imports;
 pub mod laws;
 mod marks;
-pub mod questions;
-pub mod rendering;
-pub mod role;
+mod questions;
+mod rendering;
+mod role;
 
 pub use crate::cause::Cause;
 pub use crate::elaborable::is_elaborable;

@@ -2,8 +2,8 @@
 //! world finished.
 #![tactic(auto)]
 
-pub mod adding;
-pub mod including;
+mod adding;
+mod including;
 
 pub use crate::adding::add_world;
 pub use crate::including::include;

@@ -2,20 +2,20 @@
 //! packages, with the names of wit-parser 0.263.0. A name that a contract can't spell takes a `_`.
 #![tactic(auto)]
 
-pub mod abi;
-pub mod foreign;
-pub mod function;
-pub mod ids;
-pub mod interface;
+mod abi;
+mod foreign;
+mod function;
+mod ids;
+mod interface;
 pub mod laws;
-pub mod package_name;
-pub mod reference;
-pub mod stability;
+mod package_name;
+mod reference;
+mod stability;
 mod track;
-pub mod types;
-pub mod unresolved;
-pub mod use_path;
-pub mod uses;
+mod types;
+mod unresolved;
+mod use_path;
+mod uses;
 pub mod world;
 
 pub use crate::abi::{LiftLowerAbi, ManglingAndAbi};

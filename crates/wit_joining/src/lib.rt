@@ -2,8 +2,8 @@
 //! disagree are refused, and so is a renaming that is of no label.
 #![tactic(auto)]
 
-pub mod joining;
-pub mod renaming;
+mod joining;
+mod renaming;
 mod stabilities;
 
 pub use crate::joining::join;

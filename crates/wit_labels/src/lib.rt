@@ -5,9 +5,9 @@
 pub mod groups;
 pub mod laws;
 mod placing;
-pub mod renaming;
-pub mod setters;
-pub mod strong;
+mod renaming;
+mod setters;
+mod strong;
 
 pub use crate::groups::{has_group, rest_of, split_group};
 pub use crate::placing::place_setters;

@@ -1,15 +1,15 @@
 //! The lines of a script for a resolve graph: their tokens, and what each of them says.
 #![tactic(auto)]
 
-pub mod fault;
-pub mod gate;
-pub mod line;
-pub mod package_line;
-pub mod request;
-pub mod signature;
-pub mod statement;
-pub mod token;
-pub mod type_text;
+mod fault;
+mod gate;
+mod line;
+mod package_line;
+mod request;
+mod signature;
+mod statement;
+mod token;
+mod type_text;
 
 pub use crate::fault::LineFault;
 pub use crate::line::{ink, is_comment, lines, tokens};

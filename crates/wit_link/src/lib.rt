@@ -1,12 +1,12 @@
 //! Linking: from an unresolved package to its place in a graph.
 #![tactic(auto)]
 
-pub mod adding;
+mod adding;
 mod checking;
 mod fits;
 mod including;
-pub mod remap;
-pub mod several;
+mod remap;
+mod several;
 
 pub use crate::adding::{append, append_with};
 pub use crate::remap::Remap;

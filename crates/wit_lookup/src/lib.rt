@@ -2,7 +2,7 @@
 #![tactic(auto)]
 
 mod foreign;
-pub mod lookup;
+mod lookup;
 mod next;
 mod packages;
 mod refusal;

@@ -1,8 +1,8 @@
 //! What of another graph is in a graph already: which of their things a merge makes one, and where all of them go.
 #![tactic(auto)]
 
-pub mod going;
-pub mod matches;
+mod going;
+mod matches;
 mod spots;
 mod tables;
 mod types;

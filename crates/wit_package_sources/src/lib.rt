@@ -3,6 +3,6 @@
 
 pub mod laws;
 mod names;
-pub mod package_sources;
+mod package_sources;
 
 pub use crate::package_sources::{PackageSourceNames, PackageSources};

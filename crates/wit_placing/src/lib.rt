@@ -2,16 +2,16 @@
 //! with its ids and spans mapped.
 #![tactic(auto)]
 
-pub mod functions;
-pub mod mark;
-pub mod mover;
-pub mod moves;
-pub mod part;
-pub mod parts;
-pub mod place;
-pub mod tables;
-pub mod types;
-pub mod worlds;
+mod functions;
+mod mark;
+mod mover;
+mod moves;
+mod part;
+mod parts;
+mod place;
+mod tables;
+mod types;
+mod worlds;
 
 pub use crate::mark::Mark;
 pub use crate::mover::Mover;

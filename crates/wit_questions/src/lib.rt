@@ -2,14 +2,14 @@
 //! futures and streams of a function.
 #![tactic(auto)]
 
-pub mod canonical;
-pub mod entries;
-pub mod futures;
-pub mod held;
-pub mod interface_deps;
+mod canonical;
+mod entries;
+mod futures;
+mod held;
+mod interface_deps;
 mod next;
-pub mod package_deps;
-pub mod valid_bits;
+mod package_deps;
+mod valid_bits;
 mod world_deps;
 
 pub use crate::canonical::{

@@ -6,12 +6,12 @@
 //! whether some thing comes back to itself.
 #![tactic(auto)]
 
-pub mod arrange;
-pub mod cycle;
+mod arrange;
+mod cycle;
 mod frame;
 pub mod laws;
-pub mod relation;
-pub mod walk;
+mod relation;
+mod walk;
 
 pub use crate::arrange::in_order;
 pub use crate::cycle::{CycleUse, find_cycle, is_acyclic};

@@ -2,16 +2,16 @@
 //! sources, and commands on it.
 #![tactic(auto)]
 
-pub mod command;
+mod command;
 mod core_names;
 mod groups;
 mod kept;
 pub mod laws;
 mod push_source;
 mod questions;
-pub mod resolve;
+mod resolve;
 mod running;
-pub mod sources;
+mod sources;
 mod turning;
 
 pub use crate::command::{Command, Reply};

@@ -6,10 +6,10 @@ mod asked;
 mod borrows;
 mod functions;
 mod leading;
-pub mod owning;
+mod owning;
 mod refusal;
-pub mod required;
-pub mod results;
+mod required;
+mod results;
 
 pub use crate::owning::values;
 pub use crate::required::check_resources;

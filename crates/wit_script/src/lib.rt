@@ -1,16 +1,16 @@
 //! Scripts that build packages, put them into a resolve graph and print its worlds.
 #![tactic(auto)]
 
-pub mod ahead;
-pub mod answer;
-pub mod fault;
+mod ahead;
+mod answer;
+mod fault;
 pub mod laws;
-pub mod printer;
-pub mod reader;
-pub mod ready;
-pub mod script;
-pub mod stream;
-pub mod watched;
+mod printer;
+mod reader;
+mod ready;
+mod script;
+mod stream;
+mod watched;
 
 pub use crate::fault::{ReadFault, ScriptFault};
 pub use crate::printer::print_world;

@@ -4,9 +4,9 @@
 #![tactic(auto)]
 
 mod cycles;
-pub mod elaborating;
+mod elaborating;
 mod round;
-pub mod settling;
+mod settling;
 
 pub use crate::elaborating::elaborate_all;
 pub use crate::settling::settle;

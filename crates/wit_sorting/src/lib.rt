@@ -4,6 +4,6 @@
 mod depends;
 mod places;
 mod refusal;
-pub mod sort;
+mod sort;
 
 pub use crate::sort::sort_groups;

@@ -2,8 +2,8 @@
 #![tactic(auto)]
 
 mod lines;
-pub mod source_map;
-pub mod span;
+mod source_map;
+mod span;
 
 pub use crate::source_map::{MapFault, SourceMap, SourceNames};
 pub use crate::span::Span;

@@ -5,6 +5,6 @@ pub mod laws;
 mod refusal;
 mod renaming;
 mod turned_lists;
-pub mod turns;
+mod turns;
 
 pub use crate::turns::{exportize, exportize_answered, importize};

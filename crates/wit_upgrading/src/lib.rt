@@ -3,7 +3,7 @@
 #![tactic(auto)]
 
 mod agreement;
-pub mod merging;
+mod merging;
 mod newest;
 mod refusal;
 mod relisting;

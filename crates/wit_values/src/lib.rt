@@ -6,13 +6,13 @@
 //! Each is made from its std type and gives it back without memory.
 #![tactic(auto)]
 
-pub mod items;
-pub mod name_set;
-pub mod names;
-pub mod table;
-pub mod text;
-pub mod try_clone;
-pub mod version;
+mod items;
+mod name_set;
+mod names;
+mod table;
+mod text;
+mod try_clone;
+mod version;
 
 pub use crate::items::Items;
 pub use crate::name_set::NameSet;
