@@ -143,12 +143,20 @@ fn gates(rt: &impl Abort, alloc: Global, ours: &Graph, other: &Graph) -> String 
     }
     let found = find_matches(alloc, ours, other).expect(rt, "memory");
     match find_stability_mismatch(alloc, ours, other, &found).expect(rt, "memory") {
-        Some(pair) => match (&pair.from, &pair.into) {
-            (Stability::Unstable { feature, .. }, Stability::Unstable { feature: other, .. }) =>
-                format!(in alloc; "{feature} {other}").expect(rt, "memory"),
-            _ => String::new(alloc),
-        },
+        Some(pair) => features(rt, alloc, &pair.from, &pair.into),
         None => string(rt, alloc, "-"),
+    }
+}
+
+fn features(rt: &impl Abort, alloc: Global, from: &Stability, into: &Stability) -> String {
+    let (from, into) = (feature_of(from), feature_of(into));
+    format!(in alloc; "{from} {into}").expect(rt, "memory")
+}
+
+fn feature_of(stability: &Stability) -> &str {
+    match stability {
+        Stability::Unstable { feature, .. } => feature.as_str(),
+        _ => "",
     }
 }
 
