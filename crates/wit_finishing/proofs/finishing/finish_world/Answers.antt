@@ -5,6 +5,9 @@ use Rattle.wit_items.specs.declared.world.World.{World}
 use Rattle.wit_finishing.proofs.Causes.{can_finish}
 use Rattle.wit_finishing.proofs.finishing.finish_world.Goals as goal
 
+pub returns-clause-ok : goal.returns-clause-ok
+returns-clause-ok c = search rules
+
 pub returns-clause-fine : goal.returns-clause-fine
 returns-clause-fine c =
     can_finish c.args.graph.now c.args.world c.in_ok-check_labels.ensures.fine

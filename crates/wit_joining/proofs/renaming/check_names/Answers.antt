@@ -26,3 +26,6 @@ loop-place-preserved c =
 
 pub returns-clause-fine : goal.returns-clause-fine
 returns-clause-fine c = renamed-all c.args.world.now c.args.names.now c.loop-place.place c.loop-place.invariant (search rules)
+
+pub loop-place-init : goal.loop-place-init
+loop-place-init c = search rules
