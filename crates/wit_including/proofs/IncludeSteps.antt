@@ -36,8 +36,8 @@ use Rattle.wit_adding.specs.Include.{Begun, Lists, copy_maps, goes_with, include
 use Rattle.wit_adding.specs.WorldReasons.{Disagree, HasStability, IsListCalled, IsShadowed, renamed_key}
 use Rattle.wit_adding_laws.specs.StageFacts.{CanInclude}
 use Rattle.wit_copying.specs.Copied.{StayApart}
-use Rattle.wit_joining.specs.Joined.{CanJoin, ComeOnce, IsJoinCause, StandsWith, item_shadowing_7, stability_mismatch_8}
-use Rattle.wit_joining.specs.Renamed.{AreRenamed, IsFirstUnmatched}
+use Rattle.wit_including.specs.Joined.{CanJoin, ComeOnce, IsJoinCause, StandsWith, item_shadowing_7, stability_mismatch_8}
+use Rattle.wit_including.specs.Renamed.{AreRenamed, IsFirstUnmatched}
 use Rattle.wit_including.specs.Included.{HaveOwnKeys, IncludeIsFine, IsIncludeCause, IsIncluded, before_includes, mismatch_8, rename_unmatched_16, shadowing_7, with_lists, with_one}
 
 -- ---- a list of a good world

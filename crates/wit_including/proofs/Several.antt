@@ -14,7 +14,7 @@ use Rattle.wit_graph.specs.declared.error_kind.ResolveErrorKind.TheVariants.{Out
 use Rattle.wit_graph.specs.declared.graph.Graph.{Graph}
 use Rattle.wit_growth.specs.ListFacts.{same_at}
 use Rattle.wit_adding.specs.Include.{Begun, lists_of}
-use Rattle.wit_finishing.specs.Finished.{CanFinish, IsFinishCause, with_finished}
+use Rattle.wit_including.specs.Finished.{CanFinish, IsFinishCause, with_finished}
 use Rattle.wit_placing.specs.Grown.{Grown}
 use Rattle.wit_placing.specs.GrownFacts.{Begins-more, Begins-same, Grown-same, Grown-then}
 use Rattle.wit_including.specs.Included.{CanBeAdded, CanBeBegun, CanBeIncluded, HaveOwnKeys, IncludeIsFine, IsFineAt, IsFineWorld, IsIncludeCause, IsIncluded, IsWorldCause, StopsAtInclude, as_finished, at_include, before_includes, with_including, with_lists, with_one, with_several}

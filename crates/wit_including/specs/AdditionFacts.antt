@@ -27,7 +27,7 @@ use Rattle.wit_adding.specs.Include.{Begun, Lists, included, lists_of}
 use Rattle.wit_adding.specs.Pushed.{begun, begun_with, with_include, with_parts, with_world, with_worlds}
 use Rattle.wit_adding.specs.Reasons.{HasImage}
 use Rattle.wit_adding.specs.WorldReasons.{AtInclude, AtWorld, HaveLists, IncludeIsFine, IsListCalled, WorldIsFine, made, written}
-use Rattle.wit_finishing.specs.Finished.{IsFinishCause, LabelsClash, SetterIsAlone, with_finished, conflict_4 as finish_conflict_4, no_getter_18 as finish_no_getter_18, not_strongly_unique_17 as finish_not_strongly_unique_17}
+use Rattle.wit_including.specs.Finished.{IsFinishCause, LabelsClash, SetterIsAlone, with_finished, conflict_4 as finish_conflict_4, no_getter_18 as finish_no_getter_18, not_strongly_unique_17 as finish_not_strongly_unique_17}
 use Rattle.wit_including.specs.Included as local
 use Rattle.wit_including.specs.SeveralFacts.{one_worlds}
 

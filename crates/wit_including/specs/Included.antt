@@ -18,10 +18,10 @@ use Rattle.wit_adding.specs.CauseText.{rename_text}
 use Rattle.wit_adding.specs.Include.{Begun, Lists, include_stability, included, is_other_package, joined, lists_of}
 use Rattle.wit_adding.specs.WorldReasons.{Disagree, HasStability, IsListCalled, IsShadowed, renamed_key}
 use Rattle.wit_adding_laws.specs.StageFacts.{CanFinishBegun, CanInclude, IsOnItsWay}
-use Rattle.wit_finishing.specs.Finished.{CanFinish, IsFinishCause, with_finished}
+use Rattle.wit_including.specs.Finished.{CanFinish, IsFinishCause, with_finished}
 use Rattle.wit_copying.specs.Copied.{maps_of}
 use Rattle.wit_copying.specs.declared.copies.Copies.{Copies}
-use Rattle.wit_joining.specs.Renamed.{IsFirstUnmatched}
+use Rattle.wit_including.specs.Renamed.{IsFirstUnmatched}
 
 -- ---- one include
 

@@ -1,5 +1,9 @@
 pub mod AdditionFacts
+pub mod Finished
 pub mod Included
+pub mod Joined
+pub mod Labels
 pub mod ReadyFacts
+pub mod Renamed
 pub mod RowsFacts
 pub mod SeveralFacts

@@ -5,9 +5,9 @@ ghost use Rattle.wit_graph.specs.declared.error_kind.ResolveErrorKind.TheVariant
 ghost use Rattle.wit_including.specs.Included.{CanBeAdded, CanBeBegun, IsFineAt, IsFineWorld, IsWorldCause, StopsAtInclude, with_including, with_lists, with_several};
 ghost use Rattle.wit_placing.specs.Grown.{Begins, Grown};
 
+use crate::finishing::finish_world;
 use crate::including::include;
 use std::alloc::Global;
-use wit_finishing::finish_world;
 use wit_graph::{Elaborator, Graph, ResolveResult};
 use wit_items::{Items, PackageId, World, WorldInclude};
 

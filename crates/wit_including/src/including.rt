@@ -4,15 +4,16 @@ ghost use Rattle.wit_adding.specs.Include.{is_other_package, lists_of};
 ghost use Rattle.wit_graph.specs.declared.error_kind.ResolveErrorKind.TheVariants.{OutOfMemory};
 ghost use Rattle.wit_including.specs.Included.{CanBeIncluded, HaveOwnKeys, IncludeIsFine, IsIncludeCause, IsIncluded, before_includes, copied_entries, with_joined, with_lists, with_one};
 ghost use Rattle.wit_items.specs.declared.world.World.{World};
-ghost use Rattle.wit_joining.specs.Joined.{CanJoin, ComeOnce, IsJoinCause};
+ghost use Rattle.wit_including.specs.Joined.{CanJoin, ComeOnce, IsJoinCause};
 ghost use Rattle.wit_placing.specs.Grown.{Grown};
 
+use crate::joining::join;
+use crate::renaming::check_names;
 use std::alloc::Global;
 use std::mem;
 use wit_copying::{Copies, add_copies};
 use wit_graph::{Graph, ResolveResult};
 use wit_items::{Items, PackageId, Span, Table, World, WorldId, WorldInclude, WorldItem, WorldKey};
-use wit_joining::{check_names, join};
 
 /// Includes a world of a graph in another one, which comes next: what goes with the included world is copied to the ends
 /// of the graph, and its entries are joined to the lists of the other.

@@ -1,6 +1,6 @@
 use Rattle.std.proofs.Common.{List, subst, sym}
 use Rattle.wit_items.specs.Entries.{Entry}
-use Rattle.wit_joining.specs.Joined.{ComeOnce}
+use Rattle.wit_including.specs.Joined.{ComeOnce}
 use Rattle.wit_including.proofs.including.join_copies.Goals as goal
 
 pub join_lists-requires-clause-imports : goal.join_lists-requires-clause-imports

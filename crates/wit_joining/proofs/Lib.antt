@@ -1,3 +1,0 @@
-pub mod JoinSteps
-pub mod Keys
-pub mod Words
