@@ -1,0 +1,54 @@
+#!/usr/bin/env python3
+"""Tries the edits that the gate doesn't try.
+
+    bench/edits.py [CRATE..]
+
+tries each edit of bench/edits/CRATE, of the named crates or of all that have some, as `rt must-fail` tries those of
+crates/CRATE/must-fail: the prover must refuse each. They are of crates whose clauses a crate above needs for its own:
+were a clause weaker than its edits suppose, that crate would not be proved, so the gate doesn't pay for a second proof
+of theirs. Whoever changes such a crate runs this; docs/PROOFS.md says which crates they are.
+
+The libraries below are built as `rt lib` builds them.
+"""
+import importlib.machinery
+import importlib.util
+import os
+import shutil
+import sys
+
+TOP = os.path.dirname(os.path.dirname(os.path.abspath(__file__)))
+
+
+def loaded():
+    """The command `rt`, as a module."""
+    sys.dont_write_bytecode = True
+    loader = importlib.machinery.SourceFileLoader("rt", os.path.realpath(shutil.which("rt")))
+    made = importlib.util.module_from_spec(importlib.util.spec_from_loader("rt", loader))
+    sys.modules["rt"] = made
+    loader.exec_module(made)
+    return made
+
+
+def edits_of(crate):
+    """The files of a crate's edits here, by name."""
+    folder = os.path.join(TOP, "bench", "edits", crate.name)
+    return [os.path.join(folder, name) for name in sorted(os.listdir(folder))] if os.path.isdir(folder) else []
+
+
+def main(*names):
+    os.chdir(TOP)
+    rt = loaded()
+    rt.rtlib.guarded()
+    failed = 0
+    for crate in rt.rtlib.crates_below(TOP):
+        edits = edits_of(crate) if not names or crate.name in names else []
+        if edits and any(below.build_rlib(["--jobs", "1"], anew=False) for below in crate.below()):
+            return 1
+        for is_refused, text in rt.must_fail_all(crate, edits, ["--jobs", "1"]):
+            print(text, flush=True)
+            failed += not is_refused
+    return 1 if failed else 0
+
+
+if __name__ == "__main__":
+    sys.exit(main(*sys.argv[1:]))
