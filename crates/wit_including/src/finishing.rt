@@ -20,7 +20,7 @@ use wit_labels::place_setters;
 /// Refused where two labels of one list are too alike (17), a setter has no getter beside it (18), what the exports
 /// need from outside is exported (4), and for memory (28); the graph is then as before.
 #[tactic(auto, using(crate::proofs::Causes::label_cause, crate::proofs::Causes::conflict_cause))]
-pub fn finish_world(
+pub(crate) fn finish_world(
     alloc: Global,
     graph: &mut Graph,
     elaborator: &mut Elaborator,

@@ -20,7 +20,7 @@ use wit_items::{Items, Span, Stability, Table, Text, TryClone, WorldItem, WorldK
 /// world of another package, whose `@since` says nothing here; `word` is `import` or `export`.
 ///
 /// Refused where a label that is brought is there (7) and where two stabilities of one interface disagree (8).
-pub fn join(
+pub(crate) fn join(
     alloc: Global,
     other: bool,
     span: Span,

@@ -14,7 +14,4 @@ mod renaming;
 mod stabilities;
 
 pub use crate::adding::add_world;
-pub use crate::finishing::finish_world;
 pub use crate::including::include;
-pub use crate::joining::join;
-pub use crate::renaming::check_names;

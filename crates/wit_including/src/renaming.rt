@@ -18,7 +18,7 @@ use wit_labels::rest_of;
 use wit_values::NameSet;
 
 /// Refuses the first renaming that is of no label of the world (16).
-pub fn check_names(
+pub(crate) fn check_names(
     alloc: Global,
     span: Span,
     names: &Items<IncludeName>,
