@@ -4,29 +4,15 @@
     bench/edits.py [CRATE..]
 
 tries each edit of bench/edits/CRATE, of the named crates or of all that have some, as `rt must-fail` tries those of
-crates/CRATE/must-fail: the prover must refuse each. They are of crates whose clauses a crate above needs for its own:
-were a clause weaker than its edits suppose, that crate would not be proved, so the gate doesn't pay for a second proof
-of theirs. Whoever changes such a crate runs this; docs/PROOFS.md says which crates they are.
+crates/CRATE/must-fail: the prover must refuse each. They are of crates on whose clauses crates above rest, for which the
+gate doesn't pay a second proof. Whoever changes such a crate runs this; docs/PROOFS.md says which crates they are.
 
 The libraries below are built as `rt lib` builds them.
 """
-import importlib.machinery
-import importlib.util
 import os
-import shutil
 import sys
 
-TOP = os.path.dirname(os.path.dirname(os.path.abspath(__file__)))
-
-
-def loaded():
-    """The command `rt`, as a module."""
-    sys.dont_write_bytecode = True
-    loader = importlib.machinery.SourceFileLoader("rt", os.path.realpath(shutil.which("rt")))
-    made = importlib.util.module_from_spec(importlib.util.spec_from_loader("rt", loader))
-    sys.modules["rt"] = made
-    loader.exec_module(made)
-    return made
+from gate import TOP, loaded
 
 
 def edits_of(crate):
