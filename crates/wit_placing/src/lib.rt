@@ -19,4 +19,4 @@ pub use crate::moves::Moves;
 pub use crate::part::Part;
 pub use crate::parts::add_parts;
 pub use crate::place::Place;
-pub use crate::worlds::PlacedWorld;
+pub use crate::worlds::{PlacedWorld, placed_entries};

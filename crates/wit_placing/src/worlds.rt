@@ -76,7 +76,7 @@ fn placed_world(
 }
 
 /// Entries at their places.
-fn placed_entries(
+pub fn placed_entries(
     alloc: Global,
     mover: &Mover<'_>,
     entries: Table<WorldKey, WorldItem>,

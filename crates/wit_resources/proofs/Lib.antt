@@ -1,12 +1,12 @@
 mod ActiveOnes
 mod Flags
 mod Inserting
-mod Leads
+pub mod Leads
 mod MayHold
-mod Needing
+pub mod Needing
 mod Positions
-mod Ranges
-mod Rows
+pub mod Ranges
+pub mod Rows
 mod Searching
 mod Tells
 mod Where

@@ -29,7 +29,7 @@ pub(crate) fn asked(
 }
 
 /// A flag for each of so many types, whether it is among these.
-fn marked(alloc: Global, count: usize, ids: &[TypeId]) -> Result<Items<bool>, AllocError>
+pub fn marked(alloc: Global, count: usize, ids: &[TypeId]) -> Result<Items<bool>, AllocError>
     requires { All (λ id. id < count) ids.now }
     ensures { IfOk result (λ marks. marks ≡ map (λ t. list_any (nat_eq t) ids.now) (range_with_len 0 count)) }
 {
@@ -77,7 +77,7 @@ fn push_types(
 }
 
 /// The types at the value positions of a kind: all that it names, but not what an alias or a handle names.
-fn value_positions(alloc: Global, kind: &TypeDefKind) -> Result<Items<TypeId>, AllocError>
+pub fn value_positions(alloc: Global, kind: &TypeDefKind) -> Result<Items<TypeId>, AllocError>
     ensures { IfOk result (λ ids. ids ≡ value_positions kind.now) }
 {
     match kind {
@@ -86,8 +86,8 @@ fn value_positions(alloc: Global, kind: &TypeDefKind) -> Result<Items<TypeId>, A
     }
 }
 
-/// Adds those of the parameters and of the result of a function.
-fn push_signature(ids: &mut Items<TypeId>, function: &Function) -> Result<(), AllocError>
+/// Adds the types at the value positions of a function: those of its parameters and of its result.
+pub fn push_signature(ids: &mut Items<TypeId>, function: &Function) -> Result<(), AllocError>
     ensures { OnOk result (ids.new ≡ ids.old ++ signature_positions function.now) }
 {
     for param in function.params.as_slice() {

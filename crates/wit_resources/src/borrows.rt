@@ -63,7 +63,7 @@ fn push_places(stack: &mut Items<usize>, ids: &[TypeId]) -> Result<(), AllocErro
 
 /// Whether the values of a type of a graph hold a borrow. Types that are known to hold none aren't entered, and
 /// more become known where it holds none.
-fn holds_borrow(
+pub fn holds_borrow(
     alloc: Global,
     types: &[TypeDef],
     free: &mut IndexSet<usize>,

@@ -14,7 +14,8 @@ use std::alloc::{AllocError, Global};
 use wit_adding::{Adding, Places};
 use wit_items::{Items, TypeDef, TypeDefKind, TypeId, alias_target};
 
-fn is_resource(kind: &TypeDefKind) -> bool
+/// Whether a type of this kind is a resource.
+pub fn is_resource(kind: &TypeDefKind) -> bool
     ensures { result ≡ is_resource_kind kind.now }
 {
     matches!(kind, TypeDefKind::Resource)

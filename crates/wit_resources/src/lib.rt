@@ -11,6 +11,9 @@ mod refusal;
 mod required;
 mod results;
 
-pub use crate::owning::values;
+pub use crate::asked::{marked, push_signature, value_positions};
+pub use crate::borrows::holds_borrow;
+pub use crate::leading::is_resource;
+pub use crate::owning::{own_of, type_place, values};
 pub use crate::required::check_resources;
-pub use crate::results::check_results;
+pub use crate::results::{check_results, result_type};

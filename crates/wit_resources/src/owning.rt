@@ -103,7 +103,7 @@ fn count_own(adding: &Adding<'_>, activity: &Activity) -> usize
 }
 
 /// Where a type goes; one that goes nowhere stays.
-fn type_place(places: &Places, place: usize) -> TypeId
+pub fn type_place(places: &Places, place: usize) -> TypeId
     requires { place < length places.now.types }
     ensures { (o : Option ℕ) → slice_get places.now.types place ≡ Some o → result ≡ unwrap_or o place }
 {
@@ -114,7 +114,7 @@ fn type_place(places: &Places, place: usize) -> TypeId
 }
 
 /// The unnamed `own` of a type.
-fn own_of(id: TypeId) -> TypeDef
+pub fn own_of(id: TypeId) -> TypeDef
     ensures { result ≡ own_of id }
 {
     TypeDef {

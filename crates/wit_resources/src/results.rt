@@ -74,8 +74,8 @@ fn check_result(
     Ok(())
 }
 
-/// The type of the package that a function returns, None for a primitive and where it returns nothing.
-fn result_type(function: &Function) -> Option<TypeId>
+/// The type that a function returns, None for a primitive and where it returns nothing.
+pub fn result_type(function: &Function) -> Option<TypeId>
     ensures { option_to_list result ≡ named_option function.now.result_ }
 {
     match function.result_? {
