@@ -1,0 +1,6 @@
+pub mod Agreeing
+pub mod Joined
+pub mod Leading
+pub mod Partners
+pub mod Returned
+pub mod Uniting

@@ -1,0 +1,46 @@
+//! Another graph goes into a graph.
+ghost use Rattle.std.specs.Prelude.{◌≡◌, ◌⊎◌, IfErr, IfOk, OnOk};
+ghost use Rattle.wit_graph.specs.Valid.{IsValid};
+ghost use Rattle.wit_graph.specs.declared.error_kind.ResolveErrorKind.{ResolveErrorKind};
+ghost use Rattle.wit_graph.specs.declared.error_kind.ResolveErrorKind.TheVariants.{OutOfMemory};
+ghost use Rattle.wit_comparing.specs.Differing.{merging_by};
+ghost use Rattle.wit_matching.specs.Going.{going_of};
+ghost use Rattle.wit_merging.specs.Cause.{IsMergeCause};
+ghost use Rattle.wit_merging.specs.Moved.{added_owns};
+ghost use Rattle.wit_merging.specs.United.{joined_graph, united};
+ghost use Rattle.wit_uniting.specs.Uniting.{IsReady, merging_of};
+
+use crate::agreement::check_agreement;
+use crate::interfaces::joined_interfaces;
+use crate::packages::{joined_names, joined_packages};
+use crate::partners::partners;
+use crate::types::joined_types;
+use crate::uniting::Uniting;
+use crate::worlds::joined_worlds;
+use std::alloc::{AllocError, Global};
+use wit_graph::{Graph, ResolveResult};
+use wit_items::{Items, TypeDef};
+use wit_matching::{Going, find_matches, find_places};
+
+/// The two graphs as one, with the lists of worlds as they were listed.
+pub(crate) fn joined_graph(
+    alloc: Global,
+    uniting: &Uniting<'_>,
+    owns: Items<TypeDef>,
+) -> Result<Graph, AllocError>
+    requires ready { IsReady uniting.now }
+    requires owns { owns ≡ added_owns (merging_of uniting.now) }
+    ensures { IfOk result (λ joined. joined ≡ joined_graph (merging_of uniting.now)) }
+{
+    let types = joined_types(alloc, uniting, owns)?;
+    let interfaces = joined_interfaces(alloc, uniting)?;
+    let worlds = joined_worlds(alloc, uniting)?;
+    let packages = joined_packages(alloc, uniting)?;
+    Ok(Graph {
+        types,
+        interfaces,
+        worlds,
+        packages,
+        package_names: joined_names(uniting)?,
+    })
+}

@@ -1,0 +1,22 @@
+//! Two graphs made one.
+#![tactic(auto)]
+
+mod agreement;
+mod asked;
+mod functions;
+mod interfaces;
+mod joined;
+mod leading;
+mod names;
+mod owning;
+mod packages;
+mod partners;
+mod parts;
+mod results;
+mod stabilities;
+mod types;
+mod uniting;
+mod whole;
+mod worlds;
+
+pub use crate::whole::{United, unite};

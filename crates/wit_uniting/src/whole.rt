@@ -1,0 +1,69 @@
+//! Another graph goes into a graph.
+ghost use Rattle.std.specs.Prelude.{◌≡◌, ◌⊎◌, IfErr, IfOk, OnOk};
+ghost use Rattle.wit_graph.specs.Valid.{IsValid};
+ghost use Rattle.wit_graph.specs.declared.error_kind.ResolveErrorKind.{ResolveErrorKind};
+ghost use Rattle.wit_graph.specs.declared.error_kind.ResolveErrorKind.TheVariants.{OutOfMemory};
+ghost use Rattle.wit_comparing.specs.Differing.{merging_by};
+ghost use Rattle.wit_matching.specs.Going.{going_of};
+ghost use Rattle.wit_merging.specs.Cause.{IsMergeCause};
+ghost use Rattle.wit_merging.specs.United.{united};
+
+use crate::agreement::check_agreement;
+use crate::joined::joined_graph;
+use crate::owning::values;
+use crate::partners::partners;
+use crate::results::check_results;
+use crate::uniting::Uniting;
+use std::alloc::Global;
+use wit_adding::Values;
+use wit_graph::{Graph, ResolveResult};
+use wit_matching::{Going, find_matches, find_places};
+use wit_merging_laws::laws::unions_stay_valid;
+use wit_settling::settle;
+
+/// A graph that another one went into, and where the things of that went.
+#[derive(Drop)]
+pub struct United {
+    pub graph: Graph,
+    pub going: Going,
+}
+
+/// A copy of a graph with another one: what is matched is made one, all else comes behind what is there, its spans
+/// moved by the offset, and all worlds are elaborated.
+///
+/// Source: `merge` of wit-parser 0.263.0.
+pub fn unite(alloc: Global, graph: &Graph, other: &Graph, offset: u32) -> ResolveResult<United>
+    requires valid { IsValid graph.now }
+    requires other { IsValid other.now }
+    ensures graph { IfOk result (λ made. made.graph ≡ united (merging_by graph.now other.now offset)) }
+    ensures going { IfOk result (λ made. made.going ≡ going_of (merging_by graph.now other.now offset)) }
+    ensures valid { IfOk result (λ made. IsValid made.graph) }
+    ensures cause { IfErr result (λ e. (e ≡ OutOfMemory) ⊎ IsMergeCause (merging_by graph.now other.now offset) e) }
+    ensures refuses { (e : ResolveErrorKind) → IsMergeCause (merging_by graph.now other.now offset) e → OnOk result ⊥ }
+{
+    unions_stay_valid();
+    let matches = find_matches(alloc, graph, other)?;
+    check_agreement(alloc, graph, other, &matches, offset)?;
+    let going = find_places(alloc, graph, other, &matches)?;
+    let Values {
+        places: value_places,
+        owns,
+    } = values(alloc, graph, other, &matches, &going, offset)?;
+    let partners = partners(alloc, &matches.interfaces, graph.interfaces.len())?;
+    let uniting = Uniting {
+        graph,
+        other,
+        matches: &matches,
+        going: &going,
+        values: &value_places,
+        partners: &partners,
+        offset,
+    };
+    let mut joined = joined_graph(alloc, &uniting, owns)?;
+    check_results(alloc, &uniting, joined.types.as_slice())?;
+    settle(alloc, &mut joined)?;
+    Ok(United {
+        graph: joined,
+        going,
+    })
+}
