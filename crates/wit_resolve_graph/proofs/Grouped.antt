@@ -339,7 +339,7 @@ pub added_to : {new now : Graph} (r : Result ℕ ResolveErrorKind) (features : F
 added_to (Ok id) features g packages name same added = subst (λ (x : Graph). AreAdded features g packages name id x) same added
 added_to (Err kind) features g packages name same added = tt
 
-pub same_after : (old new now : Graph) (r : Result ℕ ResolveErrorKind) → now ≡ new → OnErr r (new ≡ old) → OnErr r (now ≡ old)
+pub same_after : {T : Type 0} (old new now : Graph) (r : Result T ResolveErrorKind) → now ≡ new → OnErr r (new ≡ old) → OnErr r (now ≡ old)
 same_after old new now (Ok id) is same = tt
 same_after old new now (Err kind) is same = is ∙ same
 

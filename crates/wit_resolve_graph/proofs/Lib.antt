@@ -1,6 +1,7 @@
 mod EmptyGraph
 mod Grouped
 mod KeptRows
+mod Merged
 mod NamedWorlds
 mod OneOrder
 mod Runs

@@ -1,11 +1,11 @@
--- What commands are taken so far.
+-- What commands are taken.
 use Rattle.std.specs.Prelude.{◌∷◌}
 use Rattle.std.specs.List.{AllByRecursion}
 use Rattle.wit_items.specs.Shape.{IsGroupShaped}
 use Rattle.wit_resolve_graph.specs.declared.command.Command.{Command}
 use Rattle.wit_resolve_graph.specs.declared.command.Command.TheVariants.{AddFeature, Exportize, Importize, Merge, PushGroups, Semver, SetAllFeatures, SetTrackRule}
 
--- groups are pushed that have their shape, and graphs aren't merged; all else is taken
+-- groups that are pushed have their shape; all else is taken
 abbrev pub IsSupported : Command → Type 0
 IsSupported (AddFeature name) = Unit {0}
 IsSupported (SetAllFeatures all) = Unit {0}
@@ -14,4 +14,4 @@ IsSupported (PushGroups main deps) = AllByRecursion IsGroupShaped (main ∷ deps
 IsSupported (Importize home world out) = Unit {0}
 IsSupported (Exportize home world out keys) = Unit {0}
 IsSupported (Semver home world) = Unit {0}
-IsSupported (Merge other) = ⊥
+IsSupported (Merge other) = Unit {0}

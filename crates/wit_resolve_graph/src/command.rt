@@ -18,7 +18,7 @@ pub enum Command {
         main: UnresolvedPackageGroup,
         deps: Items<UnresolvedPackageGroup>,
     },
-    /// Makes one of this and another.
+    /// Makes one of this and another, which is used up: see `Resolve::merge`.
     Merge(Resolve),
     /// Turns the exports of a world into its imports.
     Importize {

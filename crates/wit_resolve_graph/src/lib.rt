@@ -13,6 +13,7 @@ mod resolve;
 mod running;
 mod sources;
 mod turning;
+mod uniting;
 
 pub use crate::command::{Command, Reply};
 pub use crate::resolve::Resolve;

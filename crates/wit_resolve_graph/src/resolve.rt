@@ -11,8 +11,10 @@ ghost use Rattle.wit_sources.specs.SourceMap.{with_sources};
 ghost use Rattle.wit_adding.specs.Cause.{IsCause};
 ghost use Rattle.wit_link.specs.Appending.{IsAdded, addition};
 ghost use Rattle.wit_link.specs.Groups.{IsGroupsCause};
+ghost use Rattle.wit_merging.specs.Cause.{IsMergeCause};
 ghost use Rattle.wit_questions.specs.ValidBits.{TellValidBits};
 ghost use Rattle.wit_selecting.specs.Selection.{IsSaid, selected_world};
+ghost use Rattle.wit_resolve_graph.specs.Merging.{FilesPass, Merges, RefusesMerge, merging};
 ghost use Rattle.wit_resolve_graph.specs.State.{new_state};
 ghost use Rattle.wit_resolve_graph.specs.Step.{PushesGroups, RefusesGroups, with_feature};
 ghost use Rattle.wit_tracks.specs.Rewritten.{rewritten};
@@ -22,6 +24,7 @@ ghost use Rattle.wit_unite.specs.Turned.{exportized, importized, turned};
 
 use crate::groups::{add_packages, place_groups};
 use crate::kept::{Kept, append_kept};
+use crate::uniting::unite_kept;
 use std::alloc::{AllocError, Global};
 use std::marker::Model;
 use std::{fmt, mem};
@@ -30,6 +33,7 @@ use wit_items::{
     Interface, InterfaceId, Items, PackageId, PackageName, SourceMap, Table, TrackRule, TryClone,
     TypeDef, UnresolvedPackage, UnresolvedPackageGroup, World, WorldId, WorldItem, WorldKey,
 };
+use wit_link::Remap;
 use wit_selecting::select_world;
 use wit_unite::{exportize, exportize_answered, importize};
 use wit_upgrading::merged_by_track;
@@ -271,6 +275,33 @@ impl Resolve {
         pushed
     }
 
+    /// Makes one of this and another: packages match by name, and what matches is made one, all else comes behind what is
+    /// there, the spans of the other moved to the end of the source map, as its files are. The features and the rule of
+    /// tracks stay, those of the other are lost. Answers where the things of the other stand now.
+    ///
+    /// Refused where two stabilities that would be joined are known and differ (8), where a function that comes holds a
+    /// `borrow` in its result (15), where what matches disagrees (24), where afterwards an interface would depend on
+    /// itself (22), a package would (6), or the exports of a world would be in conflict (4), where a position would pass
+    /// 4294967295 (27), and for memory (28). The graph is as before then. The files of the other are at the end of the
+    /// source map after a refusal, but after 27 nowhere, and after 28 there or not.
+    ///
+    /// Source: `merge` of wit-parser 0.263.0.
+    pub fn merge(&mut self, alloc: Global, mut other: Resolve) -> ResolveResult<Remap>
+        ensures ok { IfOk result (λ remap. Merges self.old other remap self.new) }
+        ensures err { IfErr result (λ kind. RefusesMerge self.old other kind self.new) }
+        ensures refuses { (kind : ResolveErrorKind) → IsMergeCause (merging self.old other) kind ⊎ FilesPass self.old other kind → OnOk result ⊥ }
+    {
+        let len = self.source_map.len();
+        let end = self.source_map.end();
+        let files = mem::replace(&mut other.source_map, SourceMap::new(alloc));
+        let offset = self.source_map.append(alloc, files)?;
+        let merged = unite_kept(alloc, &mut self.graph, &mut self.kept, &other.graph, offset);
+        if is_offset_overflow(&merged) {
+            self.source_map.truncate(len, end);
+        }
+        merged
+    }
+
     /// The world that a text names: a name in the one main package, or `namespace:package/name` with an
     /// optional `@version`. Without a text it is the only world of the one main package. The ids are
     /// of this graph. Refused where there is no such world, or more than one (26), and for memory (28).
@@ -390,11 +421,11 @@ impl Resolve {
     }
 }
 
-/// Whether a push is refused since a position would pass 4294967295.
-fn is_offset_overflow(pushed: &ResolveResult<PackageId>) -> bool
-    ensures { IsTrue result ↔ (pushed.now ≡ Err OffsetOverflow) }
+/// Whether a call is refused since a position would pass 4294967295.
+fn is_offset_overflow<T>(answer: &ResolveResult<T>) -> bool
+    ensures { IsTrue result ↔ (answer.now ≡ Err OffsetOverflow) }
 {
-    match pushed {
+    match answer {
         Ok(_) => false,
         Err(refusal) => matches!(refusal.kind(), ResolveErrorKind::OffsetOverflow),
     }

@@ -16,7 +16,7 @@ use wit_items::Text;
 /// Runs commands in order, and answers a reply to each. Room for all replies is made first; where there
 /// is none, nothing has changed.
 ///
-/// So far a command is no `Merge`, and a `PushGroups` has packages that `Resolve::push_groups` takes.
+/// The packages of a `PushGroups` have their shape, as `Resolve::push_groups` asks.
 pub fn run(
     alloc: Global,
     resolve: &mut Resolve,
@@ -68,7 +68,10 @@ fn step(alloc: Global, resolve: &mut Resolve, command: Command) -> Reply
         Command::Semver { package, world } => {
             merge_world_imports(alloc, resolve, package, world)
         }
-        Command::Merge(_) => unreachable!(),
+        Command::Merge(other) => match resolve.merge(alloc, other) {
+            Ok(remap) => Reply::Merged(remap),
+            Err(refusal) => Reply::Refused(refusal),
+        },
     }
 }
 

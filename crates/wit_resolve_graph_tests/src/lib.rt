@@ -23,6 +23,8 @@ mod inline;
 #[cfg(test)]
 mod kinds;
 #[cfg(test)]
+mod merging;
+#[cfg(test)]
 mod parts;
 #[cfg(test)]
 mod refusals;

@@ -1,0 +1,103 @@
+-- From what making two graphs one tells to what is told of a merge of two states.
+use Rattle.std.proofs.Common.{◌≡◌, ◌∙◌, ◌⊎◌, ◌+◌, ◌<◌, ◌≤◌, ◌^◌, ℕ, List, ◌++◌, length, take, map, Result, Ok, Err, IfOk, IfErr, OnErr, OnOk, refl, ap, sym, subst, inl, inr, arith, ◌↔◌}
+use Rattle.std.proofs.lemmas.Bool.{cases_lt}
+use Rattle.std.proofs.lemmas.List.{take_at}
+use Rattle.wit_sources.specs.SourceMap.{Sources, moved_file, with_sources}
+use Rattle.wit_graph.specs.declared.error_kind.ResolveErrorKind.{ResolveErrorKind}
+use Rattle.wit_graph.specs.declared.error_kind.ResolveErrorKind.TheVariants.{OffsetOverflow, OutOfMemory}
+use Rattle.wit_graph.specs.declared.graph.Graph.{Graph}
+use Rattle.wit_link.specs.declared.remap.Remap.{Remap}
+use Rattle.wit_merging.specs.Cause.{IsMergeCause}
+use Rattle.wit_merging.specs.Matches.{Merging}
+use Rattle.wit_merging.specs.Moved.{going}
+use Rattle.wit_merging.specs.United.{united}
+use Rattle.wit_comparing.specs.Differing.{merging_by}
+use Rattle.wit_resolve_graph.specs.Merging.{FilesPass, HasSourcesAfter, Merges, RefusesMerge, answered, merging}
+use Rattle.wit_resolve_graph.specs.State.{State}
+
+-- ---- the files after a refusal
+
+-- they are at the end after a refusal that is not for a position
+sources_after : (error : ResolveErrorKind) (old added new : Sources) → (error ≡ OffsetOverflow → ⊥) → new ≡ added → HasSourcesAfter error old added new
+sources_after OffsetOverflow old added new other files = absurd (other refl)
+sources_after OutOfMemory old added new other files = inr files
+sources_after _ old added new other files = files
+
+-- they are those that were there after one for a position
+sources_stay : (error : ResolveErrorKind) (old added new : Sources) → error ≡ OffsetOverflow → new ≡ old → HasSourcesAfter error old added new
+sources_stay OffsetOverflow old added new far files = files
+sources_stay _ old added new far files = cc
+
+-- those that were there are left where the others are cut off
+pub cut_back : (old added now : Sources) (n end : ℕ) → now ≡ with_sources old added → n ≡ length old.files → end ≡ old.end → record { files = take n now.files; end = end } ≡ old
+cut_back old added now n end placed long ends =
+    let front : take (length old.files) (old.files ++ map (moved_file old.end) added.files) ≡ old.files = take_at old.files (map (moved_file old.end) added.files) (length old.files) refl in
+    rw (placed, long, ends, front) refl
+
+-- an end that isn't too large
+pub within : {P : Type 0} (end : ℕ) → P ↔ (2 ^ 32 ≤ end) → (P → ⊥) → end < 2 ^ 32
+within end told fits = elim (cases_lt end (2 ^ 32)) [
+  | inl less ↦ less
+  | inr past ↦ absurd (fits (told.1 (omega (arith, past))))
+]
+
+-- a graph that is made is the same elsewhere
+pub made_one : (made new now : Graph) (r : Result Remap ResolveErrorKind) → now ≡ new → OnOk r (new ≡ made) → OnOk r (now ≡ made)
+made_one made new now (Ok remap) is same = is ∙ same
+made_one made new now (Err kind) is same = tt
+
+-- ---- the steps of a merge
+
+-- the other graph and the offset are those of the states
+module _ (old other : State) (g : Graph) (offset : ℕ) (same : g ≡ other.graph) (starts : offset ≡ old.source_map.end) where
+  one : merging_by old.graph g offset ≡ merging old other
+  one = rw (same, starts) refl
+
+  caused : (kind : ResolveErrorKind) → (kind ≡ OutOfMemory) ⊎ IsMergeCause (merging_by old.graph g offset) kind → (kind ≡ OutOfMemory) ⊎ (IsMergeCause (merging old other) kind ⊎ FilesPass old other kind)
+  caused kind (inl memory) = inl memory
+  caused kind (inr cause) = inr (inl (subst (λ (m : Merging). IsMergeCause m kind) one cause))
+
+  -- the states are merged
+  pub merges : (new : State) (r : Result Remap ResolveErrorKind) → old.source_map.end + other.source_map.end < 2 ^ 32 → OnOk r (new.graph ≡ united (merging_by old.graph g offset))
+      → IfOk r (λ remap. remap ≡ answered (going (merging_by old.graph g offset))) → new.features ≡ old.features → new.track_rule ≡ old.track_rule → new.source_map ≡ with_sources old.source_map other.source_map
+      → ((kind : ResolveErrorKind) → IsMergeCause (merging_by old.graph g offset) kind → OnOk r ⊥) → IfOk r (λ remap. Merges old other remap new)
+  merges new (Err kind) fits graph remap features rule files refuses = tt
+  merges new (Ok remap) fits graph is features rule files refuses = record {
+    fits = fits;
+    accepted = λ kind cause. refuses kind (subst (λ (m : Merging). IsMergeCause m kind) (sym one) cause);
+    graph = graph ∙ ap united one;
+    features = features;
+    rule = rule;
+    files = files;
+    remap_is = is ∙ ap (λ (m : Merging). answered (going m)) one;
+  }
+
+  pub never_merged : (new : State) (r : Result Remap ResolveErrorKind) → r ≡ Err OffsetOverflow → IfOk r (λ remap. Merges old other remap new)
+  never_merged new (Ok remap) far = cc
+  never_merged new (Err kind) far = tt
+
+  -- they are refused, and the files stay at the end
+  pub refuses : (new : State) (r : Result Remap ResolveErrorKind) → (r ≡ Err OffsetOverflow → ⊥) → OnErr r (new.graph ≡ old.graph) → new.features ≡ old.features → new.track_rule ≡ old.track_rule
+      → new.source_map ≡ with_sources old.source_map other.source_map → IfErr r (λ kind. (kind ≡ OutOfMemory) ⊎ IsMergeCause (merging_by old.graph g offset) kind) → IfErr r (λ kind. RefusesMerge old other kind new)
+  refuses new (Ok remap) apart graph features rule files cause = tt
+  refuses new (Err kind) apart graph features rule files cause = record {
+    cause = caused kind cause;
+    graph = graph;
+    features = features;
+    rule = rule;
+    files = sources_after kind old.source_map (with_sources old.source_map other.source_map) new.source_map (λ far. apart (ap Err far)) files;
+  }
+
+  -- or they are taken back
+  pub takes_back : (new : State) (r : Result Remap ResolveErrorKind) → r ≡ Err OffsetOverflow → OnErr r (new.graph ≡ old.graph) → new.features ≡ old.features → new.track_rule ≡ old.track_rule
+      → new.source_map ≡ old.source_map → IfErr r (λ kind. (kind ≡ OutOfMemory) ⊎ IsMergeCause (merging_by old.graph g offset) kind) → IfErr r (λ kind. RefusesMerge old other kind new)
+  takes_back new (Ok remap) far graph features rule files cause = tt
+  takes_back new (Err kind) far graph features rule files cause =
+      let overflow : kind ≡ OffsetOverflow = cc in
+      record {
+        cause = caused kind cause;
+        graph = graph;
+        features = features;
+        rule = rule;
+        files = sources_stay kind old.source_map (with_sources old.source_map other.source_map) new.source_map overflow files;
+      }

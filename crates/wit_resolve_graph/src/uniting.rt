@@ -1,0 +1,63 @@
+//! Another graph that goes into the one that a `Resolve` keeps.
+ghost use Rattle.std.specs.Prelude.{◌≡◌, ◌⊎◌, IfErr, IfOk, OnErr, OnOk};
+ghost use Rattle.wit_comparing.specs.Differing.{merging_by};
+ghost use Rattle.wit_graph.specs.Valid.{IsValid};
+ghost use Rattle.wit_graph.specs.declared.error_kind.ResolveErrorKind.{ResolveErrorKind};
+ghost use Rattle.wit_graph.specs.declared.error_kind.ResolveErrorKind.TheVariants.{OutOfMemory};
+ghost use Rattle.wit_merging.specs.Cause.{IsMergeCause};
+ghost use Rattle.wit_merging.specs.Moved as moved;
+ghost use Rattle.wit_merging.specs.United.{united};
+ghost use Rattle.wit_resolve_graph.specs.Kept.{AreKept};
+ghost use Rattle.wit_resolve_graph.specs.Merging.{answered};
+
+use crate::kept::Kept;
+use std::alloc::Global;
+use std::mem;
+use wit_adding::Places;
+use wit_graph::{Graph, ResolveResult};
+use wit_link::Remap;
+use wit_matching::Going;
+use wit_uniting::{United, unite};
+
+/// Makes a graph one with another, whose spans move by an offset, and answers where the things of the other stand now:
+/// see `wit_uniting::unite`. After a refusal nothing has changed. What is kept is of the graph, and becomes that of the
+/// new graph.
+pub(crate) fn unite_kept(
+    alloc: Global,
+    graph: &mut Graph,
+    kept: &mut Kept,
+    other: &Graph,
+    offset: u32,
+) -> ResolveResult<Remap>
+    requires kept { AreKept graph.old kept.old }
+    requires other { IsValid other.now }
+    ensures graph { OnOk result (graph.new ≡ united (merging_by graph.old other.now offset)) }
+    ensures remap { IfOk result (λ remap. remap ≡ answered (moved.going (merging_by graph.old other.now offset))) }
+    ensures kept { AreKept graph.new kept.new }
+    ensures err { OnErr result (graph.new ≡ graph.old) }
+    ensures cause { IfErr result (λ kind. (kind ≡ OutOfMemory) ⊎ IsMergeCause (merging_by graph.old other.now offset) kind) }
+    ensures refuses { (kind : ResolveErrorKind) → IsMergeCause (merging_by graph.old other.now offset) kind → OnOk result ⊥ }
+{
+    let made = unite(alloc, graph, other, offset)?;
+    let rows = Kept::of(alloc, &made.graph)?;
+    let United {
+        graph: whole,
+        going,
+    } = made;
+    drop(mem::replace(graph, whole));
+    drop(mem::replace(kept, rows));
+    Ok(into_remap(going))
+}
+
+/// Where things went, as it is answered.
+fn into_remap(going: Going) -> Remap
+    ensures { result ≡ record { types = going.places.types; interfaces = going.places.interfaces; worlds = going.places.worlds; packages = going.packages } }
+{
+    let Going { places, packages } = going;
+    let Places {
+        types,
+        interfaces,
+        worlds,
+    } = places;
+    Remap::from_lists(types, interfaces, worlds, packages)
+}
