@@ -5,5 +5,7 @@ pub mod Answered
 pub mod Told
 pub mod Pushed
 pub mod Staged
+pub mod Stepped
 pub mod Stays
 pub mod ToldOnce
+pub mod Waiting

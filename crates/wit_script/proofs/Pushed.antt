@@ -1,6 +1,5 @@
 -- What a `push` makes, and commands that aren't ready.
-use Rattle.std.proofs.Common.{◌≡◌, ℕ, suc, List, [], ◌∷◌, ◌++◌, Bool, true, false, Option, None, Some, Result, Ok, Err, IsTrue, ◌↔◌, refl, sym, ap, subst, ◌∙◌}
-use Rattle.std.specs.List.{AllByRecursion}
+use Rattle.std.proofs.Common.{◌≡◌, suc, List, [], ◌∷◌, ◌++◌, Bool, true, false, Option, None, Some, Result, IsTrue, ◌↔◌, refl, sym, ap, subst, ◌∙◌}
 use Rattle.std.specs.Option.{option_and_then, option_map}
 use Rattle.wit_values.specs.Lists.{AllByRecursion-at}
 use Rattle.wit_items.specs.Each.{Each}
@@ -10,10 +9,8 @@ use Rattle.wit_drafts.specs.Draft.{grouped}
 use Rattle.wit_drafts.specs.declared.draft.Draft.{Draft}
 use Rattle.wit_lines.specs.Signature.{each_of}
 use Rattle.wit_lines.specs.declared.fault.LineFault.{LineFault}
-use Rattle.wit_lines.specs.declared.request.Request.{Request}
-use Rattle.wit_lines.specs.declared.request.Request.TheVariants as request
-use Rattle.wit_script.specs.Ready.{AreReady, AreShaped, IsReady, is_taken}
-use Rattle.wit_script.specs.Script.{GoesOn, IsBad, with_asked, with_command, with_groups, with_push}
+use Rattle.wit_script.specs.Ready.{AreReady, AreShaped, IsReady}
+use Rattle.wit_script.specs.Script.{GoesOn, IsBad, with_groups, with_push}
 use Rattle.wit_script.specs.declared.reader.Reading.{Reading}
 use Rattle.wit_script.specs.declared.ready.ScriptCommand.{ScriptCommand}
 use Rattle.wit_script.specs.declared.ready.ScriptCommand.TheVariants as asks
@@ -93,20 +90,7 @@ pub push-goes-on : {A : Type 0} (r s new : Reading) (p : Draft) (groups : List U
 push-goes-on r s new p groups answer last read commands other goes =
     subst (λ (o : Option Reading). GoesOn o answer new) (with_groups-waits s r groups commands other ∙ sym (push-is r p groups last read)) goes
 
--- ---- other commands
-
--- a command that is taken so far opens and closes no other graph
-pub taken-asked : (r : Reading) (asked : Request) (other : Bool) → is_taken asked ≡ true → with_asked r asked other ≡ Some (with_command r (asks.Request asked))
-taken-asked r (request.Feature name) other taken = refl
-taken-asked r request.AllFeatures other taken = refl
-taken-asked r (request.Tracks rule) other taken = refl
-taken-asked r request.Other other taken = cc
-taken-asked r request.Merge other taken = cc
-taken-asked r (request.Importize owner world out) other taken = refl
-taken-asked r (request.Exportize owner world out keys) other taken = refl
-taken-asked r (request.Semver owner world) other taken = refl
-taken-asked r (request.Print owner world) other taken = refl
-taken-asked r (request.Select owner text) other taken = refl
+-- ---- tests
 
 -- what a test denies
 clash : (b : Bool) → b ≡ true → b ≡ false → ⊥

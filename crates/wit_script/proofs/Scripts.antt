@@ -8,7 +8,7 @@ use Rattle.std.proofs.Math.ListN.{get_or-map}
 use Rattle.wit_lines.specs.Line.{is_comment, is_silent, is_silent_of, last_said_of}
 use Rattle.wit_lines.specs.Statement.{said_of_tokens, statement_by}
 use Rattle.wit_lines.specs.declared.statement.Statement.{Statement}
-use Rattle.wit_script.specs.Ready.{AreReady, is_accepted_so_far}
+use Rattle.wit_script.specs.Ready.{AreReady}
 use Rattle.wit_script.specs.Script.{IsBad, IsBadLine, after_first, after_line, after_lines, new_reading, reading_before, reading_of}
 use Rattle.wit_script.specs.declared.reader.Reading.{Reading}
 
@@ -18,31 +18,31 @@ and_then_some None = refl
 and_then_some (Some x) = refl
 
 -- a step that is two steps
-and_then_both : {A : Type 0} (both first second : A → Option A) → ((x : A) → both x ≡ option_and_then second (first x)) → (o : Option A)
+pub and_then_both : {A : Type 0} (both first second : A → Option A) → ((x : A) → both x ≡ option_and_then second (first x)) → (o : Option A)
     → option_and_then both o ≡ option_and_then second (option_and_then first o)
 and_then_both both first second same None = refl
 and_then_both both first second same (Some x) = same x
 
 -- a line at a place, with those behind it known
 abbrev pub step_at : List (List ℕ) → ℕ → Reading → Option Reading
-step_at lines k r = after_line is_accepted_so_far r (get_or lines k []) (drop (suc k) lines)
+step_at lines k r = after_line r (get_or lines k []) (drop (suc k) lines)
 
 -- one more line
 first-more : (r : Reading) (k : ℕ) (lines : List (List ℕ)) → k < length lines
-    → after_first is_accepted_so_far r (suc k) lines ≡ option_and_then (step_at lines k) (after_first is_accepted_so_far r k lines)
+    → after_first r (suc k) lines ≡ option_and_then (step_at lines k) (after_first r k lines)
 first-more r k [] within = absurd (omega (arith, within))
-first-more r zero (text ∷ lines) within = and_then_some (after_line is_accepted_so_far r text lines)
+first-more r zero (text ∷ lines) within = and_then_some (after_line r text lines)
 first-more r (suc k) (text ∷ lines) within =
-    and_then_both (λ (next : Reading). after_first is_accepted_so_far next (suc k) lines) (λ (next : Reading). after_first is_accepted_so_far next k lines)
-    (step_at lines k) (λ next. first-more next k lines (omega (arith, within))) (after_line is_accepted_so_far r text lines)
+    and_then_both (λ (next : Reading). after_first next (suc k) lines) (λ (next : Reading). after_first next k lines)
+    (step_at lines k) (λ next. first-more next k lines (omega (arith, within))) (after_line r text lines)
 
 pub before-more : (k : ℕ) (lines : List (List ℕ)) → k < length lines → reading_before (k + 1) lines ≡ option_and_then (step_at lines k) (reading_before k lines)
 before-more k lines within = ap (λ (n : ℕ). reading_before n lines) (add-one k) ∙ first-more new_reading k lines within
 
 -- all lines
-first-whole : (r : Reading) (lines : List (List ℕ)) → after_first is_accepted_so_far r (length lines) lines ≡ after_lines is_accepted_so_far r lines
+first-whole : (r : Reading) (lines : List (List ℕ)) → after_first r (length lines) lines ≡ after_lines r lines
 first-whole r [] = refl
-first-whole r (text ∷ lines) = ap (λ (f : Reading → Option Reading). option_and_then f (after_line is_accepted_so_far r text lines)) (λ i next. first-whole next lines i)
+first-whole r (text ∷ lines) = ap (λ (f : Reading → Option Reading). option_and_then f (after_line r text lines)) (λ i next. first-whole next lines i)
 
 pub before-whole : (lines : List (List ℕ)) → reading_before (length lines) lines ≡ reading_of lines
 before-whole lines = first-whole new_reading lines
@@ -102,23 +102,23 @@ module _ (xs : List (Bor (List ℕ))) (i : ℕ) (d : Bor (List ℕ)) where
   all-behind : (n : ℕ) → take (length xs - n) (drop n xs) ≡ drop n xs
   all-behind n = let long : length (drop n xs) ≡ length xs - n = length-drop n xs in take_all (length xs - n) (drop n xs) (omega (arith, long))
 
-  step-is : (r : Reading) → d.now ≡ [] → step_at texts i r ≡ after_line is_accepted_so_far r (get_or xs i d).now (map (λ (x : Bor (List ℕ)). x.now) (take (length xs - (i + 1)) (drop (i + 1) xs)))
+  step-is : (r : Reading) → d.now ≡ [] → step_at texts i r ≡ after_line r (get_or xs i d).now (map (λ (x : Bor (List ℕ)). x.now) (take (length xs - (i + 1)) (drop (i + 1) xs)))
   step-is r nothing =
       let text : get_or texts i [] ≡ (get_or xs i d).now = ap (λ (l : List ℕ). get_or texts i l) (sym nothing) ∙ get_or-map (λ (x : Bor (List ℕ)). x.now) xs i d in
       let behind : drop (suc i) texts ≡ map (λ (x : Bor (List ℕ)). x.now) (take (length xs - (i + 1)) (drop (i + 1) xs)) =
       drop-map (λ (x : Bor (List ℕ)). x.now) (suc i) xs ∙ ap (λ (n : ℕ). map (λ (x : Bor (List ℕ)). x.now) (drop n xs)) (sym (add-one i))
       ∙ ap (map (λ (x : Bor (List ℕ)). x.now)) (sym (all-behind (i + 1))) in
-      λ k. after_line is_accepted_so_far r (text k) (behind k)
+      λ k. after_line r (text k) (behind k)
 
   within-texts : i < length xs → i < length texts
   within-texts within = let long : length texts ≡ length xs = length-map xs (λ (x : Bor (List ℕ)). x.now) in omega (arith, within, long)
 
   next-is : (r : Reading) → d.now ≡ [] → i < length xs → reading_before i texts ≡ Some r
-      → reading_before (i + 1) texts ≡ after_line is_accepted_so_far r (get_or xs i d).now (map (λ (x : Bor (List ℕ)). x.now) (take (length xs - (i + 1)) (drop (i + 1) xs)))
+      → reading_before (i + 1) texts ≡ after_line r (get_or xs i d).now (map (λ (x : Bor (List ℕ)). x.now) (take (length xs - (i + 1)) (drop (i + 1) xs)))
   next-is r nothing within read = before-more i texts (within-texts within) ∙ ap (option_and_then (step_at texts i)) read ∙ step-is r nothing
 
   pub read-next : (before after : Reading) → d.now ≡ [] → i < length xs → reading_before i texts ≡ Some before
-      → after_line is_accepted_so_far before (get_or xs i d).now (map (λ (x : Bor (List ℕ)). x.now) (take (length xs - (i + 1)) (drop (i + 1) xs))) ≡ Some after → reading_before (i + 1) texts ≡ Some after
+      → after_line before (get_or xs i d).now (map (λ (x : Bor (List ℕ)). x.now) (take (length xs - (i + 1)) (drop (i + 1) xs))) ≡ Some after → reading_before (i + 1) texts ≡ Some after
   read-next before after nothing within read next = next-is before nothing within read ∙ next
 
   -- all lines are read
@@ -141,7 +141,7 @@ module _ (xs : List (Bor (List ℕ))) (i : ℕ) (d : Bor (List ℕ)) where
 
   -- the first line that isn't understood
   pub bad-line : (reading : Reading) → d.now ≡ [] → i < length xs → reading_before i texts ≡ Some reading → AreReady reading.commands
-      → IsBad (after_line is_accepted_so_far reading (get_or xs i d).now (map (λ (x : Bor (List ℕ)). x.now) (take (length xs - (i + 1)) (drop (i + 1) xs)))) → IsBadLine texts (i + 1)
+      → IsBad (after_line reading (get_or xs i d).now (map (λ (x : Bor (List ℕ)). x.now) (take (length xs - (i + 1)) (drop (i + 1) xs)))) → IsBadLine texts (i + 1)
   bad-line reading nothing within read ready bad = record {
     before = i;
     reading = reading;

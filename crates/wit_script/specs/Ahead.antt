@@ -1,5 +1,5 @@
 -- What the lines of a package mention of other packages, looked at ahead, since what is foreign stands first in a package.
-use Rattle.std.specs.Prelude.{ℕ, ◌+◌, Bool, true, false, List, [], ◌∷◌, ◌++◌, length, Option, Some, None}
+use Rattle.std.specs.Prelude.{ℕ, ◌+◌, List, [], ◌∷◌, ◌++◌, length, Option, Some, None}
 use Rattle.std.specs.Option.{option_to_list}
 use Rattle.wit_items.specs.declared.stability.Stability.{Stability}
 use Rattle.wit_drafts.specs.Draft.{span_after}
@@ -18,24 +18,23 @@ abbrev pub mentions_placed : PackageLine → Stability → ℕ → (ℕ → List
 mentions_placed said gate next after None = []
 mentions_placed said gate next after (Some span) = mentions_of said gate span ++ after next
 
--- what an accepted line mentions, and the lines after it, where it is a line of the package
-abbrev pub mentions_by : Bool → ℕ → List ℕ → (ℕ → List Mention) → Statement → List Mention
-mentions_by false at line after said = []
-mentions_by true at line after (says.Package name) = []
-mentions_by true at line after (says.Line said gate) = mentions_placed said gate (at + length line + 1) after (span_after at line)
-mentions_by true at line after says.Push = []
-mentions_by true at line after (says.Request asked) = []
+-- what a line mentions, and the lines after it, where it is a line of the package
+abbrev pub mentions_by : ℕ → List ℕ → (ℕ → List Mention) → Statement → List Mention
+mentions_by at line after (says.Package name) = []
+mentions_by at line after (says.Line said gate) = mentions_placed said gate (at + length line + 1) after (span_after at line)
+mentions_by at line after says.Push = []
+mentions_by at line after (says.Request asked) = []
 
-abbrev pub mentions_with : (Statement → Bool) → ℕ → List ℕ → (ℕ → List Mention) → Option (Option Statement) → List Mention
-mentions_with accepts at line after None = []
-mentions_with accepts at line after (Some None) = after at
-mentions_with accepts at line after (Some (Some said)) = mentions_by (accepts said) at line after said
+abbrev pub mentions_with : ℕ → List ℕ → (ℕ → List Mention) → Option (Option Statement) → List Mention
+mentions_with at line after None = []
+mentions_with at line after (Some None) = after at
+mentions_with at line after (Some (Some said)) = mentions_by at line after said
 
--- what lines mention up to the end of the package, or to the first that isn't accepted or doesn't fit into its file, which
+-- what lines mention up to the end of the package, or to the first that isn't understood or doesn't fit into its file, which
 -- has so many bytes before them
-abbrev pub mentions_ahead : (Statement → Bool) → ℕ → List (List ℕ) → List Mention
-mentions_ahead accepts at [] = []
-mentions_ahead accepts at (line ∷ lines) = mentions_with accepts at line (λ after. mentions_ahead accepts after lines) (said_of line)
+abbrev pub mentions_ahead : ℕ → List (List ℕ) → List Mention
+mentions_ahead at [] = []
+mentions_ahead at (line ∷ lines) = mentions_with at line (λ after. mentions_ahead after lines) (said_of line)
 
 -- what a line ahead and the lines after it mention, by what the line is
 abbrev pub mentions_then : Ahead → ℕ → (ℕ → List Mention) → List Mention

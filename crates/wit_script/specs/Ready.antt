@@ -1,44 +1,52 @@
--- Which lines of a script are accepted so far, by kind of line. Later work widens `is_accepted_so_far`, and at last
--- removes it.
-use Rattle.std.specs.Prelude.{Bool, true, false, List, ◌∷◌, IsTrue}
+-- Which commands may be asked: packages that are pushed have their shape, and of `other` and `merge` each comes where it may.
+use Rattle.std.specs.Prelude.{Bool, true, false, List, [], ◌∷◌, Option, None, Some, IsTrue, is_some, option_and_then}
 use Rattle.std.specs.List.{AllByRecursion}
 use Rattle.wit_items.specs.Shape.{IsGroupShaped}
 use Rattle.wit_items.specs.declared.unresolved.UnresolvedPackageGroup.{UnresolvedPackageGroup}
 use Rattle.wit_lines.specs.declared.request.Request.{Request}
 use Rattle.wit_lines.specs.declared.request.Request.TheVariants as request
-use Rattle.wit_lines.specs.declared.statement.Statement.{Statement}
-use Rattle.wit_lines.specs.declared.statement.Statement.TheVariants as says
 use Rattle.wit_script.specs.declared.ready.ScriptCommand.{ScriptCommand}
 use Rattle.wit_script.specs.declared.ready.ScriptCommand.TheVariants as asks
 
--- a command that hands in no packages is carried out so far
-abbrev pub is_taken : Request → Bool
-is_taken (request.Feature name) = true
-is_taken request.AllFeatures = true
-is_taken (request.Tracks rule) = true
-is_taken request.Other = false
-is_taken request.Merge = false
-is_taken (request.Importize owner world out) = true
-is_taken (request.Exportize owner world out keys) = true
-is_taken (request.Semver owner world) = true
-is_taken (request.Print owner world) = true
-is_taken (request.Select owner text) = true
-
--- what a line says is accepted so far
-abbrev pub is_accepted_so_far : Statement → Bool
-is_accepted_so_far (says.Package name) = true
-is_accepted_so_far (says.Line said gate) = true
-is_accepted_so_far says.Push = true
-is_accepted_so_far (says.Request asked) = is_taken asked
+-- ---- packages
 
 -- packages have the shape that a graph takes
 abbrev pub AreShaped : List UnresolvedPackageGroup → Type 0
 AreShaped groups = AllByRecursion IsGroupShaped groups
 
--- a command whose packages have their shape, and that is accepted so far
+-- a command whose packages have their shape
 abbrev pub IsReady : ScriptCommand → Type 0
 IsReady (asks.Push main deps) = AreShaped (main ∷ deps)
-IsReady (asks.Request asked) = IsTrue (is_taken asked)
+IsReady (asks.Request asked) = Unit {0}
 
 abbrev pub AreReady : List ScriptCommand → Type 0
 AreReady commands = AllByRecursion IsReady commands
+
+-- ---- `other` and `merge`
+
+-- whether an `other` waits for its `merge` after a command that hands in no packages, where one waited before or none did;
+-- None where it can't be asked then: `other` once more, or `merge` without it
+abbrev pub other_after : Request → Bool → Option Bool
+other_after request.Other true = None
+other_after request.Other false = Some true
+other_after request.Merge true = Some false
+other_after request.Merge false = None
+other_after asked other = Some other
+
+-- the same of any command
+abbrev pub waits_after : ScriptCommand → Bool → Option Bool
+waits_after (asks.Push main deps) other = Some other
+waits_after (asks.Request asked) other = other_after asked other
+
+-- and of commands, one after another
+abbrev pub waits_after_all : List ScriptCommand → Bool → Option Bool
+waits_after_all [] other = Some other
+waits_after_all (command ∷ commands) other = option_and_then (waits_after_all commands) (waits_after command other)
+
+-- a command can be asked where an `other` waits or none does
+abbrev pub MayCome : ScriptCommand → Bool → Type 0
+MayCome command other = IsTrue (is_some (waits_after command other))
+
+-- commands can be asked, each after those before it
+abbrev pub MayAllCome : List ScriptCommand → Bool → Type 0
+MayAllCome commands other = IsTrue (is_some (waits_after_all commands other))

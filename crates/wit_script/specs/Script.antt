@@ -1,6 +1,6 @@
 -- A script, line by line: what the lines make, which scripts are understood, what they ask, and which line of another is
 -- the first that isn't understood.
-use Rattle.std.specs.Prelude.{◌≡◌, ◌⊎◌, ◌||◌, ℕ, zero, suc, ◌+◌, ◌<◌, Bool, true, false, List, [], ◌∷◌, ◌++◌, length, Option, Some, None, IsTrue, is_some, option_and_then, Result, Ok, Err, if◌then◌else◌}
+use Rattle.std.specs.Prelude.{◌≡◌, ◌⊎◌, ◌||◌, ℕ, zero, suc, ◌+◌, ◌<◌, Bool, false, List, [], ◌∷◌, ◌++◌, length, Option, Some, None, IsTrue, is_some, option_and_then, Result, Ok, Err, if◌then◌else◌}
 use Rattle.std.specs.Option.{option_map, option_to_list}
 use Rattle.wit_items.specs.declared.package_name.PackageName.{PackageName}
 use Rattle.wit_items.specs.declared.stability.Stability.{Stability}
@@ -15,11 +15,10 @@ use Rattle.wit_lines.specs.declared.fault.LineFault.{LineFault}
 use Rattle.wit_lines.specs.declared.fault.LineFault.TheVariants as line_fault
 use Rattle.wit_lines.specs.declared.package_line.PackageLine.{PackageLine}
 use Rattle.wit_lines.specs.declared.request.Request.{Request}
-use Rattle.wit_lines.specs.declared.request.Request.TheVariants as request
 use Rattle.wit_lines.specs.declared.statement.Statement.{Statement}
 use Rattle.wit_lines.specs.declared.statement.Statement.TheVariants as says
 use Rattle.wit_script.specs.Ahead.{mentions_ahead}
-use Rattle.wit_script.specs.Ready.{AreReady, is_accepted_so_far}
+use Rattle.wit_script.specs.Ready.{AreReady, other_after}
 use Rattle.wit_script.specs.declared.fault.ReadFault.{ReadFault}
 use Rattle.wit_script.specs.declared.fault.ReadFault.TheVariants as read_fault
 use Rattle.wit_script.specs.declared.reader.Reading.{Reading}
@@ -35,8 +34,8 @@ abbrev pub with_begun : Reading → Draft → Reading
 with_begun r p = record r { finished = r.finished ++ option_to_list r.current; current = Some p }
 
 -- `package PKG`, with what the lines ahead mention
-abbrev pub with_package : (Statement → Bool) → Reading → PackageName → List ℕ → List (List ℕ) → Option Reading
-with_package accepts r name line ahead = option_map (with_begun r) (begun name line (mentions_ahead accepts (length line + 1) ahead))
+abbrev pub with_package : Reading → PackageName → List ℕ → List (List ℕ) → Option Reading
+with_package r name line ahead = option_map (with_begun r) (begun name line (mentions_ahead (length line + 1) ahead))
 
 -- a line of the package that gets the lines
 abbrev pub with_current : Reading → Draft → Reading
@@ -58,53 +57,49 @@ with_groups r (main ∷ deps) = Some (record (with_command r (asks.Push main dep
 abbrev pub with_push : Reading → Option Reading
 with_push r = option_and_then (λ p. option_and_then (with_groups r) (each_of grouped (r.finished ++ p ∷ []))) r.current
 
--- another command; `other` opens another graph where none is open, `merge` closes it
-abbrev pub with_asked : Reading → Request → Bool → Option Reading
-with_asked r request.Other true = None
-with_asked r request.Other false = Some (record (with_command r (asks.Request request.Other)) { other = true })
-with_asked r request.Merge true = Some (record (with_command r (asks.Request request.Merge)) { other = false })
-with_asked r request.Merge false = None
-with_asked r asked other = Some (with_command r (asks.Request asked))
+-- another command, after which an `other` waits for its `merge` or none does
+abbrev pub with_asked : Reading → Request → Bool → Reading
+with_asked r asked other = record (with_command r (asks.Request asked)) { other = other }
 
--- the same, where no package waits for its `push`
+-- another command that can be asked, where no package waits for its `push`
 abbrev pub with_request : Reading → Request → Option Reading
-with_request r asked = if is_some r.current then None else with_asked r asked r.other
+with_request r asked = if is_some r.current then None else option_map (with_asked r asked) (other_after asked r.other)
 
 -- what a line says, before the lines ahead, added
-abbrev pub with_statement : (Statement → Bool) → Reading → Statement → List ℕ → List (List ℕ) → Option Reading
-with_statement accepts r (says.Package name) line ahead = with_package accepts r name line ahead
-with_statement accepts r (says.Line said gate) line ahead = with_package_line r said gate line
-with_statement accepts r says.Push line ahead = with_push r
-with_statement accepts r (says.Request asked) line ahead = with_request r asked
+abbrev pub with_statement : Reading → Statement → List ℕ → List (List ℕ) → Option Reading
+with_statement r (says.Package name) line ahead = with_package r name line ahead
+with_statement r (says.Line said gate) line ahead = with_package_line r said gate line
+with_statement r says.Push line ahead = with_push r
+with_statement r (says.Request asked) line ahead = with_request r asked
 
--- what a line says, where it is understood and accepted, added: nothing for a line that says nothing
-abbrev pub after_said : (Statement → Bool) → Reading → List ℕ → List (List ℕ) → Option (Option Statement) → Option Reading
-after_said accepts r line ahead None = None
-after_said accepts r line ahead (Some None) = Some r
-after_said accepts r line ahead (Some (Some said)) = if accepts said then with_statement accepts r said line ahead else None
+-- what a line says, where it is understood, added: nothing for a line that says nothing
+abbrev pub after_said : Reading → List ℕ → List (List ℕ) → Option (Option Statement) → Option Reading
+after_said r line ahead None = None
+after_said r line ahead (Some None) = Some r
+after_said r line ahead (Some (Some said)) = with_statement r said line ahead
 
 -- a line, before the lines ahead, added
-abbrev pub after_line : (Statement → Bool) → Reading → List ℕ → List (List ℕ) → Option Reading
-after_line accepts r line ahead = after_said accepts r line ahead (said_of line)
+abbrev pub after_line : Reading → List ℕ → List (List ℕ) → Option Reading
+after_line r line ahead = after_said r line ahead (said_of line)
 
 -- lines, one after another
-abbrev pub after_lines : (Statement → Bool) → Reading → List (List ℕ) → Option Reading
-after_lines accepts r [] = Some r
-after_lines accepts r (line ∷ lines) = option_and_then (λ next. after_lines accepts next lines) (after_line accepts r line lines)
+abbrev pub after_lines : Reading → List (List ℕ) → Option Reading
+after_lines r [] = Some r
+after_lines r (line ∷ lines) = option_and_then (λ next. after_lines next lines) (after_line r line lines)
 
--- what lines say from the first on, where those are accepted that are so far
+-- what lines say from the first on
 abbrev pub reading_of : List (List ℕ) → Option Reading
-reading_of lines = after_lines is_accepted_so_far new_reading lines
+reading_of lines = after_lines new_reading lines
 
 -- what so many of the lines say, from the first on, where those behind them are known
-abbrev pub after_first : (Statement → Bool) → Reading → ℕ → List (List ℕ) → Option Reading
-after_first accepts r zero lines = Some r
-after_first accepts r (suc k) [] = Some r
-after_first accepts r (suc k) (line ∷ lines) = option_and_then (λ next. after_first accepts next k lines) (after_line accepts r line lines)
+abbrev pub after_first : Reading → ℕ → List (List ℕ) → Option Reading
+after_first r zero lines = Some r
+after_first r (suc k) [] = Some r
+after_first r (suc k) (line ∷ lines) = option_and_then (λ next. after_first next k lines) (after_line r line lines)
 
--- the same, where those are accepted that are so far
+-- the same from the first line of all
 abbrev pub reading_before : ℕ → List (List ℕ) → Option Reading
-reading_before k lines = after_first is_accepted_so_far new_reading k lines
+reading_before k lines = after_first new_reading k lines
 
 -- no reading comes out, or one with a command that isn't ready
 abbrev pub IsBad : Option Reading → Type 0
@@ -112,7 +107,7 @@ IsBad None = Unit {0}
 IsBad (Some next) = ¬ AreReady next.commands
 
 -- the script is understood and asks this: each line is understood after those before it, the packages that are pushed have
--- their shape, all commands are accepted, no package waits for its `push`, and no `other` for its `merge`
+-- their shape, no package waits for its `push`, and no `other` for its `merge`
 pub record IsUnderstood (text : List ℕ) (commands : List ScriptCommand) : Type 0 where
   pub reading : Reading
   pub read : reading_of (lines_of text) ≡ Some reading

@@ -1,12 +1,11 @@
 //! What the lines of a package mention of other packages, looked at ahead.
 ghost use Rattle.std.specs.Option.{option_to_list};
-ghost use Rattle.std.specs.Prelude.{◌≡◌, ◌++◌, List, ℕ, true, map, IfOk, OnOk};
+ghost use Rattle.std.specs.Prelude.{◌≡◌, ◌++◌, List, ℕ, map, IfOk, OnOk};
 ghost use Rattle.wit_drafts.specs.declared.mention.Mention.{Mention};
 ghost use Rattle.wit_lines.specs.Statement.{said_of};
 ghost use Rattle.wit_lines.specs.declared.fault.LineFault.TheVariants.{NotUnderstood};
 ghost use Rattle.wit_lines.specs.declared.statement.Statement.TheVariants as says;
 ghost use Rattle.wit_script.specs.Ahead.{mentions_ahead, mentions_by, mentions_placed, mentions_then, mentions_with};
-ghost use Rattle.wit_script.specs.Ready.{is_accepted_so_far};
 ghost use Rattle.wit_script.specs.declared.ahead.Ahead.TheVariants as comes;
 
 use std::alloc::{AllocError, Global};
@@ -45,7 +44,7 @@ fn line_ahead(
     said: PackageLine,
     gate: Stability,
 ) -> Result<Ahead, AllocError>
-    ensures { IfOk result (λ ahead. (after : ℕ → List Mention) → mentions_then ahead at after ≡ mentions_by true at line.now after (says.Line said gate)) }
+    ensures { IfOk result (λ ahead. (after : ℕ → List Mention) → mentions_then ahead at after ≡ mentions_by at line.now after (says.Line said gate)) }
 {
     match span_of(at, line) {
         Ok(span) => Ok(Ahead::Line {
@@ -58,7 +57,7 @@ fn line_ahead(
 
 /// What a line says, where the file of the package has so many bytes before it.
 fn said_ahead(at: usize, line: &str, said: Statement) -> Result<Ahead, AllocError>
-    ensures { IfOk result (λ ahead. (after : ℕ → List Mention) → mentions_then ahead at after ≡ mentions_by (is_accepted_so_far said) at line.now after said) }
+    ensures { IfOk result (λ ahead. (after : ℕ → List Mention) → mentions_then ahead at after ≡ mentions_by at line.now after said) }
 {
     match said {
         Statement::Line { said, gate } => line_ahead(at, line, said, gate),
@@ -70,7 +69,7 @@ fn said_ahead(at: usize, line: &str, said: Statement) -> Result<Ahead, AllocErro
 
 /// What a line ahead is, where the file of the package has so many bytes before it.
 fn look_ahead(alloc: Global, at: usize, line: &str) -> Result<Ahead, AllocError>
-    ensures { IfOk result (λ next. (after : ℕ → List Mention) → mentions_then next at after ≡ mentions_with is_accepted_so_far at line.now after (said_of line.now)) }
+    ensures { IfOk result (λ next. (after : ℕ → List Mention) → mentions_then next at after ≡ mentions_with at line.now after (said_of line.now)) }
 {
     match read_line(alloc, line) {
         Ok(Some(said)) => said_ahead(at, line, said),
@@ -95,7 +94,7 @@ pub fn mentions_ahead(
     file_len: usize,
     lines: &[&str],
 ) -> Result<Items<Mention>, AllocError>
-    ensures { IfOk result (λ mentions. mentions ≡ mentions_ahead is_accepted_so_far file_len (map (λ line. line.now) lines.now)) }
+    ensures { IfOk result (λ mentions. mentions ≡ mentions_ahead file_len (map (λ line. line.now) lines.now)) }
 {
     let mut mentions = Items::new(alloc);
     let mut at = file_len;

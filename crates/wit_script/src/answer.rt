@@ -1,12 +1,13 @@
 //! The answers to the commands of a script.
-ghost use Rattle.std.specs.Prelude.{◌≡◌, ℕ, Ok, Err, IfErr, IfOk, IsTrue, string_bytes};
+ghost use Rattle.std.specs.Prelude.{◌≡◌, ◌≢◌, ℕ, None, Some, Ok, Err, IfErr, IfOk, false, is_some, string_bytes};
 ghost use Rattle.std.specs.List.{flat_map};
 ghost use Rattle.wit_resolve_graph.specs.State.{State, new_state};
 ghost use Rattle.wit_resolve_graph.specs.Step.{Run};
 ghost use Rattle.wit_resolve_graph.specs.Supported.{IsSupported};
-ghost use Rattle.wit_script.specs.Answer.{IsAnswered, IsChoice, Answers, AnswersAll, IsPrinted, IsSelected, IsTold, Replies, Works, active, alone, line_of, refusal_text, selected_text, pushed_text, quiet_text, reply_text, world_named};
-ghost use Rattle.wit_script.specs.Ready.{is_taken};
+ghost use Rattle.wit_script.specs.Answer.{IsAnswered, IsChoice, Answers, AnswersAll, IsMerged, IsPrinted, IsSelected, IsTold, Replies, Works, active, alone, line_of, refusal_text, selected_text, pushed_text, quiet_text, reply_text, world_named};
+ghost use Rattle.wit_script.specs.Ready.{MayAllCome, MayCome};
 ghost use Rattle.wit_script.specs.declared.answer.Stage.{Stage};
+ghost use Rattle.wit_script.specs.declared.ready.ScriptCommand.TheVariants as asks;
 
 use crate::printer::{print_world, world_id_text};
 use crate::ready::{ReadyCommand, ScriptCommand};
@@ -67,10 +68,33 @@ impl Stage {
             None => answered(alloc, &mut self.first, command, telling),
         }
     }
+
+    /// `other`: a second graph, which is empty.
+    fn open(&mut self, alloc: Global)
+        requires { self.old.second ≡ None }
+        ensures { self.new ≡ record self.old { second = Some new_state } }
+    {
+        self.second = Some(Resolve::new(alloc));
+    }
+
+    /// `merge`: the second graph goes into the first, and is no longer there, whether it is refused or not.
+    fn merge(&mut self, alloc: Global) -> Result<String, AllocError>
+        requires { self.old.second ≢ None }
+        ensures { IfOk result (λ text. IsMerged Run self.old self.old.second (string_bytes text) self.new) }
+    {
+        match self.second.take() {
+            Some(second) => {
+                let command = Command::Merge(second);
+                answered(alloc, &mut self.first, command, Telling::Aloud)
+            }
+            None => unreachable!(),
+        }
+    }
 }
 
-/// The answers to commands on an empty graph, in order.
+/// The answers to commands on an empty graph, in order, of which each can be asked after those before it.
 pub fn answers_to(alloc: Global, commands: Items<ReadyCommand>) -> Result<String, AllocError>
+    requires { MayAllCome commands false }
     ensures { IfOk result (λ text. (after : Stage) × AnswersAll Run IsChoice (alone new_state) commands (string_bytes text) after) }
 {
     let mut stage = Stage::new(alloc);
@@ -84,6 +108,7 @@ pub fn answers_to(alloc: Global, commands: Items<ReadyCommand>) -> Result<String
 
 /// The answer to a command.
 fn answer_to(alloc: Global, stage: &mut Stage, command: ReadyCommand) -> Result<String, AllocError>
+    requires { MayCome command (is_some stage.old.second) }
     ensures { IfOk result (λ text. Answers Run IsChoice stage.old command (string_bytes text) stage.new) }
 {
     match command.into_command() {
@@ -96,7 +121,7 @@ fn answer_to(alloc: Global, stage: &mut Stage, command: ReadyCommand) -> Result<
 
 /// The answer to a command that hands in no packages.
 fn reply_to(alloc: Global, stage: &mut Stage, request: Request) -> Result<String, AllocError>
-    requires { IsTrue (is_taken request) }
+    requires { MayCome (asks.Request request) (is_some stage.old.second) }
     ensures { IfOk result (λ text. Replies Run IsChoice stage.old request (string_bytes text) stage.new) }
 {
     match request {
@@ -107,6 +132,11 @@ fn reply_to(alloc: Global, stage: &mut Stage, request: Request) -> Result<String
         Request::Tracks(rule) => {
             stage.work(alloc, Command::SetTrackRule(rule), Telling::Quietly)
         }
+        Request::Other => {
+            stage.open(alloc);
+            Ok(String::new(alloc))
+        }
+        Request::Merge => stage.merge(alloc),
         Request::Importize {
             package,
             world,
@@ -138,7 +168,6 @@ fn reply_to(alloc: Global, stage: &mut Stage, request: Request) -> Result<String
         }
         Request::Print { package, world } => print(alloc, stage.active(), &package, &world),
         Request::Select { package, text } => select(alloc, stage.active(), &package, &text),
-        _ => unreachable!(),
     }
 }
 

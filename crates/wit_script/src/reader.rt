@@ -1,17 +1,17 @@
 //! From the text of a script to its commands.
-ghost use Rattle.std.specs.Prelude.{◌≡◌, ◌↔◌, ◌||◌, [], ◌∷◌, if◌then◌else◌, is_some, map, None, Some, IfOk, IfErr, IfSome, IsTrue, OnOk, not};
+ghost use Rattle.std.specs.Prelude.{◌≡◌, ◌↔◌, ◌||◌, [], ◌∷◌, is_some, map, None, Some, IfOk, IfErr, IfSome, IsTrue, OnOk, not};
 ghost use Rattle.wit_drafts.specs.Draft.{grouped};
 ghost use Rattle.wit_lines.specs.IsRead.{IsRead};
 ghost use Rattle.wit_lines.specs.Signature.{each_of};
 ghost use Rattle.wit_items.specs.Each.{Each};
 ghost use Rattle.wit_items.specs.Shape.{IsGroupShaped};
 ghost use Rattle.wit_lines.specs.Line.{is_silent, last_said_of};
-ghost use Rattle.wit_script.specs.Ready.{AreReady, is_accepted_so_far, is_taken};
+ghost use Rattle.wit_script.specs.Ready.{AreReady};
 ghost use Rattle.wit_script.specs.Script.{GoesOn, HasLineFault, HasReadFault, IsUnderstood, Leads, after_line, after_said, new_reading, reading_of, with_groups, with_package, with_package_line, with_push, with_request};
 
 use crate::ahead::mentions_ahead;
 use crate::fault::ReadFault;
-use crate::ready::{ReadyCommand, ScriptCommand, is_taken};
+use crate::ready::{ReadyCommand, ScriptCommand, other_after};
 use std::alloc::{AllocError, Global};
 use std::mem;
 use wit_drafts::Draft;
@@ -104,7 +104,7 @@ impl Reading {
         ahead: &[&str],
     ) -> Result<(), LineFault>
         requires { AreReady self.old.commands }
-        ensures { GoesOn (after_said is_accepted_so_far self.old line.now (map (λ line. line.now) ahead.now) (Some (Some said))) result self.new }
+        ensures { GoesOn (after_said self.old line.now (map (λ line. line.now) ahead.now) (Some (Some said))) result self.new }
     {
         match said {
             Statement::Package(name) => self.add_package(alloc, name, line, ahead),
@@ -122,7 +122,7 @@ impl Reading {
         line: &str,
         ahead: &[&str],
     ) -> Result<(), LineFault>
-        ensures next { Leads (with_package is_accepted_so_far self.old name line.now (map (λ line. line.now) ahead.now)) result self.new }
+        ensures next { Leads (with_package self.old name line.now (map (λ line. line.now) ahead.now)) result self.new }
         ensures commands { self.new.commands ≡ self.old.commands }
     {
         let mentions = mentions_ahead(alloc, line.len() + 1, ahead)?;
@@ -189,14 +189,19 @@ impl Reading {
         Ok(())
     }
 
-    /// Adds another command, which is carried out so far, where no package waits for its `push`.
+    /// Adds another command, where no package waits for its `push`: `other` where none waits for its `merge`, and
+    /// `merge` where one does.
     fn add_request(&mut self, request: Request) -> Result<(), LineFault>
         requires { AreReady self.old.commands }
-        ensures { GoesOn (if is_taken request then with_request self.old request else None) result self.new }
+        ensures { GoesOn (with_request self.old request) result self.new }
     {
-        if !is_taken(&request) || self.current.is_some() {
+        if self.current.is_some() {
             return Err(LineFault::NotUnderstood);
         }
+        let Some(other) = other_after(&request, self.other) else {
+            return Err(LineFault::NotUnderstood);
+        };
+        self.other = other;
         self.commands
             .push(ReadyCommand::new(ScriptCommand::Request(request)))?;
         Ok(())
@@ -211,7 +216,7 @@ fn add_line(
     ahead: &[&str],
 ) -> Result<bool, LineFault>
     requires { AreReady reading.old.commands }
-    ensures next { GoesOn (after_line is_accepted_so_far reading.old line.now (map (λ line. line.now) ahead.now)) result reading.new }
+    ensures next { GoesOn (after_line reading.old line.now (map (λ line. line.now) ahead.now)) result reading.new }
     ensures told { IfOk result (λ said. said ≡ not (is_silent line.now)) }
 {
     match read_line(alloc, line)? {

@@ -1,6 +1,6 @@
-//! What a script asks, and that it may be asked so far.
+//! What a script asks, and that it may be asked.
 ghost use Rattle.std.specs.Prelude.{◌≡◌};
-ghost use Rattle.wit_script.specs.Ready.{is_taken};
+ghost use Rattle.wit_script.specs.Ready.{other_after};
 
 use std::marker::Model;
 use wit_items::{Items, UnresolvedPackageGroup};
@@ -18,17 +18,19 @@ pub enum ScriptCommand {
     Request(Request),
 }
 
-/// Whether a command that hands in no package is carried out so far.
-pub fn is_taken(request: &Request) -> bool
-    ensures { result ≡ is_taken request.now }
+/// Whether an `other` waits for its `merge` after a command that hands in no package, where one waited before or none
+/// did. None where the command can't be asked then: `other` once more, or `merge` without it.
+pub fn other_after(request: &Request, other: bool) -> Option<bool>
+    ensures { result ≡ other_after request.now other }
 {
     match request {
-        Request::Other | Request::Merge => false,
-        _ => true,
+        Request::Other => (!other).then_some(true),
+        Request::Merge => other.then_some(false),
+        _ => Some(other),
     }
 }
 
-/// A command whose packages have the shape that a graph takes, and that is taken so far.
+/// A command whose packages have the shape that a graph takes.
 #[derive(Drop)]
 pub struct ReadyCommand {
     command: ScriptCommand,

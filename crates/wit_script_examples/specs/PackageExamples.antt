@@ -1,8 +1,6 @@
--- What the lines of packages make, where all are accepted: packages, and near misses that aren't understood.
-use Rattle.std.specs.Prelude.{◌≡◌, ℕ, List, [], ◌∷◌, ◌++◌, Bool, true, false, Option, Some, None, codes}
+-- What the lines of packages make: packages, and near misses that aren't understood.
+use Rattle.std.specs.Prelude.{◌≡◌, ℕ, List, [], ◌∷◌, ◌++◌, false, Some, None, codes}
 use Rattle.wit_items.specs.declared.function.FunctionKind.TheVariants as role
-use Rattle.wit_items.specs.declared.interface.Interface.{Interface}
-use Rattle.wit_items.specs.declared.stability.Stability.{Stability}
 use Rattle.wit_items.specs.declared.stability.Stability.TheVariants.{Unknown, Unstable}
 use Rattle.wit_items.specs.declared.types.Handle.TheVariants as handle
 use Rattle.wit_items.specs.declared.types.Type_.TheVariants as type
@@ -14,33 +12,26 @@ use Rattle.wit_items.specs.declared.types.TypeOwner.TheVariants as owner
 use Rattle.wit_items.specs.declared.unresolved.AstItem.TheVariants as foreign
 use Rattle.wit_items.specs.declared.unresolved.UnresolvedPackage.{UnresolvedPackage}
 use Rattle.wit_items.specs.declared.unresolved.UnresolvedPackageGroup.{UnresolvedPackageGroup}
-use Rattle.wit_items.specs.declared.world.World.{World}
-use Rattle.wit_items.specs.declared.world.WorldItem.{WorldItem}
 use Rattle.wit_items.specs.declared.world.WorldItem.TheVariants as item
 use Rattle.wit_items.specs.declared.world.WorldKey.TheVariants as key
 use Rattle.wit_lines.specs.Line.{lines_of}
 use Rattle.wit_lines.specs.declared.request.Request.TheVariants as request
-use Rattle.wit_lines.specs.declared.statement.Statement.{Statement}
 use Rattle.wit_drafts.specs.Adding.{empty_interface, empty_world, type_with}
 use Rattle.wit_drafts.specs.Lines.{entry_of}
 use Rattle.wit_drafts.specs.Naming.{Place}
 use Rattle.wit_drafts.specs.declared.draft.Standing.{Standing}
-use Rattle.wit_script.specs.Script.{after_lines, new_reading}
+use Rattle.wit_script.specs.Script.{reading_of}
 use Rattle.wit_script.specs.declared.ready.ScriptCommand.{ScriptCommand}
 use Rattle.wit_script.specs.declared.ready.ScriptCommand.TheVariants as asks
 use Rattle.wit_script_examples.specs.LineExamples.{a_b, package_of}
 
--- every line is accepted
-abbrev pub all : Statement → Bool
-all said = true
+-- what lines ask, where all are understood and nothing waits
+abbrev pub Asks : List ℕ → List ScriptCommand → Type 0
+Asks text commands = reading_of (lines_of text) ≡ Some (record { commands = commands; finished = []; current = None; other = false })
 
--- what lines ask where all are accepted
-abbrev pub WouldAsk : List ℕ → List ScriptCommand → Type 0
-WouldAsk text commands = after_lines all new_reading (lines_of text) ≡ Some (record { commands = commands; finished = []; current = None; other = false })
-
--- lines that aren't understood, whatever is accepted
+-- lines of which one isn't understood
 abbrev pub IsNeverRead : List ℕ → Type 0
-IsNeverRead text = after_lines all new_reading (lines_of text) ≡ None
+IsNeverRead text = reading_of (lines_of text) ≡ None
 
 -- the place of a line, without a gate and with the gate of a feature
 abbrev pub at : ℕ → ℕ → Place
@@ -262,12 +253,12 @@ dep_package = record {
 }
 
 pub record ExamplesOfPackages : Type 0 where
-  pub first : WouldAsk (first_text ++ codes "push\n") (asks.Push (group_of first_package (codes "a:b") first_text 147) [] ∷ [])
-  pub gates : WouldAsk (gates_text ++ codes "push\n") (asks.Push (group_of gates_package (codes "a:b") gates_text 124) [] ∷ [])
-  pub world : WouldAsk (world_text ++ codes "push\n") (asks.Push (group_of world_package (codes "a:b") world_text 137) [] ∷ [])
-  pub two_packages : WouldAsk (main_text ++ (dep_text ++ codes "push\n"))
+  pub first : Asks (first_text ++ codes "push\n") (asks.Push (group_of first_package (codes "a:b") first_text 147) [] ∷ [])
+  pub gates : Asks (gates_text ++ codes "push\n") (asks.Push (group_of gates_package (codes "a:b") gates_text 124) [] ∷ [])
+  pub world : Asks (world_text ++ codes "push\n") (asks.Push (group_of world_package (codes "a:b") world_text 137) [] ∷ [])
+  pub two_packages : Asks (main_text ++ (dep_text ++ codes "push\n"))
       (asks.Push (group_of main_package (codes "a:b") main_text 34) (group_of dep_package (codes "f:g") dep_text 53 ∷ []) ∷ [])
-  pub commands : WouldAsk (codes "all-features\nother\nfeature f\nmerge")
+  pub commands : Asks (codes "all-features\nother\nfeature f\nmerge")
       (asks.Request request.AllFeatures ∷ asks.Request request.Other ∷ asks.Request (request.Feature (codes "f")) ∷ asks.Request request.Merge ∷ [])
   -- nothing is open to be merged, or something is open already
   pub nothing_open : IsNeverRead (codes "merge")

@@ -1,5 +1,5 @@
--- What the definition of scripts says of small scripts, of the lines that are accepted so far.
-use Rattle.std.specs.Prelude.{◌≡◌, ℕ, List, [], ◌∷◌, ◌++◌, false, Some, None, codes}
+-- What the definition of scripts says of small scripts.
+use Rattle.std.specs.Prelude.{ℕ, List, [], ◌∷◌, ◌++◌, Some, None, codes}
 use Rattle.wit_items.specs.declared.package_name.PackageName.{PackageName}
 use Rattle.wit_items.specs.declared.track.TrackRule.TheVariants.{Published, WithPrereleases}
 use Rattle.wit_items.specs.declared.types.Type_.{Type_}
@@ -9,15 +9,13 @@ use Rattle.wit_items.specs.declared.types.TypeDefKind.TheVariants as kind
 use Rattle.wit_items.specs.declared.types.TypeOwner.TheVariants as owner
 use Rattle.wit_items.specs.declared.unresolved.UnresolvedPackageGroup.{UnresolvedPackageGroup}
 use Rattle.wit_items.specs.declared.world.WorldKey.TheVariants as key
-use Rattle.wit_lines.specs.Line.{lines_of}
 use Rattle.wit_lines.specs.declared.request.Request.TheVariants as request
 use Rattle.wit_drafts.specs.Adding.{empty_interface, empty_world}
 use Rattle.wit_drafts.specs.Lines.{entry_of}
-use Rattle.wit_script.specs.Script.{IsNotUnderstood, IsUnderstood, reading_of}
-use Rattle.wit_script.specs.declared.ready.ScriptCommand.{ScriptCommand}
+use Rattle.wit_script.specs.Script.{IsNotUnderstood, IsUnderstood}
 use Rattle.wit_script.specs.declared.ready.ScriptCommand.TheVariants as asks
 use Rattle.wit_script_examples.specs.LineExamples.{package_of}
-use Rattle.wit_script_examples.specs.PackageExamples.{at, group_of, here, named}
+use Rattle.wit_script_examples.specs.PackageExamples.{Asks, at, group_of, here, named}
 
 -- the lines of foo:bar
 abbrev pub first_package : List ℕ
@@ -55,10 +53,6 @@ first_group = group_of (record {
   required_resource_types = [];
 }) (codes "foo:bar") first_package 108
 
--- what lines say from the first on, where all is understood and nothing waits
-abbrev pub Asks : List ℕ → List ScriptCommand → Type 0
-Asks text commands = reading_of (lines_of text) ≡ Some (record { commands = commands; finished = []; current = None; other = false })
-
 -- scripts and what they ask, and scripts that aren't understood
 pub record ExamplesOfScripts : Type 0 where
   pub first_package : Asks (first_package ++ codes "push\nprint foo:bar w\nselect foo:bar")
@@ -90,5 +84,9 @@ pub record ExamplesOfScripts : Type 0 where
   pub foreign_twice : IsNotUnderstood (codes "package a:b\nworld w\nimport c:d/e\nimport c:d/e\n") 4
   -- one thing of another package as an interface and as a world
   pub foreign_twofold : IsNotUnderstood (codes "package a:b\nworld w\nimport c:d/e\ninclude c:d/e\n") 4
-  -- not accepted so far: another graph
-  pub other_line : IsNotUnderstood (codes "feature f\nother\nmerge\n") 2
+  -- another graph that goes nowhere, a third one, one that is not there
+  pub unmerged : IsNotUnderstood (codes "other\nfeature f\n\n# end\n") 2
+  pub other_twice : IsNotUnderstood (codes "feature f\nother\nother\nmerge\n") 3
+  pub merge_twice : IsNotUnderstood (codes "other\nmerge\nmerge\n") 3
+  -- one among the lines of a package
+  pub other_among_lines : IsNotUnderstood (codes "package a:b\nother\n") 2

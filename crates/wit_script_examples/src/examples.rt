@@ -14,7 +14,7 @@ pub fn examples_of_lines()
     ensures { ExamplesOfLines }
 {}
 
-/// What the lines of packages make, where all are accepted.
+/// What the lines of packages make.
 pub fn examples_of_packages()
     ensures { ExamplesOfPackages }
 {}

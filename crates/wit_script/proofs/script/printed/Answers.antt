@@ -1,7 +1,11 @@
 use Rattle.std.proofs.Common.{rules, ◌≡◌, List, ℕ, subst}
 use Rattle.std.specs.Str.{IsUtf8}
 use Rattle.wit_script.specs.Script.{IsNotUnderstood, IsUnderstood}
+use Rattle.wit_script.proofs.Waiting.{understood-come}
 use Rattle.wit_script.proofs.script.printed.Goals as goal
+
+pub answers_to-requires : goal.answers_to-requires
+answers_to-requires c = understood-come c.in-Ok.script.now c.in-Ok-read_script.commands c.in-Ok-read_script.ensures.ok
 
 pub returns-in_ok-answers_to-in-Ok-read_script-clause-ok :
     goal.returns-in_ok-answers_to-in-Ok-read_script-clause-ok

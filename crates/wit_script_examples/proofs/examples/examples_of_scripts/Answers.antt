@@ -21,5 +21,8 @@ returns c = record {
   unended = inr (record { reading = after (codes "package a:b\ninterface i"); read = refl; ready = tt; waits = refl; counted = refl });
   foreign_twice = inl (record { before = 3; reading = before 3 (codes "package a:b\nworld w\nimport c:d/e\nimport c:d/e\n"); read = refl; ready = tt; there = lit< tt; bad = tt; counted = refl });
   foreign_twofold = inl (record { before = 3; reading = before 3 (codes "package a:b\nworld w\nimport c:d/e\ninclude c:d/e\n"); read = refl; ready = tt; there = lit< tt; bad = tt; counted = refl });
-  other_line = inl (record { before = 1; reading = after (codes "feature f"); read = refl; ready = (refl, tt); there = lit< tt; bad = tt; counted = refl });
+  unmerged = inr (record { reading = after (codes "other\nfeature f"); read = refl; ready = (tt, (tt, tt)); waits = refl; counted = refl });
+  other_twice = inl (record { before = 2; reading = after (codes "feature f\nother"); read = refl; ready = (tt, (tt, tt)); there = lit< tt; bad = tt; counted = refl });
+  merge_twice = inl (record { before = 2; reading = after (codes "other\nmerge"); read = refl; ready = (tt, (tt, tt)); there = lit< tt; bad = tt; counted = refl });
+  other_among_lines = inl (record { before = 1; reading = after (codes "package a:b"); read = refl; ready = tt; there = lit< tt; bad = tt; counted = refl });
 }
