@@ -166,9 +166,33 @@ def tracks(size):
     yield "print foo:main w"
 
 
+def package_to_merge(size, first):
+    """Interfaces from a number on, each of which uses the one before, a record and a function; a world imports the last."""
+    yield "package foo:bar"
+    for number in range(first, first + size):
+        yield f"interface i{number}"
+        yield "type t u32"
+        yield "record r a:t b:string"
+        yield "func f(x:r)->t"
+        if number > first:
+            yield f"use i{number - 1} t u"
+    yield f"world w{first}"
+    yield f"import i{first + size - 1}"
+    yield "push"
+
+
+def merges(size):
+    """A graph into which one goes that has half of its interfaces, and as many others."""
+    yield from package_to_merge(size, 0)
+    yield "other"
+    yield from package_to_merge(size, size // 2)
+    yield "merge"
+    yield f"print foo:bar w{size // 2}"
+
+
 KINDS = {
     it.__name__: it
-    for it in (chain, separate, worlds, aliases, nested, fields, includes, renames, resources, groups, pushes, tracks)
+    for it in (chain, separate, worlds, aliases, nested, fields, includes, renames, resources, groups, pushes, tracks, merges)
 }
 
 

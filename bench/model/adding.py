@@ -1,6 +1,6 @@
 """Adds a package to a graph."""
 from .causes import defined_twice, excluded, returns_borrow
-from .data import Entry, Foreign, Function, Interface, Package, Type, World
+from .data import Entry, Foreign, Function, Interface, Package, Type, World, with_values
 from .elaboration import Conflict, elaborate
 from .including import include
 from .labels import label_causes, place_setters
@@ -162,7 +162,9 @@ class Addition:
         return self.images[thing]
 
     def moved(self, function):
-        return function.moved(function.name, self.image)
+        made = function.moved(function.name, self.image)
+        made.take_values()
+        return made
 
     def move(self):
         """Makes the images of what takes part; worlds stay empty."""
@@ -173,7 +175,8 @@ class Addition:
             if self.active[it]:
                 self.images[it] = type(it)(it.name, it.note, self.package.name)
         for it in own:
-            self.images[it].kind = it.kind[0], *(self.image(part) for part in it.kind[1:])
+            # (a type is after those that it names)
+            self.images[it].kind = with_values((it.kind[0], *(self.image(part) for part in it.kind[1:])))
             self.images[it].owner = self.image(it.owner)
         for interface in self.package.interfaces.values():
             if self.active[interface]:

@@ -48,6 +48,17 @@ class Type:
         return of if isinstance(of, Interface) else None
 
 
+def value(reference):
+    """What stands at the place of a value: of a type that leads to a resource an `own` of it."""
+    is_resource = isinstance(reference, Type) and reference.end().kind[0] == "resource"
+    return Type(None, ("own", reference), None, UNKNOWN) if is_resource else reference
+
+
+def with_values(kind):
+    """A kind, at whose places for values stand values."""
+    return kind if kind[0] in ("alias", "own", "borrow") else (kind[0], *map(value, kind[1:]))
+
+
 @dataclass(eq=False)
 class Function:
     name: str
@@ -64,6 +75,10 @@ class Function:
         """The function under a name, what it refers to being what `image` makes of it."""
         parts = [image(it) for it in self.parts]
         return Function(name, image(self.resource), self.names, parts, image(self.result), self.note)
+
+    def take_values(self):
+        """Puts values at the places of its parameters and its result."""
+        self.parts, self.result = [value(it) for it in self.parts], value(self.result)
 
 
 @dataclass(eq=False)

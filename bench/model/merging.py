@@ -2,7 +2,7 @@
 import copy
 
 from .causes import note_mismatch, returns_borrow
-from .data import UNKNOWN, Entry, Function, Interface, Package, Type
+from .data import UNKNOWN, Entry, Function, Interface, Package, Type, with_values
 from .finishing import all_types, finish, interfaces_of
 from .mismatches import function_mismatches, type_mismatch
 
@@ -119,10 +119,13 @@ class Merge:
 
     def unite(self):
         """Puts what the other graph alone has into the graph."""
-        for ty in all_types(self.other):
-            if id(ty) not in self.partner:
-                ty.kind = ty.kind[0], *(self.at(it) for it in ty.kind[1:])
-                ty.owner = self.at(ty.owner)
+        new = [it for it in all_types(self.other) if id(it) not in self.partner]
+        for ty in new:
+            ty.kind = ty.kind[0], *(self.at(it) for it in ty.kind[1:])
+            ty.owner = self.at(ty.owner)
+        # (what leads to a resource is told once all are in place)
+        for ty in new:
+            ty.kind = with_values(ty.kind)
         functions = []
         for package in self.other.packages:
             into = self.graph.find(package.name)
@@ -137,6 +140,7 @@ class Merge:
         for it in functions:
             it.parts = [self.at(part) for part in it.parts]
             it.result, it.resource = self.at(it.result), self.at(it.resource)
+            it.take_values()
             if isinstance(it.result, Type) and it.result.holds_borrow():
                 self.causes.add(returns_borrow(it.name))
         for it in interfaces_of(self.graph):

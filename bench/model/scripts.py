@@ -18,37 +18,36 @@ COMMANDS = {
     "select": (1, 2),
     "tracks": (1, 1),
     "semver": (2, 2),
+    "other": (0, 0),
+    "merge": (0, 0),
 }
-MERGING = {"other": (0, 0), "merge": (0, 0)}
 # whose first word is the name of a package
 OF_PACKAGES = {"importize", "exportize", "print", "select", "semver"}
 
 
 @dataclass(frozen=True)
 class Rules:
-    """Whether scripts take merges, and whether types that are to be one are then compared by their structures."""
+    """Whether merges compare types that are to be one by their structures."""
 
-    merging: bool = False
     by_structure: bool = False
 
 
-def commands_of(text, rules):
+def commands_of(text):
     """The commands with their packages; or the number of the first line that isn't understood."""
     reader, commands, last, is_other = Reader(), [], 0, False
-    known = COMMANDS | (MERGING if rules.merging else {})
     for number, line in enumerate(text.split("\n"), 1):
         words = [it for it in line.split(" ") if it]
         if not words or words[0].startswith("#"):
             continue
         last = number
         try:
-            if words[0] not in known:
+            if words[0] not in COMMANDS:
                 reader.line(words)
                 continue
             if words[0] in ("other", "merge"):
                 need(is_other == (words[0] == "merge"))
                 is_other = not is_other
-            commands.append((read_command(words, known[words[0]], reader.packages), reader.packages))
+            commands.append((read_command(words, COMMANDS[words[0]], reader.packages), reader.packages))
             reader = Reader()
         except NotUnderstood:
             return number
@@ -130,7 +129,7 @@ def shown(package, world):
 
 def answers(text, rules=Rules()):
     """What each command of a script may print; or the number of the first line that isn't understood."""
-    commands = commands_of(text, rules)
+    commands = commands_of(text)
     if isinstance(commands, int):
         return commands
     session = Session(rules)
