@@ -12,7 +12,7 @@ use crate::import::{FutureIntrinsic, ResourceIntrinsic, StreamIntrinsic, WasmImp
 use std::alloc::Global;
 use wit_graph::{Graph, ResolveResult};
 use wit_items::{Function, LiftLowerAbi, ManglingAndAbi, TypeId, WorldKey};
-use wit_questions::{find_futures_and_streams, named_interface};
+use wit_questions::{holds_future_or_stream, named_interface};
 
 fn key_has_name(graph: &Graph, key: &WorldKey) -> bool
     ensures { result ≡ key_has_name graph.now.interfaces key.now }
@@ -97,14 +97,7 @@ fn is_of_function(
     let Some(ty) = ty else {
         return Ok(true);
     };
-    let found = find_futures_and_streams(alloc, graph, function)?;
-    Ok(is_among(found.as_slice(), ty))
-}
-
-fn is_among(found: &[TypeId], ty: TypeId) -> bool
-    ensures { result ≡ list_any (nat_eq ty) found.now }
-{
-    found.iter().any(|candidate| ty == *candidate)
+    holds_future_or_stream(alloc, graph, function, ty)
 }
 
 /// Whether an import has names: an interface's key and a resource must have one; what serves exports

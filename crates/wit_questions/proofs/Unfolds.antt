@@ -7,7 +7,7 @@ use Rattle.std.proofs.lemmas.List.{append-nil, get_or_past, length-append, rever
 use Rattle.std.proofs.lemmas.Option.{slice_get_past}
 use Rattle.std.specs.Option.{option_map_or}
 use Rattle.std.proofs.lemmas.List.Elements.{All-contains, Contains-append_cases, Contains-append_left, Contains-get_or, Contains-push, Contains-push_cases, filter-append, filter_more}
-use Rattle.wit_relations.specs.FreshFacts.{any_from_contains, fresh_all, fresh_in, UsesFirst-fresh}
+use Rattle.wit_relations.specs.FreshFacts.{any_from_contains, contains_from_any, fresh_all, fresh_in, no_any_from, UsesFirst-fresh}
 use Rattle.wit_relations.specs.MemberFacts.{Contains-nil, Contains-here, Contains-there, Contains-cons_cases, Contains-flat_map, Contains-flat_map_cases}
 use Rattle.wit_relations.specs.Relation.{direct, IsAcyclic, IsPath}
 use Rattle.wit_relations.specs.Walks.{first_of_each, walk, walk_within, UsesFirst}
@@ -80,6 +80,45 @@ Contains-filter p (y ∷ xs) x has =
         | inr there ↦ Contains-there y x xs (Contains-filter p xs x there)
       ]
       | inr fails ↦ Contains-there y x xs (Contains-filter p xs x (rw (cond-false (p y) (y ∷ filter p xs) (filter p xs) fails) at has))
+    ]
+
+-- what a test picks passes it
+Contains-passed : (p : ℕ → Bool) (xs : List ℕ) (x : ℕ) → Contains (filter p xs) x → p x ≡ true
+Contains-passed p [] x has = absurd (Contains-nil has)
+Contains-passed p (y ∷ xs) x has =
+    elim (cases_Bool (p y)) [
+      | inl pass ↦ elim (Contains-cons_cases y x (filter p xs) (rw (cond-true (p y) (y ∷ filter p xs) (filter p xs) pass) at has)) [
+        | inl same ↦ subst (λ z. p z ≡ true) same pass
+        | inr there ↦ Contains-passed p xs x there
+      ]
+      | inr fails ↦ Contains-passed p xs x (rw (cond-false (p y) (y ∷ filter p xs) (filter p xs) fails) at has)
+    ]
+
+-- and what passes it is picked
+Contains-picked : (p : ℕ → Bool) (xs : List ℕ) (x : ℕ) → p x ≡ true → Contains xs x → Contains (filter p xs) x
+Contains-picked p [] x pass has = absurd (Contains-nil has)
+Contains-picked p (y ∷ xs) x pass has =
+    elim (Contains-cons_cases y x xs has) [
+      | inl same ↦
+          let is : filter p (y ∷ xs) ≡ y ∷ filter p xs = cond-true (p y) (y ∷ filter p xs) (filter p xs) (ap p same ∙ pass) in
+          subst (λ (us : List ℕ). Contains us x) (sym is) (subst (λ z. Contains (y ∷ filter p xs) z) same (Contains-here y (filter p xs)))
+      | inr there ↦
+          elim (cases_Bool (p y)) [
+            | inl kept ↦ subst (λ (us : List ℕ). Contains us x) (sym (cond-true (p y) (y ∷ filter p xs) (filter p xs) kept)) (Contains-there y x (filter p xs) (Contains-picked p xs x pass there))
+            | inr left ↦ subst (λ (us : List ℕ). Contains us x) (sym (cond-false (p y) (y ∷ filter p xs) (filter p xs) left)) (Contains-picked p xs x pass there)
+          ]
+    ]
+
+-- what fails it is not among those that it picks
+pub none_picked : (p : ℕ → Bool) (xs : List ℕ) (x : ℕ) → p x ≡ false → list_any (nat_eq x) (filter p xs) ≡ false
+none_picked p xs x fails = no_any_from x (filter p xs) (λ has. false≢true (sym fails ∙ Contains-passed p xs x has))
+
+-- what passes it is among them where it is among the first of each
+pub picked_once : (p : ℕ → Bool) (xs : List ℕ) (x : ℕ) → p x ≡ true → list_any (nat_eq x) (first_of_each xs) ≡ list_any (nat_eq x) (filter p xs)
+picked_once p xs x pass =
+    elim (cases_Bool (list_any (nat_eq x) (first_of_each xs))) [
+      | inl has ↦ has ∙ sym (any_from_contains x (filter p xs) (Contains-picked p xs x pass (fresh_in [] xs x (contains_from_any x (first_of_each xs) has))))
+      | inr none ↦ none ∙ sym (no_any_from x (filter p xs) (λ has. false≢true (sym none ∙ any_from_contains x (first_of_each xs) (fresh_all [] xs x (Contains-filter p xs x has)))))
     ]
 
 pub filter-walks : (p : ℕ → Bool) (f : ℕ → List ℕ) (ts : List ℕ) → filter p (flat_map f ts) ≡ flat_map (λ t. filter p (f t)) ts
@@ -279,14 +318,3 @@ module _ (types : List TypeDef) (held : List (List ℕ)) where
   within_below ts k d below =
       let one = Contains-passed (λ t. nat_lt t (length types)) ts (get_or (places_within (length types) ts) k d) (Contains-get_or (places_within (length types) ts) k d below) in
       ltb-true (get_or (places_within (length types) ts) k d) (length types) one
-    where
-      Contains-passed : (p : ℕ → Bool) (xs : List ℕ) (x : ℕ) → Contains (filter p xs) x → p x ≡ true
-      Contains-passed p [] x has = absurd (Contains-nil has)
-      Contains-passed p (y ∷ xs) x has =
-          elim (cases_Bool (p y)) [
-            | inl pass ↦ elim (Contains-cons_cases y x (filter p xs) (rw (cond-true (p y) (y ∷ filter p xs) (filter p xs) pass) at has)) [
-              | inl same ↦ subst (λ z. p z ≡ true) same pass
-              | inr there ↦ Contains-passed p xs x there
-            ]
-            | inr fails ↦ Contains-passed p xs x (rw (cond-false (p y) (y ∷ filter p xs) (filter p xs) fails) at has)
-          ]

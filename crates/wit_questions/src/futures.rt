@@ -38,6 +38,37 @@ pub fn find_futures_and_streams(
     Ok(futures_below(alloc, types, held.as_slice(), places.as_slice())?)
 }
 
+/// Whether a type is among the futures and streams that the values of a function's parameters and of its
+/// result hold.
+///
+/// It takes a step for each type of the graph, however many ways lead to it.
+pub fn holds_future_or_stream(
+    alloc: Global,
+    graph: &Graph,
+    function: &Function,
+    ty: TypeId,
+) -> ResolveResult<bool>
+    requires acyclic { IsAcyclic (type_references graph.now.types) }
+    ensures told { IfOk result (λ told. told ≡ list_any (nat_eq ty) (futures_and_streams graph.now.types function.now)) }
+    ensures err { IfErr result (λ e. e ≡ OutOfMemory) }
+{
+    let types = graph.types.as_slice();
+    if !is_future(types, ty.index()) {
+        return Ok(false);
+    }
+    let places = signature_places(alloc, types.len(), function)?;
+    let held = held_rows(alloc, types)?;
+    let order = walk_order(alloc, held.as_slice(), places.as_slice())?;
+    Ok(is_among(order.as_slice(), ty.index()))
+}
+
+/// Whether a place is one of some.
+fn is_among(places: &[usize], place: usize) -> bool
+    ensures { result ≡ list_any (nat_eq place) places.now }
+{
+    places.iter().any(|candidate| place == *candidate)
+}
+
 /// The types of a function's parameters and of its result, those that are there.
 fn signature_places(
     alloc: Global,

@@ -18,7 +18,7 @@ pub use crate::canonical::{
 pub use crate::entries::{
     external_id_of, external_id_value, implements_interface, named_interface,
 };
-pub use crate::futures::find_futures_and_streams;
+pub use crate::futures::{find_futures_and_streams, holds_future_or_stream};
 pub use crate::held::held_rows;
 pub use crate::interface_deps::{InterfaceDirectDeps, interface_direct_deps};
 pub use crate::package_deps::{

@@ -3,7 +3,7 @@ ghost use Rattle.std.specs.Prelude.{◌≡◌, IfErr, IfOk, OnErr};
 ghost use Rattle.std.specs.List.{AllByRecursion};
 ghost use Rattle.wit_graph.specs.declared.error_kind.ResolveErrorKind.TheVariants.{OutOfMemory};
 ghost use Rattle.wit_resolve_graph.specs.Step.{Run, Step};
-ghost use Rattle.wit_resolve_graph.specs.Supported.{IsSupported};
+ghost use Rattle.wit_resolve_graph.specs.CommandShape.{IsCommandShaped};
 ghost use Rattle.wit_resolve_graph.specs.declared.command.Command.TheVariants.{AddFeature};
 
 use crate::command::{Command, Reply};
@@ -22,7 +22,7 @@ pub fn run(
     resolve: &mut Resolve,
     commands: Vec<Command>,
 ) -> ResolveResult<Vec<Reply>>
-    requires { AllByRecursion IsSupported commands.items }
+    requires { AllByRecursion IsCommandShaped commands.items }
     ensures ok { IfOk result (λ replies. Run resolve.old commands.items replies.items resolve.new) }
     ensures err { OnErr result (resolve.new ≡ resolve.old) }
     ensures cause { IfErr result (λ kind. kind ≡ OutOfMemory) }
@@ -37,7 +37,7 @@ pub fn run(
 
 /// The reply to one command.
 fn step(alloc: Global, resolve: &mut Resolve, command: Command) -> Reply
-    requires { IsSupported command }
+    requires { IsCommandShaped command }
     ensures { Step resolve.old command result resolve.new }
 {
     match command {

@@ -5,7 +5,7 @@ ghost use Rattle.wit_drafts.specs.declared.mention.Mention.{Mention};
 ghost use Rattle.wit_lines.specs.Statement.{said_of};
 ghost use Rattle.wit_lines.specs.declared.fault.LineFault.TheVariants.{NotUnderstood};
 ghost use Rattle.wit_lines.specs.declared.statement.Statement.TheVariants as says;
-ghost use Rattle.wit_script.specs.Ahead.{mentions_ahead, mentions_by, mentions_placed, mentions_then, mentions_with};
+ghost use Rattle.wit_script.specs.Ahead.{mentions_ahead, mentions_by, mentions_then, mentions_with};
 ghost use Rattle.wit_script.specs.declared.ahead.Ahead.TheVariants as comes;
 
 use std::alloc::{AllocError, Global};

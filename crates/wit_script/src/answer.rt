@@ -1,9 +1,10 @@
 //! The answers to the commands of a script.
 ghost use Rattle.std.specs.Prelude.{◌≡◌, ◌≢◌, ℕ, None, Some, Ok, Err, IfErr, IfOk, false, is_some, string_bytes};
 ghost use Rattle.std.specs.List.{flat_map};
-ghost use Rattle.wit_resolve_graph.specs.State.{State, new_state};
+ghost use Rattle.wit_resolve_graph.specs.State.{new_state};
 ghost use Rattle.wit_resolve_graph.specs.Step.{Run};
-ghost use Rattle.wit_resolve_graph.specs.Supported.{IsSupported};
+ghost use Rattle.wit_resolve_graph.specs.CommandShape.{IsCommandShaped};
+ghost use Rattle.wit_resolve_graph.specs.declared.command.Command.TheVariants.{Exportize};
 ghost use Rattle.wit_script.specs.Answer.{IsAnswered, IsChoice, Answers, AnswersAll, IsMerged, IsPrinted, IsSelected, IsTold, Replies, Works, active, alone, line_of, refusal_text, selected_text, pushed_text, quiet_text, reply_text, world_named};
 ghost use Rattle.wit_script.specs.Ready.{MayAllCome, MayCome};
 ghost use Rattle.wit_script.specs.declared.answer.Stage.{Stage};
@@ -60,7 +61,7 @@ impl Stage {
         command: Command,
         telling: Telling,
     ) -> Result<String, AllocError>
-        requires { IsSupported command }
+        requires { IsCommandShaped command }
         ensures { IfOk result (λ text. Works Run (line_of telling) self.old command (string_bytes text) self.new) }
     {
         match &mut self.second {
@@ -154,21 +155,33 @@ fn reply_to(alloc: Global, stage: &mut Stage, request: Request) -> Result<String
             world,
             out,
             keys,
-        } => {
-            let command = Command::Exportize {
-                package,
-                world,
-                out,
-                keys,
-            };
-            stage.work(alloc, command, Telling::Aloud)
-        }
+        } => exportize(alloc, stage, package, world, out, keys),
         Request::Semver { package, world } => {
             stage.work(alloc, Command::Semver { package, world }, Telling::Aloud)
         }
         Request::Print { package, world } => print(alloc, stage.active(), &package, &world),
         Request::Select { package, text } => select(alloc, stage.active(), &package, &text),
     }
+}
+
+/// The answer to `exportize`.
+fn exportize(
+    alloc: Global,
+    stage: &mut Stage,
+    package: PackageName,
+    world: Text,
+    out: Option<Text>,
+    keys: Option<Items<Text>>,
+) -> Result<String, AllocError>
+    ensures { IfOk result (λ text. Works Run reply_text stage.old (Exportize package world out keys) (string_bytes text) stage.new) }
+{
+    let command = Command::Exportize {
+        package,
+        world,
+        out,
+        keys,
+    };
+    stage.work(alloc, command, Telling::Aloud)
 }
 
 /// The reply to a command, or the refusal of the run itself.
@@ -178,7 +191,7 @@ fn answered(
     command: Command,
     telling: Telling,
 ) -> Result<String, AllocError>
-    requires { IsSupported command }
+    requires { IsCommandShaped command }
     ensures { IfOk result (λ text. IsAnswered Run (line_of telling) resolve.old command (string_bytes text) resolve.new) }
 {
     let commands = vec![in alloc; command]?;

@@ -1,5 +1,5 @@
 //! What speaks against a merge before anything is made.
-ghost use Rattle.std.specs.Prelude.{◌≡◌, ◌⊎◌, IfErr, OnOk, string_bytes};
+ghost use Rattle.std.specs.Prelude.{◌≡◌, ◌⊎◌, IfErr, OnOk};
 ghost use Rattle.wit_graph.specs.declared.error_kind.ResolveErrorKind.TheVariants.{OutOfMemory};
 ghost use Rattle.wit_comparing.specs.Differing.{merging_by};
 ghost use Rattle.wit_matching.specs.Found.{AreMatches};

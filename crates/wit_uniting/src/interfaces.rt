@@ -1,5 +1,5 @@
 //! The interfaces of two graphs as one.
-ghost use Rattle.std.specs.Prelude.{◌≡◌, ◌++◌, IfOk, OnOk, map};
+ghost use Rattle.std.specs.Prelude.{◌≡◌, ◌++◌, IfOk, OnOk};
 ghost use Rattle.wit_items.specs.declared.function.Function.{Function};
 ghost use Rattle.wit_growth.specs.Image.{function_image};
 ghost use Rattle.wit_merging.specs.Moved.{merge_maps};
@@ -9,7 +9,7 @@ ghost use Rattle.wit_values.specs.Table.{HasDistinctKeys};
 ghost use Rattle.wit_uniting.specs.Uniting.{IsReady, merging_of};
 
 use crate::names::push_moved;
-use crate::parts::{Part, united};
+use crate::parts::{Part, joined_list};
 use crate::stabilities::join_stability;
 use crate::uniting::Uniting;
 use std::alloc::{AllocError, Global};
@@ -111,5 +111,5 @@ pub(crate) fn joined_interfaces(
 {
     let found = &uniting.matches.interfaces;
     let others = &uniting.other.interfaces;
-    united(alloc, uniting, found, others, &uniting.graph.interfaces)
+    joined_list(alloc, uniting, found, others, &uniting.graph.interfaces)
 }

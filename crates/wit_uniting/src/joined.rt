@@ -1,26 +1,17 @@
-//! Another graph goes into a graph.
-ghost use Rattle.std.specs.Prelude.{◌≡◌, ◌⊎◌, IfErr, IfOk, OnOk};
-ghost use Rattle.wit_graph.specs.Valid.{IsValid};
-ghost use Rattle.wit_graph.specs.declared.error_kind.ResolveErrorKind.{ResolveErrorKind};
-ghost use Rattle.wit_graph.specs.declared.error_kind.ResolveErrorKind.TheVariants.{OutOfMemory};
-ghost use Rattle.wit_comparing.specs.Differing.{merging_by};
-ghost use Rattle.wit_matching.specs.Going.{going_of};
-ghost use Rattle.wit_merging.specs.Cause.{IsMergeCause};
+//! The two graphs as one, as they are listed.
+ghost use Rattle.std.specs.Prelude.{◌≡◌, IfOk};
 ghost use Rattle.wit_merging.specs.Moved.{added_owns};
-ghost use Rattle.wit_merging.specs.United.{joined_graph, united};
+ghost use Rattle.wit_merging.specs.United.{joined_graph};
 ghost use Rattle.wit_uniting.specs.Uniting.{IsReady, merging_of};
 
-use crate::agreement::check_agreement;
 use crate::interfaces::joined_interfaces;
 use crate::packages::{joined_names, joined_packages};
-use crate::partners::partners;
 use crate::types::joined_types;
 use crate::uniting::Uniting;
 use crate::worlds::joined_worlds;
 use std::alloc::{AllocError, Global};
-use wit_graph::{Graph, ResolveResult};
+use wit_graph::Graph;
 use wit_items::{Items, TypeDef};
-use wit_matching::{Going, find_matches, find_places};
 
 /// The two graphs as one, with the lists of worlds as they were listed.
 pub(crate) fn joined_graph(

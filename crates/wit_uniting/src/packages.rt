@@ -6,7 +6,7 @@ ghost use Rattle.wit_uniting.specs.Joined.{moved_names};
 ghost use Rattle.wit_uniting.specs.Uniting.{IsReady, merging_of};
 
 use crate::names::{moves, push_moved};
-use crate::parts::{Part, united};
+use crate::parts::{Part, joined_list};
 use crate::uniting::Uniting;
 use std::alloc::{AllocError, Global};
 use wit_graph::Package;
@@ -89,7 +89,7 @@ pub(crate) fn joined_packages(
 {
     let found = &uniting.matches.packages;
     let others = &uniting.other.packages;
-    united(alloc, uniting, found, others, &uniting.graph.packages)
+    joined_list(alloc, uniting, found, others, &uniting.graph.packages)
 }
 
 /// The names of the packages of the two as one.

@@ -49,7 +49,7 @@ pub(crate) trait Part: TryClone + Drop {
 
 /// Copies of the things of a graph, each with the one joined to it that is matched with it, if one is; and behind them
 /// those of the other graph that move.
-pub(crate) fn united<S, T: Part>(
+pub(crate) fn joined_list<S, T: Part>(
     alloc: Global,
     uniting: &Uniting<'_>,
     found: &Items<Option<Id<S>>>,

@@ -4,7 +4,7 @@ ghost use Rattle.wit_merging.specs.Moved.{added_owns};
 ghost use Rattle.wit_merging.specs.United.{joined_graph};
 ghost use Rattle.wit_uniting.specs.Uniting.{IsReady, merging_of};
 
-use crate::parts::{Part, united};
+use crate::parts::{Part, joined_list};
 use crate::stabilities::join_stability;
 use crate::uniting::Uniting;
 use std::alloc::{AllocError, Global};
@@ -63,7 +63,7 @@ pub(crate) fn joined_types(
 {
     let found = &uniting.matches.types;
     let others = &uniting.other.types;
-    let mut types = united(alloc, uniting, found, others, &uniting.graph.types)?;
+    let mut types = joined_list(alloc, uniting, found, others, &uniting.graph.types)?;
     types.append(owns)?;
     Ok(types)
 }

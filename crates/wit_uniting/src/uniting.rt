@@ -23,7 +23,8 @@ pub(crate) struct Uniting<'a> {
 }
 
 impl<'a> Uniting<'a> {
-    /// Where the things of a package of the other graph go; without one, those that ask for none.
+    /// How what stands in a package of the other graph moves. Types and functions name no package, so for them `home` is
+    /// None, and where the package goes isn't asked.
     pub(crate) fn mover(&self, home: Option<PackageId>) -> Mover<'a>
         requires { IsReady self.now }
         ensures places { result.places.now ≡ self.now.going.now.places }

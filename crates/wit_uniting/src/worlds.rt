@@ -6,7 +6,7 @@ ghost use Rattle.wit_merging.specs.United.{joined_graph};
 ghost use Rattle.wit_uniting.specs.Joined.{entry_joined, stability_joined, stability_of, stability_under};
 ghost use Rattle.wit_uniting.specs.Uniting.{IsReady, merging_of};
 
-use crate::parts::{Part, united};
+use crate::parts::{Part, joined_list};
 use crate::stabilities::join_stability;
 use crate::uniting::Uniting;
 use std::alloc::{AllocError, Global};
@@ -147,5 +147,5 @@ pub(crate) fn joined_worlds(
 {
     let found = &uniting.matches.worlds;
     let others = &uniting.other.worlds;
-    united(alloc, uniting, found, others, &uniting.graph.worlds)
+    joined_list(alloc, uniting, found, others, &uniting.graph.worlds)
 }

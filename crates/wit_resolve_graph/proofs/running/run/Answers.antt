@@ -9,7 +9,7 @@ loop-command-preserved c =
     let longer : c.push.new.self.items ≡ c.loop-command.replies.items ++ c.step-reply.result ∷ [] = search rules in
     record {
       room = search rules;
-      supported = search rules;
+      shaped = search rules;
       run =
           subst (λ (replies : List Reply). Run c.args.resolve.now (c.loop-command.yielded ++ c.in-Some.command ∷ []) replies c.step-reply.new.resolve) (sym longer)
           (Run-more c.args.resolve.now c.loop-command.resolve c.step-reply.new.resolve c.loop-command.yielded c.loop-command.replies.items c.in-Some.command c.step-reply.result

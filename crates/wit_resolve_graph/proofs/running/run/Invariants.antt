@@ -2,14 +2,14 @@ use Rattle.std.proofs.Common.{◌+◌, ◌≤◌, length, vec_capacity, vec_len}
 use Rattle.std.specs.List.{AllByRecursion}
 use Rattle.std.specs.Vec.Iter.{into_iter_items}
 use Rattle.wit_resolve_graph.specs.Step.{Run}
-use Rattle.wit_resolve_graph.specs.Supported.{IsSupported}
+use Rattle.wit_resolve_graph.specs.CommandShape.{IsCommandShaped}
 use Rattle.wit_resolve_graph.proofs.running.run.Given as goal
 
--- there is room for the replies that are left, the commands that are left are supported, and those so far
+-- there is room for the replies that are left, the commands that are left have their shape, and those so far
 -- are run
 abbrev pub invariant-loop-command : goal.invariant-loop-command
 invariant-loop-command l = record {
   room : vec_len l.replies + length (into_iter_items l.command-iterator) ≤ vec_capacity l.replies;
-  supported : AllByRecursion IsSupported (into_iter_items l.command-iterator);
+  shaped : AllByRecursion IsCommandShaped (into_iter_items l.command-iterator);
   run : Run l.initial.resolve l.yielded l.replies.items l.resolve;
 }

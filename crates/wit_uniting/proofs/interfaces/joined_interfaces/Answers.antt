@@ -12,12 +12,12 @@ use Rattle.wit_uniting.proofs.Movable.{interfaces_join, interfaces_move}
 use Rattle.wit_uniting.proofs.UnitedIs.{united_is, without_places}
 use Rattle.wit_uniting.proofs.interfaces.joined_interfaces.Goals as goal
 
-pub united-requires-clause-joining : goal.united-requires-clause-joining
-united-requires-clause-joining c x x' from into at found there =
+pub joined_list-requires-clause-joining : goal.joined_list-requires-clause-joining
+joined_list-requires-clause-joining c x x' from into at found there =
     interfaces_join c.args.uniting.now c.requires x x' from into at (sym (c.requires.matches.interfaces.each x) ∙ found) there
 
-pub united-requires-clause-moving : goal.united-requires-clause-moving
-united-requires-clause-moving c x from at moves = interfaces_move c.args.uniting.now c.requires x from at
+pub joined_list-requires-clause-moving : goal.joined_list-requires-clause-moving
+joined_list-requires-clause-moving c x from at moves = interfaces_move c.args.uniting.now c.requires x from at
 
 pub returns : goal.returns
 returns c =
@@ -27,4 +27,4 @@ returns c =
     let same =
     united_is (found_interface m) _ u.matches.now.interfaces c.requires.matches.interfaces (λ (p : ℕ × Interface). with_interface m p.1) image u.other.now.interfaces u.graph.now.interfaces
     ∙ ap (λ (l : List Interface). map (joined_interface m) (enumerate_from 0 u.graph.now.interfaces) ++ l) (without_places (interface_image (merge_maps m)) (taken_places (moves_interface m) u.other.now.interfaces)) in
-    IfOk-weaker c.united.result _ _ (λ made is. is ∙ same) c.united.ensures
+    IfOk-weaker c.joined_list.result _ _ (λ made is. is ∙ same) c.joined_list.ensures

@@ -12,12 +12,12 @@ use Rattle.wit_uniting.proofs.Movable.{packages_join, packages_move}
 use Rattle.wit_uniting.proofs.UnitedIs.{moves_is, united_is, without_places}
 use Rattle.wit_uniting.proofs.packages.joined_packages.Goals as goal
 
-pub united-requires-clause-joining : goal.united-requires-clause-joining
-united-requires-clause-joining c x x' from into at found there =
+pub joined_list-requires-clause-joining : goal.joined_list-requires-clause-joining
+joined_list-requires-clause-joining c x x' from into at found there =
     packages_join c.args.uniting.now c.requires x x' from into at (sym (c.requires.matches.packages.each x) ∙ found) there
 
-pub united-requires-clause-moving : goal.united-requires-clause-moving
-united-requires-clause-moving c x from at moves =
+pub joined_list-requires-clause-moving : goal.joined_list-requires-clause-moving
+joined_list-requires-clause-moving c x from at moves =
     let u = c.args.uniting.now in
     packages_move u c.requires x from at ((λ j. sym (moves_is (found_package (merging_of u)) _ u.matches.now.packages c.requires.matches.packages) j x) ∙ moves)
 
@@ -28,4 +28,4 @@ returns c =
     let same =
     united_is (found_package m) _ u.matches.now.packages c.requires.matches.packages (λ (p : ℕ × Package). with_package m p.1) (λ (e : ℕ × Package). package_image m e.1) u.other.now.packages u.graph.now.packages
     ∙ ap (λ (l : List Package). map (joined_package m) (enumerate_from 0 u.graph.now.packages) ++ l) (without_places (package_image m) (taken_places (moves_package m) u.other.now.packages)) in
-    IfOk-weaker c.united.result _ _ (λ made is. is ∙ same) c.united.ensures
+    IfOk-weaker c.joined_list.result _ _ (λ made is. is ∙ same) c.joined_list.ensures

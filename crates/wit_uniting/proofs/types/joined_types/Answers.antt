@@ -11,8 +11,8 @@ use Rattle.wit_uniting.proofs.Movable.{types_move}
 use Rattle.wit_uniting.proofs.UnitedIs.{united_is, without_places}
 use Rattle.wit_uniting.proofs.types.joined_types.Goals as goal
 
-pub united-requires-clause-moving : goal.united-requires-clause-moving
-united-requires-clause-moving c x from at moves = types_move c.args.uniting.now c.requires.ready x from at
+pub joined_list-requires-clause-moving : goal.joined_list-requires-clause-moving
+joined_list-requires-clause-moving c x from at moves = types_move c.args.uniting.now c.requires.ready x from at
 
 pub returns : goal.returns
 returns c =
