@@ -1,11 +1,24 @@
 -- Which types of a package lead to a resource where they go.
-use Rattle.std.specs.Prelude.{◌≡◌, ◌≤◌, ◌&&◌, ℕ, Bool, true, false, List, Some, length, slice_get, unwrap_or}
+use Rattle.std.specs.Prelude.{◌≡◌, ◌≤◌, ◌&&◌, ℕ, Bool, true, false, List, Contains, None, Some, length, nat_eq, slice_get, unwrap_or}
+use Rattle.std.specs.Map.{lookup}
 use Rattle.wit_items.specs.Uses.{alias_target}
 use Rattle.wit_items.specs.declared.types.TypeDef.{TypeDef}
 use Rattle.wit_adding.specs.Addition.{Addition, plain_types, type_place}
 use Rattle.wit_adding.specs.Gates.{type_is_active}
 use Rattle.wit_adding.specs.Lookup.{found_type}
 use Rattle.wit_adding.specs.Resources.{leads_to_resource}
+
+-- of these types of a graph it is known whether they lead to a resource
+abbrev pub AreRight : List TypeDef → List (ℕ × Bool) → Type 0
+AreRight types met = (t : ℕ) (leads : Bool) → Contains met (t, leads) → leads_to_resource types t ≡ leads
+
+-- nothing is known of type t, and it names type u as an alias
+abbrev pub LeadsOn : List TypeDef → List (ℕ × Bool) → ℕ → ℕ → Type 0
+LeadsOn types met t u = (lookup (nat_eq t) met ≡ None) × ((def : TypeDef) × (slice_get types t ≡ Some def) × (alias_target def.kind ≡ Some u))
+
+-- type t is no alias
+abbrev pub EndsAt : List TypeDef → ℕ → Type 0
+EndsAt types t = (def : TypeDef) → slice_get types t ≡ Some def → alias_target def.kind ≡ None
 
 -- type t takes part, and leads to a resource where it goes
 abbrev pub leads_there : Addition → ℕ → Bool

@@ -1,37 +1,24 @@
 //! Which types lead to a resource by aliases.
-ghost use Rattle.std.specs.Prelude.{◌≡◌, ◌<◌, IfOk, length, map};
+ghost use Rattle.std.specs.Prelude.{◌≡◌, ◌<◌, IfOk, OnOk, length, map};
 ghost use Rattle.std.specs.List.{range_with_len};
-ghost use Rattle.wit_relations.specs.Relation.{IsAcyclic};
-ghost use Rattle.wit_items.specs.Reference.{type_references};
 ghost use Rattle.wit_items.specs.Shape.{IsShaped};
 ghost use Rattle.wit_graph.specs.Valid.{IsValid};
 ghost use Rattle.wit_adding.specs.Adding.{addition_of, places_of};
 ghost use Rattle.wit_adding.specs.Reasons.{HasImage};
-ghost use Rattle.wit_adding.specs.Resources.{is_resource_kind, leads_to_resource};
-ghost use Rattle.wit_resources.specs.Leading.{AreWanted, TargetIsKnown, WantsTargets, leads_if_wanted, leads_there};
+ghost use Rattle.wit_adding.specs.Resources.{is_resource_kind};
+ghost use Rattle.wit_resources.specs.Leading.{AreRight, AreWanted, TargetIsKnown, WantsTargets, leads_if_wanted, leads_there};
 
+use crate::met::leads_to_resource;
 use std::alloc::{AllocError, Global};
 use wit_adding::{Adding, Places};
-use wit_items::{Items, TypeDef, TypeDefKind, TypeId, alias_target};
+use wit_items::{Items, TypeDefKind, TypeId, alias_target};
+use wit_values::Table;
 
 /// Whether a type of this kind is a resource.
 pub fn is_resource(kind: &TypeDefKind) -> bool
     ensures { result ≡ is_resource_kind kind.now }
 {
     matches!(kind, TypeDefKind::Resource)
-}
-
-/// Whether a type of a graph is a resource or leads to one by aliases, at a step for each alias on the way.
-pub(crate) fn leads_to_resource(types: &[TypeDef], id: TypeId) -> bool
-    requires acyclic { IsAcyclic (type_references types.now) }
-    requires there { id < length types.now }
-    ensures { result ≡ leads_to_resource types.now id }
-{
-    let mut place = id.index();
-    while let Some(target) = alias_target(&types[place].kind) {
-        place = target.index();
-    }
-    is_resource(&types[place].kind)
 }
 
 /// The types that are asked for, and with each alias the type that it names: enough to tell which of those lead to a
@@ -72,32 +59,47 @@ pub(crate) fn leading(
     requires closed { WantsTargets adding.now.handed.now.types 0 wanted.now }
     ensures { IfOk result (λ leading. leading ≡ map (leads_if_wanted (addition_of adding.now) wanted.now) (range_with_len 0 (length adding.now.handed.now.types))) }
 {
+    let mut met = Table::new(alloc);
     let mut leading = Items::new(alloc);
     for place in 0..adding.handed.types.len() {
-        leading.push(*wanted.at(place) && leads_there(adding, places, &leading, place))?;
+        let leads = if *wanted.at(place) {
+            leads_there(adding, places, &mut met, &leading, place)?
+        } else {
+            false
+        };
+        leading.push(leads)?;
     }
     Ok(leading)
 }
 
-/// The same of one type that is wanted, where it is known of what it names as an alias.
-fn leads_there(adding: &Adding<'_>, places: &Places, earlier: &Items<bool>, place: usize) -> bool
+/// The same of one type that is wanted, where it is known of what it names as an alias, and of the types of the graph
+/// that were met.
+fn leads_there(
+    adding: &Adding<'_>,
+    places: &Places,
+    met: &mut Table<TypeId, bool>,
+    earlier: &Items<bool>,
+    place: usize,
+) -> Result<bool, AllocError>
     requires shaped { IsShaped adding.now.handed.now }
     requires valid { IsValid adding.now.graph.now }
     requires places { places.now ≡ places_of (addition_of adding.now) }
     requires image { HasImage (addition_of adding.now) }
     requires there { place < length adding.now.handed.now.types }
     requires earlier { TargetIsKnown (addition_of adding.now) earlier.now place }
-    ensures { result ≡ leads_there (addition_of adding.now) place }
+    requires met { AreRight adding.now.graph.now.types met.old }
+    ensures leads { IfOk result (λ leads. leads ≡ leads_there (addition_of adding.now) place) }
+    ensures met { OnOk result (AreRight adding.now.graph.now.types met.new) }
 {
     let Some(id) = *places.types.at(place) else {
-        return false;
+        return Ok(false);
     };
     if place < adding.handed.unknown_type_spans.len() {
-        return leads_to_resource(adding.graph.types.as_slice(), id);
+        return leads_to_resource(adding.graph.types.as_slice(), met, id);
     }
     let kind = &adding.handed.types.at(place).kind;
-    match alias_target(kind) {
+    Ok(match alias_target(kind) {
         Some(target) => *earlier.at(target.index()),
         None => is_resource(kind),
-    }
+    })
 }

@@ -6,6 +6,7 @@ mod asked;
 mod borrows;
 mod functions;
 mod leading;
+mod met;
 mod owning;
 mod refusal;
 mod required;

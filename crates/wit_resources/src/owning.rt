@@ -16,8 +16,8 @@ use wit_items::{Docs, Handle, Items, Span, Stability, TypeDef, TypeDefKind, Type
 
 /// Where types go at value positions, and the `own`s that come for that.
 ///
-/// It takes a step for each part of the package, and for each alias on the way from a type of another package that
-/// a value asks for, itself or through aliases of the package.
+/// It takes a step for each part of the package, and for each alias of the graph on the way from the types of other
+/// packages that values ask for, themselves or through aliases of the package.
 pub fn values(
     alloc: Global,
     adding: &Adding<'_>,

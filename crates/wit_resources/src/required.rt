@@ -6,18 +6,19 @@ ghost use Rattle.wit_graph.specs.declared.error_kind.ResolveErrorKind.TheVariant
 ghost use Rattle.wit_adding.specs.Adding.{addition_of, places_of};
 ghost use Rattle.wit_adding.specs.Cause.{IsCause};
 ghost use Rattle.wit_adding.specs.Passed.{HasResources};
-ghost use Rattle.wit_resources.specs.Leading.{LeadsWhereFound};
+ghost use Rattle.wit_resources.specs.Leading.{AreRight, LeadsWhereFound};
 
-use crate::leading::leads_to_resource;
+use crate::met::leads_to_resource;
 use crate::refusal::not_a_resource;
 use std::alloc::Global;
 use wit_adding::{Adding, Places};
 use wit_graph::ResolveResult;
 use wit_items::{Span, TypeId};
+use wit_values::Table;
 
 /// Refuses a type that has to be a resource and doesn't lead to one.
 ///
-/// It takes a step for each such type, and for each alias on the way to what it names in the graph.
+/// It takes a step for each such type, and for each alias of the graph on the way to what they name.
 pub fn check_resources(alloc: Global, adding: &Adding<'_>, places: &Places) -> ResolveResult<()>
     requires shaped { IsShaped adding.now.handed.now }
     requires valid { IsValid adding.now.graph.now }
@@ -25,9 +26,10 @@ pub fn check_resources(alloc: Global, adding: &Adding<'_>, places: &Places) -> R
     ensures resources { OnOk result (HasResources (addition_of adding.now)) }
     ensures cause { IfErr result (λ kind. (kind ≡ OutOfMemory) ⊎ IsCause (addition_of adding.now) kind) }
 {
+    let mut met = Table::new(alloc);
     for index in 0..adding.handed.required_resource_types.len() {
         let (id, span) = *adding.handed.required_resource_types.at(index);
-        check_required(alloc, adding, places, id, span)?;
+        check_required(alloc, adding, places, &mut met, id, span)?;
     }
     Ok(())
 }
@@ -37,20 +39,24 @@ fn check_required(
     alloc: Global,
     adding: &Adding<'_>,
     places: &Places,
+    met: &mut Table<TypeId, bool>,
     id: TypeId,
     span: Span,
 ) -> ResolveResult<()>
     requires shaped { IsShaped adding.now.handed.now }
     requires valid { IsValid adding.now.graph.now }
     requires places { places.now ≡ places_of (addition_of adding.now) }
+    requires met { AreRight adding.now.graph.now.types met.old }
     requires required { Contains adding.now.handed.now.required_resource_types (id, span) }
     ensures ok { OnOk result (LeadsWhereFound (addition_of adding.now) id) }
     ensures cause { IfErr result (λ kind. (kind ≡ OutOfMemory) ⊎ IsCause (addition_of adding.now) kind) }
+    ensures met { OnOk result (AreRight adding.now.graph.now.types met.new) }
 {
     let Some(found) = *places.types.at(id.index()) else {
         return Ok(());
     };
-    if leads_to_resource(adding.graph.types.as_slice(), found) {
+    let leads = leads_to_resource(adding.graph.types.as_slice(), met, found)?;
+    if leads {
         return Ok(());
     }
     Err(not_a_resource(alloc, span, adding.offset)?)

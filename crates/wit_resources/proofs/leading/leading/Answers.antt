@@ -1,10 +1,11 @@
-use Rattle.std.proofs.Common.{◌≡◌, ◌∙◌, ◌≤◌, ℕ, Bool, true, false, List, Option, Some, slice_get, unwrap_or, ap, sym, arith}
+use Rattle.std.proofs.Common.{◌≡◌, ◌∙◌, ◌≤◌, ℕ, Bool, true, false, List, Option, Some, slice_get, unwrap_or, ap, subst, sym, arith}
 use Rattle.wit_adding.specs.Adding.{addition_of}
 use Rattle.wit_adding.specs.Addition.{Addition}
 use Rattle.wit_adding.specs.RangeFacts.{range-at, range-pushed}
-use Rattle.wit_resources.specs.Leading.{leads_if_wanted, leads_there}
+use Rattle.wit_resources.specs.Leading.{AreRight, leads_if_wanted, leads_there}
+use Rattle.wit_resources.proofs.MetTypes.{right-begun}
 use Rattle.wit_resources.proofs.Where.{conj, disj, target_earlier}
-use Rattle.wit_resources.proofs.leading.leading.Goals.{then-at, else-at}
+use Rattle.wit_resources.proofs.leading.leading.Goals.{then-at+in_ok-leads, else-at}
 use Rattle.wit_resources.proofs.leading.leading.Goals as goal
 
 pub at-requires : goal.at-requires
@@ -18,8 +19,14 @@ leads_there-requires-clause-earlier c = λ u def at names.
     let on : slice_get wanted t ≡ Some true = c.at.ensures ∙ ap (λ (b : Bool). Some b) c.if-at.true in
     let first : 0 ≤ t = omega arith in
     let flag : unwrap_or (slice_get wanted u) false ≡ true = ap (λ (o : Option Bool). unwrap_or o false) (c.requires.closed t u def first on at names) in
-    ap (λ (l : List Bool). slice_get l u) c.loop-place.invariant
+    ap (λ (l : List Bool). slice_get l u) c.loop-place.invariant.leading
     ∙ (range-at (leads_if_wanted a wanted) t u (target_earlier a c.requires.shaped t u def at names) ∙ ap (λ (b : Bool). Some b) (conj (unwrap_or (slice_get wanted u) false) (leads_there a u) flag))
+
+pub loop-place-init : goal.loop-place-init
+loop-place-init c = record {
+  leading = c.new-leading.ensures;
+  met = right-begun c.args.adding.now.graph.now.types c.new-met.result c.new-met.ensures;
+}
 
 pub loop-place-preserved : goal.loop-place-preserved
 loop-place-preserved c =
@@ -27,11 +34,14 @@ loop-place-preserved c =
     let wanted : List Bool = c.args.wanted.now in
     let t : ℕ = c.loop-place.place in
     let flag : unwrap_or (slice_get wanted t) false ≡ c.at.result.now = ap (λ (o : Option Bool). unwrap_or o false) c.at.ensures in
-    elim c.if-at.branch [
-      | then-at w ↦
-          range-pushed (leads_if_wanted a wanted) t c.if-at.push c.push.new.self c.if-at.push2 (w.push-is ∙ c.loop-place.invariant) c.in_ok-push.ensures.ok
-          (w.push2-is ∙ (w.leads_there.ensures ∙ sym (conj (unwrap_or (slice_get wanted t) false) (leads_there a t) (flag ∙ w.if-at.true))))
-      | else-at w ↦
-          range-pushed (leads_if_wanted a wanted) t c.if-at.push c.push.new.self c.if-at.push2 (w.push-is ∙ c.loop-place.invariant) c.in_ok-push.ensures.ok
-          (w.push2-is ∙ (w.if-at.false ∙ sym (disj (unwrap_or (slice_get wanted t) false) (leads_there a t) (flag ∙ w.if-at.false))))
-    ]
+    let told : c.if-at.leads ≡ leads_if_wanted a wanted t = elim c.if-at.branch [
+      | then-at+in_ok-leads w ↦ w.leads-is ∙ (w.in_ok-leads.ensures.leads ∙ sym (conj (unwrap_or (slice_get wanted t) false) (leads_there a t) (flag ∙ w.if-at.true)))
+      | else-at w ↦ w.leads-is ∙ sym (disj (unwrap_or (slice_get wanted t) false) (leads_there a t) (flag ∙ w.if-at.false))
+    ] in
+    record {
+      leading = range-pushed (leads_if_wanted a wanted) t c.loop-place.leading c.push.new.self c.if-at.leads c.loop-place.invariant.leading c.in_ok-push.ensures.ok told;
+      met = elim c.if-at.branch [
+        | then-at+in_ok-leads w ↦ subst (AreRight a.graph.types) (sym w.met-is) w.in_ok-leads.ensures.met
+        | else-at w ↦ subst (AreRight a.graph.types) (sym w.met-is) c.loop-place.invariant.met
+      ];
+    }

@@ -4,6 +4,7 @@ use Rattle.wit_adding.specs.Adding.{addition_of}
 use Rattle.wit_adding.specs.Addition.{Addition, taken_type}
 use Rattle.wit_adding.specs.FlagFacts.{place-inside, place-is}
 use Rattle.wit_adding.specs.Resources.{leads_to_resource}
+use Rattle.wit_resources.specs.Leading.{AreRight}
 use Rattle.wit_resources.proofs.Tells.{resource_cause}
 use Rattle.wit_resources.proofs.Where.{foreign_back, found_on, found_there, required_is_foreign}
 use Rattle.wit_resources.proofs.required.check_required.Goals as goal
@@ -32,8 +33,8 @@ leads_to_resource-requires-clause-there c =
     let back = foreign_back a c.requires.shaped c.args.id c.in-Some.found there.1 taken in
     subst (λ (types : List TypeDef). c.in-Some.found < length types) (sym c.as_slice.ensures) (found_there a c.requires.valid c.args.id c.in-Some.found back.1)
 
-pub returns-then-leads_to_resource-clause-ok : goal.returns-then-leads_to_resource-clause-ok
-returns-then-leads_to_resource-clause-ok c = λ t' active found.
+pub returns-then-leads-clause-ok : goal.returns-then-leads-clause-ok
+returns-then-leads-clause-ok c = λ t' active found.
     let a : Addition = addition_of c.args.adding.now in
     let there = required_is_foreign a c.requires.shaped c.args.id c.args.span c.requires.required in
     let taken : taken_type a c.args.id ≡ Some c.in-Some.found =
@@ -41,7 +42,7 @@ returns-then-leads_to_resource-clause-ok c = λ t' active found.
     let goes : taken_type a c.args.id ≡ Some t' = found_on a c.requires.shaped c.args.id t' active found in
     let same : c.in-Some.found ≡ t' = cc in
     subst (λ (k : ℕ). leads_to_resource a.graph.types k ≡ true) same
-    (ap (λ (types : List TypeDef). leads_to_resource types c.in-Some.found) (sym c.as_slice.ensures) ∙ (sym c.leads_to_resource.ensures ∙ c.if-leads_to_resource.true))
+    (ap (λ (types : List TypeDef). leads_to_resource types c.in-Some.found) (sym c.as_slice.ensures) ∙ (sym c.in_ok-leads.ensures.leads ∙ c.if-leads.true))
 
 pub returns-clause-cause : goal.returns-clause-cause
 returns-clause-cause c =
@@ -51,5 +52,11 @@ returns-clause-cause c =
     sym (place-is a c.args.places.now c.requires.places c.args.id c.at.result.now (subst (λ (k : ℕ). slice_get c.args.places.now.types k ≡ Some c.at.result.now) c.index.ensures c.at.ensures)) ∙ c.in-Some.is in
     let back = foreign_back a c.requires.shaped c.args.id c.in-Some.found there.1 taken in
     let none : leads_to_resource a.graph.types c.in-Some.found ≡ false =
-    ap (λ (types : List TypeDef). leads_to_resource types c.in-Some.found) (sym c.as_slice.ensures) ∙ (sym c.leads_to_resource.ensures ∙ c.if-leads_to_resource.false) in
+    ap (λ (types : List TypeDef). leads_to_resource types c.in-Some.found) (sym c.as_slice.ensures) ∙ (sym c.in_ok-leads.ensures.leads ∙ c.if-leads.false) in
     inr (resource_cause a c.args.id c.in-Some.found c.args.span c.in_ok-not_a_resource.field-0 c.requires.required back.0 back.1 none c.in_ok-not_a_resource.ensures)
+
+pub leads_to_resource-requires-clause-met : goal.leads_to_resource-requires-clause-met
+leads_to_resource-requires-clause-met c = subst (λ (types : List TypeDef). AreRight types c.args.met.now) (sym c.as_slice.ensures) c.requires.met
+
+pub returns-then-leads-clause-met : goal.returns-then-leads-clause-met
+returns-then-leads-clause-met c = subst (λ (types : List TypeDef). AreRight types c.leads_to_resource.new.met) c.as_slice.ensures c.in_ok-leads.ensures.met

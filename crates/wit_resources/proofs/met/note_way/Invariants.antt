@@ -2,13 +2,15 @@ use Rattle.std.proofs.Common.{◌≡◌, ◌<◌, length}
 use Rattle.wit_relations.specs.Walks.{walk}
 use Rattle.wit_growth.specs.Sources.{alias_rows}
 use Rattle.wit_adding.specs.Resources.{leads_to_resource}
-use Rattle.wit_resources.proofs.leading.leads_to_resource.Given as goal
+use Rattle.wit_resources.specs.Leading.{AreRight}
+use Rattle.wit_resources.proofs.met.note_way.Given as goal
 
--- the way so far led along aliases
+-- what is noted is right, and the same is right of the place that has been reached
 abbrev pub invariant-loop-target : goal.invariant-loop-target
 invariant-loop-target l = record {
   there : l.place < length l.types;
-  same : leads_to_resource l.types l.fn.id ≡ leads_to_resource l.types l.place;
+  met : AreRight l.types l.met;
+  same : l.leads ≡ leads_to_resource l.types l.place;
 }
 
 abbrev pub decreases-loop-target : goal.decreases-loop-target
