@@ -14,4 +14,17 @@ accepted = record {
   first_order = can_merge _ (record { interfaces = refl; worlds = refl; rank = λ i. i; uses = refl; packages = refl; exports = refl; gates = record { types = refl; interfaces = refl; worlds = refl }; results = refl; spans = refl });
   second_order = can_merge _ (record { interfaces = refl; worlds = refl; rank = λ i. i; uses = refl; packages = refl; exports = refl; gates = record { types = refl; interfaces = refl; worlds = refl }; results = refl; spans = refl });
   elaborated = can_merge _ (record { interfaces = refl; worlds = refl; rank = λ i. 1 - i; uses = refl; packages = refl; exports = refl; gates = record { types = refl; interfaces = refl; worlds = refl }; results = refl; spans = refl });
+  into_nothing = can_merge _ (record { interfaces = refl; worlds = refl; rank = λ i. i; uses = refl; packages = refl; exports = refl; gates = record { types = refl; interfaces = refl; worlds = refl }; results = refl; spans = refl });
+  less = can_merge _ (record { interfaces = refl; worlds = refl; rank = λ i. i; uses = refl; packages = refl; exports = refl; gates = record { types = refl; interfaces = refl; worlds = refl }; results = refl; spans = refl });
+  no_own = can_merge _ (record { interfaces = refl; worlds = refl; rank = λ i. i; uses = refl; packages = refl; exports = refl; gates = record { types = refl; interfaces = refl; worlds = refl }; results = refl; spans = refl });
+  not_owned = can_merge _ (record { interfaces = refl; worlds = refl; rank = λ i. i; uses = refl; packages = refl; exports = refl; gates = record { types = refl; interfaces = refl; worlds = refl }; results = refl; spans = refl });
+  inner_joined = can_merge _ (record { interfaces = refl; worlds = refl; rank = λ i. i; uses = refl; packages = refl; exports = refl; gates = record { types = refl; interfaces = refl; worlds = refl }; results = refl; spans = refl });
+  function_once = can_merge _ (record { interfaces = refl; worlds = refl; rank = λ i. i; uses = refl; packages = refl; exports = refl; gates = record { types = refl; interfaces = refl; worlds = refl }; results = refl; spans = refl });
+  world_comes = can_merge _ (record { interfaces = refl; worlds = refl; rank = λ i. i; uses = refl; packages = refl; exports = refl; gates = record { types = refl; interfaces = refl; worlds = refl }; results = refl; spans = refl });
+  types_once = can_merge _ (record { interfaces = refl; worlds = refl; rank = λ i. i; uses = refl; packages = refl; exports = refl; gates = record { types = refl; interfaces = refl; worlds = refl }; results = refl; spans = refl });
+  packages = can_merge _ (record { interfaces = refl; worlds = refl; rank = λ i. i; uses = refl; packages = refl; exports = refl; gates = record { types = refl; interfaces = refl; worlds = refl }; results = refl; spans = refl });
+  package_comes = can_merge _ (record { interfaces = refl; worlds = refl; rank = λ i. i; uses = refl; packages = refl; exports = refl; gates = record { types = refl; interfaces = refl; worlds = refl }; results = refl; spans = refl });
+  gate_comes = can_merge _ (record { interfaces = refl; worlds = refl; rank = λ i. i; uses = refl; packages = refl; exports = refl; gates = record { types = refl; interfaces = refl; worlds = refl }; results = refl; spans = refl });
+  gate_stays = can_merge _ (record { interfaces = refl; worlds = refl; rank = λ i. i; uses = refl; packages = refl; exports = refl; gates = record { types = refl; interfaces = refl; worlds = refl }; results = refl; spans = refl });
+  moved = can_merge _ (record { interfaces = refl; worlds = refl; rank = λ i. i; uses = refl; packages = refl; exports = refl; gates = record { types = refl; interfaces = refl; worlds = refl }; results = refl; spans = refl });
 }

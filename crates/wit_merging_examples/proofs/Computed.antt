@@ -1,5 +1,5 @@
 -- The examples that compute.
-use Rattle.std.proofs.Common.{◌≡◌, ℕ, List, [], length, slice_get, flat_map, codes, Option, None, Some, refl, ap, arith}
+use Rattle.std.proofs.Common.{◌≡◌, ℕ, List, [], length, slice_get, slice_index_or, flat_map, codes, Option, None, Some, refl, ap, arith}
 use Rattle.std.specs.Option.{option_map_or}
 use Rattle.std.specs.Prelude.{unwrap_or}
 use Rattle.wit_values.specs.Lists.{differ}
@@ -11,7 +11,12 @@ use Rattle.wit_items.specs.declared.types.TypeOwner.TheVariants as owner
 use Rattle.wit_items.specs.declared.world.World.{World}
 use Rattle.wit_graph.specs.Elaborated.{import_steps, import_steps_within}
 use Rattle.wit_graph.specs.declared.graph.Graph.{Graph}
+use Rattle.wit_merging.specs.Moved.{Going}
 use Rattle.wit_merging_examples.specs.Unions.{ExamplesOfMatches, ExamplesOfUnions}
+
+-- where type t goes
+abbrev type_goes : ℕ → Going → ℕ
+type_goes t places = option_map_or (λ (place : Option ℕ). unwrap_or place 99) (slice_get places.types t) 99
 
 pub matches : ExamplesOfMatches
 unfolding walk walk_within
@@ -27,8 +32,19 @@ matches = record {
   world = refl;
   inner_interface = refl;
   inner_type = refl;
+  inner_export = refl;
+  other_label = refl;
+  other_label_type = refl;
+  other_side = refl;
+  other_side_too = refl;
+  other_world = refl;
+  named_there = refl;
   goes = refl;
+  not_anew = λ same. let apart : 0 ≡ 1 = ap (type_goes 0) same in absurd (omega (arith, apart));
+  not_nowhere = λ same. let apart : 1 ≡ 99 = ap (type_goes 1) same in absurd (omega (arith, apart));
   goes_across = refl;
+  not_straight = λ same. let apart : 1 ≡ 0 = ap (λ (places : Going). slice_index_or places.packages 0 99) same in absurd (omega (arith, apart));
+  not_turned = λ same. let apart : 2 ≡ 3 = ap (type_goes 0) same in absurd (omega (arith, apart));
 }
 
 -- how many imports some worlds have

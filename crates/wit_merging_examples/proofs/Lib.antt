@@ -6,3 +6,4 @@ mod Pairs
 mod Passing
 mod Refused
 mod Stabilities
+mod TwoReasons

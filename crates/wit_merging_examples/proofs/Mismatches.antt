@@ -14,6 +14,7 @@ use Rattle.wit_graph.specs.Samples.{entry_of, foo_bar, function_of, instance}
 use Rattle.wit_graph.specs.declared.cause.Cause.TheVariants as cause
 use Rattle.wit_graph.specs.declared.error_kind.ResolveErrorKind.TheVariants.{Semantic}
 use Rattle.wit_growth.specs.FunctionMismatch.{FunctionMismatch, HaveFunctionMismatch, function_mismatch_text, kinds_differ, parameter_counts_differ, parameter_names_differ, parameter_types_differ, result_counts_differ, results_differ}
+use Rattle.wit_growth.specs.TestFacts.{none_some}
 use Rattle.wit_merging.specs.Agreement.{EntriesDiffer}
 use Rattle.wit_merging.specs.Agreement as mismatch
 use Rattle.wit_merging.specs.Cause.{IsMergeCause}
@@ -24,7 +25,7 @@ use Rattle.wit_merging_examples.specs.Graphs.{merging, taking}
 use Rattle.wit_merging_examples.specs.Refusals.{ExamplesOfMismatches, holding, importing, returning, taking_x}
 
 -- a function of one name in which two interfaces disagree
-disagreeing : (from into : Interface) (f g : Function) (text : List ℕ) → f.name ≡ g.name → Contains from.functions (g.name, g) → Contains into.functions (f.name, f) → FunctionMismatch g f text
+pub disagreeing : (from into : Interface) (f g : Function) (text : List ℕ) → f.name ≡ g.name → Contains from.functions (g.name, g) → Contains into.functions (f.name, f) → FunctionMismatch g f text
     → HaveFunctionMismatch from into (function_mismatch_text g.name text)
 disagreeing from into f g text same has there apart =
     record { name = g.name; function = g; other = f; has = has; other_has = subst (λ (n : List ℕ). Contains into.functions (n, f)) same there; ending = text; mismatch = apart; text_is = refl }
@@ -67,6 +68,14 @@ mismatches = record {
       (mismatch.apart _ _ _ (0, lit< tt, refl) refl (mismatch.sorts refl));
   other_interfaces = of_imports ((key.Name (codes "x"), instance 0) ∷ []) ((key.Name (codes "x"), instance 1) ∷ []) _
       (mismatch.apart _ _ _ (0, lit< tt, refl) refl (mismatch.interfaces 1 0 refl refl (λ same. absurd (omega (arith, some_number same)))));
+  named_there =
+      reason.merge_mismatch_24 _
+      (mismatch.worlds (record { x = 0; from = _; x' = 0; into = _; from_is = refl; matched = refl; into_is = refl }) 0 _ false _ refl refl
+      (mismatch.apart _ _ _ (0, lit< tt, refl) refl (mismatch.interfaces 0 0 refl refl (λ same. none_some 0 same))));
+  named_comes =
+      reason.merge_mismatch_24 _
+      (mismatch.worlds (record { x = 0; from = _; x' = 0; into = _; from_is = refl; matched = refl; into_is = refl }) 0 _ false _ refl refl
+      (mismatch.apart _ _ _ (0, lit< tt, refl) refl (mismatch.interfaces 0 0 refl refl (λ same. none_some 0 same))));
   world_functions = differs_in_nothing _ refl refl;
   unnamed_functions =
       reason.merge_mismatch_24 _

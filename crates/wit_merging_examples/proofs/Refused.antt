@@ -27,7 +27,7 @@ use Rattle.wit_merging_examples.specs.Graphs.{merging}
 use Rattle.wit_merging_examples.specs.Refusals.{ExamplesOfRefusals, b_alone, c_uses_b, exports_two}
 
 module _ (m : Merging) where
-  of_conflict : (span : Place) (name : List ℕ) → IsMergeCause m (InvalidTransitiveDependency span name) → IsInConflict (joined_graph m) span name
+  pub of_conflict : (span : Place) (name : List ℕ) → IsMergeCause m (InvalidTransitiveDependency span name) → IsInConflict (joined_graph m) span name
   of_conflict _ _ (reason.conflict_4 span name one c) = c
 
   of_cycle : (span : Place) (home : PackageName) → IsMergeCause m (PackageCycle span home) → DependsOnItself (joined_graph m) home

@@ -15,7 +15,7 @@ use Rattle.wit_merging.specs.Cause as reason
 use Rattle.wit_merging.specs.Matches.{Merging}
 use Rattle.wit_merging.specs.Reasons.{AreJoined, Mismatches}
 use Rattle.wit_merging.specs.Reasons as joins
-use Rattle.wit_merging_examples.proofs.Passing.{GatesJoin, joined_fine}
+use Rattle.wit_merging_examples.proofs.Passing.{GatesJoin, can_merge, joined_fine}
 use Rattle.wit_merging_examples.specs.Graphs.{gate_f, gate_g, merging}
 use Rattle.wit_merging_examples.specs.Stabilities.{Disagrees, DisagreesNowhere, ExamplesOfStabilities}
 
@@ -59,4 +59,10 @@ stabilities = record {
   import_takes = refl;
   label_keeps = refl;
   function_keeps = refl;
+  interface_taken = can_merge _ (record { interfaces = refl; worlds = refl; rank = λ i. i; uses = refl; packages = refl; exports = refl; gates = record { types = refl; interfaces = refl; worlds = refl }; results = refl; spans = refl });
+  interface_kept = can_merge _ (record { interfaces = refl; worlds = refl; rank = λ i. i; uses = refl; packages = refl; exports = refl; gates = record { types = refl; interfaces = refl; worlds = refl }; results = refl; spans = refl });
+  world_taken = can_merge _ (record { interfaces = refl; worlds = refl; rank = λ i. i; uses = refl; packages = refl; exports = refl; gates = record { types = refl; interfaces = refl; worlds = refl }; results = refl; spans = refl });
+  import_taken = can_merge _ (record { interfaces = refl; worlds = refl; rank = λ i. i; uses = refl; packages = refl; exports = refl; gates = record { types = refl; interfaces = refl; worlds = refl }; results = refl; spans = refl });
+  label_kept = can_merge _ (record { interfaces = refl; worlds = refl; rank = λ i. i; uses = refl; packages = refl; exports = refl; gates = record { types = refl; interfaces = refl; worlds = refl }; results = refl; spans = refl });
+  function_kept = can_merge _ (record { interfaces = refl; worlds = refl; rank = λ i. i; uses = refl; packages = refl; exports = refl; gates = record { types = refl; interfaces = refl; worlds = refl }; results = refl; spans = refl });
 }

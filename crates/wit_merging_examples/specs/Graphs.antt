@@ -132,6 +132,10 @@ a_uses_b = record {
   package_names = (foo_named (codes "b"), 0) ∷ (foo_named (codes "a"), 1) ∷ [];
 }
 
+-- the same two packages where h has a number v of its own
+abbrev pub a_beside_b : Graph
+a_beside_b = record a_uses_b { types = number_in 0 (codes "v") ∷ number_in 1 (codes "v") ∷ [] }
+
 -- package foo:c alone, with k
 abbrev pub only_c : Graph
 only_c = record {

@@ -3,4 +3,5 @@ pub mod NamesHeld
 pub mod Pairs
 pub mod Refusals
 pub mod Stabilities
+pub mod TwoReasons
 pub mod Unions

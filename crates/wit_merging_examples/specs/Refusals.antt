@@ -20,8 +20,8 @@ use Rattle.wit_graph.specs.declared.graph.Graph.{Graph}
 use Rattle.wit_adding.specs.Gates.{Place}
 use Rattle.wit_merging.specs.Cause.{CanMerge, IsMergeCause}
 use Rattle.wit_merging.specs.Matches.{Merging}
-use Rattle.wit_merging_examples.specs.Graphs.{a_uses_b, alias_in, b_uses_a, field_a, foo_bar_alone, foo_named, gate_f, gate_g, i_uses_j, inner, merging, more, number_in, one_number, only_c, record_x, resource_t, taking, three, two_numbers, with_functions, world_of_i}
-use Rattle.wit_merging_examples.specs.Unions.{gated}
+use Rattle.wit_merging_examples.specs.Graphs.{a_beside_b, a_uses_b, alias_in, b_uses_a, field_a, foo_bar_alone, foo_named, gate_f, gate_g, i_uses_j, inner, merging, more, number_in, one_number, only_c, record_x, resource_t, taking, three, two_numbers, with_functions, world_of_i}
+use Rattle.wit_merging_examples.specs.Unions.{gated, named_x, v_alone, world_function}
 
 -- ---- graphs
 
@@ -134,6 +134,9 @@ pub record ExamplesOfMismatches : Type 0 where
       (codes "failed to merge world `w`: import `x` didn't match target world: world items do not have the same type")
   pub other_interfaces : DifferIn (importing ((key.Name (codes "x"), instance 0) ∷ [])) (importing ((key.Name (codes "x"), instance 1) ∷ []))
       (codes "failed to merge world `w`: import `x` didn't match target world: interfaces are not the same")
+  -- one without a name and one with a name
+  pub named_there : DifferIn named_x (inner [] [] []) (codes "failed to merge world `w`: import `x` didn't match target world: interfaces are not the same")
+  pub named_comes : DifferIn (inner [] [] []) named_x (codes "failed to merge world `w`: import `x` didn't match target world: interfaces are not the same")
   -- functions in worlds agree, whatever they are
   pub world_functions : DifferInNothing (importing ((key.Name (codes "f"), item.Function (returning None)) ∷ [])) (importing ((key.Name (codes "f"), item.Function (taking_x type.U32)) ∷ []))
   pub unnamed_functions : DifferIn (inner [] [] (returning None ∷ [])) (inner [] [] (taking_x type.U32 ∷ []))
@@ -181,3 +184,17 @@ pub record ExamplesOfAccepted : Type 0 where
   pub first_order : CanMerge (merging (two_numbers (codes "u")) (two_numbers (codes "v")))
   pub second_order : CanMerge (merging (two_numbers (codes "v")) (two_numbers (codes "u")))
   pub elaborated : CanMerge (merging world_of_i i_uses_j)
+  -- and the other merges of which the whole graph, or a list of it, is told
+  pub into_nothing : CanMerge (merging empty_graph three)
+  pub less : CanMerge (merging more one_number)
+  pub no_own : CanMerge (merging one_number record_x)
+  pub not_owned : CanMerge (merging record_x resource_t)
+  pub inner_joined : CanMerge (merging (inner ((codes "t", 0) ∷ []) (number_in 0 (codes "t") ∷ []) []) (inner ((codes "u", 0) ∷ []) (number_in 0 (codes "u") ∷ []) (function_of (codes "f") (type.Id 0 ∷ []) None ∷ [])))
+  pub function_once : CanMerge (merging world_function world_function)
+  pub world_comes : CanMerge (merging world_of_i v_alone)
+  pub types_once : CanMerge (merging v_alone v_alone)
+  pub packages : CanMerge (merging b_uses_a a_beside_b)
+  pub package_comes : CanMerge (merging b_uses_a only_c)
+  pub gate_comes : CanMerge (merging one_number (gated gate_f))
+  pub gate_stays : CanMerge (merging (gated gate_f) one_number)
+  pub moved : CanMerge (record { graph = empty_graph; other = record one_number { interfaces = record (interface_of (Some (codes "i")) ((codes "t", 0) ∷ [])) { span = Some (20, 25) } ∷ [] }; offset = 16 })

@@ -9,7 +9,7 @@ use Rattle.wit_graph.specs.Samples.{function_of, interface_of, no_docs, world_of
 use Rattle.wit_graph.specs.declared.error_kind.ResolveErrorKind.TheVariants.{StabilityMismatch}
 use Rattle.wit_graph.specs.declared.graph.Graph.{Graph}
 use Rattle.wit_adding.specs.Gates.{Place}
-use Rattle.wit_merging.specs.Cause.{IsMergeCause}
+use Rattle.wit_merging.specs.Cause.{CanMerge, IsMergeCause}
 use Rattle.wit_merging.specs.United.{united}
 use Rattle.wit_merging_examples.specs.Graphs.{foo_bar_alone, gate_f, gate_g, merging, with_functions}
 
@@ -74,3 +74,10 @@ pub record ExamplesOfStabilities : Type 0 where
   -- under a label it takes none, and a function keeps its own
   pub label_keeps : united (merging (listing (labelled Unknown ∷ []) []) (listing (labelled gate_g ∷ []) [])) ≡ listing (labelled Unknown ∷ []) []
   pub function_keeps : united (merging (gated_function gate_f) (gated_function gate_g)) ≡ gated_function gate_f
+  -- and nothing speaks against it
+  pub interface_taken : CanMerge (merging (gated_interface (codes "i") Unknown) (gated_interface (codes "i") gate_g))
+  pub interface_kept : CanMerge (merging (gated_interface (codes "i") gate_f) (gated_interface (codes "i") Unknown))
+  pub world_taken : CanMerge (merging (gated_world (codes "w") Unknown) (gated_world (codes "w") gate_g))
+  pub import_taken : CanMerge (merging (listing (keyed Unknown ∷ []) []) (listing (keyed gate_g ∷ []) []))
+  pub label_kept : CanMerge (merging (listing (labelled Unknown ∷ []) []) (listing (labelled gate_g ∷ []) []))
+  pub function_kept : CanMerge (merging (gated_function gate_f) (gated_function gate_g))

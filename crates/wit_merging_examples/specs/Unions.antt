@@ -1,5 +1,6 @@
 -- Worked merges: which things are matched, where things go, and the whole graph that is made.
 use Rattle.std.specs.Prelude.{◌≡◌, ℕ, suc, List, [], ◌∷◌, Some, None, codes}
+use Rattle.wit_items.specs.Entries.{Entry}
 use Rattle.wit_items.specs.declared.stability.Stability.{Stability}
 use Rattle.wit_items.specs.declared.types.Handle.TheVariants as handle
 use Rattle.wit_items.specs.declared.types.TypeDef.{TypeDef}
@@ -11,13 +12,29 @@ use Rattle.wit_items.specs.declared.world.World.{World}
 use Rattle.wit_items.specs.declared.world.WorldItem.TheVariants as item
 use Rattle.wit_items.specs.declared.world.WorldKey.TheVariants as key
 use Rattle.wit_graph.specs.Examples.{empty_graph}
-use Rattle.wit_graph.specs.Samples.{entry_of, foo_bar, foo_bar_of, function_of, interface_of, no_docs, type_in, type_of, unnamed, world_of}
+use Rattle.wit_graph.specs.Samples.{entry_of, foo_bar, foo_bar_of, function_of, interface_of, labelled_entry, no_docs, type_in, type_of, unnamed, world_of}
 use Rattle.wit_graph.specs.declared.graph.Graph.{Graph}
 use Rattle.wit_graph.specs.declared.graph.Package.{Package}
 use Rattle.wit_merging.specs.Matches.{found_interface, found_package, found_type, found_world}
 use Rattle.wit_merging.specs.Moved.{going}
 use Rattle.wit_merging.specs.United.{united}
-use Rattle.wit_merging_examples.specs.Graphs.{a_uses_b, alias_in, b_uses_a, field_a, foo_bar_alone, foo_named, gate_f, i_uses_j, inner, interface_in, merging, more, number_in, one_number, only_c, package_named, record_x, resource_t, three, two_numbers, world_of_i}
+use Rattle.wit_merging_examples.specs.Graphs.{a_beside_b, a_uses_b, alias_in, b_uses_a, field_a, foo_bar_alone, foo_named, gate_f, i_uses_j, inner, interface_in, merging, more, number_in, one_number, only_c, package_named, record_x, resource_t, three, two_numbers, world_of_i}
+
+-- an interface without a name beside world w, which imports and exports these
+abbrev pub nameless : List Entry → List Entry → Graph
+nameless imports exports = foo_bar_alone [] (interface_of None [] ∷ []) (world_of (codes "w") imports exports ∷ []) [] ((codes "w", 0) ∷ [])
+
+-- under label x of world w the interface a
+abbrev pub named_x : Graph
+named_x = foo_bar_alone [] (interface_of (Some (codes "a")) [] ∷ []) (world_of (codes "w") (labelled_entry (codes "x") 0 ∷ []) [] ∷ []) ((codes "a", 0) ∷ []) ((codes "w", 0) ∷ [])
+
+-- an interface without a name, with a number t, under label y of world w
+abbrev pub inner_y : Graph
+inner_y = record (inner ((codes "t", 0) ∷ []) (number_in 0 (codes "t") ∷ []) []) { worlds = world_of (codes "w") (labelled_entry (codes "y") 0 ∷ []) [] ∷ [] }
+
+-- an interface without a name under label x of world v
+abbrev pub x_of_v : Graph
+x_of_v = foo_bar_alone [] (interface_of None [] ∷ []) (world_of (codes "v") (labelled_entry (codes "x") 0 ∷ []) [] ∷ []) [] ((codes "v", 0) ∷ [])
 
 -- what is matched, and where things go
 pub record ExamplesOfMatches : Type 0 where
@@ -36,10 +53,26 @@ pub record ExamplesOfMatches : Type 0 where
   -- interfaces without a name by the label under which they stand, their types by name
   pub inner_interface : found_interface (merging (inner [] [] []) (inner ((codes "t", 0) ∷ []) (number_in 0 (codes "t") ∷ []) [])) 0 ≡ Some 0
   pub inner_type : found_type (merging (inner ((codes "t", 0) ∷ []) (number_in 0 (codes "t") ∷ []) []) (inner ((codes "t", 0) ∷ []) (number_in 0 (codes "t") ∷ []) [])) 0 ≡ Some 0
+  -- among the exports as well
+  pub inner_export : found_interface (merging (nameless [] (labelled_entry (codes "x") 0 ∷ [])) (nameless [] (labelled_entry (codes "x") 0 ∷ []))) 0 ≡ Some 0
+  -- not under another label, nor their types; not on the other side, not under the label of another world, and not where
+  -- an interface with a name stands under the label
+  pub other_label : found_interface (merging (inner [] [] []) inner_y) 0 ≡ None
+  pub other_label_type : found_type (merging (inner ((codes "t", 0) ∷ []) (number_in 0 (codes "t") ∷ []) []) inner_y) 0 ≡ None
+  pub other_side : found_interface (merging (inner [] [] []) (nameless [] (labelled_entry (codes "x") 0 ∷ []))) 0 ≡ None
+  pub other_side_too : found_interface (merging (nameless [] (labelled_entry (codes "x") 0 ∷ [])) (inner [] [] [])) 0 ≡ None
+  pub other_world : found_interface (merging (inner [] [] []) x_of_v) 0 ≡ None
+  pub named_there : found_interface (merging named_x (inner [] [] [])) 0 ≡ None
   -- where things go: i and its t to those that are there, u, j and v to the next ids
   pub goes : going (merging one_number more) ≡ record { types = Some 0 ∷ Some 1 ∷ Some 2 ∷ []; interfaces = Some 0 ∷ Some 1 ∷ []; worlds = []; packages = 0 ∷ [] }
+  -- what is matched doesn't go to the next ids, and what isn't does go somewhere
+  pub not_anew : going (merging one_number more) ≡ record { types = Some 1 ∷ Some 2 ∷ Some 3 ∷ []; interfaces = Some 1 ∷ Some 2 ∷ []; worlds = []; packages = 1 ∷ [] } → ⊥
+  pub not_nowhere : going (merging one_number more) ≡ record { types = Some 0 ∷ None ∷ None ∷ []; interfaces = Some 0 ∷ None ∷ []; worlds = []; packages = 0 ∷ [] } → ⊥
   -- packages that are there in another order
-  pub goes_across : going (merging b_uses_a a_uses_b) ≡ record { types = Some 2 ∷ Some 3 ∷ []; interfaces = Some 2 ∷ Some 3 ∷ []; worlds = []; packages = 1 ∷ 0 ∷ [] }
+  pub goes_across : going (merging b_uses_a a_beside_b) ≡ record { types = Some 2 ∷ Some 3 ∷ []; interfaces = Some 2 ∷ Some 3 ∷ []; worlds = []; packages = 1 ∷ 0 ∷ [] }
+  -- they don't go to the ids that they have; and what moves goes there in its order
+  pub not_straight : going (merging b_uses_a a_beside_b) ≡ record { types = Some 2 ∷ Some 3 ∷ []; interfaces = Some 2 ∷ Some 3 ∷ []; worlds = []; packages = 0 ∷ 1 ∷ [] } → ⊥
+  pub not_turned : going (merging b_uses_a a_beside_b) ≡ record { types = Some 3 ∷ Some 2 ∷ []; interfaces = Some 3 ∷ Some 2 ∷ []; worlds = []; packages = 1 ∷ 0 ∷ [] } → ⊥
 
 -- interface i of numbers of these names, in this order
 abbrev pub three_numbers : List ℕ → List ℕ → Graph
@@ -134,7 +167,7 @@ pub record ExamplesOfUnions : Type 0 where
   -- a matched world takes none
   pub types_once : united (merging v_alone v_alone) ≡ v_alone
   -- packages: what each has joins under its name, and one that isn't there comes last
-  pub packages : (united (merging b_uses_a a_uses_b)).packages ≡ package_named (codes "a") ((codes "i", 0) ∷ (codes "h", 3) ∷ []) ∷ package_named (codes "b") ((codes "j", 1) ∷ (codes "k", 2) ∷ []) ∷ []
+  pub packages : (united (merging b_uses_a a_beside_b)).packages ≡ package_named (codes "a") ((codes "i", 0) ∷ (codes "h", 3) ∷ []) ∷ package_named (codes "b") ((codes "j", 1) ∷ (codes "k", 2) ∷ []) ∷ []
   pub package_comes : (united (merging b_uses_a only_c)).packages
       ≡ package_named (codes "a") ((codes "i", 0) ∷ []) ∷ package_named (codes "b") ((codes "j", 1) ∷ []) ∷ package_named (codes "c") ((codes "k", 2) ∷ []) ∷ []
   pub named_once : (united (merging b_uses_a only_c)).package_names ≡ (foo_named (codes "a"), 0) ∷ (foo_named (codes "b"), 1) ∷ (foo_named (codes "c"), 2) ∷ []

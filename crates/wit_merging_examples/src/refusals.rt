@@ -2,6 +2,7 @@
 ghost use Rattle.wit_merging_examples.specs.Pairs.{ExamplesOfPairs};
 ghost use Rattle.wit_merging_examples.specs.Refusals.{ExamplesOfAccepted, ExamplesOfMismatches, ExamplesOfRefusals};
 ghost use Rattle.wit_merging_examples.specs.Stabilities.{ExamplesOfStabilities};
+ghost use Rattle.wit_merging_examples.specs.TwoReasons.{ExamplesOfTwoReasons};
 
 /// Matched things that differ, and what is told; and things that don't.
 pub fn examples_of_mismatches()
@@ -21,6 +22,11 @@ pub fn examples_of_stabilities()
 /// The other reasons.
 pub fn examples_of_refusals()
     ensures { ExamplesOfRefusals }
+{}
+
+/// Two reasons at once: both told, or one that spoils the other.
+pub fn examples_of_two_reasons()
+    ensures { ExamplesOfTwoReasons }
 {}
 
 /// Merges against which nothing speaks.

@@ -1,4 +1,6 @@
+mod Accepted
 mod Reasons
 mod Fine
 mod Mismatches
 mod Rows
+mod TwoReasons

@@ -1,5 +1,5 @@
 -- Each reason to refuse a merge by tracks has a graph, and its lack another.
-use Rattle.std.proofs.Common.{◌≡◌, ◌∙◌, inl, inr, ℕ, zero, suc, Bool, true, false, List, [], ◌∷◌, ◌++◌, None, Some, codes, slice_get, slice_index_or, refl, sym, ap, subst, arith, Contains}
+use Rattle.std.proofs.Common.{◌≡◌, ◌∙◌, inl, inr, ℕ, zero, suc, Bool, true, List, [], ◌∷◌, ◌++◌, None, Some, codes, slice_get, slice_index_or, refl, sym, ap, subst, arith, Contains}
 use Rattle.std.proofs.lemmas.Bool.{false≢true}
 use Rattle.std.specs.Fmt.{digits}
 use Rattle.std.specs.List.{list_all}
@@ -24,18 +24,18 @@ use Rattle.wit_graph.specs.declared.error_kind.ResolveErrorKind.TheVariants.{Inv
 use Rattle.wit_items.specs.declared.package_name.PackageName.{PackageName}
 use Rattle.wit_items.specs.declared.types.TypeDef.{TypeDef}
 use Rattle.wit_items.specs.declared.world.WorldKey.TheVariants as key
-use Rattle.wit_growth.specs.ListFacts.{contained_at, in_row}
+use Rattle.wit_growth.specs.ListFacts.{in_row}
 use Rattle.wit_graph.specs.declared.graph.Graph.{Graph}
 use Rattle.wit_graph.specs.declared.graph.Package.{Package}
 use Rattle.wit_growth.specs.AgreementFacts.{functions_fine}
 use Rattle.wit_growth.specs.AllElaborated.{DependsOnItself, RefersToItself, graph_package_uses}
 use Rattle.wit_growth.specs.FunctionMismatch.{FunctionMismatch, parameter_names_differ}
 use Rattle.wit_growth.specs.OptionFacts.{some_same}
-use Rattle.wit_growth.specs.TestFacts.{all_are, all_uses, falls, is_empty, no_cycle, not_on_cycle, nothing_in, only_one}
+use Rattle.wit_growth.specs.TestFacts.{all_are, all_uses, falls, is_empty, no_cycle, not_on_cycle, only_one}
 use Rattle.wit_tracks.specs.Rewritten.{following, listed_world, relisted_at}
 use Rattle.wit_tracks.specs.TrackCause.{Disagrees, IsComplete, IsTrackCause, LacksType, UpgradeCause, conflict_4, functions_disagree_25, interface_cycle_22, package_cycle_6, type_cycle_23, type_missing_25}
 use Rattle.wit_tracks.specs.Upgrade.{Upgrade, is_replaced, newest}
-use Rattle.wit_tracks_examples.proofs.Fine.{Clear, complete, has_target, is_fine}
+use Rattle.wit_tracks_examples.proofs.Fine.{Clear, complete, has_target, is_fine, no_functions}
 use Rattle.wit_tracks_examples.proofs.Mismatches.{x_is_not_y, x_of, y_of}
 use Rattle.wit_tracks_examples.specs.CauseExamples.{ExamplesOfCauses, IsFine, Speaks, around_main, around_z, exporting, f_of, failed, foo_app, newer_x, older_x, with_functions, with_newer, without_type, without_type_but_cycle}
 use Rattle.wit_tracks_examples.specs.Releases.{alias_in, called, foo_main, foo_x, keyed, number_in, package_of, release, with_function, world_in}
@@ -48,18 +48,10 @@ upgrade g world = record { rule = Published; graph = g; world = world }
 abbrev rank_of : List ℕ → ℕ → ℕ
 rank_of ranks i = slice_index_or ranks i 0
 
--- ---- what holds of graphs without functions, and of worlds without exports
-
-abbrev no_function : Interface → Bool
-no_function interface = is_empty interface.functions
+-- ---- what holds of worlds without exports, and with one
 
 abbrev no_export : World → Bool
 no_export world = is_empty world.exports
-
-no_functions : (u : Upgrade) → list_all no_function u.graph.interfaces ≡ true → (message : List ℕ) → Disagrees u message → ⊥
-no_functions u all message disagrees =
-    nothing_in disagrees.old.functions (disagrees.have.name, disagrees.have.function)
-    (all_are no_function u.graph.interfaces all disagrees.old (contained_at u.graph.interfaces disagrees.f disagrees.old disagrees.old_is)) disagrees.have.has
 
 nothing_exported : (uses : List (List ℕ)) (exports : List Entry) → is_empty exports ≡ true → HasConflict uses exports → ⊥
 nothing_exported uses [] none conflict = Contains-nil conflict.2
@@ -258,7 +250,7 @@ no_interface_cycle =
 -- ---- 23
 
 -- type 1 is another name of itself
-t_refers_to_itself : (g : Graph) → slice_get g.types 1 ≡ Some (alias_in 1 (codes "t") 1) → RefersToItself g (codes "type `t` would refer to itself")
+pub t_refers_to_itself : (g : Graph) → slice_get g.types 1 ≡ Some (alias_in 1 (codes "t") 1) → RefersToItself g (codes "type `t` would refer to itself")
 t_refers_to_itself g is = record {
   t = 1;
   u = 1;

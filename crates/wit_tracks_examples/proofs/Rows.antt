@@ -52,6 +52,7 @@ examples_of_rewriting = record {
   other_world = refl;
   not_as_it_was = λ same. let apart : 3 ≡ 2 = ap (import_count 1) same in absurd (omega (arith, apart));
   not_merged_too = λ same. let apart : 3 ≡ 2 = ap (import_count 1) same in absurd (omega (arith, apart));
+  other_world_again = refl;
   alone = refl;
   nowhere = refl;
 }
@@ -67,6 +68,15 @@ examples_of_rules = record {
   below_release = refl;
   other_major = refl;
   below_patch = refl;
+  not_with_release = λ same. let apart : 2 ≡ 1 = ap (import_count 0) same in absurd (omega (arith, apart));
+  not_all_apart = λ same. let apart : 2 ≡ 3 = ap (import_count 0) same in absurd (omega (arith, apart));
+  not_with_major = λ same. let apart : 2 ≡ 1 = ap (import_count 0) same in absurd (omega (arith, apart));
+  not_with_patch = λ same. let apart : 2 ≡ 1 = ap (import_count 0) same in absurd (omega (arith, apart));
+  not_beside_release = λ same. let apart : 1 ≡ 2 = ap (import_count 0) same in absurd (omega (arith, apart));
+  not_above_release = λ same. let apart : 2 ≡ 1 = ap (import_at 0 0) same in absurd (omega (arith, apart));
+  not_one_major = λ same. let apart : 2 ≡ 1 = ap (import_count 0) same in absurd (omega (arith, apart));
+  not_beside_patch = λ same. let apart : 1 ≡ 2 = ap (import_count 0) same in absurd (omega (arith, apart));
+  not_above_patch = λ same. let apart : 1 ≡ 0 = ap (import_at 0 0) same in absurd (omega (arith, apart));
   not_ignored = λ same. let apart : 1 ≡ 2 = ap (import_count 0) same in absurd (omega (arith, apart));
 }
 
@@ -83,6 +93,10 @@ examples_of_tracks = record {
   labelled_newer = refl;
   type_use = refl;
   not_left = λ same. let apart : 1 ≡ 0 = ap (target 2) same in absurd (omega (arith, apart));
+  label_use = refl;
+  label_not_left = λ same. let apart : 1 ≡ 0 = ap (target 2) same in absurd (omega (arith, apart));
+  nameless_use = refl;
+  nameless_not_left = λ same. let apart : 1 ≡ 0 = ap (target 2) same in absurd (omega (arith, apart));
   of_another_world = refl;
   not_following = λ same. let apart : 0 ≡ 1 = ap (target 2) same in absurd (omega (arith, apart));
 }

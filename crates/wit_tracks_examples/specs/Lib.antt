@@ -1,4 +1,6 @@
+pub mod AcceptedExamples
 pub mod CauseExamples
 pub mod Releases
 pub mod RewrittenExamples
 pub mod TrackExamples
+pub mod TwoReasons

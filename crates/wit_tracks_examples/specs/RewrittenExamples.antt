@@ -74,6 +74,8 @@ pub record ExamplesOfRewriting : Type 0 where
   pub other_world : rewritten Published (with_worlds 0 (keyed (0 ∷ 2 ∷ 1 ∷ [])) [] (keyed (0 ∷ 2 ∷ []))) 0 ≡ with_worlds 1 (keyed (1 ∷ 2 ∷ [])) [] (keyed (0 ∷ 1 ∷ 2 ∷ []))
   pub not_as_it_was : rewritten Published (with_worlds 0 (keyed (0 ∷ 2 ∷ 1 ∷ [])) [] (keyed (0 ∷ 2 ∷ []))) 0 ≡ with_worlds 1 (keyed (1 ∷ 2 ∷ [])) [] (keyed (0 ∷ 2 ∷ [])) → ⊥
   pub not_merged_too : rewritten Published (with_worlds 0 (keyed (0 ∷ 2 ∷ 1 ∷ [])) [] (keyed (0 ∷ 2 ∷ []))) 0 ≡ with_worlds 1 (keyed (1 ∷ 2 ∷ [])) [] (keyed (1 ∷ 2 ∷ [])) → ⊥
+  -- a second time nothing changes, of neither world
+  pub other_world_again : rewritten Published (with_worlds 1 (keyed (1 ∷ 2 ∷ [])) [] (keyed (0 ∷ 1 ∷ 2 ∷ []))) 0 ≡ with_worlds 1 (keyed (1 ∷ 2 ∷ [])) [] (keyed (0 ∷ 1 ∷ 2 ∷ []))
   -- where the newer one isn't imported nothing is replaced, nor where there is no world
   pub alone : rewritten Published (with_worlds 0 (keyed (0 ∷ 2 ∷ [])) [] []) 0 ≡ with_worlds 0 (keyed (0 ∷ 2 ∷ [])) [] []
   pub nowhere : rewritten Published of_three 1 ≡ of_three
@@ -104,5 +106,16 @@ pub record ExamplesOfRules : Type 0 where
   pub below_release : rewritten WithPrereleases (with_release (0 ∷ 1 ∷ 2 ∷ [])) 0 ≡ with_release (2 ∷ [])
   pub other_major : rewritten WithPrereleases (major_release (0 ∷ 1 ∷ [])) 0 ≡ major_release (0 ∷ 1 ∷ [])
   pub below_patch : rewritten WithPrereleases (patch_release (0 ∷ 1 ∷ [])) 0 ≡ patch_release (1 ∷ [])
+  -- by the published rule a release stands for no pre-release and a pre-release for none; a release does for an older one
+  pub not_with_release : rewritten Published (with_release (0 ∷ 1 ∷ 2 ∷ [])) 0 ≡ with_release (2 ∷ []) → ⊥
+  pub not_all_apart : rewritten Published (with_release (0 ∷ 1 ∷ 2 ∷ [])) 0 ≡ with_release (0 ∷ 1 ∷ 2 ∷ []) → ⊥
+  pub not_with_major : rewritten Published (major_release (0 ∷ 1 ∷ [])) 0 ≡ major_release (1 ∷ []) → ⊥
+  pub not_with_patch : rewritten Published (patch_release (0 ∷ 1 ∷ [])) 0 ≡ patch_release (1 ∷ []) → ⊥
+  -- by the other rule a pre-release doesn't stay beside its release, doesn't stand for it, nor for one of another major
+  pub not_beside_release : rewritten WithPrereleases (with_release (0 ∷ 1 ∷ 2 ∷ [])) 0 ≡ with_release (1 ∷ 2 ∷ []) → ⊥
+  pub not_above_release : rewritten WithPrereleases (with_release (0 ∷ 1 ∷ 2 ∷ [])) 0 ≡ with_release (1 ∷ []) → ⊥
+  pub not_one_major : rewritten WithPrereleases (major_release (0 ∷ 1 ∷ [])) 0 ≡ major_release (1 ∷ []) → ⊥
+  pub not_beside_patch : rewritten WithPrereleases (patch_release (0 ∷ 1 ∷ [])) 0 ≡ patch_release (0 ∷ 1 ∷ []) → ⊥
+  pub not_above_patch : rewritten WithPrereleases (patch_release (0 ∷ 1 ∷ [])) 0 ≡ patch_release (0 ∷ []) → ⊥
   -- the rule isn't ignored
   pub not_ignored : rewritten WithPrereleases (first_release (0 ∷ 1 ∷ [])) 0 ≡ rewritten Published (first_release (0 ∷ 1 ∷ [])) 0 → ⊥

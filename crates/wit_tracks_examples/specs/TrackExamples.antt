@@ -11,7 +11,7 @@ use Rattle.wit_graph.specs.Entries.{Entry}
 use Rattle.wit_graph.specs.Samples.{labelled_entry, type_of}
 use Rattle.wit_graph.specs.declared.graph.Graph.{Graph}
 use Rattle.wit_tracks.specs.Rewritten.{rewritten}
-use Rattle.wit_tracks_examples.specs.Releases.{called, foo_main, foo_x, graph_of, interface_in, keyed, number_in, package_of, release, two, world_in}
+use Rattle.wit_tracks_examples.specs.Releases.{alias_in, called, foo_main, foo_x, graph_of, interface_in, keyed, number_in, package_of, release, two, world_in}
 use Rattle.wit_tracks_examples.specs.RewrittenExamples.{with_versions, with_worlds}
 
 -- ---- names
@@ -39,6 +39,21 @@ using_type target imports =
     (interface_in 0 (codes "x") (called (codes "t") 0 ∷ []) ∷ interface_in 1 (codes "x") (called (codes "t") 1 ∷ []) ∷ [])
     (world_in 2 (codes "w") (keyed imports ++ (key.Name (codes "u"), item.Type_ 2 None) ∷ []) [] ∷ []) [] (called (codes "w") 0 ∷ [])
 
+-- ---- an interface under a label
+
+-- y under a label
+abbrev pub y_at_l : Entry
+y_at_l = labelled_entry (codes "l") 2
+
+-- the same of an interface without a name, with another name of this type; world w imports these before it
+abbrev pub nameless_at_l : ℕ → List ℕ → Graph
+nameless_at_l target imports =
+    graph_of two
+    (number_in 0 (codes "t") ∷ number_in 1 (codes "t") ∷ alias_in 2 (codes "t") target ∷ [])
+    (interface_in 0 (codes "x") (called (codes "t") 0 ∷ []) ∷ interface_in 1 (codes "x") (called (codes "t") 1 ∷ [])
+    ∷ record (interface_in 2 (codes "y") (called (codes "t") 2 ∷ [])) { name = None } ∷ [])
+    (world_in 2 (codes "w") (keyed imports ++ y_at_l ∷ []) [] ∷ []) [] (called (codes "w") 0 ∷ [])
+
 -- ---- versions of one track
 
 abbrev pub of_one_track : ℕ → List ℕ → Graph
@@ -64,6 +79,11 @@ pub record ExamplesOfTracks : Type 0 where
   -- a type that the world itself uses follows
   pub type_use : rewritten Published (using_type 0 (0 ∷ 1 ∷ [])) 0 ≡ using_type 1 (1 ∷ [])
   pub not_left : rewritten Published (using_type 0 (0 ∷ 1 ∷ [])) 0 ≡ using_type 0 (1 ∷ []) → ⊥
+  -- so does y under a label, and an interface without a name
+  pub label_use : rewritten Published (with_worlds 0 (keyed (0 ∷ 1 ∷ []) ++ y_at_l ∷ []) [] []) 0 ≡ with_worlds 1 (keyed (1 ∷ []) ++ y_at_l ∷ []) [] []
+  pub label_not_left : rewritten Published (with_worlds 0 (keyed (0 ∷ 1 ∷ []) ++ y_at_l ∷ []) [] []) 0 ≡ with_worlds 0 (keyed (1 ∷ []) ++ y_at_l ∷ []) [] [] → ⊥
+  pub nameless_use : rewritten Published (nameless_at_l 0 (0 ∷ 1 ∷ [])) 0 ≡ nameless_at_l 1 (1 ∷ [])
+  pub nameless_not_left : rewritten Published (nameless_at_l 0 (0 ∷ 1 ∷ [])) 0 ≡ nameless_at_l 0 (1 ∷ []) → ⊥
   -- y, which another world alone imports, doesn't
   pub of_another_world : rewritten Published (with_worlds 0 (keyed (0 ∷ 1 ∷ [])) [] (keyed (0 ∷ 2 ∷ []))) 0 ≡ with_worlds 0 (keyed (1 ∷ [])) [] (keyed (0 ∷ 2 ∷ []))
   pub not_following : rewritten Published (with_worlds 0 (keyed (0 ∷ 1 ∷ [])) [] (keyed (0 ∷ 2 ∷ []))) 0 ≡ with_worlds 1 (keyed (1 ∷ [])) [] (keyed (0 ∷ 1 ∷ 2 ∷ [])) → ⊥
