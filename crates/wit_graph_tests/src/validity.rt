@@ -53,9 +53,10 @@ pub(crate) enum Breach {
     UserBeforeUsed,
     TypeNotThere,
     InterfaceNotThere,
+    ExportsInConflict,
 }
 
-const BREACHES: [Breach; 34] = [
+const BREACHES: [Breach; 35] = [
     Breach::NameOfOther,
     Breach::PackageNotNamed,
     Breach::InterfaceNotInTable,
@@ -90,6 +91,7 @@ const BREACHES: [Breach; 34] = [
     Breach::UserBeforeUsed,
     Breach::TypeNotThere,
     Breach::InterfaceNotThere,
+    Breach::ExportsInConflict,
 ];
 
 /// The places of packages `foo:bar` and `foo:baz`.
@@ -177,7 +179,9 @@ fn packages(rt: &impl Abort, alloc: Global, breach: Breach) -> Items<Package> {
 
 fn listed_in_bar(breach: Breach) -> &'static [(&'static str, usize)] {
     match breach {
-        Breach::PackageDependsOnItself => &[("a", 0), ("b", 1), ("e", 4)],
+        Breach::PackageDependsOnItself | Breach::ExportsInConflict => {
+            &[("a", 0), ("b", 1), ("e", 4)]
+        }
         _ => &[("a", 0), ("b", 1)],
     }
 }
@@ -280,6 +284,7 @@ fn add_type_m(rt: &impl Abort, alloc: Global, types: &mut Items<TypeDef>, breach
     };
     let kind = match breach {
         Breach::KindUnknown => TypeDefKind::Unknown,
+        Breach::OwnerWithoutName => TypeDefKind::List(Type_::U32),
         _ => TypeDefKind::Type_(Type_::U32),
     };
     add_type(rt, alloc, types, name, kind, interface_owner(3));
@@ -294,6 +299,7 @@ fn add_more_types(rt: &impl Abort, alloc: Global, types: &mut Items<TypeDef>, br
         }
         Breach::InterfaceUsesItself => (8, 5),
         Breach::PackageDependsOnItself => (0, 5),
+        Breach::ExportsInConflict => (0, 2),
         _ => return,
     };
     let kind = TypeDefKind::Type_(type_at(target));
@@ -341,7 +347,8 @@ fn types_of_d(breach: Breach) -> &'static [(&'static str, usize)] {
     match breach {
         Breach::TypeNotListed | Breach::OwnerWithoutName => &[],
         Breach::TypeOfOtherListed => &[("m", 5), ("t", 0)],
-        Breach::InterfaceUsesItself | Breach::PackageDependsOnItself => &[("m", 5), ("n", 6)],
+        Breach::InterfaceUsesItself | Breach::PackageDependsOnItself | Breach::ExportsInConflict =>
+            &[("m", 5), ("n", 6)],
         _ => &[("m", 5)],
     }
 }
@@ -356,7 +363,7 @@ fn add_more_interfaces(
     let types = &[("o", 7), ("p", 8)];
     match breach {
         Breach::InterfaceUsesItself => add_interface(rt, alloc, interfaces, "e", types, Some(BAZ)),
-        Breach::PackageDependsOnItself => add_interface(
+        Breach::PackageDependsOnItself | Breach::ExportsInConflict => add_interface(
             rt,
             alloc,
             interfaces,
@@ -462,7 +469,7 @@ fn imports(rt: &impl Abort, alloc: Global, breach: Breach) -> Table<WorldKey, Wo
     imports
 }
 
-/// Function `h` of a number.
+/// Function `h` of a number; in conflict are `a` and `e`, which uses `b`, and that uses `a`.
 fn exports(rt: &impl Abort, alloc: Global, breach: Breach) -> Table<WorldKey, WorldItem> {
     let mut exports = Table::new(alloc);
     let name = if breach == Breach::ExportUnderOtherName {
@@ -480,6 +487,10 @@ fn exports(rt: &impl Abort, alloc: Global, breach: Breach) -> Table<WorldKey, Wo
     add_entry(rt, &mut exports, label(rt, alloc, "h"), item);
     if breach == Breach::UnnamedOfOtherExported {
         add_entry(rt, &mut exports, label(rt, alloc, "out"), held(4));
+    }
+    if breach == Breach::ExportsInConflict {
+        add_entry(rt, &mut exports, interface_key(0), held(0));
+        add_entry(rt, &mut exports, interface_key(4), held(4));
     }
     exports
 }

@@ -26,7 +26,7 @@ fn with_param(
 }
 
 /// A function with all that can be told of it.
-fn run(rt: &impl Abort, alloc: Global) -> Function {
+pub fn run(rt: &impl Abort, alloc: Global) -> Function {
     let mut made = function(rt, alloc, "run", FunctionKind::Freestanding);
     let mut a = param(rt, alloc, "a", Type_::U32);
     a.span = Span::new(44, 45);

@@ -1,5 +1,6 @@
 //! Interfaces without a name, which stand under a label in one world: they belong to its package, what they use is
-//! imported before them, and an include copies them.
+//! imported before them, and an include copies them. What entries keep that are listed, and what those have that come
+//! before them, is told of these and of interfaces under their own keys.
 use crate::parts::{
     assert_told, docs, entries, first_package, function, function_entry, functions,
     inline_interface, interface, interface_list, list, named, of_world, package, param, push,
@@ -25,14 +26,27 @@ fn labelled(
     let item = WorldItem::Interface {
         id: InterfaceId::from_index(index),
         stability,
-        docs: docs(rt, alloc, "Inline."),
+        docs: docs(rt, alloc, "Listed."),
         span,
         external_id: Some(text(rt, alloc, label)),
     };
     (WorldKey::Name(text(rt, alloc, label)), item)
 }
 
-/// Interface `a` with type `t`, and three without a name, which use `t`.
+/// The entry of an interface under its own key, with as much, its external id among it.
+fn keyed(
+    rt: &impl Abort,
+    alloc: Global,
+    external_id: &str,
+    index: usize,
+    stability: Stability,
+    span: Span,
+) -> (WorldKey, WorldItem) {
+    let (_, item) = labelled(rt, alloc, external_id, index, stability, span);
+    (WorldKey::Interface(InterfaceId::from_index(index)), item)
+}
+
+/// Interface `a` with type `t`, and three without a name and `c`, which use `t`.
 fn interfaces(rt: &impl Abort, alloc: Global) -> Items<Interface> {
     let mut f = function(rt, alloc, "f", FunctionKind::AsyncFreestanding);
     f.params = list(rt, alloc, [param(rt, alloc, "p", type_at(2))]);
@@ -48,6 +62,7 @@ fn interfaces(rt: &impl Abort, alloc: Global) -> Items<Interface> {
             imported,
             inline_interface(rt, alloc, &[("t", 3)]),
             inline_interface(rt, alloc, &[("t", 4)]),
+            interface(rt, alloc, "c", &[("t", 5)]),
         ],
     )
 }
@@ -69,8 +84,25 @@ fn types(rt: &impl Abort, alloc: Global) -> Items<TypeDef> {
             named(rt, alloc, 1, "u", TypeDefKind::Record { fields }),
             named(rt, alloc, 2, "t", TypeDefKind::Type_(type_at(0))),
             named(rt, alloc, 3, "t", TypeDefKind::Type_(type_at(0))),
+            named(rt, alloc, 4, "t", TypeDefKind::Type_(type_at(0))),
         ],
     )
+}
+
+/// World `u` imports and exports `c`, and then `a`, which comes before it as `c` uses it.
+fn world_of_keys(rt: &impl Abort, alloc: Global) -> World {
+    let old = since(rt, alloc, "1.0.0", "1.1.0");
+    let imported = keyed(rt, alloc, "c-in", 4, old, Span::new(90, 91));
+    let new = unstable(rt, alloc, "new", "1.1.0");
+    let used = keyed(rt, alloc, "a-in", 0, new, Span::new(92, 93));
+    let new = unstable(rt, alloc, "new", "1.1.0");
+    let exported = keyed(rt, alloc, "c-out", 4, new, Span::new(94, 95));
+    let old = since(rt, alloc, "1.0.0", "1.1.0");
+    let needed = keyed(rt, alloc, "a-out", 0, old, Span::new(96, 97));
+    let mut u = world(rt, alloc, "u");
+    u.imports = entries(rt, alloc, [imported, used]);
+    u.exports = entries(rt, alloc, [exported, needed]);
+    u
 }
 
 /// World `w` imports and exports interfaces without a name, world `v` exports one.
@@ -86,7 +118,7 @@ fn worlds(rt: &impl Abort, alloc: Global) -> Items<World> {
     w.exports = entries(rt, alloc, [out]);
     let mut v = world(rt, alloc, "v");
     v.exports = entries(rt, alloc, [only]);
-    world_list(rt, alloc, [w, v])
+    world_list(rt, alloc, [w, v, world_of_keys(rt, alloc)])
 }
 
 fn pushed(rt: &impl Abort, alloc: Global) -> String {
@@ -106,8 +138,10 @@ const INLINE: &str = "package 0 foo:first\n\
     \x20 interface things 0\n\
     package 1 foo:inline@1.2.0\n\
     \x20 interface a 1\n\
+    \x20 interface c 5\n\
     \x20 world w 0\n\
     \x20 world v 1\n\
+    \x20 world u 2\n\
     named foo:first 0\n\
     named foo:inline@1.2.0 1\n\
     interface 0 things of package 0\n\
@@ -122,22 +156,30 @@ const INLINE: &str = "package 0 foo:first\n\
     \x20 type t 4\n\
     interface 4 of package 1\n\
     \x20 type t 5\n\
+    interface 5 c of package 1\n\
+    \x20 type t 6\n\
     world 0 w of package 1 includes 0\n\
     \x20 import 1: interface 1 since 1.0.0 deprecated 1.1.0\n\
-    \x20 import lab: interface 2 since 1.0.0 deprecated 1.1.0 docs `Inline.` external `lab`\n\
-    \x20 export out: interface 3 at 170-173 unstable new deprecated 1.1.0 docs `Inline.` external `out`\n\
+    \x20 import lab: interface 2 since 1.0.0 deprecated 1.1.0 docs `Listed.` external `lab`\n\
+    \x20 export out: interface 3 at 170-173 unstable new deprecated 1.1.0 docs `Listed.` external `out`\n\
     world 1 v of package 1 includes 0\n\
     \x20 import 1: interface 1 unstable new deprecated 1.1.0 external `only`\n\
-    \x20 export only: interface 4 at 180-184 unstable new deprecated 1.1.0 docs `Inline.` external `only`\n\
+    \x20 export only: interface 4 at 180-184 unstable new deprecated 1.1.0 docs `Listed.` external `only`\n\
+    world 2 u of package 1 includes 0\n\
+    \x20 import 1: interface 1 since 1.0.0 deprecated 1.1.0\n\
+    \x20 import 5: interface 5 since 1.0.0 deprecated 1.1.0 docs `Listed.` external `c-in`\n\
+    \x20 export 1: interface 1 unstable new deprecated 1.1.0 external `c-out`\n\
+    \x20 export 5: interface 5 at 194-195 unstable new deprecated 1.1.0 docs `Listed.` external `c-out`\n\
     type #0 item of interface 0: alias u32\n\
     type #1 t of interface 1: alias u32\n\
     type #2 t of interface 2: alias #1\n\
     type #3 u of interface 2: record x: #2 at 155-156;\n\
     type #4 t of interface 3: alias #1\n\
-    type #5 t of interface 4: alias #1\n";
+    type #5 t of interface 4: alias #1\n\
+    type #6 t of interface 5: alias #1\n";
 
 #[test]
-fn interfaces_without_a_name_stand_under_labels(rt: HostRuntime) {
+fn listed_entries_keep_what_is_told_of_them(rt: HostRuntime) {
     assert_told(&rt, pushed(&rt, rt.alloc()), INLINE);
 }
 
@@ -216,12 +258,12 @@ const INCLUDED: &str = "package 0 foo:inline@1.2.0\n\
     interface 1 of package 0 at 125-126\n\
     \x20 type t 2\n\
     world 0 base of package 0 includes 0\n\
-    \x20 import lab: interface 0 since 1.0.0 deprecated 1.1.0 docs `Inline.` external `lab`\n\
+    \x20 import lab: interface 0 since 1.0.0 deprecated 1.1.0 docs `Listed.` external `lab`\n\
     \x20 import k: type #1 at 130-131\n\
     \x20 import run: async func run(p: #1;) at 140-143 docs `Runs.` external `run-id`\n\
     \x20 import stay: func stay() at 145-149\n\
     world 1 derived of package 0 includes 0\n\
-    \x20 import lab: interface 1 since 1.0.0 deprecated 1.1.0 docs `Inline.` external `lab`\n\
+    \x20 import lab: interface 1 since 1.0.0 deprecated 1.1.0 docs `Listed.` external `lab`\n\
     \x20 import key: type #3 at 130-131\n\
     \x20 import go: async func go(p: #3;) at 140-143 docs `Runs.` external `run-id`\n\
     \x20 import stay: func stay() at 145-149\n\

@@ -1,15 +1,16 @@
 //! Types of each kind, with all that can be told of them and of their parts. They are pushed after another package,
 //! and their spans move by 100: what is added is the same at the next ids, and where a value is a resource stands
-//! an `own` of it, behind all types.
+//! an `own` of it, behind all types. Of a map and a result it is told which futures and streams they hold.
 use crate::parts::{
-    assert_told, docs, first_package, interface, interface_list, list, named, package, push,
-    shown_copy, since, text, type_at, type_list, unnamed, unstable,
+    assert_told, docs, first_package, function, interface, interface_list, list, named, package,
+    param, push, shown_copy, since, text, type_at, type_list, unnamed, unstable,
 };
 use std::alloc::Global;
+use std::fmt::Write;
 use std::process::Abort;
 use wit_items::{
-    Case, Docs, EnumCase, Field, Flag, Handle, Interface, Items, Span, Type_, TypeDef, TypeDefKind,
-    TypeId, UnresolvedPackage,
+    Case, Docs, EnumCase, Field, Flag, FunctionKind, Handle, Interface, Items, Span, Type_,
+    TypeDef, TypeDefKind, TypeId, UnresolvedPackage,
 };
 use wit_resolve_graph::Resolve;
 
@@ -22,7 +23,7 @@ fn resource(rt: &impl Abort, alloc: Global) -> TypeDef {
     r
 }
 
-fn permissions(rt: &impl Abort, alloc: Global) -> TypeDef {
+pub fn permissions(rt: &impl Abort, alloc: Global) -> TypeDef {
     let read = Flag {
         name: text(rt, alloc, "read"),
         docs: docs(rt, alloc, "May read."),
@@ -37,7 +38,7 @@ fn permissions(rt: &impl Abort, alloc: Global) -> TypeDef {
     named(rt, alloc, 0, "permissions", TypeDefKind::Flags { flags })
 }
 
-fn color(rt: &impl Abort, alloc: Global) -> TypeDef {
+pub fn color(rt: &impl Abort, alloc: Global) -> TypeDef {
     let red = EnumCase {
         name: text(rt, alloc, "red"),
         docs: docs(rt, alloc, "As blood."),
@@ -83,7 +84,7 @@ fn case(rt: &impl Abort, alloc: Global, name: &str, ty: Option<Type_>, span: Spa
     }
 }
 
-fn shape(rt: &impl Abort, alloc: Global) -> TypeDef {
+pub fn shape(rt: &impl Abort, alloc: Global) -> TypeDef {
     let mut circle = case(rt, alloc, "circle", Some(Type_::F64), Span::new(70, 76));
     circle.docs = docs(rt, alloc, "Round.");
     let held = case(rt, alloc, "held", Some(type_at(0)), Span::new(77, 81));
@@ -124,7 +125,7 @@ const PRIMITIVES: [Type_; 14] = [
     Type_::ErrorContext,
 ];
 
-/// Types 5 to 16, without names.
+/// Types 5 to 18, without names; the last two hold futures and streams.
 fn unnamed_types(rt: &impl Abort, alloc: Global) -> Items<TypeDef> {
     let pair = list(rt, alloc, [Type_::U8, type_at(3)]);
     let primitives = list(rt, alloc, PRIMITIVES);
@@ -144,6 +145,11 @@ fn unnamed_types(rt: &impl Abort, alloc: Global) -> Items<TypeDef> {
         TypeDefKind::Stream(Some(type_at(0))),
         TypeDefKind::Future(Some(type_at(1))),
         TypeDefKind::Tuple { types: primitives },
+        TypeDefKind::Map(type_at(15), type_at(13)),
+        TypeDefKind::Result_ {
+            ok: Some(type_at(14)),
+            err: Some(type_at(13)),
+        },
     ];
     let mut types = Items::new(alloc);
     for kind in Vec::from_array(alloc, kinds).expect(rt, "memory") {
@@ -152,9 +158,9 @@ fn unnamed_types(rt: &impl Abort, alloc: Global) -> Items<TypeDef> {
     types
 }
 
-/// Types 17 to 20: other names, and types that name them.
+/// Types 19 to 22: other names, and types that name them.
 fn aliases(rt: &impl Abort, alloc: Global) -> Items<TypeDef> {
-    let both = list(rt, alloc, [type_at(18), type_at(17)]);
+    let both = list(rt, alloc, [type_at(20), type_at(19)]);
     let outcome = TypeDefKind::Result_ {
         ok: None,
         err: Some(type_at(2)),
@@ -178,10 +184,10 @@ fn kinds_interface(rt: &impl Abort, alloc: Global) -> Interface {
         ("color", 2),
         ("point", 3),
         ("shape", 4),
-        ("outcome", 20),
-        ("points", 17),
-        ("r2", 18),
-        ("both", 19),
+        ("outcome", 22),
+        ("points", 19),
+        ("r2", 20),
+        ("both", 21),
     ];
     let mut made = interface(rt, alloc, "i", &types);
     made.docs = docs(rt, alloc, "Each kind.");
@@ -202,7 +208,21 @@ fn kinds_package(rt: &impl Abort, alloc: Global) -> UnresolvedPackage {
     made
 }
 
-/// What the graph holds after both packages.
+/// Writes which futures and streams a function holds that takes the map and the result and answers the map.
+fn write_futures(rt: &impl Abort, alloc: Global, resolve: &Resolve, out: &mut String) {
+    let mut f = function(rt, alloc, "f", FunctionKind::Freestanding);
+    let a = param(rt, alloc, "a", type_at(18));
+    f.params = list(rt, alloc, [a, param(rt, alloc, "b", type_at(19))]);
+    f.result_ = Some(type_at(18));
+    let found = resolve.find_futures_and_streams(alloc, &f);
+    out.push_str("held").expect(rt, "memory");
+    for id in &found.expect(rt, "memory") {
+        let place = id.index();
+        write!(out, " #{place}").expect(rt, "memory");
+    }
+}
+
+/// What the graph holds after both packages, and the futures and streams.
 fn pushed(rt: &impl Abort, alloc: Global) -> String {
     let mut resolve = Resolve::new(alloc);
     resolve.add_feature(alloc, "colors").expect(rt, "memory");
@@ -210,7 +230,9 @@ fn pushed(rt: &impl Abort, alloc: Global) -> String {
     push(rt, alloc, &mut resolve, &first, 0);
     let kinds = kinds_package(rt, alloc);
     push(rt, alloc, &mut resolve, &kinds, 100);
-    shown_copy(rt, alloc, &resolve)
+    let mut out = shown_copy(rt, alloc, &resolve);
+    write_futures(rt, alloc, &resolve, &mut out);
+    out
 }
 
 const KINDS: &str = "package 0 foo:first\n\
@@ -227,34 +249,37 @@ const KINDS: &str = "package 0 foo:first\n\
     \x20 type color 3\n\
     \x20 type point 4\n\
     \x20 type shape 5\n\
-    \x20 type outcome 21\n\
-    \x20 type points 18\n\
-    \x20 type r2 19\n\
-    \x20 type both 20\n\
+    \x20 type outcome 23\n\
+    \x20 type points 20\n\
+    \x20 type r2 21\n\
+    \x20 type both 22\n\
     type #0 item of interface 0: alias u32\n\
     type #1 r of interface 1: resource at 130-131 since 1.0.0 deprecated 1.2.0 docs `A resource.` external `res`\n\
     type #2 permissions of interface 1: flags read at 140-144 docs `May read.`; write;\n\
     type #3 color of interface 1: enum red at 150-153 docs `As blood.`; green; unstable colors deprecated 1.1.0\n\
-    type #4 point of interface 1: record x: u32 at 160-161 docs `Across.`; home: #22; at 158-163 docs `A point.`\n\
-    type #5 shape of interface 1: variant circle: f64 at 170-176 docs `Round.`; held: #22 at 177-181; nothing;\n\
+    type #4 point of interface 1: record x: u32 at 160-161 docs `Across.`; home: #24; at 158-163 docs `A point.`\n\
+    type #5 shape of interface 1: variant circle: f64 at 170-176 docs `Round.`; held: #24 at 177-181; nothing;\n\
     type #6: own #1\n\
     type #7: borrow #1\n\
     type #8: tuple u8 #4\n\
     type #9: option #8\n\
     type #10: result #9 _\n\
-    type #11: list #22\n\
+    type #11: list #24\n\
     type #12: map string #5\n\
     type #13: list f32 of 4\n\
     type #14: future _\n\
-    type #15: stream #22\n\
+    type #15: stream #24\n\
     type #16: future #2\n\
     type #17: tuple bool u8 u16 u32 u64 s8 s16 s32 s64 f32 f64 char string error-context\n\
-    type #18 points of interface 1: alias #4\n\
-    type #19 r2 of interface 1: alias #1\n\
-    type #20 both of interface 1: tuple #23 #18\n\
-    type #21 outcome of interface 1: result _ #3\n\
-    type #22: own #1\n\
-    type #23: own #19\n";
+    type #18: map #16 #14\n\
+    type #19: result #15 #14\n\
+    type #20 points of interface 1: alias #4\n\
+    type #21 r2 of interface 1: alias #1\n\
+    type #22 both of interface 1: tuple #25 #20\n\
+    type #23 outcome of interface 1: result _ #3\n\
+    type #24: own #1\n\
+    type #25: own #21\n\
+    held #16 #14 #15 #14 #16 #14";
 
 #[test]
 fn types_of_each_kind_are_added(rt: HostRuntime) {

@@ -6,10 +6,11 @@ ghost use Rattle.wit_package_sources.specs.Names.{ArePlaced};
 use crate::fixtures::assert_told;
 use std::alloc::{AllocError, Global};
 use std::collections::BTreeMap;
+use std::fmt::Write;
 use std::process::Abort;
 use wit_items::{
-    Docs, Interface, Items, Names, PackageId, PackageName, SourceMap, Span, Stability, Table, Text,
-    TryClone, UnresolvedPackage, UnresolvedPackageGroup,
+    Docs, Function, FunctionKind, Interface, Items, Names, PackageId, PackageName, SourceMap, Span,
+    Stability, Table, Text, TryClone, UnresolvedPackage, UnresolvedPackageGroup,
 };
 use wit_resolve_graph::{PackageSources, ParseFault, Resolve, SourceFault, is_group_shaped};
 
@@ -17,14 +18,18 @@ fn text(rt: &impl Abort, alloc: Global, text: &str) -> Text {
     Text::try_from_str(alloc, text).expect(rt, "memory")
 }
 
-/// What a parse answers that can't read its text from 13 to 18.
+/// What a parse answers that can't read its text from 13 to 18, or that has no memory.
 fn unreadable(
     rt: &impl Abort,
     alloc: Global,
     source_map: SourceMap,
+    has_memory: bool,
 ) -> Result<UnresolvedPackageGroup, ParseFault>
     ensures { IsErr result }
 {
+    if !has_memory {
+        return Err(ParseFault::OutOfMemory);
+    }
     Err(ParseFault::Text {
         source_map,
         span: Span::new(13, 18),
@@ -32,27 +37,33 @@ fn unreadable(
     })
 }
 
-/// Where the text of a file can't be read, and how it is told.
-fn fault(rt: &impl Abort, alloc: Global, resolve: &mut Resolve) -> String {
+/// Where the text of a file can't be read, or the number of the refusal, and how it is told.
+fn fault(rt: &impl Abort, alloc: Global, resolve: &mut Resolve, has_memory: bool) -> String {
     let contents = "package a:b;\nworld w {}\n";
-    let parse = |source_map: SourceMap| unreadable(rt, alloc, source_map);
+    let parse = |source_map: SourceMap| unreadable(rt, alloc, source_map, has_memory);
     let Err(fault) = resolve.push_source(alloc, "m.wit", contents, parse) else {
         panic!(rt; "a package");
     };
     let shown = resolve.render_error(alloc, &fault).expect(rt, "memory");
-    let (start, end) = match fault {
-        SourceFault::Parse { span, .. } => (span.start(), span.end()),
-        SourceFault::Resolve(_) => (0, 0),
-    };
-    format!(in alloc; "{start}-{end} {shown}\n").expect(rt, "memory")
+    match fault {
+        SourceFault::Parse { span, .. } => {
+            let (start, end) = (span.start(), span.end());
+            format!(in alloc; "{start}-{end} {shown}\n").expect(rt, "memory")
+        }
+        SourceFault::Resolve(refusal) => {
+            let number = refusal.number();
+            format!(in alloc; "{number} {shown}\n").expect(rt, "memory")
+        }
+    }
 }
 
-/// What comes of two such files.
+/// What comes of two such files, and of one for which there is no memory.
 fn faults(rt: &impl Abort, alloc: Global) -> String {
     let mut resolve = Resolve::new(alloc);
-    let first = fault(rt, alloc, &mut resolve);
-    let second = fault(rt, alloc, &mut resolve);
-    format!(in alloc; "{first}{second}").expect(rt, "memory")
+    let first = fault(rt, alloc, &mut resolve, true);
+    let second = fault(rt, alloc, &mut resolve, true);
+    let third = fault(rt, alloc, &mut resolve, false);
+    format!(in alloc; "{first}{second}{third}").expect(rt, "memory")
 }
 
 #[test]
@@ -69,8 +80,27 @@ fn faults_stand_in_the_files_that_follow(rt: HostRuntime) {
         \x20    --> m.wit:2:1\n\
         \x20     |\n\
         \x20   2 | world w {}\n\
-        \x20     | ^----\n",
+        \x20     | ^----\n\
+        28 out of memory\n",
     );
+}
+
+/// The function of the interface, at its place in the file.
+fn functions(rt: &impl Abort, alloc: Global) -> Names<Function> {
+    let function = Function {
+        name: text(rt, alloc, "second-func"),
+        kind: FunctionKind::Freestanding,
+        params: Items::new(alloc),
+        result_: None,
+        docs: Docs::none(),
+        stability: Stability::Unknown,
+        span: Span::new(51, 62),
+        external_id: None,
+    };
+    let name = String::from_str(alloc, "second-func").expect(rt, "memory");
+    let mut functions = Names::new(alloc);
+    functions.push(name, function).expect(rt, "memory");
+    functions
 }
 
 /// An interface, at its place in the file.
@@ -78,7 +108,7 @@ fn interface(rt: &impl Abort, alloc: Global) -> Interface {
     Interface {
         name: Some(text(rt, alloc, "second-iface")),
         types: Names::new(alloc),
-        functions: Names::new(alloc),
+        functions: functions(rt, alloc),
         docs: Docs::none(),
         stability: Stability::Unknown,
         package: None,
@@ -126,7 +156,8 @@ fn parsed(
 
 const FIRST: &str = "package test:first;\n\ninterface first-iface {\n    first-func: func();\n}\n";
 
-const SECOND: &str = "package test:second;\n\ninterface second-iface {}\n";
+const SECOND: &str =
+    "package test:second;\n\ninterface second-iface {\n    second-func: func();\n}\n";
 
 /// A file before which nothing stands.
 fn file(rt: &impl Abort, alloc: Global, path: &str, contents: &str) -> SourceMap {
@@ -136,32 +167,55 @@ fn file(rt: &impl Abort, alloc: Global, path: &str, contents: &str) -> SourceMap
     map
 }
 
-/// The package of the second file after the first one.
-fn second_package(rt: &impl Abort, alloc: Global) -> Resolve {
-    let mut resolve = Resolve::new(alloc);
-    let first = file(rt, alloc, "first.wit", FIRST);
-    resolve.push_source_map(alloc, first).expect(rt, "memory");
+/// Pushes the package of the second file.
+fn push_second(rt: &impl Abort, alloc: Global, resolve: &mut Resolve) {
     let parse = |source_map: SourceMap| parsed(rt, alloc, source_map);
     resolve
         .push_source(alloc, "second.wit", SECOND, parse)
         .expect(rt, "a package");
+}
+
+/// The package of the second file after the first one: pushed there, or merged.
+fn second_package(rt: &impl Abort, alloc: Global, is_merged: bool) -> Resolve {
+    let mut resolve = Resolve::new(alloc);
+    let first = file(rt, alloc, "first.wit", FIRST);
+    resolve.push_source_map(alloc, first).expect(rt, "memory");
+    if is_merged {
+        let mut other = Resolve::new(alloc);
+        push_second(rt, alloc, &mut other);
+        drop(resolve.merge(alloc, other).expect(rt, "a merge"));
+    } else {
+        push_second(rt, alloc, &mut resolve);
+    }
     resolve
 }
 
-/// Where the interface stands.
-fn place(rt: &impl Abort, alloc: Global) -> String {
-    let resolve = second_package(rt, alloc);
+/// Where the interface and its function stand.
+fn places(rt: &impl Abort, alloc: Global, is_merged: bool) -> String {
+    let resolve = second_package(rt, alloc, is_merged);
     let interface = resolve.interfaces().first().expect(rt, "an interface");
-    let (start, end) = (interface.span.start(), interface.span.end());
-    let shown = resolve
-        .render_location(alloc, interface.span)
-        .expect(rt, "memory");
-    format!(in alloc; "{start}-{end} {shown}").expect(rt, "memory")
+    let function = interface
+        .functions
+        .get("second-func")
+        .expect(rt, "a function");
+    let mut told = String::new(alloc);
+    for &span in &[interface.span, function.span] {
+        let (start, end) = (span.start(), span.end());
+        let shown = resolve.render_location(alloc, span).expect(rt, "memory");
+        write!(told, "{start}-{end} {shown};").expect(rt, "memory");
+    }
+    told
 }
 
 #[test]
 fn spans_move_with_their_file(rt: HostRuntime) {
-    assert_told(&rt, place(&rt, rt.alloc()), "104-116 second.wit:3:11");
+    for is_merged in [false, true] {
+        assert_told(
+            &rt,
+            places(&rt, rt.alloc(), is_merged),
+            "104-116 second.wit:3:11;123-134 second.wit:4:5;",
+        );
+    }
 }
 
 /// The files of these paths.
