@@ -120,6 +120,23 @@ def resources(size):
     yield "push"
 
 
+def handed_on(size):
+    """A resource with aliases that each name the one before, and a package that takes each of them as a value and the last one in handles."""
+    yield "package foo:p"
+    yield "interface a"
+    yield "resource t0"
+    for number in range(1, size):
+        yield f"type t{number} t{number - 1}"
+    yield "push"
+    yield "package foo:q"
+    yield "interface b"
+    for number in range(size):
+        yield f"use foo:p/a t{number}"
+        yield f"type h{number} borrow<t{size - 1}>"
+        yield f"func f{number}(x:t{number})"
+    yield "push"
+
+
 def members(size):
     yield "package foo:p0"
     yield "interface a"
@@ -192,7 +209,7 @@ def merges(size):
 
 KINDS = {
     it.__name__: it
-    for it in (chain, separate, worlds, aliases, nested, fields, includes, renames, resources, groups, pushes, tracks, merges)
+    for it in (chain, separate, worlds, aliases, nested, fields, includes, renames, resources, handed_on, groups, pushes, tracks, merges)
 }
 
 

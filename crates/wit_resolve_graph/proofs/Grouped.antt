@@ -36,9 +36,10 @@ use Rattle.wit_placing.specs.Grown.{Begins}
 use Rattle.wit_placing.specs.GrownFacts.{Begins-then}
 use Rattle.wit_resolve_graph.specs.Grouping.{AreAdded}
 use Rattle.wit_resolve_graph.specs.State.{State}
-use Rattle.wit_resolve_graph.specs.Step.{HasFilesAfter, PushesGroups, RefusesGroups, with_files}
+use Rattle.wit_resolve_graph.specs.Step.{PushesGroups, RefusesGroups, with_files}
 use Rattle.wit_resolve_graph.proofs.OneOrder.{Differ, one_place, one_sorted}
 use Rattle.wit_resolve_graph.proofs.RunsKeep.{keeps_pushes, keeps_worlds}
+use Rattle.wit_resolve_graph.proofs.FilesAfter.{files_after, files_stay}
 
 abbrev Group : Type 0
 Group = UnresolvedPackageGroup
@@ -302,20 +303,7 @@ one_refused features g handed sorted sortable is kind (inl cause) = absurd (sort
 one_refused features g handed sorted sortable is kind (inr cause) =
     subst (λ (l : List Handed). IsOneRefused features g l kind) (one_sorted handed (differ handed sortable) cause.order is.0 cause.sorted sorted cause.are_sorted is.1) cause.refused
 
--- ---- the files after a refusal
-
--- they are at the end after a refusal that is not for a position
-pub files_after : (error : ResolveErrorKind) (old : Sources) (groups : List Group) (new : Sources) → (error ≡ OffsetOverflow → ⊥) → new ≡ with_files old groups → HasFilesAfter error old groups new
-files_after OffsetOverflow old groups new other files = absurd (other refl)
-files_after OutOfMemory old groups new other files = inr files
-files_after _ old groups new other files = files
-
--- nothing has changed after a refusal for a position or for memory
-pub files_stay : (error : ResolveErrorKind) (old : Sources) (groups : List Group) (new : Sources) → (error ≡ OutOfMemory) ⊎ (error ≡ OffsetOverflow) → new ≡ old → HasFilesAfter error old groups new
-files_stay OffsetOverflow old groups new other files = files
-files_stay OutOfMemory old groups new other files = inl files
-files_stay _ old groups new (inl memory) files = cc
-files_stay _ old groups new (inr far) files = cc
+-- ---- files that pass the end
 
 passing_is : (at : ℕ) (groups : List Group) (error : ResolveErrorKind) → FilesPassTheEnd at groups error → (error ≡ OffsetOverflow) × (2 ^ 32 ≤ files_end at groups)
 passing_is at groups OffsetOverflow far = (refl, far)
@@ -402,7 +390,7 @@ module _ (old : State) (main : Group) (deps : List Group) (packages : List Hande
     graph = graph;
     features = features;
     rule = rule;
-    files = files_after kind old.source_map (main ∷ deps) new.source_map (λ e. other (ap Err e)) files;
+    files = files_after kind old.source_map (with_files old.source_map (main ∷ deps)) new.source_map (λ e. other (ap Err e)) files;
   }
 
   -- or they are taken back
@@ -411,7 +399,7 @@ module _ (old : State) (main : Group) (deps : List Group) (packages : List Hande
   takes_back new (Ok id) far graph features rule files cause = tt
   takes_back new (Err kind) far graph features rule files cause =
       let overflow : kind ≡ OffsetOverflow = cc in
-      record { cause = groups_cause kind cause; graph = graph; features = features; rule = rule; files = files_stay kind old.source_map (main ∷ deps) new.source_map (inr overflow) files }
+      record { cause = groups_cause kind cause; graph = graph; features = features; rule = rule; files = files_stay kind old.source_map (with_files old.source_map (main ∷ deps)) new.source_map (inr overflow) files }
 
   -- what speaks against the groups refuses them
   pub must_refuse : (P : Type 0) → files_end old.source_map.end (main ∷ deps) < 2 ^ 32 → ((kind : ResolveErrorKind) → Speaks packages kind → P)

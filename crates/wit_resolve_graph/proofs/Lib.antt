@@ -1,4 +1,5 @@
 mod EmptyGraph
+mod FilesAfter
 mod Grouped
 mod KeptRows
 mod Merged

@@ -12,21 +12,11 @@ use Rattle.wit_merging.specs.Matches.{Merging}
 use Rattle.wit_merging.specs.Moved.{going}
 use Rattle.wit_merging.specs.United.{united}
 use Rattle.wit_comparing.specs.Differing.{merging_by}
-use Rattle.wit_resolve_graph.specs.Merging.{FilesPass, HasSourcesAfter, Merges, RefusesMerge, answered, merging}
+use Rattle.wit_resolve_graph.specs.Merging.{FilesPass, Merges, RefusesMerge, answered, merging}
 use Rattle.wit_resolve_graph.specs.State.{State}
+use Rattle.wit_resolve_graph.proofs.FilesAfter.{files_after, files_stay}
 
--- ---- the files after a refusal
-
--- they are at the end after a refusal that is not for a position
-sources_after : (error : ResolveErrorKind) (old added new : Sources) → (error ≡ OffsetOverflow → ⊥) → new ≡ added → HasSourcesAfter error old added new
-sources_after OffsetOverflow old added new other files = absurd (other refl)
-sources_after OutOfMemory old added new other files = inr files
-sources_after _ old added new other files = files
-
--- they are those that were there after one for a position
-sources_stay : (error : ResolveErrorKind) (old added new : Sources) → error ≡ OffsetOverflow → new ≡ old → HasSourcesAfter error old added new
-sources_stay OffsetOverflow old added new far files = files
-sources_stay _ old added new far files = cc
+-- ---- the files
 
 -- those that were there are left where the others are cut off
 pub cut_back : (old added now : Sources) (n end : ℕ) → now ≡ with_sources old added → n ≡ length old.files → end ≡ old.end → record { files = take n now.files; end = end } ≡ old
@@ -85,7 +75,7 @@ module _ (old other : State) (g : Graph) (offset : ℕ) (same : g ≡ other.grap
     graph = graph;
     features = features;
     rule = rule;
-    files = sources_after kind old.source_map (with_sources old.source_map other.source_map) new.source_map (λ far. apart (ap Err far)) files;
+    files = files_after kind old.source_map (with_sources old.source_map other.source_map) new.source_map (λ far. apart (ap Err far)) files;
   }
 
   -- or they are taken back
@@ -99,5 +89,5 @@ module _ (old other : State) (g : Graph) (offset : ℕ) (same : g ≡ other.grap
         graph = graph;
         features = features;
         rule = rule;
-        files = sources_stay kind old.source_map (with_sources old.source_map other.source_map) new.source_map overflow files;
+        files = files_stay kind old.source_map (with_sources old.source_map other.source_map) new.source_map (inr overflow) files;
       }

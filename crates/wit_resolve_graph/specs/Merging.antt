@@ -34,8 +34,8 @@ pub record Merges (old other : State) (remap : Remap) (new : State) : Type 0 whe
   pub files : new.source_map ≡ with_sources old.source_map other.source_map
   pub remap_is : remap ≡ answered (going (merging old other))
 
--- where files are after a refusal, given where they would be: there, but after a position that is too large nowhere, and
--- after want of memory there or not
+-- where files are after a refusal, given the sources with those that come: at the end, but after a position that is too
+-- large nowhere, and after want of memory there or not
 abbrev pub HasSourcesAfter : ResolveErrorKind → Sources → Sources → Sources → Type 0
 HasSourcesAfter OffsetOverflow old added new = new ≡ old
 HasSourcesAfter OutOfMemory old added new = (new ≡ old) ⊎ (new ≡ added)

@@ -12,12 +12,12 @@ use Rattle.wit_graph.specs.declared.graph.Graph.{Graph}
 use Rattle.wit_graph.specs.Entries.{Entry}
 use Rattle.wit_graph.specs.IdText.{key_text}
 use Rattle.wit_graph.specs.declared.error_kind.ResolveErrorKind.{ResolveErrorKind}
-use Rattle.wit_graph.specs.declared.error_kind.ResolveErrorKind.TheVariants.{OffsetOverflow, OutOfMemory}
+use Rattle.wit_graph.specs.declared.error_kind.ResolveErrorKind.TheVariants.{OutOfMemory}
 use Rattle.wit_graph.specs.declared.features.Features.{Features}
 use Rattle.wit_link.specs.Groups.{IsGroupsCause, files_end, packages_of}
 use Rattle.wit_link.specs.Several.{ArePushed}
 use Rattle.wit_sorting.specs.Sorting.{AreSorted, Handed, IsSortCause}
-use Rattle.wit_resolve_graph.specs.Merging.{Merges, RefusesMerge}
+use Rattle.wit_resolve_graph.specs.Merging.{HasSourcesAfter, Merges, RefusesMerge}
 use Rattle.wit_resolve_graph.specs.Named.{HasWorld}
 use Rattle.wit_tracks.specs.Rewritten.{rewritten}
 use Rattle.wit_tracks.specs.TrackCause.{IsTrackCause}
@@ -60,20 +60,13 @@ pub record PushesGroups (old : State) (main : UnresolvedPackageGroup) (deps : Li
   pub rule : new.track_rule ≡ old.track_rule
   pub files : new.source_map ≡ with_files old.source_map (main ∷ deps)
 
--- where files are after a refusal: at the end, but after a position that is too large nowhere, and after
--- want of memory there or not
-abbrev pub HasFilesAfter : ResolveErrorKind → Sources → List UnresolvedPackageGroup → Sources → Type 0
-HasFilesAfter OffsetOverflow old groups new = new ≡ old
-HasFilesAfter OutOfMemory old groups new = (new ≡ old) ⊎ (new ≡ with_files old groups)
-HasFilesAfter _ old groups new = new ≡ with_files old groups
-
 -- the addition of groups is refused with this error
 pub record RefusesGroups (old : State) (main : UnresolvedPackageGroup) (deps : List UnresolvedPackageGroup) (error : ResolveErrorKind) (new : State) : Type 0 where
   pub cause : (error ≡ OutOfMemory) ⊎ IsGroupsCause old.features old.graph old.source_map.end (main ∷ deps) error
   pub graph : new.graph ≡ old.graph
   pub features : new.features ≡ old.features
   pub rule : new.track_rule ≡ old.track_rule
-  pub files : HasFilesAfter error old.source_map (main ∷ deps) new.source_map
+  pub files : HasSourcesAfter error old.source_map (with_files old.source_map (main ∷ deps)) new.source_map
 
 -- ---- commands on a world
 

@@ -173,7 +173,7 @@ fn exportize(
     out: Option<Text>,
     keys: Option<Items<Text>>,
 ) -> Result<String, AllocError>
-    ensures { IfOk result (λ text. Works Run reply_text stage.old (Exportize package world out keys) (string_bytes text) stage.new) }
+    ensures { IfOk result (λ text. Works Run reply_text stage.old (Exportize «package» world out keys) (string_bytes text) stage.new) }
 {
     let command = Command::Exportize {
         package,
