@@ -1,2 +1,4 @@
 mod Apart
+mod Chained
+mod TakenNames
 mod Turned

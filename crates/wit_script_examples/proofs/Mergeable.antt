@@ -24,7 +24,7 @@ use Rattle.wit_script_examples.specs.SmallGraphs.{bare, gate, gated}
 no_pair : {X : Type 0} (found : ℕ → Option ℕ) (ours : List X) → Pair found [] ours → ⊥
 no_pair found ours p = let is = p.from_is in cc
 
-the_one : {X : Type 0} (first x : X) (k : ℕ) → slice_get (first ∷ []) k ≡ Some x → first ≡ x
+pub the_one : {X : Type 0} (first x : X) (k : ℕ) → slice_get (first ∷ []) k ≡ Some x → first ≡ x
 the_one first x zero at = cc
 the_one first x (suc k) at = cc
 

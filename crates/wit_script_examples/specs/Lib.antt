@@ -4,4 +4,5 @@ pub mod OtherExamples
 pub mod PackageExamples
 pub mod ScriptExamples
 pub mod SmallGraphs
+pub mod SourceExamples
 pub mod StepExamples

@@ -1,9 +1,10 @@
-//! What lines, packages and scripts say, and what isn't understood.
+//! What lines, packages and scripts say, what isn't understood, and what comes of commands and of sources.
 ghost use Rattle.wit_script_examples.specs.LineExamples.{ExamplesOfLines};
 ghost use Rattle.wit_script_examples.specs.MergeExamples.{ExamplesOfMerges, ExamplesOfRefusedMerges};
 ghost use Rattle.wit_script_examples.specs.OtherExamples.{ExamplesOfMergeLines, ExamplesOfOtherLines};
 ghost use Rattle.wit_script_examples.specs.PackageExamples.{ExamplesOfPackages};
 ghost use Rattle.wit_script_examples.specs.ScriptExamples.{ExamplesOfScripts};
+ghost use Rattle.wit_script_examples.specs.SourceExamples.{ExamplesOfNoSources, ExamplesOfParsed, ExamplesOfPushedSources, ExamplesOfRefusedSources};
 ghost use Rattle.wit_script_examples.specs.StepExamples.{ExamplesOfAnswers, ExamplesOfSteps};
 
 use wit_tracks_examples::causes::examples_of_causes;
@@ -60,4 +61,24 @@ pub fn examples_of_other_lines()
 /// What it answers to `merge`, and which graphs are there then.
 pub fn examples_of_merge_lines()
     ensures { ExamplesOfMergeLines }
+{}
+
+/// Files that no parse is given, and what is told of them.
+pub fn examples_of_no_sources()
+    ensures { ExamplesOfNoSources }
+{}
+
+/// What comes of what a parse answers.
+pub fn examples_of_parsed()
+    ensures { ExamplesOfParsed }
+{}
+
+/// Sources that are pushed with their parse, and what isn't pushed.
+pub fn examples_of_pushed_sources()
+    ensures { ExamplesOfPushedSources }
+{}
+
+/// Sources that are refused, and what is left then.
+pub fn examples_of_refused_sources()
+    ensures { ExamplesOfRefusedSources }
 {}

@@ -1,0 +1,87 @@
+-- The chain with a type in its world: what is in conflict, and where a type would be exported.
+use Rattle.std.proofs.Common.{◌≡◌, ℕ, true, false, List, [], ◌∷◌, None, Some, codes, refl, sym, ap, subst, arith, inl, inr, Contains}
+use Rattle.wit_relations.specs.MemberFacts.{Contains-here, Contains-nil, Contains-there}
+use Rattle.wit_relations.specs.Relation.{direct}
+use Rattle.wit_sources.specs.Span.{Place}
+use Rattle.wit_items.specs.declared.world.World.{World}
+use Rattle.wit_items.specs.declared.world.WorldKey.TheVariants as key
+use Rattle.wit_graph.specs.Elaboration.{graph_uses}
+use Rattle.wit_graph.specs.Entries.{Entry}
+use Rattle.wit_graph.specs.Imported.{HasConflict, IsInConflict, IsRefusedName, exported_keys}
+use Rattle.wit_graph.specs.Samples.{entry_of, world_of}
+use Rattle.wit_graph.specs.declared.cause.Cause.TheVariants.{TypeExported}
+use Rattle.wit_graph.specs.declared.error_kind.ResolveErrorKind.TheVariants.{InvalidTransitiveDependency, Semantic}
+use Rattle.wit_graph.specs.declared.graph.Package.{Package}
+use Rattle.wit_growth.specs.OptionFacts.{some_same}
+use Rattle.wit_growth.specs.TestFacts.{one_of_two, only_one}
+use Rattle.wit_unite.specs.TurnCause.{ExportizeCause, HasTypeAt, IsTaken, export_conflict, exportized_taken, type_exported, type_exported_text}
+use Rattle.wit_unite.specs.TurnExamples.{a, b}
+use Rattle.wit_unite.specs.Turned.{exportized}
+use Rattle.wit_graph_examples.proofs.TakenNames.{not_taken}
+use Rattle.wit_graph_examples.specs.ReasonsOfTurns.{ExamplesOfConflictsBesideTypes, chain_with_k, ends_and, k}
+
+abbrev c : Entry
+c = entry_of 2
+
+abbrev world_w : World
+world_w = world_of (codes "w") (a ∷ b ∷ c ∷ k ∷ []) []
+
+-- ---- the conflict
+
+b_outside : Contains (exported_keys (a ∷ c ∷ [])) 1 → ⊥
+b_outside has = elim (one_of_two 0 2 1 has) [ inl same ↦ absurd (omega (arith, same)) | inr same ↦ absurd (omega (arith, same)) ]
+
+ends_conflict : HasConflict (graph_uses chain_with_k) (a ∷ c ∷ [])
+ends_conflict = (0, (2, 1, Contains-there 0 2 (2 ∷ []) (Contains-here 2 []), Contains-here 1 [], b_outside, (0 ∷ [], (Contains-here 0 [], refl))), Contains-here 0 (2 ∷ []))
+
+c_leads : IsInConflict (graph_uses chain_with_k) (a ∷ c ∷ []) c
+c_leads = (2, Contains-here 2 [], (1, 1, Contains-here 1 [], ([], refl), b_outside, (0, (0 ∷ [], (Contains-here 0 [], refl)), Contains-here 0 (2 ∷ []))))
+
+from_a : IsInConflict (graph_uses chain_with_k) (a ∷ c ∷ []) a → ⊥
+from_a leads = Contains-nil (subst (λ (i : ℕ). Contains (direct (graph_uses chain_with_k) i) leads.2.0) (sym (only_one 0 leads.0 leads.1)) leads.2.2)
+
+a_safe : (f : Entry) → Contains (a ∷ []) f → IsInConflict (graph_uses chain_with_k) (a ∷ c ∷ []) f → ⊥
+a_safe f has conflict = from_a (subst (λ (e : Entry). IsInConflict (graph_uses chain_with_k) (a ∷ c ∷ []) e) (sym (only_one a f has)) conflict)
+
+refused_c : IsRefusedName chain_with_k.packages chain_with_k.interfaces (graph_uses chain_with_k) (a ∷ c ∷ []) (codes "foo:bar/c")
+refused_c = (key.Interface 2, (a ∷ [], c, [], refl, a_safe, c_leads, refl), refl)
+
+-- ---- what else could be told
+
+no_type_there : (label : List ℕ) → HasTypeAt (a ∷ c ∷ []) label → ⊥
+no_type_there label has = elim (one_of_two a c _ has.2) [
+  | inl same ↦ let keys = ap (λ (e : Entry). e.0) same in cc
+  | inr same ↦ let keys = ap (λ (e : Entry). e.0) same in cc
+]
+
+x_is_free : (home : Package) → IsTaken chain_with_k 0 world_w (codes "x") home → ⊥
+x_is_free home taken = not_taken chain_with_k 0 0 world_w (codes "x") _ home refl refl refl taken
+
+k_there : HasTypeAt (a ∷ c ∷ k ∷ []) (codes "k")
+k_there = (3, None, Contains-there a k (c ∷ k ∷ []) (Contains-there c k (k ∷ []) (Contains-here k [])))
+
+no_type_told : (world : World) (label : List ℕ) → world_w ≡ world
+    → ExportizeCause chain_with_k 0 world (exportized (ends_and false) (Some (codes "x")) world) (Semantic None (type_exported_text label) TypeExported) → ⊥
+no_type_told world label same cause =
+    elim (subst (λ (x : World). ExportizeCause chain_with_k 0 x (exportized (ends_and false) (Some (codes "x")) x) (Semantic None (type_exported_text label) TypeExported)) (sym same) cause) [
+      | export_conflict name free types conflict refused is ↦ cc
+      | exportized_taken home taken is ↦ cc
+      | type_exported other has is ↦ no_type_there other has
+    ]
+
+no_conflict_told : (world : World) (span : Place) (name : List ℕ) → world_w ≡ world
+    → ExportizeCause chain_with_k 0 world (exportized (ends_and true) (Some (codes "x")) world) (InvalidTransitiveDependency span name) → ⊥
+no_conflict_told world span name same cause =
+    elim (subst (λ (x : World). ExportizeCause chain_with_k 0 x (exportized (ends_and true) (Some (codes "x")) x) (InvalidTransitiveDependency span name)) (sym same) cause) [
+      | export_conflict n free types conflict refused is ↦ types (codes "k") k_there
+      | exportized_taken home taken is ↦ cc
+      | type_exported label has is ↦ cc
+    ]
+
+pub conflicts_are : ExamplesOfConflictsBesideTypes
+conflicts_are = record {
+  conflict = (world_w, refl, export_conflict (codes "foo:bar/c") x_is_free no_type_there ends_conflict refused_c refl);
+  no_type = λ label cause. no_type_told cause.0 label (some_same _ _ cause.1) cause.2;
+  type_exported = (world_w, refl, type_exported (codes "k") k_there refl);
+  type_before = λ span name cause. no_conflict_told cause.0 span name (some_same _ _ cause.1) cause.2;
+}
