@@ -33,7 +33,7 @@ fn labelled(
     (WorldKey::Name(text(rt, alloc, label)), item)
 }
 
-/// The entry of an interface under its own key, with as much, its external id among it.
+/// The same under the key of the interface itself, with this external id.
 fn keyed(
     rt: &impl Abort,
     alloc: Global,
