@@ -45,7 +45,7 @@ fn fault(rt: &impl Abort, alloc: Global, resolve: &mut Resolve, has_memory: bool
         panic!(rt; "a package");
     };
     let shown = resolve.render_error(alloc, &fault).expect(rt, "memory");
-    match fault {
+    match &fault {
         SourceFault::Parse { span, .. } => {
             let (start, end) = (span.start(), span.end());
             format!(in alloc; "{start}-{end} {shown}\n").expect(rt, "memory")
