@@ -130,9 +130,10 @@ def handed_on(size):
     yield "push"
     yield "package foo:q"
     yield "interface b"
+    yield f"use foo:p/a t{size - 1} last"
     for number in range(size):
         yield f"use foo:p/a t{number}"
-        yield f"type h{number} borrow<t{size - 1}>"
+        yield f"type h{number} borrow<last>"
         yield f"func f{number}(x:t{number})"
     yield "push"
 
