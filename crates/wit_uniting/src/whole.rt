@@ -1,12 +1,15 @@
 //! Another graph goes into a graph.
-ghost use Rattle.std.specs.Prelude.{◌≡◌, ◌⊎◌, IfErr, IfOk, OnOk};
+ghost use Rattle.std.specs.Prelude.{◌≡◌, ◌⊎◌, ℕ, IfErr, IfOk, List, OnOk};
 ghost use Rattle.wit_graph.specs.Valid.{IsValid};
 ghost use Rattle.wit_graph.specs.declared.error_kind.ResolveErrorKind.{ResolveErrorKind};
 ghost use Rattle.wit_graph.specs.declared.error_kind.ResolveErrorKind.TheVariants.{OutOfMemory};
 ghost use Rattle.wit_comparing.specs.Differing.{merging_by};
+ghost use Rattle.wit_matching.specs.Found.{AreMatches};
 ghost use Rattle.wit_matching.specs.Going.{going_of};
 ghost use Rattle.wit_merging.specs.Cause.{IsMergeCause};
-ghost use Rattle.wit_merging.specs.United.{united};
+ghost use Rattle.wit_merging.specs.Reasons.{ReturnsBorrow};
+ghost use Rattle.wit_merging.specs.United.{joined_graph, united};
+ghost use Rattle.wit_uniting.specs.Agreeing.{DoAgree};
 
 use crate::agreement::check_agreement;
 use crate::joined::joined_graph;
@@ -17,7 +20,7 @@ use crate::uniting::Uniting;
 use std::alloc::Global;
 use wit_adding::Values;
 use wit_graph::{Graph, ResolveResult};
-use wit_matching::{Going, find_matches, find_places};
+use wit_matching::{Going, Matches, find_matches, find_places};
 use wit_merging_laws::laws::unions_stay_valid;
 use wit_settling::settle;
 
@@ -45,25 +48,47 @@ pub fn unite(alloc: Global, graph: &Graph, other: &Graph, offset: u32) -> Resolv
     let matches = find_matches(alloc, graph, other)?;
     check_agreement(alloc, graph, other, &matches, offset)?;
     let going = find_places(alloc, graph, other, &matches)?;
-    let Values {
-        places: value_places,
-        owns,
-    } = values(alloc, graph, other, &matches, &going, offset)?;
-    let partners = partners(alloc, &matches.interfaces, graph.interfaces.len())?;
-    let uniting = Uniting {
-        graph,
-        other,
-        matches: &matches,
-        going: &going,
-        values: &value_places,
-        partners: &partners,
-        offset,
-    };
-    let mut joined = joined_graph(alloc, &uniting, owns)?;
-    check_results(alloc, &uniting, joined.types.as_slice())?;
+    let mut joined = as_listed(alloc, graph, other, &matches, &going, offset)?;
     settle(alloc, &mut joined)?;
     Ok(United {
         graph: joined,
         going,
     })
+}
+
+/// The two graphs as one, as they are listed, where no function that comes returns a borrow (15).
+fn as_listed(
+    alloc: Global,
+    graph: &Graph,
+    other: &Graph,
+    matches: &Matches,
+    going: &Going,
+    offset: u32,
+) -> ResolveResult<Graph>
+    requires valid { IsValid graph.now }
+    requires other { IsValid other.now }
+    requires agree { DoAgree (merging_by graph.now other.now offset) }
+    requires matches { AreMatches graph.now other.now matches.now }
+    requires going { going.now ≡ going_of (merging_by graph.now other.now offset) }
+    ensures joined { IfOk result (λ joined. joined ≡ joined_graph (merging_by graph.now other.now offset)) }
+    ensures none { OnOk result ((message : List ℕ) → ReturnsBorrow (merging_by graph.now other.now offset) message → ⊥) }
+    ensures cause { IfErr result (λ e. (e ≡ OutOfMemory) ⊎ IsMergeCause (merging_by graph.now other.now offset) e) }
+{
+    let Values {
+        places: value_places,
+        owns,
+    } = values(alloc, graph, other, matches, going, offset)?;
+    let partners = partners(alloc, &matches.interfaces, graph.interfaces.len())?;
+    let uniting = Uniting {
+        graph,
+        other,
+        matches,
+        going,
+        values: &value_places,
+        partners: &partners,
+        offset,
+    };
+    let joined = joined_graph(alloc, &uniting, owns)?;
+    check_results(alloc, &uniting, joined.types.as_slice())?;
+    Ok(joined)
 }

@@ -5,51 +5,20 @@ use Rattle.wit_graph.specs.declared.error_kind.ResolveErrorKind.{ResolveErrorKin
 use Rattle.wit_graph.specs.declared.error_kind.ResolveErrorKind.TheVariants.{OutOfMemory}
 use Rattle.wit_comparing.specs.Differing.{merging_by}
 use Rattle.wit_merging.specs.Cause.{CanMerge, IsMergeCause}
-use Rattle.wit_uniting.proofs.Outcome.{all_fit, borrow_told, is_united, nothing_speaks, settle_told, settles}
+use Rattle.wit_uniting.proofs.Outcome.{is_united, nothing_speaks, settle_told, settles}
 use Rattle.wit_uniting.proofs.whole.unite.Goals as goal
 
-pub joined_graph-requires-clause-ready : goal.joined_graph-requires-clause-ready
-joined_graph-requires-clause-ready c =
-    let agree = c.in_ok-check_agreement.ensures.agree in
-    let small : c.args.offset < 2 ^ 32 = c.ranges.offset.fits in
-    record {
-      valid = c.requires.valid;
-      valid_other = c.requires.other;
-      one = agree.one;
-      matches = c.in_ok-matches.ensures;
-      going = c.in_ok-going.ensures;
-      values = c.in_ok-value_places.ensures.0;
-      partners = rw c.len.ensures at c.in_ok-partners.ensures;
-      fits = all_fit (merging_by c.args.graph.now c.args.other.now c.args.offset) small agree.spans;
-    }
-
-pub check_results-requires-clause-ready : goal.check_results-requires-clause-ready
-check_results-requires-clause-ready c =
-    let agree = c.in_ok-check_agreement.ensures.agree in
-    let small : c.args.offset < 2 ^ 32 = c.ranges.offset.fits in
-    record {
-      valid = c.requires.valid;
-      valid_other = c.requires.other;
-      one = agree.one;
-      matches = c.in_ok-matches.ensures;
-      going = c.in_ok-going.ensures;
-      values = c.in_ok-value_places.ensures.0;
-      partners = rw c.len.ensures at c.in_ok-partners.ensures;
-      fits = all_fit (merging_by c.args.graph.now c.args.other.now c.args.offset) small agree.spans;
-    }
-
-pub returns-in_err-check_results-clause-cause : goal.returns-in_err-check_results-clause-cause
-returns-in_err-check_results-clause-cause c =
+pub returns-in_err-joined-clause-cause : goal.returns-in_err-joined-clause-cause
+returns-in_err-joined-clause-cause c =
     let m = merging_by c.args.graph.now c.args.other.now c.args.offset in
-    told_err c.from_residual-in_err-check_results.result c.from_residual-in_err-check_results.ensures.1
+    told_err c.from_residual-in_err-joined.result c.from_residual-in_err-joined.ensures.1
     (λ e is.
-    let same : e ≡ c.in_err-check_results.field-0.0 = is in
-    subst (λ (x : ResolveErrorKind). (x ≡ OutOfMemory) ⊎ IsMergeCause m x) (sym same)
-    (borrow_told m c.in_ok-check_agreement.ensures.agree.one c.in_err-check_results.field-0.0 c.in_err-check_results.ensures.cause))
+    let same : e ≡ c.in_err-joined.field-0.0 = is in
+    subst (λ (x : ResolveErrorKind). (x ≡ OutOfMemory) ⊎ IsMergeCause m x) (sym same) c.in_err-joined.ensures.cause)
 
 pub settle-requires : goal.settle-requires
 settle-requires c =
-    settles (merging_by c.args.graph.now c.args.other.now c.args.offset) c.requires.valid c.requires.other c.in_ok-check_agreement.ensures.agree.one c.in_ok-joined.joined c.in_ok-joined.ensures
+    settles (merging_by c.args.graph.now c.args.other.now c.args.offset) c.requires.valid c.requires.other c.in_ok-check_agreement.ensures.agree.one c.in_ok-joined.joined c.in_ok-joined.ensures.joined
 
 pub returns-in_err-settle-clause-cause : goal.returns-in_err-settle-clause-cause
 returns-in_err-settle-clause-cause c =
@@ -58,18 +27,21 @@ returns-in_err-settle-clause-cause c =
     (λ e is.
     let same : e ≡ c.in_err-settle.field-0.0 = is in
     subst (λ (x : ResolveErrorKind). (x ≡ OutOfMemory) ⊎ IsMergeCause m x) (sym same)
-    (settle_told m c.requires.valid c.requires.other c.in_ok-check_agreement.ensures.agree.one c.in_ok-joined.joined c.in_ok-joined.ensures c.in_err-settle.field-0.0 c.in_err-settle.ensures.cause))
+    (settle_told m c.requires.valid c.requires.other c.in_ok-check_agreement.ensures.agree.one c.in_ok-joined.joined c.in_ok-joined.ensures.joined c.in_err-settle.field-0.0 c.in_err-settle.ensures.cause))
 
 pub returns-clause-valid : goal.returns-clause-valid
 returns-clause-valid c =
     let m = merging_by c.args.graph.now c.args.other.now c.args.offset in
     let agree = c.in_ok-check_agreement.ensures.agree in
-    let can : CanMerge m = nothing_speaks m c.requires.valid c.requires.other agree.one c.in_ok-joined.joined c.in_ok-joined.ensures agree c.in_ok-check_results.ensures.none c.in_ok-settle.ensures.refuses in
-    subst IsValid (sym (is_united m c.in_ok-joined.joined c.settle.new.graph c.in_ok-joined.ensures c.in_ok-settle.ensures.ok))
+    let can : CanMerge m = nothing_speaks m c.requires.valid c.requires.other agree.one c.in_ok-joined.joined c.in_ok-joined.ensures.joined agree c.in_ok-joined.ensures.none c.in_ok-settle.ensures.refuses in
+    subst IsValid (sym (is_united m c.in_ok-joined.joined c.settle.new.graph c.in_ok-joined.ensures.joined c.in_ok-settle.ensures.ok))
     (c.unions_stay_valid.ensures m c.requires.valid c.requires.other can)
 
 pub returns-clause-refuses : goal.returns-clause-refuses
 returns-clause-refuses c =
     let m = merging_by c.args.graph.now c.args.other.now c.args.offset in
     let agree = c.in_ok-check_agreement.ensures.agree in
-    nothing_speaks m c.requires.valid c.requires.other agree.one c.in_ok-joined.joined c.in_ok-joined.ensures agree c.in_ok-check_results.ensures.none c.in_ok-settle.ensures.refuses
+    nothing_speaks m c.requires.valid c.requires.other agree.one c.in_ok-joined.joined c.in_ok-joined.ensures.joined agree c.in_ok-joined.ensures.none c.in_ok-settle.ensures.refuses
+
+pub returns-clause-graph : goal.returns-clause-graph
+returns-clause-graph c = is_united (merging_by c.args.graph.now c.args.other.now c.args.offset) c.in_ok-joined.joined c.settle.new.graph c.in_ok-joined.ensures.joined c.in_ok-settle.ensures.ok
