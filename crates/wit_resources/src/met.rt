@@ -1,10 +1,8 @@
 //! Types of a graph that are met on the way along aliases, and whether they lead to a resource.
-ghost use Rattle.std.specs.Prelude.{◌≡◌, ◌⊎◌, ◌<◌, ℕ, Bool, IfOk, None, OnOk, Some, length, nat_eq, slice_get};
+ghost use Rattle.std.specs.Prelude.{◌≡◌, ◌<◌, ℕ, IfOk, None, OnOk, Some, length, nat_eq};
 ghost use Rattle.std.specs.Map.{lookup};
 ghost use Rattle.wit_relations.specs.Relation.{IsAcyclic};
 ghost use Rattle.wit_items.specs.Reference.{type_references};
-ghost use Rattle.wit_items.specs.Uses.{alias_target};
-ghost use Rattle.wit_items.specs.declared.types.TypeDef.{TypeDef};
 ghost use Rattle.wit_adding.specs.Resources.{leads_to_resource};
 ghost use Rattle.wit_resources.specs.Leading.{AreRight, EndsAt, LeadsOn};
 
