@@ -143,8 +143,8 @@ impl Listing {
     }
 
     /// Lists the members of the walk of `root` that are not listed yet, in the walk's order. The
-    /// listing is of as many nodes as there are rows, `root` is one of them, no path leads along
-    /// uses from a node back to it, and each node that is listed already stands after all that it
+    /// listing is of as many nodes as there are rows, `root` and each use are among them, no path
+    /// leads from a node back to it, and each node that is listed already stands after all that it
     /// uses.
     ///
     /// It takes a step for each node that it lists and for each of their uses. For uses are

@@ -48,7 +48,7 @@ pub fn is_shaped(alloc: Global, unresolved: &UnresolvedPackage) -> Result<bool, 
     are_uses_acyclic(alloc, unresolved)
 }
 
-/// Whether the main package and each nested one have their shape.
+/// Whether the main package and each nested one have their shape. The only error is want of memory.
 pub fn is_group_shaped(alloc: Global, group: &UnresolvedPackageGroup) -> Result<bool, AllocError>
     ensures { IfOk result (λ shaped. IsTrue shaped ↔ IsGroupShaped group.now) }
 {

@@ -31,6 +31,8 @@ impl Model for Span {
 
 impl Span {
     /// The span from a position up to another, which isn't before it.
+    ///
+    /// Source: `new` of `Span` of wit-parser 0.263.0.
     pub fn new(start: u32, end: u32) -> Span
         requires { start ≤ end }
         ensures { result ≡ Some (start, end) }
@@ -57,6 +59,8 @@ impl Span {
     }
 
     /// The first position, 0 where the span is unknown.
+    ///
+    /// Source: `start` of `Span` of wit-parser 0.263.0.
     pub fn start(self) -> u32
         ensures value { result ≡ start_of self }
         ensures ordered { result ≤ end_of self }
@@ -68,6 +72,8 @@ impl Span {
     }
 
     /// The position after the last, 0 where the span is unknown.
+    ///
+    /// Source: `end` of `Span` of wit-parser 0.263.0.
     pub fn end(self) -> u32
         ensures value { result ≡ end_of self }
         ensures ordered { start_of self ≤ result }
