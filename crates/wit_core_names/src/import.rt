@@ -80,7 +80,9 @@ pub enum WasmImport<'a> {
         func: &'a Function,
         ty: Option<TypeId>,
         intrinsic: FutureIntrinsic,
+        /// Whether it serves an export.
         exported: bool,
+        /// Whether it may go on after the call.
         async_: bool,
     },
     /// What is done with a stream of a function, or with one without a type.
@@ -89,7 +91,9 @@ pub enum WasmImport<'a> {
         func: &'a Function,
         ty: Option<TypeId>,
         intrinsic: StreamIntrinsic,
+        /// Whether it serves an export.
         exported: bool,
+        /// Whether it may go on after the call.
         async_: bool,
     },
 }
