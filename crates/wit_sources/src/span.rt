@@ -31,8 +31,6 @@ impl Model for Span {
 
 impl Span {
     /// The span from a position up to another, which isn't before it.
-    ///
-    /// Source: `new` of `Span` of wit-parser 0.263.0.
     pub fn new(start: u32, end: u32) -> Span
         requires { start ≤ end }
         ensures { result ≡ Some (start, end) }
