@@ -130,7 +130,7 @@ impl<'a> fmt::Debug for WasmImport<'a> {
 
 /// The module and the field under which core wasm imports it: see the table `import_names`. It has
 /// these, as `can_name_import` tells, and types refer to types that are there, and none to itself,
-/// as in a valid graph. The only refusal is want of memory (28).
+/// through whatever others, as in a valid graph. The only refusal is want of memory (28).
 ///
 /// Source: `wasm_import_name` of wit-parser 0.263.0.
 pub fn wasm_import_name(
