@@ -5,7 +5,10 @@ ghost use Rattle.wit_adding.specs.Gates.{is_active};
 use wit_graph::Features;
 use wit_items::Stability;
 
-/// Whether a note lets its item take part.
+/// Whether a note lets its item take part: no note and `@since` do, `@unstable` does where its
+/// feature is on.
+///
+/// Source: `include_stability` of wit-parser 0.263.0; WIT.md of the component model.
 pub fn is_active(features: &Features, note: &Stability) -> bool
     ensures { result ≡ is_active features.now note.now }
 {

@@ -124,8 +124,11 @@ fn result_mismatch(
     }
 }
 
-/// What a function disagrees in with another of its name: its kind, the number of its parameters, one of
-/// these or its result. None where they agree.
+/// What a function disagrees in with another of its name: its kind, whatever resource it belongs to, the number of its
+/// parameters, the name or the type of one of these, or its result. Of several any may be told. None where they agree.
+/// Types agree that are the same primitive or both types of a list. The only error is want of memory.
+///
+/// Source: `build_function` of wit-parser 0.263.0.
 pub fn function_mismatch(
     alloc: Global,
     from: &Function,

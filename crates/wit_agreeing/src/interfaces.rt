@@ -28,8 +28,10 @@ fn named_mismatch(
     }
 }
 
-/// The first function of an interface that disagrees with the one of its name in another, with what it
-/// disagrees in. None where all agree that have one.
+/// A function of an interface that disagrees with the one of its name in another, with what it disagrees in; of several
+/// any may be told. None where all agree that have one. The only error is want of memory.
+///
+/// Source: `build_interface` of wit-parser 0.263.0.
 pub fn interface_mismatch(
     alloc: Global,
     from: &Interface,

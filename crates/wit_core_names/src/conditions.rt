@@ -100,10 +100,11 @@ fn is_of_function(
     holds_future_or_stream(alloc, graph, function, ty)
 }
 
-/// Whether an import has names: an interface's key and a resource must have one; what serves exports
-/// of a resource is of an interface; futures and streams have names under the older ones alone, a
-/// type that is given is among those of the function, and only reading, writing and ending these can
-/// go on after the call.
+/// Whether an import has names: an interface's key and a resource must have one; what serves
+/// exports of a resource is of an interface; futures and streams have names under the older ones
+/// alone, a type that is given is among those of the function, and only reading, writing and ending
+/// these can go on after the call. Types refer to types that are there, and none to itself, through
+/// whatever others, as in a valid graph. The only refusal is want of memory (28).
 pub fn can_name_import(
     alloc: Global,
     graph: &Graph,

@@ -12,6 +12,8 @@ use wit_graph::{Graph, ResolveResult};
 use wit_items::{Function, ManglingAndAbi, TypeId, WorldKey};
 
 /// Which of the core functions of an exported function it is.
+///
+/// Source: `WasmExportKind` of wit-parser 0.263.0.
 #[derive(Clone, Copy, Debug, PartialEq, Eq)]
 pub enum WasmExportKind {
     /// The function itself.
@@ -23,6 +25,8 @@ pub enum WasmExportKind {
 }
 
 /// What core wasm exports. Without an interface a function is of the world itself.
+///
+/// Source: `WasmExport` of wit-parser 0.263.0.
 #[derive(Clone, Copy)]
 pub enum WasmExport<'a> {
     /// A function.
@@ -59,7 +63,10 @@ impl<'a> fmt::Debug for WasmExport<'a> {
     }
 }
 
-/// The name under which core wasm exports it: see the table `export_name`.
+/// The name under which core wasm exports it: see the table `export_name`. It has one, as
+/// `can_name_export` tells. The only refusal is want of memory (28).
+///
+/// Source: `wasm_export_name` of wit-parser 0.263.0.
 pub fn wasm_export_name(
     alloc: Global,
     graph: &Graph,

@@ -14,6 +14,8 @@ use wit_graph::{Graph, ResolveResult};
 use wit_items::{Function, ManglingAndAbi, TypeId, WorldKey};
 
 /// What is done with a resource by a function of the host.
+///
+/// Source: `ResourceIntrinsic` of wit-parser 0.263.0.
 #[derive(Clone, Copy, Debug, PartialEq, Eq)]
 pub enum ResourceIntrinsic {
     /// Drops a handle of an imported resource.
@@ -27,6 +29,8 @@ pub enum ResourceIntrinsic {
 }
 
 /// What is done with a future by a function of the host.
+///
+/// Source: `FutureIntrinsic` of wit-parser 0.263.0.
 #[derive(Clone, Copy, Debug, PartialEq, Eq)]
 pub enum FutureIntrinsic {
     New,
@@ -40,6 +44,8 @@ pub enum FutureIntrinsic {
 }
 
 /// What is done with a stream by a function of the host.
+///
+/// Source: `StreamIntrinsic` of wit-parser 0.263.0.
 #[derive(Clone, Copy, Debug, PartialEq, Eq)]
 pub enum StreamIntrinsic {
     New,
@@ -53,6 +59,8 @@ pub enum StreamIntrinsic {
 }
 
 /// What core wasm imports. Without an interface it is of the world itself.
+///
+/// Source: `WasmImport` of wit-parser 0.263.0.
 #[derive(Clone, Copy)]
 pub enum WasmImport<'a> {
     /// A function.
@@ -72,7 +80,9 @@ pub enum WasmImport<'a> {
         func: &'a Function,
         ty: Option<TypeId>,
         intrinsic: FutureIntrinsic,
+        /// Whether it serves an export.
         exported: bool,
+        /// Whether it may go on after the call.
         async_: bool,
     },
     /// What is done with a stream of a function, or with one without a type.
@@ -81,7 +91,9 @@ pub enum WasmImport<'a> {
         func: &'a Function,
         ty: Option<TypeId>,
         intrinsic: StreamIntrinsic,
+        /// Whether it serves an export.
         exported: bool,
+        /// Whether it may go on after the call.
         async_: bool,
     },
 }
@@ -116,7 +128,11 @@ impl<'a> fmt::Debug for WasmImport<'a> {
     }
 }
 
-/// The module and the field under which core wasm imports it: see the table `import_names`.
+/// The module and the field under which core wasm imports it: see the table `import_names`. It has
+/// these, as `can_name_import` tells, and types refer to types that are there, and none to itself,
+/// through whatever others, as in a valid graph. The only refusal is want of memory (28).
+///
+/// Source: `wasm_import_name` of wit-parser 0.263.0.
 pub fn wasm_import_name(
     alloc: Global,
     graph: &Graph,

@@ -4,7 +4,10 @@ ghost use Rattle.wit_adding.specs.CauseText.{excluded_owner_text, excluded_text}
 
 use std::alloc::{AllocError, Global};
 
-/// 11: something refers to what is left out; `sort` is `type`, `interface` or `world`.
+/// 11: something refers to what is left out; `sort` is `type`, `interface` or `world`. The only
+/// error is want of memory.
+///
+/// Source: `map_type`, `map_interface` and `map_world` of wit-parser 0.263.0.
 pub fn excluded_message(alloc: Global, sort: &str) -> Result<String, AllocError>
     ensures { IfOk result (λ message. string_bytes message ≡ excluded_text sort.now) }
 {
@@ -13,7 +16,10 @@ pub fn excluded_message(alloc: Global, sort: &str) -> Result<String, AllocError>
     )
 }
 
-/// 12: a type takes part, but its owner is left out; `sort` is `interface` or `world`.
+/// 12: a type takes part, but its owner is left out; `sort` is `interface` or `world`. The only
+/// error is want of memory.
+///
+/// Source: `map_interface_for_type` and `map_world_for_type` of wit-parser 0.263.0.
 pub fn excluded_owner_message(alloc: Global, sort: &str) -> Result<String, AllocError>
     ensures { IfOk result (λ message. string_bytes message ≡ excluded_owner_text sort.now) }
 {

@@ -27,7 +27,13 @@ use wit_items::{
     WorldInclude, WorldItem, WorldKey, function_references, referred,
 };
 
-/// Refuses what takes part and needs what is left out: something refers to it (11), or it owns a type (12).
+/// Refuses what takes part and needs what is left out: something refers to it (11), or it owns a
+/// type (12). The package has its shape, and what takes part of it is told by `activity`.
+///
+/// Else it is refused for want of memory (28) alone. That is told too where a place that would be
+/// told ends past 4294967295, so the caller looks at the spans first.
+///
+/// Source: `append` of wit-parser 0.263.0.
 pub fn check_references(
     alloc: Global,
     adding: &Adding<'_>,

@@ -17,8 +17,11 @@ use wit_items::{
     foreign_worlds,
 };
 
-/// What takes part of a package under the features that are on: a type, an interface or a world of its own
-/// where its note lets it, one of another package where one of the places that name it does.
+/// What takes part of a package under the features that are on: a type, an interface or a world of its own where its
+/// note lets it, one of another package where one of the places that name it does. The package has its shape. The only
+/// error is want of memory.
+///
+/// Source: `include_stability` of wit-parser 0.263.0; WIT.md of the component model.
 pub fn activity(alloc: Global, adding: &Adding<'_>) -> Result<Activity, AllocError>
     requires { IsShaped adding.now.handed.now }
     ensures { IfOk result (λ activity. activity ≡ activity_of (addition_of adding.now)) }

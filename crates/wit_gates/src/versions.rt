@@ -31,8 +31,13 @@ use wit_items::{
     WorldKey, foreign_interfaces, foreign_worlds,
 };
 
-/// Refuses a `@since` that is asked and that the package doesn't meet: it has no version (9), or one that is
-/// below (10).
+/// Refuses a `@since` that is asked and that the package doesn't meet: it has no version (9), or one that is below
+/// (10). The package has its shape, and what takes part of it is told by `activity`.
+///
+/// Else it is refused for want of memory (28) alone. That is told too where a place that would be told ends past
+/// 4294967295, so the caller looks at the spans first.
+///
+/// Source: `include_stability` of wit-parser 0.263.0; WIT.md of the component model.
 pub fn check_versions(alloc: Global, adding: &Adding<'_>, activity: &Activity) -> ResolveResult<()>
     requires shaped { IsShaped adding.now.handed.now }
     requires activity { activity.now ≡ activity_of (addition_of adding.now) }

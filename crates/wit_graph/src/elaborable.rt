@@ -11,9 +11,10 @@ use wit_items::{TypeDef, World, WorldId, WorldItem, WorldKey, uses_of};
 use wit_relations::is_acyclic;
 use wit_values::Table;
 
-/// Whether `elaborate` may be called for a world: it is there, no interface comes back to itself along
-/// its uses, what stands under the key of an interface is that interface, and the interfaces of all
-/// entries are there. A valid graph has this of each of its worlds.
+/// Whether `elaborate` may be called for a world: it is there, no interface comes back to itself
+/// along its uses, what stands under the key of an interface is that interface, and the interfaces
+/// of all entries are there. A valid graph has this of each of its worlds. It is told of any graph.
+/// The only error is want of memory.
 pub fn is_elaborable(alloc: Global, graph: &Graph, world: WorldId) -> Result<bool, AllocError>
     ensures { IfOk result (λ elaborable. IsTrue elaborable ↔ CanElaborate graph.now world) }
 {

@@ -56,7 +56,8 @@ impl Elaborator {
         }
     }
 
-    /// For worlds over these types and interfaces. It goes over all their types once.
+    /// For worlds over these types and interfaces. It goes over all their types once. The only
+    /// error is want of memory.
     pub fn new(
         alloc: Global,
         types: &[TypeDef],
@@ -69,8 +70,8 @@ impl Elaborator {
         Ok(Elaborator { uses, marks })
     }
 
-    /// The same of interfaces of which it is for the first so many already. It goes over the types of the others once.
-    /// Where there is no memory it may be for some of them.
+    /// The same, where over these types it is for the first so many of the interfaces already. It
+    /// goes over the types of the others once. Where there is no memory it may be for some of them.
     pub fn grow(
         &mut self,
         alloc: Global,
@@ -117,8 +118,9 @@ impl Elaborator {
         self.uses.len()
     }
 
-    /// Elaborates a world of a graph that has these types and interfaces, as the function of that name
-    /// does.
+    /// Elaborates a world of a graph that has these types and interfaces, as the function of that
+    /// name does: under the same conditions, and with the same refusals. After a refusal the graph
+    /// is as before.
     pub fn elaborate(
         &mut self,
         alloc: Global,
@@ -142,8 +144,8 @@ impl Elaborator {
         Ok(())
     }
 
-    /// The elaborated lists of a world of a graph that has these types and interfaces, which stays as
-    /// it is.
+    /// The elaborated lists of a world of a graph that has these types and interfaces, which stays
+    /// as it is. Conditions and refusals are those of `elaborate`.
     pub fn elaborated_lists(
         &mut self,
         alloc: Global,
@@ -161,8 +163,9 @@ impl Elaborator {
         self.lists_for(alloc, graph, graph.worlds.at(world.index()))
     }
 
-    /// The elaborated lists of a world over the types and interfaces of a graph, of which it need not
-    /// be one.
+    /// The elaborated lists of a world over the types and interfaces of a graph, of which it need
+    /// not be one. The graph has these types and interfaces, and conditions and refusals are those
+    /// of `elaborate`.
     pub fn lists_for(&mut self, alloc: Global, graph: &Graph, world: &World) -> ResolveResult<Lists>
         requires uses { self.old ≡ graph_uses graph.now }
         requires acyclic { IsAcyclic (graph_uses graph.now) }
@@ -253,13 +256,14 @@ fn lists_of(
 }
 
 /// Elaborates a world of a graph: its imports become the listed ones with all that they, the type
-/// uses and the exports need, sorted by class, each after what it uses; its exports the functions and
-/// then the interfaces, each after the exported ones that it uses.
+/// uses and the exports need, sorted by class, each after what it uses; its exports the functions
+/// and then the interfaces, each after the exported ones that it uses. The world can be elaborated,
+/// as `is_elaborable` tells; each world of a valid graph can.
 ///
-/// It is refused, with the kind `InvalidTransitiveDependency`, where an exported interface uses one
-/// that is not exported under its own key and that reaches one which is. The name is the key of the
-/// first listed interface that leads to such a use, the span the world's. After a refusal the graph
-/// is as before.
+/// It is refused, with the kind `InvalidTransitiveDependency` (4), where an exported interface uses
+/// one that is not exported under its own key and that reaches one which is. The name is the key of
+/// the first listed interface that leads to such a use, the span the world's. Else it is refused
+/// for want of memory (28) alone. After a refusal the graph is as before.
 ///
 /// Source: `elaborate_world` of wit-parser 0.263.0.
 pub fn elaborate(alloc: Global, graph: &mut Graph, world: WorldId) -> ResolveResult<()>

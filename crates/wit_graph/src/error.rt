@@ -17,6 +17,8 @@ use wit_items::{MapFault, Span};
 use wit_values::{Text, TryClone};
 
 /// An error of a resolve graph, which contracts see as its kind.
+///
+/// Source: `ResolveError` of wit-parser 0.263.0.
 #[derive(Debug, PartialEq, Eq)]
 pub struct ResolveError {
     kind: ResolveErrorKind,
@@ -41,10 +43,14 @@ impl Drop for ResolveError {
 }
 
 /// A result whose error is a `ResolveError`, where no other is named.
+///
+/// Source: `ResolveResult` of wit-parser 0.263.0.
 pub type ResolveResult<T, E = ResolveError> = Result<T, E>;
 
 impl ResolveError {
-    /// An error that is told by a message, of the cause `Other`.
+    /// An error that is told by a message, of the cause `Other`. It takes no memory.
+    ///
+    /// Source: `new_semantic` of `ResolveError` of wit-parser 0.263.0.
     pub fn new_semantic(span: Span, message: String) -> ResolveError
         ensures { result ≡ kinds.Semantic span (string_bytes message) Other }
     {
@@ -58,6 +64,8 @@ impl ResolveError {
     }
 
     /// What went wrong.
+    ///
+    /// Source: `kind` of `ResolveError` of wit-parser 0.263.0.
     pub fn kind(&self) -> &ResolveErrorKind
         ensures { result.now ≡ self.now }
     {
@@ -65,6 +73,8 @@ impl ResolveError {
     }
 
     /// What went wrong, to write: the error has the kind that is left there.
+    ///
+    /// Source: `kind_mut` of `ResolveError` of wit-parser 0.263.0.
     pub fn kind_mut(&mut self) -> &mut ResolveErrorKind
         ensures* writes_back { sem 𝓛 (LendsKind self.entry result) }
         ensures value { result.now ≡ self.old }

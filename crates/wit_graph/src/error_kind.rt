@@ -13,6 +13,8 @@ use wit_values::{Items, Text, TryClone};
 
 /// What went wrong, with what wit-parser 0.263.0 tells of it. `Cause`, `OffsetOverflow` and
 /// `OutOfMemory` are not of wit-parser.
+///
+/// Source: `ResolveErrorKind` of wit-parser 0.263.0.
 #[derive(Debug, PartialEq, Eq, Drop)]
 pub enum ResolveErrorKind {
     /// A package that is depended on is not there.
@@ -77,6 +79,8 @@ pub enum ResolveErrorKind {
 impl ResolveErrorKind {
     /// Where the fault is: the first of the two spans of a `DuplicatePackage`, unknown for
     /// `OffsetOverflow` and `OutOfMemory`.
+    ///
+    /// Source: `span` of `ResolveErrorKind` of wit-parser 0.263.0.
     pub fn span(&self) -> Span
         ensures { result ≡ error_span self.now }
     {

@@ -9,6 +9,8 @@ use wit_items::{
 use wit_values::{try_clone_four, try_clone_three, try_clone_two};
 
 /// A package: its interfaces and worlds by name.
+///
+/// Source: `Package` of wit-parser 0.263.0.
 #[derive(Debug)]
 pub struct Package {
     pub name: PackageName,

@@ -1,5 +1,8 @@
 //! Laws of elaboration, and examples of the definitions: each function has no body, and its contract is
 //! what is proved.
+//!
+//! The laws are over uses along which no interface comes back to itself, and over worlds in which what
+//! stands under the key of an interface is that interface and the interfaces of all entries are there.
 ghost use Rattle.wit_graph.specs.ElaborationExamples.{WorkedConflicts, WorkedElaborations};
 ghost use Rattle.wit_graph.specs.ElaborationLaws.{ConflictsAreRefused, ElaboratesOnce, ImportsAreExact, ImportsKeepOrder, OrderIsFree};
 ghost use Rattle.wit_graph.specs.Examples.{ExamplesOfQuestions, ExamplesOfRelations, ExamplesOfValidity};
@@ -17,7 +20,8 @@ pub fn imports_are_exact()
     ensures { ImportsAreExact }
 {}
 
-/// Each direct use of an imported interface, labelled or not, stands before it among the imports.
+/// Each direct use of an imported interface, labelled or not, stands before it among the imports,
+/// and so does the interface of a type use before that.
 pub fn imports_keep_order()
     ensures { ImportsKeepOrder }
 {}
@@ -65,13 +69,15 @@ pub fn export_keys_stay()
     ensures { ExportKeysStay }
 {}
 
-/// The interfaces that an elaborated world imports are the least set that has those where the listed
-/// imports begin and those that the exports need, and with each one all that it uses.
+/// The interfaces that an elaborated world imports under their own keys are the least set that has
+/// those where the listed imports begin and those that the exports need, and with each one all that
+/// it uses.
 pub fn imports_are_least()
     ensures { ImportsAreLeast }
 {}
 
-/// The imports under labels are those that were listed, by class.
+/// The imports under labels are those that were listed, by class, an interface without its span,
+/// where no two imports were listed under one key.
 pub fn labels_stay()
     ensures { LabelsStay }
 {}

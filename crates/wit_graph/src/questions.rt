@@ -13,7 +13,10 @@ use wit_items::{InterfaceId, PackageId, PackageName, Version, WorldKey};
 
 impl Graph {
     /// The id text of an interface or a world of this name in a package: `namespace:package/name`,
-    /// and `@version` where the package has one. Empty where the package isn't there.
+    /// and `@version` where the package has one. Empty where the package isn't there. The only
+    /// refusal is want of memory (28).
+    ///
+    /// Source: `id_of_name` of wit-parser 0.263.0.
     pub fn id_of_name(&self, alloc: Global, package: PackageId, name: &str) -> ResolveResult<String>
         ensures text { IfOk result (λ text. string_bytes text ≡ id_text self.now.packages «package» name.now) }
         ensures err { IfErr result (λ e. e ≡ OutOfMemory) }
@@ -24,7 +27,10 @@ impl Graph {
         }
     }
 
-    /// The id text of an interface, None where it has no name or no package, or isn't there.
+    /// The id text of an interface, None where it has no name or no package, or isn't there. The
+    /// only refusal is want of memory (28).
+    ///
+    /// Source: `id_of` of wit-parser 0.263.0.
     pub fn id_of(&self, alloc: Global, id: InterfaceId) -> ResolveResult<Option<String>>
         ensures text { IfOk result (λ text. option_map string_bytes text ≡ interface_id_at self.now.packages self.now.interfaces id) }
         ensures err { IfErr result (λ e. e ≡ OutOfMemory) }
@@ -41,8 +47,10 @@ impl Graph {
         Ok(Some(self.id_of_name(alloc, package, name.as_str())?))
     }
 
-    /// What names a key of a world: a label as it stands, an interface by its id text, which is empty
-    /// where the interface has none.
+    /// What names a key of a world: a label as it stands, an interface by its id text, which is
+    /// empty where the interface has none. The only refusal is want of memory (28).
+    ///
+    /// Source: `name_world_key` of wit-parser 0.263.0.
     pub fn name_world_key(&self, alloc: Global, key: &WorldKey) -> ResolveResult<String>
         ensures text { IfOk result (λ text. string_bytes text ≡ key_text self.now.packages self.now.interfaces key.now) }
         ensures err { IfErr result (λ e. e ≡ OutOfMemory) }

@@ -9,8 +9,10 @@ use std::alloc::{AllocError, Global};
 use wit_items::{SourceMap, Span};
 
 impl ResolveError {
-    /// The text of the error with the line in which it is, the text alone where its place is unknown or
-    /// in no file; of a package that is defined twice the text with both places.
+    /// The text of the error with the line in which it is, the text alone where its place is unknown or in no file; of
+    /// a package that is defined twice the text with both places. The only refusal is want of memory (28).
+    ///
+    /// Source: `render` of `ResolveError` of wit-parser 0.263.0.
     pub fn render(&self, alloc: Global, source_map: &SourceMap) -> ResolveResult<String>
         ensures text { IfOk result (λ text. string_bytes text ≡ rendered source_map.now.files self.now) }
         ensures err { IfErr result (λ e. e ≡ OutOfMemory) }
@@ -27,7 +29,8 @@ impl ResolveError {
     }
 }
 
-/// A text with the line in which a span begins, the text alone where the span is unknown or in no file.
+/// A text with the line in which a span begins, the text alone where the span is unknown or in no file. The only error
+/// is want of memory.
 pub fn render_text(
     alloc: Global,
     source_map: &SourceMap,

@@ -59,6 +59,8 @@ impl Role {
     }
 
     /// The class by which imports are sorted, from 0 to 4 in the order of the variants.
+    ///
+    /// Source: `elaborate_world` of wit-parser 0.263.0.
     pub fn class(self) -> u32
         ensures { result ≡ class_of self }
     {

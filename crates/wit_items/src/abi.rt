@@ -1,6 +1,8 @@
 //! The names of core wasm ABIs.
 
 /// How a function is lifted or lowered.
+///
+/// Source: `LiftLowerAbi` of wit-parser 0.263.0.
 #[derive(Clone, Copy, Debug, PartialEq, Eq)]
 pub enum LiftLowerAbi {
     /// A call returns when its work is done.
@@ -12,6 +14,8 @@ pub enum LiftLowerAbi {
 }
 
 /// Which names core wasm imports and exports have, and which ABI goes with them.
+///
+/// Source: `ManglingAndAbi` of wit-parser 0.263.0.
 #[derive(Clone, Copy, Debug, PartialEq, Eq)]
 pub enum ManglingAndAbi {
     /// The names of the component model's build targets for 32-bit memory, `cm32p2`.

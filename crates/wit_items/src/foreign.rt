@@ -9,7 +9,8 @@ use crate::unresolved::AstItem;
 use std::alloc::{AllocError, Global};
 use wit_values::{Items, Names, Table};
 
-/// The interfaces that are named of other packages.
+/// The interfaces that are named of other packages, by their places in the package's list, in the
+/// order in which they are named. The only error is want of memory.
 pub fn foreign_interfaces(
     alloc: Global,
     deps: &Table<PackageName, Names<(AstItem, Items<Stability>)>>,
@@ -44,7 +45,8 @@ fn push_interface(ids: &mut Items<usize>, item: AstItem) -> Result<(), AllocErro
     }
 }
 
-/// The worlds that are named of other packages.
+/// The worlds that are named of other packages, by their places in the package's list, in the order
+/// in which they are named. The only error is want of memory.
 pub fn foreign_worlds(
     alloc: Global,
     deps: &Table<PackageName, Names<(AstItem, Items<Stability>)>>,

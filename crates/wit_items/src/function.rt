@@ -10,6 +10,8 @@ use wit_sources::Span;
 use wit_values::{Items, Text, TryClone, try_clone_three, try_clone_two};
 
 /// What a function is: whether it belongs to a resource, and whether it reads or writes a property.
+///
+/// Source: `FunctionKind` of wit-parser 0.263.0.
 #[derive(Clone, Copy, PartialEq, Eq)]
 pub enum FunctionKind {
     Freestanding,
@@ -28,6 +30,8 @@ pub enum FunctionKind {
 }
 
 /// Whether a function reads or writes a property.
+///
+/// Source: `AccessorKind` of wit-parser 0.263.0.
 #[derive(Clone, Copy, Debug, PartialEq, Eq)]
 pub enum AccessorKind {
     Getter,
@@ -36,6 +40,8 @@ pub enum AccessorKind {
 
 impl FunctionKind {
     /// The resource that it belongs to, where it belongs to one.
+    ///
+    /// Source: `resource` of `FunctionKind` of wit-parser 0.263.0.
     pub fn resource(&self) -> Option<TypeId>
         ensures { result ≡ resource_of self.now }
     {
@@ -57,6 +63,8 @@ impl FunctionKind {
     }
 
     /// Whether it is a getter or a setter, where it is one.
+    ///
+    /// Source: `accessor` of `FunctionKind` of wit-parser 0.263.0.
     pub fn accessor(&self) -> Option<AccessorKind>
         ensures { result ≡ accessor_of self.now }
     {
@@ -77,6 +85,8 @@ impl FunctionKind {
 }
 
 /// A parameter of a function.
+///
+/// Source: `Param` of wit-parser 0.263.0.
 #[derive(Drop)]
 pub struct Param {
     pub name: Text,
@@ -95,6 +105,8 @@ impl TryClone for Param {
 }
 
 /// A function, with its name as WIT's component names spell it, as `[method]r.f`.
+///
+/// Source: `Function` of wit-parser 0.263.0.
 pub struct Function {
     pub name: Text,
     pub kind: FunctionKind,

@@ -7,6 +7,8 @@ use wit_sources::Span;
 use wit_values::{Names, Text, TryClone, try_clone_three, try_clone_two};
 
 /// An interface: types and functions under their names.
+///
+/// Source: `Interface` of wit-parser 0.263.0.
 pub struct Interface {
     /// Its name in its package. An interface that a world writes in place has none.
     pub name: Option<Text>,

@@ -6,8 +6,10 @@ use std::alloc::AllocError;
 use std::fmt;
 use wit_values::{Text, TryClone, Version, try_clone_three};
 
-/// The name of a package, as `wasi:http@0.2.0` or `foo:bar`. Names are ordered by the namespace, then
-/// the name, then the version, a name without a version first.
+/// The name of a package, as `wasi:http@0.2.0` or `foo:bar`. Names are ordered by the namespace,
+/// then the name, then the version, a name without a version first.
+///
+/// Source: `PackageName` of wit-parser 0.263.0.
 #[derive(Debug, PartialEq, Eq, PartialOrd, Ord, Hash)]
 pub struct PackageName {
     pub namespace: Text,

@@ -12,7 +12,8 @@ use crate::types::{Case, Field, Handle, Type_, TypeDef, TypeDefKind};
 use std::alloc::{AllocError, Global};
 use wit_values::Items;
 
-/// The types that a kind refers to, in the order in which it names them, with repeats.
+/// The types that a kind refers to, in the order in which it names them, with repeats. The only
+/// error is want of memory.
 pub fn referred(alloc: Global, kind: &TypeDefKind) -> Result<Items<TypeId>, AllocError>
     ensures { IfOk result (λ ids. ids ≡ referred kind.now) }
 {
@@ -22,7 +23,7 @@ pub fn referred(alloc: Global, kind: &TypeDefKind) -> Result<Items<TypeId>, Allo
 }
 
 /// The types that a function refers to: the resource that it belongs to, then those of its
-/// parameters and of its result, in order, with repeats.
+/// parameters and of its result, in order, with repeats. The only error is want of memory.
 pub fn function_references(alloc: Global, function: &Function) -> Result<Items<TypeId>, AllocError>
     ensures { IfOk result (λ ids. ids ≡ function_references function.now) }
 {
@@ -35,7 +36,8 @@ pub fn function_references(alloc: Global, function: &Function) -> Result<Items<T
     Ok(ids)
 }
 
-/// Which type refers to which, as rows: row i has the places of the types that type i refers to.
+/// Which type refers to which, as rows: row i has the places of the types that type i refers to,
+/// both from 0. The only error is want of memory.
 pub fn type_references(alloc: Global, types: &[TypeDef]) -> Result<Items<Items<usize>>, AllocError>
     ensures { IfOk result (λ rows. rows ≡ type_references types.now) }
 {

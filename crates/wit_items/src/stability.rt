@@ -7,6 +7,8 @@ use std::alloc::AllocError;
 use wit_values::{Text, TryClone, Version, try_clone_two};
 
 /// Documentation.
+///
+/// Source: `Docs` of wit-parser 0.263.0.
 #[derive(Debug, PartialEq, Eq, Drop)]
 pub struct Docs {
     /// The text of the comment, where there is one.
@@ -32,6 +34,8 @@ impl TryClone for Docs {
 
 /// The feature gate of an item, as WIT writes it: nothing, `@since(version = ..)`, or
 /// `@unstable(feature = ..)`, each of the two with an optional `@deprecated(version = ..)`.
+///
+/// Source: `Stability` of wit-parser 0.263.0; WIT.md of the component model.
 #[derive(Debug, PartialEq, Eq)]
 pub enum Stability {
     Unknown,
@@ -68,6 +72,8 @@ impl Drop for Stability {
 
 impl Stability {
     /// Whether the item has no gate.
+    ///
+    /// Source: `is_unknown` of `Stability` of wit-parser 0.263.0.
     pub fn is_unknown(&self) -> bool
         ensures { IsTrue result ↔ (self.now ≡ Unknown) }
     {
@@ -75,6 +81,8 @@ impl Stability {
     }
 
     /// Whether the item's gate is `@since`.
+    ///
+    /// Source: `is_stable` of `Stability` of wit-parser 0.263.0.
     pub fn is_stable(&self) -> bool
         ensures { IsTrue result ↔ IsStable self.now }
     {

@@ -20,8 +20,11 @@ pub enum TrackRule {
 }
 
 impl PackageName {
-    /// The track of a version, and what remains of the version's text after the text of the track, None
-    /// where nothing does: 1.2.3 is on 1.0.0 with `.2.3`, 0.2.1+b on 0.2.0 with `.1+b`.
+    /// The track of a version, and what remains of the version's text after the text of the track,
+    /// None where nothing does: 1.2.3 is on 1.0.0 with `.2.3`, 0.2.1+b on 0.2.0 with `.1+b`. The
+    /// only error is want of memory.
+    ///
+    /// Source: `version_compat_track` of wit-parser 0.263.0; SemVer 2.0.0.
     pub fn version_compat_track(
         alloc: Global,
         version: &Version,
@@ -35,7 +38,10 @@ impl PackageName {
     }
 
     /// The text of a version's track, and what remains of the version's text after it, None where
-    /// nothing does: of 1.2.3 `1` and `.2.3`, of 0.2.1+b `0.2` and `.1+b`.
+    /// nothing does: of 1.2.3 `1` and `.2.3`, of 0.2.1+b `0.2` and `.1+b`. The only error is want
+    /// of memory.
+    ///
+    /// Source: `version_compat_track_string` of wit-parser 0.263.0; SemVer 2.0.0.
     pub fn version_compat_track_string(
         alloc: Global,
         version: &Version,

@@ -6,6 +6,8 @@ use wit_sources::Span;
 use wit_values::{Items, Text, TryClone, try_clone_four};
 
 /// What a value is of: a primitive of WIT, or a type of a list of types.
+///
+/// Source: `Type` of wit-parser 0.263.0.
 #[derive(Clone, Copy, PartialEq, Eq)]
 pub enum Type_ {
     Bool,
@@ -32,6 +34,8 @@ impl TryClone for Type_ {
 }
 
 /// A field of a record.
+///
+/// Source: `Field` of wit-parser 0.263.0.
 #[derive(PartialEq, Eq, Drop)]
 pub struct Field {
     pub name: Text,
@@ -52,6 +56,8 @@ impl TryClone for Field {
 }
 
 /// A case of a variant, with the type of its payload where it has one.
+///
+/// Source: `Case` of wit-parser 0.263.0.
 #[derive(PartialEq, Eq, Drop)]
 pub struct Case {
     pub name: Text,
@@ -72,6 +78,8 @@ impl TryClone for Case {
 }
 
 /// One of the flags of a `flags` type.
+///
+/// Source: `Flag` of wit-parser 0.263.0.
 #[derive(PartialEq, Eq, Drop)]
 pub struct Flag {
     pub name: Text,
@@ -90,6 +98,8 @@ impl TryClone for Flag {
 }
 
 /// A case of an enum.
+///
+/// Source: `EnumCase` of wit-parser 0.263.0.
 #[derive(PartialEq, Eq, Drop)]
 pub struct EnumCase {
     pub name: Text,
@@ -108,6 +118,8 @@ impl TryClone for EnumCase {
 }
 
 /// A handle of a resource: the resource itself, or a loan of it.
+///
+/// Source: `Handle` of wit-parser 0.263.0.
 #[derive(Clone, Copy, PartialEq, Eq)]
 pub enum Handle {
     Own(TypeId),
@@ -115,6 +127,8 @@ pub enum Handle {
 }
 
 /// Who owns a type.
+///
+/// Source: `TypeOwner` of wit-parser 0.263.0.
 #[derive(Clone, Copy, PartialEq, Eq)]
 pub enum TypeOwner {
     /// The world that lists it among its imports.
@@ -126,6 +140,8 @@ pub enum TypeOwner {
 }
 
 /// What a type is.
+///
+/// Source: `TypeDefKind` of wit-parser 0.263.0.
 #[derive(PartialEq, Eq, Drop)]
 pub enum TypeDefKind {
     Record {
@@ -195,6 +211,8 @@ impl TryClone for TypeDefKind {
 }
 
 /// A type of a list of types.
+///
+/// Source: `TypeDef` of wit-parser 0.263.0.
 pub struct TypeDef {
     /// Its name, which a type with an owner has.
     pub name: Option<Text>,

@@ -12,6 +12,8 @@ use wit_sources::{SourceMap, Span};
 use wit_values::{Items, Names, Table, TryClone, try_clone_four, try_clone_three, try_clone_two};
 
 /// An interface or a world of an unresolved package.
+///
+/// Source: `AstItem` of wit-parser 0.263.0.
 #[derive(Clone, Copy)]
 pub enum AstItem {
     Interface(InterfaceId),
@@ -25,6 +27,8 @@ impl TryClone for AstItem {
 }
 
 /// A package before its foreign names are looked up. Its ids are places in its own lists.
+///
+/// Source: `UnresolvedPackage` of wit-parser 0.263.0.
 pub struct UnresolvedPackage {
     pub name: PackageName,
     pub package_name_span: Span,
@@ -126,6 +130,8 @@ impl TryClone for UnresolvedPackage {
 }
 
 /// The packages of one reading: the main one, those that are nested in its files, and the files.
+///
+/// Source: `UnresolvedPackageGroup` of wit-parser 0.263.0.
 #[derive(Drop)]
 pub struct UnresolvedPackageGroup {
     pub main: UnresolvedPackage,

@@ -13,6 +13,8 @@ use std::fmt;
 use wit_values::{Text, TryClone, Version, try_clone_two};
 
 /// What a use path names.
+///
+/// Source: `ParsedUsePath` of wit-parser 0.263.0.
 #[derive(Drop)]
 pub enum ParsedUsePath {
     /// A name alone.
@@ -36,7 +38,9 @@ impl TryClone for ParsedUsePath {
 /// Why a text is not read as a use path.
 #[derive(Clone, Copy, Debug, PartialEq, Eq)]
 pub enum UsePathFault {
+    /// The text is no use path.
     Invalid,
+    /// Memory was refused.
     OutOfMemory,
 }
 
@@ -64,8 +68,10 @@ impl From<AllocError> for UsePathFault {
     }
 }
 
-/// Whether a text is a kebab name: words of ASCII letters and digits joined by single `-`, the first
-/// of which begins with a letter, and the letters of each word all lower or all upper case.
+/// Whether a text is a kebab name: words of ASCII letters and digits joined by single `-`, the
+/// first of which begins with a letter, and the letters of each word all lower or all upper case.
+///
+/// Source: WIT.md of the component model.
 #[tactic(auto, unfolding(crate::specs::UsePath::is_kebab_name))]
 pub fn is_kebab_name(text: &str) -> bool
     ensures { IsTrue result ↔ IsKebabName text.now }
@@ -117,8 +123,10 @@ fn are_upper(bytes: &[u8]) -> bool
 }
 
 /// Reads a use path: a name alone, or `ns:pkg/name` with `@version` or without. The names are kebab
-/// names, and the version is one that the `semver` crate reads. The fault is `Invalid` exactly where
-/// the text is no use path, and else only want of memory.
+/// names, and the version is one that the `semver` crate reads. The fault is `Invalid` exactly
+/// where the text is no use path, and else only want of memory.
+///
+/// Source: `parse_use_path` of wit-parser 0.263.0; WIT.md of the component model.
 #[tactic(auto, unfolding(crate::specs::UsePath::use_path_of))]
 pub fn parse_use_path(alloc: Global, text: &str) -> Result<ParsedUsePath, UsePathFault>
     ensures ok { IfOk result (λ path. use_path_of text.now ≡ Some path) }

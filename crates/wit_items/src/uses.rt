@@ -8,7 +8,7 @@ use crate::types::{Type_, TypeDef, TypeDefKind, TypeOwner};
 use std::alloc::{AllocError, Global};
 use wit_values::Items;
 
-/// The type that an alias names, None of any other kind.
+/// The type of the list that an alias names, None of an alias of a primitive and of any other kind.
 pub fn alias_target(kind: &TypeDefKind) -> Option<TypeId>
     ensures { result ≡ alias_target kind.now }
 {
@@ -19,7 +19,9 @@ pub fn alias_target(kind: &TypeDefKind) -> Option<TypeId>
 }
 
 /// Of an alias of a type that an interface owns, which isn't the alias's own owner, that interface;
-/// else None. All ids are places of the same lists.
+/// else None, also where the type isn't there. All ids are places of the same lists.
+///
+/// Source: `type_interface_dep` of wit-parser 0.263.0.
 pub fn type_interface_dep(types: &[TypeDef], id: TypeId) -> Option<InterfaceId>
     ensures { result ≡ type_interface_dep types.now id }
 {
@@ -33,7 +35,9 @@ pub fn type_interface_dep(types: &[TypeDef], id: TypeId) -> Option<InterfaceId>
 }
 
 /// The interfaces that an interface uses: the answers of `type_interface_dep` over its types in
-/// order, with repeats.
+/// order, with repeats. The only error is want of memory.
+///
+/// Source: `interface_direct_deps` of wit-parser 0.263.0.
 pub fn interface_uses(
     alloc: Global,
     types: &[TypeDef],
@@ -51,7 +55,8 @@ pub fn interface_uses(
     Ok(uses)
 }
 
-/// The rows of uses of a list of interfaces: row i has the interfaces that interface i uses.
+/// The rows of uses of a list of interfaces: row i has the interfaces that interface i uses, both
+/// from 0. The only error is want of memory.
 pub fn uses_of(
     alloc: Global,
     types: &[TypeDef],

@@ -7,6 +7,8 @@ use wit_sources::Span;
 use wit_values::{Items, Table, Text, TryClone, try_clone_six, try_clone_three, try_clone_two};
 
 /// The key of an entry of a world: a label, or an interface by its id.
+///
+/// Source: `WorldKey` of wit-parser 0.263.0.
 #[derive(PartialEq, Eq, Hash, Drop)]
 pub enum WorldKey {
     Name(Text),
@@ -23,6 +25,8 @@ impl TryClone for WorldKey {
 }
 
 /// What a world imports or exports under a key.
+///
+/// Source: `WorldItem` of wit-parser 0.263.0.
 #[derive(Drop)]
 pub enum WorldItem {
     Interface {
@@ -69,6 +73,8 @@ impl TryClone for WorldItem {
 }
 
 /// A label of an included world, and the label that stands in its place.
+///
+/// Source: `IncludeName` of wit-parser 0.263.0.
 #[derive(Drop)]
 pub struct IncludeName {
     pub name: Text,
@@ -83,6 +89,8 @@ impl TryClone for IncludeName {
 }
 
 /// An include of a world in another.
+///
+/// Source: `WorldInclude` of wit-parser 0.263.0.
 #[derive(Drop)]
 pub struct WorldInclude {
     pub stability: Stability,
@@ -104,6 +112,8 @@ impl TryClone for WorldInclude {
 }
 
 /// A world: what a component imports and exports.
+///
+/// Source: `World` of wit-parser 0.263.0.
 pub struct World {
     pub name: Text,
     pub imports: Table<WorldKey, WorldItem>,

@@ -4,7 +4,8 @@ ghost use Rattle.std.specs.List.{concat, list_any};
 ghost use Rattle.std.specs.Str.{bytes_eq};
 ghost use Rattle.wit_labels.specs.Groups.{begins_group, groups_of, rest_of};
 
-/// The group with which a text begins, and what follows it, or None where it begins with none.
+/// The group with which a text begins, in its brackets, and what follows it, or None where it
+/// begins with none.
 pub fn split_group(text: &str) -> Option<(&str, &str)>
     ensures none { IfNone result (groups_of text.now ≡ []) }
     ensures groups { IfSome result (λ r. groups_of text.now ≡ r.0.now ∷ groups_of r.1.now) }
@@ -50,7 +51,7 @@ pub fn split_groups(label: &str) -> (&str, &str)
     (&label[..label.len() - rest.len()], rest)
 }
 
-/// Whether a group is among those with which a label begins.
+/// Whether a group, given in its brackets, is among those with which a label begins.
 pub fn has_group(label: &str, group: &str) -> bool
     ensures { result ≡ list_any (bytes_eq group.now) (groups_of label.now) }
 {

@@ -14,7 +14,9 @@ use wit_items::{Items, Table, WorldItem, WorldKey};
 use wit_relations::in_order;
 
 /// The entries, with each setter that stands before its getter moved to just after it. Nothing else
-/// moves; setters of one getter keep their order.
+/// moves; setters of one getter keep their order. The only error is want of memory.
+///
+/// Source: `process_world_includes` of wit-parser 0.263.0; WIT.md of the component model.
 pub fn place_setters(
     alloc: Global,
     entries: Table<WorldKey, WorldItem>,

@@ -11,7 +11,9 @@ use std::alloc::{AllocError, Global};
 use std::marker::Model;
 use wit_items::{IncludeName, Items, Names, Text};
 
-/// The label as a renaming makes it, or None where the renaming is of another label.
+/// The label as a renaming makes it, or None where the renaming is of another label. The only error is want of memory.
+///
+/// Source: `rename` of wit-parser 0.263.0.
 pub fn rename(alloc: Global, label: &str, name: &IncludeName) -> Result<Option<String>, AllocError>
     ensures { IfOk result (λ r. option_map string_bytes r ≡ renamed_by name.now label.now) }
 {
@@ -83,7 +85,7 @@ impl<'a> Model for Renamings<'a> {
 }
 
 impl<'a> Renamings<'a> {
-    /// The renamings of an include. It takes a step for each of them.
+    /// The renamings of an include. It takes a step for each of them. The only error is want of memory.
     pub fn new(alloc: Global, names: &'a Items<IncludeName>) -> Result<Renamings<'a>, AllocError>
         ensures { IfOk result (λ renamings. renamings ≡ names.now) }
     {
@@ -101,8 +103,8 @@ impl<'a> Renamings<'a> {
         }
     }
 
-    /// The label as the first renaming that is of it makes it, or a copy of it where none is. It takes a step for
-    /// each byte of the label and of the new name, however many renamings there are.
+    /// The label as the first renaming that is of it makes it, or a copy of it where none is. The only error is want of
+    /// memory. It takes a step for each byte of the label and of the new name, however many renamings there are.
     pub fn rename(&self, alloc: Global, label: &str) -> Result<Text, AllocError>
         ensures { IfOk result (λ new. new ≡ renamed self.now label.now) }
     {

@@ -13,7 +13,9 @@ pub fn is_setter_label(label: &str) -> bool
     has_group(label, "[set]") && !has_group(label, "[get]")
 }
 
-/// The label of a setter's getter: `[get]` for the first `[set]`.
+/// The label of a setter's getter: `[get]` for the first `[set]`. The only error is want of memory.
+///
+/// Source: `process_world_includes` of wit-parser 0.263.0.
 pub fn getter_label(alloc: Global, label: &str) -> Result<Text, AllocError>
     ensures { IfOk result (λ getter. getter ≡ getter_label label.now) }
 {
@@ -56,7 +58,10 @@ fn wanted_by(alloc: Global, label: &str) -> Result<Option<Text>, AllocError>
     }
 }
 
-/// The place of the first setter that has no getter in the same list, or None where each has one.
+/// The place, from 0, of a setter that has no getter in the same list, or None where each has one.
+/// The only error is want of memory.
+///
+/// Source: `process_world_includes` of wit-parser 0.263.0.
 pub fn find_setter_without_getter(
     alloc: Global,
     entries: &Table<WorldKey, WorldItem>,

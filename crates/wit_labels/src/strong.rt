@@ -31,7 +31,7 @@ pub struct Clash<'a> {
     pub earlier: &'a str,
 }
 
-/// The key of a label.
+/// The key of a label. The only error is want of memory.
 pub fn strong_key(alloc: Global, label: &str) -> Result<StrongKey, AllocError>
     ensures { IfOk result (λ key. key ≡ strong_key label.now) }
 {
@@ -72,7 +72,11 @@ fn class_named(group: &str) -> Option<Class>
     }
 }
 
-/// The first label that clashes with an earlier one of the same list, or None where no two clash.
+/// A label that clashes with an earlier one of the same list, with that one, or None where no two
+/// clash. The only error is want of memory.
+///
+/// Source: `validate_world_strongly_unique_names` of wit-parser 0.263.0; WIT.md of the component
+/// model.
 pub fn find_clash<'a>(
     alloc: Global,
     entries: &'a Table<WorldKey, WorldItem>,

@@ -13,11 +13,15 @@ use std::alloc::Global;
 use wit_adding::{Activity, Adding, Places};
 use wit_graph::ResolveResult;
 
-/// Where the things of a package go: what is named of other packages to what the graph has under that name,
-/// its own to the next ids.
+/// Where the things of a package go: what is named of other packages to what the graph has under that name, its own to
+/// the next ids. The package has its shape, and what takes part of it is told by `activity` of wit_gates.
 ///
-/// Refused where a package isn't there (1), or, of what takes part, a world (2), an interface (3) or a type (13)
-/// of another package. The caller has seen that no span passes the last position.
+/// Refused where a package of which something is named isn't there (1), or, of what takes part, a world (2), an
+/// interface (3) or a type (13) of another package; the one that is added counts as there, and empty. Else it is
+/// refused for want of memory (28) alone. That is told too where a place that would be told ends past 4294967295, so
+/// the caller looks at the spans first.
+///
+/// Source: `process_foreign_deps` of wit-parser 0.263.0.
 pub fn places(alloc: Global, adding: &Adding<'_>, activity: &Activity) -> ResolveResult<Places>
     requires shaped { IsShaped adding.now.handed.now }
     requires activity { activity.now ≡ activity_of (addition_of adding.now) }

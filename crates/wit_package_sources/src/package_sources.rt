@@ -15,6 +15,8 @@ use wit_items::{Items, PackageId, SourceMap, Text, TryClone};
 use wit_values::NameSet;
 
 /// The names of the sources that packages come from.
+///
+/// Source: `PackageSources` of wit-parser 0.263.0.
 #[derive(Debug, Drop)]
 pub struct PackageSources {
     sources: Items<Items<Text>>,
@@ -33,7 +35,9 @@ impl Model for PackageSources {
 }
 
 impl PackageSources {
-    /// One source, from which this package comes.
+    /// One source, from which this package comes. The only refusal is want of memory (28).
+    ///
+    /// Source: `from_single_source` of wit-parser 0.263.0.
     pub fn from_single_source(
         alloc: Global,
         package: PackageId,
@@ -45,7 +49,10 @@ impl PackageSources {
         Ok(single_source(alloc, package, source)?)
     }
 
-    /// The sources of these maps, and for each listed package the place of its map.
+    /// The sources of these maps, and for each listed package the place of its map, from 0, which
+    /// is that of one of the maps. The only refusal is want of memory (28).
+    ///
+    /// Source: `from_source_maps` of wit-parser 0.263.0.
     pub fn from_source_maps(
         alloc: Global,
         source_maps: Vec<SourceMap>,
@@ -59,7 +66,10 @@ impl PackageSources {
         Ok(PackageSources { sources, places })
     }
 
-    /// The names of all sources, each once, in the order in which they come first.
+    /// The names of all sources, each once, in the order in which they come first. The only refusal
+    /// is want of memory (28).
+    ///
+    /// Source: `source_names` of `PackageSources` of wit-parser 0.263.0.
     pub fn source_names(&self, alloc: Global) -> ResolveResult<Vec<&str>>
         ensures ok { IfOk result (λ names. map (λ name. name.now) names.items ≡ all_names self.now) }
         ensures err { IfErr result (λ e. e ≡ OutOfMemory) }
@@ -73,6 +83,8 @@ impl PackageSources {
     }
 
     /// The names of a package's sources, in order, or None where the package isn't listed.
+    ///
+    /// Source: `package_source_names` of wit-parser 0.263.0.
     pub fn package_source_names(&self, id: PackageId) -> Option<PackageSourceNames<'_>>
         ensures { result ≡ package_names self.now id }
     {

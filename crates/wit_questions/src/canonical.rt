@@ -10,7 +10,9 @@ use wit_items::{InterfaceId, PackageId, PackageName, Version, WorldKey};
 
 /// The canonical id text of an interface or a world of this name in a package:
 /// `namespace:package/name`, and `@track` where the package has a version. Empty where the package
-/// isn't there.
+/// isn't there. The only refusal is want of memory (28).
+///
+/// Source: `canonicalized_id_of_name` of wit-parser 0.263.0; Explainer.md of the component model.
 pub fn canonicalized_id_of_name(
     alloc: Global,
     graph: &Graph,
@@ -27,6 +29,9 @@ pub fn canonicalized_id_of_name(
 }
 
 /// The canonical id text of an interface, None where it has no name or no package, or isn't there.
+/// The only refusal is want of memory (28).
+///
+/// Source: `canonicalized_id_of` of wit-parser 0.263.0.
 pub fn canonicalized_id_of(
     alloc: Global,
     graph: &Graph,
@@ -47,8 +52,10 @@ pub fn canonicalized_id_of(
     Ok(Some(canonicalized_id_of_name(alloc, graph, package, name.as_str())?))
 }
 
-/// What names a key of a world: a label as it stands, an interface by its canonical id text, which is
-/// empty where the interface has none.
+/// What names a key of a world: a label as it stands, an interface by its canonical id text, which
+/// is empty where the interface has none. The only refusal is want of memory (28).
+///
+/// Source: `name_canonicalized_world_key` of wit-parser 0.263.0.
 pub fn name_canonicalized_world_key(
     alloc: Global,
     graph: &Graph,
@@ -66,9 +73,12 @@ pub fn name_canonicalized_world_key(
     }
 }
 
-/// What the canonical id text of an interface leaves out of the version of its package: what remains of
-/// the version's text after that of its track. None where there is no version or nothing remains, or
-/// the interface has no package or isn't there.
+/// What the canonical id text of an interface leaves out of the version of its package: what
+/// remains of the version's text after that of its track. None where there is no version or nothing
+/// remains, or the interface has no package or isn't there. The only refusal is want of memory
+/// (28).
+///
+/// Source: `version_suffix_of` of wit-parser 0.263.0.
 pub fn version_suffix_of(
     alloc: Global,
     graph: &Graph,

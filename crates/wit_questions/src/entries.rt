@@ -8,7 +8,9 @@ use std::alloc::Global;
 use wit_graph::{Graph, ResolveResult};
 use wit_items::{InterfaceId, Text, WorldItem, WorldKey};
 
-/// The interface with a name that stands under a label.
+/// The interface with a name that stands under a label, None of any other entry.
+///
+/// Source: `implements_interface` of wit-parser 0.263.0.
 pub fn implements_interface(graph: &Graph, key: &WorldKey, item: &WorldItem) -> Option<InterfaceId>
     ensures { result ≡ implements_interface graph.now.interfaces key.now item.now }
 {
@@ -18,7 +20,7 @@ pub fn implements_interface(graph: &Graph, key: &WorldKey, item: &WorldItem) -> 
     }
 }
 
-/// An interface, where it has a name.
+/// An interface, None where it has no name or isn't there.
 pub fn named_interface(graph: &Graph, id: InterfaceId) -> Option<InterfaceId>
     ensures { result ≡ named_interface graph.now.interfaces id }
 {
@@ -28,7 +30,8 @@ pub fn named_interface(graph: &Graph, id: InterfaceId) -> Option<InterfaceId>
     }
 }
 
-/// The external id of an entry, to look at: its own, or that of its function or type.
+/// The external id of an entry, to look at: its own, or that of its function or type. None where
+/// there is none.
 pub fn external_id_of<'a>(graph: &'a Graph, item: &'a WorldItem) -> Option<&'a Text>
     ensures { option_map (λ id. id.now) result ≡ external_id_value graph.now.types item.now }
 {
@@ -39,7 +42,10 @@ pub fn external_id_of<'a>(graph: &'a Graph, item: &'a WorldItem) -> Option<&'a T
     }
 }
 
-/// The external id of an entry: its own, or that of its function or type.
+/// The external id of an entry: its own, or that of its function or type. None where there is none.
+/// The only refusal is want of memory (28).
+///
+/// Source: `external_id_value` of wit-parser 0.263.0.
 pub fn external_id_value(
     alloc: Global,
     graph: &Graph,

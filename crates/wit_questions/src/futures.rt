@@ -15,11 +15,16 @@ use wit_items::{Function, Type_, TypeDef, TypeDefKind, TypeId};
 use wit_relations::{Listing, direct_uses, walk_order};
 use wit_values::Items;
 
-/// The futures and streams that the values of a function's parameters and of its result hold: of the
-/// parameters in order, then of the result, those inside others before them, with repeats. What a
-/// handle or a resource stands for isn't part of a value.
+/// The futures and streams that the values of a function's parameters and of its result hold: of
+/// the parameters in order, then of the result, those inside others before them, with repeats. What
+/// a handle or a resource stands for isn't part of a value. Types refer to types that are there,
+/// and none to itself, through whatever others, as in a valid graph. The only refusal is want of
+/// memory (28).
 ///
-/// It takes a step for each type of the graph, and for each answer one for each type on the way to it.
+/// It takes a step for each type of the graph, and for each answer one for each type on the way to
+/// it.
+///
+/// Source: `find_futures_and_streams` of wit-parser 0.263.0.
 pub fn find_futures_and_streams(
     alloc: Global,
     graph: &Graph,
@@ -38,8 +43,9 @@ pub fn find_futures_and_streams(
     Ok(futures_below(alloc, types, held.as_slice(), places.as_slice())?)
 }
 
-/// Whether a type is among the futures and streams that the values of a function's parameters and of its
-/// result hold.
+/// Whether a type is among the futures and streams that the values of a function's parameters and
+/// of its result hold. Types refer to types that are there, and none to itself, through whatever
+/// others, as in a valid graph. The only refusal is want of memory (28).
 ///
 /// It takes a step for each type of the graph, however many ways lead to it.
 pub fn holds_future_or_stream(

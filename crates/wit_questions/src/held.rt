@@ -26,7 +26,8 @@ fn places(alloc: Global, ids: &[TypeId]) -> Result<Items<usize>, AllocError>
     Ok(places)
 }
 
-/// What the values of which type hold, as rows: row i has what those of type i hold.
+/// What the values of which type hold, as rows: row i has what those of type i hold, both from 0.
+/// The only error is want of memory.
 pub fn held_rows(alloc: Global, types: &[TypeDef]) -> Result<Items<Items<usize>>, AllocError>
     ensures { IfOk result (λ rows. rows ≡ held_rows types.now) }
 {

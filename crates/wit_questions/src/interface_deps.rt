@@ -52,8 +52,10 @@ impl<'a> Iterator for InterfaceDirectDeps<'a> {
     }
 }
 
-/// The interfaces that an interface uses directly, in the order of its types, with repeats. It takes
-/// no memory.
+/// The interfaces that an interface uses directly, in the order of its types, with repeats. The
+/// interface is there. It takes no memory.
+///
+/// Source: `interface_direct_deps` of wit-parser 0.263.0.
 pub fn interface_direct_deps(graph: &Graph, id: InterfaceId) -> InterfaceDirectDeps<'_>
     requires { id < length graph.now.interfaces }
     ensures { result ≡ interface_direct_deps graph.now.types graph.now.interfaces id }

@@ -118,7 +118,9 @@ fn next_other(
 
 /// The packages that a package depends on directly, other than itself, with repeats: those of what
 /// the interfaces of its table use, and then those of what its worlds name, imports before exports.
-/// It takes no memory.
+/// The package is there. It takes no memory.
+///
+/// Source: `package_direct_deps` of wit-parser 0.263.0.
 pub fn package_direct_deps(graph: &Graph, id: PackageId) -> PackageDirectDeps<'_>
     requires { id < length graph.now.packages }
     ensures { result ≡ package_direct_deps graph.now.types graph.now.interfaces graph.now.worlds graph.now.packages id }
@@ -131,7 +133,8 @@ pub fn package_direct_deps(graph: &Graph, id: PackageId) -> PackageDirectDeps<'_
     }
 }
 
-/// Which package depends on which, as rows: row i has the direct dependencies of package i.
+/// Which package depends on which, as rows: row i has the direct dependencies of package i, both
+/// from 0. The only error is want of memory.
 pub fn package_uses(alloc: Global, graph: &Graph) -> Result<Items<Items<usize>>, AllocError>
     ensures { IfOk result (λ rows. rows ≡ package_uses graph.now.types graph.now.interfaces graph.now.worlds graph.now.packages) }
 {
@@ -156,6 +159,10 @@ fn package_row(alloc: Global, graph: &Graph, id: PackageId) -> Result<Items<usiz
 }
 
 /// All packages by their ids, but each after those that it depends on, in order, and each once.
+/// Packages depend on packages that are there, and none on itself, through whatever others, as in a
+/// valid graph. The only refusal is want of memory (28).
+///
+/// Source: `topological_packages` of wit-parser 0.263.0.
 pub fn topological_packages(alloc: Global, graph: &Graph) -> ResolveResult<Vec<PackageId>>
     requires { IsAcyclic (package_uses graph.now.types graph.now.interfaces graph.now.worlds graph.now.packages) }
     ensures order { IfOk result (λ order. order.items ≡ topological_packages graph.now.types graph.now.interfaces graph.now.worlds graph.now.packages) }

@@ -27,8 +27,10 @@ fn is_number(ty: Type_) -> bool
     }
 }
 
-/// By flags that tell of which types all bits are valid, whether any bits are a value of this one: of a number, or of
-/// a type whose flag is on. It takes no memory.
+/// By flags that tell of which types all bits are valid, one for each type by its place, whether any bits are a value
+/// of this one: of a number, or of a type whose flag is there and on. It takes no memory.
+///
+/// Source: `all_bits_valid` of wit-parser 0.263.0.
 pub fn is_valid_by(flags: &[bool], ty: Type_) -> bool
     ensures { result ≡ is_valid_by flags.now ty }
 {
@@ -41,8 +43,11 @@ pub fn is_valid_by(flags: &[bool], ty: Type_) -> bool
     }
 }
 
-/// Adds the flags of the types that have none yet, behind those of the first ones. It looks at the new types alone:
-/// twice at each where a type comes behind its parts. Where there is no memory the flags are as before.
+/// Adds the flags of the types that have none yet, behind those of the first ones, which tell of these already. There
+/// are no more flags than types. It looks at the new types alone: twice at each where a type comes behind its parts.
+/// Where there is no memory the flags are as before.
+///
+/// Source: `all_bits_valid` of wit-parser 0.263.0.
 pub fn add_valid_bits(
     alloc: Global,
     flags: &mut Items<bool>,

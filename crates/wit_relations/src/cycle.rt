@@ -25,6 +25,8 @@ enum Mark {
 }
 
 /// A use on a cycle, where there is one: of a node that reaches itself along uses, or uses itself.
+/// Of several any may be told. Row i has what node i uses, from 0, and each use is of a node that
+/// is there. The only error is want of memory.
 ///
 /// It takes a mark for each node and a step for each node and each use.
 pub fn find_cycle(alloc: Global, uses: &[Items<usize>]) -> Result<Option<CycleUse>, AllocError>
@@ -42,7 +44,8 @@ pub fn find_cycle(alloc: Global, uses: &[Items<usize>]) -> Result<Option<CycleUs
     Ok(None)
 }
 
-/// Whether each use is of a node that is there and no path leads from a node back to it.
+/// Whether each use is of a node that is there and no path leads from a node back to it. It is told
+/// of any rows. The only error is want of memory.
 pub fn is_acyclic(alloc: Global, uses: &[Items<usize>]) -> Result<bool, AllocError>
     ensures { IfOk result (λ acyclic. IsTrue acyclic ↔ IsAcyclic uses.now) }
 {

@@ -3,17 +3,18 @@ ghost use Rattle.std.specs.Prelude.{ℕ, List};
 ghost use Rattle.wit_relations.specs.Examples.{ExamplesOfCycles, ExamplesOfPaths, ExamplesOfWalks};
 ghost use Rattle.wit_relations.specs.Laws.{FirstsAreOnce, WalksKeepOrder, WalksReach, WalksUnfold};
 
-/// A walk is the walks of the direct uses, in order, and then the node.
+/// Where no node reaches itself, a walk is the walks of the direct uses, in order, and then the
+/// node.
 pub fn walks_unfold()
     ensures { WalksUnfold }
 {}
 
-/// The order of some roots lists exactly what they reach.
+/// Where no node reaches itself, the order of some roots lists exactly what they reach.
 pub fn walks_reach()
     ensures { WalksReach }
 {}
 
-/// Each direct use stands before its user.
+/// Where no node reaches itself, each direct use stands before its user in the order of some roots.
 pub fn walks_keep_order()
     ensures { WalksKeepOrder }
 {}

@@ -6,7 +6,7 @@ ghost use Rattle.wit_relations.specs.Relation.{IsInRange, direct};
 
 use wit_values::Items;
 
-/// The direct uses of a node, in order, with repeats.
+/// The direct uses of a node that is there, in order, with repeats.
 pub fn direct_uses(uses: &[Items<usize>], node: usize) -> &[usize]
     requires { node < length uses.now }
     ensures { result.now ≡ direct uses.now node }

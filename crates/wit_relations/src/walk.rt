@@ -13,7 +13,7 @@ use std::alloc::{AllocError, Global};
 use std::marker::Model;
 use wit_values::Items;
 
-/// Some of a number of nodes, in the order in which they were listed.
+/// Some of a number of nodes, in the order in which they were listed. Nodes count from 0.
 #[derive(Drop)]
 pub struct Listing {
     marks: Items<bool>,
@@ -42,7 +42,7 @@ impl Listing {
         }
     }
 
-    /// None of `nodes` nodes. It takes a mark for each.
+    /// None of `nodes` nodes. It takes a mark for each. The only error is want of memory.
     pub fn new(alloc: Global, nodes: usize) -> Result<Listing, AllocError>
         ensures { IfOk result (λ l. l ≡ record { nodes = nodes; order = [] }) }
     {
@@ -53,7 +53,8 @@ impl Listing {
         })
     }
 
-    /// All nodes, each after all that it uses.
+    /// All nodes, each after all that it uses. Each use is of a node that is there, and no path
+    /// leads from a node back to it. The only error is want of memory.
     ///
     /// It takes a mark and a step for each node, and a step for each of their uses.
     pub fn of_all(alloc: Global, uses: &[Items<usize>]) -> Result<Listing, AllocError>
@@ -77,13 +78,14 @@ impl Listing {
         self.order.as_slice()
     }
 
+    /// The nodes that are listed, in order. It takes no memory.
     pub fn into_order(self) -> Items<usize>
         ensures { result ≡ self.order }
     {
         self.order
     }
 
-    /// Whether a node is listed.
+    /// Whether a node, one of those that there are, is listed.
     pub fn has(&self, node: usize) -> bool
         requires { node < self.now.nodes }
         ensures { IsTrue result ↔ Contains self.now.order node }
@@ -91,7 +93,8 @@ impl Listing {
         *self.marks.at(node)
     }
 
-    /// Lists one more node. Where there is no memory the listing is as before.
+    /// Lists one more of the nodes that there are, which isn't listed yet. Where there is no memory
+    /// the listing is as before.
     pub fn push(&mut self, node: usize) -> Result<(), AllocError>
         requires in_range { node < self.old.nodes }
         requires new { Contains self.old.order node → ⊥ }
@@ -118,8 +121,8 @@ impl Listing {
         self.marks.len()
     }
 
-    /// None of the first `nodes` nodes; the others are no nodes any more. It takes no memory, and a step for each node
-    /// that was listed or goes.
+    /// None of the first `nodes` nodes, of which there are at least as many now; the others are no
+    /// nodes any more. It takes no memory, and a step for each node that was listed or goes.
     pub fn cut(&mut self, nodes: usize)
         requires { nodes ≤ self.old.nodes }
         ensures { self.new ≡ record { nodes = nodes; order = [] } }
@@ -139,11 +142,15 @@ impl Listing {
         self.order.truncate(0);
     }
 
-    /// Lists the members of the walk of `root` that are not listed yet, in the walk's order.
+    /// Lists the members of the walk of `root` that are not listed yet, in the walk's order. The
+    /// listing is of as many nodes as there are rows, `root` and each use are among them, no path
+    /// leads from a node back to it, and each node that is listed already stands after all that it
+    /// uses.
     ///
-    /// It takes a step for each node that it lists and for each of their uses. For uses are acyclic,
-    /// so a node on the stack is not met again before it is listed, and a listed one is not entered.
-    /// Where memory runs out, some of them may be listed, each after all that it uses.
+    /// It takes a step for each node that it lists and for each of their uses. For uses are
+    /// acyclic, so a node on the stack is not met again before it is listed, and a listed one is
+    /// not entered. The only error is want of memory. Then some of them may be listed, each after
+    /// all that it uses.
     pub fn list_walk(
         &mut self,
         alloc: Global,
@@ -189,7 +196,9 @@ impl Listing {
     }
 }
 
-/// The nodes of the walks of the roots, each once, where it comes first.
+/// The nodes of the walks of the roots, each once, where it comes first. Each use is of a node that
+/// is there, as each root is, and no path leads from a node back to it. The only error is want of
+/// memory.
 ///
 /// It takes a mark for each node, and a step for each root, for each node that a root reaches and
 /// for each of their uses.

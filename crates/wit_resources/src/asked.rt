@@ -28,7 +28,8 @@ pub(crate) fn asked(
     marked(alloc, adding.handed.types.len(), ids.as_slice())
 }
 
-/// A flag for each of so many types, whether it is among these.
+/// A flag for each of so many types, whether it is among these, which are all below the count. The
+/// only error is want of memory.
 pub fn marked(alloc: Global, count: usize, ids: &[TypeId]) -> Result<Items<bool>, AllocError>
     requires { All (λ id. id < count) ids.now }
     ensures { IfOk result (λ marks. marks ≡ map (λ t. list_any (nat_eq t) ids.now) (range_with_len 0 count)) }
@@ -76,7 +77,10 @@ fn push_types(
     Ok(())
 }
 
-/// The types at the value positions of a kind: all that it names, but not what an alias or a handle names.
+/// The types at the value positions of a kind: all that it names, but not what an alias or a handle
+/// names. The only error is want of memory.
+///
+/// Source: `update_typedef` of wit-parser 0.263.0.
 pub fn value_positions(alloc: Global, kind: &TypeDefKind) -> Result<Items<TypeId>, AllocError>
     ensures { IfOk result (λ ids. ids ≡ value_positions kind.now) }
 {
@@ -87,6 +91,9 @@ pub fn value_positions(alloc: Global, kind: &TypeDefKind) -> Result<Items<TypeId
 }
 
 /// Adds the types at the value positions of a function: those of its parameters and of its result.
+/// Where there is no memory, some of them may have been added.
+///
+/// Source: `update_function` of wit-parser 0.263.0.
 pub fn push_signature(ids: &mut Items<TypeId>, function: &Function) -> Result<(), AllocError>
     ensures { OnOk result (ids.new ≡ ids.old ++ signature_positions function.now) }
 {

@@ -61,8 +61,12 @@ fn push_places(stack: &mut Items<usize>, ids: &[TypeId]) -> Result<(), AllocErro
     Ok(())
 }
 
-/// Whether the values of a type of a graph hold a borrow. Types that are known to hold none aren't entered, and
-/// more become known where it holds none.
+/// Whether the values of a type of a graph hold a borrow. The type is there, types refer to types that are there, and
+/// none to itself, through whatever others, as in a valid graph. `free` has types, by their places, that are known to
+/// hold none, with all that these hold; they aren't entered. Where the answer is no, more are known. After another
+/// answer, and after want of memory, which is the only error, the set isn't to be used again.
+///
+/// Source: `type_has_borrow` of wit-parser 0.263.0.
 pub fn holds_borrow(
     alloc: Global,
     types: &[TypeDef],

@@ -16,9 +16,14 @@ use wit_graph::ResolveResult;
 use wit_items::{Span, TypeId};
 use wit_values::Table;
 
-/// Refuses a type that has to be a resource and doesn't lead to one.
+/// Refuses a type that has to be a resource and doesn't lead to one (14). The package has its
+/// shape, the graph is valid, and where things go is told by `places` of wit_lookup. A place that
+/// would be told and ends past 4294967295 is refused (27), and else want of memory (28) alone.
 ///
-/// It takes a step for each such type, and for each alias of the graph on the way to what they name.
+/// It takes a step for each such type, and for each alias of the graph on the way to what they
+/// name.
+///
+/// Source: `process_foreign_deps` of wit-parser 0.263.0.
 pub fn check_resources(alloc: Global, adding: &Adding<'_>, places: &Places) -> ResolveResult<()>
     requires shaped { IsShaped adding.now.handed.now }
     requires valid { IsValid adding.now.graph.now }

@@ -15,11 +15,15 @@ use std::mem;
 use wit_graph::{Elaborator, Graph, Lists, ResolveResult};
 use wit_values::Items;
 
-/// Elaborates all worlds of a graph. It costs what the types of all interfaces and what each world reaches cost.
+/// Elaborates all worlds of a graph. In it no interface comes back to itself along its uses, and in each world what
+/// stands under the key of an interface is that interface, and the interfaces of all entries are there. It costs what
+/// the types of all interfaces and what each world reaches cost.
 ///
-/// It is refused, with the kind `InvalidTransitiveDependency`, where what the exports of some world need from outside
-/// is exported, at the span of that world and under the name that its elaboration tells. After a refusal the graph is
-/// as before.
+/// It is refused, with the kind `InvalidTransitiveDependency` (4), where what the exports of some world need from
+/// outside is exported, at the span of that world and under the name that its elaboration tells. Else it is refused for
+/// want of memory (28) alone. After a refusal the graph is as before.
+///
+/// Source: `merge` and `merge_world_imports_based_on_semver` of wit-parser 0.263.0.
 pub fn elaborate_all(alloc: Global, graph: &mut Graph) -> ResolveResult<()>
     requires acyclic { IsAcyclic (graph_uses graph.old) }
     requires listed { Each (λ (world : World). HasSoundEntries graph.old.types (length graph.old.interfaces) world.imports world.exports) graph.old.worlds }

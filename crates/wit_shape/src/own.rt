@@ -53,7 +53,9 @@ fn all_keep_to_own(
     all_exports_use_own(alloc, types, shown, unresolved.worlds.as_slice())
 }
 
-/// Whether each named type but an alias refers to types of its owner alone.
+/// Whether each named type but an alias refers to types of its owner alone, as seen through types
+/// without names. What is shown of each type is told by `shown_by_each`. The only error is want of
+/// memory.
 pub fn all_refer_to_own(
     alloc: Global,
     types: &[TypeDef],
@@ -118,7 +120,9 @@ fn uses_own(
     Ok(are_own(types, shown, owner, ids.as_slice()))
 }
 
-/// Whether each function of each interface refers to types of the interface alone.
+/// Whether each function of each interface refers to types of the interface alone, as seen through
+/// types without names. What is shown of each type is told by `shown_by_each`. The only error is
+/// want of memory.
 pub fn all_functions_use_own(
     alloc: Global,
     types: &[TypeDef],
@@ -168,7 +172,9 @@ fn functions_use_own(
     Ok(true)
 }
 
-/// Whether each function that worlds import refers to types of its world alone.
+/// Whether each function that worlds import refers to types of its world alone, as seen through
+/// types without names. What is shown of each type is told by `shown_by_each`. The only error is
+/// want of memory.
 pub fn all_imports_use_own(
     alloc: Global,
     types: &[TypeDef],
@@ -186,7 +192,9 @@ pub fn all_imports_use_own(
     Ok(true)
 }
 
-/// Whether each function that worlds export refers to types of its world alone.
+/// Whether each function that worlds export refers to types of its world alone, as seen through
+/// types without names. What is shown of each type is told by `shown_by_each`. The only error is
+/// want of memory.
 pub fn all_exports_use_own(
     alloc: Global,
     types: &[TypeDef],

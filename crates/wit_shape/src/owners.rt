@@ -31,7 +31,8 @@ pub(crate) fn has_owners(alloc: Global, unresolved: &UnresolvedPackage) -> Resul
     are_listed(interfaces, unresolved.worlds.as_slice(), types)
 }
 
-/// Whether each type with an owner is listed by it, and each other has no name.
+/// Whether each type with an owner has a name and is listed by its owner under it, and each other
+/// has no name. The only error is want of memory.
 pub fn are_listed(
     interfaces: &[Interface],
     worlds: &[World],

@@ -18,9 +18,15 @@ use wit_relations::is_acyclic;
 /// Whether the package has its shape, which is what the calls that resolve it ask of it.
 ///
 /// Ids are places of its own lists. What it knows of other packages comes first in each list:
-/// interfaces and worlds by name alone, and types of kind `Unknown`. Owners list their types under
-/// their names; types refer to earlier ones; but for aliases, an owner's types and functions refer
-/// to its own types alone; and interfaces don't use themselves, through whatever others.
+/// interfaces and worlds by name alone, and types of kind `Unknown`, which alone may have to be
+/// resources; there is a span for each other package and each such type. Names are kebab names, and
+/// those of its own interfaces differ, as do those of its own worlds. Owners list their types under
+/// their names; types refer to earlier ones; an alias names a named type of its owner or of an
+/// interface with a name; a type without a name is no alias and no resource; but for aliases, an
+/// owner's types and functions refer to its own types alone; and interfaces don't use themselves,
+/// through whatever others. Worlds have what may stand in them, an interface without a name in one
+/// place at most, and include earlier worlds. Interfaces and worlds don't say yet to which package
+/// they belong.
 ///
 /// It takes time in proportion to the package's size, and refuses only for want of memory.
 pub fn is_shaped(alloc: Global, unresolved: &UnresolvedPackage) -> Result<bool, AllocError>
@@ -48,7 +54,7 @@ pub fn is_shaped(alloc: Global, unresolved: &UnresolvedPackage) -> Result<bool, 
     are_uses_acyclic(alloc, unresolved)
 }
 
-/// Whether the main package and each nested one have their shape.
+/// Whether the main package and each nested one have their shape. The only error is want of memory.
 pub fn is_group_shaped(alloc: Global, group: &UnresolvedPackageGroup) -> Result<bool, AllocError>
     ensures { IfOk result (λ shaped. IsTrue shaped ↔ IsGroupShaped group.now) }
 {

@@ -22,7 +22,8 @@ pub enum Shown {
     Several,
 }
 
-/// What each type shows, where no type refers to itself.
+/// What each type shows. Types refer to types that are there, and none to itself, through whatever others. The only
+/// error is want of memory.
 pub fn shown_by_each(alloc: Global, types: &[TypeDef]) -> Result<Items<Shown>, AllocError>
     requires { IsAcyclic (type_references types.now) }
     ensures { IfOk result (λ shown. TellsEach types.now shown) }
@@ -86,7 +87,8 @@ fn join(a: Shown, b: Shown) -> Shown
     }
 }
 
-/// Whether there is such a type, and no named type that it shows is of another owner.
+/// Whether there is such a type, and no named type that it shows is of another owner. What is shown of each type is
+/// told by `shown_by_each`.
 pub fn is_own(types: &[TypeDef], shown: &Items<Shown>, owner: TypeOwner, id: TypeId) -> bool
     requires { TellsEach types.now shown.now }
     ensures { IsTrue result ↔ IsOwn types.now owner id }

@@ -71,7 +71,9 @@ fn is_import(
     }
 }
 
-/// Whether the imports of each world are imports.
+/// Whether the imports of each world are imports: under the key of an interface that interface,
+/// which has a name, and under a label an interface, the function of that name or the world's own
+/// type of that name.
 pub fn all_have_imports(interfaces: &[Interface], types: &[TypeDef], worlds: &[World]) -> bool
     ensures { IsTrue result ↔ EachAt (HasImports interfaces.now types.now) worlds.now }
 {
@@ -101,7 +103,8 @@ fn has_imports(interfaces: &[Interface], types: &[TypeDef], owner: WorldId, worl
     true
 }
 
-/// Whether the exports of each world are exports.
+/// Whether the exports of each world are exports: under the key of an interface that interface,
+/// which has a name, and under a label an interface or the function of that name.
 pub fn all_have_exports(interfaces: &[Interface], worlds: &[World]) -> bool
     ensures { IsTrue result ↔ Each (HasExports interfaces.now) worlds.now }
 {
@@ -139,7 +142,8 @@ fn includes_earlier(index: usize, world: &World) -> bool
         .all(|include| include.id.index() < index)
 }
 
-/// Whether no interface without a name stands in two places of all worlds.
+/// Whether no interface without a name stands in two places of all worlds. The only error is want
+/// of memory.
 pub fn stand_once(
     alloc: Global,
     interfaces: &[Interface],

@@ -13,11 +13,15 @@ use wit_graph::ResolveResult;
 use wit_items::{Items, UnresolvedPackage};
 use wit_relations::{find_cycle, in_order, walk_order};
 
-/// The packages, each with the offset by which its spans move, in the order in which they are added:
-/// each after those that it depends on, and else in the order of their names.
+/// The packages, each with the offset by which its spans move, in the order in which they are
+/// added: each after those that it depends on, and else in the order of their names. Each has a
+/// span for each package that it names things of, as one that has its shape does.
 ///
-/// Refused where two have one name (5), where packages depend on each other, or one on itself (6), and
-/// where a place that would be told ends past 4294967295 (27). Each package is moved.
+/// Refused where two have one name (5), where packages depend on each other, or one on itself (6),
+/// where a place that would be told ends past 4294967295 (27), and for want of memory (28). Each
+/// package is moved, and let go after a refusal.
+///
+/// Source: `sort_unresolved_packages` of wit-parser 0.263.0.
 pub fn sort_groups(
     alloc: Global,
     handed: Items<(UnresolvedPackage, u32)>,

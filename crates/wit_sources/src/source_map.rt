@@ -18,6 +18,7 @@ mod rendering;
 pub enum MapFault {
     /// The end of the map would pass 4294967295.
     OffsetOverflow,
+    /// Memory was refused.
     OutOfMemory,
 }
 
@@ -64,8 +65,10 @@ impl TryClone for SourceFile {
     }
 }
 
-/// Files in one row of positions. Each takes its length plus one positions, so that the end of its
-/// text has a position too, and begins where those before it end.
+/// Files in one row of positions, which count from 0. Each file takes its length in bytes plus one
+/// positions, so that the end of its text has a position too, and begins where those before it end.
+///
+/// Source: `SourceMap` of wit-parser 0.263.0.
 #[derive(Drop)]
 pub struct SourceMap {
     files: Vec<SourceFile>,
@@ -101,8 +104,10 @@ impl SourceMap {
         }
     }
 
-    /// Adds a file at the end. The map is as before after a fault, which is `OffsetOverflow` exactly
-    /// where the file would end past 4294967295, and else only want of memory.
+    /// Adds a file at the end. The map is as before after a fault, which is `OffsetOverflow`
+    /// exactly where the file would end past 4294967295, and else only want of memory.
+    ///
+    /// Source: `push_str` of `SourceMap` of wit-parser 0.263.0.
     pub fn push_str(&mut self, alloc: Global, path: &str, contents: String) -> Result<(), MapFault>
         ensures ok { OnOk result (self.new ≡ with_file self.old path.now (string_bytes contents)) }
         ensures err { OnErr result (self.new ≡ self.old) }
@@ -126,7 +131,10 @@ impl SourceMap {
 
     /// Adds the files of another map at the end, and answers where they begin: they and the end of
     /// their map move by that many positions. The map is as before after a fault, which is
-    /// `OffsetOverflow` exactly where the new end would pass 4294967295, and else only want of memory.
+    /// `OffsetOverflow` exactly where the new end would pass 4294967295, and else only want of
+    /// memory.
+    ///
+    /// Source: `append` of `SourceMap` of wit-parser 0.263.0.
     pub fn append(&mut self, _alloc: Global, other: SourceMap) -> Result<u32, MapFault>
         ensures ok { IfOk result (λ offset. (offset ≡ self.old.end) × (self.new ≡ with_sources self.old other)) }
         ensures err { OnErr result (self.new ≡ self.old) }
@@ -175,6 +183,8 @@ impl SourceMap {
     }
 
     /// The paths of the files, in order.
+    ///
+    /// Source: `source_names` of `SourceMap` of wit-parser 0.263.0.
     pub fn source_names(&self) -> SourceNames<'_>
         ensures { result ≡ paths_of self.now.files }
     {

@@ -8,7 +8,9 @@ use std::marker::Model;
 use wit_values::TryClone;
 
 /// Where a piece of text stands in a source map: from one position up to another, which it does not
-/// take, or unknown.
+/// take, or unknown. Positions count bytes, from 0.
+///
+/// Source: `Span` of wit-parser 0.263.0.
 #[derive(Clone, Copy, Debug, PartialEq, Eq)]
 pub struct Span {
     range: Option<(u32, u32)>,
@@ -28,7 +30,7 @@ impl Model for Span {
 }
 
 impl Span {
-    /// The span from a position up to another.
+    /// The span from a position up to another, which isn't before it.
     pub fn new(start: u32, end: u32) -> Span
         requires { start ≤ end }
         ensures { result ≡ Some (start, end) }
@@ -45,6 +47,9 @@ impl Span {
         Span { range: None }
     }
 
+    /// Whether the span is known.
+    ///
+    /// Source: `is_known` of `Span` of wit-parser 0.263.0.
     pub fn is_known(self) -> bool
         ensures { IsTrue result ↔ IsSome self }
     {
@@ -52,6 +57,8 @@ impl Span {
     }
 
     /// The first position, 0 where the span is unknown.
+    ///
+    /// Source: `start` of `Span` of wit-parser 0.263.0.
     pub fn start(self) -> u32
         ensures value { result ≡ start_of self }
         ensures ordered { result ≤ end_of self }
@@ -63,6 +70,8 @@ impl Span {
     }
 
     /// The position after the last, 0 where the span is unknown.
+    ///
+    /// Source: `end` of `Span` of wit-parser 0.263.0.
     pub fn end(self) -> u32
         ensures value { result ≡ end_of self }
         ensures ordered { start_of self ≤ result }

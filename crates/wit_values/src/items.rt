@@ -11,7 +11,7 @@ use std::alloc::{AllocError, Global};
 use std::marker::Model;
 use std::{fmt, mem, slice};
 
-/// A growing list that its owner keeps.
+/// A growing list that its owner keeps. Indices count from 0.
 #[derive(Drop)]
 pub struct Items<T> {
     inner: Vec<T>,
@@ -89,7 +89,8 @@ impl<T> Items<T> {
     }
 
     /// Makes room for `additional` more items. Contracts, which see no room, learn where it answers
-    /// Ok that the list can count so many more.
+    /// Ok that the list can count so many more. The items stay as they are, also where there is no
+    /// memory.
     pub fn reserve(&mut self, additional: usize) -> Result<(), AllocError>
         ensures room { OnOk result (length self.old + additional < 2 ^ 64) }
         ensures same { self.new ≡ self.old }
@@ -113,7 +114,7 @@ impl<T> Items<T> {
         self.inner.append(&mut items)
     }
 
-    /// The item at an index.
+    /// The item at an index, which is below the length.
     pub fn at(&self, index: usize) -> &T
         requires { index < length self.now }
         ensures { slice_get self.now index ≡ Some result.now }
@@ -121,7 +122,7 @@ impl<T> Items<T> {
         &self.inner[index]
     }
 
-    /// The item at an index, to write.
+    /// The item at an index, which is below the length, to write.
     pub fn at_mut(&mut self, index: usize) -> &mut T
         requires { index < length self.old }
         ensures* writes_back { sem 𝓛 (LendsItem T.row self.entry index result) }
@@ -130,7 +131,7 @@ impl<T> Items<T> {
         &mut self.inner[index]
     }
 
-    /// Puts an item in the place of another, which it gives back.
+    /// Puts an item in the place of another, which it gives back. The index is below the length.
     pub fn replace(&mut self, index: usize, item: T) -> T
         requires { index < length self.old }
         ensures new { self.new ≡ slice_set self.old index item }
@@ -139,7 +140,7 @@ impl<T> Items<T> {
         mem::replace(&mut self.inner[index], item)
     }
 
-    /// Puts an item in the place of another, which is let go.
+    /// Puts an item in the place of another, which is let go. The index is below the length.
     pub fn set(&mut self, index: usize, item: T)
     where
         T: Drop,

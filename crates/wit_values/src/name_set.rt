@@ -10,7 +10,7 @@ use std::alloc::{AllocError, Global};
 use std::fmt;
 use std::marker::Model;
 
-/// Texts that differ, in the order in which they came.
+/// Texts that differ, in the order in which they came. Indices count from 0.
 #[derive(Drop)]
 pub struct NameSet {
     inner: IndexSet<String>,
@@ -58,7 +58,7 @@ impl NameSet {
         self.inner.contains(text)
     }
 
-    /// The text at an index.
+    /// The text at an index, which is below the length.
     pub fn text_at(&self, index: usize) -> &str
         requires { index < length self.now }
         ensures { slice_get self.now index ≡ Some result.now }

@@ -16,7 +16,7 @@ use std::alloc::{AllocError, Global};
 use std::fmt;
 use std::marker::Model;
 
-/// A table of values under texts that differ, in insertion order.
+/// A table of values under texts that differ, in insertion order. Indices count from 0.
 #[derive(Drop)]
 pub struct Names<V> {
     inner: IndexMap<String, V>,
@@ -93,7 +93,7 @@ impl<V> Names<V> {
         self.get(key).is_some()
     }
 
-    /// The pair at an index.
+    /// The pair at an index, which is below the length.
     pub fn entry_at(&self, index: usize) -> (&str, &V)
         requires { index < length self.now }
         ensures { slice_get self.now index ≡ Some (result.0.now, result.1.now) }
@@ -120,7 +120,8 @@ impl<V> Names<V> {
         *self.inner.allocator()
     }
 
-    /// Adds a pair under a new name at the end. Where there is no memory the table is as before.
+    /// Adds a pair at the end, under a name that isn't there yet. Where there is no memory the
+    /// table is as before.
     pub fn push(&mut self, key: String, value: V) -> Result<(), AllocError>
     where
         V: Drop,

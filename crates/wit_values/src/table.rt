@@ -14,7 +14,7 @@ use std::fmt;
 use std::hash::Hash;
 use std::marker::Model;
 
-/// A table in insertion order, whose keys differ.
+/// A table in insertion order, whose keys differ. Indices count from 0.
 #[derive(Drop)]
 pub struct Table<K: Eq + Hash, V> {
     inner: IndexMap<K, V>,
@@ -97,7 +97,7 @@ impl<K: Eq + Hash, V> Table<K, V> {
         self.inner.get_index(index)
     }
 
-    /// The pair at an index.
+    /// The pair at an index, which is below the length.
     pub fn entry_at(&self, index: usize) -> (&K, &V)
         requires { index < length self.now }
         ensures { slice_get self.now index ≡ Some (result.0.now, result.1.now) }
@@ -122,7 +122,8 @@ impl<K: Eq + Hash, V> Table<K, V> {
         *self.inner.allocator()
     }
 
-    /// Adds a pair under a new key at the end. Where there is no memory the table is as before.
+    /// Adds a pair at the end, under a key that isn't there yet. Where there is no memory the table
+    /// is as before.
     pub fn push(&mut self, key: K, value: V) -> Result<(), AllocError>
     where
         K: Drop,

@@ -53,7 +53,7 @@ impl Text {
         self.inner
     }
 
-    /// A copy of a text.
+    /// A copy of a text. The only error is want of memory.
     pub fn try_from_str(alloc: Global, text: &str) -> Result<Text, AllocError>
         ensures { IfOk result (λ t. t ≡ text.now) }
     {

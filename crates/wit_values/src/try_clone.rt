@@ -33,14 +33,15 @@ impl TryClone for usize {
     }
 }
 
-/// Copies of two values, by one call and with one error. A struct of several parts copies them so.
+/// Copies of two values, by one call and with one error, want of memory. A struct of several parts
+/// copies them so.
 pub fn try_clone_two<A: TryClone, B: TryClone>(a: &A, b: &B) -> Result<(A, B), AllocError>
     ensures { IfOk result (λ r. (r.0 ≡ a.now) × (r.1 ≡ b.now)) }
 {
     Ok((a.try_clone()?, b.try_clone()?))
 }
 
-/// Copies of three values.
+/// Copies of three values, by one call and with one error, want of memory.
 pub fn try_clone_three<A: TryClone, B: TryClone, C: TryClone>(
     a: &A,
     b: &B,
@@ -51,7 +52,7 @@ pub fn try_clone_three<A: TryClone, B: TryClone, C: TryClone>(
     Ok((a.try_clone()?, b.try_clone()?, c.try_clone()?))
 }
 
-/// Copies of four values.
+/// Copies of four values, by one call and with one error, want of memory.
 pub fn try_clone_four<A: TryClone, B: TryClone, C: TryClone, D: TryClone>(
     a: &A,
     b: &B,
@@ -65,7 +66,7 @@ pub fn try_clone_four<A: TryClone, B: TryClone, C: TryClone, D: TryClone>(
     Ok((a, b, c, d))
 }
 
-/// Copies of six values.
+/// Copies of six values, by one call and with one error, want of memory.
 pub fn try_clone_six<A: TryClone, B: TryClone, C: TryClone, D: TryClone, E: TryClone, F: TryClone>(
     a: &A,
     b: &B,

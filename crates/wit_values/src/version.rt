@@ -15,8 +15,10 @@ use std::fmt;
 use std::hash::{Hash, Hasher};
 use std::marker::Model;
 
-/// A version as SemVer 2.0.0 has it. Versions are ordered by the total order of the `semver` crate,
-/// which compares build metadata too, so versions of equal order are equal.
+/// A version as SemVer 2.0.0 has it. Versions are ordered by the total order of the `semver` crate, which compares
+/// build metadata too, so versions of equal order are equal.
+///
+/// Source: SemVer 2.0.0; `Version` of the `semver` crate.
 #[derive(Drop)]
 pub struct Version {
     inner: semver::Version,
@@ -32,9 +34,10 @@ impl Model for Version {
 }
 
 impl Version {
-    /// The version of a text, as the `semver` crate reads it, or that crate's error: of memory, or of
-    /// what is wrong with a text that is no version. A version without pre-release and build metadata
-    /// needs no memory.
+    /// The version of a text, as the `semver` crate reads it, or that crate's error: of memory, or of what is wrong
+    /// with a text that is no version. A version without pre-release and build metadata needs no memory.
+    ///
+    /// Source: `Version::parse` of the `semver` crate.
     pub fn parse(alloc: Global, text: &str) -> Result<Version, semver::Error>
         ensures ok { IfOk result (λ v. version_parts text.now ≡ Ok v) }
         ensures err { IfErr result (λ e. (e ≡ memory_error) ⊎ (version_parts text.now ≡ Err e)) }

@@ -15,8 +15,10 @@ use std::fmt;
 const LONGEST_LINE: usize = 500;
 
 impl SourceMap {
-    /// Where a span begins: `path:line:column`, both numbers from 1, or `<unknown>` where the span is
-    /// unknown or in no file. Lines end at line feeds, columns count characters.
+    /// Where a span begins: `path:line:column`, both numbers from 1, or `<unknown>` where the span is unknown or in no
+    /// file. Lines end at line feeds, columns count characters. The only error is want of memory.
+    ///
+    /// Source: `render_location` of `SourceMap` of wit-parser 0.263.0.
     pub fn render_location(&self, alloc: Global, span: Span) -> Result<String, AllocError>
         ensures { IfOk result (λ text. string_bytes text ≡ location_of self.now.files span) }
     {
@@ -29,8 +31,11 @@ impl SourceMap {
         }
     }
 
-    /// A text with the line in which a span begins, the span underlined in it. None where the span is
-    /// unknown or in no file. A line of more than 500 bytes isn't shown.
+    /// A text with the line in which a span begins, the span underlined in it. None where the span is unknown or in no
+    /// file. A line of more than 500 bytes isn't shown: then the place stands before the text. The only error is want
+    /// of memory.
+    ///
+    /// Source: `highlight_span` of `SourceMap` of wit-parser 0.263.0.
     pub fn highlight_span(
         &self,
         alloc: Global,
