@@ -15,7 +15,7 @@ pub fn unions_stay_valid()
     laws_of_elaboration();
 }
 
-/// It has the names of both graphs, and no others.
+/// What is united of two valid graphs has the names of both, and no others.
 pub fn unions_have_both_names()
     ensures { UnionsHaveBothNames }
 {
@@ -29,7 +29,7 @@ pub fn shared_worlds_keep_imports()
     laws_of_elaboration();
 }
 
-/// Merging in either order gives the same names.
+/// Merging two valid graphs in either order gives the same names.
 pub fn names_in_either_order()
     ensures { NamesInEitherOrder }
 {

@@ -302,9 +302,15 @@ impl Resolve {
         merged
     }
 
-    /// The world that a text names: a name in the one main package, or `namespace:package/name` with an
-    /// optional `@version`. Without a text it is the only world of the one main package. The ids are
-    /// of this graph. Refused where there is no such world, or more than one (26), and for memory (28).
+    /// The world that a text names: a name in the one main package, or `namespace:package/name` with an optional
+    /// `@version`. Without a text it is the only world of the one main package.
+    ///
+    /// The main packages are ids of this graph; one that isn't there is told as if there were none. Refused where the
+    /// text is no use path, where there is no main package, where there are several and the text names none, where
+    /// the text's package isn't there or is of more than one version, and where there is no such world or more than
+    /// one (26), and for memory (28).
+    ///
+    /// Source: `select_world` of wit-parser 0.263.0.
     pub fn select_world(
         &self,
         alloc: Global,
