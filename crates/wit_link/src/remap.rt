@@ -42,7 +42,7 @@ impl Remap {
 
     /// For each type that was handed in, by its id there, its id now; None where it is left out.
     ///
-    /// Source: `Remap` of wit-parser 0.263.0.
+    /// Source: `Remap::types` of wit-parser 0.263.0.
     pub fn types(&self) -> &[Option<TypeId>]
         ensures { result.now ≡ self.now.types }
     {
@@ -51,7 +51,7 @@ impl Remap {
 
     /// For each interface that was handed in, by its id there, its id now; None where it is left out.
     ///
-    /// Source: `Remap` of wit-parser 0.263.0.
+    /// Source: `Remap::interfaces` of wit-parser 0.263.0.
     pub fn interfaces(&self) -> &[Option<InterfaceId>]
         ensures { result.now ≡ self.now.interfaces }
     {
@@ -60,7 +60,7 @@ impl Remap {
 
     /// For each world that was handed in, by its id there, its id now; None where it is left out.
     ///
-    /// Source: `Remap` of wit-parser 0.263.0.
+    /// Source: `Remap::worlds` of wit-parser 0.263.0.
     pub fn worlds(&self) -> &[Option<WorldId>]
         ensures { result.now ≡ self.now.worlds }
     {
@@ -69,7 +69,7 @@ impl Remap {
 
     /// For each package that was handed in, by its id there, its id now.
     ///
-    /// Source: `Remap` of wit-parser 0.263.0.
+    /// Source: `Remap::packages` of wit-parser 0.263.0.
     pub fn packages(&self) -> &[PackageId]
         ensures { result.now ≡ self.now.packages }
     {

@@ -8,8 +8,8 @@ pub fn newest_is_greatest()
     ensures { NewestIsGreatest }
 {}
 
-/// After semver merging the interfaces that the world imports under their own keys are the former ones less the
-/// replaced.
+/// Where nothing speaks against semver merging in a valid graph, the interfaces that the world then imports under
+/// their own keys are the former ones less the replaced.
 pub fn keys_are_exact()
     ensures { KeysAreExact }
 {

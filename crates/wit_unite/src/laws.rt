@@ -23,7 +23,8 @@ pub fn importized_exports_nothing()
     ensures { ImportizedExportsNothing }
 {}
 
-/// A world of which all imports became exports imports nothing.
+/// A world of a valid graph of which all imports became exports imports nothing, where nothing speaks
+/// against it.
 pub fn exportized_imports_nothing()
     ensures { ExportizedImportsNothing }
 {
