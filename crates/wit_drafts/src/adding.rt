@@ -68,8 +68,9 @@ pub fn new_type(
 }
 
 impl Draft {
-    /// Begins an interface; the next lines go into it. Not understood where the package has one of that
-    /// name. Else only want of memory is an error. After a fault nothing is told of the package.
+    /// Begins an interface; the next lines go into it. Not understood where the package has one of its
+    /// own of that name. Else only want of memory is an error. After a fault nothing is told of the
+    /// package.
     pub fn add_interface(
         &mut self,
         alloc: Global,
@@ -90,8 +91,9 @@ impl Draft {
         Ok(())
     }
 
-    /// Begins a world; the next lines go into it. Not understood where the package has one of that
-    /// name. Else only want of memory is an error. After a fault nothing is told of the package.
+    /// Begins a world; the next lines go into it. Not understood where the package has one of its own
+    /// of that name. Else only want of memory is an error. After a fault nothing is told of the
+    /// package.
     pub fn add_world(&mut self, alloc: Global, name: Text, here: &Standing) -> Result<(), LineFault>
         ensures { Leads (with_world self.old name here.now) result self.new }
     {
