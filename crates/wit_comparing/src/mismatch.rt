@@ -12,8 +12,11 @@ use wit_agreeing::interface_mismatch;
 use wit_graph::Graph;
 use wit_matching::Matches;
 
-/// What differs of the other graph and what it is matched with in the graph, told with where it is: the first interface
-/// of a name that disagrees in a function, or else the first world whose entries differ. None where nothing does.
+/// What differs of the other graph and what it is matched with in the graph, told with where it is: an interface of a
+/// name that disagrees in a function, or a world whose entries differ. Of several any may be told. None where nothing
+/// differs.
+///
+/// The matches are those of the two graphs. The only error is want of memory.
 ///
 /// Source: `build_interface`, `build_function`, `build_world` and `match_world_item` of wit-parser 0.263.0.
 pub fn find_mismatch(

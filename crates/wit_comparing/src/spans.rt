@@ -7,8 +7,8 @@ ghost use Rattle.wit_comparing.specs.Differing.{merging_by};
 use wit_fitting::parts_fit;
 use wit_graph::Graph;
 
-/// Whether no span of the other graph passes the last position when it is moved by an offset. All its spans are asked,
-/// also those of what is matched.
+/// Whether no span of the other graph passes the last position, 4294967295, when it is moved by so many positions.
+/// All its spans are asked, also those of what is matched.
 pub fn spans_fit(other: &Graph, offset: u32) -> bool
     ensures fit { result ≡ true → (graph : Graph) → PassesTheEnd (merging_by graph other.now offset) → ⊥ }
     ensures pass { result ≡ false → (graph : Graph) → PassesTheEnd (merging_by graph other.now offset) }

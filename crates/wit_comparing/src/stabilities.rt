@@ -13,7 +13,8 @@ use wit_graph::Graph;
 use wit_items::{Stability, Table, TryClone, World, WorldItem, WorldKey};
 use wit_matching::Matches;
 
-/// A stability of the other graph, and the one of the graph to which it can't be joined.
+/// A stability of the other graph, and the one of the graph to which it can't be joined: both are known, and they
+/// differ.
 #[derive(Drop)]
 pub struct StabilityPair {
     pub from: Stability,
@@ -27,8 +28,10 @@ struct Disagreement<'a> {
     into: &'a Stability,
 }
 
-/// The stabilities of two matched things that can't be joined: of the first such types, or else of interfaces, or else
-/// of worlds or entries of worlds. None where all can be joined.
+/// The stabilities of two matched things that can't be joined: of types, of interfaces, of worlds or of entries of
+/// worlds. Of several any may be told. None where all can be joined.
+///
+/// The matches are those of the two graphs. The only error is want of memory.
 ///
 /// Source: `update_stability` and `update_world_imports_stability` of wit-parser 0.263.0.
 pub fn find_stability_mismatch(

@@ -14,7 +14,8 @@ use wit_items::{
 use wit_labels::Renamings;
 use wit_placing::{Moves, Place};
 
-/// Where what an include copies of a world goes. An id that isn't there stays.
+/// Where what an include copies of a world goes. All ids are of one graph, and one that isn't in these
+/// tables stays.
 pub struct Copies<'a> {
     pub types: Table<TypeId, TypeId>,
     pub interfaces: Table<InterfaceId, InterfaceId>,
@@ -123,7 +124,10 @@ impl<'a> Copies<'a> {
         Ok(copy)
     }
 
-    /// What an entry of the included world becomes.
+    /// What an entry of the included world becomes: its label is renamed, also as the name of a
+    /// function, and its ids go to the copies. The only error is want of memory.
+    ///
+    /// Source: `resolve_include_item` of wit-parser 0.263.0.
     pub fn entry(
         &self,
         alloc: Global,
@@ -135,7 +139,10 @@ impl<'a> Copies<'a> {
         Ok((self.key(alloc, key)?, self.item(alloc, item)?))
     }
 
-    /// What entries of the included world become, in their order. Renamed labels may be equal.
+    /// What entries of the included world become, in their order: see `entry`. Renamed labels may be
+    /// equal. The only error is want of memory.
+    ///
+    /// Source: `resolve_include_item` of wit-parser 0.263.0.
     pub fn entries(
         &self,
         alloc: Global,

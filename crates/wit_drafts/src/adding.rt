@@ -11,7 +11,8 @@ use wit_items::{
 };
 use wit_lines::LineFault;
 
-/// The interface of a line, without types and functions.
+/// The interface of a line that stands here, without types and functions. The only error is want of
+/// memory.
 pub fn new_interface(alloc: Global, name: Text, here: &Standing) -> Result<Interface, AllocError>
     ensures { IfOk result (λ interface. interface ≡ empty_interface name here.now) }
 {
@@ -27,7 +28,8 @@ pub fn new_interface(alloc: Global, name: Text, here: &Standing) -> Result<Inter
     })
 }
 
-/// The world of a line, without imports, exports and includes.
+/// The world of a line that stands here, without imports, exports and includes. The only error is want
+/// of memory.
 pub fn new_world(alloc: Global, name: Text, here: &Standing) -> Result<World, AllocError>
     ensures { IfOk result (λ world. world ≡ empty_world name here.now) }
 {
@@ -44,7 +46,7 @@ pub fn new_world(alloc: Global, name: Text, here: &Standing) -> Result<World, Al
     })
 }
 
-/// The type of a line, with a name or without one.
+/// The type of a line that stands here, with a name or without one. The only error is want of memory.
 pub fn new_type(
     name: Option<Text>,
     kind: TypeDefKind,
@@ -66,7 +68,9 @@ pub fn new_type(
 }
 
 impl Draft {
-    /// Begins an interface under a name that no interface has.
+    /// Begins an interface; the next lines go into it. Not understood where the package has one of its
+    /// own of that name. Else only want of memory is an error. After a fault nothing is told of the
+    /// package.
     pub fn add_interface(
         &mut self,
         alloc: Global,
@@ -87,7 +91,9 @@ impl Draft {
         Ok(())
     }
 
-    /// Begins a world under a name that no world has.
+    /// Begins a world; the next lines go into it. Not understood where the package has one of its own
+    /// of that name. Else only want of memory is an error. After a fault nothing is told of the
+    /// package.
     pub fn add_world(&mut self, alloc: Global, name: Text, here: &Standing) -> Result<(), LineFault>
         ensures { Leads (with_world self.old name here.now) result self.new }
     {
@@ -116,7 +122,8 @@ impl Draft {
         }
     }
 
-    /// Adds a type at the end.
+    /// Adds a type at the end. The only error is want of memory. After a fault nothing is told of the
+    /// package.
     pub fn push_type(&mut self, def: TypeDef) -> Result<(), AllocError>
         ensures { OnOk result (self.new ≡ with_type self.old def) }
     {
@@ -187,7 +194,9 @@ impl Draft {
         Ok(())
     }
 
-    /// Adds a type to the interface or the world into which lines go.
+    /// Adds a type to the interface or the world into which lines go, to a world as an import. Not
+    /// understood where they go into neither, or the name is there. Else only want of memory is an
+    /// error. After a fault nothing is told of the package.
     pub fn add_named(
         &mut self,
         alloc: Global,
@@ -223,7 +232,9 @@ impl Draft {
         Ok(())
     }
 
-    /// Adds an import to the world into which lines go.
+    /// Adds an import to the world into which lines go. Not understood where they go into no world, or
+    /// it imports something under this key. Else only want of memory is an error. After a fault nothing
+    /// is told of the package.
     pub fn add_import(&mut self, key: WorldKey, item: WorldItem) -> Result<(), LineFault>
         ensures { Leads (with_import self.old key item) result self.new }
     {
@@ -246,7 +257,9 @@ impl Draft {
         Ok(())
     }
 
-    /// Adds an export to the world into which lines go.
+    /// Adds an export to the world into which lines go. Not understood where they go into no world, or
+    /// it exports something under this key. Else only want of memory is an error. After a fault nothing
+    /// is told of the package.
     pub fn add_export(&mut self, key: WorldKey, item: WorldItem) -> Result<(), LineFault>
         ensures { Leads (with_export self.old key item) result self.new }
     {
@@ -275,7 +288,9 @@ impl Draft {
         Ok(())
     }
 
-    /// Adds a function to the interface into which lines go.
+    /// Adds a function to the interface into which lines go. Not understood where they go into no
+    /// interface, or it has a function of this name. Else only want of memory is an error. After a
+    /// fault nothing is told of the package.
     pub fn add_function(&mut self, alloc: Global, function: Function) -> Result<(), LineFault>
         ensures { Leads (with_function self.old function) result self.new }
     {
@@ -295,7 +310,8 @@ impl Draft {
         Ok(())
     }
 
-    /// Adds an include to the world into which lines go.
+    /// Adds an include to the world into which lines go. Not understood where they go into no world.
+    /// Else only want of memory is an error. After a fault nothing is told of the package.
     pub fn add_include(&mut self, include: WorldInclude) -> Result<(), LineFault>
         ensures { Leads (with_include self.old include) result self.new }
     {

@@ -26,7 +26,7 @@ pub enum Scope {
     World,
 }
 
-/// The gate of a line, and where it stands in the file of its package.
+/// The gate of a line, and its span in the file of its package, in bytes from 0.
 #[derive(Drop)]
 pub struct Standing {
     pub gate: Stability,
@@ -100,8 +100,9 @@ impl Drop for Draft {
 /// How long a file can be: it takes its length plus one positions, of which the last is 4294967295.
 const LONGEST_FILE: usize = 4294967294;
 
-/// The span of a line that goes to the end of a file of this length. The line isn't understood where
-/// the file would grow past the positions of a source map.
+/// The span of a line that goes, with a newline, to the end of a file of so many bytes: from its first
+/// to its last byte that isn't a space. Not understood where the file would have more than 4294967294
+/// bytes, which is past the positions of a source map.
 pub fn span_of(file_len: usize, line: &str) -> Result<Span, LineFault>
     ensures { IsRead (span_after file_len line.now) result }
 {
@@ -124,7 +125,9 @@ fn with_newline(contents: Text, line: &str) -> Result<Text, AllocError>
 
 impl Draft {
     /// The package that a first line begins, and whose lines mention this of other packages, in their
-    /// order.
+    /// order. A mention that takes a name for something else than the first mention of it does is left
+    /// out. Not understood where the line doesn't fit into a file, as `span_of` says. Else only want of
+    /// memory is an error.
     pub fn begin(
         alloc: Global,
         name: PackageName,
@@ -164,7 +167,9 @@ impl Draft {
         })
     }
 
-    /// The package with one more line of it.
+    /// The package with one more line of it, which says this and has this gate. Not understood where
+    /// the line can't be added, as `add` says, or doesn't fit into the file, as `span_of` says. Else
+    /// only want of memory is an error.
     pub fn with_line(
         self,
         alloc: Global,
@@ -190,7 +195,8 @@ impl Draft {
         Ok((draft, span))
     }
 
-    /// The package as a group of its own, with its file.
+    /// The package as a group of its own, with its file, whose path is the package's name. Not
+    /// understood where the file doesn't fit into a source map. Else only want of memory is an error.
     pub fn into_group(self, alloc: Global) -> Result<UnresolvedPackageGroup, LineFault>
         ensures { IsRead (grouped self) result }
     {

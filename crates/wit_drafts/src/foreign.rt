@@ -257,7 +257,8 @@ impl Draft {
         }
     }
 
-    /// Adds all that lines mention, one line after another.
+    /// Adds all that lines mention, one line after another. The only error is want of memory. After a
+    /// fault nothing is told of the package.
     pub fn add_mentions(
         &mut self,
         alloc: Global,

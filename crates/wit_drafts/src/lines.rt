@@ -53,7 +53,10 @@ fn included(
 }
 
 impl Draft {
-    /// Adds what a line says.
+    /// Adds what a line says that stands here. Not understood where what it names isn't there, or isn't
+    /// what it is named for; where a name or a key that it adds is there; where a function's name isn't
+    /// understood, as `role_of` says; and where lines go into no interface or world that takes it. Else
+    /// only want of memory is an error. After a fault nothing is told of the package.
     pub fn add(
         &mut self,
         alloc: Global,

@@ -149,7 +149,11 @@ impl Draft {
         Ok(kind)
     }
 
-    /// The kind of a type that is named by a line.
+    /// The kind of a type that is named by a line which stands here: of a name an alias of what it
+    /// names, and else what the text says. Types without a name of their own that stand inside it are
+    /// added. Not understood where a name names nothing, or a handle leads to no resource and to no
+    /// foreign type. Else only want of memory is an error. After a fault nothing is told of the
+    /// package.
     pub fn make_kind(
         &mut self,
         alloc: Global,
@@ -194,7 +198,9 @@ impl Draft {
         })
     }
 
-    /// The fields of a record.
+    /// The fields of a record, in order. Types without a name of their own are added, as by
+    /// `make_kind`. Not understood where the type of one isn't. Else only want of memory is an error.
+    /// After a fault nothing is told of the package.
     pub fn make_fields(
         &mut self,
         alloc: Global,
@@ -281,7 +287,9 @@ impl Draft {
         Ok(function_with(name, kind, params, result_, here)?)
     }
 
-    /// The function that a line says.
+    /// The function that a line says which stands here: what its name makes of it, as `role_of` says,
+    /// and its types, as by `make_kind`. Not understood where one of these isn't. Else only want of
+    /// memory is an error. After a fault nothing is told of the package.
     pub fn make_function(
         &mut self,
         alloc: Global,

@@ -29,7 +29,7 @@ pub struct Mention {
 }
 
 impl MentionKind {
-    /// Whether it takes an item for what it is.
+    /// Whether it takes an item for what it is, an interface or a world.
     pub fn fits(&self, item: &AstItem) -> bool
         ensures { result ≡ fits self.now item.now }
     {
@@ -56,7 +56,8 @@ fn mentioned(path: ParsedUsePath, kind: MentionKind, gate: Stability, span: Span
     }
 }
 
-/// What a line mentions, which has this gate and stands here.
+/// What a line mentions of another package, which has this gate and stands here, or None where it
+/// mentions nothing.
 pub fn mention_of(said: PackageLine, gate: Stability, span: Span) -> Option<Mention>
     ensures { option_to_list result ≡ mentions_of said gate span }
 {

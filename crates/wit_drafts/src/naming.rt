@@ -42,7 +42,7 @@ fn world_of(item: AstItem) -> Option<WorldId>
 }
 
 impl Draft {
-    /// The place of the interface into which lines go.
+    /// The place of the interface into which lines go, from 0, or None where they go into none.
     pub fn open_interface(&self) -> Option<usize>
         ensures place { result ≡ open_interface self.now }
         ensures within { IfSome result (λ at. at < length self.now.interfaces) }
@@ -53,7 +53,7 @@ impl Draft {
         }
     }
 
-    /// The place of the world into which lines go.
+    /// The place of the world into which lines go, from 0, or None where they go into none.
     pub fn open_world(&self) -> Option<usize>
         ensures place { result ≡ open_world self.now }
         ensures within { IfSome result (λ at. at < length self.now.worlds) }
@@ -110,7 +110,8 @@ impl Draft {
         }
     }
 
-    /// The earlier type of this name in the interface or the world into which lines go.
+    /// The earlier type of this name in the interface or the world into which lines go, or None. The
+    /// only error is want of memory.
     pub fn earlier(&self, alloc: Global, name: &str) -> Result<Option<TypeId>, AllocError>
         ensures { IfOk result (λ found. found ≡ earlier self.now name.now) }
     {
@@ -121,7 +122,8 @@ impl Draft {
         }
     }
 
-    /// What the name of a type names: a primitive, or else an earlier type.
+    /// What the name of a type names: a primitive, or else an earlier type. Not understood where it
+    /// names neither. Else only want of memory is an error.
     pub fn type_named(&self, alloc: Global, name: &str) -> Result<Type_, LineFault>
         ensures { IsRead (type_named self.now name.now) result }
     {
@@ -134,7 +136,7 @@ impl Draft {
         }
     }
 
-    /// The interface or world of another package that this names.
+    /// The interface or world of another package that this names, or None where no line mentions it.
     pub fn foreign_named(&self, parent: &PackageName, name: &str) -> Option<AstItem>
         ensures { result ≡ foreign_named self.now parent.now name.now }
     {
@@ -143,7 +145,7 @@ impl Draft {
         Some(named.0)
     }
 
-    /// The interface that a path names.
+    /// The interface that a path names, of the package itself or foreign, or None.
     pub fn interface_named(&self, path: &ParsedUsePath) -> Option<InterfaceId>
         ensures { result ≡ interface_named self.now path.now }
     {
@@ -159,7 +161,7 @@ impl Draft {
         }
     }
 
-    /// The world that a path names.
+    /// The world that a path names, of the package itself or foreign, or None.
     pub fn world_named(&self, path: &ParsedUsePath) -> Option<WorldId>
         ensures { result ≡ world_named self.now path.now }
     {
@@ -175,7 +177,7 @@ impl Draft {
         }
     }
 
-    /// The type of this name in the interface that a path names.
+    /// The type of this name in the interface that a path names, or None.
     pub fn used_type(&self, path: &ParsedUsePath, name: &str) -> Option<TypeId>
         ensures { result ≡ used_type self.now path.now name.now }
     {

@@ -97,7 +97,9 @@ impl Draft {
         }
     }
 
-    /// What the groups that lead a function's name make of it.
+    /// What the groups that lead a function's name make of it. Not understood where what follows them
+    /// is empty or begins with `[`, and where a constructor, method or static names no earlier type.
+    /// Else only want of memory is an error.
     pub fn role_of(&self, alloc: Global, name: &str) -> Result<FunctionKind, LineFault>
         ensures { IsRead (role_of self.now name.now) result }
     {

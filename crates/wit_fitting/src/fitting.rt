@@ -16,21 +16,23 @@ use wit_items::{
     World, WorldInclude, WorldItem, WorldKey,
 };
 
-/// Whether a span still ends within the last position when it is moved by an offset.
+/// Whether a span still ends within the last position, 4294967295, when it is moved by so many
+/// positions. An unknown one does.
 pub fn fits(span: Span, offset: u32) -> bool
     ensures { IsTrue result ↔ Fits offset span }
 {
     span.moved(offset).is_some()
 }
 
-/// The same of all spans of a list.
+/// Whether all spans of a list fit: see `fits`.
 pub fn all_fit(spans: &[Span], offset: u32) -> bool
     ensures { IsTrue result ↔ Each (Fits offset) spans.now }
 {
     spans.iter().all(|span| fits(*span, offset))
 }
 
-/// Whether the spans of types, interfaces and worlds fit, and those of all their parts.
+/// Whether the spans of types, interfaces and worlds fit, and those of all their parts, functions,
+/// entries and includes among them: see `fits`.
 pub fn parts_fit(types: &[TypeDef], interfaces: &[Interface], worlds: &[World], offset: u32) -> bool
     ensures { IsTrue result ↔ PartsFit offset types.now interfaces.now worlds.now }
 {

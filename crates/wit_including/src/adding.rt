@@ -33,11 +33,18 @@ fn include_each(
     Ok(world)
 }
 
-/// Puts a world behind the worlds of a graph: its includes one after another, its setters after their getters,
-/// elaborated.
+/// Puts a world of package `home` behind the worlds of a graph: its includes one after another, its setters after
+/// their getters, elaborated.
 ///
-/// Refused as an include is (7, 8, 16) and as a world is that is finished (4, 17, 18), and for memory (28); the graph and
-/// the rows of the elaborator may then have grown at their ends.
+/// The graph is on its way: its types, interfaces and worlds are good, and nothing uses or refers to itself. The
+/// elaborator is one of the graph. Each world that is included is there and can be included, and the world can be
+/// finished.
+///
+/// Refused as an include is (7, 8, 16) and as a world is that is finished (4, 17, 18), and for memory (28). The graph
+/// and the rows of the elaborator may then have grown at their ends, and nothing else has changed.
+///
+/// Source: `process_world_includes`, `validate_world_strongly_unique_names` and `elaborate_world` of wit-parser
+/// 0.263.0.
 pub fn add_world(
     alloc: Global,
     graph: &mut Graph,

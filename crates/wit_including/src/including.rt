@@ -15,11 +15,18 @@ use wit_copying::{Copies, add_copies};
 use wit_graph::{Graph, ResolveResult};
 use wit_items::{Items, PackageId, Span, Table, World, WorldId, WorldInclude, WorldItem, WorldKey};
 
-/// Includes a world of a graph in another one, which comes next: what goes with the included world is copied to the ends
-/// of the graph, and its entries are joined to the lists of the other.
+/// Includes a world of a graph in another one of package `home`, which comes next: what goes with the included world
+/// is copied to the ends of the graph, and its entries are joined to the lists of the other, which is answered.
 ///
-/// Refused where a renaming is of no label (16), a label that is brought is there (7), two stabilities of one interface
-/// disagree (8), and for memory (28); the graph may then have grown at its ends.
+/// The id of the include is of the graph. The graph is on its way: its types, interfaces and worlds are good, and
+/// nothing uses or refers to itself. The included world is good in it, and no type with a name that doesn't go with
+/// that world refers to one that does. In the other world stands under the key of an interface that interface.
+///
+/// Refused where a renaming is of no label (16), a label that is brought is there (7), two stabilities of one
+/// interface disagree (8), and for memory (28). The graph may then have grown at its ends, and nothing else has
+/// changed.
+///
+/// Source: `resolve_include` of wit-parser 0.263.0.
 pub fn include(
     alloc: Global,
     graph: &mut Graph,

@@ -8,7 +8,9 @@ use crate::token::{after_prefix, read_part, read_version};
 use std::alloc::Global;
 use wit_items::Stability;
 
-/// The gate of a line of these arguments: the last one, where it is a gate.
+/// The gate of a line of these arguments: of the last one, where it begins with `@since=` or
+/// `@unstable=`, and else none, which is unknown. Not understood where no version or no feature
+/// follows. Else only want of memory is an error.
 pub fn read_gate(alloc: Global, arguments: &[&str]) -> Result<Stability, LineFault>
     ensures { IsRead (gate_of_line (map (λ t. t.now) arguments.now)) result }
 {
@@ -18,7 +20,8 @@ pub fn read_gate(alloc: Global, arguments: &[&str]) -> Result<Stability, LineFau
     }
 }
 
-/// The arguments of a line without its gate.
+/// The arguments of a line without its gate: without the last one, where it begins with `@since=` or
+/// `@unstable=`.
 pub fn ungated<'a, 'b>(arguments: &'a [&'b str]) -> &'a [&'b str]
     ensures { map (λ t. t.now) result.now ≡ ungated_of (map (λ t. t.now) arguments.now) }
 {

@@ -6,7 +6,7 @@ ghost use Rattle.wit_lines.specs.Line.{tokens_of, lines_of, ink_start_of, ink_en
 use std::alloc::{AllocError, Global};
 
 /// The lines of a text: its parts between newlines, so that a text which ends with a newline has an
-/// empty last line.
+/// empty last line. The only error is want of memory.
 pub fn lines<'a>(alloc: Global, text: &'a str) -> Result<Vec<&'a str>, AllocError>
     ensures { IfOk result (λ v. map (λ x. x.now) v.items ≡ lines_of text.now) }
 {
@@ -20,7 +20,7 @@ fn spaced<'a>(alloc: Global, line: &'a str) -> Result<Vec<&'a str>, AllocError>
     line.split(' ').collect(alloc)
 }
 
-/// The tokens of a line: its parts between spaces that are not empty.
+/// The tokens of a line: its parts between spaces that are not empty. The only error is want of memory.
 pub fn tokens<'a>(alloc: Global, line: &'a str) -> Result<Vec<&'a str>, AllocError>
     ensures { IfOk result (λ v. map (λ x. x.now) v.items ≡ tokens_of line.now) }
 {
@@ -34,15 +34,15 @@ pub fn tokens<'a>(alloc: Global, line: &'a str) -> Result<Vec<&'a str>, AllocErr
     Ok(found)
 }
 
-/// Whether a line whose first token this is is a comment.
+/// Whether a line whose first token this is is a comment: the token begins with `#`.
 pub fn is_comment(token: &str) -> bool
     ensures { result ≡ is_comment token.now }
 {
     token.as_bytes().first() == Some(&b'#')
 }
 
-/// Where what a line says begins and ends: at its first byte that isn't a space, and after its last.
-/// In a line of spaces alone both are its length.
+/// Where what a line says begins and ends, in bytes from 0: at its first byte that isn't a space, and
+/// after its last. In a line of spaces alone both are its length.
 pub fn ink(line: &str) -> (usize, usize)
     ensures start { result.0 ≡ ink_start_of line.now }
     ensures end { result.1 ≡ ink_end_of line.now }

@@ -60,7 +60,8 @@ pub enum PackageLine {
     },
 }
 
-/// What a line of a package says by its first token and its arguments without the gate.
+/// What a line of a package says by its first token and its arguments without the gate. Not understood
+/// where no line of a package begins so or takes these arguments. Else only want of memory is an error.
 pub fn read_package_line(
     alloc: Global,
     word: &str,

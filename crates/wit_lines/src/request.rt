@@ -51,7 +51,7 @@ pub enum Request {
     },
 }
 
-/// Whether a first token begins such a command.
+/// Whether a first token begins a command that hands in no package.
 pub fn is_request(word: &str) -> bool
     ensures { result ≡ is_request word.now }
 {
@@ -70,7 +70,8 @@ pub fn is_request(word: &str) -> bool
     }
 }
 
-/// What such a command says by its first token and its arguments.
+/// What such a command says by its first token and its arguments. Not understood where none begins so
+/// or takes these arguments. Else only want of memory is an error.
 pub fn read_request(alloc: Global, word: &str, arguments: &[&str]) -> Result<Request, LineFault>
     ensures { IsRead (request_by word.now (map (λ t. t.now) arguments.now)) result }
 {

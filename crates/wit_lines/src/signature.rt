@@ -39,7 +39,9 @@ impl Drop for Signature {
     }
 }
 
-/// `NAME(P:TYPE,..)` or `NAME(P:TYPE,..)->TYPE`
+/// The function that a token is: `NAME(P:TYPE,..)` or `NAME(P:TYPE,..)->TYPE`. The name ends at the
+/// first `(`, and the parameters at the first `)` after it. Not understood where it is none of these,
+/// or a name is empty. Else only want of memory is an error.
 pub fn read_signature(alloc: Global, token: &str) -> Result<Signature, LineFault>
     ensures { IsRead (signature_of token.now) result }
 {
@@ -97,7 +99,8 @@ fn read_answer(alloc: Global, text: &str) -> Result<Option<TypeText>, LineFault>
     }
 }
 
-/// Each of these as `NAME:TYPE`.
+/// Each of these tokens as `NAME:TYPE`, in their order. The name ends at the first colon. Not
+/// understood where one has no colon, or no name before it. Else only want of memory is an error.
 pub fn read_typed_names(alloc: Global, tokens: &[&str]) -> Result<Items<TypedName>, LineFault>
     ensures { IsRead (each_of typed_name_of (map (λ t. t.now) tokens.now)) result }
 {

@@ -25,7 +25,8 @@ pub enum Statement {
     Request(Request),
 }
 
-/// What a line says, or None for a line without tokens or a comment.
+/// What a line says by its tokens alone, or None for a line without tokens or a comment. Not understood
+/// where its tokens are no statement of a script. Else only want of memory is an error.
 pub fn read_line(alloc: Global, line: &str) -> Result<Option<Statement>, LineFault>
     ensures { IsRead (said_of line.now) result }
 {

@@ -8,7 +8,8 @@ use crate::fault::LineFault;
 use std::alloc::{AllocError, Global};
 use wit_items::{PackageName, ParsedUsePath, Text, Type_, UsePathFault, Version, parse_use_path};
 
-/// A part of a line, which has at least one byte.
+/// A part of a line, which has at least one byte: an empty one isn't understood. Else only want of
+/// memory is an error.
 pub fn read_part(alloc: Global, text: &str) -> Result<Text, LineFault>
     ensures { IsRead (part_of text.now) result }
 {
@@ -18,7 +19,10 @@ pub fn read_part(alloc: Global, text: &str) -> Result<Text, LineFault>
     Ok(Text::try_from_str(alloc, text)?)
 }
 
-/// The version that a text is by the `semver` crate.
+/// The version that a text is by the `semver` crate. A text that is none isn't understood. Else only
+/// want of memory is an error.
+///
+/// Source: SemVer 2.0.0.
 pub fn read_version(alloc: Global, text: &str) -> Result<Version, LineFault>
     ensures { IsRead (version_of text.now) result }
 {
@@ -35,7 +39,8 @@ pub fn read_version(alloc: Global, text: &str) -> Result<Version, LineFault>
 
 /// The package name that a token is, `namespace:name` or `namespace:name@version`. The namespace ends
 /// at the first colon, and the name at the first `@` after it. Whether these are kebab names isn't
-/// asked.
+/// asked. Not understood where there is no colon, the namespace or the name is empty, or what follows
+/// the `@` is no version. Else only want of memory is an error.
 pub fn read_package_name(alloc: Global, token: &str) -> Result<PackageName, LineFault>
     ensures { IsRead (package_name_of token.now) result }
 {
@@ -72,7 +77,9 @@ fn package_with(
     Ok(PackageName::new(namespace, name, version))
 }
 
-/// What a path names: with a colon, an interface or a world of another package; else one of the same.
+/// What a path names: with a colon, an interface or a world of another package, by a use path; else one
+/// of the same, by its name. Not understood where it is no use path, or empty. Else only want of memory
+/// is an error.
 pub fn read_path(alloc: Global, path: &str) -> Result<ParsedUsePath, LineFault>
     ensures { IsRead (path_of path.now) result }
 {
@@ -87,6 +94,8 @@ pub fn read_path(alloc: Global, path: &str) -> Result<ParsedUsePath, LineFault>
 }
 
 /// The primitive type that a token is in WIT's spelling, or None.
+///
+/// Source: WIT.md of the component model.
 pub fn primitive(token: &str) -> Option<Type_>
     ensures { result ≡ primitive_of token.now }
 {
@@ -109,7 +118,7 @@ pub fn primitive(token: &str) -> Option<Type_>
     }
 }
 
-/// What follows a word at the beginning of a text.
+/// What follows a word at the beginning of a text, or None where the text doesn't begin with it.
 pub fn after_prefix<'a>(word: &str, text: &'a str) -> Option<&'a str>
     ensures after { option_copied result ≡ after_prefix word.now text.now }
     ensures shorter { IfSome result (λ rest. length rest.now + length word.now ≡ length text.now) }
@@ -117,7 +126,7 @@ pub fn after_prefix<'a>(word: &str, text: &'a str) -> Option<&'a str>
     text.strip_prefix(word)
 }
 
-/// What stands inside `WORD<..>`; the word is given with its `<`.
+/// What stands inside `WORD<..>`, or None where the text isn't so; the word is given with its `<`.
 pub fn inside<'a>(opening: &str, text: &'a str) -> Option<&'a str>
     ensures inside { option_copied result ≡ inside opening.now text.now }
     ensures shorter { IfSome result (λ inner. length inner.now < length text.now) }

@@ -47,7 +47,8 @@ impl Drop for TypeText {
     }
 }
 
-/// What the text of a type says.
+/// What the text of a type says. What is none of its forms is a name, whatever stands there. The only
+/// error is want of memory.
 pub fn read_type_text(alloc: Global, text: &str) -> Result<TypeText, AllocError>
     ensures { IfOk result (λ read. read ≡ type_text_of text.now) }
 {

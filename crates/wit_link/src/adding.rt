@@ -27,14 +27,15 @@ use wit_including::add_world;
 use wit_items::{Items, PackageId, Span, UnresolvedPackage};
 use wit_placing::{Mark, Part, PlacedWorld, add_parts};
 
-/// Adds a package to a graph under features, its spans moved by an offset, and answers its id.
+/// Adds an `is_shaped` package to a valid graph under features, its spans moved by so many positions, and answers its
+/// id. The graph stays valid.
 ///
-/// Refused with a written reason: where a package of that name is there (5), where what is named of other packages isn't there (1, 2, 3, 13) or is no resource (14), where a
-/// gate can't be met (9, 10), where what takes part needs what is left out (11, 12), where a result holds a borrow
-/// (15), where an include brings a label that is there (7) or a stability that disagrees (8), or renames nothing (16),
-/// where labels are too alike (17) or a setter has no getter (18), where what exports need from outside is
-/// exported (4), where a span would pass 4294967295 (27), and for memory (28). After a refusal the graph is as
-/// before.
+/// Refused where a package of that name is there (5), where what is named of other packages isn't there (1, 2, 3, 13)
+/// or is no resource (14), where a gate can't be met (9, 10), where what takes part needs what is left out (11, 12),
+/// where a result holds a borrow (15), where an include brings a label that is there (7) or a stability that
+/// disagrees (8), or renames nothing (16), where labels are too alike (17) or a setter has no getter (18), where what
+/// exports need from outside is exported (4), where a span would pass 4294967295 (27), and for memory (28). After a
+/// refusal the graph is as before.
 ///
 /// Source: `append` of wit-parser 0.263.0.
 pub fn append(
@@ -65,7 +66,10 @@ pub fn append(
     )
 }
 
-/// The same with an elaborator of the graph, which becomes one of the new graph. It costs what is added.
+/// As `append`, with an elaborator of the graph, which becomes one of the new graph. It costs what is added. After a
+/// refusal the graph is as before, and the elaborator is one of it.
+///
+/// Source: `append` of wit-parser 0.263.0.
 pub fn append_with(
     alloc: Global,
     graph: &mut Graph,

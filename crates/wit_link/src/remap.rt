@@ -10,8 +10,10 @@ use wit_graph::{Cause, ResolveError, ResolveErrorKind, ResolveResult};
 use wit_items::{Id, InterfaceId, Items, PackageId, Span, Text, TryClone, TypeId, WorldId};
 use wit_values::try_clone_four;
 
-/// The ids of the things that were handed in: for each place of the handed-in list the id in the
-/// graph that took it, or None where the thing isn't there because its feature isn't active.
+/// The ids of the things that were handed in: for each place of the handed-in list the id in the graph that took it,
+/// or None where the thing isn't there because its feature isn't active.
+///
+/// Source: `Remap` of wit-parser 0.263.0.
 #[derive(Drop)]
 pub struct Remap {
     types: Items<Option<TypeId>>,
@@ -21,7 +23,7 @@ pub struct Remap {
 }
 
 impl Remap {
-    /// The remap of these lists.
+    /// The remap of these lists, each with an id at each place of the handed-in list. It takes no memory.
     pub fn from_lists(
         types: Items<Option<TypeId>>,
         interfaces: Items<Option<InterfaceId>>,
@@ -38,24 +40,36 @@ impl Remap {
         }
     }
 
+    /// For each type that was handed in, by its id there, its id now; None where it is left out.
+    ///
+    /// Source: `Remap::types` of wit-parser 0.263.0.
     pub fn types(&self) -> &[Option<TypeId>]
         ensures { result.now ≡ self.now.types }
     {
         self.types.as_slice()
     }
 
+    /// For each interface that was handed in, by its id there, its id now; None where it is left out.
+    ///
+    /// Source: `Remap::interfaces` of wit-parser 0.263.0.
     pub fn interfaces(&self) -> &[Option<InterfaceId>]
         ensures { result.now ≡ self.now.interfaces }
     {
         self.interfaces.as_slice()
     }
 
+    /// For each world that was handed in, by its id there, its id now; None where it is left out.
+    ///
+    /// Source: `Remap::worlds` of wit-parser 0.263.0.
     pub fn worlds(&self) -> &[Option<WorldId>]
         ensures { result.now ≡ self.now.worlds }
     {
         self.worlds.as_slice()
     }
 
+    /// For each package that was handed in, by its id there, its id now.
+    ///
+    /// Source: `Remap::packages` of wit-parser 0.263.0.
     pub fn packages(&self) -> &[PackageId]
         ensures { result.now ≡ self.now.packages }
     {
@@ -64,9 +78,11 @@ impl Remap {
 }
 
 impl Remap {
-    /// Where a type that was handed in is; the id is one of those that `types` lists. Where there is an id,
-    /// that is answered, and no memory is taken. Refused with the handed span where the type is left out (11), and
-    /// for memory (28).
+    /// Where a type that was handed in is; the id is one of those that `types` lists. Where there is an id, that is
+    /// answered, and no memory is taken. Refused with the handed span where the type is left out (11), and for memory
+    /// (28).
+    ///
+    /// Source: `map_type` of wit-parser 0.263.0.
     pub fn map_type(&self, alloc: Global, id: TypeId, span: Span) -> ResolveResult<TypeId>
         requires { id < length self.now.types }
         ensures found { (new : ℕ) → slice_get self.now.types id ≡ Some (Some new) → result ≡ Ok new }
@@ -77,6 +93,8 @@ impl Remap {
     }
 
     /// Where an interface that was handed in is: as `map_type`, with `interfaces`.
+    ///
+    /// Source: `map_interface` of wit-parser 0.263.0.
     pub fn map_interface(
         &self,
         alloc: Global,
@@ -92,6 +110,8 @@ impl Remap {
     }
 
     /// Where a world that was handed in is: as `map_type`, with `worlds`.
+    ///
+    /// Source: `map_world` of wit-parser 0.263.0.
     pub fn map_world(&self, alloc: Global, id: WorldId, span: Span) -> ResolveResult<WorldId>
         requires { id < length self.now.worlds }
         ensures found { (new : ℕ) → slice_get self.now.worlds id ≡ Some (Some new) → result ≡ Ok new }
@@ -103,6 +123,8 @@ impl Remap {
 
     /// Where the interface that owns a type is: as `map_interface`, but where it is left out the type that isn't is
     /// what is refused (12).
+    ///
+    /// Source: `map_interface_for_type` of wit-parser 0.263.0.
     pub fn map_interface_for_type(
         &self,
         alloc: Global,
@@ -118,6 +140,8 @@ impl Remap {
     }
 
     /// Where the world that owns a type is: as `map_interface_for_type`, with `worlds`.
+    ///
+    /// Source: `map_world_for_type` of wit-parser 0.263.0.
     pub fn map_world_for_type(
         &self,
         alloc: Global,

@@ -14,9 +14,10 @@ use wit_graph::{Elaborator, Features, Graph, ResolveResult};
 use wit_items::{Items, PackageId, UnresolvedPackage};
 use wit_placing::Mark;
 
-/// Adds packages to a graph, one after another, each with its spans moved by its offset, and answers their ids.
+/// Adds `is_shaped` packages to a valid graph under features, one after another, each with its spans moved by so many
+/// positions as stand beside it, and answers their ids in order. The graph stays valid.
 ///
-/// Refused where one of them is, as `append` says; the graph is then as before.
+/// Refused where one of them is, as `append` says, and for memory (28); the graph is then as before.
 pub fn append_all(
     alloc: Global,
     graph: &mut Graph,
@@ -36,7 +37,8 @@ pub fn append_all(
     append_all_with(alloc, graph, &mut elaborator, features, packages)
 }
 
-/// The same with an elaborator of the graph, which becomes one of the new graph. It costs what is added.
+/// As `append_all`, with an elaborator of the graph, which becomes one of the new graph. It costs what is added.
+/// After a refusal the graph is as before, and the elaborator is one of it.
 pub fn append_all_with(
     alloc: Global,
     graph: &mut Graph,

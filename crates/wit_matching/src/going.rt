@@ -11,15 +11,15 @@ use wit_adding::Places;
 use wit_graph::Graph;
 use wit_items::{Id, Items, PackageId, TryClone};
 
-/// Where the things of another graph go: what is matched to the one with which it is, all else to the next ids, in its
-/// order.
+/// Where the things of another graph go, by their ids there: what is matched to the one with which it is, all else to
+/// the next ids, in its order.
 #[derive(Drop)]
 pub struct Going {
     pub places: Places,
     pub packages: Items<PackageId>,
 }
 
-/// Where the things of the other graph go, by what is found of them in the graph.
+/// Where the things of the other graph go, by the matches of the two graphs. The only error is want of memory.
 ///
 /// Source: `merge` of wit-parser 0.263.0.
 pub fn find_places(

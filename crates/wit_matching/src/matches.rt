@@ -10,9 +10,9 @@ use std::alloc::{AllocError, Global};
 use wit_graph::Graph;
 use wit_items::{InterfaceId, Items, PackageId, TypeId, WorldId};
 
-/// Of each thing of another graph the one of a graph with which it is matched: packages of one name, worlds and
-/// interfaces of one name in matched packages, interfaces without a name at one label of matched worlds, and types of
-/// one name and of matched owners.
+/// Of each thing of another graph, by its id there, the one of a graph with which it is matched: packages of one
+/// name, worlds and interfaces of one name in matched packages, interfaces without a name at one label of matched
+/// worlds, and types of one name and of matched owners.
 #[derive(Drop)]
 pub struct Matches {
     pub packages: Items<Option<PackageId>>,
@@ -21,7 +21,8 @@ pub struct Matches {
     pub types: Items<Option<TypeId>>,
 }
 
-/// Finds of each thing of the other graph the one of the graph with which it is matched. Each name is looked up once.
+/// Finds of each thing of the other graph the one of a valid graph with which it is matched. Each name is looked up
+/// once. The only error is want of memory.
 ///
 /// Source: `MergeMap` of wit-parser 0.263.0.
 pub fn find_matches(alloc: Global, graph: &Graph, other: &Graph) -> Result<Matches, AllocError>

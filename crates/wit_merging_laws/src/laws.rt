@@ -15,21 +15,23 @@ pub fn unions_stay_valid()
     laws_of_elaboration();
 }
 
-/// It has the names of both graphs, and no others.
+/// Where nothing speaks against the merge, what is united of two valid graphs has the names of both, and no others.
 pub fn unions_have_both_names()
     ensures { UnionsHaveBothNames }
 {
     laws_of_elaboration();
 }
 
-/// A world that both graphs have imports the same interfaces under their own keys in both, and in what is made of them.
+/// Where nothing speaks against the merge, a world that both valid graphs have imports the same interfaces under
+/// their own keys in both, and in what is made of them.
 pub fn shared_worlds_keep_imports()
     ensures { SharedWorldsKeepImports }
 {
     laws_of_elaboration();
 }
 
-/// Merging in either order gives the same names.
+/// Where nothing speaks against either merge, merging two valid graphs in either order gives the same names, and the
+/// same imports of worlds that both have.
 pub fn names_in_either_order()
     ensures { NamesInEitherOrder }
 {

@@ -5,7 +5,7 @@ ghost use Rattle.wit_graph.specs.declared.graph.Graph.{Graph};
 
 use wit_graph::Graph;
 
-/// How long the lists of a graph are.
+/// How long the lists of a graph are, to cut it back to that.
 #[derive(Clone, Copy, Debug)]
 pub struct Mark {
     types: usize,
@@ -16,7 +16,7 @@ pub struct Mark {
 }
 
 impl Mark {
-    /// The lengths of a graph's lists.
+    /// The lengths of a graph's lists. It takes no memory.
     pub fn of(graph: &Graph) -> Mark
         ensures { result ≡ mark_of graph.now }
     {
@@ -29,8 +29,8 @@ impl Mark {
         }
     }
 
-    /// Cuts the lists of a graph to these lengths, which takes no memory. A graph that grew from the one that was
-    /// marked is as before.
+    /// Cuts the lists of a graph to these lengths; a list that is shorter stays. It takes no memory. A graph that
+    /// grew at its ends from the one that was marked is then as that was.
     pub fn cut(self, graph: &mut Graph)
         ensures cut { graph.new ≡ cut_at self graph.old }
         ensures back { (old : Graph) → self ≡ mark_of old → Grown old graph.old → graph.new ≡ old }

@@ -4,7 +4,8 @@ use crate::moves::Moves;
 use wit_adding::Places;
 use wit_items::{InterfaceId, Items, PackageId, Span, TypeId, WorldId};
 
-/// Where the ids of a package go and how far its spans move. An id that goes nowhere stays.
+/// Where the ids of a package go and how far its spans move. An id that goes nowhere, or is none of the
+/// package, stays.
 #[derive(Clone, Copy)]
 pub struct Mover<'a> {
     pub places: &'a Places,
@@ -12,6 +13,7 @@ pub struct Mover<'a> {
     pub values: &'a Items<TypeId>,
     /// The package that things come to be of.
     pub package: PackageId,
+    /// By how many positions spans move.
     pub offset: u32,
 }
 

@@ -16,7 +16,7 @@ use wit_items::{
     WorldKey,
 };
 
-/// Which features are on, and what takes part for that.
+/// Which features are on, and what of a package takes part for that.
 #[derive(Clone, Copy)]
 pub struct Part<'a> {
     pub features: &'a Features,

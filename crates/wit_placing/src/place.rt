@@ -7,6 +7,8 @@ use std::mem;
 use wit_items::{Items, Names, TypeId};
 
 /// What can take its place in a graph: its ids and spans are rewritten, which takes no memory and refuses nothing.
+///
+/// Source: `update_typedef`, `update_ty`, `update_interface` and `update_function` of wit-parser 0.263.0.
 pub trait Place {
     /// Its spans meet a condition.
     ghost fits: { (Option (ℕ × ℕ) → Type 0) → Self → Type 0 };
@@ -14,6 +16,7 @@ pub trait Place {
     /// Its image.
     ghost placed: { Maps → Self → Self };
 
+    /// Puts it at its place: ids go and spans move as the mover says, and all else stays. The mover can move its spans.
     fn place<M: Moves>(&mut self, mover: &M)
         requires { fits (M.fits mover.now) self.old }
         ensures { self.new ≡ placed (M.maps mover.now) self.old };

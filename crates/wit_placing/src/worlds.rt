@@ -21,7 +21,7 @@ use wit_items::{Items, Table, World, WorldId, WorldInclude, WorldItem, WorldKey}
 /// A world of a package at its place, before its includes.
 #[derive(Drop)]
 pub struct PlacedWorld {
-    /// Where it stood in the package.
+    /// Its id in the package.
     pub place: WorldId,
     pub world: World,
     /// What it includes, with the ids that it had in the package.
@@ -75,7 +75,11 @@ fn placed_world(
     })
 }
 
-/// Entries at their places.
+/// Entries of a package's world at their places, in their order: the ids of keys and items go and the
+/// spans move as the mover says. The spans can be moved, and the keys differ where they go. The only
+/// error is want of memory.
+///
+/// Source: `update_world` and `update_world_key` of wit-parser 0.263.0.
 pub fn placed_entries(
     alloc: Global,
     mover: &Mover<'_>,

@@ -14,10 +14,10 @@ use wit_graph::ResolveResult;
 use wit_items::ManglingAndAbi;
 
 impl Resolve {
-    /// Whether an import has names, the condition of `wasm_import_name`: an interface's key and a
-    /// resource must have one; what serves exports of a resource is of an interface; futures and
-    /// streams have names under the older ones alone, a type that is given is among those of the
-    /// function, and only reading, writing and ending these can go on after the call.
+    /// Whether an import has names, the condition of `wasm_import_name`: an interface's key and a resource must have
+    /// one; what serves exports of a resource is of an interface; futures and streams have names under the older ones
+    /// alone, a type that is given is among those of the function, and only reading, writing and ending these can go
+    /// on after the call. The only refusal is want of memory (28).
     pub fn can_name_import(
         &self,
         alloc: Global,
@@ -39,7 +39,10 @@ impl Resolve {
         can_name_export(self.graph(), mangling, export)
     }
 
-    /// The module and the field under which core wasm imports it: see the table `import_names`.
+    /// The module and the field under which core wasm imports it, for what `can_name_import` says has names: see the
+    /// table `import_names`. The only refusal is want of memory (28).
+    ///
+    /// Source: `wasm_import_name` of wit-parser 0.263.0.
     pub fn wasm_import_name(
         &self,
         alloc: Global,
@@ -53,7 +56,10 @@ impl Resolve {
         wasm_import_name(alloc, self.graph(), mangling, import)
     }
 
-    /// The name under which core wasm exports it: see the table `export_name`.
+    /// The name under which core wasm exports it, for what `can_name_export` says has one: see the table
+    /// `export_name`. The only refusal is want of memory (28).
+    ///
+    /// Source: `wasm_export_name` of wit-parser 0.263.0.
     pub fn wasm_export_name(
         &self,
         alloc: Global,

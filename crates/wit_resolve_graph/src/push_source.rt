@@ -16,12 +16,17 @@ use wit_graph::{ResolveError, ResolveErrorKind};
 use wit_items::{MapFault, PackageId, SourceMap, Span, Text, UnresolvedPackageGroup};
 
 impl Resolve {
-    /// Adds what a parse makes of one file, as `push_group` does, and answers the main package's id. The
-    /// parse is given the source map of this file.
+    /// Adds what a parse makes of the file of this path with these contents, as `push_group` does, and answers the
+    /// main package's id. The parse is given the source map of this file alone. It can always be called, and each
+    /// group that it may make of the file has its shape, as `is_group_shaped` tells.
     ///
-    /// Refused as `push_group`, where the file would pass 4294967295 (27), and for memory, also where the parse
-    /// wants it (28). Where the parse can't read the text, its files go to the end of the sources and
-    /// its span is moved with them; where they don't fit it is 27, and nothing has changed.
+    /// Refused as `push_group`, where the file would pass 4294967295 (27), and for memory, also where the parse wants
+    /// it (28). Where the parse can't read the text, its files go to the end of the sources and its span is moved
+    /// with them; where they or the span don't fit there it is 27, and for memory 28, and no file is added. The
+    /// packages are as before after a fault, and so are the sources but for files that are added so or stay as
+    /// `push_group` says.
+    ///
+    /// Source: `push_source` of wit-parser 0.263.0; that a parse is handed in is a rule of this project.
     pub fn push_source<F: FnOnce(SourceMap) -> Result<UnresolvedPackageGroup, ParseFault> + Drop>(
         &mut self,
         alloc: Global,

@@ -24,14 +24,18 @@ use wit_questions::{
 impl Resolve {
     /// Of an alias of a type that an interface owns, which isn't the alias's own owner, that interface;
     /// else None. It takes no memory.
+    ///
+    /// Source: `type_interface_dep` of wit-parser 0.263.0.
     pub fn type_interface_dep(&self, id: TypeId) -> Option<InterfaceId>
         ensures { result ≡ type_interface_dep self.now.graph.types id }
     {
         type_interface_dep(self.types(), id)
     }
 
-    /// The interfaces that an interface uses directly, in the order of its types, with repeats. It takes
-    /// no memory.
+    /// The interfaces that an interface of this graph uses directly, in the order of its types, with
+    /// repeats. It takes no memory.
+    ///
+    /// Source: `interface_direct_deps` of wit-parser 0.263.0.
     pub fn interface_direct_deps(&self, id: InterfaceId) -> InterfaceDirectDeps<'_>
         requires { id < length self.now.graph.interfaces }
         ensures { result ≡ interface_direct_deps self.now.graph.types self.now.graph.interfaces id }
@@ -39,9 +43,11 @@ impl Resolve {
         interface_direct_deps(self.graph(), id)
     }
 
-    /// The packages that a package depends on directly, other than itself, with repeats: those of what
-    /// the interfaces of its table use, and then those of what its worlds name, imports before exports.
-    /// It takes no memory.
+    /// The packages that a package of this graph depends on directly, other than itself, with repeats:
+    /// those of what the interfaces of its table use, and then those of what its worlds name, imports
+    /// before exports. It takes no memory.
+    ///
+    /// Source: `package_direct_deps` of wit-parser 0.263.0.
     pub fn package_direct_deps(&self, id: PackageId) -> PackageDirectDeps<'_>
         requires { id < length self.now.graph.packages }
         ensures { result ≡ package_direct_deps self.now.graph.types self.now.graph.interfaces self.now.graph.worlds self.now.graph.packages id }
@@ -49,7 +55,10 @@ impl Resolve {
         package_direct_deps(self.graph(), id)
     }
 
-    /// All packages by their ids, but each after those that it depends on, in order, and each once.
+    /// All packages by their ids, but each after those that it depends on, in order, and each once. The
+    /// only refusal is want of memory (28).
+    ///
+    /// Source: `topological_packages` of wit-parser 0.263.0.
     pub fn topological_packages(&self, alloc: Global) -> ResolveResult<Vec<PackageId>>
         ensures order { IfOk result (λ order. order.items ≡ topological_packages self.now.graph.types self.now.graph.interfaces self.now.graph.worlds self.now.graph.packages) }
         ensures err { IfErr result (λ kind. kind ≡ OutOfMemory) }
@@ -60,7 +69,10 @@ impl Resolve {
 
 /// Canonical names, with the text of the track in the place of the version.
 impl Resolve {
-    /// The canonical id text of an interface, None where it has no name.
+    /// The canonical id text of an interface, None where it has no name or isn't there. The only
+    /// refusal is want of memory (28).
+    ///
+    /// Source: `canonicalized_id_of` of wit-parser 0.263.0.
     pub fn canonicalized_id_of(
         &self,
         alloc: Global,
@@ -72,7 +84,10 @@ impl Resolve {
         canonicalized_id_of(alloc, self.graph(), id)
     }
 
-    /// The canonical id text of an interface or a world of this name in a package.
+    /// The canonical id text of an interface or a world of this name in a package, empty where the
+    /// package isn't there. The only refusal is want of memory (28).
+    ///
+    /// Source: `canonicalized_id_of_name` of wit-parser 0.263.0.
     pub fn canonicalized_id_of_name(
         &self,
         alloc: Global,
@@ -86,7 +101,9 @@ impl Resolve {
     }
 
     /// What names a key of a world: a label as it stands, an interface by its canonical id text, which
-    /// is empty where the interface has no name.
+    /// is empty where the interface has none. The only refusal is want of memory (28).
+    ///
+    /// Source: `name_canonicalized_world_key` of wit-parser 0.263.0.
     pub fn name_canonicalized_world_key(
         &self,
         alloc: Global,
@@ -99,7 +116,10 @@ impl Resolve {
     }
 
     /// What the canonical id text of an interface leaves out of the version of its package; None where
-    /// there is no version, or nothing is left out.
+    /// there is no version, where nothing is left out, and where the interface isn't there. The only
+    /// refusal is want of memory (28).
+    ///
+    /// Source: `version_suffix_of` of wit-parser 0.263.0.
     pub fn version_suffix_of(&self, alloc: Global, id: InterfaceId) -> ResolveResult<Option<String>>
         ensures text { IfOk result (λ text. option_map string_bytes text ≡ version_suffix_of self.now.graph.packages self.now.graph.interfaces id) }
         ensures err { IfErr result (λ kind. kind ≡ OutOfMemory) }
@@ -110,14 +130,20 @@ impl Resolve {
 
 /// Entries of worlds.
 impl Resolve {
-    /// The interface with a name that stands under a label. It takes no memory.
+    /// The interface with a name that stands under a label, None of any other entry. It takes no
+    /// memory.
+    ///
+    /// Source: `implements_interface` of wit-parser 0.263.0.
     pub fn implements_interface(&self, key: &WorldKey, item: &WorldItem) -> Option<InterfaceId>
         ensures { result ≡ implements_interface self.now.graph.interfaces key.now item.now }
     {
         implements_interface(self.graph(), key, item)
     }
 
-    /// The external id of an entry: its own, or that of its function or type.
+    /// The external id of an entry: its own, or that of its function or type; None where it has none.
+    /// The only refusal is want of memory (28).
+    ///
+    /// Source: `external_id_value` of wit-parser 0.263.0.
     pub fn external_id_value(
         &self,
         alloc: Global,
@@ -134,6 +160,8 @@ impl Resolve {
 impl Resolve {
     /// Whether any bits are a value of the type: of a number, of a handle, and of an alias, a list of
     /// fixed length, a record or a tuple whose parts all are such. It takes no memory.
+    ///
+    /// Source: `all_bits_valid` of wit-parser 0.263.0.
     pub fn all_bits_valid(&self, ty: Type_) -> bool
         ensures { IsTrue result ↔ HasAllBitsValid self.now.graph.types ty }
     {
@@ -141,7 +169,9 @@ impl Resolve {
     }
 
     /// The futures and streams that the values of a function's parameters and of its result hold: see
-    /// `wit_questions::find_futures_and_streams`.
+    /// `wit_questions::find_futures_and_streams`. The only refusal is want of memory (28).
+    ///
+    /// Source: `find_futures_and_streams` of wit-parser 0.263.0.
     pub fn find_futures_and_streams(
         &self,
         alloc: Global,

@@ -40,9 +40,11 @@ use wit_upgrading::merged_by_track;
 use wit_valid::is_valid;
 use wit_values::try_clone_four;
 
-/// Packages whose names are resolved: a valid graph, the features that are on, the sources, and the rule by
-/// which versions stand on one track. Beside the graph it keeps which interfaces use which, so that a push costs
-/// what it adds, and of which types all bits are valid.
+/// Packages whose names are resolved: a valid graph, the features that are on, the sources, and the rule by which
+/// versions stand on one track. Beside the graph it keeps which interfaces use which, so that a push costs what it
+/// adds, and of which types all bits are valid.
+///
+/// Source: `Resolve` of wit-parser 0.263.0.
 pub struct Resolve {
     graph: Graph,
     kept: Kept,
@@ -64,6 +66,8 @@ impl Model for Resolve {
 
 impl Resolve {
     /// Nothing: no package, no feature, no file, and the published rule of tracks. It takes no memory.
+    ///
+    /// Source: `Resolve::new` of wit-parser 0.263.0.
     pub fn new(alloc: Global) -> Resolve
         ensures { result ≡ new_state }
     {
@@ -84,8 +88,10 @@ impl Resolve {
         &self.graph
     }
 
-    /// Whether the graph is valid: see `is_valid`. It is true of every `Resolve`, or there is no memory
-    /// to tell.
+    /// Whether the graph is valid: see `is_valid`. It is true of every `Resolve`. The only refusal is want of memory
+    /// (28).
+    ///
+    /// Source: `assert_valid` of wit-parser 0.263.0.
     pub fn assert_valid(&self, alloc: Global) -> ResolveResult<bool>
         ensures valid { IfOk result (λ valid. IsTrue valid) }
         ensures err { IfErr result (λ kind. kind ≡ OutOfMemory) }
@@ -93,36 +99,54 @@ impl Resolve {
         is_valid(alloc, self.graph())
     }
 
+    /// The types, each at the place that is its id.
+    ///
+    /// Source: `Resolve::types` of wit-parser 0.263.0.
     pub fn types(&self) -> &[TypeDef]
         ensures { result.now ≡ self.now.graph.types }
     {
         self.graph.types.as_slice()
     }
 
+    /// The interfaces, each at the place that is its id.
+    ///
+    /// Source: `Resolve::interfaces` of wit-parser 0.263.0.
     pub fn interfaces(&self) -> &[Interface]
         ensures { result.now ≡ self.now.graph.interfaces }
     {
         self.graph.interfaces.as_slice()
     }
 
+    /// The worlds, each at the place that is its id.
+    ///
+    /// Source: `Resolve::worlds` of wit-parser 0.263.0.
     pub fn worlds(&self) -> &[World]
         ensures { result.now ≡ self.now.graph.worlds }
     {
         self.graph.worlds.as_slice()
     }
 
+    /// The packages, each at the place that is its id.
+    ///
+    /// Source: `Resolve::packages` of wit-parser 0.263.0.
     pub fn packages(&self) -> &[Package]
         ensures { result.now ≡ self.now.graph.packages }
     {
         self.graph.packages.as_slice()
     }
 
+    /// The ids of the packages by their names.
+    ///
+    /// Source: `Resolve::package_names` of wit-parser 0.263.0.
     pub fn package_names(&self) -> &Table<PackageName, PackageId>
         ensures { result.now ≡ self.now.graph.package_names }
     {
         &self.graph.package_names
     }
 
+    /// The features that are on.
+    ///
+    /// Source: `Resolve::features` of wit-parser 0.263.0.
     pub fn features(&self) -> &Features
         ensures { result.now ≡ self.now.features }
     {
@@ -130,12 +154,17 @@ impl Resolve {
     }
 
     /// Whether all features are on, named or not.
+    ///
+    /// Source: `Resolve::all_features` of wit-parser 0.263.0.
     pub fn all_features(&self) -> bool
         ensures { result ≡ self.now.features.all }
     {
         self.features.all
     }
 
+    /// The files in which the spans stand.
+    ///
+    /// Source: `Resolve::source_map` of wit-parser 0.263.0.
     pub fn source_map(&self) -> &SourceMap
         ensures { result.now ≡ self.now.source_map }
     {
@@ -159,6 +188,8 @@ impl Resolve {
 
 impl Resolve {
     /// Turns a feature on. One that is on stays so. Refused for memory (28); nothing has changed then.
+    ///
+    /// Source: `Resolve::features` of wit-parser 0.263.0.
     pub fn add_feature(&mut self, alloc: Global, name: &str) -> ResolveResult<()>
         ensures ok { OnOk result (self.new ≡ record self.old { features = with_feature self.old.features name.now }) }
         ensures err { OnErr result (self.new ≡ self.old) }
@@ -169,6 +200,8 @@ impl Resolve {
     }
 
     /// Turns all features on, named or not, or leaves those that are named. It takes no memory.
+    ///
+    /// Source: `Resolve::all_features` of wit-parser 0.263.0.
     pub fn set_all_features(&mut self, all: bool)
         ensures { self.new ≡ record self.old { features = record self.old.features { all = all } } }
     {
@@ -184,9 +217,11 @@ impl Resolve {
 }
 
 impl Resolve {
-    /// Puts the files of a source map at the end of this one's, and answers where they begin: a span
-    /// in them has to be moved so far. Refused where the end would pass 4294967295 (27), and for
-    /// memory (28); nothing has changed then.
+    /// Puts the files of a source map at the end of this one's, and answers the position where they begin: a span in
+    /// them has to be moved so far. Refused where the end would pass 4294967295 (27), and for memory (28); nothing
+    /// has changed then.
+    ///
+    /// Source: `push_source_map` of wit-parser 0.263.0.
     pub fn push_source_map(&mut self, alloc: Global, source_map: SourceMap) -> ResolveResult<u32>
         ensures ok { IfOk result (λ offset. (offset ≡ self.old.source_map.end) × (self.new ≡ record self.old { source_map = with_sources self.old.source_map source_map })) }
         ensures err { OnErr result (self.new ≡ self.old) }
@@ -196,9 +231,12 @@ impl Resolve {
         Ok(self.source_map.append(alloc, source_map)?)
     }
 
-    /// Adds a package, its spans moved by an offset, and answers its id.
+    /// Adds an `is_shaped` package, its spans moved by so many positions, and answers its id. The sources stay as
+    /// they are.
     ///
     /// Refused as `wit_link::append` says (1 to 5, 7 to 18, 27), and for memory (28); nothing has changed then.
+    ///
+    /// Source: `push` of wit-parser 0.263.0.
     pub fn push(
         &mut self,
         alloc: Global,
@@ -224,8 +262,11 @@ impl Resolve {
         )
     }
 
-    /// Adds the packages of a group, the nested ones and the main one, and puts the group's files at the
-    /// end of the source map, and answers the main package's id: `push_groups` with this group alone.
+    /// Adds the packages of an `is_group_shaped` group, the nested ones and the main one, and puts the group's files
+    /// at the end of the source map, and answers the main package's id: `push_groups` with this group alone, which
+    /// also says what is refused.
+    ///
+    /// Source: `push_group` of wit-parser 0.263.0.
     pub fn push_group(
         &mut self,
         alloc: Global,
@@ -239,13 +280,16 @@ impl Resolve {
         self.push_groups(alloc, group, Items::new(alloc))
     }
 
-    /// Adds the packages of groups, each after those of them that it depends on and else in the order of
-    /// their names, and puts the groups' files at the end of the source map, the main group's first.
-    /// Answers the id of the main group's main package.
+    /// Adds the packages of `is_group_shaped` groups, each after those of them that it depends on and else in the
+    /// order of their names, and puts the groups' files at the end of the source map, the main group's first. Answers
+    /// the id of the main group's main package.
     ///
-    /// Refused where two packages have one name (5), where they depend on each other or one on itself (6),
-    /// and as `push` where one of them is; the packages are as before then. The files are at the end of the source map after a refusal, but after 27 nowhere, and
-    /// after 28 there or not.
+    /// Refused where two packages have one name (5), where they depend on each other or one on itself (6), where the
+    /// files or a place that would be told end past 4294967295 (27), as `push` where one of them is, and for memory
+    /// (28). The packages are as before then. The files are at the end of the source map after a refusal, but after
+    /// 27 nowhere, and after 28 there or not.
+    ///
+    /// Source: `push_groups` of wit-parser 0.263.0.
     pub fn push_groups(
         &mut self,
         alloc: Global,
@@ -302,9 +346,15 @@ impl Resolve {
         merged
     }
 
-    /// The world that a text names: a name in the one main package, or `namespace:package/name` with an
-    /// optional `@version`. Without a text it is the only world of the one main package. The ids are
-    /// of this graph. Refused where there is no such world, or more than one (26), and for memory (28).
+    /// The world that a text names: a name in the one main package, or `namespace:package/name` with an optional
+    /// `@version`. Without a text it is the only world of the one main package.
+    ///
+    /// The main packages are ids of this graph; one that isn't there is told as if there were none. Refused where the
+    /// text is no use path; where there is no main package, or several and the text names no package; where the
+    /// package of the text isn't there, or is there at several versions and the text names none; and where there is
+    /// no such world, or more than one (26). Also refused for memory (28).
+    ///
+    /// Source: `select_world` of wit-parser 0.263.0.
     pub fn select_world(
         &self,
         alloc: Global,
@@ -317,7 +367,10 @@ impl Resolve {
         select_world(alloc, &self.graph, main_packages, world)
     }
 
-    /// The id text of an interface, None where it has no name: see `Graph::id_of`.
+    /// The id text of an interface, None where it has no name or isn't there: see `Graph::id_of`. The only refusal is
+    /// want of memory (28).
+    ///
+    /// Source: `id_of` of wit-parser 0.263.0.
     pub fn id_of(&self, alloc: Global, id: InterfaceId) -> ResolveResult<Option<String>>
         ensures text { IfOk result (λ text. option_map string_bytes text ≡ interface_id_at self.now.graph.packages self.now.graph.interfaces id) }
         ensures err { IfErr result (λ kind. kind ≡ OutOfMemory) }
@@ -325,7 +378,10 @@ impl Resolve {
         self.graph.id_of(alloc, id)
     }
 
-    /// The id text of an interface or a world of this name in a package: see `Graph::id_of_name`.
+    /// The id text of an interface or a world of this name in a package, empty where the package isn't there: see
+    /// `Graph::id_of_name`. The only refusal is want of memory (28).
+    ///
+    /// Source: `id_of_name` of wit-parser 0.263.0.
     pub fn id_of_name(&self, alloc: Global, package: PackageId, name: &str) -> ResolveResult<String>
         ensures text { IfOk result (λ text. string_bytes text ≡ id_text self.now.graph.packages «package» name.now) }
         ensures err { IfErr result (λ kind. kind ≡ OutOfMemory) }
@@ -333,7 +389,9 @@ impl Resolve {
         self.graph.id_of_name(alloc, package, name)
     }
 
-    /// What names a key of a world: see `Graph::name_world_key`.
+    /// What names a key of a world: see `Graph::name_world_key`. The only refusal is want of memory (28).
+    ///
+    /// Source: `name_world_key` of wit-parser 0.263.0.
     pub fn name_world_key(&self, alloc: Global, key: &WorldKey) -> ResolveResult<String>
         ensures text { IfOk result (λ text. string_bytes text ≡ key_text self.now.graph.packages self.now.graph.interfaces key.now) }
         ensures err { IfErr result (λ kind. kind ≡ OutOfMemory) }
@@ -343,8 +401,10 @@ impl Resolve {
 }
 
 impl Resolve {
-    /// Turns a world into one that imports what it exported: see `wit_unite::importize`. The world is of
-    /// this graph. After a refusal nothing has changed.
+    /// Turns a world of this graph into one that imports what it exported: see `wit_unite::importize`, which says
+    /// what is refused (19, 20, 28). After a refusal nothing has changed.
+    ///
+    /// Source: `importize` of wit-parser 0.263.0.
     pub fn importize(
         &mut self,
         alloc: Global,
@@ -360,8 +420,11 @@ impl Resolve {
         importize(alloc, &mut self.graph, world, out)
     }
 
-    /// Turns a world into one that exports what it imported where the filter answers true, all without
-    /// one: see `wit_unite::exportize`. The world is of this graph. After a refusal nothing has changed.
+    /// Turns a world of this graph into one that exports what it imported where the filter answers true, all without
+    /// one: see `wit_unite::exportize`, which says what is refused (4, 20, 21, 28). The filter can always be called.
+    /// After a refusal nothing has changed.
+    ///
+    /// Source: `exportize` of wit-parser 0.263.0.
     pub fn exportize<F: Fn(&WorldKey, &WorldItem) -> bool + Drop>(
         &mut self,
         alloc: Global,
@@ -400,8 +463,11 @@ impl Resolve {
         exportize_answered(alloc, &mut self.graph, world, out, answers)
     }
 
-    /// Merges the imports of a world by tracks, with the rule that is in force: see
-    /// `wit_upgrading::merged_by_track`. The world is of this graph. After a refusal nothing has changed.
+    /// Merges the imports of a world of this graph by tracks, with the rule that is in force: see
+    /// `wit_upgrading::merged_by_track`, which says what is refused (4, 6, 22, 23, 25, 28). After a refusal nothing
+    /// has changed.
+    ///
+    /// Source: `merge_world_imports_based_on_semver` of wit-parser 0.263.0.
     pub fn merge_world_imports_based_on_semver(
         &mut self,
         alloc: Global,

@@ -14,7 +14,7 @@ use wit_graph::ResolveResult;
 use wit_items::Text;
 
 /// Runs commands in order, and answers a reply to each. Room for all replies is made first; where there
-/// is none, nothing has changed.
+/// is no memory for it (28), nothing has changed. Any other refusal is a reply.
 ///
 /// The packages of a `PushGroups` have their shape, as `Resolve::push_groups` asks.
 pub fn run(

@@ -88,7 +88,8 @@ fn push_some(mentions: &mut Items<Mention>, mention: Option<Mention>) -> Result<
     }
 }
 
-/// What lines mention up to the end of the package, where its file has so many bytes before them.
+/// What lines mention up to the end of the package, or to the first that isn't understood or doesn't
+/// fit into its file, where the file has so many bytes before them. The only error is want of memory.
 pub fn mentions_ahead(
     alloc: Global,
     file_len: usize,

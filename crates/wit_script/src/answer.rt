@@ -93,7 +93,8 @@ impl Stage {
     }
 }
 
-/// The answers to commands on an empty graph, in order, of which each can be asked after those before it.
+/// The answers to commands on an empty graph, in order, of which each can be asked after those before it, as
+/// `other_after` tells. Want of memory in a command is told as its answer (28); elsewhere it is the only error.
 pub fn answers_to(alloc: Global, commands: Items<ReadyCommand>) -> Result<String, AllocError>
     requires { MayAllCome commands false }
     ensures { IfOk result (λ text. (after : Stage) × AnswersAll Run IsChoice (alone new_state) commands (string_bytes text) after) }

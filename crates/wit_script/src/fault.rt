@@ -6,7 +6,8 @@ use std::alloc::AllocError;
 /// Why a script can't be read.
 #[derive(Clone, Copy, Debug, PartialEq, Eq)]
 pub enum ReadFault {
-    /// This line, counted from 1, is the first that isn't understood.
+    /// This line, counted from 1, is the first that isn't understood; or all are, but packages wait for
+    /// their `push`, or an `other` for its `merge`, and it is the last that says something.
     NotUnderstood { line: usize },
     OutOfMemory,
 }

@@ -9,8 +9,9 @@ use std::fmt::Write;
 use wit_items::{Table, Text, WorldId, WorldItem, WorldKey};
 use wit_resolve_graph::{Graph, Resolve, ResolveResult};
 
-/// A world as lines of text, each with a newline: `world` and its id text, then a line for each import
-/// and each export. Empty where the world isn't there.
+/// A world of the graph as lines of text, each with a newline: `world` and its id text, then a line for
+/// each import and each export. Empty where the world isn't there. The only refusal is want of memory
+/// (28).
 pub fn print_world(alloc: Global, resolve: &Resolve, id: WorldId) -> ResolveResult<String>
     ensures text { IfOk result (λ text. string_bytes text ≡ world_text_at resolve.now.graph id) }
     ensures err { IfErr result (λ e. e ≡ OutOfMemory) }
@@ -26,7 +27,8 @@ pub fn print_world(alloc: Global, resolve: &Resolve, id: WorldId) -> ResolveResu
     Ok(text)
 }
 
-/// The id text of a world. Empty where it isn't there or has no package.
+/// The id text of a world. Empty where it isn't there or has no package. The only refusal is want of
+/// memory (28).
 pub fn world_id_text(alloc: Global, graph: &Graph, id: WorldId) -> ResolveResult<String>
     ensures text { IfOk result (λ text. string_bytes text ≡ world_id_text_at graph.now id) }
     ensures err { IfErr result (λ e. e ≡ OutOfMemory) }

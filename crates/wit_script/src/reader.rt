@@ -76,7 +76,7 @@ fn split_main(
 }
 
 impl Reading {
-    /// No line is read.
+    /// No line is read. It takes no memory.
     pub fn new(alloc: Global) -> Reading
         ensures { result ≡ new_reading }
     {
@@ -252,10 +252,9 @@ fn add_lines(alloc: Global, reading: &mut Reading, lines: &[&str]) -> Result<usi
     Ok(last)
 }
 
-/// The commands of a script, or the number of its first line that isn't understood.
-///
-/// Where all lines are understood but packages wait for their `push`, or an `other` for its `merge`, the
-/// last line that says something is named.
+/// The commands of a script, or the number of its first line that isn't understood, counted from 1. Where all lines
+/// are understood but packages wait for their `push`, or an `other` for its `merge`, the last line that says
+/// something is named. Else only want of memory is an error.
 pub fn read_script(alloc: Global, text: &str) -> Result<Items<ReadyCommand>, ReadFault>
     ensures ok { IfOk result (λ commands. IsUnderstood text.now commands) }
     ensures fault { IfErr result (λ fault. HasReadFault text.now fault) }

@@ -50,7 +50,7 @@ impl Model for ReadyCommand {
 impl ReadyCommand {
     ghost use Rattle.wit_script.specs.Ready.{IsReady};
 
-    /// A command that is known to be ready.
+    /// A command whose packages have their shape, as `is_group_shaped` tells.
     pub fn new(command: ScriptCommand) -> ReadyCommand
         requires { IsReady command }
         ensures { result ≡ command }
@@ -58,7 +58,7 @@ impl ReadyCommand {
         ReadyCommand { command }
     }
 
-    /// The command that it keeps.
+    /// The command that it keeps, whose packages have their shape.
     pub fn into_command(self) -> ScriptCommand
         ensures same { result ≡ self }
         ensures ready { IsReady result }

@@ -13,11 +13,12 @@ use crate::watched::Watched;
 use std::alloc::Global;
 use std::io::{Read, Write};
 
-/// Reads a script to the end of the reader, runs it, and writes its answers. A script that isn't
-/// understood is answered by one line and not run, and the answer is then false.
+/// Reads a script to the end of the reader, runs it on an empty graph, and writes its answers. A script
+/// that isn't understood is answered by one line and not run, and the answer is then false.
 ///
-/// The clauses speak of readers and writers that tell their bytes. Where the writer fails, a beginning of
-/// what was to be written is; after any other fault nothing is.
+/// The faults are a failed call of the reader or the writer, an input that isn't UTF-8, and want of
+/// memory outside a command. The clauses speak of readers and writers that tell their bytes. Where the
+/// writer fails, a beginning of what was to be written is; after any other fault nothing is.
 pub fn execute<R: Read, W: Write>(
     alloc: Global,
     reader: &mut Watched<R>,

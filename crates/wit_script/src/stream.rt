@@ -8,7 +8,7 @@ use crate::watched::Watched;
 use std::alloc::Global;
 use std::io::{Read, Write};
 
-/// All bytes of a reader up to its end.
+/// All bytes of a reader up to its end. The faults are a failed call of the reader and want of memory.
 pub fn read_all<R: Read>(alloc: Global, reader: &mut Watched<R>) -> Result<Vec<u8>, ScriptFault>
     ensures ok { IfOk result (λ v. IfSome (R.remaining reader.old.inner) (λ input. v.items ≡ input)) }
     ensures end { OnOk result (IfSome (R.remaining reader.new.inner) (λ rest. rest ≡ [])) }
@@ -28,8 +28,8 @@ pub fn read_all<R: Read>(alloc: Global, reader: &mut Watched<R>) -> Result<Vec<u
     Err(ScriptFault::OutOfMemory)
 }
 
-/// Writes all bytes of a text, and has the writer pass them on. After a fault a beginning of the text may
-/// be written.
+/// Writes all bytes of a text, and has the writer pass them on. The only fault is a failed call of the
+/// writer; a beginning of the text may be written then.
 pub fn write_all<W: Write>(writer: &mut Watched<W>, text: &str) -> Result<(), ScriptFault>
     ensures ok { OnOk result (Appends (W.contents writer.old.inner) (W.contents writer.new.inner) text.now) }
     ensures err { IfErr result (λ e. (e ≡ ScriptFault.Write) × (writer.new.failed ≡ true)) }

@@ -17,8 +17,12 @@ use wit_items::{
 /// The world that a text names: a name in the one main package, or `namespace:package/name` with an optional
 /// `@version`. Without a text it is the only world of the one main package.
 ///
-/// The ids are of the graph. Refused where there is no such world, or more than one (26), and for memory
-/// (28). Source: `select_world` of wit-parser 0.263.0.
+/// The main packages are ids of the graph; one that isn't there is told as if there were none. Refused where the text
+/// is no use path; where there is no main package, or several and the text names no package; where the package of the
+/// text isn't there, or is there at several versions and the text names none; and where there is no such world, or
+/// more than one (26). Also refused for memory (28).
+///
+/// Source: `select_world` of wit-parser 0.263.0.
 pub fn select_world(
     alloc: Global,
     graph: &Graph,

@@ -8,49 +8,51 @@ pub fn newest_is_greatest()
     ensures { NewestIsGreatest }
 {}
 
-/// The interfaces that the world imports under their own keys are the former ones less the replaced.
+/// Where nothing speaks against semver merging in a valid graph, the interfaces that the world then imports under
+/// their own keys are the former ones less the replaced.
 pub fn keys_are_exact()
     ensures { KeysAreExact }
 {
     laws_of_elaboration();
 }
 
-/// No two of them are on one track.
+/// No two interfaces that it then imports under their own keys are on one track.
 pub fn one_on_each_track()
     ensures { OneOnEachTrack }
 {
     laws_of_elaboration();
 }
 
-/// The world's imports under labels stay as they were.
+/// The imports of the world under labels stay as they were.
 pub fn labels_are_kept()
     ensures { LabelsAreKept }
 {
     laws_of_elaboration();
 }
 
-/// The keys of the world's exports stay.
+/// The keys of the exports of the world stay.
 pub fn exports_are_kept()
     ensures { ExportsAreKept }
 {
     laws_of_elaboration();
 }
 
-/// A valid graph stays valid.
+/// A valid graph whose imports are merged by tracks is valid, where nothing speaks against it.
 pub fn rewritten_stay_valid()
     ensures { RewrittenStayValid }
 {
     laws_of_elaboration();
 }
 
-/// Each world is the elaboration of its list: the named one's less the replaced, of each other its former one.
+/// After semver merging each world is the elaboration of its list: of the named one its list less the replaced, of
+/// each other its former one.
 pub fn worlds_are_elaborated()
     ensures { WorldsAreElaborated }
 {
     laws_of_elaboration();
 }
 
-/// Everything of a graph is there after it at its id; of types only what aliases name may have changed.
+/// Everything of a graph is there after semver merging at its id; of types only what aliases name may have changed.
 pub fn rewritten_keep()
     ensures { RewrittenKeep }
 {}

@@ -11,7 +11,7 @@ pub fn importized_stay_valid()
     laws_of_elaboration();
 }
 
-/// So is one with a world whose imports became exports.
+/// A valid graph with a world whose imports became exports is valid, where nothing speaks against it.
 pub fn exportized_stay_valid()
     ensures { ExportizedStayValid }
 {
@@ -23,7 +23,8 @@ pub fn importized_exports_nothing()
     ensures { ImportizedExportsNothing }
 {}
 
-/// A world of which all imports became exports imports nothing.
+/// A world of a valid graph of which all imports became exports imports nothing, where nothing speaks
+/// against it.
 pub fn exportized_imports_nothing()
     ensures { ExportizedImportsNothing }
 {

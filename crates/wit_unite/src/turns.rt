@@ -136,12 +136,14 @@ fn turn(
     Ok(())
 }
 
-/// Turns a world into one that imports what it exported: of its imports the types alone stay, its
-/// exports stand behind them, and they are elaborated. It is then the last world of its package, under
-/// the given name, or under its own with `-importized` behind it.
+/// Turns a world of a valid graph into one that imports what it exported: of its imports the types
+/// alone stay, its exports stand behind them, and they are elaborated. It is then the last world of its
+/// package, under the given name, or under its own with `-importized` behind it. The graph stays valid.
 ///
 /// Refused where an export has the label of a type import (19), where the new name is another world's
 /// of the package (20), and for memory (28); the graph is as before then.
+///
+/// Source: `importize` of wit-parser 0.263.0.
 pub fn importize(
     alloc: Global,
     graph: &mut Graph,
@@ -207,7 +209,10 @@ fn answers_of<F: Fn(&WorldKey, &WorldItem) -> bool>(
     Ok(answers)
 }
 
-/// As `exportize`, with the answers of a filter: one for each import, in order.
+/// As `exportize`, with the answers of a filter: one for each import, in order. The refusals are those
+/// of `exportize`; the graph is as before then.
+///
+/// Source: `exportize` of wit-parser 0.263.0.
 pub fn exportize_answered(
     alloc: Global,
     graph: &mut Graph,
@@ -231,13 +236,16 @@ pub fn exportize_answered(
     Ok(())
 }
 
-/// Turns a world into one that exports what it imported: the exports are dropped, the imports for which
-/// the filter answers true become the exports (all without a filter), and both lists are elaborated.
-/// The filter is asked once for each import, in order. The world is then the last of its package, under
-/// the given name, or under its own with `-exportized` behind it.
+/// Turns a world of a valid graph into one that exports what it imported: the exports are dropped, the
+/// imports for which the filter answers true become the exports (all without a filter), and both lists
+/// are elaborated. The filter can always be called, and is asked once for each import, in order. The
+/// world is then the last of its package, under the given name, or under its own with `-exportized`
+/// behind it. The graph stays valid.
 ///
 /// Refused where the exports are in conflict (4), where the new name is another world's of the package
 /// (20), where a type would be exported (21), and for memory (28); the graph is as before then.
+///
+/// Source: `exportize` of wit-parser 0.263.0.
 pub fn exportize<F: Fn(&WorldKey, &WorldItem) -> bool + Drop>(
     alloc: Global,
     graph: &mut Graph,

@@ -31,8 +31,13 @@ pub struct United {
     pub going: Going,
 }
 
-/// A copy of a graph with another one: what is matched is made one, all else comes behind what is there, its spans
-/// moved by the offset, and all worlds are elaborated.
+/// A copy of a valid graph with another valid one: what is matched is made one, all else comes behind what is there,
+/// its spans moved by so many positions, and all worlds are elaborated. The copy is valid.
+///
+/// Refused where the exports of a world would be in conflict (4), where a package would depend on itself (6) or an
+/// interface (22), where two stabilities that would be joined are known and differ (8), where the result of a
+/// function that moves holds a borrow (15), where what matches disagrees (24), where a span of the other would pass
+/// 4294967295 (27), and for memory (28).
 ///
 /// Source: `merge` of wit-parser 0.263.0.
 pub fn unite(alloc: Global, graph: &Graph, other: &Graph, offset: u32) -> ResolveResult<United>

@@ -39,13 +39,14 @@ fn relisted_world(
     Ok(relisted(alloc, graph, world, imports, &targets)?)
 }
 
-/// A copy of a graph in which the imports of a world are merged by tracks: of the interfaces that it imports
-/// under their own keys the greatest version on each track is left, what its other entries use of the others
-/// they use of the greatest, and all worlds are elaborated. The world is of this graph.
+/// A copy of a valid graph in which the imports of a world of it are merged by a rule of tracks: of the interfaces
+/// that the world imports under their own keys the greatest version on each track is left, what its other entries use
+/// of the others they use of the greatest, and all worlds are elaborated. The copy is valid, and each thing has the
+/// id that it had.
 ///
-/// Refused where the greatest lacks a type that is used, or disagrees in a function (25), where a type
-/// would refer to itself (23), an interface use itself (22) or a package depend on itself (6), where the
-/// exports of some world are in conflict (4), and for memory (28).
+/// Refused where the greatest lacks a type that is used, or disagrees in a function (25), where a type would refer to
+/// itself (23), an interface use itself (22) or a package depend on itself (6), where the exports of some world are
+/// in conflict (4), and for memory (28).
 ///
 /// Source: `merge_world_imports_based_on_semver` of wit-parser 0.263.0.
 pub fn merged_by_track(
