@@ -1,18 +1,17 @@
 -- From flags that are right where they are off, and agree with the parts of their types, to what they tell.
-use Rattle.std.proofs.Common.{◌≡◌, ℕ, ◌<◌, ◌≤◌, ◌+◌, ◌∙◌, add-one, zero, suc, Bool, true, false, refl, arith, List, [], ◌∷◌, ◌++◌, ◌⊎◌, inl, inr, None, Some, Option, length, ap, sym, subst, slice_get, slice_set, Contains, unwrap_or, take}
+use Rattle.std.proofs.Common.{◌≡◌, ℕ, ◌<◌, ◌≤◌, ◌+◌, ◌∙◌, add-one, zero, suc, Bool, true, false, refl, arith, List, [], ◌∷◌, ◌++◌, ◌⊎◌, inl, inr, None, Some, Option, length, ap, sym, subst, slice_get, slice_set, Contains, unwrap_or}
 use Rattle.std.specs.Option.{IsSomeAnd}
-use Rattle.std.specs.Prelude.{IsTrue, ◌↔◌, replicate}
+use Rattle.std.specs.Prelude.{replicate}
 use Rattle.std.proofs.lemmas.Bool.{cases_lt, false≢true}
 use Rattle.std.proofs.lemmas.List.{length-set}
-use Rattle.std.proofs.lemmas.Option.{slice_get_past, slice_get_within}
-use Rattle.wit_relations.specs.Relation.{IsPath, Reaches, direct}
+use Rattle.std.proofs.lemmas.Option.{slice_get_within}
+use Rattle.wit_relations.specs.Relation.{IsPath, direct}
 use Rattle.wit_values.specs.Lists.{set-cases}
 use Rattle.wit_items.specs.Each.{SomeAt}
 use Rattle.wit_items.specs.declared.types.TypeDef.{TypeDef}
-use Rattle.wit_items.specs.declared.types.Type_.{Type_}
 use Rattle.wit_items.specs.declared.types.Type_.TheVariants as type
 use Rattle.wit_graph.specs.HeldFacts.{held_row}
-use Rattle.wit_graph.specs.Questions.{HasAllBitsValid, has_fixed_parts, held_rows, held_types}
+use Rattle.wit_graph.specs.Questions.{HasAllBitsValid, has_fixed_parts, held_rows}
 use Rattle.wit_questions.specs.ValidBits.{Agrees, AreRightBelow, AreRightOff, AreValidBits, TellValidBits, has_valid_parts, on_count}
 use Rattle.wit_questions.specs.ValidBitsFacts.{no_flag, no_type}
 use Rattle.wit_questions.proofs.ValidParts.{is_on, parts_fixed, parts_off, parts_on}
