@@ -1,5 +1,5 @@
 //! What takes part of a package under the features that are on.
-ghost use Rattle.std.specs.Prelude.{◌≡◌, ◌<◌, IfOk, List, length, map, slice_set, if◌then◌else◌, true};
+ghost use Rattle.std.specs.Prelude.{◌≡◌, ◌<◌, IfOk, List, length, map, true};
 ghost use Rattle.std.specs.List.{range_with_len};
 ghost use Rattle.wit_items.specs.Each.{Each};
 ghost use Rattle.wit_items.specs.Foreign.{ForeignItem};

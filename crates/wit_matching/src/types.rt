@@ -1,5 +1,5 @@
 //! Types, which are matched by their names where their owners are.
-ghost use Rattle.std.specs.Prelude.{◌≡◌, IfOk, None, get_or, length, map, option_and_then, slice_get};
+ghost use Rattle.std.specs.Prelude.{◌≡◌, IfOk, None, map, option_and_then, slice_get};
 ghost use Rattle.std.specs.Map.{lookup};
 ghost use Rattle.std.specs.Str.{bytes_eq};
 ghost use Rattle.wit_graph.specs.Valid.{IsValid};
