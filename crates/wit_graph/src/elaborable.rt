@@ -1,5 +1,5 @@
 //! Whether a world can be elaborated.
-ghost use Rattle.std.specs.Prelude.{◌↔◌, ◌<◌, IfOk, IsTrue};
+ghost use Rattle.std.specs.Prelude.{◌↔◌, IfOk, IsTrue};
 ghost use Rattle.wit_graph.specs.Elaboration.{CanElaborate};
 ghost use Rattle.wit_graph.specs.Sound.{AreSound, HasSoundEntries, IsRoleInRange, IsUnderOwnKey};
 

@@ -4,7 +4,7 @@ ghost use Rattle.wit_adding.specs.CauseText.{clash_text};
 ghost use Rattle.wit_including.specs.Labels.{IsLabelError, LabelsAreFine, ListIsFine, IsListError};
 ghost use Rattle.wit_graph.specs.declared.cause.Cause.TheVariants as cause;
 ghost use Rattle.wit_graph.specs.declared.error_kind.ResolveErrorKind.TheVariants.{OutOfMemory, Semantic};
-ghost use Rattle.wit_labels.specs.Setters.{getter_label, LacksGetterAt};
+ghost use Rattle.wit_labels.specs.Setters.{LacksGetterAt};
 
 use std::alloc::{AllocError, Global};
 use wit_graph::{Cause, ResolveError, ResolveErrorKind, ResolveResult};

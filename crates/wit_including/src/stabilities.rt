@@ -3,7 +3,6 @@ ghost use Rattle.std.specs.Prelude.{◌≡◌, IfErr, OnOk};
 ghost use Rattle.wit_adding.specs.Include.{include_stability};
 ghost use Rattle.wit_adding.specs.WorldReasons.{Disagree};
 ghost use Rattle.wit_graph.specs.declared.error_kind.ResolveErrorKind.TheVariants.{StabilityMismatch};
-ghost use Rattle.wit_items.specs.declared.stability.Stability.{Stability};
 
 use std::mem;
 use wit_graph::{ResolveErrorKind, ResolveResult};

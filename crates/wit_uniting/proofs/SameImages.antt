@@ -23,7 +23,6 @@ use Rattle.wit_items.specs.declared.types.TypeOwner.{TypeOwner}
 use Rattle.wit_items.specs.declared.types.TypeOwner.TheVariants as owner
 use Rattle.wit_items.specs.declared.types.Type_.{Type_}
 use Rattle.wit_items.specs.declared.types.Type_.TheVariants as type
-use Rattle.wit_items.specs.declared.world.World.{World}
 use Rattle.wit_items.specs.declared.world.WorldItem.{WorldItem}
 use Rattle.wit_items.specs.declared.world.WorldItem.TheVariants as item
 use Rattle.wit_items.specs.declared.world.WorldKey.{WorldKey}

@@ -1,6 +1,5 @@
 //! The graph whose types name what they name after the rewriting, and whose world lists what stays.
-ghost use Rattle.std.specs.Prelude.{◌≡◌, ◌<◌, IfOk, None, length};
-ghost use Rattle.wit_items.specs.declared.types.TypeDef.{TypeDef};
+ghost use Rattle.std.specs.Prelude.{◌≡◌, ◌<◌, IfOk, length};
 ghost use Rattle.wit_tracks.specs.Rewritten.{retargeted};
 ghost use Rattle.wit_upgrading.specs.Replacing.{with_lists, with_targets};
 
