@@ -1,5 +1,5 @@
 -- What the steps of an addition hand on to each other, as values of the addition.
-use Rattle.std.specs.Prelude.{ℕ, map, length}
+use Rattle.std.specs.Prelude.{map, length}
 use Rattle.std.specs.List.{range_with_len}
 use Rattle.wit_adding.specs.declared.adding.Activity.{Activity}
 use Rattle.wit_adding.specs.declared.adding.Adding.{Adding}

@@ -1,5 +1,5 @@
 -- Where nothing speaks against an addition, what takes part of its package refers to what takes part alone.
-use Rattle.std.proofs.Common.{◌≡◌, ◌∙◌, ◌≢◌, ℕ, ◌<◌, ◌≤◌, ◌&&◌, nat_eq, Bool, true, false, not, List, [], ◌∷◌, ◌++◌, ◌⊎◌, inl, inr, map, length, nat_lt, Option, None, Some, slice_get, refl, sym, ap, subst, arith, Contains, if◌then◌else◌}
+use Rattle.std.proofs.Common.{◌≡◌, ◌∙◌, ◌≢◌, ℕ, ◌<◌, ◌≤◌, ◌&&◌, nat_eq, Bool, true, false, not, List, [], ◌∷◌, ◌⊎◌, inl, inr, map, length, Option, None, Some, slice_get, refl, sym, ap, subst, arith, Contains, if◌then◌else◌}
 use Rattle.std.specs.List.{flat_map}
 use Rattle.std.specs.Option.{option_map_or}
 use Rattle.std.specs.List.{AllByRecursion, list_any}
@@ -9,7 +9,7 @@ use Rattle.std.proofs.lemmas.Map.Steps.{length-le_from_distinct_below}
 use Rattle.std.proofs.lemmas.Option.{slice_get_within}
 use Rattle.wit_relations.specs.MemberFacts.{Contains-cons_cases, Contains-flat_map, Contains-flat_map_cases, Contains-here, Contains-nil, Contains-there}
 use Rattle.wit_relations.specs.FreshFacts.{any_from_contains, contains_from_any}
-use Rattle.wit_items.specs.Each.{Each, EachAt, SomeAt}
+use Rattle.wit_items.specs.Each.{Each, SomeAt}
 use Rattle.wit_items.specs.Entries.{Entry}
 use Rattle.wit_items.specs.Foreign.{AreFirst, ForeignItem, IsBareWorld, IsForeign, IsForeignType, foreign_interfaces, foreign_worlds, interface_id, world_id}
 use Rattle.wit_items.specs.Ownership.{IsListed, listed_type, world_types}
@@ -26,13 +26,12 @@ use Rattle.wit_items.specs.declared.types.TypeOwner.{TypeOwner}
 use Rattle.wit_items.specs.declared.types.TypeOwner.TheVariants as owner
 use Rattle.wit_items.specs.declared.unresolved.AstItem.TheVariants as named
 use Rattle.wit_items.specs.declared.world.World.{World}
-use Rattle.wit_items.specs.declared.world.WorldItem.{WorldItem}
 use Rattle.wit_items.specs.declared.world.WorldItem.TheVariants as item
 use Rattle.wit_growth.specs.Cut.{IsClosedCut, ItemIsKept, OwnerIsKept}
 use Rattle.wit_growth.specs.ListFacts.{Contains-map, contained_at, found_at, place_of, same_at, some_at}
 use Rattle.wit_adding.specs.Addition.{Addition, own_world, part}
 use Rattle.wit_adding.specs.Gates.{HasEntry, Place, function_is_active, interface_is_active, is_active, is_foreign_interface, is_foreign_world, item_is_active, notes_of_foreign, some_active, type_is_active, world_is_active}
-use Rattle.wit_adding.specs.Reasons.{HasImage, IsActiveFunction, IsExcluded, RefersTo, Thing, AType, AnInterface, AWorld, kind_references, of_entry, of_foreign_type, of_function, of_include, of_interface, of_type, of_world, owner_thing}
+use Rattle.wit_adding.specs.Reasons.{HasImage, IsActiveFunction, IsExcluded, RefersTo, Thing, AType, AnInterface, AWorld, kind_references, of_entry, of_foreign_type, of_function, of_interface, of_type, of_world, owner_thing}
 
 -- what a test that is true of nothing where nothing is there tells
 pub there_where : {X : Type 0} (f : X → Bool) (o : Option X) → option_map_or f o false ≡ true → (x : X) × (o ≡ Some x) × (f x ≡ true)

@@ -1,15 +1,12 @@
 -- Where nothing speaks against an addition, what takes part of other packages is there.
-use Rattle.std.proofs.Common.{◌≡◌, ◌∙◌, ◌≢◌, ℕ, zero, suc, ◌+◌, ◌<◌, Bool, true, false, List, [], ◌∷◌, ◌++◌, ◌⊎◌, inl, inr, map, length, cond, nat_eq, Option, None, Some, is_some, slice_get, refl, sym, ap, subst, arith, Contains, if◌then◌else◌}
+use Rattle.std.proofs.Common.{◌≡◌, ◌∙◌, ℕ, zero, suc, ◌+◌, ◌<◌, Bool, true, false, List, [], ◌∷◌, ◌⊎◌, inl, inr, map, length, cond, nat_eq, Option, None, Some, is_some, slice_get, refl, sym, ap, subst, arith, Contains}
 use Rattle.std.specs.List.{enumerate_from, find, flat_map, list_any}
 use Rattle.std.specs.Map.{lookup}
-use Rattle.std.specs.Str.{bytes_eq}
-use Rattle.std.proofs.lemmas.Bool.{cases_Bool, eqb-true, false≢true, ltb-true}
+use Rattle.std.proofs.lemmas.Bool.{cases_Bool, false≢true, ltb-true}
 use Rattle.std.proofs.lemmas.Option.{slice_get_within}
-use Rattle.std.proofs.lemmas.Map.Views.{Contains-from_lookup}
 use Rattle.wit_relations.specs.MemberFacts.{Contains-cons_cases, Contains-flat_map, Contains-flat_map_cases, Contains-here, Contains-nil, Contains-there}
 use Rattle.wit_relations.specs.FreshFacts.{any_from_contains, contains_from_any}
-use Rattle.wit_items.specs.Each.{Each, SomeAt}
-use Rattle.wit_items.specs.Foreign.{AreFirst, ForeignItem, ForeignItems, foreign_interfaces, foreign_worlds, interface_id, world_id}
+use Rattle.wit_items.specs.Foreign.{ForeignItem, ForeignItems, foreign_interfaces, foreign_worlds, interface_id, world_id}
 use Rattle.wit_items.specs.PackageNameFacts.{own_name, same_name}
 use Rattle.wit_items.specs.PackageOrder.{same_package}
 use Rattle.wit_items.specs.Shape.{IsShaped}
@@ -19,12 +16,12 @@ use Rattle.wit_items.specs.declared.world.World.{World}
 use Rattle.wit_items.specs.declared.unresolved.AstItem.{AstItem}
 use Rattle.wit_items.specs.declared.unresolved.AstItem.TheVariants as named
 use Rattle.wit_sources.specs.Span.{moved_by}
-use Rattle.wit_growth.specs.ListFacts.{Contains-map, Contains-map_cases, contained_at, found_at, get_at, place_of, some_at}
+use Rattle.wit_growth.specs.ListFacts.{Contains-map, Contains-map_cases, get_at, place_of, some_at}
 use Rattle.wit_adding.specs.Addition.{Addition}
 use Rattle.wit_adding.specs.ClosedCut.{member_of_first}
 use Rattle.wit_adding.specs.Gates.{Place, interface_is_active, is_foreign_interface, is_foreign_world, world_is_active}
-use Rattle.wit_adding.specs.Lookup.{find_interface, find_package, find_world, found_interface, named_items, naming}
-use Rattle.wit_adding.specs.Reasons.{HasImage, HasPackage, known_packages}
+use Rattle.wit_adding.specs.Lookup.{find_interface, find_world, named_items, naming}
+use Rattle.wit_adding.specs.Reasons.{HasImage, HasPackage}
 
 -- ---- the first that passes
 

@@ -2,7 +2,7 @@
 -- as copies with fresh ids, so that no two worlds have a type or an interface without a name in common.
 -- Source: the WIT page of the component model, "include"; `resolve_include` of wit-parser 0.263.0. What is
 -- copied is a rule of this project.
-use Rattle.std.specs.Prelude.{ℕ, ◌+◌, ◌&&◌, ◌||◌, Bool, not, true, false, List, [], ◌∷◌, ◌++◌, map, filter, length, nat_eq, is_some, slice_get, Option, None, Some, if◌then◌else◌}
+use Rattle.std.specs.Prelude.{ℕ, ◌+◌, ◌&&◌, ◌||◌, Bool, not, true, false, List, [], ◌∷◌, ◌++◌, map, filter, length, nat_eq, is_some, slice_get, Option, Some, if◌then◌else◌}
 use Rattle.std.specs.List.{flat_map, list_any}
 use Rattle.std.specs.Map.{lookup}
 use Rattle.std.specs.Option.{option_eq, option_map_or}
@@ -12,7 +12,7 @@ use Rattle.wit_items.specs.Reference.{function_references, type_references}
 use Rattle.wit_items.specs.declared.function.Function.{Function}
 use Rattle.wit_items.specs.declared.interface.Interface.{Interface}
 use Rattle.wit_items.specs.declared.stability.Stability.{Stability}
-use Rattle.wit_items.specs.declared.stability.Stability.TheVariants.{Unknown, Stable, Unstable}
+use Rattle.wit_items.specs.declared.stability.Stability.TheVariants.{Unknown, Stable}
 use Rattle.wit_items.specs.declared.types.TypeDef.{TypeDef}
 use Rattle.wit_items.specs.declared.types.TypeOwner.{TypeOwner}
 use Rattle.wit_items.specs.declared.types.TypeOwner.TheVariants as owner

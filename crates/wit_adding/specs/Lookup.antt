@@ -1,10 +1,9 @@
 -- What a package names of other packages, and where the graph has it. The package that is added counts as
 -- there and empty: nothing is ever found under its own name.
 -- Source: `process_foreign_deps` of wit-parser 0.263.0.
-use Rattle.std.specs.Prelude.{ℕ, ◌&&◌, Bool, not, List, map, nat_eq, nat_lt, find, length, slice_get, Option, None, Some, option_and_then, if◌then◌else◌}
+use Rattle.std.specs.Prelude.{ℕ, Bool, List, map, nat_eq, nat_lt, find, length, slice_get, Option, None, Some, option_and_then, if◌then◌else◌}
 use Rattle.std.specs.List.{enumerate_from, flat_map, list_any}
 use Rattle.std.specs.Map.{lookup}
-use Rattle.std.specs.Option.{option_map}
 use Rattle.std.specs.Str.{bytes_eq}
 use Rattle.wit_items.specs.Foreign.{ForeignItem, ForeignItems, interface_id, world_id}
 use Rattle.wit_items.specs.PackageOrder.{same_package}

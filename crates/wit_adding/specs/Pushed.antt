@@ -4,10 +4,7 @@
 -- Source: `append` of wit-parser 0.263.0.
 use Rattle.std.specs.Prelude.{ℕ, List, [], ◌∷◌, ◌++◌, map, filter_map, fold, take, length}
 use Rattle.std.specs.Option.{option_map}
-use Rattle.wit_items.specs.Entries.{Entry}
-use Rattle.wit_items.specs.Uses.{uses_of}
 use Rattle.wit_items.specs.declared.interface.Interface.{Interface}
-use Rattle.wit_items.specs.declared.types.TypeDef.{TypeDef}
 use Rattle.wit_items.specs.declared.world.World.{World}
 use Rattle.wit_items.specs.declared.world.WorldInclude.{WorldInclude}
 use Rattle.wit_graph.specs.Elaborated.{elaborated_exports, elaborated_imports}
@@ -16,7 +13,7 @@ use Rattle.wit_graph.specs.declared.graph.Graph.{Graph}
 use Rattle.wit_graph.specs.declared.graph.Package.{Package}
 use Rattle.wit_growth.specs.Image.{interface_image, type_image, world_image}
 use Rattle.wit_adding.specs.Addition.{Addition, active_includes, added_owns, addition_maps, interface_place, own_interface, own_interfaces, own_types, own_world, own_worlds, world_place}
-use Rattle.wit_adding.specs.Include.{Begun, Lists, included, lists_of}
+use Rattle.wit_adding.specs.Include.{Begun, included, lists_of}
 use Rattle.wit_labels.specs.Setters.{placed}
 use Rattle.wit_adding.specs.Ranks.{taken_places}
 

@@ -1,6 +1,6 @@
 -- Facts on what takes part of a list, for the proofs of the crates above.
-use Rattle.std.proofs.Common.{◌≡◌, ◌≢◌, ◌∙◌, ℕ, zero, suc, ◌+◌, ◌<◌, ◌≤◌, Bool, true, false, List, [], ◌∷◌, ◌++◌, ◌⊎◌, inl, inr, map, filter, length, Option, None, Some, option_map, slice_get, refl, sym, ap, subst, cond, arith, add-one, if◌then◌else◌}
-use Rattle.std.specs.List.{enumerate_from, range_with_len}
+use Rattle.std.proofs.Common.{◌≡◌, ◌∙◌, ℕ, zero, suc, ◌+◌, ◌<◌, ◌≤◌, Bool, true, false, List, [], ◌∷◌, inl, inr, filter, Some, option_map, slice_get, refl, sym, ap, subst, cond, arith, if◌then◌else◌}
+use Rattle.std.specs.List.{enumerate_from}
 use Rattle.std.proofs.lemmas.Bool.{cases_lt, cases_order}
 use Rattle.std.proofs.lemmas.Option.{slice_get-map}
 use Rattle.wit_adding.specs.Ranks.{rank, taken, taken_places}

@@ -2,7 +2,7 @@
 -- Most read the features, the graph and the package alone.
 -- Source: `append` of wit-parser 0.263.0.
 use Rattle.std.specs.Prelude.{◌≡◌, ◌≢◌, ◌⊎◌, ◌≤◌, ◌+◌, ◌^◌, ℕ, true, false, List, [], ◌∷◌, ◌++◌, map, slice_get, Option, None, Some, Contains, codes, is_some, if◌then◌else◌}
-use Rattle.std.specs.List.{flat_map, list_any}
+use Rattle.std.specs.List.{flat_map}
 use Rattle.std.specs.Map.{keys_of, lookup}
 use Rattle.std.specs.declared.cmp.Ordering.TheVariants.{Less}
 use Rattle.wit_values.specs.Version.{Parts, version_cmp}
@@ -33,10 +33,10 @@ use Rattle.wit_items.specs.declared.world.WorldItem.TheVariants as item
 use Rattle.wit_items.specs.declared.world.WorldKey.{WorldKey}
 use Rattle.wit_graph.specs.Questions.{held_rows}
 use Rattle.wit_graph.specs.declared.graph.Graph.{Graph}
-use Rattle.wit_adding.specs.Addition.{Addition, type_place}
+use Rattle.wit_adding.specs.Addition.{Addition}
 use Rattle.wit_adding.specs.CauseText.{borrow_text, excluded_owner_text, excluded_text, gate_unreleased_text, gate_without_version_text, not_a_resource_text, type_not_defined_text}
 use Rattle.wit_adding.specs.Gates.{Place, HasEntry, IsAsked, IsExcludedInterface, IsExcludedType, IsExcludedWorld, function_is_active, include_is_active, interface_is_active, is_active, type_is_active, world_is_active}
-use Rattle.wit_adding.specs.Lookup.{find_interface, find_package, find_world, found_interface, found_type, is_foreign_type, listed_type, named_items}
+use Rattle.wit_adding.specs.Lookup.{find_interface, find_world, found_interface, found_type, is_foreign_type, listed_type, named_items}
 use Rattle.wit_adding.specs.Resources.{leads_to_resource}
 use Rattle.wit_adding.specs.Spans.{package_spans}
 

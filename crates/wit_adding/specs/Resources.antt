@@ -1,7 +1,7 @@
 -- Which types are resources or other names of resources, and where values ask for an unnamed `own`: a value
 -- whose type leads to a resource is written `own` of it.
 -- Source: `update_ty` of wit-parser 0.263.0; handles on the WIT page of the component model.
-use Rattle.std.specs.Prelude.{ℕ, Bool, true, false, List, [], ◌++◌, map, slice_get, None}
+use Rattle.std.specs.Prelude.{ℕ, Bool, true, false, List, [], ◌++◌, slice_get, None}
 use Rattle.std.specs.List.{flat_map, list_any}
 use Rattle.std.specs.Option.{option_map_or}
 use Rattle.wit_relations.specs.Walks.{walk}

@@ -1,20 +1,18 @@
 -- Where nothing speaks against an addition, what takes part of the package stands in the graph that comes of it.
-use Rattle.std.proofs.Common.{◌≡◌, ◌∙◌, ◌≢◌, ℕ, zero, suc, ◌+◌, ◌<◌, ◌&&◌, Bool, true, false, not, List, [], ◌∷◌, ◌++◌, ◌⊎◌, inl, inr, map, length, cond, Option, None, Some, option_and_then, unwrap_or, nat_eq, IsSome, slice_get, refl, sym, ap, subst, arith, Contains, if◌then◌else◌}
+use Rattle.std.proofs.Common.{◌≡◌, ◌∙◌, ℕ, ◌+◌, ◌<◌, ◌&&◌, Bool, true, false, not, List, [], length, Option, None, Some, option_and_then, unwrap_or, nat_eq, IsSome, slice_get, refl, sym, ap, subst, arith, if◌then◌else◌}
 use Rattle.std.specs.List.{list_any}
 use Rattle.std.specs.Map.{lookup}
 use Rattle.std.specs.Str.{bytes_eq}
-use Rattle.std.proofs.lemmas.Bool.{cases_Bool, false≢true, lt-ltb, ltb-true}
+use Rattle.std.proofs.lemmas.Bool.{lt-ltb, ltb-true}
 use Rattle.std.proofs.lemmas.Map.Views.{Contains-from_lookup}
 use Rattle.std.proofs.lemmas.Slice.Eq.{bytes_eq-Decides}
-use Rattle.wit_values.specs.Lists.{slice_get-append}
-use Rattle.wit_items.specs.Each.{Each, SomeAt}
-use Rattle.wit_items.specs.Foreign.{ForeignItem, IsBare, IsBareInterface, IsForeignType, foreign_interfaces, interface_id, world_id}
+use Rattle.wit_items.specs.Each.{SomeAt}
+use Rattle.wit_items.specs.Foreign.{ForeignItem, IsBare, IsBareInterface, IsForeignType, foreign_interfaces, interface_id}
 use Rattle.wit_items.specs.Ownership.{IsTypeOf}
 use Rattle.wit_items.specs.Shape.{IsShaped}
 use Rattle.wit_items.specs.declared.interface.Interface.{Interface}
 use Rattle.wit_items.specs.declared.package_name.PackageName.{PackageName}
 use Rattle.wit_items.specs.declared.types.TypeDef.{TypeDef}
-use Rattle.wit_items.specs.declared.types.TypeDefKind.TheVariants as kind
 use Rattle.wit_items.specs.declared.types.TypeOwner.{TypeOwner}
 use Rattle.wit_items.specs.declared.types.TypeOwner.TheVariants as owner
 use Rattle.wit_items.specs.declared.world.World.{World}
@@ -24,7 +22,7 @@ use Rattle.wit_sources.specs.Span.{moved_by}
 use Rattle.wit_graph.specs.Valid.{IsValid}
 use Rattle.wit_graph.specs.declared.graph.Graph.{Graph}
 use Rattle.wit_graph.specs.declared.graph.Package.{Package}
-use Rattle.wit_growth.specs.ListFacts.{at_map, at_new, contained_at, found_at, get_at, place_of, same_at, some_at}
+use Rattle.wit_growth.specs.ListFacts.{found_at, get_at, place_of, same_at, some_at}
 use Rattle.wit_adding.specs.Addition.{Addition, own_type, own_interface, own_world, type_place, interface_place, world_place}
 use Rattle.wit_adding.specs.ClosedCut.{kept_interface}
 use Rattle.wit_adding.specs.Found.{find-passes, interface_found, interface_of, named_at, world_found}

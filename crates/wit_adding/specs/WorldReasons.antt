@@ -1,6 +1,6 @@
 -- The reasons that lie in a world: they read what came of the package up to it. In a package without an image
 -- they don't hold, but for labels of a world that includes nothing.
-use Rattle.std.specs.Prelude.{◌≡◌, ◌≢◌, ◌⊎◌, ◌<◌, ℕ, List, [], ◌∷◌, ◌++◌, map, take, slice_get, length, Option, None, Some, Contains, codes, is_some, true}
+use Rattle.std.specs.Prelude.{◌≡◌, ◌≢◌, ◌⊎◌, ℕ, List, [], ◌∷◌, ◌++◌, map, take, slice_get, length, Option, None, Some, Contains, codes, is_some, true}
 use Rattle.std.specs.Map.{keys_of}
 use Rattle.wit_items.specs.Each.{Each}
 use Rattle.wit_items.specs.Entries.{Entry}
@@ -17,7 +17,6 @@ use Rattle.wit_items.specs.declared.world.WorldKey.{WorldKey}
 use Rattle.wit_items.specs.declared.world.WorldKey.TheVariants as key
 use Rattle.wit_graph.specs.Elaboration.{graph_uses}
 use Rattle.wit_graph.specs.Imported.{HasConflict, IsRefusedName}
-use Rattle.wit_graph.specs.declared.graph.Graph.{Graph}
 use Rattle.wit_adding.specs.Addition.{Addition, active_includes, own_worlds, world_place}
 use Rattle.wit_adding.specs.CauseText.{clash_text, getter_text, rename_text}
 use Rattle.wit_adding.specs.Gates.{Place}

@@ -1,36 +1,28 @@
 -- The steps that look for a mismatch: what is looked up, the loops, and from what they tell to the definitions.
-use Rattle.std.proofs.Common.{◌≡◌, ◌≢◌, ◌∙◌, ℕ, ◌+◌, ◌<◌, ◌≤◌, Bool, true, false, List, [], ◌∷◌, ◌++◌, append_assoc, length, Option, Some, None, option_and_then, slice_get, unwrap_or, refl, sym, ap, subst, arith, below_more, codes, IfNone}
-use Rattle.std.proofs.lemmas.Option.{slice_get_within, unwrap_or-slice_get}
+use Rattle.std.proofs.Common.{◌≡◌, ◌≢◌, ◌∙◌, ℕ, ◌+◌, ◌<◌, ◌≤◌, true, false, List, [], ◌∷◌, ◌++◌, append_assoc, length, Option, Some, None, option_and_then, slice_get, refl, sym, ap, subst, arith, below_more, codes, IfNone}
+use Rattle.std.proofs.lemmas.Option.{slice_get_within}
 use Rattle.std.proofs.lemmas.Bool.{false≢true}
 use Rattle.wit_items.specs.Entries.{Entry, item_interface}
 use Rattle.wit_items.specs.PackageName.{package_name_text}
 use Rattle.wit_items.specs.declared.interface.Interface.{Interface}
 use Rattle.wit_items.specs.declared.package_name.PackageName.{PackageName}
-use Rattle.wit_items.specs.declared.world.World.{World}
 use Rattle.wit_items.specs.declared.world.WorldItem.{WorldItem}
-use Rattle.wit_items.specs.declared.world.WorldKey.{WorldKey}
 use Rattle.wit_graph.specs.declared.graph.Package.{Package}
 use Rattle.wit_growth.specs.FunctionMismatch.{HaveFunctionMismatch}
 use Rattle.wit_growth.specs.ListFacts.{contained_at, place_of}
-use Rattle.wit_growth.specs.OnePlace.{entries_of}
 use Rattle.wit_growth.specs.OptionFacts.{some_parts, some_same, some_whole}
 use Rattle.wit_merging.specs.Agreement as agreement
 use Rattle.wit_merging.specs.Agreement.{EntriesDiffer, GraphsDiffer, ItemsDiffer, same_sort}
-use Rattle.wit_merging.specs.Matches.{Merging, Pair, found_interface, found_item, found_world}
-use Rattle.wit_merging.specs.MismatchText.{entry_count_text, entry_link, linked, other_interface_text, other_sort_text, part_links, side_word}
+use Rattle.wit_merging.specs.Matches.{Merging, Pair, found_interface, found_world}
+use Rattle.wit_merging.specs.MismatchText.{entry_count_text, entry_link, linked, other_interface_text, other_sort_text, part_links}
 use Rattle.wit_merging.specs.Reasons.{AreOne}
-use Rattle.wit_matching.specs.Found.{AreFound}
 use Rattle.wit_comparing.specs.Differing as differing
-use Rattle.wit_comparing.specs.Differing.{DifferAt, EntryDiffers, HeldDiffer, InterfaceDiffersAt, InterfacesDiffer, PartDiffers, SidesDiffer, WorldDiffersAt, WorldsDiffer}
+use Rattle.wit_comparing.specs.Differing.{DifferAt, EntryDiffers, HeldDiffer, InterfaceDiffersAt, InterfacesDiffer, PartDiffers, WorldDiffersAt, WorldsDiffer}
 
 -- what follows where there is nothing
 pub if_none : {X P Q : Type 0} → (P → Q) → (o : Option X) → IfNone o P → IfNone o Q
 if_none follows None h = follows h
 if_none follows (Some x) h = h
-
--- what stands at a place of what is found
-pub at_found : (found : ℕ → Option ℕ) (count : ℕ) (list : List (Option ℕ)) → AreFound found count list → (i : ℕ) (o : Option (Option ℕ)) → o ≡ slice_get list i → unwrap_or o None ≡ found i
-at_found found count list known i o is = ap (λ (x : Option (Option ℕ)). unwrap_or x None) is ∙ unwrap_or-slice_get list i None ∙ known.each i
 
 -- ---- messages
 
@@ -53,13 +45,6 @@ none_next {Y} Differ n before here = below_more (λ (k : ℕ). (y : Y) → Diffe
 -- ---- things side by side
 
 module _ {X Y : Type 0} (found : ℕ → Option ℕ) (others ours : List X) (Differ : X → X → Y → Type 0) where
-  -- there is no such thing, or nothing with which it is matched
-  pub no_thing : (i : ℕ) → None ≡ slice_get others i → (y : Y) → DifferAt found others ours Differ i y → ⊥
-  no_thing i none y d = let at = d.from_is in cc
-
-  pub no_match : (i : ℕ) → None ≡ option_and_then (slice_get ours) (found i) → (y : Y) → DifferAt found others ours Differ i y → ⊥
-  no_match i none y d = let at = d.into_is in cc
-
   -- the two don't differ
   pub alike : (i : ℕ) (a b : X) → Some a ≡ slice_get others i → Some b ≡ option_and_then (slice_get ours) (found i) → ((y : Y) → Differ a b y → ⊥)
       → (y : Y) → DifferAt found others ours Differ i y → ⊥
@@ -89,14 +74,6 @@ part_alike packages sort home name Differ none message d = none d.text d.differ
 -- ---- interfaces of entries
 
 module _ (m : Merging) (i i' : ℕ) where
-  pub held_missing : found_interface m i ≡ Some i' → None ≡ slice_get m.other.interfaces i → (text : List ℕ) → HeldDiffer m i i' text → ⊥
-  held_missing matched none text (differing.apart not_matched told) = not_matched matched
-  held_missing matched none text (differing.unnamed from into from_is into_is same nameless apart) = cc
-
-  pub held_lost : found_interface m i ≡ Some i' → None ≡ slice_get m.graph.interfaces i' → (text : List ℕ) → HeldDiffer m i i' text → ⊥
-  held_lost matched none text (differing.apart not_matched told) = not_matched matched
-  held_lost matched none text (differing.unnamed from into from_is into_is same nameless apart) = cc
-
   pub held_alike : found_interface m i ≡ Some i' → (a b : Interface) → Some a ≡ slice_get m.other.interfaces i → Some b ≡ slice_get m.graph.interfaces i'
       → (a.name ≡ None → (text : List ℕ) → HaveFunctionMismatch a b text → ⊥) → (text : List ℕ) → HeldDiffer m i i' text → ⊥
   held_alike matched a b a_is b_is none text (differing.apart not_matched told) = not_matched matched
@@ -136,14 +113,6 @@ module _ (m : Merging) (from into : WorldItem) where
 -- ---- entries
 
 module _ (m : Merging) (word : List ℕ) (into : List Entry) where
-  -- the one under the key doesn't differ
-  pub entry_alike : (k : WorldKey) (held there : WorldItem) → Some there ≡ found_item m into k → ((text : List ℕ) → ItemsDiffer m held there text → ⊥)
-      → (text : List ℕ) → EntryDiffers m word into k held text → ⊥
-  entry_alike k held there at none text (differing.absent missing told) = cc
-  entry_alike k held there at none text (differing.apart other ending found apart told) =
-      let same : other ≡ there = some_same other there (sym found ∙ sym at) in
-      none ending (subst (λ (x : WorldItem). ItemsDiffer m held x ending) same apart)
-
   module _ (from : List Entry) where
     -- what differs in the entry at a place
     abbrev pub EntryDiffersAt : ℕ → List ℕ → Type 0
@@ -172,15 +141,6 @@ module _ (m : Merging) (word : List ℕ) (into : List Entry) where
         let place = place_of from e listed in
         let within : place.0 < length from = slice_get_within from place.0 e place.1 in
         below place.0 (omega arith) _ (e, place.1, differing.apart there text found apart refl)
-
--- of both sides
-pub sides_alike : (m : Merging) (from into : World) → ((text : List ℕ) → EntriesDiffer m (codes "import") from.imports into.imports text → ⊥)
-    → ((text : List ℕ) → EntriesDiffer m (codes "export") from.exports into.exports text → ⊥) → (text : List ℕ) → SidesDiffer m from into text → ⊥
-sides_alike m from into imports exports text d = by d.exported d.differ
-  where
-    by : (exported : Bool) → EntriesDiffer m (side_word exported) (entries_of exported from) (entries_of exported into) text → ⊥
-    by false d = imports text d
-    by true d = exports text d
 
 -- ---- graphs
 

@@ -28,10 +28,6 @@ pub numbered-keys : (n : ℕ) (xs : List ℕ) → keys_of (numbered n xs) ≡ xs
 numbered-keys n [] = refl
 numbered-keys n (x ∷ xs) = ap (λ (w : List ℕ). x ∷ w) (numbered-keys (n + 1) xs)
 
-pub numbered-length : (n : ℕ) (xs : List ℕ) → length (numbered n xs) ≡ length xs
-numbered-length n [] = refl
-numbered-length n (x ∷ xs) = let rest = numbered-length (n + 1) xs in omega arith
-
 -- an id that isn't there goes nowhere
 pub numbered-none : (n : ℕ) (xs : List ℕ) (x : ℕ) → (Contains xs x → ⊥) → lookup (nat_eq x) (numbered n xs) ≡ None
 numbered-none n [] x absent = refl

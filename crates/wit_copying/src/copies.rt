@@ -1,5 +1,5 @@
 //! Where what an include copies goes, and images under it.
-ghost use Rattle.std.specs.Prelude.{◌≡◌, ℕ, IfOk, map};
+ghost use Rattle.std.specs.Prelude.{◌≡◌, IfOk, map};
 ghost use Rattle.std.specs.Option.{option_map};
 ghost use Rattle.wit_growth.specs.Image.{entry_image, interface_image, key_image, item_image, type_image};
 ghost use Rattle.wit_labels.specs.Rename.{renamed};

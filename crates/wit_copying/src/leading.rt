@@ -1,11 +1,9 @@
 //! Which of the types that a world names lead to a type that goes with the world.
-ghost use Rattle.std.specs.Prelude.{◌≡◌, ℕ, List, Bool, ◌<◌, ◌++◌, ◌∷◌, ◌||◌, ◌&&◌, Contains, IfOk, OnOk, is_some, length, map, nat_eq, not, slice_get, unwrap_or, Some, None, if◌then◌else◌};
-ghost use Rattle.std.specs.List.{flat_map, list_any};
+ghost use Rattle.std.specs.Prelude.{◌≡◌, ℕ, ◌<◌, ◌++◌, Contains, IfOk, OnOk, length, map, nat_eq};
+ghost use Rattle.std.specs.List.{list_any};
 ghost use Rattle.std.specs.Map.{lookup};
 ghost use Rattle.wit_items.specs.Reference.{type_references};
-ghost use Rattle.wit_items.specs.declared.types.TypeDef.{TypeDef};
 ghost use Rattle.wit_relations.specs.Relation.{IsAcyclic, direct};
-ghost use Rattle.wit_relations.specs.Walks.{walk};
 ghost use Rattle.wit_copying.specs.Copied.{IsOrigin, StayApart, known_of, leads_by, open_rows, said};
 ghost use Rattle.wit_copying.specs.declared.leading.Step.TheVariants as step;
 

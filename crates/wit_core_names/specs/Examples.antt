@@ -1,5 +1,5 @@
 -- What the table of names says of one small graph, and what has no name there.
-use Rattle.std.specs.Prelude.{◌≡◌, ◌≢◌, ℕ, Bool, true, false, List, [], ◌∷◌, Option, None, Some, codes}
+use Rattle.std.specs.Prelude.{◌≡◌, ◌≢◌, true, false, [], ◌∷◌, None, Some, codes}
 use Rattle.std.specs.Borrow.{Bor}
 use Rattle.wit_items.specs.declared.abi.LiftLowerAbi.TheVariants.{Sync, AsyncCallback, AsyncStackful}
 use Rattle.wit_items.specs.declared.abi.ManglingAndAbi.TheVariants.{Standard32, Legacy}

@@ -2,7 +2,7 @@
 -- its module and its field, and one of exports, for both manglings and each ABI.
 -- Source: `wasm_import_name` and `wasm_export_name` of wit-parser 0.263.0; the component model's build
 -- targets (the names that begin with `cm32p2`). Which prefix stands for which ABI is this project's table.
-use Rattle.std.specs.Prelude.{ℕ, Bool, true, false, List, [], ◌∷◌, ◌++◌, Option, None, Some, codes, decimal, nat_eq, position, slice_get, unwrap_or}
+use Rattle.std.specs.Prelude.{ℕ, Bool, true, false, List, [], ◌++◌, Option, None, Some, codes, decimal, nat_eq, position, slice_get, unwrap_or}
 use Rattle.std.specs.Option.{option_copied, option_map_or}
 use Rattle.wit_items.specs.declared.abi.LiftLowerAbi.{LiftLowerAbi}
 use Rattle.wit_items.specs.declared.abi.LiftLowerAbi.TheVariants.{Sync, AsyncCallback, AsyncStackful}

@@ -1,6 +1,5 @@
 //! What has a name in core wasm.
-ghost use Rattle.std.specs.Prelude.{◌≡◌, IfErr, IfOk, nat_eq};
-ghost use Rattle.std.specs.List.{list_any};
+ghost use Rattle.std.specs.Prelude.{◌≡◌, IfErr, IfOk};
 ghost use Rattle.std.specs.Option.{option_copied};
 ghost use Rattle.wit_core_names.specs.Conditions.{can_name_export, can_name_import, can_name_value, future_may_go_on, interface_has_name, is_called, is_of_function, is_within, key_has_name, stream_may_go_on, type_has_name};
 ghost use Rattle.wit_graph.specs.declared.error_kind.ResolveErrorKind.TheVariants.{OutOfMemory};

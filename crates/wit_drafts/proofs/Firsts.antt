@@ -32,10 +32,6 @@ module _ {X : Type 0} (p q : X → Bool) where
   find-same agree [] = refl
   find-same agree (x ∷ xs) = rw (agree x, find-same agree xs) refl
 
-  pub filter-same : ((x : X) → p x ≡ q x) → (xs : List X) → filter p xs ≡ filter q xs
-  filter-same agree [] = refl
-  filter-same agree (x ∷ xs) = rw (agree x, filter-same agree xs) refl
-
   pub position-same : ((x : X) → p x ≡ q x) → (xs : List X) → position_or_len p xs ≡ position_or_len q xs
   position-same agree [] = refl
   position-same agree (x ∷ xs) = rw (agree x, position-same agree xs) refl

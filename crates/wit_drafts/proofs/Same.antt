@@ -101,7 +101,3 @@ type-turn a b = turned used_eq used-is (used a) (used b)
 
 pub type-through : (a b c : Mention) → same_type a b ≡ true → same_type a c ≡ same_type b c
 type-through a b c same = ap (λ (u : Used). used_eq u (used c)) (used-is (used a) (used b) same)
-
--- of one type, of one interface
-pub type-item : (a b : Mention) → same_type a b ≡ true → same_item a b ≡ true
-type-item a b same = (both (same_item a b) (same_name (used_type_name a.kind) (used_type_name b.kind)) same).0

@@ -1,7 +1,7 @@
 //! What a line of a package mentions of other packages.
 ghost use Rattle.std.specs.Option.{option_to_list};
 ghost use Rattle.std.specs.Prelude.{◌≡◌};
-ghost use Rattle.wit_drafts.specs.Mention.{is_world, mentioned, mentions_of};
+ghost use Rattle.wit_drafts.specs.Mention.{mentioned, mentions_of};
 ghost use Rattle.wit_drafts.specs.Mentioning.{fits};
 
 use wit_items::{AstItem, PackageName, ParsedUsePath, Span, Stability, Text};

@@ -1,5 +1,5 @@
 //! Whether the spans of types, interfaces and worlds can be moved.
-ghost use Rattle.std.specs.Prelude.{◌≡◌, ◌↔◌, ℕ, List, IsTrue};
+ghost use Rattle.std.specs.Prelude.{◌↔◌, ℕ, List, IsTrue};
 ghost use Rattle.wit_items.specs.Each.{Each};
 ghost use Rattle.wit_items.specs.declared.function.Function.{Function};
 ghost use Rattle.wit_items.specs.declared.function.Param.{Param};

@@ -48,9 +48,6 @@ or-false true = refl
 or-false false = refl
 
 module _ (features : Features) (id : AstItem → List ℕ) where
-  are-none : (flags : List Bool) → AreMarked features id [] flags flags
-  are-none flags = (refl, λ i flag at. at ∙ ap Some (sym (or-false flag)))
-
   are-joined : (xs ys : List ForeignItem) (old mid new : List Bool) → AreMarked features id xs old mid → AreMarked features id ys mid new → AreMarked features id (xs ++ ys) old new
   are-joined xs ys old mid new first second = (
     second.0 ∙ first.0,
@@ -58,13 +55,6 @@ module _ (features : Features) (id : AstItem → List ℕ) where
         let p = is_marked features id i in
         second.1 i (flag || list_any p xs) (first.1 i flag at) ∙ ap Some (or-assoc flag (list_any p xs) (list_any p ys) ∙ ap (λ (b : Bool). flag || b) (sym (list_any-append p xs ys))),
   )
-
-pub is-none : (features : Features) (activity : Activity) → IsMarked features [] activity activity
-is-none features activity = record {
-  types = refl;
-  interfaces = are-none features interface_id activity.interfaces;
-  worlds = are-none features world_id activity.worlds;
-}
 
 pub is-joined : (features : Features) (xs ys : List ForeignItem) (old mid new : Activity) → IsMarked features xs old mid → IsMarked features ys mid new → IsMarked features (xs ++ ys) old new
 is-joined features xs ys old mid new first second = record {

@@ -1,6 +1,5 @@
 -- What is referred to, and isn't left out.
-use Rattle.std.proofs.Common.{◌≡◌, ◌≢◌, ◌∙◌, ℕ, true, false, List, [], ◌∷◌, inl, inr, map, Some, slice_get, refl, sym, subst, Contains}
-use Rattle.std.proofs.lemmas.Bool.{false≢true}
+use Rattle.std.proofs.Common.{◌≡◌, ◌≢◌, ℕ, true, false, List, [], ◌∷◌, inl, inr, map, Some, slice_get, refl, sym, subst, Contains}
 use Rattle.wit_relations.specs.MemberFacts.{Contains-flat_map, Contains-flat_map_cases}
 use Rattle.wit_sources.specs.Span.{moved_by}
 use Rattle.wit_items.specs.Each.{Each, EachAt}
@@ -35,11 +34,6 @@ pub left-out : (a : Addition) (thing : Thing) → takes_part a thing ≡ false �
 left-out a (AType t) none = none
 left-out a (AnInterface i) none = none
 left-out a (AWorld w) none = none
-
-pub not-left-out : (a : Addition) (thing : Thing) → takes_part a thing ≡ true → IsExcluded a thing → ⊥
-not-left-out a (AType t) some none = false≢true (sym none ∙ some)
-not-left-out a (AnInterface i) some none = false≢true (sym none ∙ some)
-not-left-out a (AWorld w) some none = false≢true (sym none ∙ some)
 
 -- ---- refusals
 

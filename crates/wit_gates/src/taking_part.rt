@@ -1,12 +1,12 @@
 //! What takes part of a package under the features that are on.
-ghost use Rattle.std.specs.Prelude.{◌≡◌, ◌<◌, IfOk, List, length, map, slice_set, if◌then◌else◌, true};
+ghost use Rattle.std.specs.Prelude.{◌≡◌, IfOk, List, length, map};
 ghost use Rattle.std.specs.List.{range_with_len};
 ghost use Rattle.wit_items.specs.Each.{Each};
 ghost use Rattle.wit_items.specs.Foreign.{ForeignItem};
 ghost use Rattle.wit_items.specs.Shape.{IsShaped};
 ghost use Rattle.wit_items.specs.declared.package_name.PackageName.{PackageName};
 ghost use Rattle.wit_adding.specs.Adding.{activity_of, addition_of};
-ghost use Rattle.wit_adding.specs.Gates.{foreign_items, is_active, some_active, type_is_active};
+ghost use Rattle.wit_adding.specs.Gates.{foreign_items, some_active, type_is_active};
 ghost use Rattle.wit_gates.specs.GateSteps.{HasFlag, IsMarked, own_activity, own_interface_flag, own_world_flag, with_item};
 
 use std::alloc::{AllocError, Global};

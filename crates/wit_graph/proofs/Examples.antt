@@ -93,9 +93,6 @@ empty = record {
 
 -- ---- a small graph
 
-small_world : World
-small_world = world_of (codes "w") (entry_of 0 ∷ entry_of 1 ∷ []) []
-
 small_tables : HasTables (foo_bar_of ((codes "a", 0) ∷ (codes "b", 1) ∷ []) ((codes "w", 0) ∷ []) ∷ []) sample_interfaces (world_of (codes "w") (entry_of 0 ∷ entry_of 1 ∷ []) [] ∷ [])
 small_tables = record {
   interfaces_listed = EachAt-two _ _ _ (0, lit< tt, refl) (1, lit< tt, refl);

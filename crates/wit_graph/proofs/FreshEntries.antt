@@ -1,5 +1,5 @@
 -- Entries whose keys are new: what is kept of a list.
-use Rattle.std.proofs.Common.{◌≡◌, ℕ, ◌<◌, ◌+◌, Bool, true, false, ◌⊎◌, inl, inr, List, [], ◌∷◌, ◌++◌, map, filter, append_assoc, get_or, take, length, refl, sym, ap, subst, ◌∙◌, arith, nat_eq, rules, Contains}
+use Rattle.std.proofs.Common.{◌≡◌, ℕ, ◌<◌, ◌+◌, Bool, true, false, ◌⊎◌, inl, inr, List, [], ◌∷◌, ◌++◌, map, filter, append_assoc, get_or, take, length, refl, sym, ap, subst, ◌∙◌, nat_eq, rules, Contains}
 use Rattle.std.specs.List.{flat_map, list_any}
 use Rattle.std.specs.Map.{keys_of}
 use Rattle.std.proofs.lemmas.List.{append-nil, map-append, take_more}
@@ -11,8 +11,8 @@ use Rattle.std.proofs.lemmas.Map.Views.{Contains-from_any}
 use Rattle.std.proofs.lemmas.Slice.Eq.{bytes_eq-Decides}
 use Rattle.wit_items.specs.declared.world.WorldKey.{WorldKey}
 use Rattle.wit_items.specs.declared.world.WorldKey.TheVariants.{Name, Interface}
-use Rattle.wit_relations.specs.MemberFacts.{Contains-nil, Contains-here, Contains-there, Contains-cons_cases, Contains-flat_map, Contains-flat_map_cases}
-use Rattle.wit_relations.specs.FreshFacts.{fresh-seen, fresh-new, any_from_contains, contains_from_any, no_any_from}
+use Rattle.wit_relations.specs.MemberFacts.{Contains-nil, Contains-here, Contains-there, Contains-cons_cases, Contains-flat_map_cases}
+use Rattle.wit_relations.specs.FreshFacts.{fresh-seen, fresh-new, contains_from_any}
 use Rattle.wit_relations.specs.Walks.{fresh}
 use Rattle.wit_graph.specs.Entries.{Entry, same_key, key_interface, keyed_interfaces, fresh_entries}
 use Rattle.wit_graph.specs.Elaborated.{Carried, dependency_of}
@@ -185,25 +185,6 @@ id_known j seen has =
     id_is : (k : WorldKey) → Contains (key_interface k) j → k ≡ Interface j
     id_is (Name n) has = absurd (Contains-nil has)
     id_is (Interface i) has = elim (Contains-cons_cases i j [] has) [ inl same ↦ ap (λ x. Interface x) same | inr none ↦ absurd (Contains-nil none) ]
-
-known_id : (j : ℕ) (seen : List WorldKey) → list_any (same_key (Interface j)) seen ≡ true → Contains (interfaces_of_keys seen) j
-known_id j seen known = Contains-flat_map key_interface seen (Interface j) j (contains_from_known (Interface j) seen known) (0, omega arith, refl)
-
--- the fresh entries of dependencies are those of the fresh interfaces
-pub fresh_entries-dependencies : (s : Carried) (js : List ℕ) (seen : List WorldKey) → fresh_entries seen (map (dependency_of s) js) ≡ map (dependency_of s) (fresh (interfaces_of_keys seen) js)
-fresh_entries-dependencies s [] seen = refl
-fresh_entries-dependencies s (j ∷ js) seen =
-    elim (cases_Bool (list_any (same_key (Interface j)) seen)) [
-      | inl known ↦
-          rw (fresh_entries-known seen (dependency_of s j) (map (dependency_of s) js) known, fresh-seen (interfaces_of_keys seen) j js (any_from_contains j (interfaces_of_keys seen) (known_id j seen known))) (fresh_entries-dependencies s js seen)
-      | inr new ↦
-          let absent = no_any_from j (interfaces_of_keys seen) (λ has. false≢true (sym new ∙ id_known j seen has)) in
-          rw (fresh_entries-new seen (dependency_of s j) (map (dependency_of s) js) new, fresh-new (interfaces_of_keys seen) j js absent, ← ids-push seen (Interface j), ← fresh_entries-dependencies s js (seen ++ Interface j ∷ [])) refl
-    ]
-
-pub keyed_interfaces-keys : (es : List Entry) → interfaces_of_keys (keys_of es) ≡ keyed_interfaces es
-keyed_interfaces-keys [] = refl
-keyed_interfaces-keys (e ∷ es) = ap (λ xs. key_interface e.0 ++ xs) (keyed_interfaces-keys es)
 
 pub keyed_interfaces-append : (xs ys : List Entry) → keyed_interfaces (xs ++ ys) ≡ keyed_interfaces xs ++ keyed_interfaces ys
 keyed_interfaces-append xs ys = flat_map-append (λ (e : Entry). key_interface e.0) xs ys

@@ -24,14 +24,6 @@ module _ (types : List TypeDef) where
   abbrev pub AreOwn : List Entry → Type 0
   AreOwn es = (e : Entry) (i : ℕ) → Contains es e → e.0 ≡ Interface i → role_of types e.1 ≡ Instance i
 
-  pub DependenciesFirst-wider : (uses : List (List ℕ)) (es : List Entry) (seen more : List ℕ) → ((j : ℕ) → Contains seen j → Contains more j) → DependenciesFirst types uses seen es → DependenciesFirst types uses more es
-  DependenciesFirst-wider uses [] seen more wider df = tt
-  DependenciesFirst-wider uses (e ∷ es) seen more wider df = (
-    λ k d below. wider _ (df.0 k d below),
-    DependenciesFirst-wider uses es (seen ++ key_interface e.0) (more ++ key_interface e.0) (λ j has. elim (Contains-append_cases seen (key_interface e.0) j has)
-        [ inl old ↦ Contains-append_left more (key_interface e.0) j (wider j old) | inr new ↦ Contains-append_right more (key_interface e.0) j new ]) df.1,
-  )
-
   pub DependenciesFirst-append : (uses : List (List ℕ)) (xs ys : List Entry) (seen : List ℕ) → DependenciesFirst types uses seen xs → DependenciesFirst types uses (seen ++ keyed_interfaces xs) ys → DependenciesFirst types uses seen (xs ++ ys)
   DependenciesFirst-append uses [] ys seen first then = rw append-nil at then
   DependenciesFirst-append uses (e ∷ xs) ys seen first then = (first.0, DependenciesFirst-append uses xs ys (seen ++ key_interface e.0) first.1 (rw (append_assoc seen (key_interface e.0) (keyed_interfaces xs)) then))

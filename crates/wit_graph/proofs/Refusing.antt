@@ -4,13 +4,11 @@ use Rattle.std.specs.declared.result.Result.{Result}
 use Rattle.std.specs.Result.{OnOk}
 use Rattle.std.proofs.lemmas.List.{length-map}
 use Rattle.wit_items.specs.Uses.{interface_uses}
-use Rattle.wit_items.specs.declared.types.TypeDef.{TypeDef}
 use Rattle.wit_items.specs.declared.world.World.{World}
 use Rattle.wit_relations.specs.Relation.{IsAcyclic}
 use Rattle.wit_graph.specs.declared.entries.Lists.{Lists}
 use Rattle.wit_graph.specs.declared.error_kind.ResolveErrorKind.{ResolveErrorKind}
 use Rattle.wit_graph.specs.declared.graph.Graph.{Graph}
-use Rattle.wit_graph.specs.Elaborated.{elaborated_imports, elaborated_exports}
 use Rattle.wit_graph.specs.Elaborating.{IsFirstConflict}
 use Rattle.wit_graph.specs.Elaboration.{AreElaborated, graph_uses, HasConflictAt, IsConflictError, IsErrorAt}
 use Rattle.wit_graph.specs.Entries.{Entry}
@@ -66,17 +64,6 @@ module _ (g : Graph) (uses : List (List ℕ)) (w : World) (acyclic : IsAcyclic u
 -- where no export is in conflict there is none
 pub none_found : (uses : List (List ℕ)) (exports : List Entry) → IsFirstConflict uses exports None → HasConflict uses exports → ⊥
 none_found uses exports none conflict = let found = conflict_found uses exports conflict in none found.0 found.1 found.2
-
--- the lists that were made are those of the graph
-pub lists_elaborated : (g : Graph) (id : ℕ) (w : World) (types : List TypeDef) (uses : List (List ℕ)) (lists : Lists) → slice_get g.worlds id ≡ Some w → types ≡ g.types → uses ≡ graph_uses g → (HasConflict uses w.exports → ⊥) →
-    lists.imports ≡ elaborated_imports types uses w.imports w.exports → lists.exports ≡ elaborated_exports types uses w.exports → AreElaborated g id lists
-lists_elaborated g id w types uses lists at types_are uses_are no_conflict imports_are exports_are = (
-  w,
-  at,
-  subst (λ us. HasConflict us w.exports → ⊥) uses_are no_conflict,
-  imports_are ∙ ap (λ (ts : List TypeDef). elaborated_imports ts uses w.imports w.exports) types_are ∙ ap (λ (us : List (List ℕ)). elaborated_imports g.types us w.imports w.exports) uses_are,
-  exports_are ∙ ap (λ (ts : List TypeDef). elaborated_exports ts uses w.exports) types_are ∙ ap (λ (us : List (List ℕ)). elaborated_exports g.types us w.exports) uses_are,
-)
 
 -- a world whose lists were made has no conflict
 pub no_conflict_at : (g : Graph) (id : ℕ) (lists : Lists) → AreElaborated g id lists → HasConflictAt g id → ⊥

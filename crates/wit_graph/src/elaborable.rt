@@ -1,7 +1,6 @@
 //! Whether a world can be elaborated.
-ghost use Rattle.std.specs.Prelude.{◌≡◌, ◌↔◌, ◌<◌, IfOk, IsTrue, length};
+ghost use Rattle.std.specs.Prelude.{◌↔◌, IfOk, IsTrue};
 ghost use Rattle.wit_graph.specs.Elaboration.{CanElaborate};
-ghost use Rattle.wit_graph.specs.Entries.{role_of};
 ghost use Rattle.wit_graph.specs.Sound.{AreSound, HasSoundEntries, IsRoleInRange, IsUnderOwnKey};
 
 use crate::graph::Graph;

@@ -1,11 +1,11 @@
 //! The imports of a world, each after what it needs, and their order by class.
-ghost use Rattle.std.specs.Prelude.{◌≡◌, ◌++◌, ◌∷◌, ◌<◌, ◌≤◌, [], drop, All, OnOk, IfOk, length, map};
+ghost use Rattle.std.specs.Prelude.{◌≡◌, ◌++◌, ◌<◌, ◌≤◌, [], drop, All, OnOk, IfOk, length, map};
 ghost use Rattle.std.specs.List.{flat_map};
 ghost use Rattle.std.specs.Map.{keys_of};
 ghost use Rattle.wit_graph.specs.Elaborated.{dependency_of, import_carries, import_walk, needs};
 ghost use Rattle.wit_graph.specs.Elaborating.{IsImporting, IsWalk};
 ghost use Rattle.wit_graph.specs.Entries.{by_class, fresh_entries, of_class, role_of};
-ghost use Rattle.wit_graph.specs.Sound.{AreSound, IsRoleInRange, IsUnderOwnKey};
+ghost use Rattle.wit_graph.specs.Sound.{AreSound, IsRoleInRange};
 ghost use Rattle.wit_relations.specs.Relation.{IsAcyclic};
 ghost use Rattle.wit_relations.specs.Walks.{fresh};
 

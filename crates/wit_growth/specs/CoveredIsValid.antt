@@ -7,13 +7,11 @@ use Rattle.wit_items.specs.declared.types.TypeDefKind.TheVariants as kind
 use Rattle.wit_graph.specs.Valid.{IsValid}
 use Rattle.wit_graph.specs.declared.graph.Graph.{Graph}
 use Rattle.wit_growth.specs.Covered.{IsCovered}
-use Rattle.wit_growth.specs.Cut.{IsClosedCut, IsGoodWhere, cut_source}
+use Rattle.wit_growth.specs.Cut.{IsGoodWhere}
 use Rattle.wit_growth.specs.Good.{HasGoodItems, HasGoodThings, IsGoodAsAWhole, IsGoodType}
-use Rattle.wit_growth.specs.Image.{Maps}
 use Rattle.wit_growth.specs.Kept.{Kept, everything}
 use Rattle.wit_growth.specs.Sources.{Carries, IsGoodSource, Source}
 use Rattle.wit_growth.specs.Theory.{HasGoodTables}
-use Rattle.wit_growth.specs.CutIsGood.{cut_is_good}
 use Rattle.wit_growth.specs.GoodInterfaces.{good_interface}
 use Rattle.wit_growth.specs.GoodIsValid.{IsValid-from_good}
 use Rattle.wit_growth.specs.GoodTypes.{good_own, good_type}
@@ -34,10 +32,6 @@ module _ {K : Type 0} (at : K → Source) (g : Graph) (good : (k : K) → IsGood
     imports_are = λ w' new there takes. (good_world at g good carries w' new there (covered.worlds w' new there takes)).imports;
     exports_are = λ w' new there takes. (good_world at g good carries w' new there (covered.worlds w' new there takes)).exports;
   }
-
-  -- and so it is a good source of the next step
-  pub covered_source : (kept : Kept) (m : Maps) → IsCovered kept at g → IsClosedCut kept g.types g.interfaces g.worlds → IsGoodSource (cut_source kept g.types g.interfaces g.worlds m)
-  covered_source kept m covered closed = cut_is_good kept g.types g.interfaces g.worlds m closed (IsGoodWhere-of_covered kept covered)
 
   module _ (covered : IsCovered everything at g) where
     covered_known : Each (λ (def : TypeDef). def.kind ≡ kind.Unknown → ⊥) g.types

@@ -26,7 +26,6 @@ pub mod OnePlace
 pub mod OnePlaceCarried
 pub mod OnePlaceFacts
 pub mod OnePlaceFrom
-pub mod OperationFacts
 pub mod Operations
 pub mod OptionFacts
 pub mod OwnedFacts
@@ -42,4 +41,3 @@ pub mod TestFacts
 pub mod Theory
 pub mod TypesAcyclic
 pub mod UsesAcyclic
-pub mod ValueFacts

@@ -5,7 +5,7 @@ use Rattle.std.specs.List.{flat_map}
 use Rattle.std.proofs.lemmas.List.{map-append}
 use Rattle.std.proofs.lemmas.Option.{slice_get-map, slice_get_within, slice_get-get_or, get_or_from_slice_get}
 use Rattle.wit_values.specs.Lists.{slice_get-append}
-use Rattle.wit_items.specs.Each.{Each, EachAt, SomeAt}
+use Rattle.wit_items.specs.Each.{Each, SomeAt}
 use Rattle.wit_relations.specs.Relation.{direct}
 use Rattle.wit_growth.specs.OptionFacts.{some_same}
 
@@ -35,14 +35,6 @@ module _ {X : Type 0} where
       elim (old_or_new xs ys k z at) [
         | inl old ↦ old
         | inr new ↦ let place = new.1 in absurd (omega arith)
-      ]
-
-  -- a place behind the first list
-  pub at_behind : (xs ys : List X) (i k : ℕ) (z : X) → k ≡ length xs + i → slice_get (xs ++ ys) k ≡ Some z → slice_get ys i ≡ Some z
-  at_behind xs ys i k z place at =
-      elim (old_or_new xs ys k z at) [
-        | inl old ↦ let within : k < length xs = slice_get_within xs k z old in absurd (omega arith)
-        | inr new ↦ let there = new.1 in let same : new.0 ≡ i = omega arith in subst (λ (j : ℕ). slice_get ys j ≡ Some z) same new.2
       ]
 
   -- what a list contains stands at a place of it
@@ -92,27 +84,6 @@ module _ {X Y : Type 0} (f : Y → X) where
   -- what holds of each thing after the function
   pub Each-map : (P : X → Type 0) (ys : List Y) → ((i : ℕ) (y : Y) → slice_get ys i ≡ Some y → P (f y)) → Each P (map f ys)
   Each-map P ys each i x at = let from = from_map ys i x at in subst P from.2 (each i from.0 from.1)
-
-  -- what holds of each of the first list and of each of the second after the function
-  pub EachAt-joined : (P : ℕ → X → Type 0) (xs : List X) (ys : List Y) → EachAt P xs → ((i : ℕ) (y : Y) → slice_get ys i ≡ Some y → P (length xs + i) (f y))
-      → EachAt P (xs ++ map f ys)
-  EachAt-joined P xs ys old new k x at =
-      elim (old_or_new xs (map f ys) k x at) [
-        | inl h ↦ old k x h
-        | inr h ↦
-            let from = from_map ys h.0 x h.2 in
-            subst (λ (j : ℕ). P j x) (sym h.1) (subst (P (length xs + h.0)) from.2 (new h.0 from.0 from.1))
-      ]
-
-  pub Each-joined : (P : X → Type 0) (xs : List X) (ys : List Y) → Each P xs → ((i : ℕ) (y : Y) → slice_get ys i ≡ Some y → P (f y)) → Each P (xs ++ map f ys)
-  Each-joined P xs ys old new = EachAt-joined (λ i x. P x) xs ys old new
-
-  -- what stands at a place of the second list
-  pub SomeAt-new : (P : Y → Type 0) (Q : X → Type 0) (xs : List X) (ys : List Y) (i k : ℕ) → k ≡ length xs + i → ((y : Y) → P y → Q (f y))
-      → SomeAt ys i P → SomeAt (xs ++ map f ys) k Q
-  SomeAt-new P Q xs ys i k place image h =
-      let found = found_at P ys i h in
-      some_at Q (xs ++ map f ys) k (f found.0) (at_new xs (map f ys) i k (f found.0) place (at_map ys i found.0 found.1)) (image found.0 found.2)
 
 -- ---- rows
 

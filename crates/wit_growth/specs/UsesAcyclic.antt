@@ -47,22 +47,6 @@ other_from m f (owner.Interface j) j' is =
     goes true h = cc
     goes false h = cc
 
--- what is another interface than the owner's is an interface
-other_is : (a b : TypeOwner) (j : ℕ) → other_owner a b ≡ Some j → b ≡ owner.Interface j
-other_is (owner.Interface i) (owner.Interface k) j is = by (i == k) is
-  where
-    by : (c : Bool) → (if c then None else Some k) ≡ Some j → owner.Interface k ≡ owner.Interface j
-    by true h = cc
-    by false h = let same : k ≡ j = cc in ap owner.Interface same
-other_is (owner.World w) (owner.Interface k) j is = let same : k ≡ j = cc in ap owner.Interface same
-other_is owner.None (owner.Interface k) j is = let same : k ≡ j = cc in ap owner.Interface same
-other_is (owner.Interface i) (owner.World v) j is = cc
-other_is (owner.World w) (owner.World v) j is = cc
-other_is owner.None (owner.World v) j is = cc
-other_is (owner.Interface i) owner.None j is = cc
-other_is (owner.World w) owner.None j is = cc
-other_is owner.None owner.None j is = cc
-
 module _ {K : Type 0} (at : K → Source) (rank : K → ℕ → ℕ) (old g : Graph) (good_old : HasGoodItems old) (good : (k : K) → IsGoodSource (at k)) (carries : (k : K) → Carries (at k) g)
     (covered : IsCovered everything at g) (grow : InterfacesGrow at rank old g) where
   record Rank (f' r : ℕ) : Type 0 where

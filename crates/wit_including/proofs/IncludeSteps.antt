@@ -21,7 +21,6 @@ use Rattle.wit_items.specs.declared.world.WorldItem.TheVariants as item
 use Rattle.wit_items.specs.declared.world.WorldKey.{WorldKey}
 use Rattle.wit_items.specs.declared.world.WorldKey.TheVariants as key
 use Rattle.wit_relations.specs.Relation.{IsPath, direct}
-use Rattle.wit_graph.specs.Entries.{item_interface}
 use Rattle.wit_graph.specs.Sound.{IsUnderOwnKey}
 use Rattle.wit_graph.specs.declared.cause.Cause.TheVariants as cause
 use Rattle.wit_graph.specs.declared.error_kind.ResolveErrorKind.{ResolveErrorKind}
@@ -57,11 +56,6 @@ export_named : (interfaces : List Interface) (f : ℕ) (held : WorldItem) → Is
 export_named interfaces f (item.Interface id stability docs span external_id) is = is.1
 export_named interfaces f (item.Function function) is = absurd is
 export_named interfaces f (item.Type_ t span) is = absurd is
-
-export_own : (interfaces : List Interface) (f : ℕ) (held : WorldItem) → IsExport interfaces (key.Interface f) held → item_interface held ≡ f ∷ []
-export_own interfaces f (item.Interface id stability docs span external_id) is = ap (λ (x : ℕ). x ∷ []) is.0
-export_own interfaces f (item.Function function) is = absurd is
-export_own interfaces f (item.Type_ t span) is = absurd is
 
 -- ---- what is brought
 

@@ -1,9 +1,9 @@
 -- Keys that are there, and keys that aren't.
-use Rattle.std.proofs.Common.{◌≡◌, ◌∙◌, ◌⊎◌, inl, inr, ℕ, zero, suc, Bool, ◌||◌, true, false, cond, List, [], ◌∷◌, ◌++◌, Option, Some, None, IsSome, refl, ap, sym, subst, slice_get, Contains, get_or, position, arith}
+use Rattle.std.proofs.Common.{◌≡◌, ◌∙◌, inl, inr, ℕ, zero, suc, Bool, ◌||◌, true, false, cond, List, [], ◌∷◌, ◌++◌, Option, Some, None, IsSome, refl, ap, sym, subst, slice_get, Contains, get_or, position, arith}
 use Rattle.std.proofs.lemmas.Bool.{false_from_ne_true}
 use Rattle.std.proofs.lemmas.List.Elements.{Contains-append_right, Contains-append_cases}
 use Rattle.std.proofs.lemmas.List.Quantifiers.{position-Some}
-use Rattle.std.proofs.lemmas.Map.Views.{Contains-keys_from_lookup, IsSome-lookup_from_Contains}
+use Rattle.std.proofs.lemmas.Map.Views.{IsSome-lookup_from_Contains}
 use Rattle.std.proofs.lemmas.Option.{slice_get-get_or}
 use Rattle.std.specs.Map.{keys_of, lookup}
 use Rattle.wit_items.specs.Entries.{Entry}
@@ -30,9 +30,6 @@ passes k = test_is k k ∙ (key_is k k).1 refl
 pub fails : (j k : WorldKey) → (j ≡ k → ⊥) → graph.same_key j k ≡ false
 fails j k apart = test_is j k ∙ false_from_ne_true (same_key j k) (λ same. apart ((key_is j k).0 same))
 
-pub same_from : (j k : WorldKey) → graph.same_key j k ≡ true → j ≡ k
-same_from j k h = (key_is j k).0 (sym (test_is j k) ∙ h)
-
 -- ---- keys of lists
 
 -- no entry is under this key
@@ -48,14 +45,6 @@ lacks_from k es none has = by (lookup (same_key k) es) none (IsSome-lookup_from_
     by : (o : Option WorldItem) → o ≡ None → IsSome o → ⊥
     by None is some = absurd (none_some some)
     by (Some w) is some = cc
-
--- a key is there or it isn't
-pub has_or_lacks : (k : WorldKey) (es : List Entry) → Contains (keys_of es) k ⊎ Lacks es k
-has_or_lacks k es = by (lookup (same_key k) es) refl
-  where
-    by : (o : Option WorldItem) → lookup (same_key k) es ≡ o → Contains (keys_of es) k ⊎ Lacks es k
-    by None is = inr (lacks_from k es is)
-    by (Some w) is = inl (Contains-keys_from_lookup (λ a b. (key_is a b).0) k es (subst (λ (o : Option WorldItem). IsSome o) (sym is) refl))
 
 -- what lacks a key lacks it in its parts
 pub lacks-head : (k : WorldKey) (e : Entry) (es : List Entry) → Lacks (e ∷ es) k → k ≡ e.0 → ⊥

@@ -1,5 +1,5 @@
 -- What is looked at of the labels of one list, and of both lists of a world.
-use Rattle.std.specs.Prelude.{◌≡◌, ◌⊎◌, ℕ, List, Contains, None, codes}
+use Rattle.std.specs.Prelude.{◌⊎◌, ℕ, List, Contains, None, codes}
 use Rattle.std.specs.Map.{keys_of}
 use Rattle.wit_items.specs.Entries.{Entry}
 use Rattle.wit_items.specs.declared.function.Function.{Function}

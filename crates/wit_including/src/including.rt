@@ -1,5 +1,5 @@
 //! A world of a graph is included in one that comes next.
-ghost use Rattle.std.specs.Prelude.{◌≡◌, ◌⊎◌, ◌<◌, IfErr, IfOk, OnOk, Some, codes, length, slice_get};
+ghost use Rattle.std.specs.Prelude.{◌≡◌, ◌⊎◌, ◌<◌, IfErr, IfOk, OnOk, codes, length};
 ghost use Rattle.wit_adding.specs.Include.{is_other_package, lists_of};
 ghost use Rattle.wit_graph.specs.declared.error_kind.ResolveErrorKind.TheVariants.{OutOfMemory};
 ghost use Rattle.wit_including.specs.Included.{CanBeIncluded, HaveOwnKeys, IncludeIsFine, IsIncludeCause, IsIncluded, before_includes, copied_entries, with_joined, with_lists, with_one};

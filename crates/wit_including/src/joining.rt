@@ -13,7 +13,7 @@ use crate::stabilities::join_stability;
 use indexmap::IndexMap;
 use std::alloc::{AllocError, Global};
 use wit_graph::{ResolveError, ResolveErrorKind, ResolveResult};
-use wit_items::{Items, Span, Stability, Table, Text, TryClone, WorldItem, WorldKey};
+use wit_items::{Items, Span, Stability, Table, Text, WorldItem, WorldKey};
 
 /// The list with the brought entries joined to it. What is there stays in front and keeps its place; an interface
 /// that is there takes the stability that comes; all else goes to the end. `other` tells whether the entries are of a

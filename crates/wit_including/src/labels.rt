@@ -1,11 +1,10 @@
 //! Labels of a world: whether some are too alike, and whether each setter has its getter.
-ghost use Rattle.std.specs.Prelude.{◌≡◌, ◌⊎◌, IfErr, IfOk, OnOk, None, codes};
-ghost use Rattle.std.specs.Map.{keys_of};
-ghost use Rattle.wit_adding.specs.CauseText.{clash_text, getter_text};
+ghost use Rattle.std.specs.Prelude.{◌≡◌, ◌⊎◌, IfErr, IfOk, OnOk, None};
+ghost use Rattle.wit_adding.specs.CauseText.{clash_text};
 ghost use Rattle.wit_including.specs.Labels.{IsLabelError, LabelsAreFine, ListIsFine, IsListError};
 ghost use Rattle.wit_graph.specs.declared.cause.Cause.TheVariants as cause;
 ghost use Rattle.wit_graph.specs.declared.error_kind.ResolveErrorKind.TheVariants.{OutOfMemory, Semantic};
-ghost use Rattle.wit_labels.specs.Setters.{getter_label, LacksGetterAt};
+ghost use Rattle.wit_labels.specs.Setters.{LacksGetterAt};
 
 use std::alloc::{AllocError, Global};
 use wit_graph::{Cause, ResolveError, ResolveErrorKind, ResolveResult};

@@ -1,13 +1,12 @@
 //! The stability of an interface that is there, with that of one that comes joined to it.
-ghost use Rattle.std.specs.Prelude.{◌≡◌, ◌⊎◌, IfErr, OnOk};
-ghost use Rattle.wit_adding.specs.Include.{include_stability, joined_item};
+ghost use Rattle.std.specs.Prelude.{◌≡◌, IfErr, OnOk};
+ghost use Rattle.wit_adding.specs.Include.{include_stability};
 ghost use Rattle.wit_adding.specs.WorldReasons.{Disagree};
-ghost use Rattle.wit_graph.specs.declared.error_kind.ResolveErrorKind.TheVariants.{OutOfMemory, StabilityMismatch};
-ghost use Rattle.wit_items.specs.declared.stability.Stability.{Stability};
+ghost use Rattle.wit_graph.specs.declared.error_kind.ResolveErrorKind.TheVariants.{StabilityMismatch};
 
 use std::mem;
 use wit_graph::{ResolveErrorKind, ResolveResult};
-use wit_items::{Span, Stability, WorldItem};
+use wit_items::{Span, Stability};
 
 /// Joins a stability that comes to one that is there. A known one replaces an unknown one; a `@since` of another
 /// package says nothing, and leaves it unknown. Two known ones that differ are refused (8).

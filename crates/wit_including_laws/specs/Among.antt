@@ -6,7 +6,7 @@ use Rattle.std.proofs.lemmas.Option.{slice_get_within}
 use Rattle.wit_relations.specs.MemberFacts.{Contains-cons_cases, Contains-nil}
 use Rattle.wit_relations.specs.Relation.{IsPath, Reaches, direct}
 use Rattle.wit_items.specs.Each.{SomeAt}
-use Rattle.wit_items.specs.Ownership.{IsNamedInterface, IsOwn, IsPlain, parts, through_unnamed}
+use Rattle.wit_items.specs.Ownership.{IsNamedInterface, IsOwn, parts, through_unnamed}
 use Rattle.wit_items.specs.Reference.{referred, type_references}
 use Rattle.wit_items.specs.Uses.{alias_target}
 use Rattle.wit_items.specs.declared.types.TypeDef.{TypeDef}
@@ -27,10 +27,6 @@ referred_is : (k : TypeDefKind) (u : ℕ) → Contains (referred k) u → (alias
 referred_is (kind.Type_ (type.Id x)) u has = elim (Contains-cons_cases x u [] has) [ inl same ↦ inl (ap Some same) | inr none ↦ absurd (Contains-nil none) ]
 referred_is (kind.Type_ other) u has = absurd (Contains-nil has)
 referred_is other u has = inr has
-
-not_alias : (k : TypeDefKind) (u : ℕ) → IsPlain k → alias_target k ≡ Some u → ⊥
-not_alias (kind.Type_ ty) u plain is = plain
-not_alias other u plain is = cc
 
 some_or_none : {X : Type 0} (o : Option X) → IsSome o ⊎ (o ≡ None)
 some_or_none None = inr refl

@@ -1,5 +1,5 @@
 -- A list that is cut at the first element that passes a test.
-use Rattle.std.proofs.Common.{◌≡◌, ℕ, ◌<◌, List, [], ◌∷◌, ◌++◌, length, Bool, true, false, refl, ap, ◌∙◌, inl, inr, one-add, suc-add, arith}
+use Rattle.std.proofs.Common.{◌≡◌, ℕ, List, [], ◌∷◌, ◌++◌, length, Bool, true, false, refl, ap, ◌∙◌, inl, inr, one-add, suc-add, arith}
 use Rattle.std.proofs.lemmas.Bool.{cases_Bool, or_parts, eqb-true}
 use Rattle.std.proofs.lemmas.Grind.{common_steps}
 use Rattle.std.specs.Prelude.{◌==◌}
@@ -53,11 +53,7 @@ cut-whole c (x ∷ rest) some = elim (cases_Bool (x == c)) [
       (ap (λ others. x ∷ others) (cut-whole c rest (rw fails at some)))
 ]
 
--- an element that passes stands before the end
-pub list_any-position : {X : Type 0} (p : X → Bool) (xs : List X) → position_or_len p xs < length xs → list_any p xs ≡ true
-list_any-position p [] within = absurd (omega arith)
-list_any-position p (x ∷ xs) within = grind (arith, common_steps, list_any-position p xs)
-
+-- where no element that passes stands before the end, none passes
 pub list_any-none : {X : Type 0} (p : X → Bool) (xs : List X) → position_or_len p xs ≡ length xs → list_any p xs ≡ false
 list_any-none p [] none = refl
 list_any-none p (x ∷ xs) none = grind (arith, common_steps, list_any-none p xs)

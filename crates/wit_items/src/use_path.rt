@@ -1,5 +1,5 @@
 //! Kebab names and use paths, by which WIT names things.
-ghost use Rattle.std.specs.Prelude.{◌≡◌, ◌↔◌, ◌<◌, ◌==◌, ◌&&◌, slice_index, Some, None, IfOk, IsErr, IsTrue};
+ghost use Rattle.std.specs.Prelude.{◌≡◌, ◌↔◌, ◌<◌, ◌==◌, slice_index, Some, None, IfOk, IsErr, IsTrue};
 ghost use Rattle.semver.specs.Parse.{memory_error, version_parts};
 ghost use Rattle.std.specs.Char.{is_ascii_alphabetic};
 ghost use Rattle.std.specs.List.{before_first, after_first, list_all, slice_split};

@@ -1,5 +1,5 @@
 -- The near misses lack what they are said to lack.
-use Rattle.std.proofs.Common.{◌≡◌, ◌∙◌, ℕ, zero, suc, ◌<◌, ◌∷◌, [], Some, None, refl, sym, ap, lit<, inl, inr, arith}
+use Rattle.std.proofs.Common.{◌≡◌, ℕ, ◌<◌, ◌∷◌, [], refl, ap, lit<, inl, inr, arith}
 use Rattle.std.proofs.lemmas.Bool.{false≢true}
 use Rattle.std.specs.Prelude.{List, codes}
 use Rattle.wit_relations.specs.MemberFacts.{Contains-cons_cases, Contains-nil}

@@ -1,6 +1,5 @@
 -- The package of the example has the shape, part by part.
-use Rattle.std.proofs.Common.{◌≡◌, ℕ, zero, suc, ◌<◌, ◌∷◌, [], ◌⊎◌, inl, inr, Some, None, slice_get, refl, lit<, lit≤, arith}
-use Rattle.std.proofs.lemmas.Bool.{false≢true}
+use Rattle.std.proofs.Common.{◌≡◌, ℕ, ◌<◌, ◌∷◌, [], inr, Some, slice_get, refl, lit<, lit≤, arith}
 use Rattle.std.specs.List.{IsDistinct}
 use Rattle.std.specs.Prelude.{List, codes}
 use Rattle.wit_relations.specs.Relation.{IsAcyclic}
@@ -11,7 +10,6 @@ use Rattle.wit_items.specs.Shape.{HasForeign, HasNames, HasOwners, HasReferences
 use Rattle.wit_items.specs.UsePath.{is_kebab_name}
 use Rattle.wit_items.specs.Uses.{uses_of}
 use Rattle.wit_items.specs.declared.stability.Stability.TheVariants.{Unknown}
-use Rattle.wit_items.specs.declared.types.TypeOwner.{TypeOwner}
 use Rattle.wit_items.specs.declared.types.TypeOwner.TheVariants as owner
 use Rattle.wit_items.specs.declared.types.Type_.TheVariants as type
 use Rattle.wit_items.specs.declared.unresolved.AstItem.TheVariants as ast

@@ -1,5 +1,5 @@
 -- A package that has the shape, and packages that differ from it in one place and lack one part of it.
-use Rattle.std.specs.Prelude.{ℕ, List, [], ◌∷◌, Option, Some, None, codes}
+use Rattle.std.specs.Prelude.{ℕ, List, [], ◌∷◌, Some, None, codes}
 use Rattle.wit_items.specs.Entries.{Entry}
 use Rattle.wit_items.specs.Foreign.{ForeignItems}
 use Rattle.wit_items.specs.Shape.{HasForeign, HasNames, HasOwners, HasReferences, HasUnknown, HasWorlds, IsUnplaced, KeepsToOwn, KeysDiffer}

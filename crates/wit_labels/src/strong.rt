@@ -1,5 +1,5 @@
 //! Which labels of a world are too alike to stand beside each other.
-ghost use Rattle.std.specs.Prelude.{◌≡◌, IfOk, IfSome, IfNone, MatchOption};
+ghost use Rattle.std.specs.Prelude.{◌≡◌, IfOk, IfSome, IfNone};
 ghost use Rattle.std.specs.Map.{keys_of};
 ghost use Rattle.wit_labels.specs.Strong.{AreStronglyUnique, Clashes, class_named, class_of, strong_key};
 

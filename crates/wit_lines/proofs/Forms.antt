@@ -1,10 +1,9 @@
 -- Forms that stand in each other.
-use Rattle.std.proofs.Common.{◌≡◌, ℕ, suc, zero, ◌≤◌, ◌<◌, List, [], ◌∷◌, ◌++◌, Option, Some, None, length, refl, sym, ap, ◌∙◌, append_assoc, arith}
+use Rattle.std.proofs.Common.{◌≡◌, ℕ, suc, zero, ◌≤◌, ◌<◌, List, [], ◌∷◌, ◌++◌, Some, None, length, sym, ap, ◌∙◌, append_assoc, arith}
 use Rattle.std.proofs.lemmas.List.{append-nil}
 use Rattle.wit_lines.specs.TypeText.{form_of, type_text_by, type_text_within, wrapped, written_of}
 use Rattle.wit_lines.specs.declared.type_text.TypeText.{TypeText}
 use Rattle.wit_lines.specs.declared.type_text.Wrap.{Wrap}
-use Rattle.wit_lines.specs.declared.type_text.Written.{Written}
 
 -- forms around what the rest of a text says
 abbrev pub Stands : TypeText → List Wrap → List ℕ → Type 0

@@ -1,5 +1,5 @@
 //! The texts of types.
-ghost use Rattle.std.specs.Option.{option_copied, option_map};
+ghost use Rattle.std.specs.Option.{option_map};
 ghost use Rattle.std.specs.Prelude.{◌≡◌, ◌<◌, length, IfOk, IfSome};
 ghost use Rattle.wit_lines.specs.TypeText.{form_of, type_text_of, written_of};
 

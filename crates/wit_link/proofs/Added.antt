@@ -74,16 +74,9 @@ not_there : (o : Option ℕ) → is_some o ≡ false → is_some o ≡ true → 
 not_there None none some = cc
 not_there (Some p) none some = cc
 
-none_of : (o : Option ℕ) → (is_some o ≡ true → ⊥) → o ≡ None
-none_of None h = refl
-none_of (Some p) h = absurd (h refl)
-
 -- a package that isn't there and fits is new
 pub is_new : (a : Addition) → is_some (lookup (same_package a.handed.name) a.graph.package_names) ≡ false → PackageFits a.offset a.handed → IsNew a
 is_new a none fits = record { absent = not_there (lookup (same_package a.handed.name) a.graph.package_names) none; fits = fitting_passes_not a fits }
-
-pub name_is_new : (a : Addition) → IsNew a → lookup (same_package a.handed.name) a.graph.package_names ≡ None
-name_is_new a is = none_of (lookup (same_package a.handed.name) a.graph.package_names) is.absent
 
 pub checked_image : (a : Addition) → IsChecked a → HasImage a
 checked_image a checked = has_image a checked.met checked.needs checked.found

@@ -1,5 +1,5 @@
 -- What is found in steps is what is matched.
-use Rattle.std.proofs.Common.{◌≡◌, ◌∙◌, ℕ, Bool, true, false, List, Option, None, Some, get_or, is_some, length, map, nat_eq, not, option_and_then, slice_get, refl, sym, ap, if◌then◌else◌}
+use Rattle.std.proofs.Common.{◌≡◌, ◌∙◌, ℕ, true, false, List, Option, None, Some, get_or, is_some, length, map, nat_eq, not, option_and_then, slice_get, refl, ap, if◌then◌else◌}
 use Rattle.std.specs.Map.{lookup}
 use Rattle.std.specs.Option.{option_map_or}
 use Rattle.std.specs.Str.{bytes_eq}

@@ -1,10 +1,9 @@
 //! Types, which are matched by their names where their owners are.
-ghost use Rattle.std.specs.Prelude.{◌≡◌, IfOk, None, get_or, length, map, option_and_then, slice_get};
+ghost use Rattle.std.specs.Prelude.{◌≡◌, IfOk, map, option_and_then, slice_get};
 ghost use Rattle.std.specs.Map.{lookup};
 ghost use Rattle.std.specs.Str.{bytes_eq};
 ghost use Rattle.wit_graph.specs.Valid.{IsValid};
 ghost use Rattle.wit_items.specs.Ownership.{world_types};
-ghost use Rattle.wit_items.specs.declared.types.TypeDef.{TypeDef};
 ghost use Rattle.wit_items.specs.declared.world.World.{World};
 ghost use Rattle.wit_adding.specs.Lookup.{listed_type};
 ghost use Rattle.wit_matching.specs.Found.{type_item, type_under};

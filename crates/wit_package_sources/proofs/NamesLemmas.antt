@@ -20,11 +20,6 @@ placed_at (e ∷ es) count test place placed found = at (test e.0) found (placed
     at true here later = let same : e.1 ≡ place = cc in subst (λ n. n < count) same placed.0
     at false there later = later there
 
--- names after others
-pub with_all-append : (seen names more : List (List ℕ)) → with_all seen (names ++ more) ≡ with_all (with_all seen names) more
-with_all-append seen [] more = refl
-with_all-append seen (name ∷ names) more = with_all-append (with_name seen name) names more
-
 -- ---- each once
 
 -- the name isn't among these

@@ -82,5 +82,3 @@ module _ (g : Graph) where
     packages = begins;
     package_names = begin;
   }
-
-pub ruleset grows = (Begins-more, Begins-same, Begins-then, Grown-then, Grown-same, cut_back)

@@ -1,18 +1,16 @@
 -- From flags that are right where they are off, and agree with the parts of their types, to what they tell.
-use Rattle.std.proofs.Common.{◌≡◌, ℕ, ◌<◌, ◌≤◌, ◌+◌, ◌∙◌, add-one, zero, suc, Bool, true, false, refl, arith, List, [], ◌∷◌, ◌++◌, ◌⊎◌, inl, inr, None, Some, Option, length, ap, sym, subst, slice_get, slice_set, Contains, unwrap_or, take}
+use Rattle.std.proofs.Common.{◌≡◌, ℕ, ◌<◌, ◌≤◌, ◌+◌, ◌∙◌, add-one, zero, suc, Bool, true, false, refl, arith, List, [], ◌∷◌, ◌⊎◌, inl, inr, None, Some, Option, length, ap, sym, subst, slice_get, slice_set, Contains, unwrap_or}
 use Rattle.std.specs.Option.{IsSomeAnd}
-use Rattle.std.specs.Prelude.{IsTrue, ◌↔◌, replicate}
 use Rattle.std.proofs.lemmas.Bool.{cases_lt, false≢true}
 use Rattle.std.proofs.lemmas.List.{length-set}
-use Rattle.std.proofs.lemmas.Option.{slice_get_past, slice_get_within}
-use Rattle.wit_relations.specs.Relation.{IsPath, Reaches, direct}
+use Rattle.std.proofs.lemmas.Option.{slice_get_within}
+use Rattle.wit_relations.specs.Relation.{IsPath, direct}
 use Rattle.wit_values.specs.Lists.{set-cases}
 use Rattle.wit_items.specs.Each.{SomeAt}
 use Rattle.wit_items.specs.declared.types.TypeDef.{TypeDef}
-use Rattle.wit_items.specs.declared.types.Type_.{Type_}
 use Rattle.wit_items.specs.declared.types.Type_.TheVariants as type
 use Rattle.wit_graph.specs.HeldFacts.{held_row}
-use Rattle.wit_graph.specs.Questions.{HasAllBitsValid, has_fixed_parts, held_rows, held_types}
+use Rattle.wit_graph.specs.Questions.{HasAllBitsValid, has_fixed_parts, held_rows}
 use Rattle.wit_questions.specs.ValidBits.{Agrees, AreRightBelow, AreRightOff, AreValidBits, TellValidBits, has_valid_parts, on_count}
 use Rattle.wit_questions.specs.ValidBitsFacts.{no_flag, no_type}
 use Rattle.wit_questions.proofs.ValidParts.{is_on, parts_fixed, parts_off, parts_on}
@@ -179,26 +177,3 @@ module _ (types : List TypeDef) (flags : List Bool) (first : ℕ) (below : AreRi
     each = long;
     exact = exact off;
   }
-
--- flags that are begun: those that were there, and as many behind them as there are new types, all on
-all_on : (n t : ℕ) (flag : Bool) → slice_get (replicate n true) t ≡ Some flag → flag ≡ true
-all_on zero t flag at = cc
-all_on (suc n) zero flag at = cc
-all_on (suc n) (suc t) flag at = all_on n t flag at
-
-begun_cases : (flags : List Bool) (n t : ℕ) (flag : Bool) → slice_get (flags ++ replicate n true) t ≡ Some flag → (slice_get flags t ≡ Some flag) ⊎ ((length flags ≤ t) × (flag ≡ true))
-begun_cases [] n t flag at = inr (omega arith, all_on n t flag at)
-begun_cases (x ∷ flags) n zero flag at = inl at
-begun_cases (x ∷ flags) n (suc t) flag at = elim (begun_cases flags n t flag at) [ inl old ↦ inl old | inr new ↦ inr (omega (arith, new.0), new.1) ]
-
-pub begun_off : (types : List TypeDef) (flags : List Bool) (n : ℕ) → AreValidBits types flags → AreRightOff types (flags ++ replicate n true)
-begun_off types flags n known t at = elim (begun_cases flags n t false at) [
-  | inl old ↦ λ valid. false≢true ((known t false old).1 valid)
-  | inr new ↦ absurd (false≢true new.1)
-]
-
-pub begun_below : (types : List TypeDef) (flags : List Bool) (n : ℕ) → AreValidBits types flags → AreRightBelow (length flags) types (flags ++ replicate n true)
-begun_below types flags n known t low at = elim (begun_cases flags n t true at) [
-  | inl old ↦ (known t true old).0 refl
-  | inr new ↦ absurd (omega (arith, low, new.0))
-]

@@ -1,5 +1,5 @@
 -- What the flags of its parts tell of a type.
-use Rattle.std.proofs.Common.{◌≡◌, ℕ, ◌∙◌, zero, suc, Bool, true, false, refl, List, [], ◌∷◌, ◌⊎◌, inl, inr, sym, subst, Contains}
+use Rattle.std.proofs.Common.{◌≡◌, ℕ, Bool, true, false, refl, List, [], ◌∷◌, ◌⊎◌, inl, inr, sym, subst, Contains}
 use Rattle.std.specs.Prelude.{slice_get, unwrap_or}
 use Rattle.std.specs.List.{flat_map, list_all}
 use Rattle.std.proofs.lemmas.Bool.{and_cases, and_from, and_left, and_parts, and_right, false≢true}

@@ -139,10 +139,6 @@ start_walk uses acyclic order root here first = record {
   frames = All-push (λ (g : Frame). g.node < length uses) [] (record { node = root; next = 0 }) (All-nil (λ (g : Frame). g.node < length uses)) here;
 }
 
--- and ends with none
-pub end_walk : (uses : List (List ℕ)) (whole order : List ℕ) (stack : List Frame) → IsWalking uses whole order stack → stack ≡ [] → order ≡ whole
-end_walk uses whole order stack is done = sym (append-nil order) ∙ rw (done, left_of-nil uses) at is.whole_is
-
 -- ---- the measure
 unfoldable pub turns : List (List ℕ) → List Frame → ℕ
 turns uses stack = 2 * length (left_of uses stack) - length stack

@@ -25,7 +25,7 @@ use Rattle.wit_graph.specs.declared.error_kind.ResolveErrorKind.TheVariants.{Dup
 use Rattle.wit_graph.specs.declared.features.Features.{Features}
 use Rattle.wit_graph.specs.declared.graph.Graph.{Graph}
 use Rattle.wit_growth.specs.ListFacts.{at_map, contained_at, from_map, place_of, some_at}
-use Rattle.wit_sorting.specs.Sorting.{AreSorted, Handed, HaveSpans, IsGroupOrder, IsSortCause, handed_deps, handed_uses, names_of}
+use Rattle.wit_sorting.specs.Sorting.{AreSorted, Handed, IsGroupOrder, IsSortCause, handed_deps, handed_uses, names_of}
 use Rattle.wit_adding.specs.Addition.{own_worlds}
 use Rattle.wit_adding.specs.Cause.{IsAccepted, duplicate_5}
 use Rattle.wit_adding.specs.Pushed.{pushed, with_parts}
@@ -124,9 +124,6 @@ group_can at main (u ∷ nested) shaped all_shaped rest can = (all_shaped 0 u re
 pub packages_can : (at : ℕ) (groups : List Group) → AllByRecursion IsGroupShaped groups → AllByRecursion CanAppend (packages_of at groups)
 packages_can at [] shaped = tt
 packages_can at (g ∷ groups) shaped = group_can at g.main g.nested shaped.0.main shaped.0.nested (packages_of (at + g.source_map.end) groups) (packages_can (at + g.source_map.end) groups shaped.1)
-
-pub have_spans : (handed : List Handed) → AllByRecursion CanAppend handed → HaveSpans handed
-have_spans handed can = λ i p there. (AllByRecursion-at CanAppend handed i p can there).foreign.spans
 
 sorted_are : (handed : List Handed) (order : List ℕ) (sorted : List Handed) → AllByRecursion CanAppend handed → AllZip (λ i (p : Handed). slice_get handed i ≡ Some p) order sorted → AllByRecursion CanAppend sorted
 sorted_are handed [] [] can are = tt
@@ -290,13 +287,7 @@ module _ (features : Features) (g : Graph) (handed sorted : List Handed) (name :
     id_is = in_table.id_is ∙ sym in_table.listed ∙ listed;
   }
 
--- what speaks against one of the sorted packages speaks against adding them
-pub push_cause : (features : Features) (g : Graph) (handed sorted : List Handed) → ((error : ResolveErrorKind) → IsSortCause handed error → ⊥) → (order : List ℕ) × AreSorted handed order sorted → (kind : ResolveErrorKind)
-    → (kind ≡ OutOfMemory) ⊎ IsOneRefused features g sorted kind → (kind ≡ OutOfMemory) ⊎ (IsSortCause handed kind ⊎ IsPushCause features g handed kind)
-push_cause features g handed sorted sortable is kind (inl memory) = inl memory
-push_cause features g handed sorted sortable is kind (inr refused) = inr (inr (record { sortable = sortable; order = is.0; sorted = sorted; are_sorted = is.1; refused = refused }))
-
--- and the other way round
+-- what speaks against adding packages speaks against adding the sorted ones one after another
 pub one_refused : (features : Features) (g : Graph) (handed sorted : List Handed) → ((error : ResolveErrorKind) → IsSortCause handed error → ⊥) → (order : List ℕ) × AreSorted handed order sorted → (kind : ResolveErrorKind)
     → IsSortCause handed kind ⊎ IsPushCause features g handed kind → IsOneRefused features g sorted kind
 one_refused features g handed sorted sortable is kind (inl cause) = absurd (sortable kind cause)

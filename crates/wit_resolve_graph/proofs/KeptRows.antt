@@ -1,5 +1,5 @@
 -- What is kept beside a graph, after a turn of a world and after packages came.
-use Rattle.std.proofs.Common.{◌≡◌, ◌∙◌, ℕ, ◌≤◌, List, [], Bool, Option, None, Some, length, take, slice_get, OnOk, OnErr, Result, Ok, Err, refl, sym, ap, subst, arith, length-take}
+use Rattle.std.proofs.Common.{◌≡◌, ◌∙◌, ℕ, List, [], Bool, Option, None, Some, length, take, slice_get, OnOk, OnErr, Result, Ok, Err, refl, sym, ap, subst}
 use Rattle.std.specs.Option.{option_map_or}
 use Rattle.wit_items.specs.declared.types.TypeDef.{TypeDef}
 use Rattle.wit_items.specs.declared.world.World.{World}
@@ -50,13 +50,7 @@ none_known types flags none = λ t flag at. absurd (no_flag flag (sym (ap (λ (l
     no_flag : (flag : Bool) → ◌≡◌ {A = Option Bool} None (Some flag) → ⊥
     no_flag flag same = cc
 
--- where packages came, there are no more flags than types, and they tell of theirs
-pub flags_within : (g new : Graph) (kept : Kept) → AreKept g kept → Grown g new → length kept.valid_bits ≤ length new.types
-flags_within g new kept of grown =
-    let short = ap length grown.types in
-    let least = length-take (length g.types) new.types in
-    omega (arith, of.bits.each, short, least)
-
+-- where packages came, the flags that there were are right yet
 pub flags_known : (g new : Graph) (kept : Kept) → AreKept g kept → Grown g new → AreValidBits new.types kept.valid_bits
 flags_known g new kept of grown = flags_stay g.types new.types of.valid.no_cycles.types grown.types kept.valid_bits of.bits
 

@@ -1,5 +1,5 @@
 -- From what making two graphs one tells to what is told of a merge of two states.
-use Rattle.std.proofs.Common.{◌≡◌, ◌∙◌, ◌⊎◌, ◌+◌, ◌<◌, ◌≤◌, ◌^◌, ℕ, List, ◌++◌, length, take, map, Result, Ok, Err, IfOk, IfErr, OnErr, OnOk, refl, ap, sym, subst, inl, inr, arith, ◌↔◌}
+use Rattle.std.proofs.Common.{◌≡◌, ◌∙◌, ◌⊎◌, ◌+◌, ◌<◌, ◌≤◌, ◌^◌, ℕ, ◌++◌, length, take, map, Result, Ok, Err, IfOk, IfErr, OnErr, OnOk, refl, ap, sym, subst, inl, inr, arith, ◌↔◌}
 use Rattle.std.proofs.lemmas.Bool.{cases_lt}
 use Rattle.std.proofs.lemmas.List.{take_at}
 use Rattle.wit_sources.specs.SourceMap.{Sources, moved_file, with_sources}

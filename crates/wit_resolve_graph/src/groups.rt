@@ -1,8 +1,8 @@
 //! Groups of packages that are added together: their files at the end of the sources, their packages in order.
-ghost use Rattle.std.specs.Prelude.{◌≡◌, ◌⊎◌, ◌≤◌, ◌<◌, ◌+◌, ◌++◌, ◌^◌, [], ◌∷◌, Contains, IfErr, IfOk, List, OnErr, OnOk, map};
+ghost use Rattle.std.specs.Prelude.{◌≡◌, ◌⊎◌, ◌<◌, ◌+◌, ◌++◌, ◌^◌, [], ◌∷◌, Contains, IfErr, IfOk, OnErr, OnOk, map};
 ghost use Rattle.std.specs.List.{AllByRecursion};
 ghost use Rattle.wit_graph.specs.declared.error_kind.ResolveErrorKind.{ResolveErrorKind};
-ghost use Rattle.wit_graph.specs.declared.error_kind.ResolveErrorKind.TheVariants.{OffsetOverflow, OutOfMemory};
+ghost use Rattle.wit_graph.specs.declared.error_kind.ResolveErrorKind.TheVariants.{OutOfMemory};
 ghost use Rattle.wit_items.specs.declared.unresolved.UnresolvedPackage.{UnresolvedPackage};
 ghost use Rattle.wit_link.specs.Groups.{FilesPassTheEnd, IsPushCause, files_end, packages_of};
 ghost use Rattle.wit_link.specs.Several.{CanAppend};

@@ -7,7 +7,7 @@ ghost use Rattle.wit_sources.specs.Shown.{location_of};
 use crate::resolve::Resolve;
 use std::alloc::Global;
 use std::fmt;
-use wit_graph::{ResolveError, ResolveErrorKind, ResolveResult, render_text};
+use wit_graph::{ResolveError, ResolveResult, render_text};
 use wit_items::{MapFault, SourceMap, Span, Text};
 
 /// Why a parse makes no group of its sources.

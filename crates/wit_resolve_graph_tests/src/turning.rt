@@ -1,5 +1,4 @@
 //! Refused turns of worlds: what each says, and that the graph is as before in all its data.
-ghost use Rattle.std.specs.Prelude.{◌<◌, length};
 
 use crate::parts::{
     assert_told, entries, function, function_entry, interface, interface_entry, interface_list,

@@ -1,5 +1,5 @@
 -- What a `push` makes, and commands that aren't ready.
-use Rattle.std.proofs.Common.{◌≡◌, suc, List, [], ◌∷◌, ◌++◌, Bool, true, false, Option, None, Some, Result, IsTrue, ◌↔◌, refl, sym, ap, subst, ◌∙◌}
+use Rattle.std.proofs.Common.{◌≡◌, suc, List, [], ◌∷◌, ◌++◌, Bool, true, false, Option, None, Some, IsTrue, ◌↔◌, refl}
 use Rattle.std.specs.Option.{option_and_then, option_map}
 use Rattle.wit_values.specs.Lists.{AllByRecursion-at}
 use Rattle.wit_items.specs.Each.{Each}
@@ -8,9 +8,8 @@ use Rattle.wit_items.specs.declared.unresolved.UnresolvedPackageGroup.{Unresolve
 use Rattle.wit_drafts.specs.Draft.{grouped}
 use Rattle.wit_drafts.specs.declared.draft.Draft.{Draft}
 use Rattle.wit_lines.specs.Signature.{each_of}
-use Rattle.wit_lines.specs.declared.fault.LineFault.{LineFault}
 use Rattle.wit_script.specs.Ready.{AreReady, AreShaped, IsReady}
-use Rattle.wit_script.specs.Script.{GoesOn, IsBad, with_groups, with_push}
+use Rattle.wit_script.specs.Script.{IsBad, with_groups}
 use Rattle.wit_script.specs.declared.reader.Reading.{Reading}
 use Rattle.wit_script.specs.declared.ready.ScriptCommand.{ScriptCommand}
 use Rattle.wit_script.specs.declared.ready.ScriptCommand.TheVariants as asks
@@ -21,11 +20,6 @@ use Rattle.wit_script.specs.declared.ready.ScriptCommand.TheVariants as asks
 pub last-ready : (commands : List ScriptCommand) (command : ScriptCommand) → AreReady (commands ++ command ∷ []) → IsReady command
 last-ready [] command ready = ready.0
 last-ready (first ∷ commands) command ready = last-ready commands command ready.1
-
--- what is ready, and one more
-pub more-ready : (commands : List ScriptCommand) (command : ScriptCommand) → AreReady commands → IsReady command → AreReady (commands ++ command ∷ [])
-more-ready [] command ready one = (one, tt)
-more-ready (first ∷ commands) command ready one = (ready.0, more-ready commands command ready.1 one)
 
 -- groups each of which has its shape
 pub each-shaped : (groups : List UnresolvedPackageGroup) → Each IsGroupShaped groups → AreShaped groups
@@ -69,26 +63,6 @@ each-next (q ∷ packages) p groups group had next =
 pub bad-groups : (r : Reading) (groups : List UnresolvedPackageGroup) → ¬ Each IsGroupShaped groups → IsBad (with_groups r groups)
 bad-groups r [] fails = tt
 bad-groups r (main ∷ deps) fails = λ ready. fails (shaped-each (main ∷ deps) (last-ready r.commands (asks.Push main deps) ready))
-
--- a push of these packages comes to the push of their groups
-pub push-is : (r : Reading) (p : Draft) (groups : List UnresolvedPackageGroup) → r.current ≡ Some p → each_of grouped (r.finished ++ p ∷ []) ≡ Some groups → with_push r ≡ with_groups r groups
-push-is r p groups last read = rw (last, read) refl
-
--- packages of which one doesn't fit
-pub push-fails : (r : Reading) (p : Draft) → r.current ≡ Some p → each_of grouped (r.finished ++ p ∷ []) ≡ None → with_push r ≡ None
-push-fails r p last read = rw (last, read) refl
-
--- what waits has no part in it
-with_groups-waits : (r s : Reading) (groups : List UnresolvedPackageGroup) → r.commands ≡ s.commands → r.other ≡ s.other → with_groups r groups ≡ with_groups s groups
-with_groups-waits r s [] commands other = refl
-with_groups-waits r s (main ∷ deps) commands other =
-    ap (λ (l : List ScriptCommand). Some (record { commands = l ++ asks.Push main deps ∷ []; finished = []; current = None; other = r.other })) commands
-    ∙ ap (λ (o : Bool). Some (record { commands = s.commands ++ asks.Push main deps ∷ []; finished = []; current = None; other = o })) other
-
-pub push-goes-on : {A : Type 0} (r s new : Reading) (p : Draft) (groups : List UnresolvedPackageGroup) (answer : Result A LineFault) → r.current ≡ Some p → each_of grouped (r.finished ++ p ∷ []) ≡ Some groups
-    → s.commands ≡ r.commands → s.other ≡ r.other → GoesOn (with_groups s groups) answer new → GoesOn (with_push r) answer new
-push-goes-on r s new p groups answer last read commands other goes =
-    subst (λ (o : Option Reading). GoesOn o answer new) (with_groups-waits s r groups commands other ∙ sym (push-is r p groups last read)) goes
 
 -- ---- tests
 

@@ -96,14 +96,3 @@ module _ (runs : Runs) (chooses : Chooses) (before after : Stage) where
   pub others-come : (command : ScriptCommand) (commands : List ScriptCommand) (text : List ℕ) → Answers runs chooses before command text after → MayAllCome (command ∷ commands) (is_some before.second)
       → MayAllCome commands (is_some after.second)
   others-come command commands text answers come = subst (λ (o : Option Bool). IsTrue (is_some (option_and_then (waits_after_all commands) o))) (answers-wait command text answers) come
-
--- ---- the two graphs
-
--- where an `other` can be asked none waits, and where a `merge` can one does
-pub none-waits : (second : Option State) → MayCome (asks.Request request.Other) (is_some second) → second ≡ None
-none-waits None come = refl
-none-waits (Some state) come = cc
-
-pub one-waits : (second : Option State) → second ≡ None → MayCome (asks.Request request.Merge) (is_some second) → ⊥
-one-waits None none come = cc
-one-waits (Some state) none come = cc

@@ -1,6 +1,6 @@
 -- Worlds that are elaborated one after another: the lists that are made, and those that are put in place.
 use Rattle.std.proofs.Common.{◌≡◌, ◌∙◌, ◌⊎◌, inl, inr, ℕ, zero, suc, true, ◌+◌, ◌≤◌, List, [], ◌∷◌, ◌++◌, length, map, take, Option, Some, slice_get, slice_set, refl, sym, ap, subst, arith, append_assoc, Contains}
-use Rattle.std.proofs.lemmas.List.{append-nil, length-map}
+use Rattle.std.proofs.lemmas.List.{length-map}
 use Rattle.wit_values.specs.Lists.{map-next}
 use Rattle.wit_items.specs.Each.{EachAt}
 use Rattle.wit_items.specs.EachFacts.{EachBelow, all, more}
@@ -76,9 +76,6 @@ module _ {X : Type 0} where
   set_behind (z ∷ xs) x y ys n is = rw is (ap (λ (l : List X). z ∷ l) (set_behind xs x y ys (length xs) refl))
 
 module _ (g : Graph) where
-  pub placing-starts : (left : List Lists) → left ≡ map (elaborated_lists g) g.worlds → IsPlacing g left g.worlds
-  placing-starts left is = record { before = g.worlds; after = []; all = sym (append-nil g.worlds); left_is = is; worlds_are = sym (append-nil g.worlds) }
-
   -- the last of the lists that are left are those of the world behind the others
   pub record IsNext (left : List Lists) (lists : Lists) (worlds : List World) : Type 0 where
     pub world : World
@@ -120,17 +117,6 @@ module _ (g : Graph) where
       ap (λ (w : World). record w { imports = lists.imports; exports = lists.exports }) same
       ∙ (λ k. record old { imports = sym imports k; exports = sym exports k }) in
       rw count (subst (λ (w : World). IsPlacing g left (slice_set worlds (length left) w)) placed next.placed)
-
-  -- where none are left, all worlds are elaborated
-  pub placing-ends : (left : List Lists) (worlds : List World) → IsPlacing g left worlds → left ≡ [] → worlds ≡ map (elaborated_world g) g.worlds
-  placing-ends left worlds is none =
-      let empty : is.before ≡ [] = none_mapped is.before (sym none ∙ is.left_is) in
-      let all : g.worlds ≡ is.after = is.all ∙ ap (λ (l : List World). l ++ is.after) empty in
-      is.worlds_are ∙ ap (λ (l : List World). l ++ map (elaborated_world g) is.after) empty ∙ ap (map (elaborated_world g)) (sym all)
-    where
-      none_mapped : (xs : List World) → [] ≡ map (elaborated_lists g) xs → xs ≡ []
-      none_mapped [] same = refl
-      none_mapped (x ∷ xs) same = cc
 
 -- ---- lists that are made
 

@@ -1,5 +1,5 @@
 //! What an unresolved package knows of other packages.
-ghost use Rattle.std.specs.Prelude.{◌≡◌, ◌↔◌, List, Some, IfOk, IsTrue};
+ghost use Rattle.std.specs.Prelude.{◌≡◌, ◌↔◌, List, IfOk, IsTrue};
 ghost use Rattle.wit_items.specs.Each.{Each};
 ghost use Rattle.wit_items.specs.Foreign.{ForeignItem, IsBare, IsBareInterface, IsBareWorld, IsForeign, foreign_interfaces, foreign_worlds};
 ghost use Rattle.wit_items.specs.Shape.{HasForeign};

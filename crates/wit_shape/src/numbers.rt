@@ -1,5 +1,5 @@
 //! Lists of numbers that differ.
-ghost use Rattle.std.specs.Prelude.{◌↔◌, ◌<◌, IfOk, IsTrue, nat_eq, length};
+ghost use Rattle.std.specs.Prelude.{◌↔◌, ◌<◌, IfOk, IsTrue, nat_eq};
 ghost use Rattle.std.specs.List.{IsDistinct};
 ghost use Rattle.wit_items.specs.Each.{Each};
 ghost use Rattle.wit_items.specs.Foreign.{AreFirst};

@@ -1,5 +1,5 @@
 //! Which types belong to which interface or world.
-ghost use Rattle.std.specs.Prelude.{◌≡◌, ◌↔◌, Contains, IfOk, IsTrue};
+ghost use Rattle.std.specs.Prelude.{◌↔◌, Contains, IfOk, IsTrue};
 ghost use Rattle.std.specs.Option.{option_copied};
 ghost use Rattle.wit_items.specs.Each.{Each, EachAt, SomeAt};
 ghost use Rattle.wit_items.specs.Ownership.{IsListed, IsTypeItem, IsTypeOf, ListsOwn, NamesFunctions, world_types};

@@ -54,11 +54,6 @@ some_at [] i within = absurd (omega arith)
 some_at (x ∷ xs) zero within = (x, refl)
 some_at (x ∷ xs) (suc i) within = some_at xs i (omega arith)
 
-at_get : {X : Type 0} (xs : List X) (i : ℕ) (d : X) → i < length xs → slice_get xs i ≡ Some (get_or xs i d)
-at_get [] i d within = absurd (omega arith)
-at_get (x ∷ xs) zero d within = refl
-at_get (x ∷ xs) (suc i) d within = at_get xs i d (omega arith)
-
 -- the look-ups of the code find what a package depends on
 pub found_deps-are : (names : List PackageName) (u : UnresolvedPackage) → found_deps (places_of names) u ≡ handed_deps names u
 found_deps-are names u = ap (λ (f : PackageName × List ForeignItem → Option ℕ). filter_map f u.foreign_deps) (λ i e. lookup-places e.0 names i)

@@ -1,23 +1,19 @@
 -- What is told of handed packages is a reason.
-use Rattle.std.proofs.Common.{◌≡◌, ◌∙◌, ◌<◌, ◌≤◌, ◌+◌, ◌^◌, ℕ, zero, suc, List, [], ◌∷◌, length, refl, ap, sym, subst, inl, inr, arith, Option, Some, None, slice_get, get_or, Contains}
+use Rattle.std.proofs.Common.{◌≡◌, ◌∙◌, ◌<◌, ◌≤◌, ℕ, zero, suc, List, [], ◌∷◌, length, refl, ap, sym, subst, inl, inr, arith, Option, Some, slice_get, get_or, Contains}
 use Rattle.std.specs.Map.{keys_of}
 use Rattle.std.specs.Option.{IsSomeAnd}
 use Rattle.wit_relations.specs.Cycles.{IsOnCycle}
 use Rattle.wit_items.specs.Each.{SomeAt}
 use Rattle.wit_items.specs.Foreign.{ForeignItem}
-use Rattle.wit_sources.specs.Span.{end_of, moved_by}
+use Rattle.wit_sources.specs.Span.{moved_by}
 use Rattle.wit_items.specs.declared.package_name.PackageName.{PackageName}
 use Rattle.wit_graph.specs.declared.error_kind.ResolveErrorKind.{ResolveErrorKind}
 use Rattle.wit_graph.specs.declared.error_kind.ResolveErrorKind.TheVariants as kind
 use Rattle.wit_sorting.proofs.Orders.{depends, no_cycle, slice_get-map, within_at}
-use Rattle.wit_sorting.specs.Sorting.{Handed, IsHandedTwice, IsOnHandedCycle, IsSortCause, IsTooFar, Place, handed_uses, names_of}
+use Rattle.wit_sorting.specs.Sorting.{Handed, IsHandedTwice, IsOnHandedCycle, IsSortCause, Place, handed_uses, names_of}
 use Rattle.wit_sorting.specs.SortingSteps.{IsOrdered, IsToldCycle, IsToldTwice, NamesAt}
 
--- ---- spans
-
-pub too-far : (place : Place) (offset : ℕ) → offset < 2 ^ 32 → (end_of place + offset < 2 ^ 32 → ⊥) → IsTooFar (moved_by offset place)
-too-far None offset small fails = absurd (fails (omega arith))
-too-far (Some range) offset small fails = (range.0 + offset, range.1 + offset, refl, omega (arith, fails))
+-- ---- what stands at a place
 
 some-at : {X : Type 0} (xs : List X) (i : ℕ) (x : X) (P : X → Type 0) → slice_get xs i ≡ Some x → P x → SomeAt xs i P
 some-at {X} xs i x P at here = subst (λ (o : Option X). IsSomeAnd o P) (sym at) here

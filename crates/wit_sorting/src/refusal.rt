@@ -1,5 +1,5 @@
 //! What is told of handed packages that can't be put in an order.
-ghost use Rattle.std.specs.Prelude.{◌≡◌, ◌⊎◌, ◌<◌, Contains, IfOk, Some, length, slice_get};
+ghost use Rattle.std.specs.Prelude.{◌≡◌, ◌⊎◌, ◌<◌, Contains, IfOk, length, slice_get};
 ghost use Rattle.std.specs.Map.{keys_of};
 ghost use Rattle.wit_relations.specs.Cycles.{IsOnCycle};
 ghost use Rattle.wit_graph.specs.declared.error_kind.ResolveErrorKind.TheVariants.{OutOfMemory};

@@ -45,10 +45,3 @@ pub map_first-set : {X : Type 0} (f : X → X) (xs : List X) (i : ℕ) (d : X) �
 map_first-set f [] i d within = absurd (omega arith)
 map_first-set f (x ∷ xs) zero d within = refl
 map_first-set f (x ∷ xs) (suc i) d within = ap (λ rest. f x ∷ rest) (map_first-set f xs i d (omega arith))
-
--- an item that is not yet mapped is as it was
-pub map_first-get_or : {X : Type 0} (f : X → X) (xs : List X) (i : ℕ) (d : X) → get_or (map_first f i xs) i d ≡ get_or xs i d
-map_first-get_or f [] zero d = refl
-map_first-get_or f [] (suc i) d = refl
-map_first-get_or f (x ∷ xs) zero d = refl
-map_first-get_or f (x ∷ xs) (suc i) d = map_first-get_or f xs i d

@@ -230,9 +230,6 @@ module _ (u : Upgrade) (valid : IsValid u.graph) (w : ℕ) (there : slice_get u.
 
 -- ---- the rewritten graph
 
-upgrade_of : TrackRule → Graph → World → Upgrade
-upgrade_of rule g world = record { rule = rule; graph = g; world = world }
-
 pub rewritten_is : (rule : TrackRule) (g : Graph) (w : ℕ) (old : World) → slice_get g.worlds w ≡ Some old → rewritten rule g w ≡ all_elaborated (relisted_at (record { rule = rule; graph = g; world = old }) w)
 rewritten_is rule g w old there = ap (λ (o : Option World). all_elaborated (option_map_or (λ (world : World). relisted_at (record { rule = rule; graph = g; world = world }) w) o g)) there
 

@@ -168,9 +168,6 @@ module _ (u : Upgrade) where
   stays_from i has stays j there up =
       false≢true (sym stays ∙ both_true (list_any (nat_eq i) (imported u)) (list_any (outdone i) (imported u)) (any_from_contains i (imported u) has) (any_with (outdone i) (imported u) j there up))
 
-  pub replaced_is_imported : (f : ℕ) → is_replaced u f ≡ true → Contains (imported u) f
-  replaced_is_imported f on = contains_from_any f (imported u) (and_parts (list_any (nat_eq f) (imported u)) (list_any (outdone f) (imported u)) on).0
-
   -- an import that stays, on the track
   pub record StaysOnTrack (f m : ℕ) : Type 0 where
     pub is_imported : Contains (imported u) m

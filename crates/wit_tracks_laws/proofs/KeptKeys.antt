@@ -58,12 +58,6 @@ types_in interfaces k (item.Type_ s span) i interface t holds at has = absurd (C
 own_type : (interfaces : List Interface) (k : WorldKey) (held : WorldItem) (t : ℕ) (span : _) → held ≡ item.Type_ t span → Contains (entry_types interfaces (k, held)) t
 own_type interfaces k held t span is = subst (λ (x : WorldItem). Contains (entry_types interfaces (k, x)) t) (sym is) (Contains-here t [])
 
--- an item is one interface
-same_instance : (held : WorldItem) (a b : ℕ) → Contains (item_interface held) a → Contains (item_interface held) b → a ≡ b
-same_instance (item.Interface id stability docs span external_id) a b first second = sym (one_of id a first) ∙ one_of id b second
-same_instance (item.Function fn) a b first second = absurd (Contains-nil first)
-same_instance (item.Type_ t span) a b first second = absurd (Contains-nil first)
-
 -- where the imports of an entry begin, by what stands there
 data Begins (types : List TypeDef) (uses : List (List ℕ)) (k : WorldKey) (held : WorldItem) (r : ℕ) : Type 0 where
   at_key : k ≡ key.Interface r → Begins types uses k held r

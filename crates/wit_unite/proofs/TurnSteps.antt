@@ -1,9 +1,8 @@
 -- From the steps of a turn to what it makes of a graph, and to its reasons.
-use Rattle.std.proofs.Common.{◌≡◌, ◌∙◌, ◌⊎◌, inl, inr, ℕ, ◌<◌, Bool, true, false, List, [], ◌++◌, Option, None, Some, IsSome, IsSomeAnd, length, slice_get, slice_set, refl, sym, ap, subst, arith}
+use Rattle.std.proofs.Common.{◌≡◌, ◌∙◌, ◌⊎◌, inl, inr, ℕ, ◌<◌, Bool, true, false, List, [], ◌++◌, Option, None, Some, IsSome, IsSomeAnd, length, slice_get, refl, sym, ap, subst, arith}
 use Rattle.std.specs.Option.{option_map_or}
 use Rattle.std.proofs.lemmas.Option.{slice_get_within}
 use Rattle.wit_items.specs.declared.world.World.{World}
-use Rattle.wit_relations.specs.MemberFacts.{Contains-nil}
 use Rattle.wit_graph.specs.Elaboration.{IsConflictError, graph_uses}
 use Rattle.wit_graph.specs.Entries.{Entry}
 use Rattle.wit_graph.specs.Imported.{HasConflict, IsRefusedName}
@@ -12,13 +11,12 @@ use Rattle.wit_graph.specs.Valid.{IsValid}
 use Rattle.wit_graph.specs.declared.error_kind.ResolveErrorKind.{ResolveErrorKind}
 use Rattle.wit_graph.specs.declared.error_kind.ResolveErrorKind.TheVariants.{PackageNotFound, WorldNotFound, InterfaceNotFound, InvalidTransitiveDependency, DuplicatePackage, PackageCycle, ItemShadowing, StabilityMismatch, Semantic, OffsetOverflow, OutOfMemory}
 use Rattle.wit_graph.specs.declared.graph.Graph.{Graph}
-use Rattle.wit_graph.specs.declared.graph.Package.{Package}
 use Rattle.wit_growth.specs.ListFacts.{found_at, get_at, same_at, some_at}
 use Rattle.wit_unite.proofs.Accepted.{home_at, under_labels}
 use Rattle.wit_unite.proofs.ListsFrom.{exportized_comes, importized_comes}
 use Rattle.wit_unite.proofs.TurnedWorlds.{in_order_over}
 use Rattle.wit_unite.specs.TurnCause.{ExportizeCause, HasClash, HasHomeAt, HasTypeAt, ImportizeCause, IsExportizeCause, IsFreeAt, IsImportizeCause, IsInConflictAt, export_conflict, exportized_taken, importized_taken, label_clash, type_exported}
-use Rattle.wit_unite.specs.Turned.{Turn, answered, exportized, importized, listed_world, put_last, turned, turned_at, turned_world, type_entries, with_renamed, with_table, with_world}
+use Rattle.wit_unite.specs.Turned.{Turn, answered, exportized, importized, listed_world, turned, turned_at, type_entries}
 
 -- ---- the world and its package
 
@@ -30,10 +28,6 @@ within_of g w has =
 some_only : (P : ℕ → Type 0) (o : Option ℕ) → IsSomeAnd o P → IsSome o
 some_only P None h = absurd h
 some_only P (Some p) h = refl
-
-some_then : (P : ℕ → Type 0) (o : Option ℕ) (p : ℕ) → o ≡ Some p → IsSomeAnd o P → P p
-some_then P None p is h = absurd h
-some_then P (Some q) p is h = let same : q ≡ p = cc in subst P same h
 
 some_made : (P : ℕ → Type 0) (o : Option ℕ) (p : ℕ) → o ≡ Some p → P p → IsSomeAnd o P
 some_made P o p is h = subst (λ (x : Option ℕ). IsSomeAnd x P) (sym is) h
@@ -47,9 +41,6 @@ module _ (g : Graph) (w : ℕ) (has : HasHomeAt g w) (current : World) (there : 
   pub has_package : IsSome current.package
   has_package = some_only (λ p. p < length g.packages) current.package in_range
 
-  pub package_within : (p : ℕ) → current.package ≡ Some p → p < length g.packages
-  package_within p of = some_then (λ p. p < length g.packages) current.package p of in_range
-
 -- in a valid graph it has one
 pub has_home : (g : Graph) → IsValid g → (w : ℕ) → w < length g.worlds → HasHomeAt g w
 has_home g valid w within =
@@ -59,22 +50,6 @@ has_home g valid w within =
     (some_made (λ p. p < length g.packages) current.0.package home.0 home.2 (slice_get_within g.packages home.0 home.1 home.3))
 
 -- ---- what is made
-
--- the turned graph, from its parts
-pub turned_from_parts : (g : Graph) (w : ℕ) (current : World) (p : ℕ) (home : Package) (turn : Turn) (world : World) (table : List (List ℕ × ℕ)) (new : Graph)
-    → slice_get g.worlds w ≡ Some current → current.package ≡ Some p → slice_get g.packages p ≡ Some home
-    → world ≡ turned_world g current turn → table ≡ put_last home.worlds w turn.name → new ≡ with_world g w world p table → new ≡ turned g w (λ _. turn)
-turned_from_parts g w current p home turn world table new there of at world_is table_is made =
-    made
-    ∙ (λ i. with_world g w (world_is i) p (table_is i))
-    ∙ ap (λ (ps : List Package). record g { worlds = slice_set g.worlds w (turned_world g current turn); packages = ps }) packages_are
-    ∙ sym (ap (λ (o : Option World). option_map_or (λ (x : World). turned_at g w x turn) o g) there)
-  where
-    packages_are : with_table g.packages p (put_last home.worlds w turn.name) ≡ with_renamed g.packages current.package w turn.name
-    packages_are =
-        ap (λ (o : Option Package). option_map_or (λ (x : Package). slice_set g.packages p (record x { worlds = put_last home.worlds w turn.name })) o g.packages) at
-        ∙ sym (ap (λ (o : Option ℕ). with_renamed g.packages o w turn.name) of
-        ∙ ap (λ (o : Option Package). option_map_or (λ (x : Package). slice_set g.packages p (record x { worlds = put_last x.worlds w turn.name })) o g.packages) at)
 
 -- the same turn of the world
 pub turned_same : (g : Graph) (w : ℕ) (current : World) (turn : Turn) (f : World → Turn) → slice_get g.worlds w ≡ Some current → turn ≡ f current → turned g w (λ _. turn) ≡ turned g w f
@@ -117,13 +92,6 @@ conflict_told g w current turn (ItemShadowing span item_type name) there told = 
 conflict_told g w current turn (StabilityMismatch span from into) there told = absurd told
 conflict_told g w current turn (Semantic span message cause) there told = absurd told
 conflict_told g w current turn OffsetOverflow there told = absurd told
-
-none_exported : (g : Graph) → HasConflict (graph_uses g) [] → ⊥
-none_exported g conflict = Contains-nil conflict.2
-
--- without exports there is no conflict
-pub no_conflict_told : (g : Graph) (w : ℕ) (exports : List Entry) (error : ResolveErrorKind) → exports ≡ [] → IsInConflictAt g w exports error → ⊥
-no_conflict_told g w exports error none told = none_exported g (subst (HasConflict (graph_uses g)) none told.3)
 
 -- nothing speaks against an import of the exports
 pub importize_clear : (g : Graph) (w : ℕ) (current : World) (out : Option (List ℕ)) → slice_get g.worlds w ≡ Some current → IsFreeAt g w (importized out current).name → ((label : List ℕ) → HasClash current label → ⊥)

@@ -120,9 +120,6 @@ keys_all es answers count all k = (
 is_name : (k : WorldKey) (label : List ℕ) → k ≡ key.Name label → is_label k ≡ true
 is_name k label same = ap is_label same
 
-key_settled : (e : Entry) → (settled e).0 ≡ e.0
-key_settled e = refl
-
 id_key : (es : List Entry) (j : ℕ) → Contains (keys_of es) (key.Interface j) ↔ Contains (keyed_interfaces es) j
 id_key es j = (
   λ has.

@@ -22,7 +22,7 @@ use crate::renaming::{is_taken, renamed, with_last};
 use crate::turned_lists::{exportized_lists, importized_lists};
 use std::alloc::{AllocError, Global};
 use std::mem;
-use wit_graph::{Elaborator, Graph, Lists, Package, ResolveResult};
+use wit_graph::{Elaborator, Graph, Lists, ResolveResult};
 use wit_items::{Items, Names, PackageId, Table, Text, World, WorldId, WorldItem, WorldKey};
 use wit_values::try_clone_three;
 

@@ -42,9 +42,6 @@ option_image maps (Some other) = refl
 returned_one : (m : Merging) (f : Function) (o : Option ℕ) (t : ℕ) → option_to_list o ≡ named_option f.result_ → o ≡ Some t → named_option (function_image (merge_maps m) f).result_ ≡ value_place m t ∷ []
 returned_one m f o t is some = option_image (merge_maps m) f.result_ ∙ (ap (map (value_place m)) (sym is) ∙ ap (λ (x : Option ℕ). map (value_place m) (option_to_list x)) some)
 
-returned_none : (m : Merging) (f : Function) (o : Option ℕ) → option_to_list o ≡ named_option f.result_ → o ≡ None → named_option (function_image (merge_maps m) f).result_ ≡ []
-returned_none m f o is none = option_image (merge_maps m) f.result_ ∙ (ap (map (value_place m)) (sym is) ∙ ap (λ (x : Option ℕ). map (value_place m) (option_to_list x)) none)
-
 module _ (m : Merging) (valid : IsValid m.graph) (valid_other : IsValid m.other) where
   -- what a function that moves returns is there
   pub returned_there : (f : Function) → Contains (moved_functions m) f → (o : Option ℕ) (t : ℕ) → option_to_list o ≡ named_option f.result_ → o ≡ Some t → t < length m.other.types
@@ -68,10 +65,6 @@ module _ (m : Merging) (valid : IsValid m.graph) (valid_other : IsValid m.other)
       ]
 
 -- ---- what is told of one function
-
--- one that returns no type returns no borrow
-pub returns_nothing : (m : Merging) (f : Function) (o : Option ℕ) → option_to_list o ≡ named_option f.result_ → o ≡ None → ReturnsFree m f
-returns_nothing m f o is none = record { none = λ t' has holds. Contains-nil (subst (λ (ids : List ℕ). Contains ids t') (returned_none m f o is none) has) }
 
 module _ (m : Merging) (f : Function) (o : Option ℕ) (t place : ℕ) (types : List TypeDef) (is : option_to_list o ≡ named_option f.result_) (some : o ≡ Some t) (place_is : place ≡ value_place m t)
     (types_are : types ≡ (joined_graph m).types) where

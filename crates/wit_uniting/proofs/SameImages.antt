@@ -23,14 +23,13 @@ use Rattle.wit_items.specs.declared.types.TypeOwner.{TypeOwner}
 use Rattle.wit_items.specs.declared.types.TypeOwner.TheVariants as owner
 use Rattle.wit_items.specs.declared.types.Type_.{Type_}
 use Rattle.wit_items.specs.declared.types.Type_.TheVariants as type
-use Rattle.wit_items.specs.declared.world.World.{World}
 use Rattle.wit_items.specs.declared.world.WorldItem.{WorldItem}
 use Rattle.wit_items.specs.declared.world.WorldItem.TheVariants as item
 use Rattle.wit_items.specs.declared.world.WorldKey.{WorldKey}
 use Rattle.wit_items.specs.declared.world.WorldKey.TheVariants as key
 use Rattle.wit_sources.specs.Span.{moved_by}
 use Rattle.wit_uniting.specs.Joined.{EntryWithin, ItemWithin, KeyWithin, OwnerWithin, Within}
-use Rattle.wit_growth.specs.Image.{Maps, case_image, entry_image, enum_case_image, field_image, flag_image, function_image, function_kind_image, interface_image, item_image, key_image, kind_image, name_image, owner_image, param_image, target_image, type_image, value_image, world_image}
+use Rattle.wit_growth.specs.Image.{Maps, case_image, entry_image, enum_case_image, field_image, flag_image, function_image, function_kind_image, interface_image, item_image, key_image, kind_image, name_image, owner_image, param_image, target_image, type_image, value_image}
 
 -- maps that send the first so many types, interfaces and worlds to the same places
 pub record Agree (a b : Maps) (types interfaces worlds : ℕ) : Type 0 where
@@ -170,10 +169,3 @@ module _ (a b : Maps) (types interfaces worlds : ℕ) (agree : Agree a b types i
   pub entries_same : (w : ℕ) (entries : List Entry) → ((e : Entry) → Contains entries e → EntryWithin types interfaces e) → map (entry_image a w) entries ≡ map (entry_image b w) entries
   entries_same w entries within =
       each_same (entry_image a w) (entry_image b w) entries (λ e has j. (key_same w e.0 (within e has).key j, item_same w e.1 (within e has).held j))
-
-  pub world_same : (w : ℕ) (world : World) → a.home world.package ≡ b.home world.package → ((e : Entry) → Contains world.imports e → EntryWithin types interfaces e)
-      → ((e : Entry) → Contains world.exports e → EntryWithin types interfaces e) → world_image a w world ≡ world_image b w world
-  world_same w world home imports exports =
-      let brought = entries_same w world.imports imports in
-      let given = entries_same w world.exports exports in
-      λ j. record world { imports = brought j; exports = given j; «package» = home j; includes = []; span = span_same world.span j }

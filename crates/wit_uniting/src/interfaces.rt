@@ -1,6 +1,5 @@
 //! The interfaces of two graphs as one.
 ghost use Rattle.std.specs.Prelude.{◌≡◌, ◌++◌, IfOk, OnOk};
-ghost use Rattle.wit_items.specs.declared.function.Function.{Function};
 ghost use Rattle.wit_growth.specs.Image.{function_image};
 ghost use Rattle.wit_merging.specs.Moved.{merge_maps};
 ghost use Rattle.wit_merging.specs.United.{joined_graph};

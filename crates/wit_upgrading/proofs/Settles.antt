@@ -4,7 +4,7 @@ use Rattle.std.proofs.lemmas.List.{length-map}
 use Rattle.std.proofs.lemmas.List.Elements.{Contains-get_or}
 use Rattle.wit_relations.specs.MemberFacts.{Contains-here, Contains-there}
 use Rattle.wit_relations.specs.Relation.{IsPath, direct}
-use Rattle.wit_items.specs.Ownership.{IsNamed, IsPlain}
+use Rattle.wit_items.specs.Ownership.{IsPlain}
 use Rattle.wit_items.specs.Reference.{referred, type_references}
 use Rattle.wit_items.specs.Uses.{interface_uses}
 use Rattle.wit_items.specs.declared.track.TrackRule.{TrackRule}

@@ -1,5 +1,5 @@
 //! The errors of refused upgrades.
-ghost use Rattle.std.specs.Prelude.{◌≡◌, IfErr, IfOk, None, string_bytes};
+ghost use Rattle.std.specs.Prelude.{◌≡◌, IfErr, IfOk, None};
 ghost use Rattle.wit_graph.specs.declared.cause.Cause.TheVariants as cause;
 ghost use Rattle.wit_graph.specs.declared.error_kind.ResolveErrorKind.TheVariants.{OutOfMemory, Semantic};
 ghost use Rattle.wit_graph.specs.IdText.{key_text};

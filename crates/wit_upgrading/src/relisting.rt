@@ -1,9 +1,5 @@
 //! The graph whose types name what they name after the rewriting, and whose world lists what stays.
-ghost use Rattle.std.specs.Prelude.{◌≡◌, ◌<◌, ℕ, IfOk, None, get_or, length, map, slice_get, slice_set};
-ghost use Rattle.std.specs.List.{enumerate_from};
-ghost use Rattle.std.specs.Option.{ForSome};
-ghost use Rattle.wit_items.specs.declared.types.TypeDef.{TypeDef};
-ghost use Rattle.wit_items.specs.declared.world.World.{World};
+ghost use Rattle.std.specs.Prelude.{◌≡◌, ◌<◌, IfOk, length};
 ghost use Rattle.wit_tracks.specs.Rewritten.{retargeted};
 ghost use Rattle.wit_upgrading.specs.Replacing.{with_lists, with_targets};
 

@@ -1,5 +1,5 @@
 //! What stays of the imports of a world, and the types that what stays and the exports bring.
-ghost use Rattle.std.specs.Prelude.{◌≡◌, ◌++◌, ◌∷◌, [], ℕ, List, IfOk, None, OnOk, get_or, is_some, map, not};
+ghost use Rattle.std.specs.Prelude.{◌≡◌, ◌++◌, ◌∷◌, [], ℕ, List, IfOk, None, OnOk, get_or, is_some, map};
 ghost use Rattle.std.specs.List.{flat_map, list_any};
 ghost use Rattle.std.specs.Map.{lookup};
 ghost use Rattle.wit_items.specs.contracts.world.WorldKeyPartialEq.TheImpl.{eq-value};

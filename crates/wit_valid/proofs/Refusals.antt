@@ -1,13 +1,11 @@
 -- What the elaboration of a world, or its refusal, says of the world.
-use Rattle.std.proofs.Common.{◌≡◌, ◌∙◌, ℕ, Bool, Option, Some, Ok, Err, Result, slice_get, ap, sym, subst}
+use Rattle.std.proofs.Common.{◌≡◌, ◌∙◌, ℕ, Bool, Some, Ok, Err, Result, slice_get, ap, sym, subst}
 use Rattle.std.specs.Prelude.{◌↔◌, IfOk, IsTrue}
 use Rattle.wit_items.specs.declared.world.World.{World}
 use Rattle.wit_graph.specs.Elaborated.{Elaborated, elaborated_exports, elaborated_imports}
-use Rattle.wit_graph.specs.Elaboration.{AreElaborated, IsConflictError, graph_uses}
+use Rattle.wit_graph.specs.Elaboration.{AreElaborated, graph_uses}
 use Rattle.wit_graph.specs.Imported.{HasConflict}
 use Rattle.wit_graph.specs.declared.entries.Lists.{Lists}
-use Rattle.wit_graph.specs.declared.error_kind.ResolveErrorKind.{ResolveErrorKind}
-use Rattle.wit_graph.specs.declared.error_kind.ResolveErrorKind.TheVariants.{PackageNotFound, WorldNotFound, InterfaceNotFound, InvalidTransitiveDependency, DuplicatePackage, PackageCycle, ItemShadowing, StabilityMismatch, Semantic, OffsetOverflow, OutOfMemory}
 use Rattle.wit_graph.specs.declared.graph.Graph.{Graph}
 
 -- a weaker fact of an answer
@@ -32,17 +30,3 @@ elaborated_is g id world lists b at is test =
           record { no_conflict = no_conflict; world_is = λ k. record world { imports = first k; exports = second k } },
       λ canonical. test.1 (imports ∙ sym (ap (λ (x : World). x.imports) canonical.world_is), exports ∙ sym (ap (λ (x : World). x.exports) canonical.world_is)),
     )
-
--- where there was memory, a refusal says that there is a conflict
-pub conflict_is : (g : Graph) (world : World) (kind : ResolveErrorKind) → IsConflictError g world kind → (kind ≡ OutOfMemory → ⊥) → HasConflict (graph_uses g) world.exports
-conflict_is g world (InvalidTransitiveDependency span name) cause memory = cause.0
-conflict_is g world OutOfMemory cause memory = absurd (memory (λ k. OutOfMemory))
-conflict_is g world (PackageNotFound span requested known) cause memory = absurd cause
-conflict_is g world (WorldNotFound span requested home) cause memory = absurd cause
-conflict_is g world (InterfaceNotFound span requested home) cause memory = absurd cause
-conflict_is g world (DuplicatePackage name span1 span2) cause memory = absurd cause
-conflict_is g world (PackageCycle span home) cause memory = absurd cause
-conflict_is g world (ItemShadowing span item_type name) cause memory = absurd cause
-conflict_is g world (StabilityMismatch span from into) cause memory = absurd cause
-conflict_is g world (Semantic span message c) cause memory = absurd cause
-conflict_is g world OffsetOverflow cause memory = absurd cause

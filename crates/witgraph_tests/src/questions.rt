@@ -6,7 +6,6 @@ use std::process::Abort;
 use wit_items::{
     Docs, InterfaceId, PackageId, Span, Stability, Text, Type_, TypeId, WorldItem, WorldKey,
 };
-use wit_resolve_graph::Resolve;
 
 /// Types `t`, at place 0, and `p`, at 1; the types of `stages`, from 2 on; and `t` of `y`, at 5.
 const SCRIPT: &str = "package foo:x@0.2.1\n\

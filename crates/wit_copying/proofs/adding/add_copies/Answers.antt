@@ -20,9 +20,6 @@ use Rattle.wit_copying.proofs.adding.add_copies.Goals as goal
 abbrev TypesAt : Graph → ℕ → List (ℕ × ℕ) → Type 0
 TypesAt g from table = (world : World) → slice_get g.worlds from ≡ Some world → table ≡ numbered (length g.types) (places (is_copied g from world) g.types)
 
-abbrev InterfacesAt : Graph → ℕ → List (ℕ × ℕ) → Type 0
-InterfacesAt g from table = (world : World) → slice_get g.worlds from ≡ Some world → table ≡ numbered (length g.interfaces) (places (goes_with g world) g.interfaces)
-
 module _ (g : Graph) (from : ℕ) (world : World) (types interfaces : List (ℕ × ℕ))
     (types_is : types ≡ numbered (length g.types) (places (is_copied g from world) g.types))
     (interfaces_is : interfaces ≡ numbered (length g.interfaces) (places (goes_with g world) g.interfaces)) where

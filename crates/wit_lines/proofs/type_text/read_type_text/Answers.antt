@@ -1,5 +1,4 @@
 use Rattle.std.proofs.Common.{◌≡◌, ◌<◌, length, refl, rules, Some, None, sym, arith}
-use Rattle.std.proofs.lemmas.List.{append-nil}
 use Rattle.wit_lines.specs.TypeText.{form_of, type_text_of}
 use Rattle.wit_lines.proofs.Forms.{no-more, one-more}
 use Rattle.wit_lines.proofs.type_text.read_type_text.Goals as goal

@@ -5,7 +5,7 @@ use Rattle.wit_relations.specs.Walks.{first_of_each, walk}
 use Rattle.wit_items.specs.declared.types.TypeDef.{TypeDef}
 use Rattle.wit_graph.specs.HeldFacts.{held_acyclic, held_long}
 use Rattle.wit_graph.specs.Questions.{held_rows, is_future, signature_types}
-use Rattle.wit_questions.specs.Unfolding.{futures_of, places_within}
+use Rattle.wit_questions.specs.Unfolding.{places_within}
 use Rattle.wit_questions.proofs.Unfolds.{filter-walks, none_picked, picked_once, told_within, within_below}
 use Rattle.wit_questions.proofs.futures.holds_future_or_stream.Goals as goal
 

@@ -1,4 +1,4 @@
-use Rattle.std.proofs.Common.{◌≡◌, ◌∙◌, ◌++◌, ◌∷◌, [], ◌<◌, ℕ, Bool, List, length, ap, refl, rules, sym, subst}
+use Rattle.std.proofs.Common.{◌≡◌, ◌∙◌, ◌++◌, ◌∷◌, [], ◌<◌, ℕ, length, ap, refl, sym, subst}
 use Rattle.wit_growth.specs.Sources.{alias_rows}
 use Rattle.wit_relations.specs.Walks.{walk}
 use Rattle.wit_adding.specs.Resources.{leads_to_resource}

@@ -1,4 +1,4 @@
-use Rattle.std.proofs.Common.{◌≡◌, ◌∙◌, ◌∷◌, ◌<◌, [], inr, ℕ, List, None, Option, Some, length, option_to_list, slice_get, ap, sym, subst, Contains}
+use Rattle.std.proofs.Common.{◌≡◌, ◌∙◌, ◌∷◌, ◌<◌, [], inr, ℕ, List, Option, Some, length, option_to_list, slice_get, ap, sym, subst, Contains}
 use Rattle.std.proofs.lemmas.Option.{slice_get_within}
 use Rattle.std.proofs.lemmas.List.Elements.{Contains-append_right}
 use Rattle.std.specs.List.{flat_map}
@@ -30,9 +30,6 @@ returned_there a shaped image f active t has =
 -- the type that is returned
 returned : (ids : List ℕ) (o : Option ℕ) (id : ℕ) → option_to_list o ≡ ids → o ≡ Some id → ids ≡ id ∷ []
 returned ids o id is some = sym is ∙ ap (λ (x : Option ℕ). option_to_list x) some
-
-returned_none : (ids : List ℕ) (o : Option ℕ) → option_to_list o ≡ ids → o ≡ None → ids ≡ []
-returned_none ids o is none = sym is ∙ ap (λ (x : Option ℕ). option_to_list x) none
 
 pub may_hold_borrow-requires-clause-there : goal.may_hold_borrow-requires-clause-there
 may_hold_borrow-requires-clause-there c =

@@ -1,4 +1,4 @@
-use Rattle.std.proofs.Common.{◌≡◌, ◌⊎◌, ◌<◌, ◌^◌, subst, sym}
+use Rattle.std.proofs.Common.{◌≡◌, ◌⊎◌, subst, sym}
 use Rattle.wit_graph.specs.AnswerFacts.{told_err}
 use Rattle.wit_graph.specs.Valid.{IsValid}
 use Rattle.wit_graph.specs.declared.error_kind.ResolveErrorKind.{ResolveErrorKind}

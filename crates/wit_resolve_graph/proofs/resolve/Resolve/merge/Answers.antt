@@ -1,7 +1,6 @@
 use Rattle.std.proofs.Common.{◌≡◌, ◌∙◌, ◌+◌, ◌<◌, ◌^◌, refl, ap, sym, arith}
 use Rattle.std.proofs.lemmas.Bool.{false≢true}
 use Rattle.wit_sources.specs.SourceMap.{Sources, with_sources}
-use Rattle.wit_graph.specs.declared.graph.Graph.{Graph}
 use Rattle.wit_resolve_graph.specs.State.{State}
 use Rattle.wit_resolve_graph.proofs.Grouped.{same_after}
 use Rattle.wit_resolve_graph.proofs.Merged.{cut_back, made_one, merges, never_merged, refuses, takes_back, within}
