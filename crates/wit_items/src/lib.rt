@@ -26,7 +26,7 @@ pub use crate::ids::{
 };
 pub use crate::interface::Interface;
 pub use crate::package_name::PackageName;
-pub use crate::reference::{function_references, referred, type_references};
+pub use crate::reference::{function_references, places, push_type, referred, type_references};
 pub use crate::stability::{Docs, Stability};
 pub use crate::track::TrackRule;
 pub use crate::types::{

@@ -49,7 +49,8 @@ pub fn type_references(alloc: Global, types: &[TypeDef]) -> Result<Items<Items<u
     Ok(rows)
 }
 
-fn places(alloc: Global, ids: &[TypeId]) -> Result<Items<usize>, AllocError>
+/// The places of types in their list, from 0, by their ids. The only error is want of memory.
+pub fn places(alloc: Global, ids: &[TypeId]) -> Result<Items<usize>, AllocError>
     ensures { IfOk result (λ places. places ≡ ids.now) }
 {
     let mut places = Items::new(alloc);
@@ -59,7 +60,9 @@ fn places(alloc: Global, ids: &[TypeId]) -> Result<Items<usize>, AllocError>
     Ok(places)
 }
 
-fn push_type(ids: &mut Items<TypeId>, ty: Type_) -> Result<(), AllocError>
+/// Adds to ids the type of the list that a type is, nothing for a primitive. The only error is want
+/// of memory.
+pub fn push_type(ids: &mut Items<TypeId>, ty: Type_) -> Result<(), AllocError>
     ensures { OnOk result (ids.new ≡ ids.old ++ named_type ty) }
 {
     match ty {

@@ -3,7 +3,7 @@ ghost use Rattle.std.specs.Prelude.{◌≡◌, IfOk};
 ghost use Rattle.wit_graph.specs.Questions.{held_rows, held_types};
 
 use std::alloc::{AllocError, Global};
-use wit_items::{TypeDef, TypeDefKind, TypeId, referred};
+use wit_items::{TypeDef, TypeDefKind, places, referred};
 use wit_values::Items;
 
 /// What the values of a kind hold, as places.
@@ -14,16 +14,6 @@ fn held_types(alloc: Global, kind: &TypeDefKind) -> Result<Items<usize>, AllocEr
         TypeDefKind::Handle(_) => Ok(Items::new(alloc)),
         _ => places(alloc, referred(alloc, kind)?.as_slice()),
     }
-}
-
-fn places(alloc: Global, ids: &[TypeId]) -> Result<Items<usize>, AllocError>
-    ensures { IfOk result (λ places. places ≡ ids.now) }
-{
-    let mut places = Items::new(alloc);
-    for id in ids {
-        places.push(id.index())?;
-    }
-    Ok(places)
 }
 
 /// What the values of which type hold, as rows: row i has what those of type i hold, both from 0.

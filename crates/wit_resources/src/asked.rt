@@ -1,7 +1,6 @@
 //! Which types stand at value positions of what takes part.
 ghost use Rattle.std.specs.Prelude.{◌≡◌, ◌++◌, ◌<◌, All, IfOk, OnOk, length, map, nat_eq};
 ghost use Rattle.std.specs.List.{flat_map, list_any, range_with_len};
-ghost use Rattle.wit_items.specs.Reference.{named_type};
 ghost use Rattle.wit_items.specs.Shape.{IsShaped};
 ghost use Rattle.wit_adding.specs.Adding.{activity_of, addition_of};
 ghost use Rattle.wit_adding.specs.Reasons.{HasImage};
@@ -11,7 +10,7 @@ ghost use Rattle.wit_resources.specs.Asked.{gathered_positions, is_asked, positi
 use crate::functions::active_functions;
 use std::alloc::{AllocError, Global};
 use wit_adding::{Activity, Adding};
-use wit_items::{Function, Items, Type_, TypeDefKind, TypeId, referred};
+use wit_items::{Function, Items, TypeDefKind, TypeId, push_type, referred};
 
 /// For each type of the package, whether it stands at a value position of what takes part.
 pub(crate) fn asked(
@@ -103,14 +102,5 @@ pub fn push_signature(ids: &mut Items<TypeId>, function: &Function) -> Result<()
     match function.result_ {
         Some(ty) => push_type(ids, ty),
         None => Ok(()),
-    }
-}
-
-fn push_type(ids: &mut Items<TypeId>, ty: Type_) -> Result<(), AllocError>
-    ensures { OnOk result (ids.new ≡ ids.old ++ named_type ty) }
-{
-    match ty {
-        Type_::Id(id) => ids.push(id),
-        _ => Ok(()),
     }
 }
