@@ -1,7 +1,5 @@
 //! What differs in the entries of matched worlds.
 ghost use Rattle.std.specs.Prelude.{◌≡◌, ◌↔◌, ℕ, IfNone, IfOk, IfSome, IsTrue, List, Some, string_bytes};
-ghost use Rattle.std.specs.Option.{option_to_list};
-ghost use Rattle.wit_items.specs.Entries.{item_interface};
 ghost use Rattle.wit_merging.specs.Agreement.{EntriesDiffer, ItemsDiffer, same_sort};
 ghost use Rattle.wit_merging.specs.Matches.{found_interface};
 ghost use Rattle.wit_comparing.specs.Differing.{AreKnown, EntryDiffers, HeldDiffer, SidesDiffer, merging_of};
@@ -10,7 +8,8 @@ use crate::comparing::Comparing;
 use crate::messages::{absent, in_entry, key_text, other_count};
 use std::alloc::{AllocError, Global};
 use wit_agreeing::interface_mismatch;
-use wit_items::{InterfaceId, Table, World, WorldItem, WorldKey};
+use wit_graph::item_interface;
+use wit_items::{Table, World, WorldItem, WorldKey};
 
 impl<'a> Comparing<'a> {
     /// What differs in the imports of matched worlds, or else in their exports. None where nothing does.
@@ -96,10 +95,10 @@ impl<'a> Comparing<'a> {
         if !are_of_one_sort(from, into) {
             return Ok(Some(String::from_str(alloc, "world items do not have the same type")?));
         }
-        let Some(id) = held_interface(from) else {
+        let Some(id) = item_interface(from) else {
             return Ok(None);
         };
-        let Some(there) = held_interface(into) else {
+        let Some(there) = item_interface(into) else {
             return Ok(None);
         };
         self.held_mismatch(alloc, id.index(), there.index())
@@ -152,15 +151,5 @@ fn are_of_one_sort(from: &WorldItem, into: &WorldItem) -> bool
         WorldItem::Interface { .. } => matches!(into, WorldItem::Interface { .. }),
         WorldItem::Function(_) => matches!(into, WorldItem::Function(_)),
         WorldItem::Type_ { .. } => matches!(into, WorldItem::Type_ { .. }),
-    }
-}
-
-/// The interface that an item is.
-fn held_interface(item: &WorldItem) -> Option<InterfaceId>
-    ensures { item_interface item.now ≡ option_to_list result }
-{
-    match item {
-        WorldItem::Interface { id, .. } => Some(*id),
-        WorldItem::Function(_) | WorldItem::Type_ { .. } => None,
     }
 }

@@ -28,3 +28,4 @@ pub use crate::error_kind::ResolveErrorKind;
 pub use crate::features::Features;
 pub use crate::graph::{Graph, Package};
 pub use crate::rendering::render_text;
+pub use crate::role::item_interface;

@@ -16,7 +16,7 @@ pub(crate) fn key_interface(key: &WorldKey) -> Option<InterfaceId>
 }
 
 /// The interface that an item is, None where it is a function or a type.
-pub(crate) fn item_interface(item: &WorldItem) -> Option<InterfaceId>
+pub fn item_interface(item: &WorldItem) -> Option<InterfaceId>
     ensures { option_to_list result ≡ item_interface item.now }
 {
     match item {
