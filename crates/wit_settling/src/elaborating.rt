@@ -62,7 +62,7 @@ fn place_lists(graph: &mut Graph, all: Items<Lists>)
     let mut left = all;
     while let Some(lists) = left.pop() {
         let world = graph.worlds.at_mut(left.len());
-        drop(mem::replace(&mut world.imports, lists.imports));
-        drop(mem::replace(&mut world.exports, lists.exports));
+        world.imports = lists.imports;
+        world.exports = lists.exports;
     }
 }
