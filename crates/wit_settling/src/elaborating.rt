@@ -11,7 +11,6 @@ ghost use Rattle.wit_relations.specs.Relation.{IsAcyclic};
 ghost use Rattle.wit_settling.specs.Elaborations.{IsRefusedWorld, elaborated_lists};
 
 use std::alloc::Global;
-use std::mem;
 use wit_graph::{Elaborator, Graph, Lists, ResolveResult};
 use wit_values::Items;
 
