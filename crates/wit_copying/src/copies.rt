@@ -6,7 +6,6 @@ ghost use Rattle.wit_labels.specs.Rename.{renamed};
 ghost use Rattle.wit_copying.specs.Copied.{maps_of};
 
 use std::alloc::{AllocError, Global};
-use std::mem;
 use wit_items::{
     Interface, InterfaceId, Items, PackageId, Span, Table, Text, TryClone, TypeDef, TypeId,
     TypeOwner, WorldId, WorldItem, WorldKey,
@@ -99,7 +98,7 @@ impl<'a> Copies<'a> {
         if let TypeOwner::World(world) = def.owner {
             if world == self.from {
                 let name = self.name(alloc, &def.name)?;
-                drop(mem::replace(&mut copy.name, name));
+                copy.name = name;
             }
         }
         Ok(copy)
@@ -176,7 +175,7 @@ impl<'a> Copies<'a> {
             WorldItem::Interface { id, .. } => *id = self.interface_id(*id),
             WorldItem::Function(function) => {
                 let name = self.label(alloc, &function.name)?;
-                drop(mem::replace(&mut function.name, name));
+                function.name = name;
                 function.place(self);
             }
             WorldItem::Type_ { id, .. } => id.place(self),

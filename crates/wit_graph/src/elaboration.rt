@@ -22,7 +22,6 @@ use crate::imports::{import_listed, sorted_by_class};
 use crate::marks::Marks;
 use std::alloc::{AllocError, Global};
 use std::marker::Model;
-use std::mem;
 use wit_items::{Interface, TypeDef, World, WorldId, interface_uses, uses_of};
 use wit_values::{Items, Table, Text, TryClone};
 
@@ -139,8 +138,8 @@ impl Elaborator {
     {
         let lists = self.elaborated_lists(alloc, graph, world)?;
         let current = graph.worlds.at_mut(world.index());
-        drop(mem::replace(&mut current.imports, lists.imports));
-        drop(mem::replace(&mut current.exports, lists.exports));
+        current.imports = lists.imports;
+        current.exports = lists.exports;
         Ok(())
     }
 
@@ -251,7 +250,7 @@ fn lists_of(
         &world.exports,
     )?;
     let imports = sorted_by_class(alloc, types, &lists.imports)?;
-    drop(mem::replace(&mut lists.imports, imports));
+    lists.imports = imports;
     Ok(lists)
 }
 

@@ -38,8 +38,8 @@ pub(crate) fn finish_world(
     check_labels(alloc, &world)?;
     let mut world = with_placed_setters(alloc, world)?;
     let lists = elaborator.lists_for(alloc, graph, &world)?;
-    drop(mem::replace(&mut world.imports, lists.imports));
-    drop(mem::replace(&mut world.exports, lists.exports));
+    world.imports = lists.imports;
+    world.exports = lists.exports;
     Ok(graph.worlds.push(world)?)
 }
 
@@ -50,7 +50,7 @@ fn with_placed_setters(alloc: Global, world: World) -> Result<World, AllocError>
     let mut world = world;
     let imports = mem::replace(&mut world.imports, Table::new(alloc));
     let exports = mem::replace(&mut world.exports, Table::new(alloc));
-    drop(mem::replace(&mut world.imports, place_setters(alloc, imports)?));
-    drop(mem::replace(&mut world.exports, place_setters(alloc, exports)?));
+    world.imports = place_setters(alloc, imports)?;
+    world.exports = place_setters(alloc, exports)?;
     Ok(world)
 }

@@ -92,9 +92,9 @@ fn join_lists(
     let mut world = world;
     let current = mem::replace(&mut world.imports, Table::new(alloc));
     let imports = join(alloc, other, span, "import", current, imports)?;
-    drop(mem::replace(&mut world.imports, imports));
+    world.imports = imports;
     let current = mem::replace(&mut world.exports, Table::new(alloc));
     let exports = join(alloc, other, span, "export", current, exports)?;
-    drop(mem::replace(&mut world.exports, exports));
+    world.exports = exports;
     Ok(world)
 }

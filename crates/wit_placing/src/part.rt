@@ -70,7 +70,7 @@ impl<'a> Part<'a> {
                 ensures { (result ≡ (kept_of self.entry.now).types id.old) × (id.new ≡ id.old) }
             { self.has_type(*id) },
         );
-        drop(mem::replace(types, Names::from_map(map)));
+        *types = Names::from_map(map);
     }
 
     fn cut_functions(&self, functions: &mut Names<Function>)
@@ -83,7 +83,7 @@ impl<'a> Part<'a> {
                 ensures { (result ≡ (kept_of self.entry.now).functions function.old) × (function.new ≡ function.old) }
             { self.is_active(&function.stability) },
         );
-        drop(mem::replace(functions, Names::from_map(map)));
+        *functions = Names::from_map(map);
     }
 
     /// The entries that take part.

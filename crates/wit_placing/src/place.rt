@@ -75,6 +75,6 @@ impl<V: Place + Drop> Place for Names<V> {
         for index in 0..map.len() {
             map[index].place(mover);
         }
-        drop(mem::replace(self, Names::from_map(map)));
+        *self = Names::from_map(map);
     }
 }

@@ -61,10 +61,10 @@ fn placed_world(
 {
     let imports = mem::replace(&mut world.imports, Table::new(alloc));
     let imports = placed_entries(alloc, mover, part.cut_entries(imports))?;
-    drop(mem::replace(&mut world.imports, imports));
+    world.imports = imports;
     let exports = mem::replace(&mut world.exports, Table::new(alloc));
     let exports = placed_entries(alloc, mover, part.cut_entries(exports))?;
-    drop(mem::replace(&mut world.exports, exports));
+    world.exports = exports;
     let includes = part.cut_includes(mem::replace(&mut world.includes, Items::new(alloc)));
     world.package = Some(mover.package);
     world.span = mover.span(world.span);

@@ -481,8 +481,8 @@ impl Resolve {
     {
         let merged = merged_by_track(alloc, &self.graph, world, self.track_rule)?;
         let kept = Kept::of(alloc, &merged)?;
-        drop(mem::replace(&mut self.graph, merged));
-        drop(mem::replace(&mut self.kept, kept));
+        self.graph = merged;
+        self.kept = kept;
         Ok(())
     }
 }

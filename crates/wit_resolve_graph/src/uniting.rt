@@ -12,7 +12,6 @@ ghost use Rattle.wit_resolve_graph.specs.Merging.{answered};
 
 use crate::kept::Kept;
 use std::alloc::Global;
-use std::mem;
 use wit_adding::Places;
 use wit_graph::{Graph, ResolveResult};
 use wit_link::Remap;
@@ -44,8 +43,8 @@ pub(crate) fn unite_kept(
         graph: whole,
         going,
     } = made;
-    drop(mem::replace(graph, whole));
-    drop(mem::replace(kept, rows));
+    *graph = whole;
+    *kept = rows;
     Ok(into_remap(going))
 }
 

@@ -104,18 +104,16 @@ module _ (g : Graph) where
       }
 
   -- they are put in its place
-  pub placing-step : (left : List Lists) (lists : Lists) (worlds : List World) (n : ℕ) (old : World) (new : Lists) → IsPlacing g (left ++ lists ∷ []) worlds
-      → n ≡ length left → slice_get worlds n ≡ Some old → new.imports ≡ lists.imports → new.exports ≡ lists.exports
-      → IsPlacing g left (slice_set worlds n (record old { imports = new.imports; exports = new.exports }))
-  placing-step left lists worlds n old new is count at imports exports =
+  pub placing-step : (left : List Lists) (lists : Lists) (worlds : List World) (n : ℕ) (old : World) → IsPlacing g (left ++ lists ∷ []) worlds
+      → n ≡ length left → slice_get worlds n ≡ Some old → IsPlacing g left (slice_set worlds n (record old { imports = lists.imports; exports = lists.exports }))
+  placing-step left lists worlds n old is count at =
       let next = placing-next left lists worlds is in
       let there : slice_get worlds (length left) ≡ Some old = subst (λ (k : ℕ). slice_get worlds k ≡ Some old) count at in
       let world = next.world in
       let both : Some world ≡ Some old = sym next.at ∙ there in
       let same : world ≡ old = cc in
-      let placed : record world { imports = lists.imports; exports = lists.exports } ≡ record old { imports = new.imports; exports = new.exports } =
-      ap (λ (w : World). record w { imports = lists.imports; exports = lists.exports }) same
-      ∙ (λ k. record old { imports = sym imports k; exports = sym exports k }) in
+      let placed : record world { imports = lists.imports; exports = lists.exports } ≡ record old { imports = lists.imports; exports = lists.exports } =
+      ap (λ (w : World). record w { imports = lists.imports; exports = lists.exports }) same in
       rw count (subst (λ (w : World). IsPlacing g left (slice_set worlds (length left) w)) placed next.placed)
 
 -- ---- lists that are made

@@ -11,7 +11,6 @@ ghost use Rattle.wit_relations.specs.Relation.{IsAcyclic};
 ghost use Rattle.wit_settling.specs.Elaborations.{IsRefusedWorld, elaborated_lists};
 
 use std::alloc::Global;
-use std::mem;
 use wit_graph::{Elaborator, Graph, Lists, ResolveResult};
 use wit_values::Items;
 
@@ -66,7 +65,7 @@ fn place_lists(graph: &mut Graph, all: Items<Lists>)
     let mut left = all;
     while let Some(lists) = left.pop() {
         let world = graph.worlds.at_mut(left.len());
-        drop(mem::replace(&mut world.imports, lists.imports));
-        drop(mem::replace(&mut world.exports, lists.exports));
+        world.imports = lists.imports;
+        world.exports = lists.exports;
     }
 }

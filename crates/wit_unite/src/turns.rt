@@ -21,7 +21,6 @@ use crate::refusal::name_taken;
 use crate::renaming::{is_taken, renamed, with_last};
 use crate::turned_lists::{exportized_lists, importized_lists};
 use std::alloc::{AllocError, Global};
-use std::mem;
 use wit_graph::{Elaborator, Graph, Lists, ResolveResult};
 use wit_items::{Items, Names, PackageId, Table, Text, World, WorldId, WorldItem, WorldKey};
 use wit_values::try_clone_three;
@@ -93,8 +92,8 @@ fn elaborated(alloc: Global, graph: &Graph, world: World) -> ResolveResult<World
     let interfaces = graph.interfaces.as_slice();
     let mut elaborator = Elaborator::new(alloc, types, interfaces)?;
     let lists = elaborator.lists_for(alloc, graph, &world)?;
-    drop(mem::replace(&mut world.imports, lists.imports));
-    drop(mem::replace(&mut world.exports, lists.exports));
+    world.imports = lists.imports;
+    world.exports = lists.exports;
     Ok(world)
 }
 
@@ -106,7 +105,7 @@ fn put(graph: &mut Graph, world: WorldId, turned: World, home: PackageId, table:
 {
     graph.worlds.set(world.index(), turned);
     let home = graph.packages.at_mut(home.index());
-    drop(mem::replace(&mut home.worlds, table));
+    home.worlds = table;
 }
 
 /// Turns a world, whose new name is free and whose lists are in order. Refused for a conflict of the

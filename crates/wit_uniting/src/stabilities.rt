@@ -3,7 +3,6 @@ ghost use Rattle.std.specs.Prelude.{◌≡◌, OnOk};
 ghost use Rattle.wit_adding.specs.Include.{joined_stability};
 
 use std::alloc::AllocError;
-use std::mem;
 use wit_items::{Stability, TryClone};
 
 /// Joins a stability to one: one that is known takes its place.
@@ -11,7 +10,7 @@ pub(crate) fn join_stability(into: &mut Stability, from: &Stability) -> Result<(
     ensures { OnOk result (into.new ≡ joined_stability from.now into.old) }
 {
     if !from.is_unknown() {
-        drop(mem::replace(into, from.try_clone()?));
+        *into = from.try_clone()?;
     }
     Ok(())
 }

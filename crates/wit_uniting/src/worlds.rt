@@ -40,10 +40,10 @@ impl Part for World {
         let mut moved = self.try_clone()?;
         let imports = mem::replace(&mut moved.imports, Table::new(alloc));
         let imports = placed_entries(alloc, &mover, imports)?;
-        drop(mem::replace(&mut moved.imports, imports));
+        moved.imports = imports;
         let exports = mem::replace(&mut moved.exports, Table::new(alloc));
         let exports = placed_entries(alloc, &mover, exports)?;
-        drop(mem::replace(&mut moved.exports, exports));
+        moved.exports = exports;
         moved.package = Some(mover.home());
         moved.span = mover.span(moved.span);
         Ok(moved)
@@ -59,8 +59,8 @@ impl Part for World {
         let imports = joined_entries(alloc, uniting, &from.imports, &self.imports)?;
         let exports = joined_entries(alloc, uniting, &from.exports, &self.exports)?;
         let mut joined = self.try_clone()?;
-        drop(mem::replace(&mut joined.imports, imports));
-        drop(mem::replace(&mut joined.exports, exports));
+        joined.imports = imports;
+        joined.exports = exports;
         join_stability(&mut joined.stability, &from.stability)?;
         Ok(joined)
     }

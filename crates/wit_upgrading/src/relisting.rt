@@ -25,7 +25,7 @@ pub(crate) fn relisted(
     let types = retargeted_types(alloc, &graph.types, targets)?;
     let mut worlds = graph.worlds.try_clone()?;
     let current = worlds.at_mut(world.index());
-    drop(mem::replace(&mut current.imports, imports));
+    current.imports = imports;
     let (interfaces, packages, package_names) = try_clone_three(
         &graph.interfaces,
         &graph.packages,
@@ -61,9 +61,8 @@ fn retargeted(def: &TypeDef, target: Option<TypeId>) -> Result<TypeDef, AllocErr
     ensures { IfOk result (λ made. made ≡ retargeted def.now target) }
 {
     let mut made = def.try_clone()?;
-    match target {
-        Some(id) => drop(mem::replace(&mut made.kind, TypeDefKind::Type_(Type_::Id(id)))),
-        None => {}
+    if let Some(id) = target {
+        made.kind = TypeDefKind::Type_(Type_::Id(id));
     }
     Ok(made)
 }

@@ -18,10 +18,10 @@ returns-clause-imports c =
     let exports : List Entry = c.args.world.now.exports in
     let order = in_order c.args.types.now (length uses) c.args.world.now.imports exports c.requires.listed in
     let start : List Entry = c.in_ok-imports.imports in
-    imports_are c.args.types.now uses c.requires.acyclic c.args.world.now.imports exports order c.requires.no_conflict start c.export_listed.new.lists.imports c.replace.new.dest c.in_ok-imports.ensures.imports
+    imports_are c.args.types.now uses c.requires.acyclic c.args.world.now.imports exports order c.requires.no_conflict start c.export_listed.new.lists.imports c.in_ok-imports-2.imports c.in_ok-imports.ensures.imports
     (c.in_ok-export_listed.ensures.imports
     ∙ ap (λ (t : ℕ → Bool). start ++ fresh_entries (keys_of start) (flat_map (walked_imports uses t) exports)) (listed_is c.args.marks.now.exported exports c.requires.exported))
-    (c.replace.ensures.after ∙ c.in_ok-imports-2.ensures)
+    c.in_ok-imports-2.ensures
 
 pub returns-clause-exports : goal.returns-clause-exports
 returns-clause-exports c =

@@ -5,6 +5,6 @@ use Rattle.wit_including.proofs.including.join_lists.Goals as goal
 
 pub returns-clause-ok : goal.returns-clause-ok
 returns-clause-ok c =
-    let imports = c.replace.ensures.after ∙ c.in_ok-imports.ensures.ok ∙ ap (λ (entries : List Entry). joined c.args.other entries c.args.imports) c.replace-current.ensures.value in
-    let exports = c.replace-2.ensures.after ∙ c.in_ok-exports.ensures.ok ∙ ap (λ (entries : List Entry). joined c.args.other entries c.args.exports) c.replace-current-2.ensures.value in
+    let imports = c.in_ok-imports.ensures.ok ∙ ap (λ (entries : List Entry). joined c.args.other entries c.args.imports) c.replace-current.ensures.value in
+    let exports = c.in_ok-exports.ensures.ok ∙ ap (λ (entries : List Entry). joined c.args.other entries c.args.exports) c.replace-current-2.ensures.value in
     λ j. record c.args.world { imports = imports j; exports = exports j }

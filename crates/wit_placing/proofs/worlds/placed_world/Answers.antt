@@ -36,8 +36,8 @@ returns c =
     let m = maps_of c.args.mover.now in
     let w = c.args.place in
     let test = λ (e : Entry). (kept_of c.args.part.now).items e.1 in
-    let imports = c.replace.ensures.after ∙ (c.in_ok-imports.ensures w ∙ ap (map (entry_image m w)) (c.cut_entries.ensures ∙ ap (filter test) c.replace-imports.ensures.value)) in
-    let exports = c.replace-2.ensures.after ∙ (c.in_ok-exports.ensures w ∙ ap (map (entry_image m w)) (c.cut_entries-2.ensures ∙ ap (filter test) c.replace-exports.ensures.value)) in
-    let none = c.replace-3.ensures.after ∙ c.new-3.ensures in
-    let includes = c.cut_includes-includes.ensures ∙ ap (filter (include_is_active c.args.part.now.features.now)) c.replace-3.ensures.value in
+    let imports = (c.in_ok-imports.ensures w ∙ ap (map (entry_image m w)) (c.cut_entries.ensures ∙ ap (filter test) c.replace-imports.ensures.value)) in
+    let exports = (c.in_ok-exports.ensures w ∙ ap (map (entry_image m w)) (c.cut_entries-2.ensures ∙ ap (filter test) c.replace-exports.ensures.value)) in
+    let none = c.replace.ensures.after ∙ c.new-3.ensures in
+    let includes = c.cut_includes-includes.ensures ∙ ap (filter (include_is_active c.args.part.now.features.now)) c.replace.ensures.value in
     rw (imports, exports, none, includes, c.span-world.ensures) refl

@@ -11,5 +11,5 @@ pub returns : goal.returns
 returns c =
     let test = (kept_of c.args.self.now).functions in
     let kept = filter-RetainsPairs _ (λ (e : String Global × Function). test e.1) _ (λ k v b w g call. search rules) _ _ c.retain.ensures.filtered in
-    c.replace-2.ensures.after ∙ c.from_map.ensures ∙ ap named kept ∙ named-filter test c.into_map-map.result.entries
+    c.from_map.ensures ∙ ap named kept ∙ named-filter test c.into_map-map.result.entries
     ∙ ap (filter (λ (e : List ℕ × Function). test e.1)) (c.into_map-map.ensures ∙ c.replace.ensures.value)

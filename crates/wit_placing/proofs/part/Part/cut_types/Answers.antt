@@ -10,5 +10,5 @@ pub returns : goal.returns
 returns c =
     let test = (kept_of c.args.self.now).types in
     let kept = filter-RetainsPairs _ (λ (e : String Global × ℕ). test e.1) _ (λ k v b w g call. search rules) _ _ c.retain.ensures.filtered in
-    c.replace-2.ensures.after ∙ c.from_map.ensures ∙ ap named kept ∙ named-filter test c.into_map-map.result.entries
+    c.from_map.ensures ∙ ap named kept ∙ named-filter test c.into_map-map.result.entries
     ∙ ap (filter (λ (e : List ℕ × ℕ). test e.1)) (c.into_map-map.ensures ∙ c.replace.ensures.value)

@@ -30,4 +30,4 @@ returns g c =
     let es = c.into_map-map.result.entries in
     let end : c.loop-index.index ≡ length es = omega (arith, c.len-index-end.ensures.len) in
     let whole : c.loop-index.map.entries ≡ map (at_value f) es = c.loop-index.invariant ∙ ap (λ n. map_first (at_value f) n es) end ∙ map_first-all (at_value f) es in
-    c.replace-2.ensures.after ∙ c.from_map.ensures ∙ ap named whole ∙ named-map f es ∙ ap (map (at_value f)) (c.into_map-map.ensures ∙ c.replace.ensures.value)
+    c.from_map.ensures ∙ ap named whole ∙ named-map f es ∙ ap (map (at_value f)) (c.into_map-map.ensures ∙ c.replace.ensures.value)

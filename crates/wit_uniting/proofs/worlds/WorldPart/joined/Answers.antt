@@ -19,8 +19,8 @@ returns c =
     let kept = c.in_ok-joined.ensures in
     let listed : map (entry_joined u.partners.now from.imports) self.imports ≡ with_entries m w from.imports self.imports = each_same _ _ self.imports (λ e has. sym (entry_is u ready w from.imports e.0 e.1 (can.imports e has))) in
     let given : map (entry_joined u.partners.now from.exports) self.exports ≡ with_entries m w from.exports self.exports = each_same _ _ self.exports (λ e has. sym (entry_is u ready w from.exports e.0 e.1 (can.exports e has))) in
-    let imports = c.replace.ensures.after ∙ (c.in_ok-imports.ensures ∙ listed) in
-    let exports = c.replace-2.ensures.after ∙ (c.in_ok-exports.ensures ∙ given) in
+    let imports = (c.in_ok-imports.ensures ∙ listed) in
+    let exports = (c.in_ok-exports.ensures ∙ given) in
     let was : joined_stability from.stability c.in_ok-joined.joined.stability ≡ joined_stability from.stability self.stability = λ j. joined_stability from.stability (kept j).stability in
     let stability = c.in_ok-join_stability.ensures ∙ was in
     λ j. record (kept j) { imports = imports j; exports = exports j; stability = stability j }

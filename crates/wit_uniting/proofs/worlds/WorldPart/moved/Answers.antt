@@ -53,9 +53,9 @@ returns c =
     let kept = c.in_ok-moved.ensures in
     let brought = c.replace-imports.ensures.value ∙ ap (λ (world : World). world.imports) kept in
     let given = c.replace-exports.ensures.value ∙ ap (λ (world : World). world.exports) kept in
-    let imports = c.replace.ensures.after ∙ (c.in_ok-imports.ensures w ∙ ap (map (entry_image (maps_of mover) w)) brought
+    let imports = (c.in_ok-imports.ensures w ∙ ap (map (entry_image (maps_of mover) w)) brought
     ∙ entries_are u c.requires.ready mover c.mover-mover.ensures.places c.mover-mover.ensures.values c.mover-mover.ensures.offset w self.imports can.imports) in
-    let exports = c.replace-2.ensures.after ∙ (c.in_ok-exports.ensures w ∙ ap (map (entry_image (maps_of mover) w)) given
+    let exports = (c.in_ok-exports.ensures w ∙ ap (map (entry_image (maps_of mover) w)) given
     ∙ entries_are u c.requires.ready mover c.mover-mover.ensures.places c.mover-mover.ensures.values c.mover-mover.ensures.offset w self.exports can.exports) in
     let place : Some mover.«package» ≡ Some (package_place m can.home) = ap (λ (p : ℕ). Some p) (c.mover-mover.ensures.home can.home can.home_is can.there) in
     let home = sym (c.home.ensures None) ∙ place ∙ ap (option_map (package_place m)) (sym can.home_is) in
