@@ -2,10 +2,10 @@
 use Rattle.std.proofs.Common.{◌≡◌, ℕ, List, length, ap, refl, arith}
 use Rattle.std.specs.Borrow.{Bor}
 use Rattle.std.specs.Fmt.{digits}
-use Rattle.wit_items.specs.declared.function.Function.{Function}
-use Rattle.wit_items.specs.declared.world.WorldKey.{WorldKey}
-use Rattle.wit_items.specs.declared.world.WorldKey.TheVariants as key
-use Rattle.wit_relations.specs.Walks.{walk, walk_within}
+use Rattle.wit_data.specs.declared.function.Function.{Function}
+use Rattle.wit_data.specs.declared.world.WorldKey.{WorldKey}
+use Rattle.wit_data.specs.declared.world.WorldKey.TheVariants as key
+use Rattle.wit_digraph.specs.Walks.{walk, walk_within}
 use Rattle.wit_core_names.specs.Examples.{ExamplesOfNames, ExamplesOfImports, ExamplesOfExports, ExamplesOfConditions, of_futures}
 
 import_examples : (x : Bor WorldKey) (f : Bor Function) → x.now ≡ key.Interface 0 → f.now ≡ of_futures → ExamplesOfImports x f

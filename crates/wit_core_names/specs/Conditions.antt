@@ -4,16 +4,16 @@
 use Rattle.std.specs.Prelude.{ℕ, Bool, true, false, ◌&&◌, ◌||◌, not, List, Option, None, Some, is_some, nat_eq, slice_get}
 use Rattle.std.specs.List.{list_any}
 use Rattle.std.specs.Option.{option_copied, option_map_or}
-use Rattle.wit_items.specs.declared.abi.LiftLowerAbi.TheVariants.{Sync, AsyncCallback, AsyncStackful}
-use Rattle.wit_items.specs.declared.abi.ManglingAndAbi.{ManglingAndAbi}
-use Rattle.wit_items.specs.declared.abi.ManglingAndAbi.TheVariants.{Standard32, Legacy}
-use Rattle.wit_items.specs.declared.function.Function.{Function}
-use Rattle.wit_items.specs.declared.interface.Interface.{Interface}
-use Rattle.wit_items.specs.declared.types.TypeDef.{TypeDef}
-use Rattle.wit_items.specs.declared.world.WorldKey.{WorldKey}
-use Rattle.wit_items.specs.declared.world.WorldKey.TheVariants as key
-use Rattle.wit_graph.specs.Questions.{futures_and_streams, named_interface}
-use Rattle.wit_graph.specs.declared.graph.Graph.{Graph}
+use Rattle.wit_data.specs.declared.abi.LiftLowerAbi.TheVariants.{Sync, AsyncCallback, AsyncStackful}
+use Rattle.wit_data.specs.declared.abi.ManglingAndAbi.{ManglingAndAbi}
+use Rattle.wit_data.specs.declared.abi.ManglingAndAbi.TheVariants.{Standard32, Legacy}
+use Rattle.wit_data.specs.declared.function.Function.{Function}
+use Rattle.wit_data.specs.declared.interface.Interface.{Interface}
+use Rattle.wit_data.specs.declared.types.TypeDef.{TypeDef}
+use Rattle.wit_data.specs.declared.world.WorldKey.{WorldKey}
+use Rattle.wit_data.specs.declared.world.WorldKey.TheVariants as key
+use Rattle.wit_graph_data.specs.Questions.{futures_and_streams, named_interface}
+use Rattle.wit_graph_data.specs.declared.graph.Graph.{Graph}
 use Rattle.wit_core_names.specs.declared.export.WasmExport.{WasmExport}
 use Rattle.wit_core_names.specs.declared.export.WasmExport.TheVariants as exports
 use Rattle.wit_core_names.specs.declared.export.WasmExportKind.{WasmExportKind}

@@ -1,16 +1,16 @@
 -- What the table of names says of one small graph, and what has no name there.
 use Rattle.std.specs.Prelude.{◌≡◌, ◌≢◌, true, false, [], ◌∷◌, None, Some, codes}
 use Rattle.std.specs.Borrow.{Bor}
-use Rattle.wit_items.specs.declared.abi.LiftLowerAbi.TheVariants.{Sync, AsyncCallback, AsyncStackful}
-use Rattle.wit_items.specs.declared.abi.ManglingAndAbi.TheVariants.{Standard32, Legacy}
-use Rattle.wit_items.specs.declared.function.Function.{Function}
-use Rattle.wit_items.specs.declared.types.TypeDefKind.TheVariants as kind
-use Rattle.wit_items.specs.declared.types.Type_.TheVariants as type
-use Rattle.wit_items.specs.declared.world.WorldKey.{WorldKey}
-use Rattle.wit_items.specs.declared.world.WorldKey.TheVariants as key
-use Rattle.wit_graph.specs.Samples.{function_of, interface_of, no_docs, type_in, unnamed}
-use Rattle.wit_graph.specs.Examples.{foo_x}
-use Rattle.wit_graph.specs.declared.graph.Graph.{Graph}
+use Rattle.wit_data.specs.declared.abi.LiftLowerAbi.TheVariants.{Sync, AsyncCallback, AsyncStackful}
+use Rattle.wit_data.specs.declared.abi.ManglingAndAbi.TheVariants.{Standard32, Legacy}
+use Rattle.wit_data.specs.declared.function.Function.{Function}
+use Rattle.wit_data.specs.declared.types.TypeDefKind.TheVariants as kind
+use Rattle.wit_data.specs.declared.types.Type_.TheVariants as type
+use Rattle.wit_data.specs.declared.world.WorldKey.{WorldKey}
+use Rattle.wit_data.specs.declared.world.WorldKey.TheVariants as key
+use Rattle.wit_graph_data.specs.Samples.{function_of, interface_of, no_docs, type_in, unnamed}
+use Rattle.wit_elaboration.specs.Examples.{foo_x}
+use Rattle.wit_graph_data.specs.declared.graph.Graph.{Graph}
 use Rattle.wit_core_names.specs.Conditions.{can_name_export, can_name_import}
 use Rattle.wit_core_names.specs.Names.{export_name, import_names}
 use Rattle.wit_core_names.specs.declared.export.WasmExport.TheVariants as exports

@@ -4,16 +4,16 @@
 -- targets (the names that begin with `cm32p2`). Which prefix stands for which ABI is this project's table.
 use Rattle.std.specs.Prelude.{ℕ, Bool, true, false, List, [], ◌++◌, Option, None, Some, codes, decimal, nat_eq, position, slice_get, unwrap_or}
 use Rattle.std.specs.Option.{option_copied, option_map_or}
-use Rattle.wit_items.specs.declared.abi.LiftLowerAbi.{LiftLowerAbi}
-use Rattle.wit_items.specs.declared.abi.LiftLowerAbi.TheVariants.{Sync, AsyncCallback, AsyncStackful}
-use Rattle.wit_items.specs.declared.abi.ManglingAndAbi.{ManglingAndAbi}
-use Rattle.wit_items.specs.declared.abi.ManglingAndAbi.TheVariants.{Standard32, Legacy}
-use Rattle.wit_items.specs.declared.function.Function.{Function}
-use Rattle.wit_items.specs.declared.types.TypeDef.{TypeDef}
-use Rattle.wit_items.specs.declared.world.WorldKey.{WorldKey}
-use Rattle.wit_graph.specs.IdText.{key_text}
-use Rattle.wit_graph.specs.Questions.{canonical_key_text, futures_and_streams}
-use Rattle.wit_graph.specs.declared.graph.Graph.{Graph}
+use Rattle.wit_data.specs.declared.abi.LiftLowerAbi.{LiftLowerAbi}
+use Rattle.wit_data.specs.declared.abi.LiftLowerAbi.TheVariants.{Sync, AsyncCallback, AsyncStackful}
+use Rattle.wit_data.specs.declared.abi.ManglingAndAbi.{ManglingAndAbi}
+use Rattle.wit_data.specs.declared.abi.ManglingAndAbi.TheVariants.{Standard32, Legacy}
+use Rattle.wit_data.specs.declared.function.Function.{Function}
+use Rattle.wit_data.specs.declared.types.TypeDef.{TypeDef}
+use Rattle.wit_data.specs.declared.world.WorldKey.{WorldKey}
+use Rattle.wit_graph_data.specs.IdText.{key_text}
+use Rattle.wit_graph_data.specs.Questions.{canonical_key_text, futures_and_streams}
+use Rattle.wit_graph_data.specs.declared.graph.Graph.{Graph}
 use Rattle.wit_core_names.specs.declared.export.WasmExport.{WasmExport}
 use Rattle.wit_core_names.specs.declared.export.WasmExport.TheVariants as exports
 use Rattle.wit_core_names.specs.declared.export.WasmExportKind.TheVariants.{Normal, PostReturn, Callback}

@@ -2,16 +2,16 @@
 ghost use Rattle.std.specs.Prelude.{◌≡◌, IfErr, IfOk};
 ghost use Rattle.std.specs.Option.{option_copied};
 ghost use Rattle.wit_core_names.specs.Conditions.{can_name_export, can_name_import, can_name_value, future_may_go_on, interface_has_name, is_called, is_of_function, is_within, key_has_name, stream_may_go_on, type_has_name};
-ghost use Rattle.wit_graph.specs.declared.error_kind.ResolveErrorKind.TheVariants.{OutOfMemory};
-ghost use Rattle.wit_items.specs.Reference.{type_references};
-ghost use Rattle.wit_relations.specs.Relation.{IsAcyclic};
+ghost use Rattle.wit_graph_data.specs.declared.error_kind.ResolveErrorKind.TheVariants.{OutOfMemory};
+ghost use Rattle.wit_data.specs.Reference.{type_references};
+ghost use Rattle.wit_digraph.specs.Relation.{IsAcyclic};
 
 use crate::export::{WasmExport, WasmExportKind};
 use crate::import::{FutureIntrinsic, ResourceIntrinsic, StreamIntrinsic, WasmImport};
 use std::alloc::Global;
-use wit_graph::{Graph, ResolveResult};
-use wit_items::{Function, LiftLowerAbi, ManglingAndAbi, TypeId, WorldKey};
-use wit_questions::{holds_future_or_stream, named_interface};
+use wit_data::{Function, LiftLowerAbi, ManglingAndAbi, TypeId, WorldKey};
+use wit_graph_data::{Graph, ResolveResult};
+use wit_queries::{holds_future_or_stream, named_interface};
 
 fn key_has_name(graph: &Graph, key: &WorldKey) -> bool
     ensures { result ≡ key_has_name graph.now.interfaces key.now }

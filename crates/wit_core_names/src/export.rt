@@ -2,14 +2,14 @@
 ghost use Rattle.std.specs.Prelude.{◌≡◌, IfErr, IfOk, string_bytes, true};
 ghost use Rattle.wit_core_names.specs.Conditions.{can_name_export};
 ghost use Rattle.wit_core_names.specs.Names.{export_name};
-ghost use Rattle.wit_graph.specs.declared.error_kind.ResolveErrorKind.TheVariants.{OutOfMemory};
+ghost use Rattle.wit_graph_data.specs.declared.error_kind.ResolveErrorKind.TheVariants.{OutOfMemory};
 
 use crate::legacy::legacy_export;
 use crate::standard::standard_export;
 use std::alloc::Global;
 use std::fmt;
-use wit_graph::{Graph, ResolveResult};
-use wit_items::{Function, ManglingAndAbi, TypeId, WorldKey};
+use wit_data::{Function, ManglingAndAbi, TypeId, WorldKey};
+use wit_graph_data::{Graph, ResolveResult};
 
 /// Which of the core functions of an exported function it is.
 ///

@@ -2,16 +2,16 @@
 ghost use Rattle.std.specs.Prelude.{◌≡◌, IfErr, IfOk, string_bytes, true};
 ghost use Rattle.wit_core_names.specs.Conditions.{can_name_import};
 ghost use Rattle.wit_core_names.specs.Names.{import_names};
-ghost use Rattle.wit_graph.specs.declared.error_kind.ResolveErrorKind.TheVariants.{OutOfMemory};
-ghost use Rattle.wit_items.specs.Reference.{type_references};
-ghost use Rattle.wit_relations.specs.Relation.{IsAcyclic};
+ghost use Rattle.wit_graph_data.specs.declared.error_kind.ResolveErrorKind.TheVariants.{OutOfMemory};
+ghost use Rattle.wit_data.specs.Reference.{type_references};
+ghost use Rattle.wit_digraph.specs.Relation.{IsAcyclic};
 
 use crate::legacy::legacy_import;
 use crate::standard::standard_import;
 use std::alloc::Global;
 use std::fmt;
-use wit_graph::{Graph, ResolveResult};
-use wit_items::{Function, ManglingAndAbi, TypeId, WorldKey};
+use wit_data::{Function, ManglingAndAbi, TypeId, WorldKey};
+use wit_graph_data::{Graph, ResolveResult};
 
 /// What is done with a resource by a function of the host.
 ///

@@ -2,10 +2,10 @@
 ghost use Rattle.std.specs.Prelude.{◌≡◌, ◌∷◌, ◌++◌, IfErr, IfOk, string_bytes};
 ghost use Rattle.std.specs.Option.{option_copied};
 ghost use Rattle.wit_core_names.specs.Names.{async_prefix, export_name, exported_prefix, import_names, legacy_key, legacy_module, place_text};
-ghost use Rattle.wit_graph.specs.declared.error_kind.ResolveErrorKind.TheVariants.{OutOfMemory};
-ghost use Rattle.wit_items.specs.Reference.{type_references};
-ghost use Rattle.wit_items.specs.declared.abi.ManglingAndAbi.TheVariants.{Legacy};
-ghost use Rattle.wit_relations.specs.Relation.{IsAcyclic};
+ghost use Rattle.wit_graph_data.specs.declared.error_kind.ResolveErrorKind.TheVariants.{OutOfMemory};
+ghost use Rattle.wit_data.specs.Reference.{type_references};
+ghost use Rattle.wit_data.specs.declared.abi.ManglingAndAbi.TheVariants.{Legacy};
+ghost use Rattle.wit_digraph.specs.Relation.{IsAcyclic};
 
 use crate::export::{WasmExport, WasmExportKind};
 use crate::import::WasmImport;
@@ -14,8 +14,8 @@ use crate::parts::{
     place_text, resource_mark, resource_name, stream_word,
 };
 use std::alloc::Global;
-use wit_graph::{Graph, ResolveResult};
-use wit_items::{Function, LiftLowerAbi, TypeId, WorldKey};
+use wit_data::{Function, LiftLowerAbi, TypeId, WorldKey};
+use wit_graph_data::{Graph, ResolveResult};
 
 /// The module of what is imported from an interface, or from nowhere else.
 fn legacy_module(

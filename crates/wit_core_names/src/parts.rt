@@ -1,15 +1,15 @@
 //! Parts of names.
 ghost use Rattle.std.specs.Prelude.{◌≡◌, IfErr, IfOk, nat_eq, position, string_bytes};
 ghost use Rattle.wit_core_names.specs.Names.{async_prefix, export_prefix, exported_prefix, future_word, import_prefix, is_exported, place_text, resource_mark, resource_name, stream_word};
-ghost use Rattle.wit_graph.specs.declared.error_kind.ResolveErrorKind.TheVariants.{OutOfMemory};
-ghost use Rattle.wit_items.specs.Reference.{type_references};
-ghost use Rattle.wit_relations.specs.Relation.{IsAcyclic};
+ghost use Rattle.wit_graph_data.specs.declared.error_kind.ResolveErrorKind.TheVariants.{OutOfMemory};
+ghost use Rattle.wit_data.specs.Reference.{type_references};
+ghost use Rattle.wit_digraph.specs.Relation.{IsAcyclic};
 
 use crate::import::{FutureIntrinsic, ResourceIntrinsic, StreamIntrinsic};
 use std::alloc::Global;
-use wit_graph::{Graph, ResolveResult};
-use wit_items::{Function, LiftLowerAbi, TypeId};
-use wit_questions::find_futures_and_streams;
+use wit_data::{Function, LiftLowerAbi, TypeId};
+use wit_graph_data::{Graph, ResolveResult};
+use wit_queries::find_futures_and_streams;
 
 /// What stands before the name of what is imported.
 pub(crate) fn import_prefix(abi: LiftLowerAbi) -> &'static str

@@ -4,16 +4,16 @@ ghost use Rattle.std.specs.Option.{option_copied};
 ghost use Rattle.wit_core_names.specs.Conditions.{can_name_export, can_name_import};
 ghost use Rattle.wit_core_names.specs.Names.{export_name, import_names, standard_key, standard_module};
 ghost use Rattle.wit_core_names.specs.declared.import.WasmImport.TheVariants as imports;
-ghost use Rattle.wit_graph.specs.declared.error_kind.ResolveErrorKind.TheVariants.{OutOfMemory};
-ghost use Rattle.wit_items.specs.declared.abi.ManglingAndAbi.TheVariants.{Standard32};
+ghost use Rattle.wit_graph_data.specs.declared.error_kind.ResolveErrorKind.TheVariants.{OutOfMemory};
+ghost use Rattle.wit_data.specs.declared.abi.ManglingAndAbi.TheVariants.{Standard32};
 
 use crate::export::{WasmExport, WasmExportKind};
 use crate::import::{ResourceIntrinsic, WasmImport};
 use crate::parts::resource_name;
 use std::alloc::Global;
-use wit_graph::{Graph, ResolveResult};
-use wit_items::{TypeId, WorldKey};
-use wit_questions::name_canonicalized_world_key;
+use wit_data::{TypeId, WorldKey};
+use wit_graph_data::{Graph, ResolveResult};
+use wit_queries::name_canonicalized_world_key;
 
 /// The canonical name of an interface's key, empty without an interface.
 fn standard_key(

@@ -1,7 +1,7 @@
 -- What tells outcomes apart.
 use Rattle.std.proofs.Common.{◌≡◌, false, List, ℕ, None, Some}
 use Rattle.std.specs.Str.{bytes_eq}
-use Rattle.wit_growth.specs.OptionFacts.{some_same}
+use Rattle.wit_graph_theory.specs.OptionFacts.{some_same}
 use Rattle.wit_values.specs.Lists.{differ}
 
 -- texts that are there and that a test tells apart are different

@@ -1,11 +1,11 @@
 -- What tells turned worlds apart.
 use Rattle.std.proofs.Common.{ℕ, List, [], length, slice_get}
 use Rattle.std.specs.Option.{option_map_or}
-use Rattle.wit_items.specs.declared.world.World.{World}
-use Rattle.wit_items.specs.declared.world.WorldItem.{WorldItem}
-use Rattle.wit_items.specs.declared.world.WorldItem.TheVariants as item
-use Rattle.wit_graph.specs.Entries.{Entry}
-use Rattle.wit_graph.specs.declared.graph.Graph.{Graph}
+use Rattle.wit_data.specs.declared.world.World.{World}
+use Rattle.wit_data.specs.declared.world.WorldItem.{WorldItem}
+use Rattle.wit_data.specs.declared.world.WorldItem.TheVariants as item
+use Rattle.wit_elaboration.specs.Entries.{Entry}
+use Rattle.wit_graph_data.specs.declared.graph.Graph.{Graph}
 
 -- the imports of world 0
 abbrev pub first_imports : Graph → List Entry

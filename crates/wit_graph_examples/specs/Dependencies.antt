@@ -1,13 +1,13 @@
 -- Interfaces that use one another, and packages in the order of what they depend on.
 use Rattle.std.specs.Prelude.{◌≡◌, ◌≢◌, ℕ, List, [], ◌∷◌, Some, None, codes}
-use Rattle.wit_items.specs.declared.interface.Interface.{Interface}
-use Rattle.wit_items.specs.declared.types.TypeDef.{TypeDef}
-use Rattle.wit_items.specs.declared.types.TypeDefKind.TheVariants as kind
-use Rattle.wit_items.specs.declared.types.Type_.TheVariants as type
-use Rattle.wit_items.specs.declared.world.World.{World}
-use Rattle.wit_graph.specs.Questions.{interface_direct_deps, topological_packages}
-use Rattle.wit_graph.specs.Samples.{entry_of, interface_of, no_docs, type_in, world_of}
-use Rattle.wit_graph.specs.declared.graph.Package.{Package}
+use Rattle.wit_data.specs.declared.interface.Interface.{Interface}
+use Rattle.wit_data.specs.declared.types.TypeDef.{TypeDef}
+use Rattle.wit_data.specs.declared.types.TypeDefKind.TheVariants as kind
+use Rattle.wit_data.specs.declared.types.Type_.TheVariants as type
+use Rattle.wit_data.specs.declared.world.World.{World}
+use Rattle.wit_graph_data.specs.Questions.{interface_direct_deps, topological_packages}
+use Rattle.wit_graph_data.specs.Samples.{entry_of, interface_of, no_docs, type_in, world_of}
+use Rattle.wit_graph_data.specs.declared.graph.Package.{Package}
 
 -- a number of interface i, and another name of a type
 abbrev pub number_in : ℕ → List ℕ → TypeDef

@@ -1,16 +1,16 @@
 -- A world whose exports become its imports keeps of its imports the types, and none of the others.
 use Rattle.std.specs.Prelude.{◌≡◌, ◌≢◌, ℕ, List, [], ◌∷◌, Some, None, codes}
-use Rattle.wit_items.specs.declared.types.TypeDefKind.TheVariants as kind
-use Rattle.wit_items.specs.declared.types.TypeOwner.TheVariants as owner
-use Rattle.wit_items.specs.declared.types.Type_.{Type_}
-use Rattle.wit_items.specs.declared.types.Type_.TheVariants as type
-use Rattle.wit_items.specs.declared.world.WorldItem.TheVariants as item
-use Rattle.wit_items.specs.declared.world.WorldKey.TheVariants as key
-use Rattle.wit_graph.specs.Entries.{Entry}
-use Rattle.wit_graph.specs.Samples.{function_of, labelled_entry, sample, type_in, type_of}
-use Rattle.wit_graph.specs.declared.graph.Graph.{Graph}
-use Rattle.wit_unite.specs.TurnExamples.{a, b, named}
-use Rattle.wit_unite.specs.Turned.{importized, turned}
+use Rattle.wit_data.specs.declared.types.TypeDefKind.TheVariants as kind
+use Rattle.wit_data.specs.declared.types.TypeOwner.TheVariants as owner
+use Rattle.wit_data.specs.declared.types.Type_.{Type_}
+use Rattle.wit_data.specs.declared.types.Type_.TheVariants as type
+use Rattle.wit_data.specs.declared.world.WorldItem.TheVariants as item
+use Rattle.wit_data.specs.declared.world.WorldKey.TheVariants as key
+use Rattle.wit_elaboration.specs.Entries.{Entry}
+use Rattle.wit_graph_data.specs.Samples.{function_of, labelled_entry, sample, type_in, type_of}
+use Rattle.wit_graph_data.specs.declared.graph.Graph.{Graph}
+use Rattle.wit_transform.specs.TurnExamples.{a, b, named}
+use Rattle.wit_transform.specs.Turned.{importized, turned}
 
 -- the sample, in which interface b uses a, and a world that defines a type k and has another name u of the type of a
 abbrev pub with_types : List ℕ → List Entry → List Entry → Graph

@@ -2,22 +2,22 @@
 -- conflict nothing is told where a type would be exported.
 use Rattle.std.specs.Prelude.{◌≡◌, ◌≢◌, ℕ, Bool, true, false, List, [], ◌∷◌, ◌++◌, None, Some, codes}
 use Rattle.wit_sources.specs.Span.{Place}
-use Rattle.wit_items.specs.declared.package_name.PackageName.{PackageName}
-use Rattle.wit_items.specs.declared.types.TypeDefKind.TheVariants as kind
-use Rattle.wit_items.specs.declared.types.TypeOwner.TheVariants as owner
-use Rattle.wit_items.specs.declared.types.Type_.TheVariants as type
-use Rattle.wit_items.specs.declared.world.World.{World}
-use Rattle.wit_items.specs.declared.world.WorldItem.TheVariants as item
-use Rattle.wit_items.specs.declared.world.WorldKey.TheVariants as key
-use Rattle.wit_graph.specs.Entries.{Entry}
-use Rattle.wit_graph.specs.Samples.{entry_of, foo_bar, foo_bar_of, sample, type_of, world_of}
-use Rattle.wit_graph.specs.declared.cause.Cause.TheVariants.{NameTaken, TypeExported}
-use Rattle.wit_graph.specs.declared.error_kind.ResolveErrorKind.{ResolveErrorKind}
-use Rattle.wit_graph.specs.declared.error_kind.ResolveErrorKind.TheVariants.{InvalidTransitiveDependency, Semantic}
-use Rattle.wit_graph.specs.declared.graph.Graph.{Graph}
-use Rattle.wit_unite.specs.TurnCause.{IsExportizeCause, IsImportizeCause, type_exported_text}
-use Rattle.wit_unite.specs.TurnExamples.{a, b, chain}
-use Rattle.wit_unite.specs.Turned.{exportized, importized, turned}
+use Rattle.wit_data.specs.declared.package_name.PackageName.{PackageName}
+use Rattle.wit_data.specs.declared.types.TypeDefKind.TheVariants as kind
+use Rattle.wit_data.specs.declared.types.TypeOwner.TheVariants as owner
+use Rattle.wit_data.specs.declared.types.Type_.TheVariants as type
+use Rattle.wit_data.specs.declared.world.World.{World}
+use Rattle.wit_data.specs.declared.world.WorldItem.TheVariants as item
+use Rattle.wit_data.specs.declared.world.WorldKey.TheVariants as key
+use Rattle.wit_elaboration.specs.Entries.{Entry}
+use Rattle.wit_graph_data.specs.Samples.{entry_of, foo_bar, foo_bar_of, sample, type_of, world_of}
+use Rattle.wit_graph_data.specs.declared.cause.Cause.TheVariants.{NameTaken, TypeExported}
+use Rattle.wit_graph_data.specs.declared.error_kind.ResolveErrorKind.{ResolveErrorKind}
+use Rattle.wit_graph_data.specs.declared.error_kind.ResolveErrorKind.TheVariants.{InvalidTransitiveDependency, Semantic}
+use Rattle.wit_graph_data.specs.declared.graph.Graph.{Graph}
+use Rattle.wit_transform.specs.TurnCause.{IsExportizeCause, IsImportizeCause, type_exported_text}
+use Rattle.wit_transform.specs.TurnExamples.{a, b, chain}
+use Rattle.wit_transform.specs.Turned.{exportized, importized, turned}
 
 -- ---- names that are taken
 

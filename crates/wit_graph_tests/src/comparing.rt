@@ -5,11 +5,10 @@ use crate::validity::{Breach, graph};
 use std::alloc::Global;
 use std::process::Abort;
 use std::rt::HostRuntime;
-use wit_comparing::{find_mismatch, find_stability_mismatch, spans_fit};
-use wit_graph::Graph;
-use wit_items::{FunctionKind, Span, Stability, Type_, TypeId, WorldItem};
-use wit_matching::find_matches;
-use wit_valid::is_valid;
+use wit_data::{FunctionKind, Span, Stability, Type_, TypeId, WorldItem};
+use wit_graph_data::Graph;
+use wit_merge_match::{find_matches, find_mismatch, find_stability_mismatch, spans_fit};
+use wit_validity::is_valid;
 
 /// What is changed in the other graph.
 #[derive(Clone, Copy, Debug)]

@@ -3,7 +3,7 @@ use crate::fixtures::{assert_told, text};
 use crate::shape::{Change, group, package};
 use std::alloc::Global;
 use std::process::Abort;
-use wit_items::{
+use wit_data::{
     AccessorKind, FunctionKind, MapFault, SourceMap, Stability, TryClone, TypeId, Version, uses_of,
 };
 

@@ -1,6 +1,6 @@
 //! The names in core wasm of what is done with resources, and what has none.
-ghost use Rattle.wit_items.specs.Reference.{type_references};
-ghost use Rattle.wit_relations.specs.Relation.{IsAcyclic};
+ghost use Rattle.wit_data.specs.Reference.{type_references};
+ghost use Rattle.wit_digraph.specs.Relation.{IsAcyclic};
 
 use crate::fixtures::{
     assert_told, interface, interface_key, interface_owner, one, text, type_def,
@@ -11,12 +11,12 @@ use wit_core_names::{
     ResourceIntrinsic, WasmExport, WasmImport, can_name_export, can_name_import, wasm_export_name,
     wasm_import_name,
 };
-use wit_graph::{Graph, Package};
-use wit_items::{
+use wit_data::{
     Docs, Interface, Items, LiftLowerAbi, ManglingAndAbi, Names, PackageId, PackageName, Table,
     Type_, TypeDef, TypeDefKind, TypeId, TypeOwner, Version, type_references,
 };
-use wit_relations::is_acyclic;
+use wit_digraph::is_acyclic;
+use wit_graph_data::{Graph, Package};
 
 const SYNC: ManglingAndAbi = ManglingAndAbi::Legacy(LiftLowerAbi::Sync);
 

@@ -5,8 +5,9 @@ use crate::fixtures::{
 };
 use std::alloc::Global;
 use std::process::Abort;
-use wit_graph::{Graph, elaborate, is_elaborable};
-use wit_items::{Items, Names, PackageId, Table, Type_, TypeDefKind, World, WorldId};
+use wit_data::{Items, Names, PackageId, Table, Type_, TypeDefKind, World, WorldId};
+use wit_elaboration::{elaborate, is_elaborable};
+use wit_graph_data::Graph;
 
 /// How long the chain of uses is.
 const LENGTH: usize = 100_000;

@@ -3,8 +3,8 @@
 use crate::fixtures::{assert_told, package_name, string, text};
 use std::alloc::Global;
 use std::process::Abort;
-use wit_graph::{Cause, ResolveError, ResolveErrorKind};
-use wit_items::{Items, Span, Stability, TryClone, Version};
+use wit_data::{Items, Span, Stability, TryClone, Version};
+use wit_graph_data::{Cause, ResolveError, ResolveErrorKind};
 
 /// Which error, and what of its text is left out.
 #[derive(Clone, Copy)]

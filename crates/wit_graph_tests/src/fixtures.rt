@@ -3,7 +3,7 @@ use indexmap::IndexMap;
 use std::alloc::Global;
 use std::hash::Hash;
 use std::process::Abort;
-use wit_items::{
+use wit_data::{
     Docs, Function, FunctionKind, Interface, InterfaceId, Items, Names, PackageId, PackageName,
     Param, Span, Stability, Table, Text, Type_, TypeDef, TypeDefKind, TypeId, TypeOwner, World,
     WorldInclude, WorldItem, WorldKey,

@@ -3,10 +3,10 @@ use crate::validity::{Breach, graph};
 use std::alloc::Global;
 use std::fmt::Write;
 use std::process::Abort;
-use wit_graph::Graph;
-use wit_items::{Id, Items, TryClone};
-use wit_matching::{Going, Matches, find_matches, find_places};
-use wit_valid::is_valid;
+use wit_data::{Id, Items, TryClone};
+use wit_graph_data::Graph;
+use wit_merge_match::{Going, Matches, find_matches, find_places};
+use wit_validity::is_valid;
 
 /// Of each package, world, interface and type of the graph with this change the place of that of the valid graph with
 /// which it is matched, `-` where there is none; and then where each goes.

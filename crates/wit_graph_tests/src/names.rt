@@ -3,7 +3,7 @@ use crate::fixtures::{assert_told, package_name, text};
 use std::alloc::Global;
 use std::cmp::Ordering;
 use std::process::Abort;
-use wit_items::{PackageName, ParsedUsePath, TryClone, Version, is_kebab_name, parse_use_path};
+use wit_data::{PackageName, ParsedUsePath, TryClone, Version, is_kebab_name, parse_use_path};
 
 #[test]
 fn kebab_names_are_told(rt: HostRuntime) {

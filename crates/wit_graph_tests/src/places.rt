@@ -2,8 +2,8 @@
 use crate::fixtures::{assert_told, string};
 use std::alloc::Global;
 use std::process::Abort;
-use wit_graph::ResolveError;
-use wit_items::{PackageName, SourceMap, Span, Version};
+use wit_data::{PackageName, SourceMap, Span, Version};
+use wit_graph_data::ResolveError;
 
 /// Where a span begins, and how the error `bad` at it is told, by a file of 25 bytes.
 fn bad_at(rt: &impl Abort, alloc: Global, span: Span) -> String {

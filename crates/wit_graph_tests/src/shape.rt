@@ -5,7 +5,7 @@ use crate::fixtures::{
 };
 use std::alloc::Global;
 use std::process::Abort;
-use wit_items::{
+use wit_data::{
     AstItem, Docs, Field, Function, FunctionKind, Handle, Interface, InterfaceId, Items, Names,
     PackageId, PackageName, SourceMap, Span, Stability, Table, Type_, TypeDef, TypeDefKind, TypeId,
     TypeOwner, UnresolvedPackage, UnresolvedPackageGroup, World, WorldId, WorldInclude, WorldItem,

@@ -7,13 +7,13 @@ use crate::fixtures::{
 use indexmap::IndexMap;
 use std::alloc::Global;
 use std::process::Abort;
-use wit_graph::{Graph, Package};
-use wit_items::{
+use wit_data::{
     Docs, Function, FunctionKind, Interface, InterfaceId, Items, Names, PackageId, PackageName,
     Span, Stability, Table, Type_, TypeDef, TypeDefKind, TypeId, TypeOwner, World, WorldId,
     WorldInclude, WorldItem, WorldKey,
 };
-use wit_valid::is_valid;
+use wit_graph_data::{Graph, Package};
+use wit_validity::is_valid;
 
 /// What is changed of a valid graph.
 #[derive(Clone, Copy, Debug, PartialEq, Eq)]

@@ -2,7 +2,7 @@
 use crate::fixtures::assert_told;
 use std::alloc::Global;
 use std::process::Abort;
-use wit_relations::{CycleUse, Listing, find_cycle, is_acyclic, walk_order};
+use wit_digraph::{CycleUse, Listing, find_cycle, is_acyclic, walk_order};
 use wit_values::Items;
 
 /// Four rows.
@@ -35,7 +35,7 @@ fn walks_list_uses_before_users(rt: HostRuntime) {
 /// A use on a cycle of these rows, where they have one.
 fn cycle(rt: &impl Abort, alloc: Global, lists: [&[usize]; 4]) -> Option<CycleUse> {
     let uses = rows(rt, alloc, lists);
-    assert!(rt; wit_relations::is_in_range(&uses));
+    assert!(rt; wit_digraph::is_in_range(&uses));
     find_cycle(alloc, &uses).expect(rt, "memory")
 }
 

@@ -7,8 +7,8 @@ use Rattle.std.specs.Map.{lookup}
 use Rattle.std.specs.Cmp.Lexicographic.{nat_list_eq_equiv, same_text}
 use Rattle.std.specs.Option.{option_eq}
 use Rattle.std.specs.Str.{bytes_eq}
-use Rattle.wit_items.specs.declared.world.WorldKey.{WorldKey}
-use Rattle.wit_items.specs.declared.world.WorldKey.TheVariants as key
+use Rattle.wit_data.specs.declared.world.WorldKey.{WorldKey}
+use Rattle.wit_data.specs.declared.world.WorldKey.TheVariants as key
 use Rattle.wit_values.specs.Lists.{lookup-push}
 use Rattle.wit_labels.specs.Strong.{AreStronglyUnique, Clashes, strong_key}
 use Rattle.wit_labels.specs.declared.strong.StrongKey.{StrongKey}

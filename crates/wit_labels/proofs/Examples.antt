@@ -4,8 +4,8 @@ use Rattle.std.proofs.lemmas.Bool.{false≢true}
 use Rattle.std.specs.Map.{keys_of}
 use Rattle.std.specs.Prelude.{codes}
 use Rattle.wit_values.specs.Lists.{differ}
-use Rattle.wit_items.specs.Entries.{Entry}
-use Rattle.wit_items.specs.declared.world.WorldKey.TheVariants as key
+use Rattle.wit_data.specs.Entries.{Entry}
+use Rattle.wit_data.specs.declared.world.WorldKey.TheVariants as key
 use Rattle.wit_labels.specs.Examples.{ExamplesOfSetters, function_entry}
 use Rattle.wit_labels.specs.Setters.{IsSetter, getter_label, is_function, is_setter_label}
 

@@ -6,7 +6,7 @@ use Rattle.std.specs.Cmp.Lexicographic.{same_text}
 use Rattle.std.specs.Map.{lookup}
 use Rattle.std.specs.Option.{option_or}
 use Rattle.std.specs.Str.{bytes_eq}
-use Rattle.wit_items.specs.declared.world.IncludeName.{IncludeName}
+use Rattle.wit_data.specs.declared.world.IncludeName.{IncludeName}
 use Rattle.wit_values.specs.Lists.{take-next_at}
 use Rattle.wit_labels.specs.FirstRenamings.{IsPlaceOf, is_of}
 

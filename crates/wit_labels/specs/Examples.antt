@@ -1,12 +1,12 @@
 -- Small labels and lists, and what the definitions say of them.
 use Rattle.std.specs.Prelude.{◌≡◌, ℕ, true, false, List, [], ◌∷◌, Some, None, codes}
-use Rattle.wit_items.specs.Entries.{Entry}
-use Rattle.wit_items.specs.declared.function.FunctionKind.TheVariants as function
-use Rattle.wit_items.specs.declared.stability.Stability.TheVariants.{Unknown}
-use Rattle.wit_items.specs.declared.world.IncludeName.{IncludeName}
-use Rattle.wit_items.specs.declared.world.WorldItem.TheVariants as item
-use Rattle.wit_items.specs.declared.world.WorldKey.{WorldKey}
-use Rattle.wit_items.specs.declared.world.WorldKey.TheVariants as key
+use Rattle.wit_data.specs.Entries.{Entry}
+use Rattle.wit_data.specs.declared.function.FunctionKind.TheVariants as function
+use Rattle.wit_data.specs.declared.stability.Stability.TheVariants.{Unknown}
+use Rattle.wit_data.specs.declared.world.IncludeName.{IncludeName}
+use Rattle.wit_data.specs.declared.world.WorldItem.TheVariants as item
+use Rattle.wit_data.specs.declared.world.WorldKey.{WorldKey}
+use Rattle.wit_data.specs.declared.world.WorldKey.TheVariants as key
 use Rattle.wit_labels.specs.Rename.{renamed_by, renamed}
 use Rattle.wit_labels.specs.Setters.{HaveGetters, getter_label, is_setter_label, placed}
 use Rattle.wit_labels.specs.Strong.{AreStronglyUnique, Clashes, strong_key}

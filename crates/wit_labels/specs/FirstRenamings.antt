@@ -3,7 +3,7 @@ use Rattle.std.specs.Prelude.{◌≡◌, ℕ, Bool, List, Option, None, Some, sl
 use Rattle.std.specs.List.{find}
 use Rattle.std.specs.Map.{lookup}
 use Rattle.std.specs.Str.{bytes_eq}
-use Rattle.wit_items.specs.declared.world.IncludeName.{IncludeName}
+use Rattle.wit_data.specs.declared.world.IncludeName.{IncludeName}
 
 -- is the renaming of this word?
 abbrev pub is_of : List ℕ → IncludeName → Bool

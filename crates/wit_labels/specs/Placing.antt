@@ -2,7 +2,7 @@
 use Rattle.std.specs.Prelude.{ℕ, Bool, List, [], ◌∷◌, ◌++◌, length, map, filter, nat_eq, Option, Some, None, is_some, slice_index_or, if◌then◌else◌}
 use Rattle.std.specs.List.{flat_map, range_with_len}
 use Rattle.std.specs.Option.{option_eq}
-use Rattle.wit_items.specs.Entries.{Entry}
+use Rattle.wit_data.specs.Entries.{Entry}
 use Rattle.wit_labels.specs.Setters.{awaited, places}
 
 -- of each entry the place of the getter that it waits for

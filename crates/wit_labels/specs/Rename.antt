@@ -4,7 +4,7 @@
 use Rattle.std.specs.Prelude.{ℕ, ◌==◌, ◌++◌, List, length, drop, slice_get, Option, None, Some, unwrap_or, if◌then◌else◌}
 use Rattle.std.specs.List.{filter_map, concat, before_first}
 use Rattle.std.specs.Str.{bytes_eq}
-use Rattle.wit_items.specs.declared.world.IncludeName.{IncludeName}
+use Rattle.wit_data.specs.declared.world.IncludeName.{IncludeName}
 use Rattle.wit_labels.specs.Groups.{begins_group, groups_of, rest_of}
 
 -- what follows the groups, renamed: the part before the first dot, or all where there is no dot

@@ -6,11 +6,11 @@ use Rattle.std.specs.List.{list_any, flat_map, enumerate_from, starts_with}
 use Rattle.std.specs.Option.{option_and_then, option_eq}
 use Rattle.std.specs.Map.{keys_of}
 use Rattle.std.specs.Str.{bytes_eq}
-use Rattle.wit_items.specs.Entries.{Entry}
-use Rattle.wit_items.specs.declared.world.WorldItem.{WorldItem}
-use Rattle.wit_items.specs.declared.world.WorldItem.TheVariants as item
-use Rattle.wit_items.specs.declared.world.WorldKey.{WorldKey}
-use Rattle.wit_items.specs.declared.world.WorldKey.TheVariants as key
+use Rattle.wit_data.specs.Entries.{Entry}
+use Rattle.wit_data.specs.declared.world.WorldItem.{WorldItem}
+use Rattle.wit_data.specs.declared.world.WorldItem.TheVariants as item
+use Rattle.wit_data.specs.declared.world.WorldKey.{WorldKey}
+use Rattle.wit_data.specs.declared.world.WorldKey.TheVariants as key
 use Rattle.wit_labels.specs.Groups.{groups_of}
 
 -- the first occurrence of a text, replaced

@@ -2,16 +2,16 @@
 ghost use Rattle.std.specs.Prelude.{◌≡◌, ℕ, ◌<◌, ◌++◌, ◌∷◌, [], IfOk, None, OnOk, Some, is_some, length, map, slice_get, slice_index_or, slice_set, if◌then◌else◌};
 ghost use Rattle.std.specs.List.{IsDistinct, range_with_len};
 ghost use Rattle.std.specs.Map.{keys_of};
-ghost use Rattle.wit_items.specs.Entries.{Entry};
-ghost use Rattle.wit_items.specs.contracts.world.WorldKeyPartialEq.TheImpl.{eq-value};
+ghost use Rattle.wit_data.specs.Entries.{Entry};
+ghost use Rattle.wit_data.specs.contracts.world.WorldKeyPartialEq.TheImpl.{eq-value};
 ghost use Rattle.wit_labels.specs.Placing.{getters_of, placed_order, waiters};
 ghost use Rattle.wit_labels.specs.Setters.{after, awaited, placed};
 
 use crate::setters::wanted_getter;
 use indexmap::IndexMap;
 use std::alloc::{AllocError, Global};
-use wit_items::{Items, Table, WorldItem, WorldKey};
-use wit_relations::in_order;
+use wit_data::{Items, Table, WorldItem, WorldKey};
+use wit_digraph::in_order;
 
 /// The entries, with each setter that stands before its getter moved to just after it. Nothing else
 /// moves; setters of one getter keep their order. The only error is want of memory.

@@ -9,7 +9,7 @@ ghost use Rattle.wit_labels.specs.Rename.{renamed, renamed_by};
 use crate::groups::{begins_group, split_groups};
 use std::alloc::{AllocError, Global};
 use std::marker::Model;
-use wit_items::{IncludeName, Items, Names, Text};
+use wit_data::{IncludeName, Items, Names, Text};
 
 /// The label as a renaming makes it, or None where the renaming is of another label. The only error is want of memory.
 ///
@@ -74,7 +74,7 @@ pub struct Renamings<'a> {
 
 impl<'a> Model for Renamings<'a> {
     ghost use Rattle.std.specs.Prelude.{List};
-    ghost use Rattle.wit_items.specs.declared.world.IncludeName.{IncludeName};
+    ghost use Rattle.wit_data.specs.declared.world.IncludeName.{IncludeName};
     ghost use Rattle.wit_labels.specs.FirstRenamings.{TellsFirsts};
 
     ghost Value = { List IncludeName };

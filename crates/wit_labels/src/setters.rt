@@ -4,7 +4,7 @@ ghost use Rattle.wit_labels.specs.Setters.{HaveGetters, LacksGetterAt, getter_la
 
 use crate::groups::has_group;
 use std::alloc::{AllocError, Global};
-use wit_items::{Table, Text, WorldItem, WorldKey};
+use wit_data::{Table, Text, WorldItem, WorldKey};
 
 /// Whether the label is a setter's: it begins with a group `[set]`, and with none `[get]`.
 pub fn is_setter_label(label: &str) -> bool

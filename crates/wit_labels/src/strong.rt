@@ -5,7 +5,7 @@ ghost use Rattle.wit_labels.specs.Strong.{AreStronglyUnique, Clashes, class_name
 
 use crate::groups::{rest_of, split_group};
 use std::alloc::{AllocError, Global};
-use wit_items::{Table, Text, WorldItem, WorldKey};
+use wit_data::{Table, Text, WorldItem, WorldKey};
 
 /// What tells a label apart from another with the same words.
 #[derive(Clone, Copy, PartialEq, Eq, Hash)]

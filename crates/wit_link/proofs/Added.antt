@@ -4,29 +4,29 @@ use Rattle.std.proofs.lemmas.List.FromFn.{get_or-map-range_with_len, length-map-
 use Rattle.std.proofs.lemmas.Option.{slice_get-get_or, slice_get_within}
 use Rattle.std.specs.Map.{lookup}
 use Rattle.wit_sources.specs.Span.{moved_by}
-use Rattle.wit_items.specs.PackageOrder.{same_package}
-use Rattle.wit_items.specs.Shape.{IsShaped}
-use Rattle.wit_items.specs.declared.world.World.{World}
-use Rattle.wit_items.specs.declared.world.WorldInclude.{WorldInclude}
-use Rattle.wit_graph.specs.declared.graph.Graph.{Graph}
-use Rattle.wit_graph.specs.declared.error_kind.ResolveErrorKind.{ResolveErrorKind}
-use Rattle.wit_graph.specs.declared.error_kind.ResolveErrorKind.TheVariants.{OffsetOverflow, OutOfMemory}
-use Rattle.wit_growth.specs.Image.{world_image}
-use Rattle.wit_growth.specs.ListFacts.{contained_at, place_of}
-use Rattle.wit_graph.proofs.Filters.{Contains-filter}
-use Rattle.wit_adding.specs.Addition.{Addition, active_includes, addition_maps, own_worlds, taken_world, world_place}
-use Rattle.wit_adding.specs.Adding.{places_of}
-use Rattle.wit_adding.specs.Cause.{IsAccepted, IsCause, borrow_in_result_15, conflict_4, duplicate_5, excluded_11, excluded_owner_12, gate_unreleased_10, gate_without_version_9, interface_not_found_3, mismatch_8, no_getter_18, not_a_resource_14, not_strongly_unique_17, offset_overflow_27, package_not_found_1, rename_unmatched_16, shadowing_7, type_not_defined_13, world_not_found_2}
-use Rattle.wit_adding.specs.Gates.{include_is_active}
-use Rattle.wit_adding.specs.Pushed.{pushed}
-use Rattle.wit_adding.specs.WorldReasons.{WorldIsFine}
-use Rattle.wit_adding.specs.Passed.{has_image}
-use Rattle.wit_adding.specs.Reasons.{HasImage, HasPackage}
-use Rattle.wit_adding.specs.OwnThingFacts.{own_world_from}
-use Rattle.wit_including.specs.AdditionFacts.{placed_include, placed_includes}
-use Rattle.wit_placing.specs.Added.{added_world}
-use Rattle.wit_placing.specs.Movers.{goes, id_or}
-use Rattle.wit_placing.specs.declared.worlds.PlacedWorld.{PlacedWorld}
+use Rattle.wit_data.specs.PackageOrder.{same_package}
+use Rattle.wit_data.specs.Shape.{IsShaped}
+use Rattle.wit_data.specs.declared.world.World.{World}
+use Rattle.wit_data.specs.declared.world.WorldInclude.{WorldInclude}
+use Rattle.wit_graph_data.specs.declared.graph.Graph.{Graph}
+use Rattle.wit_graph_data.specs.declared.error_kind.ResolveErrorKind.{ResolveErrorKind}
+use Rattle.wit_graph_data.specs.declared.error_kind.ResolveErrorKind.TheVariants.{OffsetOverflow, OutOfMemory}
+use Rattle.wit_graph_theory.specs.Image.{world_image}
+use Rattle.wit_graph_theory.specs.ListFacts.{contained_at, place_of}
+use Rattle.wit_elaboration.proofs.Filters.{Contains-filter}
+use Rattle.wit_link_spec.specs.Addition.{Addition, active_includes, addition_maps, own_worlds, taken_world, world_place}
+use Rattle.wit_link_spec.specs.Adding.{places_of}
+use Rattle.wit_link_spec.specs.Cause.{IsAccepted, IsCause, borrow_in_result_15, conflict_4, duplicate_5, excluded_11, excluded_owner_12, gate_unreleased_10, gate_without_version_9, interface_not_found_3, mismatch_8, no_getter_18, not_a_resource_14, not_strongly_unique_17, offset_overflow_27, package_not_found_1, rename_unmatched_16, shadowing_7, type_not_defined_13, world_not_found_2}
+use Rattle.wit_link_spec.specs.Gates.{include_is_active}
+use Rattle.wit_link_spec.specs.Pushed.{pushed}
+use Rattle.wit_link_spec.specs.WorldReasons.{WorldIsFine}
+use Rattle.wit_link_spec.specs.Passed.{has_image}
+use Rattle.wit_link_spec.specs.Reasons.{HasImage, HasPackage}
+use Rattle.wit_link_spec.specs.OwnThingFacts.{own_world_from}
+use Rattle.wit_link_include.specs.AdditionFacts.{placed_include, placed_includes}
+use Rattle.wit_remap.specs.Added.{added_world}
+use Rattle.wit_remap.specs.Movers.{goes, id_or}
+use Rattle.wit_remap.specs.declared.worlds.PlacedWorld.{PlacedWorld}
 use Rattle.wit_link.specs.Appending.{IsAdded}
 use Rattle.wit_link.specs.Checked.{IsChecked, IsNew}
 use Rattle.wit_link.specs.Fits.{IsNameTaken, PackageFits}

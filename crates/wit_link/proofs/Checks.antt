@@ -1,7 +1,7 @@
 -- What is looked at before the graph is touched.
-use Rattle.wit_adding.specs.Addition.{Addition}
-use Rattle.wit_adding.specs.Passed.{GatesAreMet, IsAllFound, NeedsNothingExcluded, has_image}
-use Rattle.wit_adding.specs.Reasons.{HasImage}
+use Rattle.wit_link_spec.specs.Addition.{Addition}
+use Rattle.wit_link_spec.specs.Passed.{GatesAreMet, IsAllFound, NeedsNothingExcluded, has_image}
+use Rattle.wit_link_spec.specs.Reasons.{HasImage}
 
 -- a package that passed the first looks has an image
 pub passed_image : (a : Addition) → GatesAreMet a → NeedsNothingExcluded a → IsAllFound a → HasImage a

@@ -1,13 +1,13 @@
 -- A package fits exactly where no span of it passes the end.
 use Rattle.std.proofs.Common.{◌⊎◌, inl, inr, ℕ, ◌+◌, ◌<◌, ◌≤◌, ◌^◌, List, ◌++◌, map, Some, arith}
-use Rattle.wit_items.specs.declared.unresolved.UnresolvedPackage.{UnresolvedPackage}
-use Rattle.wit_adding.specs.Gates.{Place}
-use Rattle.wit_adding.specs.Spans.{package_spans}
-use Rattle.wit_growth.specs.ListFacts.{Each-map, place_of}
-use Rattle.wit_adding.specs.Addition.{Addition}
-use Rattle.wit_adding.specs.Reasons.{PassesTheEnd}
-use Rattle.wit_placing.specs.Fits.{Fits}
-use Rattle.wit_fitting.specs.FittingFacts.{AllFit, Each-append, Each-cons, Each-head, Each-left, Each-right, Each-tail, Each-unmapped, SomePasses, all_parts, fit_or_pass, parts_fit, parts_spans}
+use Rattle.wit_data.specs.declared.unresolved.UnresolvedPackage.{UnresolvedPackage}
+use Rattle.wit_link_spec.specs.Gates.{Place}
+use Rattle.wit_link_spec.specs.Spans.{package_spans}
+use Rattle.wit_graph_theory.specs.ListFacts.{Each-map, place_of}
+use Rattle.wit_link_spec.specs.Addition.{Addition}
+use Rattle.wit_link_spec.specs.Reasons.{PassesTheEnd}
+use Rattle.wit_remap.specs.Fits.{Fits}
+use Rattle.wit_remap.specs.FittingFacts.{AllFit, Each-append, Each-cons, Each-head, Each-left, Each-right, Each-tail, Each-unmapped, SomePasses, all_parts, fit_or_pass, parts_fit, parts_spans}
 use Rattle.wit_link.specs.Fits.{PackageFits}
 
 module _ (offset : ℕ) where

@@ -1,12 +1,12 @@
 -- What adding a package to a graph has to make of it.
 -- Source: `append` of wit-parser 0.263.0.
 use Rattle.std.specs.Prelude.{◌≡◌, ℕ, length}
-use Rattle.wit_items.specs.declared.unresolved.UnresolvedPackage.{UnresolvedPackage}
-use Rattle.wit_graph.specs.declared.features.Features.{Features}
-use Rattle.wit_graph.specs.declared.graph.Graph.{Graph}
-use Rattle.wit_adding.specs.Addition.{Addition}
-use Rattle.wit_adding.specs.Cause.{IsAccepted}
-use Rattle.wit_adding.specs.Pushed.{pushed}
+use Rattle.wit_data.specs.declared.unresolved.UnresolvedPackage.{UnresolvedPackage}
+use Rattle.wit_graph_data.specs.declared.features.Features.{Features}
+use Rattle.wit_graph_data.specs.declared.graph.Graph.{Graph}
+use Rattle.wit_link_spec.specs.Addition.{Addition}
+use Rattle.wit_link_spec.specs.Cause.{IsAccepted}
+use Rattle.wit_link_spec.specs.Pushed.{pushed}
 
 -- the addition of a package to a graph, under features, its spans moved by an offset
 abbrev pub addition : Features → Graph → UnresolvedPackage → ℕ → Addition

@@ -1,7 +1,7 @@
 -- What is known of an addition before the graph is touched.
-use Rattle.wit_adding.specs.Addition.{Addition}
-use Rattle.wit_adding.specs.Passed.{GatesAreMet, HasResources, IsAllFound, NeedsNothingExcluded, ReturnsNoBorrow}
-use Rattle.wit_adding.specs.Reasons.{HasPackage, PassesTheEnd}
+use Rattle.wit_link_spec.specs.Addition.{Addition}
+use Rattle.wit_link_spec.specs.Passed.{GatesAreMet, HasResources, IsAllFound, NeedsNothingExcluded, ReturnsNoBorrow}
+use Rattle.wit_link_spec.specs.Reasons.{HasPackage, PassesTheEnd}
 
 -- the package isn't there yet, and its spans stay within the last position
 pub record IsNew (a : Addition) : Type 0 where

@@ -1,14 +1,14 @@
 -- Whether the spans of a package still end within the last position, 4294967295, when they are moved. The
 -- law `fitting_is_exact` says that a package fits exactly where no span of it passes the end.
 use Rattle.std.specs.Prelude.{◌≡◌, ◌⊎◌, None, ℕ}
-use Rattle.wit_items.specs.Each.{Each}
+use Rattle.wit_data.specs.Each.{Each}
 use Rattle.wit_sources.specs.Span.{moved_by}
-use Rattle.wit_items.specs.declared.unresolved.UnresolvedPackage.{UnresolvedPackage}
-use Rattle.wit_graph.specs.declared.error_kind.ResolveErrorKind.{ResolveErrorKind}
-use Rattle.wit_graph.specs.declared.error_kind.ResolveErrorKind.TheVariants.{DuplicatePackage, OffsetOverflow}
-use Rattle.wit_adding.specs.Gates.{Place}
-use Rattle.wit_placing.specs.Fits.{Fits}
-use Rattle.wit_fitting.specs.Fitting.{PartsFit}
+use Rattle.wit_data.specs.declared.unresolved.UnresolvedPackage.{UnresolvedPackage}
+use Rattle.wit_graph_data.specs.declared.error_kind.ResolveErrorKind.{ResolveErrorKind}
+use Rattle.wit_graph_data.specs.declared.error_kind.ResolveErrorKind.TheVariants.{DuplicatePackage, OffsetOverflow}
+use Rattle.wit_link_spec.specs.Gates.{Place}
+use Rattle.wit_remap.specs.Fits.{Fits}
+use Rattle.wit_remap.specs.Fitting.{PartsFit}
 
 -- that of a type that has to be a resource
 abbrev pub RequiredFits : ℕ → ℕ × Place → Type 0

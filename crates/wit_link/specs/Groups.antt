@@ -2,13 +2,13 @@
 -- is added.
 -- Source: `sort_unresolved_packages` and `visit` of wit-parser 0.263.0.
 use Rattle.std.specs.Prelude.{◌⊎◌, ◌≤◌, ◌^◌, ℕ, ◌+◌, List, [], ◌∷◌, ◌++◌, map}
-use Rattle.wit_items.specs.declared.unresolved.UnresolvedPackage.{UnresolvedPackage}
-use Rattle.wit_items.specs.declared.unresolved.UnresolvedPackageGroup.{UnresolvedPackageGroup}
-use Rattle.wit_graph.specs.declared.error_kind.ResolveErrorKind.{ResolveErrorKind}
-use Rattle.wit_graph.specs.declared.error_kind.ResolveErrorKind.TheVariants.{OffsetOverflow}
-use Rattle.wit_graph.specs.declared.features.Features.{Features}
-use Rattle.wit_graph.specs.declared.graph.Graph.{Graph}
-use Rattle.wit_sorting.specs.Sorting.{AreSorted, Handed, IsSortCause}
+use Rattle.wit_data.specs.declared.unresolved.UnresolvedPackage.{UnresolvedPackage}
+use Rattle.wit_data.specs.declared.unresolved.UnresolvedPackageGroup.{UnresolvedPackageGroup}
+use Rattle.wit_graph_data.specs.declared.error_kind.ResolveErrorKind.{ResolveErrorKind}
+use Rattle.wit_graph_data.specs.declared.error_kind.ResolveErrorKind.TheVariants.{OffsetOverflow}
+use Rattle.wit_graph_data.specs.declared.features.Features.{Features}
+use Rattle.wit_graph_data.specs.declared.graph.Graph.{Graph}
+use Rattle.wit_link_order.specs.Sorting.{AreSorted, Handed, IsSortCause}
 use Rattle.wit_link.specs.Several.{IsOneRefused}
 
 -- the packages of groups, the nested ones of a group before its main one, where the files of the first

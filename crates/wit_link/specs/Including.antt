@@ -1,14 +1,14 @@
 -- The worlds of a package that take part, each with its includes, as they are added one after another.
 use Rattle.std.specs.Prelude.{ℕ, List, map}
 use Rattle.wit_sources.specs.Span.{moved_by}
-use Rattle.wit_items.specs.declared.world.World.{World}
-use Rattle.wit_items.specs.declared.world.WorldInclude.{WorldInclude}
-use Rattle.wit_growth.specs.Image.{world_image}
-use Rattle.wit_adding.specs.Addition.{Addition, addition_maps, own_worlds}
-use Rattle.wit_adding.specs.declared.adding.Places.{Places}
-use Rattle.wit_including.specs.AdditionFacts.{placed_includes}
-use Rattle.wit_placing.specs.Movers.{goes}
-use Rattle.wit_placing.specs.declared.worlds.PlacedWorld.{PlacedWorld}
+use Rattle.wit_data.specs.declared.world.World.{World}
+use Rattle.wit_data.specs.declared.world.WorldInclude.{WorldInclude}
+use Rattle.wit_graph_theory.specs.Image.{world_image}
+use Rattle.wit_link_spec.specs.Addition.{Addition, addition_maps, own_worlds}
+use Rattle.wit_link_spec.specs.declared.adding.Places.{Places}
+use Rattle.wit_link_include.specs.AdditionFacts.{placed_includes}
+use Rattle.wit_remap.specs.Movers.{goes}
+use Rattle.wit_remap.specs.declared.worlds.PlacedWorld.{PlacedWorld}
 
 -- an include with the id and the span that it has in the graph
 abbrev pub include_at : Places → ℕ → WorldInclude → WorldInclude

@@ -1,11 +1,11 @@
 -- Packages that are added one after another, all or none.
 use Rattle.std.specs.Prelude.{◌≡◌, ℕ, List, [], ◌∷◌, ◌++◌}
-use Rattle.wit_items.specs.Shape.{IsShaped}
-use Rattle.wit_graph.specs.declared.error_kind.ResolveErrorKind.{ResolveErrorKind}
-use Rattle.wit_graph.specs.declared.features.Features.{Features}
-use Rattle.wit_graph.specs.declared.graph.Graph.{Graph}
-use Rattle.wit_sorting.specs.Sorting.{Handed}
-use Rattle.wit_adding.specs.Cause.{IsCause}
+use Rattle.wit_data.specs.Shape.{IsShaped}
+use Rattle.wit_graph_data.specs.declared.error_kind.ResolveErrorKind.{ResolveErrorKind}
+use Rattle.wit_graph_data.specs.declared.features.Features.{Features}
+use Rattle.wit_graph_data.specs.declared.graph.Graph.{Graph}
+use Rattle.wit_link_order.specs.Sorting.{Handed}
+use Rattle.wit_link_spec.specs.Cause.{IsCause}
 use Rattle.wit_link.specs.Appending.{IsAdded, addition}
 
 -- a package, with the offset of its spans, that has its shape

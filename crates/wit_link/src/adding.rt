@@ -1,31 +1,30 @@
 //! Adding a package to a graph.
 ghost use Rattle.std.specs.Prelude.{◌≡◌, ◌⊎◌, IfErr, IfOk, OnErr, OnOk};
-ghost use Rattle.wit_adding.specs.Adding.{activity_of, places_of, values_of};
-ghost use Rattle.wit_adding.specs.Cause.{IsCause};
-ghost use Rattle.wit_graph.specs.Elaboration.{graph_uses};
-ghost use Rattle.wit_graph.specs.Valid.{IsValid};
-ghost use Rattle.wit_graph.specs.declared.error_kind.ResolveErrorKind.{ResolveErrorKind};
-ghost use Rattle.wit_graph.specs.declared.error_kind.ResolveErrorKind.TheVariants.{OutOfMemory};
-ghost use Rattle.wit_items.specs.Shape.{IsShaped};
+ghost use Rattle.wit_link_spec.specs.Adding.{activity_of, places_of, values_of};
+ghost use Rattle.wit_link_spec.specs.Cause.{IsCause};
+ghost use Rattle.wit_elaboration.specs.Elaboration.{graph_uses};
+ghost use Rattle.wit_elaboration.specs.Valid.{IsValid};
+ghost use Rattle.wit_graph_data.specs.declared.error_kind.ResolveErrorKind.{ResolveErrorKind};
+ghost use Rattle.wit_graph_data.specs.declared.error_kind.ResolveErrorKind.TheVariants.{OutOfMemory};
+ghost use Rattle.wit_data.specs.Shape.{IsShaped};
 ghost use Rattle.wit_link.specs.Appending.{IsAdded, addition};
 ghost use Rattle.wit_link.specs.Checked.{IsChecked, IsNew};
 ghost use Rattle.wit_link.specs.Fits.{IsNameTaken};
-ghost use Rattle.wit_adding.specs.Pushed.{with_parts};
+ghost use Rattle.wit_link_spec.specs.Pushed.{with_parts};
 ghost use Rattle.wit_link.specs.Including.{ready_worlds};
-ghost use Rattle.wit_placing.specs.Grown.{Begins, Grown};
+ghost use Rattle.wit_remap.specs.Grown.{Begins, Grown};
 
 use crate::checking::{Checked, check};
 use crate::fits::spans_fit;
 use crate::including::place_includes;
 use std::alloc::{AllocError, Global};
-use wit_adding::Adding;
-use wit_adding_laws::laws::{
-    included_are_there, includes_can_be, pushes_stay_valid, worlds_can_be,
-};
-use wit_graph::{Elaborator, Features, Graph, ResolveError, ResolveErrorKind, ResolveResult};
-use wit_including::add_world;
-use wit_items::{Items, PackageId, Span, UnresolvedPackage};
-use wit_placing::{Mark, Part, PlacedWorld, add_parts};
+use wit_data::{Items, PackageId, Span, UnresolvedPackage};
+use wit_elaboration::Elaborator;
+use wit_graph_data::{Features, Graph, ResolveError, ResolveErrorKind, ResolveResult};
+use wit_link_include::add_world;
+use wit_link_laws::laws::{included_are_there, includes_can_be, pushes_stay_valid, worlds_can_be};
+use wit_link_spec::Adding;
+use wit_remap::{Mark, Part, PlacedWorld, add_parts};
 
 /// Adds an `is_shaped` package to a valid graph under features, its spans moved by so many positions, and answers its
 /// id. The graph stays valid.

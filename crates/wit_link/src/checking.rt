@@ -1,20 +1,20 @@
 //! What is looked at of a package before the graph is touched.
 ghost use Rattle.std.specs.Prelude.{◌≡◌, ◌⊎◌, IfErr, IfOk, OnOk};
-ghost use Rattle.wit_adding.specs.Adding.{activity_of, addition_of, places_of, values_of};
-ghost use Rattle.wit_adding.specs.Cause.{IsCause};
-ghost use Rattle.wit_adding.specs.Passed.{GatesAreMet, HasResources, IsAllFound, NeedsNothingExcluded, ReturnsNoBorrow};
-ghost use Rattle.wit_adding.specs.Reasons.{PassesTheEnd};
-ghost use Rattle.wit_graph.specs.Valid.{IsValid};
-ghost use Rattle.wit_graph.specs.declared.error_kind.ResolveErrorKind.TheVariants.{OutOfMemory};
-ghost use Rattle.wit_items.specs.Shape.{IsShaped};
+ghost use Rattle.wit_link_spec.specs.Adding.{activity_of, addition_of, places_of, values_of};
+ghost use Rattle.wit_link_spec.specs.Cause.{IsCause};
+ghost use Rattle.wit_link_spec.specs.Passed.{GatesAreMet, HasResources, IsAllFound, NeedsNothingExcluded, ReturnsNoBorrow};
+ghost use Rattle.wit_link_spec.specs.Reasons.{PassesTheEnd};
+ghost use Rattle.wit_elaboration.specs.Valid.{IsValid};
+ghost use Rattle.wit_graph_data.specs.declared.error_kind.ResolveErrorKind.TheVariants.{OutOfMemory};
+ghost use Rattle.wit_data.specs.Shape.{IsShaped};
 ghost use Rattle.wit_link.specs.Checked.{IsChecked};
 
 use std::alloc::Global;
-use wit_adding::{Activity, Adding, Places, Values};
-use wit_gates::{activity, check_references, check_versions};
-use wit_graph::ResolveResult;
-use wit_lookup::places;
-use wit_resources::{check_resources, check_results, values};
+use wit_graph_data::ResolveResult;
+use wit_link_features::{activity, check_references, check_versions};
+use wit_link_foreign::places;
+use wit_link_resources::{check_resources, check_results, values};
+use wit_link_spec::{Activity, Adding, Places, Values};
 
 /// What takes part of a package, and where its things go.
 #[derive(Drop)]

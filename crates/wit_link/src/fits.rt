@@ -1,10 +1,10 @@
 //! Whether the spans of a package can be moved.
 ghost use Rattle.std.specs.Prelude.{◌↔◌, IsTrue};
-ghost use Rattle.wit_items.specs.Each.{Each};
+ghost use Rattle.wit_data.specs.Each.{Each};
 ghost use Rattle.wit_link.specs.Fits.{ForeignFits, PackageFits, RequiredFits};
 
-use wit_fitting::{all_fit, fits, parts_fit};
-use wit_items::{Span, TypeId, UnresolvedPackage};
+use wit_data::{Span, TypeId, UnresolvedPackage};
+use wit_remap::{all_fit, fits, parts_fit};
 
 /// Whether no span of a package passes the last position when it is moved by an offset.
 pub(crate) fn spans_fit(unresolved: &UnresolvedPackage, offset: u32) -> bool

@@ -3,9 +3,9 @@ ghost use Rattle.std.specs.Prelude.{◌≡◌, IfOk, map};
 ghost use Rattle.wit_link.specs.Including.{include_at, world_with};
 
 use std::alloc::{AllocError, Global};
-use wit_adding::Places;
-use wit_items::{Items, WorldInclude};
-use wit_placing::PlacedWorld;
+use wit_data::{Items, WorldInclude};
+use wit_link_spec::Places;
+use wit_remap::PlacedWorld;
 
 /// Worlds with their includes at their places. A span that can't be moved is answered as want of memory: all spans were
 /// seen to fit.

@@ -11,4 +11,4 @@ mod several;
 pub use crate::adding::{append, append_with};
 pub use crate::remap::Remap;
 pub use crate::several::{append_all, append_all_with};
-pub use wit_sorting::sort_groups;
+pub use wit_link_order::sort_groups;

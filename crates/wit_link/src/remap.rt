@@ -1,13 +1,13 @@
 //! Where the things of a handed-in package or graph stand in the graph that took them.
 ghost use Rattle.std.specs.Prelude.{◌≡◌, ◌⊎◌, ◌<◌, ℕ, None, Some, Ok, IfErr, OnOk, codes, length, slice_get, string_bytes};
-ghost use Rattle.wit_adding.specs.CauseText.{excluded_owner_text, excluded_text};
-ghost use Rattle.wit_graph.specs.declared.cause.Cause.TheVariants as cause;
-ghost use Rattle.wit_graph.specs.declared.error_kind.ResolveErrorKind.TheVariants.{OutOfMemory, Semantic};
+ghost use Rattle.wit_link_spec.specs.CauseText.{excluded_owner_text, excluded_text};
+ghost use Rattle.wit_graph_data.specs.declared.cause.Cause.TheVariants as cause;
+ghost use Rattle.wit_graph_data.specs.declared.error_kind.ResolveErrorKind.TheVariants.{OutOfMemory, Semantic};
 
 use std::alloc::{AllocError, Global};
-use wit_gates::{excluded_message, excluded_owner_message};
-use wit_graph::{Cause, ResolveError, ResolveErrorKind, ResolveResult};
-use wit_items::{Id, InterfaceId, Items, PackageId, Span, Text, TryClone, TypeId, WorldId};
+use wit_data::{Id, InterfaceId, Items, PackageId, Span, Text, TryClone, TypeId, WorldId};
+use wit_graph_data::{Cause, ResolveError, ResolveErrorKind, ResolveResult};
+use wit_link_features::{excluded_message, excluded_owner_message};
 use wit_values::try_clone_four;
 
 /// The ids of the things that were handed in: for each place of the handed-in list the id in the graph that took it,

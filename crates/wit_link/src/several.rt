@@ -1,18 +1,19 @@
 //! Adding packages one after another, all or none.
 ghost use Rattle.std.specs.Prelude.{◌≡◌, ◌⊎◌, IfErr, IfOk, OnErr, OnOk};
 ghost use Rattle.std.specs.List.{AllByRecursion};
-ghost use Rattle.wit_graph.specs.Elaboration.{graph_uses};
-ghost use Rattle.wit_graph.specs.Valid.{IsValid};
-ghost use Rattle.wit_graph.specs.declared.error_kind.ResolveErrorKind.{ResolveErrorKind};
-ghost use Rattle.wit_graph.specs.declared.error_kind.ResolveErrorKind.TheVariants.{OutOfMemory};
+ghost use Rattle.wit_elaboration.specs.Elaboration.{graph_uses};
+ghost use Rattle.wit_elaboration.specs.Valid.{IsValid};
+ghost use Rattle.wit_graph_data.specs.declared.error_kind.ResolveErrorKind.{ResolveErrorKind};
+ghost use Rattle.wit_graph_data.specs.declared.error_kind.ResolveErrorKind.TheVariants.{OutOfMemory};
 ghost use Rattle.wit_link.specs.Several.{ArePushed, CanAppend, IsOneRefused};
-ghost use Rattle.wit_placing.specs.Grown.{Begins, Grown};
+ghost use Rattle.wit_remap.specs.Grown.{Begins, Grown};
 
 use crate::adding::append_with;
 use std::alloc::Global;
-use wit_graph::{Elaborator, Features, Graph, ResolveResult};
-use wit_items::{Items, PackageId, UnresolvedPackage};
-use wit_placing::Mark;
+use wit_data::{Items, PackageId, UnresolvedPackage};
+use wit_elaboration::Elaborator;
+use wit_graph_data::{Features, Graph, ResolveResult};
+use wit_remap::Mark;
 
 /// Adds `is_shaped` packages to a valid graph under features, one after another, each with its spans moved by so many
 /// positions as stand beside it, and answers their ids in order. The graph stays valid.

@@ -5,7 +5,7 @@ ghost use Rattle.wit_package_sources.specs.Seen.{with_all};
 ghost use Rattle.wit_sources.specs.SourceMap.{paths_of};
 
 use std::alloc::{AllocError, Global};
-use wit_items::{Items, SourceMap, Text};
+use wit_data::{Items, SourceMap, Text};
 use wit_values::NameSet;
 
 /// The names of the sources of each map.

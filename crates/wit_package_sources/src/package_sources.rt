@@ -1,7 +1,7 @@
 //! The sources of packages, by their names.
 ghost use Rattle.std.specs.Prelude.{◌≡◌, ◌∷◌, [], IfErr, IfOk, length, map};
 ghost use Rattle.std.specs.Iterator.{YieldsFirstBy, item_count};
-ghost use Rattle.wit_graph.specs.declared.error_kind.ResolveErrorKind.TheVariants.{OutOfMemory};
+ghost use Rattle.wit_graph_data.specs.declared.error_kind.ResolveErrorKind.TheVariants.{OutOfMemory};
 ghost use Rattle.wit_package_sources.specs.Names.{ArePlaced, all_names, names_of, package_names};
 
 use crate::names::{add_unseen, names_of};
@@ -9,8 +9,8 @@ use std::alloc::{AllocError, Global};
 use std::collections::BTreeMap;
 use std::marker::Model;
 use std::slice;
-use wit_graph::ResolveResult;
-use wit_items::{Items, PackageId, SourceMap, Text, TryClone};
+use wit_data::{Items, PackageId, SourceMap, Text, TryClone};
+use wit_graph_data::ResolveResult;
 use wit_values::NameSet;
 
 /// The names of the sources that packages come from.

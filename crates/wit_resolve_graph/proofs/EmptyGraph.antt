@@ -2,17 +2,17 @@
 use Rattle.std.proofs.Common.{◌≡◌, ℕ, ◌<◌, List, [], arith}
 use Rattle.std.proofs.lemmas.List.Elements.{All-nil}
 use Rattle.std.specs.List.{IsDistinct}
-use Rattle.wit_relations.specs.Relation.{IsAcyclic}
-use Rattle.wit_items.specs.Each.{EachAt}
-use Rattle.wit_graph.specs.Examples.{empty_graph}
+use Rattle.wit_digraph.specs.Relation.{IsAcyclic}
+use Rattle.wit_data.specs.Each.{EachAt}
+use Rattle.wit_elaboration.specs.Examples.{empty_graph}
 use Rattle.wit_values.specs.Table.{HasDistinctKeys}
-use Rattle.wit_graph.specs.Valid.{IsValid}
-use Rattle.wit_graph.specs.declared.graph.Graph.{Graph}
-use Rattle.wit_graph.specs.declared.graph.Package.{Package}
-use Rattle.wit_items.specs.declared.interface.Interface.{Interface}
-use Rattle.wit_items.specs.declared.package_name.PackageName.{PackageName}
-use Rattle.wit_items.specs.declared.types.TypeDef.{TypeDef}
-use Rattle.wit_items.specs.declared.world.World.{World}
+use Rattle.wit_elaboration.specs.Valid.{IsValid}
+use Rattle.wit_graph_data.specs.declared.graph.Graph.{Graph}
+use Rattle.wit_graph_data.specs.declared.graph.Package.{Package}
+use Rattle.wit_data.specs.declared.interface.Interface.{Interface}
+use Rattle.wit_data.specs.declared.package_name.PackageName.{PackageName}
+use Rattle.wit_data.specs.declared.types.TypeDef.{TypeDef}
+use Rattle.wit_data.specs.declared.world.World.{World}
 
 none : {X : Type 0} (P : ℕ → X → Type 0) → EachAt P []
 none P i x at = cc

@@ -1,17 +1,17 @@
 -- What is kept beside a graph, after a turn of a world and after packages came.
 use Rattle.std.proofs.Common.{◌≡◌, ◌∙◌, ℕ, List, [], Bool, Option, None, Some, length, take, slice_get, OnOk, OnErr, Result, Ok, Err, refl, sym, ap, subst}
 use Rattle.std.specs.Option.{option_map_or}
-use Rattle.wit_items.specs.declared.types.TypeDef.{TypeDef}
-use Rattle.wit_items.specs.declared.world.World.{World}
-use Rattle.wit_graph.specs.Elaboration.{graph_uses}
-use Rattle.wit_graph.specs.Valid.{IsValid}
-use Rattle.wit_graph.specs.declared.graph.Graph.{Graph}
-use Rattle.wit_placing.specs.Grown.{Begins, Grown, cut_at, mark_of}
-use Rattle.wit_placing.specs.GrownFacts.{cut_back}
-use Rattle.wit_placing.specs.declared.mark.Mark.{Mark}
-use Rattle.wit_questions.specs.ValidBits.{AreValidBits, TellValidBits}
-use Rattle.wit_questions.specs.ValidBitsFacts.{flags_stay}
-use Rattle.wit_unite.specs.Turned.{Turn, turned, turned_at}
+use Rattle.wit_data.specs.declared.types.TypeDef.{TypeDef}
+use Rattle.wit_data.specs.declared.world.World.{World}
+use Rattle.wit_elaboration.specs.Elaboration.{graph_uses}
+use Rattle.wit_elaboration.specs.Valid.{IsValid}
+use Rattle.wit_graph_data.specs.declared.graph.Graph.{Graph}
+use Rattle.wit_remap.specs.Grown.{Begins, Grown, cut_at, mark_of}
+use Rattle.wit_remap.specs.GrownFacts.{cut_back}
+use Rattle.wit_remap.specs.declared.mark.Mark.{Mark}
+use Rattle.wit_queries.specs.ValidBits.{AreValidBits, TellValidBits}
+use Rattle.wit_queries.specs.ValidBitsFacts.{flags_stay}
+use Rattle.wit_transform.specs.Turned.{Turn, turned, turned_at}
 use Rattle.wit_resolve_graph.specs.Kept.{AreKept}
 use Rattle.wit_resolve_graph.specs.declared.kept.Kept.{Kept}
 

@@ -3,15 +3,15 @@ use Rattle.std.proofs.Common.{◌≡◌, ◌∙◌, ◌⊎◌, ◌+◌, ◌<◌,
 use Rattle.std.proofs.lemmas.Bool.{cases_lt}
 use Rattle.std.proofs.lemmas.List.{take_at}
 use Rattle.wit_sources.specs.SourceMap.{Sources, moved_file, with_sources}
-use Rattle.wit_graph.specs.declared.error_kind.ResolveErrorKind.{ResolveErrorKind}
-use Rattle.wit_graph.specs.declared.error_kind.ResolveErrorKind.TheVariants.{OffsetOverflow, OutOfMemory}
-use Rattle.wit_graph.specs.declared.graph.Graph.{Graph}
+use Rattle.wit_graph_data.specs.declared.error_kind.ResolveErrorKind.{ResolveErrorKind}
+use Rattle.wit_graph_data.specs.declared.error_kind.ResolveErrorKind.TheVariants.{OffsetOverflow, OutOfMemory}
+use Rattle.wit_graph_data.specs.declared.graph.Graph.{Graph}
 use Rattle.wit_link.specs.declared.remap.Remap.{Remap}
-use Rattle.wit_merging.specs.Cause.{IsMergeCause}
-use Rattle.wit_merging.specs.Matches.{Merging}
-use Rattle.wit_merging.specs.Moved.{going}
-use Rattle.wit_merging.specs.United.{united}
-use Rattle.wit_comparing.specs.Differing.{merging_by}
+use Rattle.wit_merge_spec.specs.Cause.{IsMergeCause}
+use Rattle.wit_merge_spec.specs.Matches.{Merging}
+use Rattle.wit_merge_spec.specs.Moved.{going}
+use Rattle.wit_merge_spec.specs.United.{united}
+use Rattle.wit_merge_match.specs.Differing.{merging_by}
 use Rattle.wit_resolve_graph.specs.Merging.{FilesPass, Merges, RefusesMerge, answered, merging}
 use Rattle.wit_resolve_graph.specs.State.{State}
 use Rattle.wit_resolve_graph.proofs.FilesAfter.{files_after, files_stay}

@@ -1,7 +1,7 @@
 -- The shape of what commands hand in.
 use Rattle.std.specs.Prelude.{◌∷◌}
 use Rattle.std.specs.List.{AllByRecursion}
-use Rattle.wit_items.specs.Shape.{IsGroupShaped}
+use Rattle.wit_data.specs.Shape.{IsGroupShaped}
 use Rattle.wit_resolve_graph.specs.declared.command.Command.{Command}
 use Rattle.wit_resolve_graph.specs.declared.command.Command.TheVariants.{AddFeature, Exportize, Importize, Merge, PushGroups, Semver, SetAllFeatures, SetTrackRule}
 

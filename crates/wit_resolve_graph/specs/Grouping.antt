@@ -1,11 +1,11 @@
 -- What the steps of adding groups hand on.
 use Rattle.std.specs.Prelude.{◌≡◌, ℕ, List, Some, slice_get}
-use Rattle.wit_items.specs.declared.package_name.PackageName.{PackageName}
-use Rattle.wit_graph.specs.declared.error_kind.ResolveErrorKind.{ResolveErrorKind}
-use Rattle.wit_graph.specs.declared.features.Features.{Features}
-use Rattle.wit_graph.specs.declared.graph.Graph.{Graph}
+use Rattle.wit_data.specs.declared.package_name.PackageName.{PackageName}
+use Rattle.wit_graph_data.specs.declared.error_kind.ResolveErrorKind.{ResolveErrorKind}
+use Rattle.wit_graph_data.specs.declared.features.Features.{Features}
+use Rattle.wit_graph_data.specs.declared.graph.Graph.{Graph}
 use Rattle.wit_link.specs.Several.{ArePushed}
-use Rattle.wit_sorting.specs.Sorting.{AreSorted, Handed, IsSortCause, names_of}
+use Rattle.wit_link_order.specs.Sorting.{AreSorted, Handed, IsSortCause, names_of}
 
 -- packages are added in their order, nothing speaks against it, and the one of a name has this id
 pub record AreAdded (features : Features) (g : Graph) (handed : List Handed) (name : PackageName) (id : ℕ) (new : Graph) : Type 0 where

@@ -1,9 +1,9 @@
 -- What a `Resolve` keeps beside its graph.
 use Rattle.std.specs.Prelude.{◌≡◌}
-use Rattle.wit_graph.specs.Elaboration.{graph_uses}
-use Rattle.wit_graph.specs.Valid.{IsValid}
-use Rattle.wit_graph.specs.declared.graph.Graph.{Graph}
-use Rattle.wit_questions.specs.ValidBits.{TellValidBits}
+use Rattle.wit_elaboration.specs.Elaboration.{graph_uses}
+use Rattle.wit_elaboration.specs.Valid.{IsValid}
+use Rattle.wit_graph_data.specs.declared.graph.Graph.{Graph}
+use Rattle.wit_queries.specs.ValidBits.{TellValidBits}
 use Rattle.wit_resolve_graph.specs.declared.kept.Kept.{Kept}
 
 -- a valid graph, which of its interfaces use which, and of which of its types all bits are valid

@@ -1,13 +1,13 @@
 -- What merging one state into another does, and what is left where it is refused.
 use Rattle.std.specs.Prelude.{◌≡◌, ◌⊎◌, ◌≤◌, ◌<◌, ◌+◌, ◌^◌}
 use Rattle.wit_sources.specs.SourceMap.{Sources, with_sources}
-use Rattle.wit_graph.specs.declared.error_kind.ResolveErrorKind.{ResolveErrorKind}
-use Rattle.wit_graph.specs.declared.error_kind.ResolveErrorKind.TheVariants.{OffsetOverflow, OutOfMemory}
+use Rattle.wit_graph_data.specs.declared.error_kind.ResolveErrorKind.{ResolveErrorKind}
+use Rattle.wit_graph_data.specs.declared.error_kind.ResolveErrorKind.TheVariants.{OffsetOverflow, OutOfMemory}
 use Rattle.wit_link.specs.declared.remap.Remap.{Remap}
-use Rattle.wit_merging.specs.Cause.{CanMerge, IsMergeCause}
-use Rattle.wit_merging.specs.Matches.{Merging}
-use Rattle.wit_merging.specs.Moved.{Going, going}
-use Rattle.wit_merging.specs.United.{united}
+use Rattle.wit_merge_spec.specs.Cause.{CanMerge, IsMergeCause}
+use Rattle.wit_merge_spec.specs.Matches.{Merging}
+use Rattle.wit_merge_spec.specs.Moved.{Going, going}
+use Rattle.wit_merge_spec.specs.United.{united}
 use Rattle.wit_resolve_graph.specs.State.{State}
 
 -- the graph of another state goes into that of a state; its spans move to the end of the sources, as its files do

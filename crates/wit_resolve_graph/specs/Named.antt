@@ -1,9 +1,9 @@
 -- Worlds of a graph by the names of their packages and their own.
 use Rattle.std.specs.Prelude.{ℕ, List, Contains}
-use Rattle.wit_items.specs.Each.{SomeAt}
-use Rattle.wit_items.specs.declared.package_name.PackageName.{PackageName}
-use Rattle.wit_graph.specs.declared.graph.Graph.{Graph}
-use Rattle.wit_graph.specs.declared.graph.Package.{Package}
+use Rattle.wit_data.specs.Each.{SomeAt}
+use Rattle.wit_data.specs.declared.package_name.PackageName.{PackageName}
+use Rattle.wit_graph_data.specs.declared.graph.Graph.{Graph}
+use Rattle.wit_graph_data.specs.declared.graph.Package.{Package}
 
 -- the graph has a world of this name in the package of that name
 abbrev pub HasWorld : Graph → PackageName → List ℕ → ℕ → Type 0

@@ -6,10 +6,10 @@ use Rattle.std.specs.Fn.{Once}
 use Rattle.wit_sources.specs.SourceMap.{Sources, end_after, with_file, with_sources}
 use Rattle.wit_sources.specs.Span.{end_of, moved_by}
 use Rattle.wit_sources.specs.declared.source_map.SourceFile.{SourceFile}
-use Rattle.wit_items.specs.declared.unresolved.UnresolvedPackageGroup.{UnresolvedPackageGroup}
-use Rattle.wit_graph.specs.Rendered.{rendered, text_at}
-use Rattle.wit_graph.specs.declared.error_kind.ResolveErrorKind.{ResolveErrorKind}
-use Rattle.wit_graph.specs.declared.error_kind.ResolveErrorKind.TheVariants.{OffsetOverflow, OutOfMemory}
+use Rattle.wit_data.specs.declared.unresolved.UnresolvedPackageGroup.{UnresolvedPackageGroup}
+use Rattle.wit_graph_data.specs.Rendered.{rendered, text_at}
+use Rattle.wit_graph_data.specs.declared.error_kind.ResolveErrorKind.{ResolveErrorKind}
+use Rattle.wit_graph_data.specs.declared.error_kind.ResolveErrorKind.TheVariants.{OffsetOverflow, OutOfMemory}
 use Rattle.wit_link.specs.Groups.{IsGroupsCause}
 use Rattle.wit_resolve_graph.specs.State.{State}
 use Rattle.wit_resolve_graph.specs.Step.{PushesGroups, RefusesGroups}

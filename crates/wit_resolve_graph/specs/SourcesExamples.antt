@@ -1,7 +1,7 @@
 -- A source that can't be read after one that is there.
 use Rattle.std.specs.Prelude.{◌≡◌, ℕ, Some, codes}
 use Rattle.wit_sources.specs.SourceMap.{Sources, with_sources}
-use Rattle.wit_graph.specs.declared.error_kind.ResolveErrorKind.TheVariants.{OffsetOverflow}
+use Rattle.wit_graph_data.specs.declared.error_kind.ResolveErrorKind.TheVariants.{OffsetOverflow}
 use Rattle.wit_resolve_graph.specs.Sources.{IsNotPlaced, IsPlaced, fault_rendered, only_file}
 use Rattle.wit_resolve_graph.specs.State.{State, new_state}
 use Rattle.wit_resolve_graph.specs.declared.sources.SourceFault.{SourceFault}

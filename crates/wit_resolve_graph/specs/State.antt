@@ -1,9 +1,9 @@
 -- What contracts see of a `Resolve`.
 use Rattle.std.specs.Prelude.{[], false}
-use Rattle.wit_graph.specs.declared.features.Features.{Features}
-use Rattle.wit_graph.specs.declared.graph.Graph.{Graph}
-use Rattle.wit_items.specs.declared.track.TrackRule.{TrackRule}
-use Rattle.wit_items.specs.declared.track.TrackRule.TheVariants.{Published}
+use Rattle.wit_graph_data.specs.declared.features.Features.{Features}
+use Rattle.wit_graph_data.specs.declared.graph.Graph.{Graph}
+use Rattle.wit_data.specs.declared.track.TrackRule.{TrackRule}
+use Rattle.wit_data.specs.declared.track.TrackRule.TheVariants.{Published}
 use Rattle.wit_sources.specs.SourceMap.{Sources}
 
 pub record State : Type 0 where

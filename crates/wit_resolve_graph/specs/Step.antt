@@ -5,24 +5,24 @@ use Rattle.std.specs.Prelude.{◌≡◌, ◌⊎◌, ◌<◌, ◌^◌, ℕ, Bool,
 use Rattle.std.specs.List.{list_any}
 use Rattle.std.specs.Str.{bytes_eq}
 use Rattle.wit_sources.specs.SourceMap.{Sources, with_sources}
-use Rattle.wit_items.specs.declared.package_name.PackageName.{PackageName}
-use Rattle.wit_items.specs.declared.unresolved.UnresolvedPackageGroup.{UnresolvedPackageGroup}
-use Rattle.wit_items.specs.declared.world.WorldKey.{WorldKey}
-use Rattle.wit_graph.specs.declared.graph.Graph.{Graph}
-use Rattle.wit_graph.specs.Entries.{Entry}
-use Rattle.wit_graph.specs.IdText.{key_text}
-use Rattle.wit_graph.specs.declared.error_kind.ResolveErrorKind.{ResolveErrorKind}
-use Rattle.wit_graph.specs.declared.error_kind.ResolveErrorKind.TheVariants.{OutOfMemory}
-use Rattle.wit_graph.specs.declared.features.Features.{Features}
+use Rattle.wit_data.specs.declared.package_name.PackageName.{PackageName}
+use Rattle.wit_data.specs.declared.unresolved.UnresolvedPackageGroup.{UnresolvedPackageGroup}
+use Rattle.wit_data.specs.declared.world.WorldKey.{WorldKey}
+use Rattle.wit_graph_data.specs.declared.graph.Graph.{Graph}
+use Rattle.wit_elaboration.specs.Entries.{Entry}
+use Rattle.wit_graph_data.specs.IdText.{key_text}
+use Rattle.wit_graph_data.specs.declared.error_kind.ResolveErrorKind.{ResolveErrorKind}
+use Rattle.wit_graph_data.specs.declared.error_kind.ResolveErrorKind.TheVariants.{OutOfMemory}
+use Rattle.wit_graph_data.specs.declared.features.Features.{Features}
 use Rattle.wit_link.specs.Groups.{IsGroupsCause, files_end, packages_of}
 use Rattle.wit_link.specs.Several.{ArePushed}
-use Rattle.wit_sorting.specs.Sorting.{AreSorted, Handed, IsSortCause}
+use Rattle.wit_link_order.specs.Sorting.{AreSorted, Handed, IsSortCause}
 use Rattle.wit_resolve_graph.specs.Merging.{HasSourcesAfter, Merges, RefusesMerge}
 use Rattle.wit_resolve_graph.specs.Named.{HasWorld}
-use Rattle.wit_tracks.specs.Rewritten.{rewritten}
-use Rattle.wit_tracks.specs.TrackCause.{IsTrackCause}
-use Rattle.wit_unite.specs.TurnCause.{IsExportizeCause, IsImportizeCause, imports_at}
-use Rattle.wit_unite.specs.Turned.{exportized, importized, turned}
+use Rattle.wit_semver_spec.specs.Rewritten.{rewritten}
+use Rattle.wit_semver_spec.specs.TrackCause.{IsTrackCause}
+use Rattle.wit_transform.specs.TurnCause.{IsExportizeCause, IsImportizeCause, imports_at}
+use Rattle.wit_transform.specs.Turned.{exportized, importized, turned}
 use Rattle.wit_resolve_graph.specs.State.{State}
 use Rattle.wit_resolve_graph.specs.declared.command.Command.{Command}
 use Rattle.wit_resolve_graph.specs.declared.command.Command.TheVariants.{AddFeature, SetAllFeatures, SetTrackRule, PushGroups, Merge, Importize, Exportize, Semver}

@@ -1,7 +1,7 @@
 //! Commands and their replies, as data.
 use crate::resolve::Resolve;
-use wit_graph::ResolveError;
-use wit_items::{Items, PackageId, PackageName, Text, TrackRule, UnresolvedPackageGroup};
+use wit_data::{Items, PackageId, PackageName, Text, TrackRule, UnresolvedPackageGroup};
+use wit_graph_data::ResolveError;
 use wit_link::Remap;
 
 /// A change of a `Resolve`. A world is named by its package's name and its own.

@@ -3,15 +3,15 @@
 ghost use Rattle.std.specs.Prelude.{◌≡◌, IfErr, IfOk, string_bytes, true};
 ghost use Rattle.wit_core_names.specs.Conditions.{can_name_export, can_name_import};
 ghost use Rattle.wit_core_names.specs.Names.{export_name, import_names};
-ghost use Rattle.wit_graph.specs.declared.error_kind.ResolveErrorKind.TheVariants.{OutOfMemory};
+ghost use Rattle.wit_graph_data.specs.declared.error_kind.ResolveErrorKind.TheVariants.{OutOfMemory};
 
 use crate::resolve::Resolve;
 use std::alloc::Global;
 use wit_core_names::{
     WasmExport, WasmImport, can_name_export, can_name_import, wasm_export_name, wasm_import_name,
 };
-use wit_graph::ResolveResult;
-use wit_items::ManglingAndAbi;
+use wit_data::ManglingAndAbi;
+use wit_graph_data::ResolveResult;
 
 impl Resolve {
     /// Whether an import has names, the condition of `wasm_import_name`: an interface's key and a resource must have

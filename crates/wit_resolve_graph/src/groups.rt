@@ -1,26 +1,26 @@
 //! Groups of packages that are added together: their files at the end of the sources, their packages in order.
 ghost use Rattle.std.specs.Prelude.{◌≡◌, ◌⊎◌, ◌<◌, ◌+◌, ◌++◌, ◌^◌, [], ◌∷◌, Contains, IfErr, IfOk, OnErr, OnOk, map};
 ghost use Rattle.std.specs.List.{AllByRecursion};
-ghost use Rattle.wit_graph.specs.declared.error_kind.ResolveErrorKind.{ResolveErrorKind};
-ghost use Rattle.wit_graph.specs.declared.error_kind.ResolveErrorKind.TheVariants.{OutOfMemory};
-ghost use Rattle.wit_items.specs.declared.unresolved.UnresolvedPackage.{UnresolvedPackage};
+ghost use Rattle.wit_graph_data.specs.declared.error_kind.ResolveErrorKind.{ResolveErrorKind};
+ghost use Rattle.wit_graph_data.specs.declared.error_kind.ResolveErrorKind.TheVariants.{OutOfMemory};
+ghost use Rattle.wit_data.specs.declared.unresolved.UnresolvedPackage.{UnresolvedPackage};
 ghost use Rattle.wit_link.specs.Groups.{FilesPassTheEnd, IsPushCause, files_end, packages_of};
 ghost use Rattle.wit_link.specs.Several.{CanAppend};
-ghost use Rattle.wit_placing.specs.Grown.{Begins};
+ghost use Rattle.wit_remap.specs.Grown.{Begins};
 ghost use Rattle.wit_resolve_graph.specs.Grouping.{AreAdded};
 ghost use Rattle.wit_resolve_graph.specs.Kept.{AreKept};
 ghost use Rattle.wit_resolve_graph.specs.Step.{with_files};
-ghost use Rattle.wit_sorting.specs.Sorting.{IsSortCause, names_of};
+ghost use Rattle.wit_link_order.specs.Sorting.{IsSortCause, names_of};
 ghost use Rattle.wit_sources.specs.SourceMap.{with_sources};
 
 use crate::kept::Kept;
 use std::alloc::{AllocError, Global};
-use wit_graph::{Features, Graph, ResolveResult};
-use wit_items::{
+use wit_data::{
     Items, PackageId, PackageName, SourceMap, UnresolvedPackage, UnresolvedPackageGroup,
 };
+use wit_graph_data::{Features, Graph, ResolveResult};
 use wit_link::{append_all_with, sort_groups};
-use wit_placing::Mark;
+use wit_remap::Mark;
 
 /// Puts the files of groups at the end of a source map, in order, and answers their packages, the nested
 /// ones of a group before its main one, each with the place where its group's files begin.

@@ -1,21 +1,22 @@
 //! What a `Resolve` keeps beside its graph.
 ghost use Rattle.std.specs.Prelude.{◌≡◌, ◌⊎◌, ◌≤◌, [], IfErr, IfOk, OnErr, OnOk, length, take};
-ghost use Rattle.wit_graph.specs.Valid.{IsValid};
-ghost use Rattle.wit_graph.specs.declared.error_kind.ResolveErrorKind.{ResolveErrorKind};
-ghost use Rattle.wit_graph.specs.declared.error_kind.ResolveErrorKind.TheVariants.{OutOfMemory};
-ghost use Rattle.wit_items.specs.Shape.{IsShaped};
-ghost use Rattle.wit_adding.specs.Cause.{IsCause};
+ghost use Rattle.wit_elaboration.specs.Valid.{IsValid};
+ghost use Rattle.wit_graph_data.specs.declared.error_kind.ResolveErrorKind.{ResolveErrorKind};
+ghost use Rattle.wit_graph_data.specs.declared.error_kind.ResolveErrorKind.TheVariants.{OutOfMemory};
+ghost use Rattle.wit_data.specs.Shape.{IsShaped};
+ghost use Rattle.wit_link_spec.specs.Cause.{IsCause};
 ghost use Rattle.wit_link.specs.Appending.{IsAdded, addition};
-ghost use Rattle.wit_placing.specs.Grown.{cut_at};
-ghost use Rattle.wit_questions.specs.ValidBits.{AreValidBits, TellValidBits};
+ghost use Rattle.wit_remap.specs.Grown.{cut_at};
+ghost use Rattle.wit_queries.specs.ValidBits.{AreValidBits, TellValidBits};
 ghost use Rattle.wit_resolve_graph.specs.Kept.{AreKept};
 
 use std::alloc::{AllocError, Global};
-use wit_graph::{Elaborator, Features, Graph, ResolveResult};
-use wit_items::{Items, PackageId, TryClone, UnresolvedPackage};
+use wit_data::{Items, PackageId, TryClone, UnresolvedPackage};
+use wit_elaboration::Elaborator;
+use wit_graph_data::{Features, Graph, ResolveResult};
 use wit_link::append_with;
-use wit_placing::Mark;
-use wit_questions::add_valid_bits;
+use wit_queries::add_valid_bits;
+use wit_remap::Mark;
 
 /// Which interfaces of a graph use which, and of which of its types all bits are valid: so a push costs what it adds,
 /// and what is asked of a type's bits no memory.

@@ -4,7 +4,7 @@ ghost use Rattle.wit_resolve_graph.specs.FilesExamples.{ExamplesOfFiles};
 ghost use Rattle.wit_resolve_graph.specs.SourcesExamples.{ExamplesOfSources};
 ghost use Rattle.wit_resolve_graph.specs.RunLaws.{RunsKeep};
 
-use wit_tracks_laws::laws::rewritten_keep;
+use wit_semver_laws::laws::rewritten_keep;
 
 /// What was there before a run is there after it, with the same ids.
 pub fn runs_keep()

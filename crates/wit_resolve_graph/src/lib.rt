@@ -22,15 +22,15 @@ pub use crate::sources::{ParseFault, SourceFault};
 pub use wit_core_names::{
     FutureIntrinsic, ResourceIntrinsic, StreamIntrinsic, WasmExport, WasmExportKind, WasmImport,
 };
-pub use wit_graph::{
+pub use wit_data::{LiftLowerAbi, ManglingAndAbi, TrackRule};
+pub use wit_graph_data::{
     Cause, Features, Graph, Package, ResolveError, ResolveErrorKind, ResolveResult,
 };
-pub use wit_items::{LiftLowerAbi, ManglingAndAbi, TrackRule};
 pub use wit_link::Remap;
 pub use wit_package_sources::{PackageSourceNames, PackageSources};
-pub use wit_questions::{
+pub use wit_queries::{
     InterfaceDirectDeps, PackageDirectDeps, canonicalized_id_of, canonicalized_id_of_name,
     find_futures_and_streams, name_canonicalized_world_key,
 };
 pub use wit_shape::{is_group_shaped, is_shaped};
-pub use wit_valid::is_valid;
+pub use wit_validity::is_valid;

@@ -1,8 +1,8 @@
 //! Sources that are parsed and pushed in one call.
 ghost use Rattle.std.specs.Prelude.{◌≡◌, ◌≤◌, ◌<◌, ◌^◌, ◌⊎◌, [], ◌∷◌, Ok, Err, IfErr, IfOk, OnOk};
-ghost use Rattle.wit_graph.specs.declared.error_kind.ResolveErrorKind.{ResolveErrorKind};
-ghost use Rattle.wit_items.specs.Shape.{IsGroupShaped};
-ghost use Rattle.wit_items.specs.declared.unresolved.UnresolvedPackageGroup.{UnresolvedPackageGroup};
+ghost use Rattle.wit_graph_data.specs.declared.error_kind.ResolveErrorKind.{ResolveErrorKind};
+ghost use Rattle.wit_data.specs.Shape.{IsGroupShaped};
+ghost use Rattle.wit_data.specs.declared.unresolved.UnresolvedPackageGroup.{UnresolvedPackageGroup};
 ghost use Rattle.wit_link.specs.Groups.{IsGroupsCause};
 ghost use Rattle.wit_resolve_graph.specs.Sources.{IsNotPlaced, IsPlaced, MayParse, PushesSource, RefusesSource};
 ghost use Rattle.wit_resolve_graph.specs.declared.sources.ParseFault.TheVariants as parse;
@@ -12,8 +12,8 @@ ghost use Rattle.wit_sources.specs.SourceMap.{end_after};
 use crate::resolve::Resolve;
 use crate::sources::{ParseFault, SourceFault};
 use std::alloc::Global;
-use wit_graph::{ResolveError, ResolveErrorKind};
-use wit_items::{MapFault, PackageId, SourceMap, Span, Text, UnresolvedPackageGroup};
+use wit_data::{MapFault, PackageId, SourceMap, Span, Text, UnresolvedPackageGroup};
+use wit_graph_data::{ResolveError, ResolveErrorKind};
 
 impl Resolve {
     /// Adds what a parse makes of the file of this path with these contents, as `push_group` does, and answers the

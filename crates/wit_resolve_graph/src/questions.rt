@@ -2,18 +2,18 @@
 //! graph is valid, so what a question asks of a graph always holds.
 ghost use Rattle.std.specs.Prelude.{◌≡◌, ◌↔◌, ◌<◌, IfErr, IfOk, IsTrue, length, string_bytes};
 ghost use Rattle.std.specs.Option.{option_map};
-ghost use Rattle.wit_items.specs.Uses.{type_interface_dep};
-ghost use Rattle.wit_graph.specs.Questions.{HasAllBitsValid, canonical_id_text, canonical_interface_id_at, canonical_key_text, external_id_value, futures_and_streams, implements_interface, interface_direct_deps, topological_packages, version_suffix_of};
-ghost use Rattle.wit_graph.specs.Relations.{package_direct_deps};
-ghost use Rattle.wit_graph.specs.declared.error_kind.ResolveErrorKind.TheVariants.{OutOfMemory};
+ghost use Rattle.wit_data.specs.Uses.{type_interface_dep};
+ghost use Rattle.wit_graph_data.specs.Questions.{HasAllBitsValid, canonical_id_text, canonical_interface_id_at, canonical_key_text, external_id_value, futures_and_streams, implements_interface, interface_direct_deps, topological_packages, version_suffix_of};
+ghost use Rattle.wit_graph_data.specs.Relations.{package_direct_deps};
+ghost use Rattle.wit_graph_data.specs.declared.error_kind.ResolveErrorKind.TheVariants.{OutOfMemory};
 
 use crate::resolve::Resolve;
 use std::alloc::Global;
-use wit_graph::ResolveResult;
-use wit_items::{
+use wit_data::{
     Function, InterfaceId, PackageId, Type_, TypeId, WorldItem, WorldKey, type_interface_dep,
 };
-use wit_questions::{
+use wit_graph_data::ResolveResult;
+use wit_queries::{
     InterfaceDirectDeps, PackageDirectDeps, canonicalized_id_of, canonicalized_id_of_name,
     external_id_value, find_futures_and_streams, implements_interface, interface_direct_deps,
     is_valid_by, name_canonicalized_world_key, package_direct_deps, topological_packages,
@@ -169,7 +169,7 @@ impl Resolve {
     }
 
     /// The futures and streams that the values of a function's parameters and of its result hold: see
-    /// `wit_questions::find_futures_and_streams`. The only refusal is want of memory (28).
+    /// `wit_queries::find_futures_and_streams`. The only refusal is want of memory (28).
     ///
     /// Source: `find_futures_and_streams` of wit-parser 0.263.0.
     pub fn find_futures_and_streams(

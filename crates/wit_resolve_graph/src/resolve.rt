@@ -2,25 +2,25 @@
 ghost use Rattle.std.specs.Prelude.{◌≡◌, ◌⊎◌, ◌↔◌, ◌<◌, ◌≤◌, ◌+◌, ◌^◌, [], ◌∷◌, Bool, Ok, Err, IfErr, IfOk, IfSome, List, OnErr, OnOk, IsTrue, length, string_bytes};
 ghost use Rattle.std.specs.List.{AllByRecursion};
 ghost use Rattle.std.specs.Option.{option_copied, option_map};
-ghost use Rattle.wit_graph.specs.IdText.{id_text, interface_id_at, key_text};
-ghost use Rattle.wit_graph.specs.Valid.{IsValid};
-ghost use Rattle.wit_graph.specs.declared.error_kind.ResolveErrorKind.{ResolveErrorKind};
-ghost use Rattle.wit_graph.specs.declared.error_kind.ResolveErrorKind.TheVariants.{OffsetOverflow, OutOfMemory};
-ghost use Rattle.wit_items.specs.Shape.{IsGroupShaped, IsShaped};
+ghost use Rattle.wit_graph_data.specs.IdText.{id_text, interface_id_at, key_text};
+ghost use Rattle.wit_elaboration.specs.Valid.{IsValid};
+ghost use Rattle.wit_graph_data.specs.declared.error_kind.ResolveErrorKind.{ResolveErrorKind};
+ghost use Rattle.wit_graph_data.specs.declared.error_kind.ResolveErrorKind.TheVariants.{OffsetOverflow, OutOfMemory};
+ghost use Rattle.wit_data.specs.Shape.{IsGroupShaped, IsShaped};
 ghost use Rattle.wit_sources.specs.SourceMap.{with_sources};
-ghost use Rattle.wit_adding.specs.Cause.{IsCause};
+ghost use Rattle.wit_link_spec.specs.Cause.{IsCause};
 ghost use Rattle.wit_link.specs.Appending.{IsAdded, addition};
 ghost use Rattle.wit_link.specs.Groups.{IsGroupsCause};
-ghost use Rattle.wit_merging.specs.Cause.{IsMergeCause};
-ghost use Rattle.wit_questions.specs.ValidBits.{TellValidBits};
-ghost use Rattle.wit_selecting.specs.Selection.{IsSaid, selected_world};
+ghost use Rattle.wit_merge_spec.specs.Cause.{IsMergeCause};
+ghost use Rattle.wit_queries.specs.ValidBits.{TellValidBits};
+ghost use Rattle.wit_selection.specs.Selection.{IsSaid, selected_world};
 ghost use Rattle.wit_resolve_graph.specs.Merging.{FilesPass, Merges, RefusesMerge, merging};
 ghost use Rattle.wit_resolve_graph.specs.State.{new_state};
 ghost use Rattle.wit_resolve_graph.specs.Step.{PushesGroups, RefusesGroups, with_feature};
-ghost use Rattle.wit_tracks.specs.Rewritten.{rewritten};
-ghost use Rattle.wit_tracks.specs.TrackCause.{IsTrackCause};
-ghost use Rattle.wit_unite.specs.TurnCause.{AreAnswers, Exportizes, IsExportizeCause, IsImportizeCause, RefusesExportize, imports_at};
-ghost use Rattle.wit_unite.specs.Turned.{exportized, importized, turned};
+ghost use Rattle.wit_semver_spec.specs.Rewritten.{rewritten};
+ghost use Rattle.wit_semver_spec.specs.TrackCause.{IsTrackCause};
+ghost use Rattle.wit_transform.specs.TurnCause.{AreAnswers, Exportizes, IsExportizeCause, IsImportizeCause, RefusesExportize, imports_at};
+ghost use Rattle.wit_transform.specs.Turned.{exportized, importized, turned};
 
 use crate::groups::{add_packages, place_groups};
 use crate::kept::{Kept, append_kept};
@@ -28,16 +28,16 @@ use crate::uniting::unite_kept;
 use std::alloc::{AllocError, Global};
 use std::marker::Model;
 use std::{fmt, mem};
-use wit_graph::{Features, Graph, Package, ResolveErrorKind, ResolveResult};
-use wit_items::{
+use wit_data::{
     Interface, InterfaceId, Items, PackageId, PackageName, SourceMap, Table, TrackRule, TryClone,
     TypeDef, UnresolvedPackage, UnresolvedPackageGroup, World, WorldId, WorldItem, WorldKey,
 };
+use wit_graph_data::{Features, Graph, Package, ResolveErrorKind, ResolveResult};
 use wit_link::Remap;
-use wit_selecting::select_world;
-use wit_unite::{exportize, exportize_answered, importize};
-use wit_upgrading::merged_by_track;
-use wit_valid::is_valid;
+use wit_selection::select_world;
+use wit_semver::merged_by_track;
+use wit_transform::{exportize, exportize_answered, importize};
+use wit_validity::is_valid;
 use wit_values::try_clone_four;
 
 /// Packages whose names are resolved: a valid graph, the features that are on, the sources, and the rule by which
@@ -401,7 +401,7 @@ impl Resolve {
 }
 
 impl Resolve {
-    /// Turns a world of this graph into one that imports what it exported: see `wit_unite::importize`, which says
+    /// Turns a world of this graph into one that imports what it exported: see `wit_transform::importize`, which says
     /// what is refused (19, 20, 28). After a refusal nothing has changed.
     ///
     /// Source: `importize` of wit-parser 0.263.0.
@@ -421,7 +421,7 @@ impl Resolve {
     }
 
     /// Turns a world of this graph into one that exports what it imported where the filter answers true, all without
-    /// one: see `wit_unite::exportize`, which says what is refused (4, 20, 21, 28). The filter can always be called.
+    /// one: see `wit_transform::exportize`, which says what is refused (4, 20, 21, 28). The filter can always be called.
     /// After a refusal nothing has changed.
     ///
     /// Source: `exportize` of wit-parser 0.263.0.
@@ -464,7 +464,7 @@ impl Resolve {
     }
 
     /// Merges the imports of a world of this graph by tracks, with the rule that is in force: see
-    /// `wit_upgrading::merged_by_track`, which says what is refused (4, 6, 22, 23, 25, 28). After a refusal nothing
+    /// `wit_semver::merged_by_track`, which says what is refused (4, 6, 22, 23, 25, 28). After a refusal nothing
     /// has changed.
     ///
     /// Source: `merge_world_imports_based_on_semver` of wit-parser 0.263.0.

@@ -1,7 +1,7 @@
 //! Runs of commands.
 ghost use Rattle.std.specs.Prelude.{◌≡◌, IfErr, IfOk, OnErr};
 ghost use Rattle.std.specs.List.{AllByRecursion};
-ghost use Rattle.wit_graph.specs.declared.error_kind.ResolveErrorKind.TheVariants.{OutOfMemory};
+ghost use Rattle.wit_graph_data.specs.declared.error_kind.ResolveErrorKind.TheVariants.{OutOfMemory};
 ghost use Rattle.wit_resolve_graph.specs.Step.{Run, Step};
 ghost use Rattle.wit_resolve_graph.specs.CommandShape.{IsCommandShaped};
 ghost use Rattle.wit_resolve_graph.specs.declared.command.Command.TheVariants.{AddFeature};
@@ -10,8 +10,8 @@ use crate::command::{Command, Reply};
 use crate::resolve::Resolve;
 use crate::turning::{exportize, importize, merge_world_imports};
 use std::alloc::Global;
-use wit_graph::ResolveResult;
-use wit_items::Text;
+use wit_data::Text;
+use wit_graph_data::ResolveResult;
 
 /// Runs commands in order, and answers a reply to each. Room for all replies is made first; where there
 /// is no memory for it (28), nothing has changed. Any other refusal is a reply.

@@ -1,14 +1,14 @@
 //! What goes wrong with sources, and how places in them and faults are told.
 ghost use Rattle.std.specs.Prelude.{◌≡◌, IfErr, IfOk, string_bytes};
-ghost use Rattle.wit_graph.specs.declared.error_kind.ResolveErrorKind.TheVariants.{OutOfMemory};
+ghost use Rattle.wit_graph_data.specs.declared.error_kind.ResolveErrorKind.TheVariants.{OutOfMemory};
 ghost use Rattle.wit_resolve_graph.specs.Sources.{fault_rendered};
 ghost use Rattle.wit_sources.specs.Shown.{location_of};
 
 use crate::resolve::Resolve;
 use std::alloc::Global;
 use std::fmt;
-use wit_graph::{ResolveError, ResolveResult, render_text};
-use wit_items::{MapFault, SourceMap, Span, Text};
+use wit_data::{MapFault, SourceMap, Span, Text};
+use wit_graph_data::{ResolveError, ResolveResult, render_text};
 
 /// Why a parse makes no group of its sources.
 #[derive(Drop)]
@@ -47,7 +47,7 @@ pub enum SourceFault {
 /// What a source map refused.
 impl From<MapFault> for SourceFault {
     ghost use Rattle.std.specs.Prelude.{◌≡◌};
-    ghost use Rattle.wit_graph.specs.Error.{map_fault_kind};
+    ghost use Rattle.wit_graph_data.specs.Error.{map_fault_kind};
     ghost use Rattle.wit_resolve_graph.specs.declared.sources.SourceFault.TheVariants as fault;
 
     ghost from_gives = { λ refused told. told ≡ fault.Resolve (map_fault_kind refused) };

@@ -4,19 +4,19 @@ ghost use Rattle.std.specs.List.{list_any};
 ghost use Rattle.std.specs.Map.{lookup};
 ghost use Rattle.std.specs.Option.{option_map};
 ghost use Rattle.std.specs.Str.{bytes_eq};
-ghost use Rattle.wit_graph.specs.declared.error_kind.ResolveErrorKind.{ResolveErrorKind};
-ghost use Rattle.wit_graph.specs.declared.error_kind.ResolveErrorKind.TheVariants.{OutOfMemory};
+ghost use Rattle.wit_graph_data.specs.declared.error_kind.ResolveErrorKind.{ResolveErrorKind};
+ghost use Rattle.wit_graph_data.specs.declared.error_kind.ResolveErrorKind.TheVariants.{OutOfMemory};
 ghost use Rattle.wit_resolve_graph.specs.Named.{HasWorld};
 ghost use Rattle.wit_resolve_graph.specs.Step.{IsAbsent, Step, answers_at, is_listed_key, listed_answers};
 ghost use Rattle.wit_resolve_graph.specs.declared.command.Command.TheVariants as command;
-ghost use Rattle.wit_unite.specs.TurnCause.{IsExportizeCause};
-ghost use Rattle.wit_unite.specs.Turned.{exportized, turned};
+ghost use Rattle.wit_transform.specs.TurnCause.{IsExportizeCause};
+ghost use Rattle.wit_transform.specs.Turned.{exportized, turned};
 
 use crate::command::Reply;
 use crate::resolve::Resolve;
 use std::alloc::Global;
-use wit_graph::{Graph, Package, ResolveResult};
-use wit_items::{Items, PackageName, Table, Text, WorldId, WorldItem, WorldKey};
+use wit_data::{Items, PackageName, Table, Text, WorldId, WorldItem, WorldKey};
+use wit_graph_data::{Graph, Package, ResolveResult};
 
 /// The world of a name in a package.
 fn world_in(home: &Package, world: &str) -> Option<WorldId>

@@ -1,25 +1,25 @@
 //! Another graph that goes into the one that a `Resolve` keeps.
 ghost use Rattle.std.specs.Prelude.{◌≡◌, ◌⊎◌, IfErr, IfOk, OnErr, OnOk};
-ghost use Rattle.wit_comparing.specs.Differing.{merging_by};
-ghost use Rattle.wit_graph.specs.Valid.{IsValid};
-ghost use Rattle.wit_graph.specs.declared.error_kind.ResolveErrorKind.{ResolveErrorKind};
-ghost use Rattle.wit_graph.specs.declared.error_kind.ResolveErrorKind.TheVariants.{OutOfMemory};
-ghost use Rattle.wit_merging.specs.Cause.{IsMergeCause};
-ghost use Rattle.wit_merging.specs.Moved as moved;
-ghost use Rattle.wit_merging.specs.United.{united};
+ghost use Rattle.wit_merge_match.specs.Differing.{merging_by};
+ghost use Rattle.wit_elaboration.specs.Valid.{IsValid};
+ghost use Rattle.wit_graph_data.specs.declared.error_kind.ResolveErrorKind.{ResolveErrorKind};
+ghost use Rattle.wit_graph_data.specs.declared.error_kind.ResolveErrorKind.TheVariants.{OutOfMemory};
+ghost use Rattle.wit_merge_spec.specs.Cause.{IsMergeCause};
+ghost use Rattle.wit_merge_spec.specs.Moved as moved;
+ghost use Rattle.wit_merge_spec.specs.United.{united};
 ghost use Rattle.wit_resolve_graph.specs.Kept.{AreKept};
 ghost use Rattle.wit_resolve_graph.specs.Merging.{answered};
 
 use crate::kept::Kept;
 use std::alloc::Global;
-use wit_adding::Places;
-use wit_graph::{Graph, ResolveResult};
+use wit_graph_data::{Graph, ResolveResult};
 use wit_link::Remap;
-use wit_matching::Going;
-use wit_uniting::{United, unite};
+use wit_link_spec::Places;
+use wit_merge::{United, unite};
+use wit_merge_match::Going;
 
 /// Makes a graph one with another, whose spans move by an offset, and answers where the things of the other stand now:
-/// see `wit_uniting::unite`. After a refusal nothing has changed. What is kept is of the graph, and becomes that of the
+/// see `wit_merge::unite`. After a refusal nothing has changed. What is kept is of the graph, and becomes that of the
 /// new graph.
 pub(crate) fn unite_kept(
     alloc: Global,

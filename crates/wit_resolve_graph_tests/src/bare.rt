@@ -3,12 +3,12 @@ use crate::parts::{assert_told, package, text};
 use std::alloc::Global;
 use std::fmt::Write;
 use std::process::Abort;
-use wit_graph::{Features, Graph};
-use wit_items::{IncludeName, Items};
+use wit_data::{IncludeName, Items};
+use wit_graph_data::{Features, Graph};
 use wit_labels::rename;
 use wit_link::{append, append_all};
 use wit_resolve_graph::is_shaped;
-use wit_valid::is_valid;
+use wit_validity::is_valid;
 
 /// The place of a package that is added to an empty graph, those of two that follow, and how many there are then.
 fn places(rt: &impl Abort, alloc: Global) -> String {

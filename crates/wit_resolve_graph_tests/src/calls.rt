@@ -4,11 +4,11 @@ use crate::parts::{assert_told, list, package, string, text, world};
 use std::alloc::Global;
 use std::fmt::Write;
 use std::process::Abort;
-use wit_graph::{Cause, Features, ResolveError, ResolveErrorKind};
-use wit_items::{
+use wit_data::{
     InterfaceId, Items, Names, PackageId, Span, Table, Text, TryClone, TypeId, Version, WorldId,
     WorldKey,
 };
+use wit_graph_data::{Cause, Features, ResolveError, ResolveErrorKind};
 use wit_resolve_graph::{Remap, Resolve, is_shaped};
 
 /// The number of the refusal of a package whose spans move so far, or 0.

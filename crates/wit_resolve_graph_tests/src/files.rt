@@ -5,7 +5,7 @@ use crate::told::told;
 use std::alloc::Global;
 use std::fmt::Write;
 use std::process::Abort;
-use wit_items::{Span, UnresolvedPackage, UnresolvedPackageGroup};
+use wit_data::{Span, UnresolvedPackage, UnresolvedPackageGroup};
 use wit_resolve_graph::Resolve;
 
 const CONTENTS: &str = "package foo:same;\n\ninterface a {}\n";

@@ -6,7 +6,7 @@ use crate::parts::{
 };
 use std::alloc::Global;
 use std::process::Abort;
-use wit_items::{
+use wit_data::{
     Function, FunctionKind, Handle, Interface, Items, Names, Span, Table, Type_, TypeDef,
     TypeDefKind, TypeId, UnresolvedPackage, World, WorldItem, WorldKey,
 };

@@ -8,7 +8,7 @@ use crate::parts::{
 use crate::told::refused_file;
 use std::alloc::Global;
 use std::process::Abort;
-use wit_items::{
+use wit_data::{
     Case, Docs, FunctionKind, Handle, Span, Stability, Type_, TypeDefKind, TypeId, WorldKey,
 };
 

@@ -6,7 +6,7 @@ use crate::parts::{
 };
 use std::alloc::Global;
 use std::process::Abort;
-use wit_items::{
+use wit_data::{
     Function, FunctionKind, Interface, Items, Span, Stability, Type_, TypeDef, TypeDefKind,
     UnresolvedPackage, World,
 };

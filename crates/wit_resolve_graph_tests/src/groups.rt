@@ -3,11 +3,11 @@ use crate::parts::{assert_told, interface, interface_list, name_foreign, package
 use crate::{parts, told};
 use std::alloc::Global;
 use std::process::Abort;
-use wit_graph::ResolveResult;
-use wit_items::{
+use wit_data::{
     AstItem, InterfaceId, Items, PackageId, SourceMap, Span, UnresolvedPackage,
     UnresolvedPackageGroup,
 };
+use wit_graph_data::ResolveResult;
 use wit_resolve_graph::{Resolve, is_group_shaped};
 
 /// Package `foo:NAME` with an interface, its name at 8 to 13.

@@ -8,7 +8,7 @@ use crate::parts::{
 };
 use std::alloc::Global;
 use std::process::Abort;
-use wit_items::{
+use wit_data::{
     Docs, Field, FunctionKind, IncludeName, Interface, InterfaceId, Items, Span, Stability, Type_,
     TypeDef, TypeDefKind, UnresolvedPackage, World, WorldId, WorldInclude, WorldItem, WorldKey,
 };

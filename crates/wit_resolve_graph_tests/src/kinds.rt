@@ -8,7 +8,7 @@ use crate::parts::{
 use std::alloc::Global;
 use std::fmt::Write;
 use std::process::Abort;
-use wit_items::{
+use wit_data::{
     Case, Docs, EnumCase, Field, Flag, FunctionKind, Handle, Interface, Items, Span, Type_,
     TypeDef, TypeDefKind, TypeId, UnresolvedPackage,
 };

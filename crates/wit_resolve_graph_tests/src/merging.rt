@@ -11,7 +11,7 @@ use crate::told::told;
 use std::alloc::{AllocError, Global};
 use std::fmt::Write;
 use std::process::Abort;
-use wit_items::{
+use wit_data::{
     Docs, Field, Items, SourceMap, Span, Type_, TypeDef, TypeDefKind, UnresolvedPackage,
 };
 use wit_resolve_graph::{Remap, Resolve};

@@ -4,13 +4,13 @@ use crate::shown::shown;
 use indexmap::IndexMap;
 use std::alloc::Global;
 use std::process::Abort;
-use wit_graph::ResolveResult;
-use wit_items::{
+use wit_data::{
     AstItem, Docs, Function, FunctionKind, Interface, InterfaceId, Items, Names, PackageId,
     PackageName, Param, SourceMap, Span, Stability, Table, Text, TryClone, Type_, TypeDef,
     TypeDefKind, TypeId, TypeOwner, UnresolvedPackage, UnresolvedPackageGroup, Version, World,
     WorldId, WorldItem, WorldKey,
 };
+use wit_graph_data::ResolveResult;
 use wit_resolve_graph::{Resolve, is_group_shaped, is_shaped};
 
 /// Ends the test where a text isn't the one that is wanted.

@@ -9,7 +9,7 @@ use crate::shown::shown;
 use crate::told::{first, refused_file, told};
 use std::alloc::Global;
 use std::process::Abort;
-use wit_items::{
+use wit_data::{
     AstItem, Docs, FunctionKind, Handle, IncludeName, InterfaceId, Items, SourceMap, Span,
     Stability, Table, TypeDefKind, TypeId, UnresolvedPackage, World, WorldId, WorldInclude,
     WorldItem, WorldKey,

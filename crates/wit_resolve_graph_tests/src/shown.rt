@@ -2,12 +2,12 @@
 use std::alloc::{AllocError, Global};
 use std::fmt::Write;
 use std::process::Abort;
-use wit_graph::{Graph, Package};
-use wit_items::{
+use wit_data::{
     Case, Docs, EnumCase, Field, Flag, Function, FunctionKind, Handle, Interface, InterfaceId,
     Names, PackageId, Param, Span, Stability, Table, Text, Type_, TypeDef, TypeDefKind, TypeId,
     TypeOwner, Version, World, WorldId, WorldItem, WorldKey,
 };
+use wit_graph_data::{Graph, Package};
 
 /// The whole graph.
 pub fn shown(rt: &impl Abort, alloc: Global, graph: &Graph) -> String {

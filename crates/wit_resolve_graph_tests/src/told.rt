@@ -5,10 +5,10 @@ use crate::shown::{shown, write_stability};
 use std::alloc::{AllocError, Global};
 use std::fmt::Write;
 use std::process::Abort;
-use wit_graph::{ResolveError, ResolveErrorKind, ResolveResult};
-use wit_items::{
+use wit_data::{
     PackageId, PackageName, Span, Stability, Text, UnresolvedPackage, UnresolvedPackageGroup,
 };
+use wit_graph_data::{ResolveError, ResolveErrorKind, ResolveResult};
 use wit_resolve_graph::{Resolve, SourceFault};
 
 /// The number of a refusal, its place and its fields.

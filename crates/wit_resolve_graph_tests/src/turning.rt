@@ -7,10 +7,10 @@ use crate::parts::{
 use crate::shown::shown;
 use std::alloc::Global;
 use std::process::Abort;
-use wit_graph::ResolveResult;
-use wit_items::{
+use wit_data::{
     FunctionKind, Items, Span, Type_, TypeDef, TypeDefKind, World, WorldId, WorldItem, WorldKey,
 };
+use wit_graph_data::ResolveResult;
 use wit_resolve_graph::Resolve;
 
 /// Types of interfaces `a`, `b`, which uses `a`, and `c`, which uses both, and type `k` of world `w`.

@@ -2,12 +2,12 @@
 use Rattle.std.proofs.Common.{◌≡◌, suc, List, [], ◌∷◌, ◌++◌, Bool, true, false, Option, None, Some, IsTrue, ◌↔◌, refl}
 use Rattle.std.specs.Option.{option_and_then, option_map}
 use Rattle.wit_values.specs.Lists.{AllByRecursion-at}
-use Rattle.wit_items.specs.Each.{Each}
-use Rattle.wit_items.specs.Shape.{IsGroupShaped}
-use Rattle.wit_items.specs.declared.unresolved.UnresolvedPackageGroup.{UnresolvedPackageGroup}
-use Rattle.wit_drafts.specs.Draft.{grouped}
-use Rattle.wit_drafts.specs.declared.draft.Draft.{Draft}
-use Rattle.wit_lines.specs.Signature.{each_of}
+use Rattle.wit_data.specs.Each.{Each}
+use Rattle.wit_data.specs.Shape.{IsGroupShaped}
+use Rattle.wit_data.specs.declared.unresolved.UnresolvedPackageGroup.{UnresolvedPackageGroup}
+use Rattle.wit_script_package.specs.Draft.{grouped}
+use Rattle.wit_script_package.specs.declared.draft.Draft.{Draft}
+use Rattle.wit_script_lines.specs.Signature.{each_of}
 use Rattle.wit_script.specs.Ready.{AreReady, AreShaped, IsReady}
 use Rattle.wit_script.specs.Script.{IsBad, with_groups}
 use Rattle.wit_script.specs.declared.reader.Reading.{Reading}

@@ -5,9 +5,9 @@ use Rattle.std.proofs.lemmas.List.{drop-map, length-map, map-append, reverse-app
 use Rattle.std.specs.List.{prefix_len}
 use Rattle.std.specs.Option.{option_and_then, option_map}
 use Rattle.std.proofs.Math.ListN.{get_or-map}
-use Rattle.wit_lines.specs.Line.{is_comment, is_silent, is_silent_of, last_said_of}
-use Rattle.wit_lines.specs.Statement.{said_of_tokens, statement_by}
-use Rattle.wit_lines.specs.declared.statement.Statement.{Statement}
+use Rattle.wit_script_lines.specs.Line.{is_comment, is_silent, is_silent_of, last_said_of}
+use Rattle.wit_script_lines.specs.Statement.{said_of_tokens, statement_by}
+use Rattle.wit_script_lines.specs.declared.statement.Statement.{Statement}
 use Rattle.wit_script.specs.Ready.{AreReady}
 use Rattle.wit_script.specs.Script.{IsBad, IsBadLine, after_first, after_line, after_lines, new_reading, reading_before, reading_of}
 use Rattle.wit_script.specs.declared.reader.Reading.{Reading}

@@ -2,7 +2,7 @@
 use Rattle.std.proofs.Common.{◌≡◌, ℕ, List, Option, None, Some, Result, Ok, Err, String, string_bytes, ap, sym, subst, ◌∙◌}
 use Rattle.std.specs.Prelude.{IfOk}
 use Rattle.std.specs.declared.alloc.Global.{Global}
-use Rattle.wit_graph.specs.declared.graph.Graph.{Graph}
+use Rattle.wit_graph_data.specs.declared.graph.Graph.{Graph}
 use Rattle.wit_resolve_graph.specs.State.{State}
 use Rattle.wit_resolve_graph.specs.Step.{Run}
 use Rattle.wit_resolve_graph.specs.declared.command.Command.{Command}

@@ -2,8 +2,8 @@
 use Rattle.std.proofs.Common.{◌≡◌, ℕ, suc, zero, ◌+◌, ◌<◌, ◌≤◌, List, [], ◌∷◌, ◌++◌, length, drop, get_or, Option, None, Some, refl, sym, ap, subst, ◌∙◌, inl, inr, arith}
 use Rattle.std.proofs.lemmas.Bool.{cases_order}
 use Rattle.std.specs.Option.{option_and_then}
-use Rattle.wit_lines.specs.Statement.{said_of}
-use Rattle.wit_lines.specs.declared.statement.Statement.{Statement}
+use Rattle.wit_script_lines.specs.Statement.{said_of}
+use Rattle.wit_script_lines.specs.declared.statement.Statement.{Statement}
 use Rattle.wit_script.proofs.Scripts.{before-more, step_at}
 use Rattle.wit_script.proofs.Stepped.{adds, said-makes, stays}
 use Rattle.wit_script.specs.Ready.{AreReady}

@@ -1,14 +1,14 @@
 -- What a line does to the commands that are read, and to an `other` that waits for its `merge`.
 use Rattle.std.proofs.Common.{◌≡◌, ◌∙◌, ℕ, ◌+◌, length, Bool, true, false, cond, List, [], ◌∷◌, ◌++◌, Option, None, Some, refl, sym, ap, is_some}
 use Rattle.std.specs.Option.{option_and_then, option_map}
-use Rattle.wit_items.specs.declared.unresolved.UnresolvedPackageGroup.{UnresolvedPackageGroup}
-use Rattle.wit_drafts.specs.Draft.{begun, grouped}
-use Rattle.wit_drafts.specs.Lines.{with_line}
-use Rattle.wit_drafts.specs.declared.draft.Draft.{Draft}
-use Rattle.wit_lines.specs.Signature.{each_of}
-use Rattle.wit_lines.specs.declared.request.Request.{Request}
-use Rattle.wit_lines.specs.declared.statement.Statement.{Statement}
-use Rattle.wit_lines.specs.declared.statement.Statement.TheVariants as says
+use Rattle.wit_data.specs.declared.unresolved.UnresolvedPackageGroup.{UnresolvedPackageGroup}
+use Rattle.wit_script_package.specs.Draft.{begun, grouped}
+use Rattle.wit_script_package.specs.Lines.{with_line}
+use Rattle.wit_script_package.specs.declared.draft.Draft.{Draft}
+use Rattle.wit_script_lines.specs.Signature.{each_of}
+use Rattle.wit_script_lines.specs.declared.request.Request.{Request}
+use Rattle.wit_script_lines.specs.declared.statement.Statement.{Statement}
+use Rattle.wit_script_lines.specs.declared.statement.Statement.TheVariants as says
 use Rattle.wit_script.specs.Ahead.{mentions_ahead}
 use Rattle.wit_script.specs.Ready.{other_after, waits_after}
 use Rattle.wit_script.specs.Script.{after_said, with_asked, with_begun, with_current, with_groups, with_statement}

@@ -2,11 +2,11 @@
 -- there, and `merge` where one is.
 use Rattle.std.proofs.Common.{◌≡◌, ◌∙◌, ℕ, Bool, false, List, [], ◌∷◌, ◌++◌, Option, None, Some, IsTrue, refl, sym, ap, subst, is_some}
 use Rattle.std.specs.Option.{option_and_then}
-use Rattle.wit_lines.specs.Line.{lines_of}
-use Rattle.wit_lines.specs.Statement.{said_of}
-use Rattle.wit_lines.specs.declared.request.Request.{Request}
-use Rattle.wit_lines.specs.declared.request.Request.TheVariants as request
-use Rattle.wit_graph.specs.declared.graph.Graph.{Graph}
+use Rattle.wit_script_lines.specs.Line.{lines_of}
+use Rattle.wit_script_lines.specs.Statement.{said_of}
+use Rattle.wit_script_lines.specs.declared.request.Request.{Request}
+use Rattle.wit_script_lines.specs.declared.request.Request.TheVariants as request
+use Rattle.wit_graph_data.specs.declared.graph.Graph.{Graph}
 use Rattle.wit_resolve_graph.specs.State.{State}
 use Rattle.wit_resolve_graph.specs.declared.command.Command.{Command}
 use Rattle.wit_resolve_graph.specs.declared.command.Reply.{Reply}

@@ -1,15 +1,15 @@
 -- What the lines of a package mention of other packages, looked at ahead, since what is foreign stands first in a package.
 use Rattle.std.specs.Prelude.{ℕ, ◌+◌, List, [], ◌∷◌, ◌++◌, length, Option, Some, None}
 use Rattle.std.specs.Option.{option_to_list}
-use Rattle.wit_items.specs.declared.stability.Stability.{Stability}
-use Rattle.wit_drafts.specs.Draft.{span_after}
-use Rattle.wit_drafts.specs.Mention.{mentions_of}
-use Rattle.wit_drafts.specs.Naming.{Place}
-use Rattle.wit_drafts.specs.declared.mention.Mention.{Mention}
-use Rattle.wit_lines.specs.Statement.{said_of}
-use Rattle.wit_lines.specs.declared.package_line.PackageLine.{PackageLine}
-use Rattle.wit_lines.specs.declared.statement.Statement.{Statement}
-use Rattle.wit_lines.specs.declared.statement.Statement.TheVariants as says
+use Rattle.wit_data.specs.declared.stability.Stability.{Stability}
+use Rattle.wit_script_package.specs.Draft.{span_after}
+use Rattle.wit_script_package.specs.Mention.{mentions_of}
+use Rattle.wit_script_package.specs.Naming.{Place}
+use Rattle.wit_script_package.specs.declared.mention.Mention.{Mention}
+use Rattle.wit_script_lines.specs.Statement.{said_of}
+use Rattle.wit_script_lines.specs.declared.package_line.PackageLine.{PackageLine}
+use Rattle.wit_script_lines.specs.declared.statement.Statement.{Statement}
+use Rattle.wit_script_lines.specs.declared.statement.Statement.TheVariants as says
 use Rattle.wit_script.specs.declared.ahead.Ahead.{Ahead}
 use Rattle.wit_script.specs.declared.ahead.Ahead.TheVariants as ahead
 

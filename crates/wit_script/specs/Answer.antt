@@ -6,18 +6,18 @@ use Rattle.std.specs.List.{flat_map}
 use Rattle.std.specs.Map.{lookup}
 use Rattle.std.specs.Option.{option_map_or}
 use Rattle.std.specs.Str.{bytes_eq}
-use Rattle.wit_graph.specs.Error.{error_number}
-use Rattle.wit_graph.specs.ErrorText.{kind_text}
-use Rattle.wit_graph.specs.declared.error_kind.ResolveErrorKind.{ResolveErrorKind}
-use Rattle.wit_graph.specs.declared.error_kind.ResolveErrorKind.TheVariants.{OutOfMemory}
-use Rattle.wit_graph.specs.declared.graph.Graph.{Graph}
-use Rattle.wit_graph.specs.declared.graph.Package.{Package}
-use Rattle.wit_items.specs.PackageName.{package_name_text}
-use Rattle.wit_items.specs.PackageOrder.{same_package}
-use Rattle.wit_items.specs.declared.package_name.PackageName.{PackageName}
-use Rattle.wit_lines.specs.declared.request.Request.{Request}
-use Rattle.wit_lines.specs.declared.request.Request.TheVariants as request
-use Rattle.wit_selecting.specs.Selection.{IsSelection}
+use Rattle.wit_graph_data.specs.Error.{error_number}
+use Rattle.wit_graph_data.specs.ErrorText.{kind_text}
+use Rattle.wit_graph_data.specs.declared.error_kind.ResolveErrorKind.{ResolveErrorKind}
+use Rattle.wit_graph_data.specs.declared.error_kind.ResolveErrorKind.TheVariants.{OutOfMemory}
+use Rattle.wit_graph_data.specs.declared.graph.Graph.{Graph}
+use Rattle.wit_graph_data.specs.declared.graph.Package.{Package}
+use Rattle.wit_data.specs.PackageName.{package_name_text}
+use Rattle.wit_data.specs.PackageOrder.{same_package}
+use Rattle.wit_data.specs.declared.package_name.PackageName.{PackageName}
+use Rattle.wit_script_lines.specs.declared.request.Request.{Request}
+use Rattle.wit_script_lines.specs.declared.request.Request.TheVariants as request
+use Rattle.wit_selection.specs.Selection.{IsSelection}
 use Rattle.wit_resolve_graph.specs.State.{State, new_state}
 use Rattle.wit_resolve_graph.specs.declared.command.Command.{Command}
 use Rattle.wit_resolve_graph.specs.declared.command.Command.TheVariants.{AddFeature, SetAllFeatures, SetTrackRule, PushGroups, Merge, Importize, Exportize, Semver}

@@ -1,10 +1,10 @@
 -- Which commands may be asked: packages that are pushed have their shape, and of `other` and `merge` each comes where it may.
 use Rattle.std.specs.Prelude.{Bool, true, false, List, [], ◌∷◌, Option, None, Some, IsTrue, is_some, option_and_then}
 use Rattle.std.specs.List.{AllByRecursion}
-use Rattle.wit_items.specs.Shape.{IsGroupShaped}
-use Rattle.wit_items.specs.declared.unresolved.UnresolvedPackageGroup.{UnresolvedPackageGroup}
-use Rattle.wit_lines.specs.declared.request.Request.{Request}
-use Rattle.wit_lines.specs.declared.request.Request.TheVariants as request
+use Rattle.wit_data.specs.Shape.{IsGroupShaped}
+use Rattle.wit_data.specs.declared.unresolved.UnresolvedPackageGroup.{UnresolvedPackageGroup}
+use Rattle.wit_script_lines.specs.declared.request.Request.{Request}
+use Rattle.wit_script_lines.specs.declared.request.Request.TheVariants as request
 use Rattle.wit_script.specs.declared.ready.ScriptCommand.{ScriptCommand}
 use Rattle.wit_script.specs.declared.ready.ScriptCommand.TheVariants as asks
 

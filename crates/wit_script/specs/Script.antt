@@ -2,21 +2,21 @@
 -- the first that isn't understood.
 use Rattle.std.specs.Prelude.{◌≡◌, ◌⊎◌, ◌||◌, ℕ, zero, suc, ◌+◌, ◌<◌, Bool, false, List, [], ◌∷◌, ◌++◌, length, Option, Some, None, IsTrue, is_some, option_and_then, Result, Ok, Err, if◌then◌else◌}
 use Rattle.std.specs.Option.{option_map, option_to_list}
-use Rattle.wit_items.specs.declared.package_name.PackageName.{PackageName}
-use Rattle.wit_items.specs.declared.stability.Stability.{Stability}
-use Rattle.wit_items.specs.declared.unresolved.UnresolvedPackageGroup.{UnresolvedPackageGroup}
-use Rattle.wit_drafts.specs.Draft.{begun, grouped}
-use Rattle.wit_drafts.specs.Lines.{with_line}
-use Rattle.wit_drafts.specs.declared.draft.Draft.{Draft}
-use Rattle.wit_lines.specs.Line.{last_said_of, lines_of}
-use Rattle.wit_lines.specs.Signature.{each_of}
-use Rattle.wit_lines.specs.Statement.{said_of}
-use Rattle.wit_lines.specs.declared.fault.LineFault.{LineFault}
-use Rattle.wit_lines.specs.declared.fault.LineFault.TheVariants as line_fault
-use Rattle.wit_lines.specs.declared.package_line.PackageLine.{PackageLine}
-use Rattle.wit_lines.specs.declared.request.Request.{Request}
-use Rattle.wit_lines.specs.declared.statement.Statement.{Statement}
-use Rattle.wit_lines.specs.declared.statement.Statement.TheVariants as says
+use Rattle.wit_data.specs.declared.package_name.PackageName.{PackageName}
+use Rattle.wit_data.specs.declared.stability.Stability.{Stability}
+use Rattle.wit_data.specs.declared.unresolved.UnresolvedPackageGroup.{UnresolvedPackageGroup}
+use Rattle.wit_script_package.specs.Draft.{begun, grouped}
+use Rattle.wit_script_package.specs.Lines.{with_line}
+use Rattle.wit_script_package.specs.declared.draft.Draft.{Draft}
+use Rattle.wit_script_lines.specs.Line.{last_said_of, lines_of}
+use Rattle.wit_script_lines.specs.Signature.{each_of}
+use Rattle.wit_script_lines.specs.Statement.{said_of}
+use Rattle.wit_script_lines.specs.declared.fault.LineFault.{LineFault}
+use Rattle.wit_script_lines.specs.declared.fault.LineFault.TheVariants as line_fault
+use Rattle.wit_script_lines.specs.declared.package_line.PackageLine.{PackageLine}
+use Rattle.wit_script_lines.specs.declared.request.Request.{Request}
+use Rattle.wit_script_lines.specs.declared.statement.Statement.{Statement}
+use Rattle.wit_script_lines.specs.declared.statement.Statement.TheVariants as says
 use Rattle.wit_script.specs.Ahead.{mentions_ahead}
 use Rattle.wit_script.specs.Ready.{AreReady, other_after}
 use Rattle.wit_script.specs.declared.fault.ReadFault.{ReadFault}

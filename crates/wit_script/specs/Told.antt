@@ -1,7 +1,7 @@
 -- What can be said of a script: that it is understood, that a line is the first that isn't, or that it is left open. One
 -- of them holds, and one alone, of one line.
 use Rattle.std.specs.Prelude.{◌≡◌, ℕ, List}
-use Rattle.wit_lines.specs.Line.{lines_of}
+use Rattle.wit_script_lines.specs.Line.{lines_of}
 use Rattle.wit_script.specs.Script.{IsBadLine, IsLeftOpen, IsUnderstood}
 use Rattle.wit_script.specs.declared.ready.ScriptCommand.{ScriptCommand}
 

@@ -1,17 +1,17 @@
 //! What the lines of a package mention of other packages, looked at ahead.
 ghost use Rattle.std.specs.Option.{option_to_list};
 ghost use Rattle.std.specs.Prelude.{◌≡◌, ◌++◌, List, ℕ, map, IfOk, OnOk};
-ghost use Rattle.wit_drafts.specs.declared.mention.Mention.{Mention};
-ghost use Rattle.wit_lines.specs.Statement.{said_of};
-ghost use Rattle.wit_lines.specs.declared.fault.LineFault.TheVariants.{NotUnderstood};
-ghost use Rattle.wit_lines.specs.declared.statement.Statement.TheVariants as says;
+ghost use Rattle.wit_script_package.specs.declared.mention.Mention.{Mention};
+ghost use Rattle.wit_script_lines.specs.Statement.{said_of};
+ghost use Rattle.wit_script_lines.specs.declared.fault.LineFault.TheVariants.{NotUnderstood};
+ghost use Rattle.wit_script_lines.specs.declared.statement.Statement.TheVariants as says;
 ghost use Rattle.wit_script.specs.Ahead.{mentions_ahead, mentions_by, mentions_then, mentions_with};
 ghost use Rattle.wit_script.specs.declared.ahead.Ahead.TheVariants as comes;
 
 use std::alloc::{AllocError, Global};
-use wit_drafts::{Mention, mention_of, span_of};
-use wit_items::{Items, Stability};
-use wit_lines::{LineFault, PackageLine, Statement, read_line};
+use wit_data::{Items, Stability};
+use wit_script_lines::{LineFault, PackageLine, Statement, read_line};
+use wit_script_package::{Mention, mention_of, span_of};
 
 /// What a line ahead is.
 #[derive(Drop)]

@@ -13,9 +13,9 @@ ghost use Rattle.wit_script.specs.declared.ready.ScriptCommand.TheVariants as as
 use crate::printer::{print_world, world_id_text};
 use crate::ready::{ReadyCommand, ScriptCommand};
 use std::alloc::{AllocError, Global};
-use wit_items::{Items, PackageId, PackageName, Text, WorldId};
-use wit_lines::Request;
+use wit_data::{Items, PackageId, PackageName, Text, WorldId};
 use wit_resolve_graph::{Command, Reply, Resolve, ResolveError, ResolveResult, run};
+use wit_script_lines::Request;
 
 /// The graph of a script, and the second one between `other` and `merge`.
 #[derive(Drop)]

@@ -1,12 +1,12 @@
 //! What a world prints as.
 ghost use Rattle.std.specs.Prelude.{◌≡◌, ◌++◌, IfErr, IfOk, OnOk, string_bytes};
 ghost use Rattle.std.specs.List.{flat_map};
-ghost use Rattle.wit_graph.specs.declared.error_kind.ResolveErrorKind.TheVariants.{OutOfMemory};
+ghost use Rattle.wit_graph_data.specs.declared.error_kind.ResolveErrorKind.TheVariants.{OutOfMemory};
 ghost use Rattle.wit_script.specs.World.{world_id_text_at, world_text_at, entry_text, entry_line, labelled_text};
 
 use std::alloc::Global;
 use std::fmt::Write;
-use wit_items::{Table, Text, WorldId, WorldItem, WorldKey};
+use wit_data::{Table, Text, WorldId, WorldItem, WorldKey};
 use wit_resolve_graph::{Graph, Resolve, ResolveResult};
 
 /// A world of the graph as lines of text, each with a newline: `world` and its id text, then a line for

@@ -1,11 +1,11 @@
 //! From the text of a script to its commands.
 ghost use Rattle.std.specs.Prelude.{◌≡◌, ◌↔◌, ◌||◌, [], ◌∷◌, is_some, map, None, Some, IfOk, IfErr, IfSome, IsTrue, OnOk, not};
-ghost use Rattle.wit_drafts.specs.Draft.{grouped};
-ghost use Rattle.wit_lines.specs.IsRead.{IsRead};
-ghost use Rattle.wit_lines.specs.Signature.{each_of};
-ghost use Rattle.wit_items.specs.Each.{Each};
-ghost use Rattle.wit_items.specs.Shape.{IsGroupShaped};
-ghost use Rattle.wit_lines.specs.Line.{is_silent, last_said_of};
+ghost use Rattle.wit_script_package.specs.Draft.{grouped};
+ghost use Rattle.wit_script_lines.specs.IsRead.{IsRead};
+ghost use Rattle.wit_script_lines.specs.Signature.{each_of};
+ghost use Rattle.wit_data.specs.Each.{Each};
+ghost use Rattle.wit_data.specs.Shape.{IsGroupShaped};
+ghost use Rattle.wit_script_lines.specs.Line.{is_silent, last_said_of};
 ghost use Rattle.wit_script.specs.Ready.{AreReady};
 ghost use Rattle.wit_script.specs.Script.{GoesOn, HasLineFault, HasReadFault, IsUnderstood, Leads, after_line, after_said, new_reading, reading_of, with_groups, with_package, with_package_line, with_push, with_request};
 
@@ -14,10 +14,10 @@ use crate::fault::ReadFault;
 use crate::ready::{ReadyCommand, ScriptCommand, other_after};
 use std::alloc::{AllocError, Global};
 use std::mem;
-use wit_drafts::Draft;
-use wit_items::{Items, PackageName, Stability, UnresolvedPackageGroup};
-use wit_lines::{LineFault, PackageLine, Request, Statement, lines, read_line};
+use wit_data::{Items, PackageName, Stability, UnresolvedPackageGroup};
 use wit_resolve_graph::is_group_shaped;
+use wit_script_lines::{LineFault, PackageLine, Request, Statement, lines, read_line};
+use wit_script_package::Draft;
 
 /// What the lines so far say.
 #[derive(Drop)]

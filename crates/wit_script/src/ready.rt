@@ -3,8 +3,8 @@ ghost use Rattle.std.specs.Prelude.{◌≡◌};
 ghost use Rattle.wit_script.specs.Ready.{other_after};
 
 use std::marker::Model;
-use wit_items::{Items, UnresolvedPackageGroup};
-use wit_lines::Request;
+use wit_data::{Items, UnresolvedPackageGroup};
+use wit_script_lines::Request;
 
 /// A command of a script.
 #[derive(Drop)]

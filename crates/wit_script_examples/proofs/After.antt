@@ -1,6 +1,6 @@
 -- What is read of small texts.
 use Rattle.std.proofs.Common.{ℕ, List, Option, Some, None}
-use Rattle.wit_lines.specs.Line.{lines_of}
+use Rattle.wit_script_lines.specs.Line.{lines_of}
 use Rattle.wit_script.specs.Script.{new_reading, reading_before, reading_of}
 use Rattle.wit_script.specs.declared.reader.Reading.{Reading}
 

@@ -4,38 +4,38 @@ use Rattle.std.proofs.lemmas.List.Sorted.{Contains-permutation, length_permutati
 use Rattle.std.specs.List.{AllZip}
 use Rattle.std.specs.Map.{lookup}
 use Rattle.std.specs.Prelude.{is_some}
-use Rattle.wit_relations.specs.MemberFacts.{Contains-nil}
-use Rattle.wit_relations.specs.Relation.{direct}
-use Rattle.wit_relations.specs.Walks.{first_of_each, walk, walk_within}
+use Rattle.wit_digraph.specs.MemberFacts.{Contains-nil}
+use Rattle.wit_digraph.specs.Relation.{direct}
+use Rattle.wit_digraph.specs.Walks.{first_of_each, walk, walk_within}
 use Rattle.wit_sources.specs.SourceMap.{Sources}
 use Rattle.wit_sources.specs.Span.{Place, moved_by}
-use Rattle.wit_items.specs.Each.{SomeAt}
-use Rattle.wit_items.specs.PackageOrder.{same_package}
-use Rattle.wit_items.specs.declared.function.Function.{Function}
-use Rattle.wit_items.specs.declared.package_name.PackageName.{PackageName}
-use Rattle.wit_items.specs.declared.stability.Stability.{Stability}
-use Rattle.wit_items.specs.declared.stability.Stability.TheVariants.{Stable}
-use Rattle.wit_items.specs.declared.unresolved.UnresolvedPackageGroup.{UnresolvedPackageGroup}
-use Rattle.wit_items.specs.declared.world.World.{World}
-use Rattle.wit_graph.specs.Samples.{foo_bar}
-use Rattle.wit_graph.specs.declared.error_kind.ResolveErrorKind.{ResolveErrorKind}
-use Rattle.wit_graph.specs.declared.error_kind.ResolveErrorKind.TheVariants.{DuplicatePackage, OffsetOverflow, PackageCycle}
-use Rattle.wit_graph.specs.declared.features.Features.{Features}
-use Rattle.wit_graph.specs.declared.graph.Graph.{Graph}
-use Rattle.wit_growth.specs.OptionFacts.{some_same}
-use Rattle.wit_growth.specs.TestFacts.{none_in, none_some, not_passed, only_one}
-use Rattle.wit_sorting.specs.Sorting.{AreSorted, Handed, IsGroupOrder, IsHandedTwice, IsSortCause, handed_uses}
-use Rattle.wit_adding.specs.Addition.{Addition}
-use Rattle.wit_adding.specs.Cause.{IsAccepted, IsCause}
-use Rattle.wit_adding.specs.Cause as reason
-use Rattle.wit_adding.specs.Gates.{IsAsked}
-use Rattle.wit_adding.specs.Gates as asked
-use Rattle.wit_adding.specs.Include.{Lists}
-use Rattle.wit_adding.specs.Pushed.{pushed}
-use Rattle.wit_adding.specs.Reasons.{HasImage, IsActiveFunction, RefersTo, Thing}
-use Rattle.wit_adding.specs.Reasons as part
-use Rattle.wit_adding.specs.WorldReasons.{AtWorld, HaveLists}
-use Rattle.wit_adding.specs.WorldReasons as reached
+use Rattle.wit_data.specs.Each.{SomeAt}
+use Rattle.wit_data.specs.PackageOrder.{same_package}
+use Rattle.wit_data.specs.declared.function.Function.{Function}
+use Rattle.wit_data.specs.declared.package_name.PackageName.{PackageName}
+use Rattle.wit_data.specs.declared.stability.Stability.{Stability}
+use Rattle.wit_data.specs.declared.stability.Stability.TheVariants.{Stable}
+use Rattle.wit_data.specs.declared.unresolved.UnresolvedPackageGroup.{UnresolvedPackageGroup}
+use Rattle.wit_data.specs.declared.world.World.{World}
+use Rattle.wit_graph_data.specs.Samples.{foo_bar}
+use Rattle.wit_graph_data.specs.declared.error_kind.ResolveErrorKind.{ResolveErrorKind}
+use Rattle.wit_graph_data.specs.declared.error_kind.ResolveErrorKind.TheVariants.{DuplicatePackage, OffsetOverflow, PackageCycle}
+use Rattle.wit_graph_data.specs.declared.features.Features.{Features}
+use Rattle.wit_graph_data.specs.declared.graph.Graph.{Graph}
+use Rattle.wit_graph_theory.specs.OptionFacts.{some_same}
+use Rattle.wit_graph_theory.specs.TestFacts.{none_in, none_some, not_passed, only_one}
+use Rattle.wit_link_order.specs.Sorting.{AreSorted, Handed, IsGroupOrder, IsHandedTwice, IsSortCause, handed_uses}
+use Rattle.wit_link_spec.specs.Addition.{Addition}
+use Rattle.wit_link_spec.specs.Cause.{IsAccepted, IsCause}
+use Rattle.wit_link_spec.specs.Cause as reason
+use Rattle.wit_link_spec.specs.Gates.{IsAsked}
+use Rattle.wit_link_spec.specs.Gates as asked
+use Rattle.wit_link_spec.specs.Include.{Lists}
+use Rattle.wit_link_spec.specs.Pushed.{pushed}
+use Rattle.wit_link_spec.specs.Reasons.{HasImage, IsActiveFunction, RefersTo, Thing}
+use Rattle.wit_link_spec.specs.Reasons as part
+use Rattle.wit_link_spec.specs.WorldReasons.{AtWorld, HaveLists}
+use Rattle.wit_link_spec.specs.WorldReasons as reached
 use Rattle.wit_link.specs.Appending.{addition}
 use Rattle.wit_link.specs.Groups.{FilesPassTheEnd, IsGroupsCause, files_end}
 use Rattle.wit_link.specs.Several.{ArePushed}

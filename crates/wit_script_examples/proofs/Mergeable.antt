@@ -1,24 +1,24 @@
 -- Small merges against which nothing speaks, and one that is refused for what its interfaces are under.
 use Rattle.std.proofs.Common.{◌≡◌, ◌∙◌, ℕ, zero, suc, true, List, [], ◌∷◌, Option, Some, None, slice_get, refl, sym, ap, subst, Contains}
-use Rattle.wit_relations.specs.MemberFacts.{Contains-nil}
+use Rattle.wit_digraph.specs.MemberFacts.{Contains-nil}
 use Rattle.wit_sources.specs.Span.{Place}
-use Rattle.wit_items.specs.declared.interface.Interface.{Interface}
-use Rattle.wit_items.specs.declared.package_name.PackageName.{PackageName}
-use Rattle.wit_items.specs.declared.stability.Stability.{Stability}
-use Rattle.wit_graph.specs.Elaboration.{graph_uses}
-use Rattle.wit_graph.specs.declared.error_kind.ResolveErrorKind.TheVariants.{StabilityMismatch}
-use Rattle.wit_graph.specs.declared.graph.Package.{Package}
-use Rattle.wit_growth.specs.AllElaborated.{graph_package_uses}
-use Rattle.wit_growth.specs.FunctionMismatch.{HaveFunctionMismatch}
-use Rattle.wit_growth.specs.TestFacts.{all_uses, falls, no_cycle, none_some, only_one}
-use Rattle.wit_merging.specs.Agreement.{GraphsDiffer}
-use Rattle.wit_merging.specs.Agreement as differ
-use Rattle.wit_merging.specs.Cause.{CanMerge, IsMergeCause}
-use Rattle.wit_merging.specs.Cause as reason
-use Rattle.wit_merging.specs.Matches.{Merging, Pair, found_interface, found_type, found_world}
-use Rattle.wit_merging.specs.Reasons.{AreJoined, Mismatches}
-use Rattle.wit_merging.specs.Reasons as joins
-use Rattle.wit_merging.specs.United.{joined_graph}
+use Rattle.wit_data.specs.declared.interface.Interface.{Interface}
+use Rattle.wit_data.specs.declared.package_name.PackageName.{PackageName}
+use Rattle.wit_data.specs.declared.stability.Stability.{Stability}
+use Rattle.wit_elaboration.specs.Elaboration.{graph_uses}
+use Rattle.wit_graph_data.specs.declared.error_kind.ResolveErrorKind.TheVariants.{StabilityMismatch}
+use Rattle.wit_graph_data.specs.declared.graph.Package.{Package}
+use Rattle.wit_graph_theory.specs.AllElaborated.{graph_package_uses}
+use Rattle.wit_graph_theory.specs.FunctionMismatch.{HaveFunctionMismatch}
+use Rattle.wit_graph_theory.specs.TestFacts.{all_uses, falls, no_cycle, none_some, only_one}
+use Rattle.wit_merge_spec.specs.Agreement.{GraphsDiffer}
+use Rattle.wit_merge_spec.specs.Agreement as differ
+use Rattle.wit_merge_spec.specs.Cause.{CanMerge, IsMergeCause}
+use Rattle.wit_merge_spec.specs.Cause as reason
+use Rattle.wit_merge_spec.specs.Matches.{Merging, Pair, found_interface, found_type, found_world}
+use Rattle.wit_merge_spec.specs.Reasons.{AreJoined, Mismatches}
+use Rattle.wit_merge_spec.specs.Reasons as joins
+use Rattle.wit_merge_spec.specs.United.{joined_graph}
 use Rattle.wit_script_examples.specs.SmallGraphs.{bare, gate, gated}
 
 no_pair : {X : Type 0} (found : ℕ → Option ℕ) (ours : List X) → Pair found [] ours → ⊥

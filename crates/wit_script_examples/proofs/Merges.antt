@@ -6,18 +6,18 @@ use Rattle.std.specs.Prelude.{codes}
 use Rattle.wit_values.specs.Lists.{differ}
 use Rattle.wit_sources.specs.SourceMap.{Sources}
 use Rattle.wit_sources.specs.declared.source_map.SourceFile.{SourceFile}
-use Rattle.wit_items.specs.declared.interface.Interface.{Interface}
-use Rattle.wit_graph.specs.Samples.{foo_bar}
-use Rattle.wit_graph.specs.declared.error_kind.ResolveErrorKind.{ResolveErrorKind}
-use Rattle.wit_graph.specs.declared.error_kind.ResolveErrorKind.TheVariants.{OffsetOverflow}
-use Rattle.wit_graph.specs.declared.features.Features.{Features}
-use Rattle.wit_graph.specs.declared.graph.Graph.{Graph}
-use Rattle.wit_growth.specs.TestFacts.{feature_of}
+use Rattle.wit_data.specs.declared.interface.Interface.{Interface}
+use Rattle.wit_graph_data.specs.Samples.{foo_bar}
+use Rattle.wit_graph_data.specs.declared.error_kind.ResolveErrorKind.{ResolveErrorKind}
+use Rattle.wit_graph_data.specs.declared.error_kind.ResolveErrorKind.TheVariants.{OffsetOverflow}
+use Rattle.wit_graph_data.specs.declared.features.Features.{Features}
+use Rattle.wit_graph_data.specs.declared.graph.Graph.{Graph}
+use Rattle.wit_graph_theory.specs.TestFacts.{feature_of}
 use Rattle.wit_link.specs.declared.remap.Remap.{Remap}
-use Rattle.wit_merging.specs.Cause.{CanMerge}
-use Rattle.wit_merging.specs.Matches.{Merging}
-use Rattle.wit_merging.specs.Moved.{going}
-use Rattle.wit_merging.specs.United.{united}
+use Rattle.wit_merge_spec.specs.Cause.{CanMerge}
+use Rattle.wit_merge_spec.specs.Matches.{Merging}
+use Rattle.wit_merge_spec.specs.Moved.{going}
+use Rattle.wit_merge_spec.specs.United.{united}
 use Rattle.wit_resolve_graph.specs.Merging.{FilesPass, Merges, answered, merging}
 use Rattle.wit_resolve_graph.specs.State.{State, new_state}
 use Rattle.wit_resolve_graph.specs.declared.command.Reply.TheVariants.{Merged}

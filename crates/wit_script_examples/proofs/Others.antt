@@ -4,10 +4,10 @@ use Rattle.std.proofs.lemmas.Bool.{false≢true}
 use Rattle.std.specs.Fmt.{digits}
 use Rattle.std.specs.List.{flat_map}
 use Rattle.std.specs.Prelude.{codes}
-use Rattle.wit_items.specs.declared.track.TrackRule.TheVariants.{WithPrereleases}
-use Rattle.wit_graph.specs.declared.graph.Graph.{Graph}
-use Rattle.wit_merging.specs.Cause.{CanMerge}
-use Rattle.wit_merging.specs.United.{united}
+use Rattle.wit_data.specs.declared.track.TrackRule.TheVariants.{WithPrereleases}
+use Rattle.wit_graph_data.specs.declared.graph.Graph.{Graph}
+use Rattle.wit_merge_spec.specs.Cause.{CanMerge}
+use Rattle.wit_merge_spec.specs.United.{united}
 use Rattle.wit_resolve_graph.specs.Merging.{merging}
 use Rattle.wit_resolve_graph.specs.State.{State, new_state}
 use Rattle.wit_resolve_graph.specs.Step.{Run}

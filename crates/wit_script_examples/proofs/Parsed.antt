@@ -4,14 +4,14 @@ use Rattle.std.specs.Map.{lookup}
 use Rattle.std.specs.Prelude.{Result, Ok, Err, is_some}
 use Rattle.wit_sources.specs.SourceMap.{Sources}
 use Rattle.wit_sources.specs.Span.{Place, start_of}
-use Rattle.wit_items.specs.PackageOrder.{same_package}
-use Rattle.wit_items.specs.declared.unresolved.UnresolvedPackageGroup.{UnresolvedPackageGroup}
-use Rattle.wit_graph.specs.Samples.{foo_bar}
-use Rattle.wit_graph.specs.declared.error_kind.ResolveErrorKind.{ResolveErrorKind}
-use Rattle.wit_graph.specs.declared.error_kind.ResolveErrorKind.TheVariants.{DuplicatePackage, OffsetOverflow, OutOfMemory}
-use Rattle.wit_graph.specs.declared.graph.Graph.{Graph}
-use Rattle.wit_sorting.specs.Sorting.{Handed}
-use Rattle.wit_adding.specs.Pushed.{pushed}
+use Rattle.wit_data.specs.PackageOrder.{same_package}
+use Rattle.wit_data.specs.declared.unresolved.UnresolvedPackageGroup.{UnresolvedPackageGroup}
+use Rattle.wit_graph_data.specs.Samples.{foo_bar}
+use Rattle.wit_graph_data.specs.declared.error_kind.ResolveErrorKind.{ResolveErrorKind}
+use Rattle.wit_graph_data.specs.declared.error_kind.ResolveErrorKind.TheVariants.{DuplicatePackage, OffsetOverflow, OutOfMemory}
+use Rattle.wit_graph_data.specs.declared.graph.Graph.{Graph}
+use Rattle.wit_link_order.specs.Sorting.{Handed}
+use Rattle.wit_link_spec.specs.Pushed.{pushed}
 use Rattle.wit_link.specs.Groups.{IsGroupsCause, files_end}
 use Rattle.wit_link.specs.Several.{ArePushed}
 use Rattle.wit_resolve_graph.specs.Examples.{first_package}

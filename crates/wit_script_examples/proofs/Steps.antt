@@ -4,26 +4,26 @@ use Rattle.std.proofs.lemmas.Bool.{false≢true}
 use Rattle.std.specs.Fmt.{digits}
 use Rattle.std.specs.List.{flat_map}
 use Rattle.wit_values.specs.Version.{Parts}
-use Rattle.wit_relations.specs.MemberFacts.{Contains-cons_cases, Contains-here, Contains-nil, Contains-there}
-use Rattle.wit_items.specs.Each.{SomeAt}
-use Rattle.wit_items.specs.declared.package_name.PackageName.{PackageName}
-use Rattle.wit_items.specs.declared.track.TrackRule.{TrackRule}
-use Rattle.wit_items.specs.declared.track.TrackRule.TheVariants.{Published, WithPrereleases}
-use Rattle.wit_graph.specs.declared.cause.Cause.TheVariants.{UpgradeMismatch}
-use Rattle.wit_graph.specs.declared.error_kind.ResolveErrorKind.TheVariants.{Semantic}
-use Rattle.wit_graph.specs.declared.graph.Graph.{Graph}
-use Rattle.wit_graph.specs.declared.graph.Package.{Package}
+use Rattle.wit_digraph.specs.MemberFacts.{Contains-cons_cases, Contains-here, Contains-nil, Contains-there}
+use Rattle.wit_data.specs.Each.{SomeAt}
+use Rattle.wit_data.specs.declared.package_name.PackageName.{PackageName}
+use Rattle.wit_data.specs.declared.track.TrackRule.{TrackRule}
+use Rattle.wit_data.specs.declared.track.TrackRule.TheVariants.{Published, WithPrereleases}
+use Rattle.wit_graph_data.specs.declared.cause.Cause.TheVariants.{UpgradeMismatch}
+use Rattle.wit_graph_data.specs.declared.error_kind.ResolveErrorKind.TheVariants.{Semantic}
+use Rattle.wit_graph_data.specs.declared.graph.Graph.{Graph}
+use Rattle.wit_graph_data.specs.declared.graph.Package.{Package}
 use Rattle.wit_resolve_graph.specs.Named.{HasWorld}
 use Rattle.wit_resolve_graph.specs.State.{State, new_state}
 use Rattle.wit_resolve_graph.specs.declared.command.Reply.{Reply}
 use Rattle.wit_resolve_graph.specs.declared.command.Reply.TheVariants as reply
 use Rattle.wit_resolve_graph.specs.Step.{Run}
 use Rattle.wit_resolve_graph.specs.declared.command.Command.TheVariants.{SetTrackRule}
-use Rattle.wit_tracks.specs.Rewritten.{rewritten}
-use Rattle.wit_tracks.specs.TrackCause.{IsTrackCause}
-use Rattle.wit_tracks_examples.specs.CauseExamples.{ExamplesOfCauses, failed, without_type}
-use Rattle.wit_tracks_examples.specs.Releases.{called, foo_main, foo_x}
-use Rattle.wit_tracks_examples.specs.RewrittenExamples.{ExamplesOfRewriting, ExamplesOfRules, first_release, of_three, three}
+use Rattle.wit_semver_spec.specs.Rewritten.{rewritten}
+use Rattle.wit_semver_spec.specs.TrackCause.{IsTrackCause}
+use Rattle.wit_semver_examples.specs.CauseExamples.{ExamplesOfCauses, failed, without_type}
+use Rattle.wit_semver_examples.specs.Releases.{called, foo_main, foo_x}
+use Rattle.wit_semver_examples.specs.RewrittenExamples.{ExamplesOfRewriting, ExamplesOfRules, first_release, of_three, three}
 use Rattle.wit_script.specs.Answer.{quiet_text}
 use Rattle.wit_script.specs.declared.answer.Stage.{Stage}
 use Rattle.wit_script_examples.specs.StepExamples.{ExamplesOfAnswers, ExamplesOfSteps, by_prereleases, published}

@@ -1,12 +1,12 @@
 -- Another state that goes into one, as a step: merges that are done, merges that are refused, and what neither does.
 use Rattle.std.specs.Prelude.{◌≡◌, ℕ, List, [], ◌∷◌, Some, None, codes}
 use Rattle.wit_sources.specs.Span.{Place}
-use Rattle.wit_items.specs.declared.stability.Stability.{Stability}
-use Rattle.wit_items.specs.declared.track.TrackRule.TheVariants.{WithPrereleases}
-use Rattle.wit_graph.specs.Samples.{foo_bar}
-use Rattle.wit_graph.specs.declared.error_kind.ResolveErrorKind.{ResolveErrorKind}
-use Rattle.wit_graph.specs.declared.error_kind.ResolveErrorKind.TheVariants.{OffsetOverflow, OutOfMemory, StabilityMismatch}
-use Rattle.wit_graph.specs.declared.graph.Graph.{Graph}
+use Rattle.wit_data.specs.declared.stability.Stability.{Stability}
+use Rattle.wit_data.specs.declared.track.TrackRule.TheVariants.{WithPrereleases}
+use Rattle.wit_graph_data.specs.Samples.{foo_bar}
+use Rattle.wit_graph_data.specs.declared.error_kind.ResolveErrorKind.{ResolveErrorKind}
+use Rattle.wit_graph_data.specs.declared.error_kind.ResolveErrorKind.TheVariants.{OffsetOverflow, OutOfMemory, StabilityMismatch}
+use Rattle.wit_graph_data.specs.declared.graph.Graph.{Graph}
 use Rattle.wit_link.specs.declared.remap.Remap.{Remap}
 use Rattle.wit_resolve_graph.specs.FilesExamples.{ending}
 use Rattle.wit_resolve_graph.specs.State.{State, new_state}

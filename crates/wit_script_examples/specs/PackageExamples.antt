@@ -1,25 +1,25 @@
 -- What the lines of packages make: packages, and near misses that aren't understood.
 use Rattle.std.specs.Prelude.{◌≡◌, ℕ, List, [], ◌∷◌, ◌++◌, false, Some, None, codes}
-use Rattle.wit_items.specs.declared.function.FunctionKind.TheVariants as role
-use Rattle.wit_items.specs.declared.stability.Stability.TheVariants.{Unknown, Unstable}
-use Rattle.wit_items.specs.declared.types.Handle.TheVariants as handle
-use Rattle.wit_items.specs.declared.types.Type_.TheVariants as type
-use Rattle.wit_items.specs.declared.types.TypeDef.{TypeDef}
-use Rattle.wit_items.specs.declared.types.TypeDefKind.{TypeDefKind}
-use Rattle.wit_items.specs.declared.types.TypeDefKind.TheVariants as kind
-use Rattle.wit_items.specs.declared.types.TypeOwner.{TypeOwner}
-use Rattle.wit_items.specs.declared.types.TypeOwner.TheVariants as owner
-use Rattle.wit_items.specs.declared.unresolved.AstItem.TheVariants as foreign
-use Rattle.wit_items.specs.declared.unresolved.UnresolvedPackage.{UnresolvedPackage}
-use Rattle.wit_items.specs.declared.unresolved.UnresolvedPackageGroup.{UnresolvedPackageGroup}
-use Rattle.wit_items.specs.declared.world.WorldItem.TheVariants as item
-use Rattle.wit_items.specs.declared.world.WorldKey.TheVariants as key
-use Rattle.wit_lines.specs.Line.{lines_of}
-use Rattle.wit_lines.specs.declared.request.Request.TheVariants as request
-use Rattle.wit_drafts.specs.Adding.{empty_interface, empty_world, type_with}
-use Rattle.wit_drafts.specs.Lines.{entry_of}
-use Rattle.wit_drafts.specs.Naming.{Place}
-use Rattle.wit_drafts.specs.declared.draft.Standing.{Standing}
+use Rattle.wit_data.specs.declared.function.FunctionKind.TheVariants as role
+use Rattle.wit_data.specs.declared.stability.Stability.TheVariants.{Unknown, Unstable}
+use Rattle.wit_data.specs.declared.types.Handle.TheVariants as handle
+use Rattle.wit_data.specs.declared.types.Type_.TheVariants as type
+use Rattle.wit_data.specs.declared.types.TypeDef.{TypeDef}
+use Rattle.wit_data.specs.declared.types.TypeDefKind.{TypeDefKind}
+use Rattle.wit_data.specs.declared.types.TypeDefKind.TheVariants as kind
+use Rattle.wit_data.specs.declared.types.TypeOwner.{TypeOwner}
+use Rattle.wit_data.specs.declared.types.TypeOwner.TheVariants as owner
+use Rattle.wit_data.specs.declared.unresolved.AstItem.TheVariants as foreign
+use Rattle.wit_data.specs.declared.unresolved.UnresolvedPackage.{UnresolvedPackage}
+use Rattle.wit_data.specs.declared.unresolved.UnresolvedPackageGroup.{UnresolvedPackageGroup}
+use Rattle.wit_data.specs.declared.world.WorldItem.TheVariants as item
+use Rattle.wit_data.specs.declared.world.WorldKey.TheVariants as key
+use Rattle.wit_script_lines.specs.Line.{lines_of}
+use Rattle.wit_script_lines.specs.declared.request.Request.TheVariants as request
+use Rattle.wit_script_package.specs.Adding.{empty_interface, empty_world, type_with}
+use Rattle.wit_script_package.specs.Lines.{entry_of}
+use Rattle.wit_script_package.specs.Naming.{Place}
+use Rattle.wit_script_package.specs.declared.draft.Standing.{Standing}
 use Rattle.wit_script.specs.Script.{reading_of}
 use Rattle.wit_script.specs.declared.ready.ScriptCommand.{ScriptCommand}
 use Rattle.wit_script.specs.declared.ready.ScriptCommand.TheVariants as asks

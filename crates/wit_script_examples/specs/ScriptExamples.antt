@@ -1,17 +1,17 @@
 -- What the definition of scripts says of small scripts.
 use Rattle.std.specs.Prelude.{ℕ, List, [], ◌∷◌, ◌++◌, Some, None, codes}
-use Rattle.wit_items.specs.declared.package_name.PackageName.{PackageName}
-use Rattle.wit_items.specs.declared.track.TrackRule.TheVariants.{Published, WithPrereleases}
-use Rattle.wit_items.specs.declared.types.Type_.{Type_}
-use Rattle.wit_items.specs.declared.types.Type_.TheVariants as type
-use Rattle.wit_items.specs.declared.types.TypeDef.{TypeDef}
-use Rattle.wit_items.specs.declared.types.TypeDefKind.TheVariants as kind
-use Rattle.wit_items.specs.declared.types.TypeOwner.TheVariants as owner
-use Rattle.wit_items.specs.declared.unresolved.UnresolvedPackageGroup.{UnresolvedPackageGroup}
-use Rattle.wit_items.specs.declared.world.WorldKey.TheVariants as key
-use Rattle.wit_lines.specs.declared.request.Request.TheVariants as request
-use Rattle.wit_drafts.specs.Adding.{empty_interface, empty_world}
-use Rattle.wit_drafts.specs.Lines.{entry_of}
+use Rattle.wit_data.specs.declared.package_name.PackageName.{PackageName}
+use Rattle.wit_data.specs.declared.track.TrackRule.TheVariants.{Published, WithPrereleases}
+use Rattle.wit_data.specs.declared.types.Type_.{Type_}
+use Rattle.wit_data.specs.declared.types.Type_.TheVariants as type
+use Rattle.wit_data.specs.declared.types.TypeDef.{TypeDef}
+use Rattle.wit_data.specs.declared.types.TypeDefKind.TheVariants as kind
+use Rattle.wit_data.specs.declared.types.TypeOwner.TheVariants as owner
+use Rattle.wit_data.specs.declared.unresolved.UnresolvedPackageGroup.{UnresolvedPackageGroup}
+use Rattle.wit_data.specs.declared.world.WorldKey.TheVariants as key
+use Rattle.wit_script_lines.specs.declared.request.Request.TheVariants as request
+use Rattle.wit_script_package.specs.Adding.{empty_interface, empty_world}
+use Rattle.wit_script_package.specs.Lines.{entry_of}
 use Rattle.wit_script.specs.Script.{IsNotUnderstood, IsUnderstood}
 use Rattle.wit_script.specs.declared.ready.ScriptCommand.TheVariants as asks
 use Rattle.wit_script_examples.specs.LineExamples.{package_of}

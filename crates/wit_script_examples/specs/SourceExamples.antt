@@ -3,10 +3,10 @@ use Rattle.std.specs.Prelude.{◌≡◌, ◌⊎◌, ℕ, List, [], Some, None, R
 use Rattle.std.specs.Fn.{Once}
 use Rattle.wit_sources.specs.SourceMap.{Sources, with_sources}
 use Rattle.wit_sources.specs.Span.{Place}
-use Rattle.wit_items.specs.declared.unresolved.UnresolvedPackageGroup.{UnresolvedPackageGroup}
-use Rattle.wit_graph.specs.Samples.{foo_bar}
-use Rattle.wit_graph.specs.declared.error_kind.ResolveErrorKind.TheVariants.{DuplicatePackage, OffsetOverflow, OutOfMemory}
-use Rattle.wit_graph.specs.declared.graph.Graph.{Graph}
+use Rattle.wit_data.specs.declared.unresolved.UnresolvedPackageGroup.{UnresolvedPackageGroup}
+use Rattle.wit_graph_data.specs.Samples.{foo_bar}
+use Rattle.wit_graph_data.specs.declared.error_kind.ResolveErrorKind.TheVariants.{DuplicatePackage, OffsetOverflow, OutOfMemory}
+use Rattle.wit_graph_data.specs.declared.graph.Graph.{Graph}
 use Rattle.wit_resolve_graph.specs.Examples.{first_package}
 use Rattle.wit_resolve_graph.specs.FilesExamples.{ending}
 use Rattle.wit_resolve_graph.specs.Sources.{IsNoSource, PushesAnswer, PushesSource, RefusesAnswer, RefusesSource, TellsAnswer, only_file}

@@ -1,20 +1,20 @@
 -- Steps that set the rule of tracks or merge the imports of a world by it, what a script answers to them, and what they
 -- aren't.
 use Rattle.std.specs.Prelude.{ℕ, List, [], ◌∷◌, None, Some, codes}
-use Rattle.wit_items.specs.declared.track.TrackRule.TheVariants.{WithPrereleases}
-use Rattle.wit_graph.specs.declared.cause.Cause.TheVariants.{UpgradeMismatch}
-use Rattle.wit_graph.specs.declared.error_kind.ResolveErrorKind.TheVariants.{Semantic}
-use Rattle.wit_graph.specs.declared.graph.Graph.{Graph}
-use Rattle.wit_lines.specs.declared.request.Request.TheVariants as request
+use Rattle.wit_data.specs.declared.track.TrackRule.TheVariants.{WithPrereleases}
+use Rattle.wit_graph_data.specs.declared.cause.Cause.TheVariants.{UpgradeMismatch}
+use Rattle.wit_graph_data.specs.declared.error_kind.ResolveErrorKind.TheVariants.{Semantic}
+use Rattle.wit_graph_data.specs.declared.graph.Graph.{Graph}
+use Rattle.wit_script_lines.specs.declared.request.Request.TheVariants as request
 use Rattle.wit_resolve_graph.specs.State.{State, new_state}
 use Rattle.wit_resolve_graph.specs.Step.{Run}
 use Rattle.wit_resolve_graph.specs.declared.command.Command.{Command}
 use Rattle.wit_resolve_graph.specs.declared.command.Command.TheVariants.{Semver, SetTrackRule}
 use Rattle.wit_resolve_graph.specs.declared.command.Reply.{Reply}
 use Rattle.wit_resolve_graph.specs.declared.command.Reply.TheVariants.{Done, NoWorld, Refused}
-use Rattle.wit_tracks_examples.specs.CauseExamples.{failed, without_type}
-use Rattle.wit_tracks_examples.specs.Releases.{foo_main}
-use Rattle.wit_tracks_examples.specs.RewrittenExamples.{first_release, of_three, three}
+use Rattle.wit_semver_examples.specs.CauseExamples.{failed, without_type}
+use Rattle.wit_semver_examples.specs.Releases.{foo_main}
+use Rattle.wit_semver_examples.specs.RewrittenExamples.{first_release, of_three, three}
 use Rattle.wit_script.specs.Answer.{Answers, IsChoice, alone}
 use Rattle.wit_script.specs.declared.answer.Stage.{Stage}
 use Rattle.wit_script.specs.declared.ready.ScriptCommand.{ScriptCommand}

@@ -7,8 +7,8 @@ ghost use Rattle.wit_script_examples.specs.ScriptExamples.{ExamplesOfScripts};
 ghost use Rattle.wit_script_examples.specs.SourceExamples.{ExamplesOfNoSources, ExamplesOfParsed, ExamplesOfPushedSources, ExamplesOfRefusedSources};
 ghost use Rattle.wit_script_examples.specs.StepExamples.{ExamplesOfAnswers, ExamplesOfSteps};
 
-use wit_tracks_examples::causes::examples_of_causes;
-use wit_tracks_examples::rewriting::{examples_of_rewriting, examples_of_rules};
+use wit_semver_examples::causes::examples_of_causes;
+use wit_semver_examples::rewriting::{examples_of_rewriting, examples_of_rules};
 
 /// What lines say by their tokens alone.
 pub fn examples_of_lines()

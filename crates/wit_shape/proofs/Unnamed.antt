@@ -4,9 +4,9 @@ use Rattle.std.specs.Prelude.{not, is_some}
 use Rattle.std.specs.Option.{option_map_or}
 use Rattle.std.proofs.lemmas.List.Elements.{filter_passes}
 use Rattle.std.proofs.lemmas.Option.{get_or_from_slice_get, slice_get_within}
-use Rattle.wit_items.specs.Each.{Each}
-use Rattle.wit_items.specs.Entries.{is_unnamed}
-use Rattle.wit_items.specs.declared.interface.Interface.{Interface}
+use Rattle.wit_data.specs.Each.{Each}
+use Rattle.wit_data.specs.Entries.{is_unnamed}
+use Rattle.wit_data.specs.declared.interface.Interface.{Interface}
 
 unnamed_there : (interfaces : List Interface) (id : ℕ) → is_unnamed interfaces id ≡ true → id < length interfaces
 unnamed_there interfaces id = by (slice_get interfaces id) refl

@@ -1,14 +1,14 @@
 -- Of which owners the named types are that a type is or refers to through types without names, as one
 -- pass over the types tells it, in an order in which each stands after those that it refers to.
 use Rattle.std.specs.Prelude.{◌≡◌, ◌≢◌, ◌==◌, ℕ, Bool, true, false, List, Some, length, slice_get, if◌then◌else◌}
-use Rattle.wit_items.specs.Each.{Each, EachAt, SomeAt}
-use Rattle.wit_items.specs.Ownership.{Shows}
-use Rattle.wit_items.specs.Reference.{referred}
+use Rattle.wit_data.specs.Each.{Each, EachAt, SomeAt}
+use Rattle.wit_data.specs.Ownership.{Shows}
+use Rattle.wit_data.specs.Reference.{referred}
 use Rattle.wit_shape.specs.declared.shown.Shown.{Shown}
 use Rattle.wit_shape.specs.declared.shown.Shown.TheVariants.{Nothing, One, Several}
-use Rattle.wit_items.specs.declared.types.TypeDef.{TypeDef}
-use Rattle.wit_items.specs.declared.types.TypeOwner.{TypeOwner}
-use Rattle.wit_items.specs.declared.types.TypeOwner.TheVariants as owner
+use Rattle.wit_data.specs.declared.types.TypeDef.{TypeDef}
+use Rattle.wit_data.specs.declared.types.TypeOwner.{TypeOwner}
+use Rattle.wit_data.specs.declared.types.TypeOwner.TheVariants as owner
 
 -- of no owner, of one owner alone, or of different ones
 abbrev pub Tells : (TypeOwner → Type 0) → Shown → Type 0

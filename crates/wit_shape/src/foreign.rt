@@ -1,14 +1,14 @@
 //! What an unresolved package knows of other packages.
 ghost use Rattle.std.specs.Prelude.{◌≡◌, ◌↔◌, List, IfOk, IsTrue};
-ghost use Rattle.wit_items.specs.Each.{Each};
-ghost use Rattle.wit_items.specs.Foreign.{ForeignItem, IsBare, IsBareInterface, IsBareWorld, IsForeign, foreign_interfaces, foreign_worlds};
-ghost use Rattle.wit_items.specs.Shape.{HasForeign};
-ghost use Rattle.wit_items.specs.declared.package_name.PackageName.{PackageName};
+ghost use Rattle.wit_data.specs.Each.{Each};
+ghost use Rattle.wit_data.specs.Foreign.{ForeignItem, IsBare, IsBareInterface, IsBareWorld, IsForeign, foreign_interfaces, foreign_worlds};
+ghost use Rattle.wit_data.specs.Shape.{HasForeign};
+ghost use Rattle.wit_data.specs.declared.package_name.PackageName.{PackageName};
 
 use crate::names::{has_name, is_text};
 use crate::numbers::are_first;
 use std::alloc::{AllocError, Global};
-use wit_items::{AstItem, Interface, PackageName, Stability, UnresolvedPackage, World};
+use wit_data::{AstItem, Interface, PackageName, Stability, UnresolvedPackage, World};
 use wit_values::{Items, Names, Table};
 
 /// Whether a foreign interface has its name, and no functions.

@@ -1,14 +1,14 @@
 //! The keys of tables, which differ since they are keys of tables: facts for proofs, which do nothing.
-ghost use Rattle.wit_items.specs.Each.{Each};
-ghost use Rattle.wit_items.specs.Foreign.{ForeignItem};
-ghost use Rattle.wit_items.specs.Shape.{KeysDiffer};
-ghost use Rattle.wit_items.specs.declared.interface.Interface.{Interface};
-ghost use Rattle.wit_items.specs.declared.package_name.PackageName.{PackageName};
-ghost use Rattle.wit_items.specs.declared.world.World.{World};
+ghost use Rattle.wit_data.specs.Each.{Each};
+ghost use Rattle.wit_data.specs.Foreign.{ForeignItem};
+ghost use Rattle.wit_data.specs.Shape.{KeysDiffer};
+ghost use Rattle.wit_data.specs.declared.interface.Interface.{Interface};
+ghost use Rattle.wit_data.specs.declared.package_name.PackageName.{PackageName};
+ghost use Rattle.wit_data.specs.declared.world.World.{World};
 ghost use Rattle.std.specs.Prelude.{List};
 ghost use Rattle.wit_values.specs.Table.{HasDistinctKeys};
 
-use wit_items::{AstItem, Interface, PackageName, Stability, UnresolvedPackage, World};
+use wit_data::{AstItem, Interface, PackageName, Stability, UnresolvedPackage, World};
 use wit_values::{Items, Names, Table};
 
 /// The keys of each table of an unresolved package differ.

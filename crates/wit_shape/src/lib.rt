@@ -1,7 +1,7 @@
 //! The shape of unresolved packages, which every reader of WIT hands in and every call that resolves them asks
 //! for: whether a package has it.
 //!
-//! What the shape is stands in `wit_items` (`specs/Shape`). Its parts, for packages as for graphs, are calls of
+//! What the shape is stands in `wit_data` (`specs/Shape`). Its parts, for packages as for graphs, are calls of
 //! their own.
 #![tactic(auto)]
 

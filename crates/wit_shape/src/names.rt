@@ -4,15 +4,15 @@ ghost use Rattle.std.specs.List.{IsDistinct, flat_map};
 ghost use Rattle.std.specs.Borrow.{Bor};
 ghost use Rattle.std.specs.Option.{option_to_list};
 ghost use Rattle.std.specs.Str.{bytes_eq};
-ghost use Rattle.wit_items.specs.Each.{Each};
-ghost use Rattle.wit_items.specs.Foreign.{foreign_interfaces, foreign_worlds};
-ghost use Rattle.wit_items.specs.Shape.{HasForeign, HasNames, interface_names, world_names};
-ghost use Rattle.wit_items.specs.UsePath.{IsKebabName};
-ghost use Rattle.wit_items.specs.declared.interface.Interface.{Interface};
-ghost use Rattle.wit_items.specs.declared.world.World.{World};
+ghost use Rattle.wit_data.specs.Each.{Each};
+ghost use Rattle.wit_data.specs.Foreign.{foreign_interfaces, foreign_worlds};
+ghost use Rattle.wit_data.specs.Shape.{HasForeign, HasNames, interface_names, world_names};
+ghost use Rattle.wit_data.specs.UsePath.{IsKebabName};
+ghost use Rattle.wit_data.specs.declared.interface.Interface.{Interface};
+ghost use Rattle.wit_data.specs.declared.world.World.{World};
 
 use std::alloc::{AllocError, Global};
-use wit_items::{Interface, UnresolvedPackage, World, is_kebab_name};
+use wit_data::{Interface, UnresolvedPackage, World, is_kebab_name};
 use wit_values::{NameSet, Text};
 
 /// Whether the names of the package and of its things are as they should be, where so many

@@ -1,11 +1,11 @@
 //! Lists of numbers that differ.
 ghost use Rattle.std.specs.Prelude.{◌↔◌, ◌<◌, IfOk, IsTrue, nat_eq};
 ghost use Rattle.std.specs.List.{IsDistinct};
-ghost use Rattle.wit_items.specs.Each.{Each};
-ghost use Rattle.wit_items.specs.Foreign.{AreFirst};
+ghost use Rattle.wit_data.specs.Each.{Each};
+ghost use Rattle.wit_data.specs.Foreign.{AreFirst};
 
 use std::alloc::{AllocError, Global};
-use wit_relations::Listing;
+use wit_digraph::Listing;
 
 /// Whether the numbers, all below a bound, differ.
 pub(crate) fn are_distinct(

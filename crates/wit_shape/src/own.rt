@@ -1,18 +1,18 @@
 //! Whether what an owner's types and functions refer to is the owner's.
 ghost use Rattle.std.specs.Prelude.{◌≡◌, ◌↔◌, IfOk, IsTrue};
-ghost use Rattle.wit_items.specs.Each.{Each, EachAt};
-ghost use Rattle.wit_items.specs.Entries.{EntriesUseOwn, ItemUsesOwn};
-ghost use Rattle.wit_items.specs.Ownership.{FunctionsUseOwn, IsOwn, RefersToOwn, UsesOwn, parts};
-ghost use Rattle.wit_items.specs.Reference.{type_references};
-ghost use Rattle.wit_items.specs.Shape.{KeepsToOwn};
+ghost use Rattle.wit_data.specs.Each.{Each, EachAt};
+ghost use Rattle.wit_data.specs.Entries.{EntriesUseOwn, ItemUsesOwn};
+ghost use Rattle.wit_data.specs.Ownership.{FunctionsUseOwn, IsOwn, RefersToOwn, UsesOwn, parts};
+ghost use Rattle.wit_data.specs.Reference.{type_references};
+ghost use Rattle.wit_data.specs.Shape.{KeepsToOwn};
 ghost use Rattle.wit_shape.specs.Shown.{TellsEach};
-ghost use Rattle.wit_items.specs.declared.types.TypeOwner.TheVariants as owner;
-ghost use Rattle.wit_items.specs.declared.world.World.{World};
-ghost use Rattle.wit_relations.specs.Relation.{IsAcyclic};
+ghost use Rattle.wit_data.specs.declared.types.TypeOwner.TheVariants as owner;
+ghost use Rattle.wit_data.specs.declared.world.World.{World};
+ghost use Rattle.wit_digraph.specs.Relation.{IsAcyclic};
 
 use crate::shown::{Shown, is_own, shown_by_each};
 use std::alloc::{AllocError, Global};
-use wit_items::{
+use wit_data::{
     Function, Interface, InterfaceId, TypeDef, TypeDefKind, TypeId, TypeOwner, UnresolvedPackage,
     World, WorldId, WorldItem, WorldKey, function_references, referred,
 };

@@ -1,16 +1,16 @@
 //! Which types belong to which interface or world.
 ghost use Rattle.std.specs.Prelude.{◌↔◌, Contains, IfOk, IsTrue};
 ghost use Rattle.std.specs.Option.{option_copied};
-ghost use Rattle.wit_items.specs.Each.{Each, EachAt, SomeAt};
-ghost use Rattle.wit_items.specs.Ownership.{IsListed, IsTypeItem, IsTypeOf, ListsOwn, NamesFunctions, world_types};
-ghost use Rattle.wit_items.specs.Shape.{HasOwners};
-ghost use Rattle.wit_items.specs.declared.interface.Interface.{Interface};
-ghost use Rattle.wit_items.specs.declared.types.TypeDef.{TypeDef};
-ghost use Rattle.wit_items.specs.declared.world.World.{World};
+ghost use Rattle.wit_data.specs.Each.{Each, EachAt, SomeAt};
+ghost use Rattle.wit_data.specs.Ownership.{IsListed, IsTypeItem, IsTypeOf, ListsOwn, NamesFunctions, world_types};
+ghost use Rattle.wit_data.specs.Shape.{HasOwners};
+ghost use Rattle.wit_data.specs.declared.interface.Interface.{Interface};
+ghost use Rattle.wit_data.specs.declared.types.TypeDef.{TypeDef};
+ghost use Rattle.wit_data.specs.declared.world.World.{World};
 
 use crate::names::{has_name, is_text};
 use std::alloc::{AllocError, Global};
-use wit_items::{
+use wit_data::{
     Interface, InterfaceId, TypeDef, TypeId, TypeOwner, UnresolvedPackage, World, WorldId,
     WorldItem, WorldKey,
 };

@@ -1,19 +1,19 @@
 //! The shape of unresolved packages, which every reader of WIT hands in.
 ghost use Rattle.std.specs.Prelude.{◌≡◌, ◌↔◌, None, IfOk, IsTrue};
-ghost use Rattle.wit_items.specs.Each.{Each};
-ghost use Rattle.wit_items.specs.Shape.{HasForeign, HasNames, HasUnknown, IsGroupShaped, IsShaped, IsUnplaced};
-ghost use Rattle.wit_items.specs.Uses.{uses_of};
-ghost use Rattle.wit_items.specs.declared.interface.Interface.{Interface};
-ghost use Rattle.wit_items.specs.declared.world.World.{World};
-ghost use Rattle.wit_relations.specs.Relation.{IsAcyclic};
+ghost use Rattle.wit_data.specs.Each.{Each};
+ghost use Rattle.wit_data.specs.Shape.{HasForeign, HasNames, HasUnknown, IsGroupShaped, IsShaped, IsUnplaced};
+ghost use Rattle.wit_data.specs.Uses.{uses_of};
+ghost use Rattle.wit_data.specs.declared.interface.Interface.{Interface};
+ghost use Rattle.wit_data.specs.declared.world.World.{World};
+ghost use Rattle.wit_digraph.specs.Relation.{IsAcyclic};
 
 use crate::{foreign, keys, names, own, owners, references, unknown, worlds};
 use std::alloc::{AllocError, Global};
-use wit_items::{
+use wit_data::{
     Interface, UnresolvedPackage, UnresolvedPackageGroup, World, foreign_interfaces,
     foreign_worlds, uses_of,
 };
-use wit_relations::is_acyclic;
+use wit_digraph::is_acyclic;
 
 /// Whether the package has its shape, which is what the calls that resolve it ask of it.
 ///

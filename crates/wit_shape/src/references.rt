@@ -1,13 +1,13 @@
 //! What types refer to.
 ghost use Rattle.std.specs.Prelude.{◌≡◌, ◌↔◌, ◌<◌, ◌⊎◌, None, IfOk, IsSome, IsTrue};
-ghost use Rattle.wit_items.specs.Each.{Each, EachAt, SomeAt};
-ghost use Rattle.wit_items.specs.Ownership.{AliasesNamed, IsNamed, IsNamedInterface, IsPlain};
-ghost use Rattle.wit_items.specs.Reference.{referred};
-ghost use Rattle.wit_items.specs.Shape.{HasReferences};
-ghost use Rattle.wit_items.specs.declared.types.TypeDef.{TypeDef};
+ghost use Rattle.wit_data.specs.Each.{Each, EachAt, SomeAt};
+ghost use Rattle.wit_data.specs.Ownership.{AliasesNamed, IsNamed, IsNamedInterface, IsPlain};
+ghost use Rattle.wit_data.specs.Reference.{referred};
+ghost use Rattle.wit_data.specs.Shape.{HasReferences};
+ghost use Rattle.wit_data.specs.declared.types.TypeDef.{TypeDef};
 
 use std::alloc::{AllocError, Global};
-use wit_items::{
+use wit_data::{
     Interface, InterfaceId, TypeDef, TypeDefKind, TypeId, TypeOwner, UnresolvedPackage,
     alias_target, referred,
 };

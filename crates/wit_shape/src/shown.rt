@@ -3,15 +3,15 @@
 //! Where no type refers to itself, one pass over the types tells it of each, in an order in which each
 //! stands after those that it refers to.
 ghost use Rattle.std.specs.Prelude.{◌≡◌, ◌↔◌, ◌<◌, ℕ, [], length, Contains, IfOk, IsTrue};
-ghost use Rattle.wit_items.specs.Ownership.{IsOwn, Shows};
-ghost use Rattle.wit_items.specs.Reference.{type_references};
+ghost use Rattle.wit_data.specs.Ownership.{IsOwn, Shows};
+ghost use Rattle.wit_data.specs.Reference.{type_references};
 ghost use Rattle.wit_shape.specs.Shown.{IsOnly, IsTold, Tells, TellsEach, joined};
-ghost use Rattle.wit_relations.specs.Relation.{IsAcyclic};
-ghost use Rattle.wit_relations.specs.Walks.{UsesFirst};
+ghost use Rattle.wit_digraph.specs.Relation.{IsAcyclic};
+ghost use Rattle.wit_digraph.specs.Walks.{UsesFirst};
 
 use std::alloc::{AllocError, Global};
-use wit_items::{TypeDef, TypeId, TypeOwner, referred, type_references};
-use wit_relations::Listing;
+use wit_data::{TypeDef, TypeId, TypeOwner, referred, type_references};
+use wit_digraph::Listing;
 use wit_values::Items;
 
 /// Of no owner, of one alone, or of different ones.

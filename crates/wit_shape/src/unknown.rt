@@ -1,12 +1,12 @@
 //! What an unresolved package knows of the types of other packages: types of kind `Unknown`.
 ghost use Rattle.std.specs.Prelude.{◌≡◌, ◌↔◌, ◌<◌, ℕ, List, length, Option, IsTrue};
-ghost use Rattle.wit_items.specs.Each.{Each, EachAt, SomeAt};
-ghost use Rattle.wit_items.specs.Foreign.{AreForeignTypes, AreUnknownFirst, IsForeignType, ListUnknownAlone, foreign_interfaces};
-ghost use Rattle.wit_items.specs.Shape.{HasUnknown};
-ghost use Rattle.wit_items.specs.declared.types.TypeDef.{TypeDef};
-ghost use Rattle.wit_items.specs.declared.types.TypeDefKind.TheVariants as kind;
+ghost use Rattle.wit_data.specs.Each.{Each, EachAt, SomeAt};
+ghost use Rattle.wit_data.specs.Foreign.{AreForeignTypes, AreUnknownFirst, IsForeignType, ListUnknownAlone, foreign_interfaces};
+ghost use Rattle.wit_data.specs.Shape.{HasUnknown};
+ghost use Rattle.wit_data.specs.declared.types.TypeDef.{TypeDef};
+ghost use Rattle.wit_data.specs.declared.types.TypeDefKind.TheVariants as kind;
 
-use wit_items::{Interface, TypeDef, TypeDefKind, TypeId, TypeOwner, UnresolvedPackage};
+use wit_data::{Interface, TypeDef, TypeDefKind, TypeId, TypeOwner, UnresolvedPackage};
 use wit_sources::Span;
 
 /// Whether what the package knows of the types of other packages has its shape, where so many

@@ -1,15 +1,15 @@
 //! What worlds import, export and include.
 ghost use Rattle.std.specs.Prelude.{◌≡◌, ◌↔◌, ◌++◌, filter, IfOk, OnOk, IsTrue};
-ghost use Rattle.wit_items.specs.Each.{Each, EachAt};
-ghost use Rattle.wit_items.specs.Entries.{HasExports, HasImports, IncludesEarlier, IsExport, IsImport, StandOnce, held_interfaces, is_unnamed, item_interface, placed_interfaces};
-ghost use Rattle.wit_items.specs.Shape.{HasWorlds};
+ghost use Rattle.wit_data.specs.Each.{Each, EachAt};
+ghost use Rattle.wit_data.specs.Entries.{HasExports, HasImports, IncludesEarlier, IsExport, IsImport, StandOnce, held_interfaces, is_unnamed, item_interface, placed_interfaces};
+ghost use Rattle.wit_data.specs.Shape.{HasWorlds};
 
 use crate::names::is_text;
 use crate::numbers::are_distinct;
 use crate::owners::is_type_of;
 use crate::references::is_named;
 use std::alloc::{AllocError, Global};
-use wit_items::{
+use wit_data::{
     Interface, TypeDef, TypeOwner, UnresolvedPackage, World, WorldId, WorldItem, WorldKey,
 };
 use wit_values::{Items, Table};

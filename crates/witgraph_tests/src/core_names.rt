@@ -2,7 +2,7 @@
 use crate::fixtures::{assert_told, resolve_of};
 use std::alloc::Global;
 use std::process::Abort;
-use wit_items::{Function, InterfaceId, TypeId, WorldKey};
+use wit_data::{Function, InterfaceId, TypeId, WorldKey};
 use wit_resolve_graph::{
     FutureIntrinsic, LiftLowerAbi, ManglingAndAbi, Resolve, StreamIntrinsic, WasmExport,
     WasmExportKind, WasmImport,

@@ -3,7 +3,7 @@ use crate::fixtures::{assert_told, resolve_of};
 use std::alloc::Global;
 use std::fmt::Write;
 use std::process::Abort;
-use wit_items::{
+use wit_data::{
     Docs, InterfaceId, PackageId, Span, Stability, Text, Type_, TypeId, WorldItem, WorldKey,
 };
 

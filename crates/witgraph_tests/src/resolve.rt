@@ -3,7 +3,7 @@
 use crate::fixtures::{assert_told, assert_valid, resolve_of};
 use std::alloc::Global;
 use std::process::Abort;
-use wit_items::{InterfaceId, PackageId, SourceMap, TryClone, WorldKey};
+use wit_data::{InterfaceId, PackageId, SourceMap, TryClone, WorldKey};
 use wit_resolve_graph::Resolve;
 
 /// Interface `a` with type `t`, `b` which uses it, and world `w`, which imports `b`.

@@ -3,7 +3,7 @@
 use crate::fixtures::{assert_told, resolve_of};
 use std::alloc::Global;
 use std::process::Abort;
-use wit_items::PackageId;
+use wit_data::PackageId;
 
 /// The place of the world that is chosen among these main packages, or what is said where none is.
 fn selected(

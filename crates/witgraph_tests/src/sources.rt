@@ -1,6 +1,6 @@
 //! Sources that are pushed by a parse which is handed in, how their faults are told, and sources of packages.
 ghost use Rattle.std.specs.Prelude.{IfOk, IsErr};
-ghost use Rattle.wit_items.specs.Shape.{IsGroupShaped};
+ghost use Rattle.wit_data.specs.Shape.{IsGroupShaped};
 ghost use Rattle.wit_package_sources.specs.Names.{ArePlaced};
 
 use crate::fixtures::assert_told;
@@ -8,7 +8,7 @@ use std::alloc::{AllocError, Global};
 use std::collections::BTreeMap;
 use std::fmt::Write;
 use std::process::Abort;
-use wit_items::{
+use wit_data::{
     Docs, Function, FunctionKind, Interface, Items, Names, PackageId, PackageName, SourceMap, Span,
     Stability, Table, Text, TryClone, UnresolvedPackage, UnresolvedPackageGroup,
 };

@@ -5,7 +5,7 @@ use crate::fixtures::{assert_valid, resolve_of};
 use std::alloc::Global;
 use std::cell::Cell;
 use std::process::Abort;
-use wit_items::{WorldId, WorldItem, WorldKey};
+use wit_data::{WorldId, WorldItem, WorldKey};
 use wit_resolve_graph::Resolve;
 
 /// Interface `c` uses `b` and `a`, `b` uses `a`; world `w` imports them.

@@ -1,6 +1,6 @@
 use Rattle.std.proofs.Common.{◌≡◌, refl, ap, arith}
-use Rattle.wit_relations.specs.Walks.{walk, walk_within}
-use Rattle.wit_graph.specs.Elaborated.{import_steps, import_steps_within}
+use Rattle.wit_digraph.specs.Walks.{walk, walk_within}
+use Rattle.wit_elaboration.specs.Elaborated.{import_steps, import_steps_within}
 use Rattle.wit_graph_examples.proofs.Turned.{import_count}
 use Rattle.wit_graph_examples.proofs.turns.examples_of_kept_imports.Goals as goal
 

@@ -1,5 +1,5 @@
 use Rattle.std.proofs.Common.{◌≡◌, ℕ, map, take}
-use Rattle.wit_items.specs.Entries.{Entry}
+use Rattle.wit_data.specs.Entries.{Entry}
 use Rattle.wit_labels.specs.Setters.{awaited, places}
 use Rattle.wit_labels.proofs.placing.getters_of.Given as goal
 

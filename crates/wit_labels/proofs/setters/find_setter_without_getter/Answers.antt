@@ -1,7 +1,7 @@
 use Rattle.std.proofs.Common.{◌≡◌, ◌∙◌, ℕ, List, Some, sym, subst, true, arith, is_some}
 use Rattle.std.specs.Map.{lookup}
-use Rattle.wit_items.specs.contracts.world.WorldKeyPartialEq.TheImpl.{eq-value}
-use Rattle.wit_items.specs.declared.world.WorldKey.TheVariants as key
+use Rattle.wit_data.specs.contracts.world.WorldKeyPartialEq.TheImpl.{eq-value}
+use Rattle.wit_data.specs.declared.world.WorldKey.TheVariants as key
 use Rattle.wit_labels.specs.Setters.{wanted_getter}
 use Rattle.wit_labels.proofs.SetterSteps.{have-all, have-next, have-none, key_absent, key_found, lacks-at}
 use Rattle.wit_labels.proofs.setters.find_setter_without_getter.Goals as goal

@@ -1,8 +1,8 @@
 use Rattle.std.proofs.Common.{◌≡◌, ◌∙◌, ◌++◌, ◌∷◌, [], List, ℕ, ap, sym, subst, Some, None, slice_get, refl, arith}
 use Rattle.std.proofs.lemmas.List.{length-map}
 use Rattle.std.specs.Map.{keys_of, lookup}
-use Rattle.wit_items.specs.Entries.{Entry}
-use Rattle.wit_items.specs.declared.world.WorldKey.TheVariants as key
+use Rattle.wit_data.specs.Entries.{Entry}
+use Rattle.wit_data.specs.declared.world.WorldKey.TheVariants as key
 use Rattle.wit_labels.specs.Strong.{strong_key}
 use Rattle.wit_labels.specs.contracts.strong.StrongKeyPartialEq.TheImpl.{eq-value}
 use Rattle.wit_labels.specs.declared.strong.StrongKey.{StrongKey}

@@ -1,7 +1,7 @@
 use Rattle.std.proofs.Common.{◌≡◌, ◌++◌}
 use Rattle.std.specs.Vec.Iter.{into_iter_items}
-use Rattle.wit_graph.specs.Elaboration.{graph_uses}
-use Rattle.wit_placing.specs.Grown.{Begins, Grown}
+use Rattle.wit_elaboration.specs.Elaboration.{graph_uses}
+use Rattle.wit_remap.specs.Grown.{Begins, Grown}
 use Rattle.wit_link.specs.Appending.{addition}
 use Rattle.wit_link.specs.Including.{ready_worlds}
 use Rattle.wit_link.proofs.WorldStages.{IsAdding}

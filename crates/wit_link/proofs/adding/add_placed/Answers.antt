@@ -1,7 +1,7 @@
 use Rattle.std.proofs.Common.{◌≡◌, ◌∙◌, IfOk, List, Ok, Err, Result, ap, map}
-use Rattle.wit_adding.specs.Adding.{places_of}
-use Rattle.wit_adding.specs.declared.adding.Places.{Places}
-use Rattle.wit_placing.specs.declared.worlds.PlacedWorld.{PlacedWorld}
+use Rattle.wit_link_spec.specs.Adding.{places_of}
+use Rattle.wit_link_spec.specs.declared.adding.Places.{Places}
+use Rattle.wit_remap.specs.declared.worlds.PlacedWorld.{PlacedWorld}
 use Rattle.wit_link.specs.Appending.{addition}
 use Rattle.wit_link.specs.Including.{world_with}
 use Rattle.wit_link.proofs.Added.{worlds_ready}

@@ -1,7 +1,7 @@
 use Rattle.std.proofs.Common.{ℕ}
-use Rattle.wit_items.specs.EachFacts.{EachBelow}
+use Rattle.wit_data.specs.EachFacts.{EachBelow}
 use Rattle.wit_link.specs.Fits.{RequiredFits}
-use Rattle.wit_adding.specs.Gates.{Place}
+use Rattle.wit_link_spec.specs.Gates.{Place}
 use Rattle.wit_link.proofs.fits.required_fit.Given as goal
 
 -- the first ones fit

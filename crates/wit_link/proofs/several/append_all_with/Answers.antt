@@ -1,8 +1,8 @@
 use Rattle.std.proofs.Common.{◌∙◌, ℕ, ap, subst, sym, take, IfOk, List, OnErr, OnOk, Result, Ok, Err}
-use Rattle.wit_graph.specs.Elaboration.{graph_uses}
-use Rattle.wit_graph.specs.Valid.{IsValid}
-use Rattle.wit_placing.specs.Grown.{Grown}
-use Rattle.wit_placing.specs.GrownFacts.{Begins-as, Grown-same}
+use Rattle.wit_elaboration.specs.Elaboration.{graph_uses}
+use Rattle.wit_elaboration.specs.Valid.{IsValid}
+use Rattle.wit_remap.specs.Grown.{Grown}
+use Rattle.wit_remap.specs.GrownFacts.{Begins-as, Grown-same}
 use Rattle.wit_link.specs.Several.{ArePushed}
 use Rattle.wit_link.proofs.OneAfterAnother.{never_refused}
 use Rattle.wit_link.proofs.several.append_all_with.Goals as goal

@@ -1,10 +1,10 @@
 use Rattle.std.proofs.Common.{◌≡◌, ◌++◌}
 use Rattle.std.specs.List.{AllByRecursion}
 use Rattle.std.specs.Vec.Iter.{into_iter_items}
-use Rattle.wit_graph.specs.Elaboration.{graph_uses}
-use Rattle.wit_graph.specs.Valid.{IsValid}
+use Rattle.wit_elaboration.specs.Elaboration.{graph_uses}
+use Rattle.wit_elaboration.specs.Valid.{IsValid}
 use Rattle.wit_link.specs.Several.{ArePushed, CanAppend}
-use Rattle.wit_placing.specs.Grown.{Begins, Grown}
+use Rattle.wit_remap.specs.Grown.{Begins, Grown}
 use Rattle.wit_link.proofs.several.append_each.Given as goal
 
 -- the packages so far are added, and those that are left can be

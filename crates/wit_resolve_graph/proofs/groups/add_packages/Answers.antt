@@ -1,7 +1,7 @@
 use Rattle.std.proofs.Common.{◌∙◌, ap, subst, sym}
 use Rattle.std.specs.Map.{lookup}
-use Rattle.wit_items.specs.PackageOrder.{same_package}
-use Rattle.wit_graph.specs.declared.graph.Graph.{Graph}
+use Rattle.wit_data.specs.PackageOrder.{same_package}
+use Rattle.wit_graph_data.specs.declared.graph.Graph.{Graph}
 use Rattle.wit_resolve_graph.specs.Grouping.{AreAdded}
 use Rattle.wit_resolve_graph.proofs.KeptRows.{flags_known, kept_cut}
 use Rattle.std.specs.Option.{option_copied}

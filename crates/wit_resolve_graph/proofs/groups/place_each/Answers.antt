@@ -1,12 +1,12 @@
 use Rattle.std.proofs.Common.{◌≡◌, ◌∙◌, ◌⊎◌, ◌∷◌, ◌++◌, [], ap, refl, sym, subst, rules, List}
 use Rattle.std.specs.Vec.Iter.{into_iter_items}
 use Rattle.std.proofs.lemmas.List.{append_assoc}
-use Rattle.wit_graph.specs.AnswerFacts.{told_err}
-use Rattle.wit_graph.specs.declared.error_kind.ResolveErrorKind.{ResolveErrorKind}
-use Rattle.wit_graph.specs.declared.error_kind.ResolveErrorKind.TheVariants.{OutOfMemory}
-use Rattle.wit_items.specs.declared.unresolved.UnresolvedPackageGroup.{UnresolvedPackageGroup}
+use Rattle.wit_graph_data.specs.AnswerFacts.{told_err}
+use Rattle.wit_graph_data.specs.declared.error_kind.ResolveErrorKind.{ResolveErrorKind}
+use Rattle.wit_graph_data.specs.declared.error_kind.ResolveErrorKind.TheVariants.{OutOfMemory}
+use Rattle.wit_data.specs.declared.unresolved.UnresolvedPackageGroup.{UnresolvedPackageGroup}
 use Rattle.wit_link.specs.Groups.{FilesPassTheEnd}
-use Rattle.wit_placing.specs.Grown.{Begins}
+use Rattle.wit_remap.specs.Grown.{Begins}
 use Rattle.wit_sources.specs.SourceMap.{Sources}
 use Rattle.wit_resolve_graph.proofs.Grouped.{begins_still, begins_with_files, more_files, more_fits, more_taken, passes_there}
 use Rattle.wit_resolve_graph.proofs.groups.place_each.Goals as goal

@@ -1,9 +1,9 @@
 use Rattle.std.proofs.Common.{◌≡◌, ◌⊎◌, inl, inr, ℕ, Bool, List, Option, option_map, string_bytes, sym, subst}
-use Rattle.wit_graph.specs.AnswerFacts.{told_err}
-use Rattle.wit_graph.specs.declared.error_kind.ResolveErrorKind.{ResolveErrorKind}
-use Rattle.wit_graph.specs.declared.error_kind.ResolveErrorKind.TheVariants.{OutOfMemory}
+use Rattle.wit_graph_data.specs.AnswerFacts.{told_err}
+use Rattle.wit_graph_data.specs.declared.error_kind.ResolveErrorKind.{ResolveErrorKind}
+use Rattle.wit_graph_data.specs.declared.error_kind.ResolveErrorKind.TheVariants.{OutOfMemory}
 use Rattle.wit_resolve_graph.specs.Step.{answers_at}
-use Rattle.wit_unite.specs.TurnCause.{IsExportizeCause}
+use Rattle.wit_transform.specs.TurnCause.{IsExportizeCause}
 use Rattle.wit_resolve_graph.proofs.turning.exportize_listed.Goals as goal
 
 pub returns-in_err-exportize_answered-clause-cause : goal.returns-in_err-exportize_answered-clause-cause

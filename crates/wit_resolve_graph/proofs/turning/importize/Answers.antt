@@ -1,7 +1,7 @@
 use Rattle.std.proofs.Common.{◌∙◌, inl, inr, List, Option, ℕ, refl, sym, ap, subst}
 use Rattle.wit_resolve_graph.specs.State.{State}
-use Rattle.wit_unite.specs.TurnCause.{IsImportizeCause}
-use Rattle.wit_unite.specs.Turned.{importized, turned}
+use Rattle.wit_transform.specs.TurnCause.{IsImportizeCause}
+use Rattle.wit_transform.specs.Turned.{importized, turned}
 use Rattle.wit_resolve_graph.proofs.turning.importize.Goals as goal
 
 pub returns-in-Ok : goal.returns-in-Ok

@@ -1,6 +1,6 @@
 use Rattle.std.proofs.Common.{◌≡◌, ◌∙◌, ap, Some, None}
-use Rattle.wit_lines.specs.Line.{tokens_of}
-use Rattle.wit_lines.specs.Statement.{said_of}
+use Rattle.wit_script_lines.specs.Line.{tokens_of}
+use Rattle.wit_script_lines.specs.Statement.{said_of}
 use Rattle.wit_script.proofs.Scripts.{said_nothing, said_something}
 use Rattle.wit_script.proofs.reader.add_line.Goals as goal
 

@@ -1,5 +1,5 @@
 use Rattle.std.proofs.Common.{◌≡◌, ℕ, List, Bor, Some, map, take}
-use Rattle.wit_lines.specs.Line.{last_said_of}
+use Rattle.wit_script_lines.specs.Line.{last_said_of}
 use Rattle.wit_script.specs.Ready.{AreReady}
 use Rattle.wit_script.specs.Script.{reading_before}
 use Rattle.wit_script.proofs.reader.add_lines.Given as goal

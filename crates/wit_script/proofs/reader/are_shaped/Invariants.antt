@@ -1,5 +1,5 @@
-use Rattle.wit_items.specs.EachFacts.{EachBelow}
-use Rattle.wit_items.specs.Shape.{IsGroupShaped}
+use Rattle.wit_data.specs.EachFacts.{EachBelow}
+use Rattle.wit_data.specs.Shape.{IsGroupShaped}
 use Rattle.wit_script.proofs.reader.are_shaped.Given as goal
 
 -- the first ones have it

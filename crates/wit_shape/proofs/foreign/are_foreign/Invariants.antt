@@ -1,5 +1,5 @@
-use Rattle.wit_items.specs.YieldedFacts.{LeftDecide}
-use Rattle.wit_items.specs.Foreign.{IsForeign}
+use Rattle.wit_data.specs.YieldedFacts.{LeftDecide}
+use Rattle.wit_data.specs.Foreign.{IsForeign}
 use Rattle.wit_shape.proofs.foreign.are_foreign.Given as goal
 
 -- those that are left decide

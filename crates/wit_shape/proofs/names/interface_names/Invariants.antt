@@ -1,7 +1,7 @@
 use Rattle.std.proofs.Common.{◌≡◌, ℕ, List, map, flat_map, take}
 use Rattle.std.specs.Borrow.{Bor}
 use Rattle.std.specs.Option.{option_to_list}
-use Rattle.wit_items.specs.declared.interface.Interface.{Interface}
+use Rattle.wit_data.specs.declared.interface.Interface.{Interface}
 use Rattle.wit_shape.proofs.names.interface_names.Given as goal
 
 -- the names of the first ones

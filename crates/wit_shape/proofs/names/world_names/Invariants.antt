@@ -1,6 +1,6 @@
 use Rattle.std.proofs.Common.{◌≡◌, ℕ, List, map, take}
 use Rattle.std.specs.Borrow.{Bor}
-use Rattle.wit_items.specs.declared.world.World.{World}
+use Rattle.wit_data.specs.declared.world.World.{World}
 use Rattle.wit_shape.proofs.names.world_names.Given as goal
 
 -- the names of the first ones

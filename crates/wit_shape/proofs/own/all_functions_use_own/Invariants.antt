@@ -1,5 +1,5 @@
-use Rattle.wit_items.specs.EachFacts.{EachBelow}
-use Rattle.wit_items.specs.Ownership.{FunctionsUseOwn}
+use Rattle.wit_data.specs.EachFacts.{EachBelow}
+use Rattle.wit_data.specs.Ownership.{FunctionsUseOwn}
 use Rattle.wit_shape.proofs.own.all_functions_use_own.Given as goal
 
 -- the first ones do

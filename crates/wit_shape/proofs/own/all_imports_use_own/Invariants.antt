@@ -1,6 +1,6 @@
-use Rattle.wit_items.specs.EachFacts.{EachBelow}
-use Rattle.wit_items.specs.Entries.{EntriesUseOwn}
-use Rattle.wit_items.specs.declared.world.World.{World}
+use Rattle.wit_data.specs.EachFacts.{EachBelow}
+use Rattle.wit_data.specs.Entries.{EntriesUseOwn}
+use Rattle.wit_data.specs.declared.world.World.{World}
 use Rattle.wit_shape.proofs.own.all_imports_use_own.Given as goal
 
 -- the first ones do

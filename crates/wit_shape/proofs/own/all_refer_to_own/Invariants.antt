@@ -1,5 +1,5 @@
-use Rattle.wit_items.specs.EachFacts.{EachBelow}
-use Rattle.wit_items.specs.Ownership.{RefersToOwn}
+use Rattle.wit_data.specs.EachFacts.{EachBelow}
+use Rattle.wit_data.specs.Ownership.{RefersToOwn}
 use Rattle.wit_shape.proofs.own.all_refer_to_own.Given as goal
 
 -- the first ones do

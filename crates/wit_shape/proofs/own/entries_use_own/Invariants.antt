@@ -1,5 +1,5 @@
-use Rattle.wit_items.specs.YieldedFacts.{LeftDecide}
-use Rattle.wit_items.specs.Entries.{Entry, ItemUsesOwn}
+use Rattle.wit_data.specs.YieldedFacts.{LeftDecide}
+use Rattle.wit_data.specs.Entries.{Entry, ItemUsesOwn}
 use Rattle.wit_shape.proofs.own.entries_use_own.Given as goal
 
 -- those that are left decide

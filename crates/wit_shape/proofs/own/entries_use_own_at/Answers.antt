@@ -1,6 +1,6 @@
 use Rattle.std.proofs.Common.{ℕ, subst}
 use Rattle.std.specs.Prelude.{◌↔◌, IfOk, IsTrue}
-use Rattle.wit_items.specs.Entries.{EntriesUseOwn}
+use Rattle.wit_data.specs.Entries.{EntriesUseOwn}
 use Rattle.wit_shape.proofs.own.entries_use_own_at.Goals as goal
 
 pub returns : goal.returns

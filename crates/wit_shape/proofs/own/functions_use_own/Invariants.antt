@@ -1,8 +1,8 @@
 use Rattle.std.proofs.Common.{ℕ, List}
-use Rattle.wit_items.specs.YieldedFacts.{LeftDecide}
-use Rattle.wit_items.specs.Ownership.{UsesOwn}
-use Rattle.wit_items.specs.declared.function.Function.{Function}
-use Rattle.wit_items.specs.declared.types.TypeOwner.TheVariants as owner
+use Rattle.wit_data.specs.YieldedFacts.{LeftDecide}
+use Rattle.wit_data.specs.Ownership.{UsesOwn}
+use Rattle.wit_data.specs.declared.function.Function.{Function}
+use Rattle.wit_data.specs.declared.types.TypeOwner.TheVariants as owner
 use Rattle.wit_shape.proofs.own.functions_use_own.Given as goal
 
 -- those that are left decide

@@ -1,7 +1,7 @@
 use Rattle.std.proofs.Common.{subst, sym}
 use Rattle.std.specs.Prelude.{◌↔◌, IsTrue, IfOk}
-use Rattle.wit_items.specs.Entries.{ItemUsesOwn}
-use Rattle.wit_items.specs.declared.world.WorldItem.{WorldItem}
+use Rattle.wit_data.specs.Entries.{ItemUsesOwn}
+use Rattle.wit_data.specs.declared.world.WorldItem.{WorldItem}
 use Rattle.wit_shape.proofs.own.item_uses_own.Goals as goal
 
 pub returns-in-Function : goal.returns-in-Function

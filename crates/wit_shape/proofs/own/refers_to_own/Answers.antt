@@ -1,7 +1,7 @@
 use Rattle.std.proofs.Common.{◌≡◌, ℕ, List, true, subst, ◌∙◌, rules}
 use Rattle.std.specs.Prelude.{◌↔◌, IsTrue, is_some}
-use Rattle.wit_items.specs.Each.{Each}
-use Rattle.wit_items.specs.Ownership.{IsOwn}
+use Rattle.wit_data.specs.Each.{Each}
+use Rattle.wit_data.specs.Ownership.{IsOwn}
 use Rattle.wit_shape.proofs.own.refers_to_own.Goals as goal
 
 pub returns : goal.returns

@@ -1,7 +1,7 @@
 use Rattle.std.proofs.Common.{ℕ, List, subst, ◌∙◌}
 use Rattle.std.specs.Prelude.{◌↔◌, IsTrue}
-use Rattle.wit_items.specs.Each.{Each}
-use Rattle.wit_items.specs.Ownership.{IsOwn}
+use Rattle.wit_data.specs.Each.{Each}
+use Rattle.wit_data.specs.Ownership.{IsOwn}
 use Rattle.wit_shape.proofs.own.uses_own.Goals as goal
 
 pub returns : goal.returns

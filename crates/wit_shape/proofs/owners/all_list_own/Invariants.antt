@@ -1,5 +1,5 @@
-use Rattle.wit_items.specs.EachFacts.{EachBelow}
-use Rattle.wit_items.specs.Ownership.{ListsOwn}
+use Rattle.wit_data.specs.EachFacts.{EachBelow}
+use Rattle.wit_data.specs.Ownership.{ListsOwn}
 use Rattle.wit_shape.proofs.owners.all_list_own.Given as goal
 
 -- the first ones do

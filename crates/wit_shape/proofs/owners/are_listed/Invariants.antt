@@ -1,6 +1,6 @@
-use Rattle.wit_items.specs.EachFacts.{EachBelow}
-use Rattle.wit_items.specs.Ownership.{IsListed}
-use Rattle.wit_items.specs.declared.types.TypeDef.{TypeDef}
+use Rattle.wit_data.specs.EachFacts.{EachBelow}
+use Rattle.wit_data.specs.Ownership.{IsListed}
+use Rattle.wit_data.specs.declared.types.TypeDef.{TypeDef}
 use Rattle.wit_shape.proofs.owners.are_listed.Given as goal
 
 -- the first ones are

@@ -2,8 +2,8 @@ use Rattle.std.proofs.Common.{◌≡◌, ℕ, Option, Some, None, false, refl, s
 use Rattle.std.specs.Prelude.{◌↔◌, IsTrue, IfOk, slice_get, Contains}
 use Rattle.std.specs.Option.{IsSomeAnd}
 use Rattle.std.proofs.lemmas.Option.{slice_get_past, slice_get_read}
-use Rattle.wit_items.specs.Ownership.{world_types}
-use Rattle.wit_items.specs.declared.world.World.{World}
+use Rattle.wit_data.specs.Ownership.{world_types}
+use Rattle.wit_data.specs.declared.world.World.{World}
 use Rattle.wit_shape.proofs.owners.is_in_world.Goals as goal
 
 pub returns-in-Some : goal.returns-in-Some

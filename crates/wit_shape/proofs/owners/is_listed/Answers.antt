@@ -1,7 +1,7 @@
 use Rattle.std.proofs.Common.{ℕ, List, Option, Some, subst, sym}
 use Rattle.std.specs.Prelude.{◌↔◌, IsTrue, IfOk}
-use Rattle.wit_items.specs.Ownership.{IsListed}
-use Rattle.wit_items.specs.declared.types.TypeOwner.{TypeOwner}
+use Rattle.wit_data.specs.Ownership.{IsListed}
+use Rattle.wit_data.specs.declared.types.TypeOwner.{TypeOwner}
 use Rattle.wit_shape.proofs.owners.is_listed.Goals as goal
 
 pub returns-in-World : goal.returns-in-World

@@ -1,6 +1,6 @@
 use Rattle.std.proofs.Common.{ℕ, subst}
 use Rattle.std.specs.Prelude.{◌↔◌, IsTrue}
-use Rattle.wit_items.specs.Ownership.{ListsOwn}
+use Rattle.wit_data.specs.Ownership.{ListsOwn}
 use Rattle.wit_shape.proofs.owners.lists_own_at.Goals as goal
 
 pub returns : goal.returns

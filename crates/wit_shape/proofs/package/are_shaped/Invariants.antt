@@ -1,5 +1,5 @@
-use Rattle.wit_items.specs.EachFacts.{EachBelow}
-use Rattle.wit_items.specs.Shape.{IsShaped}
+use Rattle.wit_data.specs.EachFacts.{EachBelow}
+use Rattle.wit_data.specs.Shape.{IsShaped}
 use Rattle.wit_shape.proofs.package.are_shaped.Given as goal
 
 -- the first ones are

@@ -1,9 +1,9 @@
 use Rattle.std.proofs.Common.{Bool, List, subst}
 use Rattle.std.specs.Prelude.{◌↔◌, IsTrue, IfOk}
 use Rattle.std.proofs.lemmas.Result.{IfOk-weaker}
-use Rattle.wit_items.specs.Each.{Each}
-use Rattle.wit_items.specs.Shape.{IsGroupShaped, IsShaped}
-use Rattle.wit_items.specs.declared.unresolved.UnresolvedPackage.{UnresolvedPackage}
+use Rattle.wit_data.specs.Each.{Each}
+use Rattle.wit_data.specs.Shape.{IsGroupShaped, IsShaped}
+use Rattle.wit_data.specs.declared.unresolved.UnresolvedPackage.{UnresolvedPackage}
 use Rattle.wit_shape.proofs.package.is_group_shaped.Goals as goal
 
 pub returns : goal.returns

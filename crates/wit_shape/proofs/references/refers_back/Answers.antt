@@ -1,6 +1,6 @@
 use Rattle.std.proofs.Common.{◌∙◌, ◌<◌, ℕ, List, subst}
 use Rattle.std.specs.Prelude.{◌↔◌, IsTrue}
-use Rattle.wit_items.specs.Each.{Each}
+use Rattle.wit_data.specs.Each.{Each}
 use Rattle.wit_shape.proofs.references.refers_back.Goals as goal
 
 pub returns : goal.returns

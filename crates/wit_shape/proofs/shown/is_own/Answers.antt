@@ -1,5 +1,5 @@
 use Rattle.std.proofs.Common.{◌≡◌, ℕ, ◌<◌, length, Some, slice_get, subst, arith}
-use Rattle.wit_items.specs.Ownership.{Shows}
+use Rattle.wit_data.specs.Ownership.{Shows}
 use Rattle.wit_shape.proofs.Telling.{only_is}
 use Rattle.wit_shape.proofs.shown.is_own.Goals as goal
 

@@ -5,17 +5,17 @@ use Rattle.std.proofs.lemmas.List.Elements.{Contains-append_cases, Contains-get_
 use Rattle.std.proofs.lemmas.Option.{slice_get_within, slice_get-get_or}
 use Rattle.std.proofs.lemmas.Grind.{common_steps}
 use Rattle.wit_values.specs.Lists.{kept-cases, slice_get-set, take-next_at}
-use Rattle.wit_relations.specs.MemberFacts.{Contains-nil, Contains-cons_cases}
-use Rattle.wit_relations.specs.WalkFacts.{UsesFirst-at}
-use Rattle.wit_relations.specs.Walks.{Listed, UsesFirst}
-use Rattle.wit_items.specs.Each.{SomeAt}
-use Rattle.wit_items.specs.EachFacts.{SomeAt-is, SomeAt-of}
-use Rattle.wit_items.specs.Ownership.{Shows}
-use Rattle.wit_items.specs.Reference.{referred, type_references}
-use Rattle.wit_items.specs.ReferenceFacts.{references_at}
+use Rattle.wit_digraph.specs.MemberFacts.{Contains-nil, Contains-cons_cases}
+use Rattle.wit_digraph.specs.WalkFacts.{UsesFirst-at}
+use Rattle.wit_digraph.specs.Walks.{Listed, UsesFirst}
+use Rattle.wit_data.specs.Each.{SomeAt}
+use Rattle.wit_data.specs.EachFacts.{SomeAt-is, SomeAt-of}
+use Rattle.wit_data.specs.Ownership.{Shows}
+use Rattle.wit_data.specs.Reference.{referred, type_references}
+use Rattle.wit_data.specs.ReferenceFacts.{references_at}
 use Rattle.wit_shape.specs.Shown.{IsTold, Tells, TellsEach}
 use Rattle.wit_shape.specs.declared.shown.Shown.{Shown}
-use Rattle.wit_items.specs.declared.types.TypeDef.{TypeDef}
+use Rattle.wit_data.specs.declared.types.TypeDef.{TypeDef}
 use Rattle.wit_shape.proofs.shown.shown_by_each.Goals as goal
 
 contained : (xs : List ℕ) (k x : ℕ) → slice_get xs k ≡ Some x → Contains xs x

@@ -1,7 +1,7 @@
 use Rattle.std.proofs.Common.{◌≡◌, ℕ, length, take}
 use Rattle.std.specs.Prelude.{Contains}
-use Rattle.wit_items.specs.Each.{SomeAt}
-use Rattle.wit_items.specs.Ownership.{Shows}
+use Rattle.wit_data.specs.Each.{SomeAt}
+use Rattle.wit_data.specs.Ownership.{Shows}
 use Rattle.wit_shape.specs.Shown.{Tells}
 use Rattle.wit_shape.proofs.shown.shown_by_each.Given as goal
 

@@ -1,8 +1,8 @@
 use Rattle.std.proofs.Common.{◌≡◌, ◌∙◌, ℕ, ◌<◌, [], List, length, subst, ap}
 use Rattle.std.specs.Prelude.{Contains, IfOk}
-use Rattle.wit_relations.specs.Walks.{Listed, UsesFirst}
-use Rattle.wit_items.specs.Reference.{type_references}
-use Rattle.wit_items.specs.ReferenceFacts.{length-references}
+use Rattle.wit_digraph.specs.Walks.{Listed, UsesFirst}
+use Rattle.wit_data.specs.Reference.{type_references}
+use Rattle.wit_data.specs.ReferenceFacts.{length-references}
 use Rattle.wit_shape.proofs.shown.uses_first.Goals as goal
 
 pub returns-clause-nodes : goal.returns-clause-nodes

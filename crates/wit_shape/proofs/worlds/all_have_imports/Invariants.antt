@@ -1,5 +1,5 @@
-use Rattle.wit_items.specs.EachFacts.{EachBelow}
-use Rattle.wit_items.specs.Entries.{HasImports}
+use Rattle.wit_data.specs.EachFacts.{EachBelow}
+use Rattle.wit_data.specs.Entries.{HasImports}
 use Rattle.wit_shape.proofs.worlds.all_have_imports.Given as goal
 
 -- the first ones have

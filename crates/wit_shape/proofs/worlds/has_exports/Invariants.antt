@@ -1,5 +1,5 @@
-use Rattle.wit_items.specs.YieldedFacts.{LeftDecide}
-use Rattle.wit_items.specs.Entries.{Entry, IsExport}
+use Rattle.wit_data.specs.YieldedFacts.{LeftDecide}
+use Rattle.wit_data.specs.Entries.{Entry, IsExport}
 use Rattle.wit_shape.proofs.worlds.has_exports.Given as goal
 
 -- those that are left decide

@@ -1,6 +1,6 @@
 use Rattle.std.proofs.Common.{ℕ, subst}
 use Rattle.std.specs.Prelude.{◌↔◌, IsTrue}
-use Rattle.wit_items.specs.Entries.{HasImports}
+use Rattle.wit_data.specs.Entries.{HasImports}
 use Rattle.wit_shape.proofs.worlds.has_imports_at.Goals as goal
 
 pub returns : goal.returns

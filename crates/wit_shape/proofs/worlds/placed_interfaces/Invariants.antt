@@ -1,5 +1,5 @@
 use Rattle.std.proofs.Common.{◌≡◌, take}
-use Rattle.wit_items.specs.Entries.{placed_interfaces}
+use Rattle.wit_data.specs.Entries.{placed_interfaces}
 use Rattle.wit_shape.proofs.worlds.placed_interfaces.Given as goal
 
 -- those of the first worlds

@@ -1,5 +1,5 @@
 use Rattle.std.proofs.Common.{◌≡◌, ◌++◌}
-use Rattle.wit_items.specs.Entries.{held_interfaces}
+use Rattle.wit_data.specs.Entries.{held_interfaces}
 use Rattle.wit_shape.proofs.worlds.push_entries.Given as goal
 
 -- what has been added, and what those will add that are left

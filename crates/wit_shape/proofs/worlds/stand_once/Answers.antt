@@ -1,5 +1,5 @@
 use Rattle.std.proofs.Common.{ℕ, ◌<◌, List, length, subst, sym, ◌∙◌}
-use Rattle.wit_items.specs.Each.{Each}
+use Rattle.wit_data.specs.Each.{Each}
 use Rattle.wit_shape.proofs.Unnamed.{unnamed_below}
 use Rattle.wit_shape.proofs.worlds.stand_once.Goals as goal
 

@@ -1,5 +1,5 @@
 use Rattle.std.proofs.Common.{◌≡◌, take, filter}
-use Rattle.wit_items.specs.Entries.{is_unnamed}
+use Rattle.wit_data.specs.Entries.{is_unnamed}
 use Rattle.wit_shape.proofs.worlds.unnamed_among.Given as goal
 
 -- those among the first ones

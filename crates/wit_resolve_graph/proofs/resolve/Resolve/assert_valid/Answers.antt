@@ -1,7 +1,7 @@
 use Rattle.std.proofs.Common.{Bool, Ok, Err, Result, subst, sym}
 use Rattle.std.specs.Prelude.{◌↔◌, IfOk, IsTrue}
-use Rattle.wit_graph.specs.Valid.{IsValid}
-use Rattle.wit_graph.specs.declared.graph.Graph.{Graph}
+use Rattle.wit_elaboration.specs.Valid.{IsValid}
+use Rattle.wit_graph_data.specs.declared.graph.Graph.{Graph}
 use Rattle.wit_resolve_graph.proofs.resolve.Resolve.assert_valid.Goals as goal
 
 true_of : {E : Type 0} (g : Graph) (told : Result Bool E) → IsValid g → IfOk told (λ valid. IsTrue valid ↔ IsValid g) → IfOk told (λ valid. IsTrue valid)

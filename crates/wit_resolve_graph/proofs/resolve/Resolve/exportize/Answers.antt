@@ -1,6 +1,6 @@
 use Rattle.std.proofs.Common.{option_map, string_bytes, subst, sym}
-use Rattle.wit_unite.specs.Turned.{exportized}
-use Rattle.wit_graph.specs.declared.graph.Graph.{Graph}
+use Rattle.wit_transform.specs.Turned.{exportized}
+use Rattle.wit_graph_data.specs.declared.graph.Graph.{Graph}
 use Rattle.wit_resolve_graph.proofs.KeptRows.{LeavesTypes, kept_after, turned_leaves}
 use Rattle.wit_resolve_graph.proofs.resolve.Resolve.exportize.Goals as goal
 

@@ -1,5 +1,5 @@
 use Rattle.std.proofs.Common.{option_map, string_bytes}
-use Rattle.wit_unite.specs.Turned.{exportized}
+use Rattle.wit_transform.specs.Turned.{exportized}
 use Rattle.wit_resolve_graph.proofs.KeptRows.{kept_turned}
 use Rattle.wit_resolve_graph.proofs.resolve.Resolve.exportize_answered.Goals as goal
 

@@ -1,5 +1,5 @@
 use Rattle.std.proofs.Common.{◌∙◌, length, ap, sym}
-use Rattle.wit_items.specs.Uses.{uses_of}
+use Rattle.wit_data.specs.Uses.{uses_of}
 use Rattle.wit_resolve_graph.proofs.EmptyGraph.{valid_without}
 use Rattle.wit_resolve_graph.proofs.KeptRows.{none_known}
 use Rattle.wit_resolve_graph.proofs.resolve.Resolve.new.Goals as goal

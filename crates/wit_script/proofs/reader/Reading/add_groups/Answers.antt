@@ -1,7 +1,7 @@
 use Rattle.std.proofs.Common.{◌≡◌, ◌∙◌, ◌∷◌, List, subst, sym, rules}
-use Rattle.wit_items.specs.Each.{Each}
-use Rattle.wit_items.specs.Shape.{IsGroupShaped}
-use Rattle.wit_items.specs.declared.unresolved.UnresolvedPackageGroup.{UnresolvedPackageGroup}
+use Rattle.wit_data.specs.Each.{Each}
+use Rattle.wit_data.specs.Shape.{IsGroupShaped}
+use Rattle.wit_data.specs.declared.unresolved.UnresolvedPackageGroup.{UnresolvedPackageGroup}
 use Rattle.wit_script.proofs.Pushed.{bad-groups, denied, each-shaped}
 use Rattle.wit_script.proofs.reader.Reading.add_groups.Goals as goal
 

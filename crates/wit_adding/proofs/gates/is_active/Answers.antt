@@ -1,5 +1,0 @@
-use Rattle.std.proofs.Common.{rules}
-use Rattle.wit_adding.proofs.gates.is_active.Goals as goal
-
-pub returns-then-features : goal.returns-then-features
-returns-then-features c = search rules

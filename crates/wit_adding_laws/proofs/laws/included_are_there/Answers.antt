@@ -1,5 +1,0 @@
-use Rattle.wit_adding_laws.specs.IncludedThere.{included_are_there}
-use Rattle.wit_adding_laws.proofs.laws.included_are_there.Goals as goal
-
-pub returns : goal.returns
-returns c = included_are_there

@@ -1,4 +1,0 @@
-//! Laws of adding: a valid graph to which a package is added stays valid.
-#![tactic(auto)]
-
-pub mod laws;

@@ -1,3 +1,0 @@
-pub mod Differing
-pub mod OffsetFacts
-pub mod Stabilities

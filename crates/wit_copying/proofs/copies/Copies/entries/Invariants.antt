@@ -1,8 +1,0 @@
-use Rattle.std.proofs.Common.{◌≡◌, ◌++◌, map}
-use Rattle.wit_growth.specs.Image.{entry_image}
-use Rattle.wit_copying.specs.Copied.{maps_of}
-use Rattle.wit_copying.proofs.copies.Copies.entries.Given as goal
-
--- the copies so far, and those of what is left
-abbrev pub invariant-loop-key : goal.invariant-loop-key
-invariant-loop-key l = l.copies ++ map (entry_image (maps_of l.self) l.self.from) l.key-iterator ≡ map (entry_image (maps_of l.self) l.self.from) l.entries

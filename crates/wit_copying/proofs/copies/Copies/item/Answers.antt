@@ -1,5 +1,0 @@
-use Rattle.std.proofs.Common.{rules}
-use Rattle.wit_copying.proofs.copies.Copies.item.Goals as goal
-
-pub returns : goal.returns
-returns c = search rules

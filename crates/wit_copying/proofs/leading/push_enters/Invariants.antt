@@ -1,7 +1,0 @@
-use Rattle.std.proofs.Common.{◌≡◌, ◌++◌, map, take}
-use Rattle.wit_copying.specs.declared.leading.Step.TheVariants as step
-use Rattle.wit_copying.proofs.leading.push_enters.Given as goal
-
--- those into the first ones have been added
-abbrev pub invariant-loop-id : goal.invariant-loop-id
-invariant-loop-id l = l.stack ≡ l.fn.stack ++ map step.Enter (take l.id-index l.ids)

@@ -1,0 +1,5 @@
+use Rattle.std.proofs.Common.{refl}
+use Rattle.wit_data.proofs.function.FunctionTryClone.try_clone.Goals as goal
+
+pub returns : goal.returns
+returns c = rw (c.in_ok-name.ensures.0, c.in_ok-name.ensures.1, c.in_ok-docs.ensures.0, c.in_ok-docs.ensures.1, c.in_ok-docs.ensures.2) refl

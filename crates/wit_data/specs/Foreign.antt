@@ -1,0 +1,85 @@
+-- What an unresolved package knows of other packages: interfaces and worlds by name alone, and types
+-- of kind `Unknown`.
+use Rattle.std.specs.Prelude.{◌≡◌, ◌≢◌, ◌↔◌, ℕ, ◌<◌, ◌≤◌, List, [], ◌∷◌, Some, length, nat_eq, IsSome}
+use Rattle.std.specs.List.{IsDistinct, flat_map}
+use Rattle.wit_data.specs.Each.{Each, EachAt, SomeAt}
+use Rattle.wit_data.specs.declared.interface.Interface.{Interface}
+use Rattle.wit_data.specs.declared.package_name.PackageName.{PackageName}
+use Rattle.wit_data.specs.declared.stability.Stability.{Stability}
+use Rattle.wit_data.specs.declared.types.TypeDef.{TypeDef}
+use Rattle.wit_data.specs.declared.types.TypeDefKind.TheVariants as kind
+use Rattle.wit_data.specs.declared.types.TypeOwner.{TypeOwner}
+use Rattle.wit_data.specs.declared.types.TypeOwner.TheVariants as owner
+use Rattle.wit_data.specs.declared.unresolved.AstItem.{AstItem}
+use Rattle.wit_data.specs.declared.unresolved.AstItem.TheVariants as item
+use Rattle.wit_data.specs.declared.world.World.{World}
+
+-- a foreign interface or world: its name, its id, and the gates under which it is named
+abbrev pub ForeignItem : Type 0
+ForeignItem = List ℕ × (AstItem × List Stability)
+
+-- what is named of other packages, under the name of each package
+abbrev pub ForeignItems : Type 0
+ForeignItems = List (PackageName × List ForeignItem)
+
+-- the interface that an item is
+abbrev pub interface_id : AstItem → List ℕ
+interface_id (item.Interface id) = id ∷ []
+interface_id (item.World id) = []
+
+-- the world that an item is
+abbrev pub world_id : AstItem → List ℕ
+world_id (item.Interface id) = []
+world_id (item.World id) = id ∷ []
+
+-- the interfaces that are named of other packages
+abbrev pub foreign_interfaces : ForeignItems → List ℕ
+foreign_interfaces deps = flat_map (λ (e : PackageName × List ForeignItem). flat_map (λ (named : ForeignItem). interface_id named.1.0) e.1) deps
+
+-- the worlds that are named of other packages
+abbrev pub foreign_worlds : ForeignItems → List ℕ
+foreign_worlds deps = flat_map (λ (e : PackageName × List ForeignItem). flat_map (λ (named : ForeignItem). world_id named.1.0) e.1) deps
+
+-- ids name the first things of a list of so many things, each once
+pub record AreFirst (ids : List ℕ) (count : ℕ) : Type 0 where
+  pub once : IsDistinct nat_eq ids
+  pub first : Each (λ id. id < length ids) ids
+  pub there : length ids ≤ count
+
+-- a foreign interface has the name under which it is named, and no functions
+abbrev pub IsBareInterface : List ℕ → Interface → Type 0
+IsBareInterface name interface = (interface.name ≡ Some name) × (interface.functions ≡ [])
+
+-- a foreign world has the name under which it is named, no items and no includes
+abbrev pub IsBareWorld : List ℕ → World → Type 0
+IsBareWorld name world = (world.name ≡ name) × (world.imports ≡ []) × (world.exports ≡ []) × (world.includes ≡ [])
+
+-- the item is there and bare
+abbrev pub IsBare : List Interface → List World → List ℕ → AstItem → Type 0
+IsBare interfaces worlds name (item.Interface id) = SomeAt interfaces id (IsBareInterface name)
+IsBare interfaces worlds name (item.World id) = SomeAt worlds id (IsBareWorld name)
+
+-- the item is there and bare, and some gate says under which it is named
+abbrev pub IsForeign : List Interface → List World → ForeignItem → Type 0
+IsForeign interfaces worlds named = IsBare interfaces worlds named.0 named.1.0 × (named.1.1 ≢ [])
+
+-- a type of a foreign interface, that is of one of the first `foreign` interfaces, has a name
+abbrev pub IsForeignType : ℕ → TypeDef → Type 0
+IsForeignType foreign def = IsSome def.name × IsForeignOwner def.owner
+  where
+    IsForeignOwner : TypeOwner → Type 0
+    IsForeignOwner (owner.Interface i) = i < foreign
+    IsForeignOwner (owner.World w) = ⊥
+    IsForeignOwner owner.None = ⊥
+
+-- the types of kind `Unknown` are the first `unknown` ones
+abbrev pub AreUnknownFirst : ℕ → List TypeDef → Type 0
+AreUnknownFirst unknown types = (unknown ≤ length types) × EachAt (λ i (def : TypeDef). (def.kind ≡ kind.Unknown) ↔ (i < unknown)) types
+
+-- each of the first `unknown` types is one of a foreign interface
+abbrev pub AreForeignTypes : ℕ → ℕ → List TypeDef → Type 0
+AreForeignTypes unknown foreign types = EachAt (λ i def. i < unknown → IsForeignType foreign def) types
+
+-- each of the first `foreign` interfaces lists types among the first `unknown` ones alone
+abbrev pub ListUnknownAlone : ℕ → ℕ → List Interface → Type 0
+ListUnknownAlone unknown foreign interfaces = EachAt (λ i (interface : Interface). i < foreign → Each (λ (e : List ℕ × ℕ). e.1 < unknown) interface.types) interfaces

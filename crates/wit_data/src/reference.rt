@@ -1,0 +1,145 @@
+//! What types and functions refer to.
+ghost use Rattle.std.specs.Prelude.{◌≡◌, ◌++◌, IfOk, OnOk};
+ghost use Rattle.std.specs.List.{flat_map};
+ghost use Rattle.wit_data.specs.Reference.{function_references, named_option, named_type, referred, type_references};
+ghost use Rattle.wit_data.specs.declared.function.Param.{Param};
+ghost use Rattle.wit_data.specs.declared.types.Case.{Case};
+ghost use Rattle.wit_data.specs.declared.types.Field.{Field};
+
+use crate::function::{Function, Param};
+use crate::ids::TypeId;
+use crate::types::{Case, Field, Handle, Type_, TypeDef, TypeDefKind};
+use std::alloc::{AllocError, Global};
+use wit_values::Items;
+
+/// The types that a kind refers to, in the order in which it names them, with repeats. The only
+/// error is want of memory.
+pub fn referred(alloc: Global, kind: &TypeDefKind) -> Result<Items<TypeId>, AllocError>
+    ensures { IfOk result (λ ids. ids ≡ referred kind.now) }
+{
+    let mut ids = Items::new(alloc);
+    push_kind(&mut ids, kind)?;
+    Ok(ids)
+}
+
+/// The types that a function refers to: the resource that it belongs to, then those of its
+/// parameters and of its result, in order, with repeats. The only error is want of memory.
+pub fn function_references(alloc: Global, function: &Function) -> Result<Items<TypeId>, AllocError>
+    ensures { IfOk result (λ ids. ids ≡ function_references function.now) }
+{
+    let mut ids = Items::new(alloc);
+    if let Some(resource) = function.kind.resource() {
+        ids.push(resource)?;
+    }
+    push_params(&mut ids, function.params.as_slice())?;
+    push_option(&mut ids, function.result_)?;
+    Ok(ids)
+}
+
+/// Which type refers to which, as rows: row i has the places of the types that type i refers to,
+/// both from 0. The only error is want of memory.
+pub fn type_references(alloc: Global, types: &[TypeDef]) -> Result<Items<Items<usize>>, AllocError>
+    ensures { IfOk result (λ rows. rows ≡ type_references types.now) }
+{
+    let mut rows = Items::new(alloc);
+    for def in types {
+        let ids = referred(alloc, &def.kind)?;
+        rows.push(places(alloc, ids.as_slice())?)?;
+    }
+    Ok(rows)
+}
+
+/// The places of types in their list, from 0, by their ids. The only error is want of memory.
+pub fn places(alloc: Global, ids: &[TypeId]) -> Result<Items<usize>, AllocError>
+    ensures { IfOk result (λ places. places ≡ ids.now) }
+{
+    let mut places = Items::new(alloc);
+    for id in ids {
+        places.push(id.index())?;
+    }
+    Ok(places)
+}
+
+/// Adds to ids the type of the list that a type is, nothing for a primitive. The only error is want
+/// of memory.
+pub fn push_type(ids: &mut Items<TypeId>, ty: Type_) -> Result<(), AllocError>
+    ensures { OnOk result (ids.new ≡ ids.old ++ named_type ty) }
+{
+    match ty {
+        Type_::Id(id) => ids.push(id),
+        _ => Ok(()),
+    }
+}
+
+fn push_option(ids: &mut Items<TypeId>, ty: Option<Type_>) -> Result<(), AllocError>
+    ensures { OnOk result (ids.new ≡ ids.old ++ named_option ty) }
+{
+    match ty {
+        Some(ty) => push_type(ids, ty),
+        None => Ok(()),
+    }
+}
+
+fn push_types(ids: &mut Items<TypeId>, types: &[Type_]) -> Result<(), AllocError>
+    ensures { OnOk result (ids.new ≡ ids.old ++ flat_map named_type types.now) }
+{
+    for ty in types {
+        push_type(ids, *ty)?;
+    }
+    Ok(())
+}
+
+fn push_fields(ids: &mut Items<TypeId>, fields: &[Field]) -> Result<(), AllocError>
+    ensures { OnOk result (ids.new ≡ ids.old ++ flat_map (λ (f : Field). named_type f.ty) fields.now) }
+{
+    for field in fields {
+        push_type(ids, field.ty)?;
+    }
+    Ok(())
+}
+
+fn push_cases(ids: &mut Items<TypeId>, cases: &[Case]) -> Result<(), AllocError>
+    ensures { OnOk result (ids.new ≡ ids.old ++ flat_map (λ (c : Case). named_option c.ty) cases.now) }
+{
+    for case in cases {
+        push_option(ids, case.ty)?;
+    }
+    Ok(())
+}
+
+fn push_params(ids: &mut Items<TypeId>, params: &[Param]) -> Result<(), AllocError>
+    ensures { OnOk result (ids.new ≡ ids.old ++ flat_map (λ (p : Param). named_type p.ty) params.now) }
+{
+    for param in params {
+        push_type(ids, param.ty)?;
+    }
+    Ok(())
+}
+
+fn push_kind(ids: &mut Items<TypeId>, kind: &TypeDefKind) -> Result<(), AllocError>
+    ensures { OnOk result (ids.new ≡ ids.old ++ referred kind.now) }
+{
+    match kind {
+        TypeDefKind::Record { fields } => push_fields(ids, fields.as_slice()),
+        TypeDefKind::Handle(Handle::Own(id) | Handle::Borrow(id)) => ids.push(*id),
+        TypeDefKind::Tuple { types } => push_types(ids, types.as_slice()),
+        TypeDefKind::Variant { cases } => push_cases(ids, cases.as_slice()),
+        TypeDefKind::Option(ty)
+        | TypeDefKind::List(ty)
+        | TypeDefKind::FixedLengthList(ty, _)
+        | TypeDefKind::Type_(ty) => push_type(ids, *ty),
+        TypeDefKind::Result_ { ok, err } => {
+            push_option(ids, *ok)?;
+            push_option(ids, *err)
+        }
+        TypeDefKind::Map(key, value) => {
+            push_type(ids, *key)?;
+            push_type(ids, *value)
+        }
+        TypeDefKind::Future(ty) | TypeDefKind::Stream(ty) => push_option(ids, *ty),
+        TypeDefKind::Resource
+        | TypeDefKind::Flags { .. }
+        | TypeDefKind::Enum { .. }
+        | TypeDefKind::Unknown => Ok(()),
+    }
+}

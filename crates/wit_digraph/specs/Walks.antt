@@ -1,0 +1,38 @@
+-- The walk of a node: the walks of its direct uses, in order, then the node; and the first of each member.
+use Rattle.std.specs.Prelude.{◌≡◌, ℕ, ◌<◌, zero, suc, Bool, false, List, [], ◌∷◌, ◌++◌, length, Contains, All, nat_eq, slice_index_or, if◌then◌else◌}
+use Rattle.std.specs.List.{flat_map, list_any}
+use Rattle.wit_digraph.specs.Relation.{direct}
+
+-- the walks of i's direct uses in order, then i, along paths of at most `members` members
+unfoldable pub walk_within : List (List ℕ) → ℕ → ℕ → List ℕ
+walk_within uses zero i = []
+walk_within uses (suc members) i = flat_map (walk_within uses members) (direct uses i) ++ i ∷ []
+
+-- the walks of i's direct uses in order, then i: where uses are acyclic, no path has more members
+-- than there are nodes, so nothing is cut off (the law `WalksUnfold` says so)
+unfoldable pub walk : List (List ℕ) → ℕ → List ℕ
+walk uses i = walk_within uses (length uses) i
+
+-- the members of a list that are not among those seen, each where it comes first
+abbrev pub fresh : List ℕ → List ℕ → List ℕ
+fresh seen [] = []
+fresh seen (x ∷ xs) = if list_any (nat_eq x) seen then fresh seen xs else x ∷ fresh (seen ++ x ∷ []) xs
+
+-- the first of each member
+abbrev pub first_of_each : List ℕ → List ℕ
+first_of_each xs = fresh [] xs
+
+-- each member's direct uses are among those seen, or stand before it
+abbrev pub UsesFirst : List (List ℕ) → List ℕ → List ℕ → Type 0
+UsesFirst uses seen [] = Unit {0}
+UsesFirst uses seen (i ∷ rest) = All (Contains seen) (direct uses i) × UsesFirst uses (seen ++ i ∷ []) rest
+
+-- what a listing of nodes is: how many nodes there are, and the order of those that are listed
+pub record Listed : Type 0 where
+  pub nodes : ℕ
+  pub order : List ℕ
+
+-- the marks tell which nodes are listed, and no other is
+pub record MarksTell (marks : List Bool) (order : List ℕ) : Type 0 where
+  pub each : (i : ℕ) → i < length marks → slice_index_or marks i false ≡ list_any (nat_eq i) order
+  pub in_range : All (λ i. i < length marks) order

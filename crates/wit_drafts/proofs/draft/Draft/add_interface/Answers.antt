@@ -1,5 +1,0 @@
-use Rattle.std.proofs.Common.{rules}
-use Rattle.wit_drafts.proofs.draft.Draft.add_interface.Goals as goal
-
-pub returns-then-contains_key : goal.returns-then-contains_key
-returns-then-contains_key c = search rules

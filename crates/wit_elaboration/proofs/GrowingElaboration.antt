@@ -1,0 +1,138 @@
+-- More interfaces, and other types that say the same of the imports, change no elaboration.
+use Rattle.std.proofs.Common.{◌≡◌, ℕ, ◌<◌, true, not, inl, inr, List, [], ◌∷◌, ◌++◌, map, filter, length, refl, sym, ap, subst, ◌∙◌, nat_eq, Contains}
+use Rattle.std.specs.List.{flat_map}
+use Rattle.std.proofs.lemmas.List.Elements.{Contains-append_cases}
+use Rattle.wit_data.specs.declared.types.TypeDef.{TypeDef}
+use Rattle.wit_data.specs.declared.world.WorldItem.{WorldItem}
+use Rattle.wit_data.specs.declared.world.WorldItem.TheVariants as item
+use Rattle.wit_data.specs.declared.world.World.{World}
+use Rattle.wit_digraph.specs.MemberFacts.{Contains-nil, Contains-cons_cases, Contains-flat_map_cases, flat_map-same}
+use Rattle.wit_digraph.specs.Relation.{direct, IsAcyclic}
+use Rattle.wit_elaboration.specs.Entries.{Entry, role_of, item_interface, is_instance, is_interface, class_of, of_class, by_class, fresh_entries}
+use Rattle.wit_elaboration.specs.Elaborated.{Carried, dependency_of, needs, import_carries, export_carries, settled_item, import_walk, export_imports, export_walk, import_steps, exported_uses, elaborated_imports, elaborated_exports}
+use Rattle.wit_elaboration.specs.Imported.{Needed, HasConflict, is_exported}
+use Rattle.wit_elaboration.specs.KeptByElaboration.{ElaborationIsLocal, SameRoles, SameCarried}
+use Rattle.wit_elaboration.proofs.Classes.{by_class_in}
+use Rattle.wit_elaboration.proofs.Exact.{instance_below}
+use Rattle.wit_elaboration.proofs.Filters.{Contains-filter, filter-same}
+use Rattle.wit_elaboration.proofs.FreshEntries.{Contains-deps, fresh_entries_in}
+use Rattle.wit_elaboration.proofs.GrowingUses.{direct-left, used_below, IsPath-left, needs-left, import_steps-left, exported_needs-left}
+use Rattle.wit_elaboration.proofs.Roles.{InOrder, in_order, role_of-settled}
+
+module _ (types wider : List TypeDef) where
+  -- ---- classes
+
+  pub of_class-same : (es : List Entry) → SameRoles types wider es → (c : ℕ) → of_class types c es ≡ of_class wider c es
+  of_class-same es same c =
+      filter-same (λ (e : Entry). nat_eq (class_of (role_of types e.1)) c) (λ (e : Entry). nat_eq (class_of (role_of wider e.1)) c) es
+      (λ e has. ap (λ r. nat_eq (class_of r) c) (same e has))
+
+  pub by_class-same : (es : List Entry) → SameRoles types wider es → by_class types es ≡ by_class wider es
+  by_class-same es same = flat_map-same (λ c. of_class types c es) (λ c. of_class wider c es) (0 ∷ 1 ∷ 2 ∷ 3 ∷ 4 ∷ []) (λ c has. of_class-same es same c)
+
+  -- an interface has its role over all types
+  instance-same : (x : WorldItem) → is_instance x ≡ true → role_of types x ≡ role_of wider x
+  instance-same (item.Interface i stability docs span external_id) is = refl
+  instance-same (item.Function function) is = cc
+  instance-same (item.Type_ id span) is = cc
+
+  module _ (uses rows : List (List ℕ)) (acyclic : IsAcyclic uses) (grown : IsAcyclic (uses ++ rows)) (imports exports : List Entry) (listed : InOrder types (length uses) imports exports) where
+    -- ---- conflicts
+
+    exported_below : (x : ℕ) → Contains (flat_map (λ (e : Entry). item_interface e.1) exports) x → x < length uses
+    exported_below x has =
+        let part = Contains-flat_map_cases (λ (e : Entry). item_interface e.1) exports x has in
+        instance_below types (length uses) part.0 x part.1.1 (listed.exports_in_range part.0 part.1.0)
+
+    pub Needed-left : (j : ℕ) → Needed (uses ++ rows) exports j → Needed uses exports j
+    Needed-left j need =
+        let among : Contains (direct uses need.0) need.1 = subst (λ ks. Contains ks need.1) (direct-left uses rows need.0 (exported_below need.0 need.2)) need.3 in
+        (need.0, need.1, need.2, among, need.4, (need.5.0, IsPath-left uses acyclic rows need.1 need.5.0 j (used_below uses acyclic need.0 need.1 among) need.5.1))
+
+    pub HasConflict-left : HasConflict (uses ++ rows) exports → HasConflict uses exports
+    HasConflict-left conflict = (conflict.0, Needed-left conflict.0 conflict.1, conflict.2)
+
+    -- ---- imports
+
+    module _ (roles : SameRoles types wider imports) (carried : SameCarried types wider imports) where
+      import_walk-same : (e : Entry) → Contains imports e → import_walk types uses e ≡ import_walk wider (uses ++ rows) e
+      import_walk-same e has =
+          ap (λ (s : Carried). map (dependency_of s) (needs uses (role_of types e.1)) ++ (e.0, settled_item e.1) ∷ []) (carried e has)
+          ∙ ap (λ (js : List ℕ). map (dependency_of (import_carries wider e.1)) js ++ (e.0, settled_item e.1) ∷ [])
+          (sym (needs-left uses acyclic rows grown (role_of types e.1) (listed.imports_in_range e has)) ∙ ap (needs (uses ++ rows)) (roles e has))
+
+      export_imports-same : (e : Entry) → Contains exports e → export_imports uses (is_exported exports) e ≡ export_imports (uses ++ rows) (is_exported exports) e
+      export_imports-same e has =
+          flat_map-same (λ i. map (dependency_of (export_carries e.1)) (import_steps uses (is_exported exports) i)) (λ i. map (dependency_of (export_carries e.1)) (import_steps (uses ++ rows) (is_exported exports) i)) (item_interface e.1)
+          (λ i among. ap (map (dependency_of (export_carries e.1))) (sym (import_steps-left uses acyclic rows grown (is_exported exports) i (instance_below types (length uses) e i among (listed.exports_in_range e has)))))
+
+      -- what is made has the same role too
+      walk_roles : (e : Entry) → Contains imports e → SameRoles types wider (import_walk types uses e)
+      walk_roles e has f there =
+          elim (Contains-append_cases (map (dependency_of (import_carries types e.1)) (needs uses (role_of types e.1))) ((e.0, settled_item e.1) ∷ []) f there) [
+            | inl deps ↦ let dep = Contains-deps (import_carries types e.1) (needs uses (role_of types e.1)) f deps in
+                subst (λ (z : Entry). role_of types z.1 ≡ role_of wider z.1) dep.1.1 refl
+            | inr last ↦ elim (Contains-cons_cases (e.0, settled_item e.1) f [] last) [
+              | inl same ↦ subst (λ (z : Entry). role_of types z.1 ≡ role_of wider z.1) same (role_of-settled types e.1 ∙ roles e has ∙ sym (role_of-settled wider e.1))
+              | inr none ↦ absurd (Contains-nil none)
+            ]
+          ]
+
+      export_roles : (e : Entry) → SameRoles types wider (export_imports uses (is_exported exports) e)
+      export_roles e f there =
+          let part = Contains-flat_map_cases (λ i. map (dependency_of (export_carries e.1)) (import_steps uses (is_exported exports) i)) (item_interface e.1) f there in
+          let dep = Contains-deps (export_carries e.1) (import_steps uses (is_exported exports) part.0) f part.1.1 in
+          subst (λ (z : Entry). role_of types z.1 ≡ role_of wider z.1) dep.1.1 refl
+
+      abbrev before : List Entry
+      before = flat_map (import_walk types uses) (by_class types imports) ++ flat_map (export_imports uses (is_exported exports)) exports
+
+      before_roles : SameRoles types wider (fresh_entries [] before)
+      before_roles f has =
+          elim (Contains-append_cases (flat_map (import_walk types uses) (by_class types imports)) (flat_map (export_imports uses (is_exported exports)) exports) f (fresh_entries_in [] before f has)) [
+            | inl of_import ↦
+                let part = Contains-flat_map_cases (import_walk types uses) (by_class types imports) f of_import in
+                walk_roles part.0 (by_class_in types imports part.0 part.1.0) f part.1.1
+            | inr of_export ↦
+                let part = Contains-flat_map_cases (export_imports uses (is_exported exports)) exports f of_export in
+                export_roles part.0 f part.1.1
+          ]
+
+      walks_same : flat_map (import_walk types uses) (by_class types imports) ≡ flat_map (import_walk wider (uses ++ rows)) (by_class wider imports)
+      walks_same =
+          flat_map-same (import_walk types uses) (import_walk wider (uses ++ rows)) (by_class types imports) (λ e has. import_walk-same e (by_class_in types imports e has))
+          ∙ ap (flat_map (import_walk wider (uses ++ rows))) (by_class-same imports roles)
+
+      steps_same : flat_map (export_imports uses (is_exported exports)) exports ≡ flat_map (export_imports (uses ++ rows) (is_exported exports)) exports
+      steps_same = flat_map-same (export_imports uses (is_exported exports)) (export_imports (uses ++ rows) (is_exported exports)) exports export_imports-same
+
+      pub imports_local : elaborated_imports types uses imports exports ≡ elaborated_imports wider (uses ++ rows) imports exports
+      imports_local =
+          by_class-same (fresh_entries [] before) before_roles
+          ∙ ap (λ (es : List Entry). by_class wider (fresh_entries [] (es ++ flat_map (export_imports uses (is_exported exports)) exports))) walks_same
+          ∙ ap (λ (es : List Entry). by_class wider (fresh_entries [] (flat_map (import_walk wider (uses ++ rows)) (by_class wider imports) ++ es))) steps_same
+
+    -- ---- exports
+
+    export_walk-same : (e : Entry) → Contains (filter is_interface exports) e → export_walk types uses (is_exported exports) e ≡ export_walk wider (uses ++ rows) (is_exported exports) e
+    export_walk-same e has =
+        let part = Contains-filter is_interface exports e has in
+        ap (λ (js : List ℕ). map (dependency_of (export_carries e.1)) js ++ (e.0, e.1) ∷ [])
+        (sym (exported_needs-left (is_exported exports) uses acyclic rows grown (role_of types e.1) (listed.exports_in_range e part.0))
+        ∙ ap (needs (exported_uses (is_exported exports) (uses ++ rows))) (instance-same e.1 part.1))
+
+    pub exports_local : elaborated_exports types uses exports ≡ elaborated_exports wider (uses ++ rows) exports
+    exports_local =
+        ap (λ (es : List Entry). filter (λ (e : Entry). not (is_interface e)) exports ++ fresh_entries [] es)
+        (flat_map-same (export_walk types uses (is_exported exports)) (export_walk wider (uses ++ rows) (is_exported exports)) (filter is_interface exports) export_walk-same)
+
+lists_same : (w : World) {i i' x x' : List Entry} → i ≡ i' → x ≡ x' → (let v : World = record w { imports = i; exports = x } in v) ≡ record w { imports = i'; exports = x' }
+lists_same w p q = cc
+
+pub elaboration_is_local : ElaborationIsLocal
+elaboration_is_local types wider uses rows old new acyclic grown listed roles carried is =
+    let order = in_order types (length uses) old.imports old.exports listed in
+    record {
+      no_conflict = λ conflict. is.no_conflict (HasConflict-left types wider uses rows acyclic grown old.imports old.exports order conflict);
+      world_is = is.world_is ∙ lists_same old (imports_local types wider uses rows acyclic grown old.imports old.exports order roles carried) (exports_local types wider uses rows acyclic grown old.imports old.exports order);
+    }

@@ -1,0 +1,15 @@
+use Rattle.std.proofs.Common.{List, ℕ, ap, sym, subst}
+use Rattle.wit_digraph.specs.Walks.{Listed}
+use Rattle.wit_elaboration.specs.Elaborating.{TellsExported}
+use Rattle.wit_elaboration.proofs.ConflictIs.{tells_keys}
+use Rattle.wit_elaboration.proofs.Refusing.{always_ok}
+use Rattle.wit_elaboration.proofs.conflict.find_refused.Goals as goal
+
+pub find_conflict-requires-clause-exported : goal.find_conflict-requires-clause-exported
+find_conflict-requires-clause-exported c = tells_keys c.list_exported.new.exported.order c.args.exports.now c.in_ok-list_exported.ensures.ok
+
+pub returns-clause-exported : goal.returns-clause-exported
+returns-clause-exported c =
+    let tells = tells_keys c.list_exported.new.exported.order c.args.exports.now c.in_ok-list_exported.ensures.ok in
+    always_ok c.find_conflict.result (TellsExported c.find_conflict.new.marks.exported.order c.args.exports.now)
+    (subst (λ (xs : List ℕ). TellsExported xs c.args.exports.now) (sym (ap (λ (l : Listed). l.order) c.find_conflict.ensures.exported)) tells)

@@ -1,0 +1,62 @@
+-- The elaboration of one world of a graph.
+use Rattle.std.specs.Prelude.{ℕ, ◌≡◌, ◌<◌, List, Some, length, slice_get, slice_set}
+use Rattle.std.specs.Option.{ForSome}
+use Rattle.wit_data.specs.Uses.{uses_of}
+use Rattle.wit_data.specs.declared.world.World.{World}
+use Rattle.wit_digraph.specs.Relation.{IsAcyclic}
+use Rattle.wit_elaboration.specs.declared.entries.Lists.{Lists}
+use Rattle.wit_graph_data.specs.declared.error_kind.ResolveErrorKind.{ResolveErrorKind}
+use Rattle.wit_graph_data.specs.declared.error_kind.ResolveErrorKind.TheVariants.{InvalidTransitiveDependency, OutOfMemory}
+use Rattle.wit_graph_data.specs.declared.graph.Graph.{Graph}
+use Rattle.wit_elaboration.specs.Elaborated.{Elaborated, elaborated_imports, elaborated_exports}
+use Rattle.wit_elaboration.specs.Entries.{Entry}
+use Rattle.wit_graph_data.specs.IdText.{key_text}
+use Rattle.wit_elaboration.specs.Imported.{HasConflict, IsRefusedName}
+use Rattle.wit_elaboration.specs.Sound.{HasSoundEntries}
+
+-- which interfaces of a graph use which
+abbrev pub graph_uses : Graph → List (List ℕ)
+graph_uses g = uses_of g.types g.interfaces
+
+-- the keys and ids of the world at a place are in order
+abbrev pub HasSoundEntriesAt : Graph → ℕ → Type 0
+HasSoundEntriesAt g id = ForSome (slice_get g.worlds id) (λ (world : World). HasSoundEntries g.types (length g.interfaces) world.imports world.exports)
+
+-- the exports of the world at a place are in conflict
+abbrev pub HasConflictAt : Graph → ℕ → Type 0
+HasConflictAt g id = (world : World) × (slice_get g.worlds id ≡ Some world) × HasConflict (graph_uses g) world.exports
+
+-- the world at a place is elaborated, and all else is as it was
+abbrev pub ElaboratesWorld : Graph → ℕ → Graph → Type 0
+ElaboratesWorld old id new =
+    (before : World) × (after : World) × (slice_get old.worlds id ≡ Some before) × Elaborated old.types (graph_uses old) before after
+    × (new ≡ record old { worlds = slice_set old.worlds id after })
+
+-- the elaborated lists of the world at a place, which has no conflict
+abbrev pub AreElaborated : Graph → ℕ → Lists → Type 0
+AreElaborated g id lists =
+    (world : World) × (slice_get g.worlds id ≡ Some world) × (HasConflict (graph_uses g) world.exports → ⊥)
+    × (lists.imports ≡ elaborated_imports g.types (graph_uses g) world.imports world.exports)
+    × (lists.exports ≡ elaborated_exports g.types (graph_uses g) world.exports)
+
+-- the error of a world that is refused: it has a conflict, at the world's span, under the name of the first export that leads to it
+abbrev pub IsConflictError : Graph → World → ResolveErrorKind → Type 0
+IsConflictError g world (InvalidTransitiveDependency span name) =
+    HasConflict (graph_uses g) world.exports × (span ≡ world.span) × IsRefusedName g.packages g.interfaces (graph_uses g) world.exports name
+IsConflictError g world OutOfMemory = Unit {0}
+IsConflictError g world _ = ⊥
+
+-- of the world at a place
+abbrev pub IsElaborationError : Graph → ℕ → ResolveErrorKind → Type 0
+IsElaborationError g id kind = ForSome (slice_get g.worlds id) (λ (world : World). IsConflictError g world kind)
+
+-- the error that names the export at a place
+abbrev pub IsErrorAt : Graph → World → ℕ → ResolveErrorKind → Type 0
+IsErrorAt g world at e =
+    (entry : Entry) × (slice_get world.exports at ≡ Some entry) × (e ≡ InvalidTransitiveDependency world.span (key_text g.packages g.interfaces entry.0))
+
+-- a world can be elaborated: it is there, its keys and ids are in order, and uses are acyclic
+pub record CanElaborate (g : Graph) (id : ℕ) : Type 0 where
+  pub there : id < length g.worlds
+  pub acyclic : IsAcyclic (graph_uses g)
+  pub listed : HasSoundEntriesAt g id

@@ -1,0 +1,12 @@
+pub mod Elaborated
+pub mod Elaborating
+pub mod Elaboration
+pub mod ElaborationExamples
+pub mod ElaborationLaws
+pub mod Entries
+pub mod Examples
+pub mod Imported
+pub mod KeptByElaboration
+pub mod Sound
+pub mod SoundFacts
+pub mod Valid

@@ -1,0 +1,281 @@
+//! The elaboration of worlds.
+//!
+//! A listed world says what it imports and exports; its elaboration adds what these need. Imports
+//! get what they use before them, exports too, and what exports need from outside is imported.
+ghost use Rattle.std.specs.Prelude.{◌≡◌, ◌<◌, ◌++◌, ◌∷◌, [], IfOk, IfErr, OnOk, OnErr, length, take};
+ghost use Rattle.wit_elaboration.specs.Elaborated.{elaborated_exports, elaborated_imports};
+ghost use Rattle.wit_elaboration.specs.Elaborating.{HaveNodes, TellsExported};
+ghost use Rattle.wit_elaboration.specs.Elaboration.{AreElaborated, ElaboratesWorld, HasConflictAt, IsConflictError, IsElaborationError, IsErrorAt, HasSoundEntriesAt, graph_uses};
+ghost use Rattle.wit_elaboration.specs.Imported.{HasConflict};
+ghost use Rattle.wit_elaboration.specs.Sound.{HasSoundEntries};
+ghost use Rattle.wit_graph_data.specs.declared.error_kind.ResolveErrorKind.TheVariants.{OutOfMemory};
+ghost use Rattle.wit_data.specs.Uses.{uses_of};
+ghost use Rattle.wit_digraph.specs.Relation.{IsAcyclic};
+
+use crate::conflict::find_refused;
+use crate::entries::Lists;
+use crate::exports::{add_functions, export_listed};
+use crate::imports::{import_listed, sorted_by_class};
+use crate::marks::Marks;
+use std::alloc::{AllocError, Global};
+use std::marker::Model;
+use wit_data::{Interface, TypeDef, World, WorldId, interface_uses, uses_of};
+use wit_graph_data::{Graph, ResolveError, ResolveErrorKind, ResolveResult};
+use wit_values::{Items, Table, Text, TryClone};
+
+/// What the elaboration of several worlds of one graph shares: which interfaces use which, and marks
+/// for them. A world then costs what it reaches.
+#[derive(Drop)]
+pub struct Elaborator {
+    uses: Items<Items<usize>>,
+    marks: Marks,
+}
+
+impl Model for Elaborator {
+    ghost use Rattle.std.specs.Prelude.{ℕ, List, length};
+    ghost use Rattle.wit_elaboration.specs.Elaborating.{HaveNodes};
+
+    ghost Value = { List (List ℕ) };
+
+    ghost view = { λ a. a.uses };
+
+    ghost invariant = { λ a. HaveNodes a.marks (length a.uses) };
+}
+
+impl Elaborator {
+    /// For worlds over no interfaces. It takes no memory.
+    pub fn empty(alloc: Global) -> Elaborator
+        ensures { result ≡ [] }
+    {
+        Elaborator {
+            uses: Items::new(alloc),
+            marks: Marks::empty(alloc),
+        }
+    }
+
+    /// For worlds over these types and interfaces. It goes over all their types once. The only
+    /// error is want of memory.
+    pub fn new(
+        alloc: Global,
+        types: &[TypeDef],
+        interfaces: &[Interface],
+    ) -> Result<Elaborator, AllocError>
+        ensures { IfOk result (λ elaborator. elaborator ≡ uses_of types.now interfaces.now) }
+    {
+        let uses = uses_of(alloc, types, interfaces)?;
+        let marks = Marks::new(alloc, uses.len())?;
+        Ok(Elaborator { uses, marks })
+    }
+
+    /// The same, where over these types it is for the first so many of the interfaces already. It
+    /// goes over the types of the others once. Where there is no memory it may be for some of them.
+    pub fn grow(
+        &mut self,
+        alloc: Global,
+        types: &[TypeDef],
+        interfaces: &[Interface],
+    ) -> Result<(), AllocError>
+        requires { self.old ≡ uses_of types.now (take (length self.old) interfaces.now) }
+        ensures ok { OnOk result (self.new ≡ uses_of types.now interfaces.now) }
+        ensures begins { take (length self.old) self.new ≡ self.old }
+    {
+        for index in self.interfaces()..interfaces.len() {
+            self.add_row(interface_uses(alloc, types, &interfaces[index])?)?;
+        }
+        Ok(())
+    }
+
+    /// One interface more, which uses these. Where there is no memory it is as before.
+    fn add_row(&mut self, row: Items<usize>) -> Result<(), AllocError>
+        ensures ok { OnOk result (self.new ≡ self.old ++ row ∷ []) }
+        ensures err { OnErr result (self.new ≡ self.old) }
+    {
+        let interfaces = self.uses.len();
+        self.uses.push(row)?;
+        let added = self.marks.add_node();
+        if added.is_err() {
+            self.uses.truncate(interfaces);
+            self.marks.cut(interfaces);
+        }
+        added
+    }
+
+    /// Of the first so many interfaces alone, or of all where there are fewer. It takes no memory.
+    pub fn cut(&mut self, count: usize)
+        ensures { self.new ≡ take count self.old }
+    {
+        self.uses.truncate(count);
+        self.marks.cut(self.uses.len());
+    }
+
+    /// For how many interfaces it is.
+    pub fn interfaces(&self) -> usize
+        ensures { result ≡ length self.now }
+    {
+        self.uses.len()
+    }
+
+    /// Elaborates a world of a graph that has these types and interfaces, as the function of that
+    /// name does: under the same conditions, and with the same refusals. After a refusal the graph
+    /// is as before.
+    pub fn elaborate(
+        &mut self,
+        alloc: Global,
+        graph: &mut Graph,
+        world: WorldId,
+    ) -> ResolveResult<()>
+        requires uses { self.old ≡ graph_uses graph.old }
+        requires world { world < length graph.old.worlds }
+        requires acyclic { IsAcyclic (graph_uses graph.old) }
+        requires listed { HasSoundEntriesAt graph.old world }
+        ensures ok { OnOk result (ElaboratesWorld graph.old world graph.new) }
+        ensures err { OnErr result (graph.new ≡ graph.old) }
+        ensures cause { IfErr result (IsElaborationError graph.old world) }
+        ensures refuses { HasConflictAt graph.old world → OnOk result ⊥ }
+        ensures same { self.new ≡ self.old }
+    {
+        let lists = self.elaborated_lists(alloc, graph, world)?;
+        let current = graph.worlds.at_mut(world.index());
+        current.imports = lists.imports;
+        current.exports = lists.exports;
+        Ok(())
+    }
+
+    /// The elaborated lists of a world of a graph that has these types and interfaces, which stays
+    /// as it is. Conditions and refusals are those of `elaborate`.
+    pub fn elaborated_lists(
+        &mut self,
+        alloc: Global,
+        graph: &Graph,
+        world: WorldId,
+    ) -> ResolveResult<Lists>
+        requires uses { self.old ≡ graph_uses graph.now }
+        requires world { world < length graph.now.worlds }
+        requires acyclic { IsAcyclic (graph_uses graph.now) }
+        requires listed { HasSoundEntriesAt graph.now world }
+        ensures ok { IfOk result (AreElaborated graph.now world) }
+        ensures cause { IfErr result (IsElaborationError graph.now world) }
+        ensures same { self.new ≡ self.old }
+    {
+        self.lists_for(alloc, graph, graph.worlds.at(world.index()))
+    }
+
+    /// The elaborated lists of a world over the types and interfaces of a graph, of which it need
+    /// not be one. The graph has these types and interfaces, and conditions and refusals are those
+    /// of `elaborate`.
+    pub fn lists_for(&mut self, alloc: Global, graph: &Graph, world: &World) -> ResolveResult<Lists>
+        requires uses { self.old ≡ graph_uses graph.now }
+        requires acyclic { IsAcyclic (graph_uses graph.now) }
+        requires listed { HasSoundEntries graph.now.types (length graph.now.interfaces) world.now.imports world.now.exports }
+        ensures no_conflict { OnOk result (HasConflict (graph_uses graph.now) world.now.exports → ⊥) }
+        ensures imports { IfOk result (λ lists. lists.imports ≡ elaborated_imports graph.now.types (graph_uses graph.now) world.now.imports world.now.exports) }
+        ensures exports { IfOk result (λ lists. lists.exports ≡ elaborated_exports graph.now.types (graph_uses graph.now) world.now.exports) }
+        ensures cause { IfErr result (IsConflictError graph.now world.now) }
+        ensures same { self.new ≡ self.old }
+    {
+        let uses = self.uses.as_slice();
+        let found = find_refused(alloc, uses, &world.exports, &mut self.marks)?;
+        match found {
+            Some(index) => Err(conflict_error(alloc, graph, world, index)?),
+            None => {
+                let types = graph.types.as_slice();
+                Ok(lists_of(alloc, types, uses, &mut self.marks, world)?)
+            }
+        }
+    }
+}
+
+impl TryClone for Elaborator {
+    fn try_clone(&self) -> Result<Elaborator, AllocError> {
+        let uses = self.uses.try_clone()?;
+        let marks = Marks::new(uses.allocator(), uses.len())?;
+        Ok(Elaborator { uses, marks })
+    }
+}
+
+/// The error of a world that is refused for one of its exports.
+fn conflict_error(
+    alloc: Global,
+    graph: &Graph,
+    world: &World,
+    index: usize,
+) -> ResolveResult<ResolveError>
+    requires { index < length world.now.exports }
+    ensures error { IfOk result (λ e. IsErrorAt graph.now world.now index e) }
+    ensures err { IfErr result (λ e. e ≡ OutOfMemory) }
+{
+    let (key, _) = world.exports.entry_at(index);
+    let name = graph.name_world_key(alloc, key)?;
+    Ok(ResolveErrorKind::InvalidTransitiveDependency {
+        span: world.span,
+        name: Text::from_string(name),
+    }
+    .into())
+}
+
+/// The elaborated lists of a world without a conflict.
+fn lists_of(
+    alloc: Global,
+    types: &[TypeDef],
+    uses: &[Items<usize>],
+    marks: &mut Marks,
+    world: &World,
+) -> Result<Lists, AllocError>
+    requires acyclic { IsAcyclic uses.now }
+    requires listed { HasSoundEntries types.now (length uses.now) world.now.imports world.now.exports }
+    requires no_conflict { HasConflict uses.now world.now.exports → ⊥ }
+    requires nodes { HaveNodes marks.old (length uses.now) }
+    requires exported { TellsExported marks.old.exported.order world.now.exports }
+    ensures imports { IfOk result (λ lists. lists.imports ≡ elaborated_imports types.now uses.now world.now.imports world.now.exports) }
+    ensures exports { IfOk result (λ lists. lists.exports ≡ elaborated_exports types.now uses.now world.now.exports) }
+    ensures nodes { HaveNodes marks.new (length uses.now) }
+{
+    world.exports.keys_differ();
+    marks.walked.clear();
+    let imports = import_listed(alloc, types, uses, &mut marks.walked, &world.imports)?;
+    marks.walked.clear();
+    let mut lists = Lists {
+        imports,
+        exports: Table::new(alloc),
+    };
+    add_functions(&mut lists.exports, &world.exports)?;
+    export_listed(
+        alloc,
+        uses,
+        &marks.exported,
+        &mut marks.walked,
+        &mut lists,
+        &world.exports,
+    )?;
+    let imports = sorted_by_class(alloc, types, &lists.imports)?;
+    lists.imports = imports;
+    Ok(lists)
+}
+
+/// Elaborates a world of a graph: its imports become the listed ones with all that they, the type
+/// uses and the exports need, sorted by class, each after what it uses; its exports the functions
+/// and then the interfaces, each after the exported ones that it uses. The world can be elaborated,
+/// as `is_elaborable` tells; each world of a valid graph can.
+///
+/// It is refused, with the kind `InvalidTransitiveDependency` (4), where an exported interface uses
+/// one that is not exported under its own key and that reaches one which is. The name is the key of
+/// the first listed interface that leads to such a use, the span the world's. Else it is refused
+/// for want of memory (28) alone. After a refusal the graph is as before.
+///
+/// Source: `elaborate_world` of wit-parser 0.263.0.
+pub fn elaborate(alloc: Global, graph: &mut Graph, world: WorldId) -> ResolveResult<()>
+    requires world { world < length graph.old.worlds }
+    requires acyclic { IsAcyclic (graph_uses graph.old) }
+    requires listed { HasSoundEntriesAt graph.old world }
+    ensures ok { OnOk result (ElaboratesWorld graph.old world graph.new) }
+    ensures err { OnErr result (graph.new ≡ graph.old) }
+    ensures cause { IfErr result (IsElaborationError graph.old world) }
+    ensures refuses { HasConflictAt graph.old world → OnOk result ⊥ }
+{
+    let mut elaborator = Elaborator::new(
+        alloc,
+        graph.types.as_slice(),
+        graph.interfaces.as_slice(),
+    )?;
+    elaborator.elaborate(alloc, graph, world)
+}

@@ -1,8 +1,0 @@
-use Rattle.wit_items.specs.EachFacts.{EachBelow}
-use Rattle.wit_items.specs.Entries.{Entry}
-use Rattle.wit_placing.specs.Fits.{Fits, ItemFits}
-use Rattle.wit_fitting.proofs.fitting.entries_fit.Given as goal
-
--- the first ones fit
-abbrev pub invariant-loop-index : goal.invariant-loop-index
-invariant-loop-index l = EachBelow l.index (λ _ (e : Entry). ItemFits (Fits l.offset) e.1) l.entries

@@ -1,9 +1,0 @@
-use Rattle.std.proofs.Common.{length}
-use Rattle.wit_items.specs.EachFacts.{EachBelow}
-use Rattle.wit_items.specs.Entries.{Entry}
-use Rattle.wit_gates.specs.GateSteps.{MeetsItem}
-use Rattle.wit_gates.proofs.checker.Checker.check_entries.Given as goal
-
--- the first ones are met
-abbrev pub invariant-loop-item : goal.invariant-loop-item
-invariant-loop-item l = EachBelow (length l.yielded) (λ _ (e : Entry). MeetsItem l.self e.1) l.entries

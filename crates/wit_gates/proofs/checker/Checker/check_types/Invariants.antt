@@ -1,8 +1,0 @@
-use Rattle.wit_items.specs.EachFacts.{EachBelow}
-use Rattle.wit_items.specs.declared.types.TypeDef.{TypeDef}
-use Rattle.wit_gates.specs.GateSteps.{IsMet}
-use Rattle.wit_gates.proofs.checker.Checker.check_types.Given as goal
-
--- the first ones are met
-abbrev pub invariant-loop-index : goal.invariant-loop-index
-invariant-loop-index l = EachBelow l.index (λ _ (def : TypeDef). IsMet l.self def.stability) l.self.adding.handed.now.types

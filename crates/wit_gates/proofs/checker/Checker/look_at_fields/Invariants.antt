@@ -1,7 +1,0 @@
-use Rattle.wit_items.specs.EachFacts.{EachBelow}
-use Rattle.wit_gates.specs.ReferenceSteps.{FieldStays}
-use Rattle.wit_gates.proofs.checker.Checker.look_at_fields.Given as goal
-
--- what the first ones name isn't left out
-abbrev pub invariant-loop-index : goal.invariant-loop-index
-invariant-loop-index l = EachBelow l.index (λ _. FieldStays l.self) l.fields

@@ -1,9 +1,0 @@
-use Rattle.std.proofs.Common.{arith}
-use Rattle.wit_items.specs.EachFacts.{all_of, one_more}
-use Rattle.wit_gates.proofs.checker.Checker.look_at_ids.Goals as goal
-
-pub loop-index-preserved : goal.loop-index-preserved
-loop-index-preserved c = one_more c.loop-index.invariant _ c.at.ensures c.in_ok-look_at.ensures.stays
-
-pub returns-clause-stay : goal.returns-clause-stay
-returns-clause-stay c = all_of c.loop-index.invariant (omega arith)

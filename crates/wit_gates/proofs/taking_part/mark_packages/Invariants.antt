@@ -1,8 +1,0 @@
-use Rattle.std.proofs.Common.{take}
-use Rattle.wit_adding.specs.Gates.{foreign_items}
-use Rattle.wit_gates.specs.GateSteps.{IsMarked}
-use Rattle.wit_gates.proofs.taking_part.mark_packages.Given as goal
-
--- those of the first packages are added
-abbrev pub invariant-loop-index : goal.invariant-loop-index
-invariant-loop-index l = IsMarked l.features (foreign_items (take l.index l.deps)) l.fn.activity l.activity

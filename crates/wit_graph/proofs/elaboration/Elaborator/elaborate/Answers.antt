@@ -1,5 +1,0 @@
-use Rattle.wit_graph.proofs.Refusing.{no_conflict_at}
-use Rattle.wit_graph.proofs.elaboration.Elaborator.elaborate.Goals as goal
-
-pub returns-clause-refuses : goal.returns-clause-refuses
-returns-clause-refuses c = no_conflict_at c.args.graph.now c.args.world c.in_ok-lists.lists c.in_ok-lists.ensures.ok

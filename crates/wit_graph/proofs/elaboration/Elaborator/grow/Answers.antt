@@ -1,6 +1,0 @@
-use native.Mathlib.Omega.{arith}
-use Rattle.std.proofs.lemmas.Grind.{common_steps}
-use Rattle.wit_graph.proofs.elaboration.Elaborator.grow.Goals as goal
-
-pub returns-clause-ok : goal.returns-clause-ok
-returns-clause-ok c = grind (arith, common_steps)

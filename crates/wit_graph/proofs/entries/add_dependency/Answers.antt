@@ -1,6 +1,0 @@
-use Rattle.wit_items.specs.declared.world.WorldKey.TheVariants.{Interface}
-use Rattle.wit_graph.proofs.Keys.{lookup-absent}
-use Rattle.wit_graph.proofs.entries.add_dependency.Goals as goal
-
-pub push-requires : goal.push-requires
-push-requires c = lookup-absent (Interface c.from_index-id.result) c.args.entries.now c.if-has_key.ensures

@@ -1,5 +1,0 @@
-use Rattle.wit_graph.proofs.Keys.{lookup-absent}
-use Rattle.wit_graph.proofs.entries.add_import.Goals as goal
-
-pub push-requires : goal.push-requires
-push-requires c = rw c.in_ok-try_clone.ensures (lookup-absent c.args.key.now c.args.entries.now c.if-has_key.ensures)

@@ -1,8 +1,0 @@
-use Rattle.std.proofs.Common.{◌≡◌, ◌++◌, not, filter}
-use Rattle.std.specs.Map.{keys_of}
-use Rattle.wit_graph.specs.Entries.{fresh_entries, is_interface}
-use Rattle.wit_graph.proofs.exports.add_functions.Given as goal
-
--- the functions so far, and those that are left
-abbrev pub invariant-loop-key : goal.invariant-loop-key
-invariant-loop-key l = l.exports ++ fresh_entries (keys_of l.exports) (filter (λ e. not (is_interface e)) l.key-iterator) ≡ l.fn.exports ++ fresh_entries (keys_of l.fn.exports) (filter (λ e. not (is_interface e)) l.listed)

@@ -1,5 +1,0 @@
-use Rattle.wit_graph.proofs.MadeEntries.{elaborated_entries}
-use Rattle.wit_graph.proofs.laws.elaborated_entries.Goals as goal
-
-pub returns : goal.returns
-returns c = elaborated_entries

@@ -1,5 +1,0 @@
-use Rattle.wit_graph.proofs.WorldLaws.{elaborates_once}
-use Rattle.wit_graph.proofs.laws.elaborates_once.Goals as goal
-
-pub returns : goal.returns
-returns c = elaborates_once

@@ -1,5 +1,0 @@
-use Rattle.wit_graph.proofs.GrowingElaboration.{elaboration_is_local}
-use Rattle.wit_graph.proofs.laws.elaboration_is_local.Goals as goal
-
-pub returns : goal.returns
-returns c = elaboration_is_local

@@ -1,5 +1,0 @@
-use Rattle.wit_graph.proofs.WorldLaws.{imports_are_exact}
-use Rattle.wit_graph.proofs.laws.imports_are_exact.Goals as goal
-
-pub returns : goal.returns
-returns c = imports_are_exact

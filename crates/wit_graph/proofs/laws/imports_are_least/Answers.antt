@@ -1,5 +1,0 @@
-use Rattle.wit_graph.proofs.LeastImports.{imports_are_least}
-use Rattle.wit_graph.proofs.laws.imports_are_least.Goals as goal
-
-pub returns : goal.returns
-returns c = imports_are_least

@@ -1,5 +1,0 @@
-use Rattle.wit_graph.proofs.WorldExamples.{worked_conflicts}
-use Rattle.wit_graph.proofs.laws.worked_conflicts.Goals as goal
-
-pub returns : goal.returns
-returns c = worked_conflicts

@@ -1,5 +1,0 @@
-use Rattle.wit_growth.specs.PackageCycleFacts.{packages_stay_acyclic}
-use Rattle.wit_growth.proofs.laws.packages_stay_acyclic.Goals as goal
-
-pub returns : goal.returns
-returns c = packages_stay_acyclic c.elaborated_entries.ensures

@@ -1,7 +1,0 @@
-use Rattle.std.proofs.Common.{take}
-use Rattle.wit_including.specs.Renamed.{AreRenamed}
-use Rattle.wit_including.proofs.renaming.check_names.Given as goal
-
--- the renamings so far are of labels
-abbrev pub invariant-loop-place : goal.invariant-loop-place
-invariant-loop-place l = AreRenamed l.world (take l.place l.names)

@@ -1,5 +1,0 @@
-use Rattle.std.proofs.Common.{rules}
-use Rattle.wit_including.proofs.stabilities.join_stability.Goals as goal
-
-pub returns-then-is_unknown-2-clause-fine : goal.returns-then-is_unknown-2-clause-fine
-returns-then-is_unknown-2-clause-fine c = search rules

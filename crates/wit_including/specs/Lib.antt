@@ -1,9 +1,0 @@
-pub mod AdditionFacts
-pub mod Finished
-pub mod Included
-pub mod Joined
-pub mod Labels
-pub mod ReadyFacts
-pub mod Renamed
-pub mod RowsFacts
-pub mod SeveralFacts

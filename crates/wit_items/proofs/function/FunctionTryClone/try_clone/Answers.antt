@@ -1,5 +1,0 @@
-use Rattle.std.proofs.Common.{refl}
-use Rattle.wit_items.proofs.function.FunctionTryClone.try_clone.Goals as goal
-
-pub returns : goal.returns
-returns c = rw (c.in_ok-name.ensures.0, c.in_ok-name.ensures.1, c.in_ok-docs.ensures.0, c.in_ok-docs.ensures.1, c.in_ok-docs.ensures.2) refl

@@ -1,5 +1,0 @@
-use Rattle.std.proofs.Common.{rules}
-use Rattle.wit_items.proofs.ids.Id.from_index.Goals as goal
-
-pub returns : goal.returns
-returns g c = search rules

@@ -1,6 +1,0 @@
-use Rattle.std.proofs.Common.{◌≡◌, take}
-use Rattle.wit_items.proofs.reference.places.Given as goal
-
--- those of the first ones
-abbrev pub invariant-loop-id : goal.invariant-loop-id
-invariant-loop-id l = l.places ≡ take l.id-index l.ids

@@ -1,9 +1,0 @@
--- Feature gates.
-use Rattle.wit_items.specs.declared.stability.Stability.{Stability}
-use Rattle.wit_items.specs.declared.stability.Stability.TheVariants.{Unknown, Stable, Unstable}
-
--- the gate is `@since`
-abbrev pub IsStable : Stability → Type 0
-IsStable Unknown = ⊥
-IsStable (Stable since deprecated) = Unit {0}
-IsStable (Unstable feature deprecated) = ⊥

@@ -1,6 +1,0 @@
-//! Examples of the definitions of `wit_items`, and near misses: the contract of each function is what is
-//! proved. They stand beside the crates, so that none waits for them.
-#![tactic(auto)]
-
-pub mod places;
-pub mod shape;

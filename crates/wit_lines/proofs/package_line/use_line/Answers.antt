@@ -1,6 +1,0 @@
-use Rattle.std.proofs.Common.{arith}
-use Rattle.std.proofs.lemmas.Grind.{common_steps}
-use Rattle.wit_lines.proofs.package_line.use_line.Goals as goal
-
-pub returns-in-len3 : goal.returns-in-len3
-returns-in-len3 c = grind (arith, common_steps)

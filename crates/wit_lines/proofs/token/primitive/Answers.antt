@@ -1,5 +1,0 @@
-use Rattle.std.proofs.Common.{rules}
-use Rattle.wit_lines.proofs.token.primitive.Goals as goal
-
-pub returns-in-s8 : goal.returns-in-s8
-returns-in-s8 c = search rules

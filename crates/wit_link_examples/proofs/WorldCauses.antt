@@ -1,0 +1,276 @@
+-- The examples of worlds that a package is refused for.
+use Rattle.std.proofs.Common.{◌≡◌, ◌∙◌, ℕ, ◌++◌, zero, suc, true, List, [], ◌∷◌, Some, None, refl, ap, sym, subst, inl, inr, lit<, Contains, arith}
+use Rattle.std.proofs.lemmas.Bool.{false≢true}
+use Rattle.std.specs.Prelude.{codes, is_some}
+use Rattle.wit_values.specs.Lists.{differ}
+use Rattle.wit_digraph.specs.Relation.{direct}
+use Rattle.wit_data.specs.Entries.{Entry}
+use Rattle.wit_data.specs.Uses.{uses_of}
+use Rattle.wit_data.specs.declared.stability.Stability.{Stability}
+use Rattle.wit_data.specs.declared.stability.Stability.TheVariants.{Unknown}
+use Rattle.wit_data.specs.declared.world.IncludeName.{IncludeName}
+use Rattle.wit_data.specs.declared.world.World.{World}
+use Rattle.wit_data.specs.declared.world.WorldInclude.{WorldInclude}
+use Rattle.wit_data.specs.declared.world.WorldItem.{WorldItem}
+use Rattle.wit_data.specs.declared.world.WorldItem.TheVariants as item
+use Rattle.wit_data.specs.declared.world.WorldKey.TheVariants as key
+use Rattle.wit_elaboration.specs.Imported.{HasConflict, IsInConflict}
+use Rattle.wit_graph_data.specs.Samples.{entry_of, no_docs, world_of}
+use Rattle.wit_graph_theory.specs.TestFacts.{feature_of, none_in, one_of_two, only_one}
+use Rattle.wit_labels.specs.Examples.{function_entry, named_as}
+use Rattle.wit_labels.specs.Rename.{renamed_by}
+use Rattle.wit_link_spec.specs.Addition.{Addition}
+use Rattle.wit_link_spec.specs.Cause.{IncludeIsReached, IsReached}
+use Rattle.wit_link_spec.specs.Cause as reason
+use Rattle.wit_link_spec.specs.Gates.{Place}
+use Rattle.wit_link_spec.specs.Gates as asked
+use Rattle.wit_link_spec.specs.Include.{Lists, lists_of}
+use Rattle.wit_link_spec.specs.Reasons.{HasImage, LacksVersion}
+use Rattle.wit_link_spec.specs.WorldReasons.{AreTooAlike, AtInclude, AtWorld, HasStability, IsRenamed, LacksGetter, Mismatches, RenamesNothing, Shadows}
+use Rattle.wit_link_spec.specs.WorldReasons as world_reason
+use Rattle.wit_link_examples.proofs.AtWorlds.{at_of, fine_without, include_same, no_include, of_first, of_first_include}
+use Rattle.wit_link_examples.proofs.HasImage.{image}
+use Rattle.wit_link_examples.proofs.Matching.{of_alike, of_conflict, of_getter, of_mismatch, of_rename, of_shadowing}
+use Rattle.wit_link_examples.proofs.WorldTests.{conflict_of, none_alike, none_lacks, one_list, unshadowed}
+use Rattle.wit_link_examples.specs.Packages.{adding, all_features, exporting_with, gate_f, gate_g, gated_entry, including_package, no_features, since_one, since_package, three, with_world}
+use Rattle.wit_link_examples.specs.WorldCauses.{ExamplesOfWorldCauses, importing}
+
+-- the first world, and the first include of it, are reached
+pub first_reached : (a : Addition) → IsReached a 0
+first_reached a i below = absurd (omega (arith, below))
+
+pub include_reached : (a : Addition) → HasImage a → IncludeIsReached a 0 0
+include_reached a has = record { has_image = has; worlds = first_reached a; includes = λ i below. absurd (omega (arith, below)) }
+
+pub other_feature : gate_g ≡ gate_f → ⊥
+other_feature same = differ (codes "g") (codes "f") refl (ap feature_of same)
+
+-- ---- a world that includes w
+
+abbrev gates : Stability → List ℕ → List IncludeName → Addition
+gates note label names = adding all_features (with_world note label) (including_package names)
+
+gates_image : (note : Stability) (label : List ℕ) (names : List IncludeName) → HasImage (gates note label names)
+gates_image note label names = image (gates note label names) (record { packages = refl; items = refl; types = refl; interfaces = refl; worlds = refl })
+
+abbrev the_include : (note : Stability) (label : List ℕ) (names : List IncludeName) → AtInclude (gates note label names) 0 0
+the_include note label names = record { at = record { place = 1; world = _; is = refl }; include = _; is = refl; before = _; before_is = refl; old = _; old_is = refl }
+
+-- what holds of an include holds of this one
+of_include : (note : Stability) (label : List ℕ) (names : List IncludeName) (P : ℕ → ℕ → Type 0) → ((k j : ℕ) → P k j → AtInclude (gates note label names) k j) → (P 0 0 → ⊥) → (k j : ℕ) → P k j → ⊥
+of_include note label names P at not k j p = of_first_include (gates note label names) (λ k. refl) (the_include note label names).at (λ j. refl) P at not k j p
+
+mismatch : (label : List ℕ) (names : List IncludeName) → Mismatches (gates gate_g label names) 0 0 (Some (50, 60)) gate_g gate_f
+mismatch label names = record {
+  at = the_include gate_g label names;
+  word = codes "import";
+  current = _;
+  brought = _;
+  i = 0;
+  list = (inl (refl, refl), inl (refl, refl));
+  there = (no_docs, None, None, (0, lit< tt, refl));
+  comes = (no_docs, None, None, (0, lit< tt, refl));
+  apart = record { from_known = λ same. cc; into_known = λ same. cc; differ = other_feature };
+  counts = refl;
+  span_is = refl;
+}
+
+shadows : (note : Stability) → Shadows (gates note (codes "f") []) 0 0 (Some (50, 60)) (codes "import") (codes "f")
+shadows note = record {
+  at = the_include note (codes "f") [];
+  current = _;
+  brought = _;
+  list = (inl (refl, refl), inl (refl, refl));
+  shadowed = record { before = key.Interface 0 ∷ []; after = []; are = refl; there = (1, lit< tt, refl) };
+  span_is = refl;
+}
+
+-- ---- the gate that is there
+
+abbrev pub stability_of : WorldItem → Stability
+stability_of (item.Interface i note docs span external_id) = note
+stability_of (item.Function f) = Unknown
+stability_of (item.Type_ t span) = Unknown
+
+key_apart : (i : ℕ) (label : List ℕ) → key.Name label ≡ key.Interface i → ⊥
+key_apart i label same = cc
+
+-- the only interface of two entries has its gate
+gate_is : (note : Stability) (f : Entry) (label : List ℕ) (i : ℕ) (has : Stability) → f.0 ≡ key.Name label → HasStability (gated_entry note ∷ f ∷ []) i has → note ≡ has
+gate_is note f label i has named (docs, place, external_id, (zero, below, is)) = ap (λ (e : Entry). stability_of e.1) is
+gate_is note f label i has named (docs, place, external_id, (suc zero, below, is)) = absurd (key_apart i label (sym named ∙ ap (λ (e : Entry). e.0) is))
+gate_is note f label i has named (docs, place, external_id, (suc (suc k), below, is)) = absurd (omega (arith, below))
+
+none_has : (i : ℕ) (has : Stability) → HasStability [] i has → ⊥
+none_has i has (docs, place, external_id, inside) = none_in _ inside
+
+same_gate : (span : Place) (brings has : Stability) → Mismatches (gates gate_f (codes "f") []) 0 0 span brings has → ⊥
+same_gate span brings has c =
+    let same = include_same (gates gate_f (codes "f") []) 0 0 c.at (the_include gate_f (codes "f") []) in
+    elim (one_list c.word c.at.before.lists (lists_of c.at.old) c.current c.brought c.list.0 c.list.1) [
+      | inl both ↦
+          let there : HasStability (gated_entry gate_f ∷ function_entry (codes "f") ∷ []) c.i has = subst (λ (es : List Entry). HasStability es c.i has) (both.0 ∙ ap (λ (l : Lists). l.imports) same.lists_are) c.there in
+          let comes : HasStability (gated_entry gate_f ∷ function_entry (codes "f") ∷ []) c.i brings = subst (λ (es : List Entry). HasStability es c.i brings) (both.1 ∙ ap (λ (w : World). w.imports) same.old_is) c.comes in
+          c.apart.differ (sym (gate_is gate_f _ (codes "f") c.i brings refl comes) ∙ gate_is gate_f _ (codes "f") c.i has refl there)
+      | inr both ↦ none_has c.i has (subst (λ (es : List Entry). HasStability es c.i has) (both.0 ∙ ap (λ (l : Lists). l.exports) same.lists_are) c.there)
+    ]
+
+-- ---- renamings
+
+pub label_same : (a b : List ℕ) → key.Name a ≡ key.Name b → a ≡ b
+label_same a b same = cc
+
+-- the renaming of x is of no label of w
+unmatched : IsRenamed (world_of (codes "w") (gated_entry gate_g ∷ function_entry (codes "f") ∷ []) []) (named_as (codes "x") (codes "y")) → ⊥
+unmatched (label, (zero, below, is), matches) = absurd (key_apart 0 label (sym is))
+unmatched (label, (suc zero, below, is), matches) =
+    false≢true (subst (λ (l : List ℕ). is_some (renamed_by (named_as (codes "x") (codes "y")) l) ≡ true) (sym (label_same (codes "f") label is)) matches)
+unmatched (label, (suc (suc k), below, is), matches) = absurd (omega (arith, below))
+
+only_name : (one : IncludeName) (before after : List IncludeName) (name : IncludeName) → one ∷ [] ≡ before ++ name ∷ after → one ≡ name
+only_name one [] after name split = cc
+only_name one (a ∷ []) after name split = cc
+only_name one (a ∷ b ∷ before) after name split = cc
+
+renames : (span : Place) (message : List ℕ) → RenamesNothing (gates gate_g (codes "f") (named_as (codes "f") (codes "y") ∷ [])) 0 0 span message → ⊥
+renames span message c =
+    let same = include_same (gates gate_g (codes "f") (named_as (codes "f") (codes "y") ∷ [])) 0 0 c.at (the_include gate_g (codes "f") (named_as (codes "f") (codes "y") ∷ [])) in
+    let split : named_as (codes "f") (codes "y") ∷ [] ≡ c.before ++ c.name ∷ c.after = sym (ap (λ (i : WorldInclude). i.names) same.include_is) ∙ c.names_are in
+    let name = only_name (named_as (codes "f") (codes "y")) c.before c.after c.name split in
+    c.unmatched (subst (λ (n : IncludeName). IsRenamed c.at.old n) name (subst (λ (w : World). IsRenamed w (named_as (codes "f") (codes "y"))) (sym same.old_is) (codes "f", (1, lit< tt, refl), refl)))
+
+-- ---- no image
+
+lacks_version : LacksVersion (adding all_features (with_world gate_g (codes "f")) since_package) None (codes "package [foo:main] contains a feature gate with a version specifier, so it must have a version")
+lacks_version = record { note = since_one; place = None; asked = asked.of_interface 1 _ _ refl (0, lit< tt, refl); stable = tt; no_version = refl; span_is = refl; message_is = refl }
+
+-- ---- labels of a world that includes nothing
+
+abbrev two_labels : List ℕ → List ℕ → Addition
+two_labels a b = importing (function_entry a ∷ function_entry b ∷ [])
+
+abbrev labelled_world : (a b : List ℕ) → AtWorld (two_labels a b) 0
+labelled_world a b = record { place = 0; world = _; is = refl }
+
+not_alike : (span : Place) (message : List ℕ) → AreTooAlike (two_labels (codes "ab") (codes "ac")) 0 span message → ⊥
+not_alike = none_alike (two_labels (codes "ab") (codes "ac")) 0 (labelled_world (codes "ab") (codes "ac")) (record { imports = refl; exports = refl; written = λ none. (refl, refl) })
+
+has_getter : (span : Place) (message : List ℕ) → LacksGetter (two_labels (codes "[get]p") (codes "[set]p")) 0 span message → ⊥
+has_getter = none_lacks (two_labels (codes "[get]p") (codes "[set]p")) 0 (labelled_world (codes "[get]p") (codes "[set]p")) (record { imports = refl; exports = refl; written = λ none. (refl, refl) })
+
+-- ---- exports
+
+abbrev exporting : List ℕ → Addition
+exporting other = adding no_features three (exporting_with other)
+
+c_image : HasImage (exporting (codes "c"))
+c_image = image (exporting (codes "c")) (record { packages = refl; items = refl; types = refl; interfaces = refl; worlds = refl })
+
+abbrev exporting_world : (other : List ℕ) → AtWorld (exporting other) 0
+exporting_world other = record { place = 0; world = _; is = refl }
+
+-- b isn't exported
+b_outside : Contains {X = ℕ} (0 ∷ 2 ∷ []) 1 → ⊥
+b_outside (zero, below, is) = absurd (omega (arith, is))
+b_outside (suc zero, below, is) = absurd (omega (arith, is))
+b_outside (suc (suc k), below, is) = absurd (omega (arith, below))
+
+-- nothing is reached from a in a step or more
+a_clear : (e : Entry) → Contains (entry_of 0 ∷ []) e → IsInConflict (uses_of three.types three.interfaces) (entry_of 0 ∷ entry_of 2 ∷ []) e → ⊥
+a_clear e inside conflict =
+    let there : IsInConflict (uses_of three.types three.interfaces) (entry_of 0 ∷ entry_of 2 ∷ []) (entry_of 0) =
+    subst (IsInConflict (uses_of three.types three.interfaces) (entry_of 0 ∷ entry_of 2 ∷ [])) (sym (only_one (entry_of 0) e inside)) conflict in
+    none_in there.2.0 (subst (λ (i : ℕ). Contains (direct (uses_of three.types three.interfaces) i) there.2.0) (sym (only_one 0 there.0 there.1)) there.2.2)
+
+-- a and b use nothing but a
+closed : HasConflict (uses_of three.types three.interfaces) (entry_of 0 ∷ entry_of 1 ∷ []) → ⊥
+closed (j, (x, d, exported, uses, outside, reaches), is_exported) =
+    elim (one_of_two 0 1 x exported) [
+      | inl of_a ↦ none_in d (subst (λ (i : ℕ). Contains (direct (uses_of three.types three.interfaces) i) d) (sym of_a) uses)
+      | inr of_b ↦
+          let a : 0 ≡ d = only_one 0 d (subst (λ (i : ℕ). Contains (direct (uses_of three.types three.interfaces) i) d) (sym of_b) uses) in
+          outside (subst (λ (i : ℕ). Contains (0 ∷ 1 ∷ []) i) a (0, lit< tt, refl))
+    ]
+
+pub world_causes : ExamplesOfWorldCauses
+world_causes = record {
+  conflict = reason.conflict_4 0 _ _ (first_reached (exporting (codes "c"))) (record {
+    at = exporting_world (codes "c");
+    has_image = c_image;
+    includes_are_fine = λ j. fine_without (exporting (codes "c")) 0 j (no_include (exporting (codes "c")) 0 (exporting_world (codes "c")) j refl);
+    b = _;
+    is = refl;
+    conflict = (0, (2, 1, (1, lit< tt, refl), (0, lit< tt, refl), b_outside, (0 ∷ [], ((0, lit< tt, refl), refl))), (0, lit< tt, refl));
+    name_is = (key.Interface 2, (entry_of 0 ∷ [], entry_of 2, [], refl, a_clear, (2, (0, lit< tt, refl), (1, 1, (0, lit< tt, refl), ([], refl), b_outside, (0, (0 ∷ [], ((0, lit< tt, refl), refl)), (0, lit< tt, refl)))), refl), refl);
+    span_is = refl;
+  });
+  closed = λ span name c.
+      let found = of_conflict (exporting (codes "b")) span name c in
+      of_first (exporting (codes "b")) (λ k. refl) (λ (k : ℕ). world_reason.IsInConflict (exporting (codes "b")) k span name) (λ k x. x.at)
+      (λ x. closed (conflict_of (exporting (codes "b")) 0 (exporting_world (codes "b")) span name x)) found.0 found.1;
+  shadows = reason.shadowing_7 0 0 _ _ _ (include_reached _ (gates_image gate_g (codes "f") [])) (shadows gate_g);
+  other_label = λ span word name c.
+      let found = of_shadowing (gates gate_g (codes "h") []) span word name c in
+      of_include gate_g (codes "h") [] (λ (k j : ℕ). Shadows (gates gate_g (codes "h") []) k j span word name) (λ k j x. x.at)
+      (unshadowed (gates gate_g (codes "h") []) 0 0 (the_include gate_g (codes "h") []) refl refl span word name) found.0 found.1 found.3;
+  other_gate = reason.mismatch_8 0 0 _ _ _ (include_reached _ (gates_image gate_g (codes "h") [])) (mismatch (codes "h") []);
+  no_shadow = λ span word name c.
+      let found = of_shadowing (adding all_features (with_world gate_g (codes "f")) since_package) span word name c in
+      found.2.has_image.version None (codes "package [foo:main] contains a feature gate with a version specifier, so it must have a version") lacks_version;
+  mismatch = reason.mismatch_8 0 0 _ _ _ (include_reached _ (gates_image gate_g (codes "f") [])) (mismatch (codes "f") []);
+  same_gate = λ span brings has c.
+      let found = of_mismatch (gates gate_f (codes "f") []) span brings has c in
+      of_include gate_f (codes "f") [] (λ (k j : ℕ). Mismatches (gates gate_f (codes "f") []) k j span brings has) (λ k j x. x.at) (same_gate span brings has) found.0 found.1 found.2;
+  same_label = reason.shadowing_7 0 0 _ _ _ (include_reached _ (gates_image gate_f (codes "f") [])) (shadows gate_f);
+  unmatched = reason.rename_unmatched_16 0 0 _ _ (include_reached _ (gates_image gate_g (codes "f") (named_as (codes "x") (codes "y") ∷ []))) (record {
+    at = the_include gate_g (codes "f") (named_as (codes "x") (codes "y") ∷ []);
+    before = [];
+    name = named_as (codes "x") (codes "y");
+    after = [];
+    names_are = refl;
+    earlier = λ i x at. cc;
+    unmatched = unmatched;
+    span_is = refl;
+    message_is = refl;
+  });
+  renames = λ span message c.
+      let found = of_rename (gates gate_g (codes "f") (named_as (codes "f") (codes "y") ∷ [])) span message c in
+      of_include gate_g (codes "f") (named_as (codes "f") (codes "y") ∷ []) (λ (k j : ℕ). RenamesNothing (gates gate_g (codes "f") (named_as (codes "f") (codes "y") ∷ [])) k j span message) (λ k j x. x.at)
+      (renames span message) found.0 found.1 found.2;
+  renamed_gate = reason.mismatch_8 0 0 _ _ _ (include_reached _ (gates_image gate_g (codes "f") (named_as (codes "f") (codes "y") ∷ []))) (mismatch (codes "f") (named_as (codes "f") (codes "y") ∷ []));
+  alike = reason.not_strongly_unique_17 0 _ _ (first_reached (two_labels (codes "ab") (codes "AB"))) (record {
+    world = _;
+    lists = _;
+    moves = 0;
+    have = world_reason.written (labelled_world (codes "ab") (codes "AB")) refl;
+    word = codes "import";
+    entries = _;
+    list = inl (refl, refl);
+    n = codes "AB";
+    m = codes "ab";
+    clash = (0, 1, lit< tt, refl, refl, refl);
+    span_is = refl;
+    message_is = refl;
+  });
+  not_alike = λ span message c.
+      let found = of_alike (two_labels (codes "ab") (codes "ac")) span message c in
+      of_first (two_labels (codes "ab") (codes "ac")) (λ k. refl) (λ (k : ℕ). AreTooAlike (two_labels (codes "ab") (codes "ac")) k span message) (λ k x. at_of _ k x.world x.lists x.moves x.have) (not_alike span message) found.0 found.2;
+  no_getter = reason.no_getter_18 0 _ _ (first_reached (importing (function_entry (codes "[set]p") ∷ []))) (record {
+    world = _;
+    lists = _;
+    moves = 0;
+    have = world_reason.written (record { place = 0; world = _; is = refl }) refl;
+    word = codes "import";
+    entries = _;
+    list = inl (refl, refl);
+    label = codes "[set]p";
+    f = _;
+    setter = ((0, lit< tt, refl), (refl, refl));
+    no_getter = λ has. differ (codes "[set]p") (codes "[get]p") refl (label_same _ _ (only_one (key.Name (codes "[set]p")) (key.Name (codes "[get]p")) has));
+    span_is = refl;
+    message_is = refl;
+  });
+  has_getter = λ span message c.
+      let found = of_getter (two_labels (codes "[get]p") (codes "[set]p")) span message c in
+      of_first (two_labels (codes "[get]p") (codes "[set]p")) (λ k. refl) (λ (k : ℕ). LacksGetter (two_labels (codes "[get]p") (codes "[set]p")) k span message) (λ k x. at_of _ k x.world x.lists x.moves x.have) (has_getter span message) found.0 found.1;
+}

@@ -1,0 +1,12 @@
+//! Packages that are handed in together.
+ghost use Rattle.wit_link_examples.specs.Orders.{ExamplesOfGroups, ExamplesOfOrders};
+
+/// Packages that depend on each other, names that come twice, and cycles.
+pub fn examples_of_groups()
+    ensures { ExamplesOfGroups }
+{}
+
+/// Orders of packages that are handed in together, and what isn't one.
+pub fn examples_of_orders()
+    ensures { ExamplesOfOrders }
+{}

@@ -1,0 +1,7 @@
+use Rattle.wit_data.specs.EachFacts.{EachBelow}
+use Rattle.wit_link_features.specs.ReferenceSteps.{FieldStays}
+use Rattle.wit_link_features.proofs.checker.Checker.look_at_fields.Given as goal
+
+-- what the first ones name isn't left out
+abbrev pub invariant-loop-index : goal.invariant-loop-index
+invariant-loop-index l = EachBelow l.index (λ _. FieldStays l.self) l.fields

@@ -1,0 +1,8 @@
+use Rattle.wit_data.specs.EachFacts.{EachBelow}
+use Rattle.wit_link_spec.specs.Reasons.{AType}
+use Rattle.wit_link_features.specs.ReferenceSteps.{Stays}
+use Rattle.wit_link_features.proofs.checker.Checker.look_at_ids.Given as goal
+
+-- the first ones aren't left out
+abbrev pub invariant-loop-index : goal.invariant-loop-index
+invariant-loop-index l = EachBelow l.index (λ _ t. Stays l.self (AType t)) l.ids

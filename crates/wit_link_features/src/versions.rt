@@ -1,0 +1,300 @@
+//! The versions that `@since` names.
+ghost use Rattle.std.specs.Prelude.{◌≡◌, ◌⊎◌, ℕ, ◌≤◌, Contains, IfErr, IfOk, List, OnOk, Option, length};
+ghost use Rattle.wit_values.specs.Version.{Parts};
+ghost use Rattle.wit_sources.specs.Span.{moved_by};
+ghost use Rattle.wit_data.specs.Each.{Each, EachAt};
+ghost use Rattle.wit_data.specs.Entries.{Entry};
+ghost use Rattle.wit_data.specs.Foreign.{foreign_interfaces, foreign_worlds};
+ghost use Rattle.wit_data.specs.Shape.{IsShaped};
+ghost use Rattle.wit_data.specs.declared.function.Function.{Function};
+ghost use Rattle.wit_data.specs.declared.interface.Interface.{Interface};
+ghost use Rattle.wit_data.specs.declared.stability.Stability.TheVariants.{Stable};
+ghost use Rattle.wit_data.specs.declared.types.TypeDef.{TypeDef};
+ghost use Rattle.wit_data.specs.declared.world.World.{World};
+ghost use Rattle.wit_data.specs.declared.world.WorldInclude.{WorldInclude};
+ghost use Rattle.wit_graph_data.specs.declared.cause.Cause.TheVariants as cause;
+ghost use Rattle.wit_graph_data.specs.declared.error_kind.ResolveErrorKind.TheVariants.{OutOfMemory, Semantic};
+ghost use Rattle.wit_link_spec.specs.Adding.{activity_of, addition_of};
+ghost use Rattle.wit_link_spec.specs.Cause.{IsCause};
+ghost use Rattle.wit_link_spec.specs.CauseText.{gate_unreleased_text, gate_without_version_text};
+ghost use Rattle.wit_link_spec.specs.Gates.{asked_notes, foreign_items};
+ghost use Rattle.wit_link_spec.specs.Passed.{GatesAreMet};
+ghost use Rattle.wit_link_features.specs.GateSteps.{Asks, AsksItem, HasReached, IsAt, IsMet, IsReady, IsThere, MayRefuse, MeetsForeign, MeetsFunctions, MeetsItem, MeetsParts};
+
+use crate::checker::Checker;
+use crate::needs::flag_at;
+use std::alloc::{AllocError, Global};
+use wit_data::{
+    AstItem, Function, Items, Names, Span, Stability, Table, Version, WorldInclude, WorldItem,
+    WorldKey, foreign_interfaces, foreign_worlds,
+};
+use wit_graph_data::{Cause, ResolveError, ResolveResult};
+use wit_link_spec::{Activity, Adding};
+
+/// Refuses a `@since` that is asked and that the package doesn't meet: it has no version (9), or one that is below
+/// (10). The package has its shape, and what takes part of it is told by `activity`.
+///
+/// Else it is refused for want of memory (28) alone. That is told too where a place that would be told ends past
+/// 4294967295, so the caller looks at the spans first.
+///
+/// Source: `include_stability` of wit-parser 0.263.0; WIT.md of the component model.
+pub fn check_versions(alloc: Global, adding: &Adding<'_>, activity: &Activity) -> ResolveResult<()>
+    requires shaped { IsShaped adding.now.handed.now }
+    requires activity { activity.now ≡ activity_of (addition_of adding.now) }
+    ensures met { OnOk result (GatesAreMet (addition_of adding.now)) }
+    ensures cause { IfErr result (λ kind. (kind ≡ OutOfMemory) ⊎ IsCause (addition_of adding.now) kind) }
+{
+    let checker = Checker {
+        alloc,
+        adding: *adding,
+        activity,
+    };
+    checker.check_types()?;
+    checker.check_packages()?;
+    checker.check_interfaces()?;
+    checker.check_worlds()?;
+    checker.check_functions_of_interfaces()?;
+    checker.check_parts_of_worlds()
+}
+
+impl<'a> Checker<'a> {
+    /// The package has no version.
+    fn without_version(&self, span: Span) -> Result<ResolveError, AllocError>
+        ensures { IfOk result (λ e. e ≡ Semantic (moved_by self.now.adding.offset span) (gate_without_version_text self.now.adding.handed.now.name) cause.GateWithoutVersion) }
+    {
+        let name = &self.adding.handed.name;
+        let message = format!(in self.alloc;
+            "package [{name}] contains a feature gate with a version specifier, so it must have a version"
+        )?;
+        self.semantic(span, message, Cause::GateWithoutVersion)
+    }
+
+    /// The package's version is below another.
+    fn unreleased(
+        &self,
+        since: &Version,
+        version: &Version,
+        span: Span,
+    ) -> Result<ResolveError, AllocError>
+        ensures { IfOk result (λ e. e ≡ Semantic (moved_by self.now.adding.offset span) (gate_unreleased_text since.now self.now.adding.handed.now.name version.now) cause.GateUnreleased) }
+    {
+        let name = &self.adding.handed.name;
+        let message = format!(in self.alloc;
+            "feature gate cannot reference unreleased version {since} of package [{name}] (current version {version})"
+        )?;
+        self.semantic(span, message, Cause::GateUnreleased)
+    }
+
+    /// A note that is asked of an item there.
+    fn check_note(&self, note: &Stability, span: Span) -> ResolveResult<()>
+        requires { Asks self.now note.now span }
+        ensures met { OnOk result (IsMet self.now note.now) }
+        ensures cause { IfErr result (MayRefuse self.now) }
+    {
+        match note {
+            Stability::Unknown => Ok(()),
+            Stability::Stable { since, .. } => self.check_since(since, span),
+            Stability::Unstable { .. } => Ok(()),
+        }
+    }
+
+    /// A version with which an item came.
+    fn check_since(&self, since: &Version, span: Span) -> ResolveResult<()>
+        requires { (deprecated : Option Parts) × Asks self.now (Stable since.now deprecated) span }
+        ensures met { OnOk result (HasReached self.now.adding.handed.now.name.version since.now) }
+        ensures cause { IfErr result (MayRefuse self.now) }
+    {
+        match &self.adding.handed.name.version {
+            None => Err(self.without_version(span)?),
+            Some(version) => {
+                if version < since {
+                    return Err(self.unreleased(since, version, span)?);
+                }
+                Ok(())
+            }
+        }
+    }
+
+    /// Several notes of one item there, up to the first that lets it take part.
+    fn check_notes(&self, notes: &Items<Stability>, span: Span) -> ResolveResult<()>
+        requires { Each (λ note. Asks self.now note span) (asked_notes self.now.adding.features.now notes.now) }
+        ensures met { OnOk result (Each (IsMet self.now) (asked_notes self.now.adding.features.now notes.now)) }
+        ensures cause { IfErr result (MayRefuse self.now) }
+    {
+        for index in 0..notes.len() {
+            let note = notes.at(index);
+            self.check_note(note, span)?;
+            if self.is_active(note) {
+                return Ok(());
+            }
+        }
+        Ok(())
+    }
+
+    /// The notes of types, whoever owns them.
+    fn check_types(&self) -> ResolveResult<()>
+        ensures met { OnOk result (Each (λ (def : TypeDef). IsMet self.now def.stability) self.now.adding.handed.now.types) }
+        ensures cause { IfErr result (MayRefuse self.now) }
+    {
+        let types = &self.adding.handed.types;
+        for index in 0..types.len() {
+            let def = types.at(index);
+            self.check_note(&def.stability, def.span)?;
+        }
+        Ok(())
+    }
+
+    /// The notes of what is named of other packages.
+    fn check_packages(&self) -> ResolveResult<()>
+        requires { IsReady self.now }
+        ensures met { OnOk result (Each (MeetsForeign self.now) (foreign_items self.now.adding.handed.now.foreign_deps)) }
+        ensures cause { IfErr result (MayRefuse self.now) }
+    {
+        for (_, items) in self.adding.handed.foreign_deps.iter() {
+            self.check_items(items)?;
+        }
+        Ok(())
+    }
+
+    /// Those of one other package.
+    fn check_items(&self, items: &Names<(AstItem, Items<Stability>)>) -> ResolveResult<()>
+        requires ready { IsReady self.now }
+        requires named { Each (Contains (foreign_items self.now.adding.handed.now.foreign_deps)) items.now }
+        ensures met { OnOk result (Each (MeetsForeign self.now) items.now) }
+        ensures cause { IfErr result (MayRefuse self.now) }
+    {
+        for (_, (item, notes)) in items.iter() {
+            self.check_notes(notes, self.span_of(*item))?;
+        }
+        Ok(())
+    }
+
+    /// Where an item is in the package.
+    fn span_of(&self, item: AstItem) -> Span
+        requires { IsThere self.now item }
+        ensures { IsAt self.now item result }
+    {
+        let handed = self.adding.handed;
+        match item {
+            AstItem::Interface(id) => handed.interfaces.at(id.index()).span,
+            AstItem::World(id) => handed.worlds.at(id.index()).span,
+        }
+    }
+
+    /// The notes of the package's own interfaces.
+    fn check_interfaces(&self) -> ResolveResult<()>
+        ensures met { OnOk result (EachAt (λ i (interface : Interface). length (foreign_interfaces self.now.adding.handed.now.foreign_deps) ≤ i → IsMet self.now interface.stability) self.now.adding.handed.now.interfaces) }
+        ensures cause { IfErr result (MayRefuse self.now) }
+    {
+        let handed = self.adding.handed;
+        let foreign = foreign_interfaces(self.alloc, &handed.foreign_deps)?.len();
+        for index in foreign..handed.interfaces.len() {
+            let interface = handed.interfaces.at(index);
+            self.check_note(&interface.stability, interface.span)?;
+        }
+        Ok(())
+    }
+
+    /// The notes of the package's own worlds.
+    fn check_worlds(&self) -> ResolveResult<()>
+        ensures met { OnOk result (EachAt (λ w (world : World). length (foreign_worlds self.now.adding.handed.now.foreign_deps) ≤ w → IsMet self.now world.stability) self.now.adding.handed.now.worlds) }
+        ensures cause { IfErr result (MayRefuse self.now) }
+    {
+        let handed = self.adding.handed;
+        let foreign = foreign_worlds(self.alloc, &handed.foreign_deps)?.len();
+        for index in foreign..handed.worlds.len() {
+            let world = handed.worlds.at(index);
+            self.check_note(&world.stability, world.span)?;
+        }
+        Ok(())
+    }
+
+    /// The notes of the functions of interfaces that take part.
+    fn check_functions_of_interfaces(&self) -> ResolveResult<()>
+        requires { IsReady self.now }
+        ensures met { OnOk result (EachAt (MeetsFunctions self.now) self.now.adding.handed.now.interfaces) }
+        ensures cause { IfErr result (MayRefuse self.now) }
+    {
+        let interfaces = &self.adding.handed.interfaces;
+        for index in 0..interfaces.len() {
+            if !flag_at(&self.activity.interfaces, index) {
+                continue;
+            }
+            self.check_functions(&interfaces.at(index).functions)?;
+        }
+        Ok(())
+    }
+
+    /// The notes of functions.
+    fn check_functions(&self, functions: &Names<Function>) -> ResolveResult<()>
+        requires { Each (λ (e : List ℕ × Function). Asks self.now e.1.stability e.1.span) functions.now }
+        ensures met { OnOk result (Each (λ (e : List ℕ × Function). IsMet self.now e.1.stability) functions.now) }
+        ensures cause { IfErr result (MayRefuse self.now) }
+    {
+        for (_, function) in functions.iter() {
+            self.check_note(&function.stability, function.span)?;
+        }
+        Ok(())
+    }
+
+    /// The notes of the entries and the includes of worlds that take part.
+    fn check_parts_of_worlds(&self) -> ResolveResult<()>
+        requires { IsReady self.now }
+        ensures met { OnOk result (EachAt (MeetsParts self.now) self.now.adding.handed.now.worlds) }
+        ensures cause { IfErr result (MayRefuse self.now) }
+    {
+        let worlds = &self.adding.handed.worlds;
+        for index in 0..worlds.len() {
+            if !flag_at(&self.activity.worlds, index) {
+                continue;
+            }
+            let world = worlds.at(index);
+            self.check_entries(&world.imports)?;
+            self.check_entries(&world.exports)?;
+            self.check_includes(&world.includes)?;
+        }
+        Ok(())
+    }
+
+    /// The notes of entries.
+    fn check_entries(&self, entries: &Table<WorldKey, WorldItem>) -> ResolveResult<()>
+        requires { Each (λ (e : Entry). AsksItem self.now e.1) entries.now }
+        ensures met { OnOk result (Each (λ (e : Entry). MeetsItem self.now e.1) entries.now) }
+        ensures cause { IfErr result (MayRefuse self.now) }
+    {
+        for (_, item) in entries.iter() {
+            self.check_item(item)?;
+        }
+        Ok(())
+    }
+
+    /// The note of an entry that has one of its own.
+    fn check_item(&self, item: &WorldItem) -> ResolveResult<()>
+        requires { AsksItem self.now item.now }
+        ensures met { OnOk result (MeetsItem self.now item.now) }
+        ensures cause { IfErr result (MayRefuse self.now) }
+    {
+        match item {
+            WorldItem::Interface {
+                stability,
+                span,
+                ..
+            } => self.check_note(stability, *span),
+            WorldItem::Function(function) => self.check_note(&function.stability, function.span),
+            WorldItem::Type_ { .. } => Ok(()),
+        }
+    }
+
+    /// The notes of includes.
+    fn check_includes(&self, includes: &Items<WorldInclude>) -> ResolveResult<()>
+        requires { Each (λ (i : WorldInclude). Asks self.now i.stability i.span) includes.now }
+        ensures met { OnOk result (Each (λ (i : WorldInclude). IsMet self.now i.stability) includes.now) }
+        ensures cause { IfErr result (MayRefuse self.now) }
+    {
+        for index in 0..includes.len() {
+            let include = includes.at(index);
+            self.check_note(&include.stability, include.span)?;
+        }
+        Ok(())
+    }
+}

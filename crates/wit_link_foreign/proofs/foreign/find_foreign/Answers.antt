@@ -1,0 +1,29 @@
+use Rattle.std.proofs.Common.{◌∙◌, None, Option, ℕ, ap, arith, map, refl, subst}
+use Rattle.std.specs.List.{range_with_len}
+use Rattle.wit_link_spec.specs.Adding.{addition_of}
+use Rattle.wit_link_foreign.specs.Finding.{AreThere, found_among}
+use Rattle.wit_link_foreign.proofs.NamedItems.{before-all}
+use Rattle.wit_link_foreign.proofs.Steps.{nothing-found, nothing-there}
+use Rattle.wit_link_foreign.proofs.foreign.find_foreign.Goals as goal
+
+pub loop-place-init : goal.loop-place-init
+loop-place-init c =
+    let a = addition_of c.args.adding.now in
+    record {
+      found = nothing-found a c.in_ok-interfaces.interfaces c.in_ok-worlds.worlds
+          (c.in_ok-interfaces.ensures ∙ ap (λ (n : ℕ). map (λ (i : ℕ). let o : Option ℕ = None in o) (range_with_len 0 n)) c.len.ensures)
+          (c.in_ok-worlds.ensures ∙ ap (λ (n : ℕ). map (λ (i : ℕ). let o : Option ℕ = None in o) (range_with_len 0 n)) c.len-2.ensures) (record { interfaces = c.in_ok-interfaces.interfaces; worlds = c.in_ok-worlds.worlds }) refl refl;
+      there = nothing-there a;
+      packages = λ span requested known lacks below. absurd (omega (arith, below));
+    }
+
+pub returns-clause-found : goal.returns-clause-found
+returns-clause-found c =
+    c.loop-place.invariant.found ∙ ap (found_among (addition_of c.args.adding.now)) (before-all c.args.adding.now.handed.now.foreign_deps c.loop-place.place (omega (arith, c.loop-place-test.false, c.len-place-end.ensures.len)))
+
+pub returns-clause-there : goal.returns-clause-there
+returns-clause-there c =
+    subst (AreThere (addition_of c.args.adding.now)) (before-all c.args.adding.now.handed.now.foreign_deps c.loop-place.place (omega (arith, c.loop-place-test.false, c.len-place-end.ensures.len))) c.loop-place.invariant.there
+
+pub returns-clause-packages : goal.returns-clause-packages
+returns-clause-packages c = λ span requested known lacks below. c.loop-place.invariant.packages span requested known lacks (omega (arith, below, c.loop-place-test.false, c.len-place-end.ensures.len))

@@ -1,0 +1,15 @@
+use Rattle.std.proofs.Common.{◌≡◌, ◌+◌, length, map}
+use Rattle.std.specs.List.{range_with_len}
+use Rattle.wit_link_spec.specs.Addition.{own_type, taken_type}
+use Rattle.wit_link_spec.specs.Adding.{addition_of}
+use Rattle.wit_link_spec.specs.Ranks.{rank}
+use Rattle.wit_link_foreign.specs.Finding.{AreTypesThere}
+use Rattle.wit_link_foreign.proofs.types.type_places.Given as goal
+
+-- the places so far, and the next id
+abbrev pub invariant-loop-t : goal.invariant-loop-t
+invariant-loop-t l = record {
+  places : l.places ≡ map (taken_type (addition_of l.adding)) (range_with_len 0 l.t);
+  next : l.next ≡ length l.adding.graph.now.types + rank (own_type (addition_of l.adding)) l.t;
+  there : AreTypesThere (addition_of l.adding) l.t;
+}

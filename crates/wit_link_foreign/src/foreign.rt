@@ -1,0 +1,160 @@
+//! The interfaces and worlds that a package names of other packages, found in the graph.
+ghost use Rattle.std.specs.Prelude.{◌≡◌, ◌≢◌, ◌⊎◌, ◌<◌, ◌+◌, IfErr, IfOk, None, OnOk, length, map, true};
+ghost use Rattle.std.specs.List.{range_with_len};
+ghost use Rattle.wit_graph_data.specs.declared.error_kind.ResolveErrorKind.TheVariants.{OutOfMemory};
+ghost use Rattle.wit_data.specs.Shape.{IsShaped};
+ghost use Rattle.wit_data.specs.declared.unresolved.AstItem.TheVariants as item;
+ghost use Rattle.wit_link_spec.specs.Adding.{activity_of, addition_of};
+ghost use Rattle.wit_link_spec.specs.Cause.{IsCause};
+ghost use Rattle.wit_link_spec.specs.Gates.{interface_is_active, world_is_active};
+ghost use Rattle.wit_link_spec.specs.Lookup.{named_items};
+ghost use Rattle.wit_link_foreign.specs.Finding.{ArePackagesThere, AreThere, IsNamed, found_among, interface_in, named_before, world_in};
+
+use crate::packages::{Home, find_home};
+use crate::refusal::{interface_not_found, world_not_found};
+use std::alloc::{AllocError, Global};
+use wit_data::{AstItem, InterfaceId, Items, PackageId, WorldId};
+use wit_graph_data::{Graph, ResolveResult};
+use wit_link_spec::{Activity, Adding};
+
+/// Where the graph has the interfaces and the worlds of a package that are of other packages: an id for each,
+/// None for its own and for what isn't there.
+#[derive(Drop)]
+pub(crate) struct Found {
+    pub(crate) interfaces: Items<Option<InterfaceId>>,
+    pub(crate) worlds: Items<Option<WorldId>>,
+}
+
+/// Finds what a package names of other packages. Refused where a package isn't there (1), or a world (2) or an
+/// interface (3) that takes part.
+pub(crate) fn find_foreign(
+    alloc: Global,
+    adding: &Adding<'_>,
+    activity: &Activity,
+) -> ResolveResult<Found>
+    requires shaped { IsShaped adding.now.handed.now }
+    requires activity { activity.now ≡ activity_of (addition_of adding.now) }
+    ensures found { IfOk result (λ found. found ≡ found_among (addition_of adding.now) (named_items adding.now.handed.now.foreign_deps)) }
+    ensures there { OnOk result (AreThere (addition_of adding.now) (named_items adding.now.handed.now.foreign_deps)) }
+    ensures packages { OnOk result (ArePackagesThere (addition_of adding.now) (length adding.now.handed.now.foreign_deps)) }
+    ensures cause { IfErr result (λ kind. (kind ≡ OutOfMemory) ⊎ IsCause (addition_of adding.now) kind) }
+{
+    let interfaces = nothing(alloc, adding.handed.interfaces.len())?;
+    let worlds = nothing(alloc, adding.handed.worlds.len())?;
+    let mut found = Found { interfaces, worlds };
+    for place in 0..adding.handed.foreign_deps.len() {
+        find_named(alloc, adding, activity, place, &mut found)?;
+    }
+    Ok(found)
+}
+
+/// So many places of nothing.
+fn nothing<T: Copy>(alloc: Global, count: usize) -> Result<Items<Option<T>>, AllocError>
+    ensures { IfOk result (λ items. items ≡ map (λ _. None) (range_with_len 0 count)) }
+{
+    let mut items = Items::new(alloc);
+    for _index in 0..count {
+        items.push(None)?;
+    }
+    Ok(items)
+}
+
+/// Finds what is named of the package at a place.
+fn find_named(
+    alloc: Global,
+    adding: &Adding<'_>,
+    activity: &Activity,
+    place: usize,
+    found: &mut Found,
+) -> ResolveResult<()>
+    requires shaped { IsShaped adding.now.handed.now }
+    requires activity { activity.now ≡ activity_of (addition_of adding.now) }
+    requires inside { place < length adding.now.handed.now.foreign_deps }
+    requires before { found.old ≡ found_among (addition_of adding.now) (named_before adding.now.handed.now.foreign_deps place) }
+    requires there { AreThere (addition_of adding.now) (named_before adding.now.handed.now.foreign_deps place) }
+    requires packages { ArePackagesThere (addition_of adding.now) place }
+    ensures found { OnOk result (found.new ≡ found_among (addition_of adding.now) (named_before adding.now.handed.now.foreign_deps (place + 1))) }
+    ensures there { OnOk result (AreThere (addition_of adding.now) (named_before adding.now.handed.now.foreign_deps (place + 1))) }
+    ensures packages { OnOk result (ArePackagesThere (addition_of adding.now) (place + 1)) }
+    ensures cause { IfErr result (λ kind. (kind ≡ OutOfMemory) ⊎ IsCause (addition_of adding.now) kind) }
+{
+    let home = find_home(alloc, adding, place)?;
+    for index in 0..home.items.len() {
+        let (requested, (item, _)) = home.items.entry_at(index);
+        match *item {
+            AstItem::Interface(id) => {
+                let there = find_interface(alloc, adding, activity, &home, requested, id)?;
+                found.interfaces.set(id.index(), there);
+            }
+            AstItem::World(id) => {
+                let there = find_world(alloc, adding, activity, &home, requested, id)?;
+                found.worlds.set(id.index(), there);
+            }
+        }
+    }
+    Ok(())
+}
+
+/// Finds an interface. Refused where one that takes part isn't there.
+fn find_interface(
+    alloc: Global,
+    adding: &Adding<'_>,
+    activity: &Activity,
+    home: &Home<'_>,
+    requested: &str,
+    id: InterfaceId,
+) -> ResolveResult<Option<InterfaceId>>
+    requires shaped { IsShaped adding.now.handed.now }
+    requires activity { activity.now ≡ activity_of (addition_of adding.now) }
+    requires named { IsNamed (addition_of adding.now) home.now.name.now home.now.id requested.now (item.Interface id) }
+    ensures found { IfOk result (λ there. there ≡ interface_in adding.now.graph.now home.now.id requested.now) }
+    ensures there { IfOk result (λ there. interface_is_active adding.now.features.now adding.now.handed.now id ≡ true → there ≢ None) }
+    ensures cause { IfErr result (λ kind. (kind ≡ OutOfMemory) ⊎ IsCause (addition_of adding.now) kind) }
+{
+    let there = interface_of(adding.graph, home.id, requested);
+    if there.is_none() && *activity.interfaces.at(id.index()) {
+        let span = adding.handed.interfaces.at(id.index()).span;
+        return Err(interface_not_found(alloc, adding, span, requested, home.name)?);
+    }
+    Ok(there)
+}
+
+/// Finds a world. Refused where one that takes part isn't there.
+fn find_world(
+    alloc: Global,
+    adding: &Adding<'_>,
+    activity: &Activity,
+    home: &Home<'_>,
+    requested: &str,
+    id: WorldId,
+) -> ResolveResult<Option<WorldId>>
+    requires shaped { IsShaped adding.now.handed.now }
+    requires activity { activity.now ≡ activity_of (addition_of adding.now) }
+    requires named { IsNamed (addition_of adding.now) home.now.name.now home.now.id requested.now (item.World id) }
+    ensures found { IfOk result (λ there. there ≡ world_in adding.now.graph.now home.now.id requested.now) }
+    ensures there { IfOk result (λ there. world_is_active adding.now.features.now adding.now.handed.now id ≡ true → there ≢ None) }
+    ensures cause { IfErr result (λ kind. (kind ≡ OutOfMemory) ⊎ IsCause (addition_of adding.now) kind) }
+{
+    let there = world_of(adding.graph, home.id, requested);
+    if there.is_none() && *activity.worlds.at(id.index()) {
+        let span = adding.handed.worlds.at(id.index()).span;
+        return Err(world_not_found(alloc, adding, span, requested, home.name)?);
+    }
+    Ok(there)
+}
+
+/// The interface of this name in a package, if there is one.
+fn interface_of(graph: &Graph, home: Option<PackageId>, name: &str) -> Option<InterfaceId>
+    ensures { result ≡ interface_in graph.now home name.now }
+{
+    let home = graph.packages.get(home?.index())?;
+    home.interfaces.get(name).copied()
+}
+
+/// The world of this name in a package, if there is one.
+fn world_of(graph: &Graph, home: Option<PackageId>, name: &str) -> Option<WorldId>
+    ensures { result ≡ world_in graph.now home name.now }
+{
+    let home = graph.packages.get(home?.index())?;
+    home.worlds.get(name).copied()
+}

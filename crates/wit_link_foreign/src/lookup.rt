@@ -1,0 +1,41 @@
+//! Where the things of a package go that is added to a graph.
+ghost use Rattle.std.specs.Prelude.{◌≡◌, ◌⊎◌, IfErr, IfOk, OnOk};
+ghost use Rattle.wit_graph_data.specs.declared.error_kind.ResolveErrorKind.TheVariants.{OutOfMemory};
+ghost use Rattle.wit_data.specs.Shape.{IsShaped};
+ghost use Rattle.wit_link_spec.specs.Adding.{activity_of, addition_of, places_of};
+ghost use Rattle.wit_link_spec.specs.Cause.{IsCause};
+ghost use Rattle.wit_link_spec.specs.Passed.{IsAllFound};
+
+use crate::foreign::find_foreign;
+use crate::next::{interface_places, world_places};
+use crate::types::type_places;
+use std::alloc::Global;
+use wit_graph_data::ResolveResult;
+use wit_link_spec::{Activity, Adding, Places};
+
+/// Where the things of a package go: what is named of other packages to what the graph has under that name, its own to
+/// the next ids. The package has its shape, and what takes part of it is told by `activity` of wit_link_features.
+///
+/// Refused where a package of which something is named isn't there (1), or, of what takes part, a world (2), an
+/// interface (3) or a type (13) of another package; the one that is added counts as there, and empty. Else it is
+/// refused for want of memory (28) alone. That is told too where a place that would be told ends past 4294967295, so
+/// the caller looks at the spans first.
+///
+/// Source: `process_foreign_deps` of wit-parser 0.263.0.
+pub fn places(alloc: Global, adding: &Adding<'_>, activity: &Activity) -> ResolveResult<Places>
+    requires shaped { IsShaped adding.now.handed.now }
+    requires activity { activity.now ≡ activity_of (addition_of adding.now) }
+    ensures places { IfOk result (λ places. places ≡ places_of (addition_of adding.now)) }
+    ensures found { OnOk result (IsAllFound (addition_of adding.now)) }
+    ensures cause { IfErr result (λ kind. (kind ≡ OutOfMemory) ⊎ IsCause (addition_of adding.now) kind) }
+{
+    let found = find_foreign(alloc, adding, activity)?;
+    let types = type_places(alloc, adding, activity, &found)?;
+    let interfaces = interface_places(alloc, adding, activity, &found)?;
+    let worlds = world_places(alloc, adding, activity, &found)?;
+    Ok(Places {
+        types,
+        interfaces,
+        worlds,
+    })
+}

@@ -1,0 +1,48 @@
+//! The packages of which a package names something.
+ghost use Rattle.std.specs.Prelude.{◌≡◌, ◌⊎◌, ◌<◌, IfErr, IfOk, length};
+ghost use Rattle.wit_graph_data.specs.declared.error_kind.ResolveErrorKind.TheVariants.{OutOfMemory};
+ghost use Rattle.wit_data.specs.Shape.{IsShaped};
+ghost use Rattle.wit_link_spec.specs.Adding.{addition_of};
+ghost use Rattle.wit_link_spec.specs.Cause.{IsCause};
+ghost use Rattle.wit_link_foreign.specs.Finding.{IsHome};
+
+use crate::refusal::package_not_found;
+use std::alloc::Global;
+use wit_data::{AstItem, Items, Names, PackageId, PackageName, Stability};
+use wit_graph_data::ResolveResult;
+use wit_link_spec::Adding;
+
+/// A package of which something is named.
+#[derive(Drop)]
+pub(crate) struct Home<'a> {
+    pub(crate) name: &'a PackageName,
+    /// What is named of it.
+    pub(crate) items: &'a Names<(AstItem, Items<Stability>)>,
+    /// Its place in the graph: None for the package that is added, which counts as there and empty.
+    pub(crate) id: Option<PackageId>,
+}
+
+/// The package of which something is named at a place. Refused where there is none of that name (1), if any item
+/// of it is named.
+pub(crate) fn find_home<'a>(
+    alloc: Global,
+    adding: &Adding<'a>,
+    place: usize,
+) -> ResolveResult<Home<'a>>
+    requires shaped { IsShaped adding.now.handed.now }
+    requires inside { place < length adding.now.handed.now.foreign_deps }
+    ensures home { IfOk result (λ home. IsHome (addition_of adding.now) place home.name.now home.items.now home.id) }
+    ensures cause { IfErr result (λ kind. (kind ≡ OutOfMemory) ⊎ IsCause (addition_of adding.now) kind) }
+{
+    let (name, items) = adding.handed.foreign_deps.entry_at(place);
+    let id = match adding.graph.package_names.get(name) {
+        _ if adding.handed.name == *name => None,
+        Some(id) => Some(*id),
+        None if items.is_empty() => None,
+        None => {
+            let span = *adding.handed.foreign_dep_spans.at(place);
+            return Err(package_not_found(alloc, adding, span, name)?);
+        }
+    };
+    Ok(Home { name, items, id })
+}

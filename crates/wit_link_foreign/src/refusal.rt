@@ -1,0 +1,127 @@
+//! What is told of a package that names what isn't there.
+ghost use Rattle.std.specs.Prelude.{◌≡◌, IfOk};
+ghost use Rattle.std.specs.Map.{keys_of};
+ghost use Rattle.wit_sources.specs.Span.{moved_by};
+ghost use Rattle.wit_graph_data.specs.declared.cause.Cause.TheVariants.{TypeNotDefined};
+ghost use Rattle.wit_graph_data.specs.declared.error_kind.ResolveErrorKind.TheVariants.{InterfaceNotFound, PackageNotFound, Semantic, WorldNotFound};
+ghost use Rattle.wit_link_spec.specs.Adding.{addition_of};
+ghost use Rattle.wit_link_spec.specs.CauseText.{type_not_defined_text};
+ghost use Rattle.wit_link_spec.specs.Reasons.{known_packages};
+
+use std::alloc::{AllocError, Global};
+use wit_data::{Items, PackageName, Span, Text, TryClone};
+use wit_graph_data::{Cause, ResolveError, ResolveErrorKind};
+use wit_link_spec::Adding;
+
+/// 1: a package of which something is named isn't there.
+pub(crate) fn package_not_found(
+    alloc: Global,
+    adding: &Adding<'_>,
+    span: Span,
+    requested: &PackageName,
+) -> Result<ResolveError, AllocError>
+    ensures { IfOk result (λ e. e ≡ PackageNotFound (moved_by adding.now.offset span) requested.now (known_packages (addition_of adding.now))) }
+{
+    let span = moved(span, adding.offset)?;
+    let known = known(alloc, adding)?;
+    let requested = requested.try_clone()?;
+    Ok(ResolveErrorKind::PackageNotFound {
+        span,
+        requested,
+        known,
+    }
+    .into())
+}
+
+/// 2: a world isn't in its package.
+pub(crate) fn world_not_found(
+    alloc: Global,
+    adding: &Adding<'_>,
+    span: Span,
+    requested: &str,
+    home: &PackageName,
+) -> Result<ResolveError, AllocError>
+    ensures { IfOk result (λ e. e ≡ WorldNotFound (moved_by adding.now.offset span) requested.now home.now) }
+{
+    let span = moved(span, adding.offset)?;
+    let requested = Text::try_from_str(alloc, requested)?;
+    let package = home.try_clone()?;
+    Ok(ResolveErrorKind::WorldNotFound {
+        span,
+        requested,
+        package,
+    }
+    .into())
+}
+
+/// 3: an interface isn't in its package.
+pub(crate) fn interface_not_found(
+    alloc: Global,
+    adding: &Adding<'_>,
+    span: Span,
+    requested: &str,
+    home: &PackageName,
+) -> Result<ResolveError, AllocError>
+    ensures { IfOk result (λ e. e ≡ InterfaceNotFound (moved_by adding.now.offset span) requested.now home.now) }
+{
+    let span = moved(span, adding.offset)?;
+    let requested = Text::try_from_str(alloc, requested)?;
+    let package = home.try_clone()?;
+    Ok(ResolveErrorKind::InterfaceNotFound {
+        span,
+        requested,
+        package,
+    }
+    .into())
+}
+
+/// 13: a type isn't in its interface.
+pub(crate) fn type_not_defined(
+    alloc: Global,
+    adding: &Adding<'_>,
+    span: Span,
+    name: &Text,
+) -> Result<ResolveError, AllocError>
+    ensures { IfOk result (λ e. e ≡ Semantic (moved_by adding.now.offset span) (type_not_defined_text name.now) TypeNotDefined) }
+{
+    let span = moved(span, adding.offset)?;
+    let message = format!(in alloc; "type `{name}` not defined in interface")?;
+    Ok(ResolveErrorKind::Semantic {
+        span,
+        message: Text::from_string(message),
+        cause: Cause::TypeNotDefined,
+    }
+    .into())
+}
+
+/// The span so many positions further on. The caller has seen that no span passes the last position, so
+/// an error says that memory is wanting.
+fn moved(span: Span, offset: u32) -> Result<Span, AllocError>
+    ensures { IfOk result (λ moved. moved ≡ moved_by offset span) }
+{
+    span.moved(offset).ok_or(AllocError)
+}
+
+/// The packages that are known: those of the graph in order, and the one that is added where the graph has none
+/// of its name.
+fn known(alloc: Global, adding: &Adding<'_>) -> Result<Items<PackageName>, AllocError>
+    ensures { IfOk result (λ known. known ≡ known_packages (addition_of adding.now)) }
+{
+    let own = &adding.handed.name;
+    let mut known = names(alloc, adding)?;
+    if !adding.graph.package_names.contains_key(own) {
+        known.push(own.try_clone()?)?;
+    }
+    Ok(known)
+}
+
+/// The names of the packages of the graph, in order.
+fn names(alloc: Global, adding: &Adding<'_>) -> Result<Items<PackageName>, AllocError>
+    ensures { IfOk result (λ names. names ≡ keys_of adding.now.graph.now.package_names) }
+{
+    let mut names = Items::new(alloc);
+    for (name, _) in adding.graph.package_names.iter() {
+        names.push(name.try_clone()?)?;
+    }
+    Ok(names)
+}

@@ -1,0 +1,114 @@
+//! Where the types of a package go.
+ghost use Rattle.std.specs.Prelude.{◌≡◌, ◌⊎◌, ◌<◌, ◌+◌, IfErr, IfOk, OnOk, length, map, true};
+ghost use Rattle.std.specs.List.{range_with_len};
+ghost use Rattle.wit_graph_data.specs.declared.error_kind.ResolveErrorKind.TheVariants.{OutOfMemory};
+ghost use Rattle.wit_data.specs.Shape.{IsShaped};
+ghost use Rattle.wit_link_spec.specs.Addition.{own_type, taken_type};
+ghost use Rattle.wit_link_spec.specs.Adding.{activity_of, addition_of};
+ghost use Rattle.wit_link_spec.specs.Cause.{IsCause};
+ghost use Rattle.wit_link_spec.specs.Gates.{type_is_active};
+ghost use Rattle.wit_link_spec.specs.Lookup.{found_type, listed_type, named_items};
+ghost use Rattle.wit_link_spec.specs.Ranks.{rank};
+ghost use Rattle.wit_link_foreign.specs.Finding.{AreTypesThere, IsTypeThere, found_among};
+
+use crate::foreign::Found;
+use crate::next::next_place;
+use crate::refusal::type_not_defined;
+use std::alloc::Global;
+use wit_data::{InterfaceId, Items, Text, TypeId, TypeOwner};
+use wit_graph_data::{Graph, ResolveResult};
+use wit_link_spec::{Activity, Adding};
+
+/// Where the types go: what takes part goes to what is found of it, or, if it is the package's own, to the next
+/// id. Refused where a type of another package that takes part, as its interface does, isn't in that interface
+/// (13).
+pub(crate) fn type_places(
+    alloc: Global,
+    adding: &Adding<'_>,
+    activity: &Activity,
+    found: &Found,
+) -> ResolveResult<Items<Option<TypeId>>>
+    requires shaped { IsShaped adding.now.handed.now }
+    requires activity { activity.now ≡ activity_of (addition_of adding.now) }
+    requires found { found.now ≡ found_among (addition_of adding.now) (named_items adding.now.handed.now.foreign_deps) }
+    ensures places { IfOk result (λ places. places ≡ map (taken_type (addition_of adding.now)) (range_with_len 0 (length adding.now.handed.now.types))) }
+    ensures there { OnOk result (AreTypesThere (addition_of adding.now) (length adding.now.handed.now.types)) }
+    ensures cause { IfErr result (λ kind. (kind ≡ OutOfMemory) ⊎ IsCause (addition_of adding.now) kind) }
+{
+    let mut places = Items::new(alloc);
+    let mut next = adding.graph.types.len();
+    for t in 0..adding.handed.types.len() {
+        places.push(type_place(alloc, adding, activity, found, t, &mut next)?)?;
+    }
+    Ok(places)
+}
+
+/// Where one type goes, and the next id behind it.
+fn type_place(
+    alloc: Global,
+    adding: &Adding<'_>,
+    activity: &Activity,
+    found: &Found,
+    t: usize,
+    next: &mut usize,
+) -> ResolveResult<Option<TypeId>>
+    requires shaped { IsShaped adding.now.handed.now }
+    requires activity { activity.now ≡ activity_of (addition_of adding.now) }
+    requires found { found.now ≡ found_among (addition_of adding.now) (named_items adding.now.handed.now.foreign_deps) }
+    requires inside { t < length adding.now.handed.now.types }
+    requires next { next.old ≡ length adding.now.graph.now.types + rank (own_type (addition_of adding.now)) t }
+    ensures place { IfOk result (λ place. place ≡ taken_type (addition_of adding.now) t) }
+    ensures next { OnOk result (next.new ≡ length adding.now.graph.now.types + rank (own_type (addition_of adding.now)) (t + 1)) }
+    ensures there { OnOk result (IsTypeThere (addition_of adding.now) t) }
+    ensures cause { IfErr result (λ kind. (kind ≡ OutOfMemory) ⊎ IsCause (addition_of adding.now) kind) }
+{
+    let active = *activity.types.at(t);
+    if active && t < adding.handed.unknown_type_spans.len() {
+        return foreign_type(alloc, adding, activity, found, t);
+    }
+    Ok(next_place(active, None, next)?)
+}
+
+/// Where the graph has a type of another package that takes part.
+fn foreign_type(
+    alloc: Global,
+    adding: &Adding<'_>,
+    activity: &Activity,
+    found: &Found,
+    t: usize,
+) -> ResolveResult<Option<TypeId>>
+    requires shaped { IsShaped adding.now.handed.now }
+    requires activity { activity.now ≡ activity_of (addition_of adding.now) }
+    requires found { found.now ≡ found_among (addition_of adding.now) (named_items adding.now.handed.now.foreign_deps) }
+    requires inside { t < length adding.now.handed.now.types }
+    requires foreign { t < length adding.now.handed.now.unknown_type_spans }
+    requires active { type_is_active adding.now.features.now adding.now.handed.now.types t ≡ true }
+    ensures place { IfOk result (λ place. place ≡ found_type adding.now.graph.now adding.now.handed.now t) }
+    ensures there { OnOk result (IsTypeThere (addition_of adding.now) t) }
+    ensures cause { IfErr result (λ kind. (kind ≡ OutOfMemory) ⊎ IsCause (addition_of adding.now) kind) }
+{
+    let def = adding.handed.types.at(t);
+    let Some(name) = &def.name else {
+        return Ok(None);
+    };
+    let TypeOwner::Interface(owner) = def.owner else {
+        return Ok(None);
+    };
+    let Some(home) = *found.interfaces.at(owner.index()) else {
+        return Ok(None);
+    };
+    let there = type_of(adding.graph, home, name);
+    if there.is_none() && *activity.interfaces.at(owner.index()) {
+        let span = *adding.handed.unknown_type_spans.at(t);
+        return Err(type_not_defined(alloc, adding, span, name)?);
+    }
+    Ok(there)
+}
+
+/// The type of this name in an interface, if there is one.
+fn type_of(graph: &Graph, home: InterfaceId, name: &Text) -> Option<TypeId>
+    ensures { result ≡ listed_type graph.now name.now home }
+{
+    let home = graph.interfaces.get(home.index())?;
+    home.types.get(name.as_str()).copied()
+}

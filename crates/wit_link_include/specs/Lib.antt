@@ -1,0 +1,10 @@
+pub mod AdditionFacts
+pub mod Copied
+pub mod Finished
+pub mod Included
+pub mod Joined
+pub mod Labels
+pub mod ReadyFacts
+pub mod Renamed
+pub mod RowsFacts
+pub mod SeveralFacts

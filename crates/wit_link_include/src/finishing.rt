@@ -1,0 +1,57 @@
+//! A world is finished.
+ghost use Rattle.std.specs.Prelude.{◌≡◌, ◌⊎◌, IfErr, IfOk, OnOk, OnErr, length};
+ghost use Rattle.wit_link_include.specs.Finished.{CanFinish, IsFinishCause, with_finished};
+ghost use Rattle.wit_elaboration.specs.Elaboration.{graph_uses};
+ghost use Rattle.wit_elaboration.specs.Sound.{HasSoundEntries};
+ghost use Rattle.wit_graph_data.specs.declared.error_kind.ResolveErrorKind.TheVariants.{OutOfMemory};
+ghost use Rattle.wit_labels.specs.Setters.{placed};
+ghost use Rattle.wit_digraph.specs.Relation.{IsAcyclic};
+
+use crate::labels::check_labels;
+use std::alloc::{AllocError, Global};
+use std::mem;
+use wit_data::{Table, World};
+use wit_elaboration::Elaborator;
+use wit_graph_data::{Graph, ResolveResult};
+use wit_labels::place_setters;
+
+/// Finishes a world over the types and interfaces of a graph and puts it behind the graph's worlds: its setters
+/// go after their getters, and it is elaborated.
+///
+/// Refused where two labels of one list are too alike (17), a setter has no getter beside it (18), what the exports
+/// need from outside is exported (4), and for memory (28); the graph is then as before.
+#[tactic(auto, using(crate::proofs::Causes::label_cause, crate::proofs::Causes::conflict_cause))]
+pub(crate) fn finish_world(
+    alloc: Global,
+    graph: &mut Graph,
+    elaborator: &mut Elaborator,
+    world: World,
+) -> ResolveResult<()>
+    requires uses { elaborator.old ≡ graph_uses graph.old }
+    requires acyclic { IsAcyclic (graph_uses graph.old) }
+    requires listed { HasSoundEntries graph.old.types (length graph.old.interfaces) (placed world.imports) (placed world.exports) }
+    ensures ok { OnOk result (graph.new ≡ with_finished graph.old world) }
+    ensures fine { OnOk result (CanFinish graph.old world) }
+    ensures err { OnErr result (graph.new ≡ graph.old) }
+    ensures cause { IfErr result (λ kind. (kind ≡ OutOfMemory) ⊎ IsFinishCause graph.old world kind) }
+    ensures same { elaborator.new ≡ elaborator.old }
+{
+    check_labels(alloc, &world)?;
+    let mut world = with_placed_setters(alloc, world)?;
+    let lists = elaborator.lists_for(alloc, graph, &world)?;
+    world.imports = lists.imports;
+    world.exports = lists.exports;
+    Ok(graph.worlds.push(world)?)
+}
+
+/// The world with its setters after their getters.
+fn with_placed_setters(alloc: Global, world: World) -> Result<World, AllocError>
+    ensures { IfOk result (λ new. new ≡ record world { imports = placed world.imports; exports = placed world.exports }) }
+{
+    let mut world = world;
+    let imports = mem::replace(&mut world.imports, Table::new(alloc));
+    let exports = mem::replace(&mut world.exports, Table::new(alloc));
+    world.imports = place_setters(alloc, imports)?;
+    world.exports = place_setters(alloc, exports)?;
+    Ok(world)
+}

@@ -1,0 +1,8 @@
+use Rattle.std.proofs.Common.{◌≡◌, ◌++◌}
+use Rattle.std.specs.List.{flat_map, range_with_len}
+use Rattle.wit_link_spec.specs.Adding.{addition_of}
+use Rattle.wit_link_resources.specs.Active.{interface_functions, seen}
+use Rattle.wit_link_resources.proofs.functions.push_interfaces.Given as goal
+
+abbrev pub invariant-loop-place : goal.invariant-loop-place
+invariant-loop-place l = seen l.functions.items ≡ seen l.fn.functions.items ++ flat_map (interface_functions (addition_of l.adding)) (range_with_len 0 l.place)

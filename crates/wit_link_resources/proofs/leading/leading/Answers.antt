@@ -1,0 +1,47 @@
+use Rattle.std.proofs.Common.{◌≡◌, ◌∙◌, ◌≤◌, ℕ, Bool, true, false, List, Option, Some, slice_get, unwrap_or, ap, subst, sym, arith}
+use Rattle.wit_link_spec.specs.Adding.{addition_of}
+use Rattle.wit_link_spec.specs.Addition.{Addition}
+use Rattle.wit_link_spec.specs.RangeFacts.{range-at, range-pushed}
+use Rattle.wit_link_resources.specs.Leading.{AreRight, leads_if_wanted, leads_there}
+use Rattle.wit_link_resources.proofs.MetTypes.{right-begun}
+use Rattle.wit_link_resources.proofs.Where.{conj, disj, target_earlier}
+use Rattle.wit_link_resources.proofs.leading.leading.Goals.{then-at+in_ok-leads, else-at}
+use Rattle.wit_link_resources.proofs.leading.leading.Goals as goal
+
+pub at-requires : goal.at-requires
+at-requires c = let below = c.loop-place-test.true in let end = c.len-place-end.ensures in let long = c.requires.long in omega arith
+
+pub leads_there-requires-clause-earlier : goal.leads_there-requires-clause-earlier
+leads_there-requires-clause-earlier c = λ u def at names.
+    let a : Addition = addition_of c.args.adding.now in
+    let wanted : List Bool = c.args.wanted.now in
+    let t : ℕ = c.loop-place.place in
+    let on : slice_get wanted t ≡ Some true = c.at.ensures ∙ ap (λ (b : Bool). Some b) c.if-at.true in
+    let first : 0 ≤ t = omega arith in
+    let flag : unwrap_or (slice_get wanted u) false ≡ true = ap (λ (o : Option Bool). unwrap_or o false) (c.requires.closed t u def first on at names) in
+    ap (λ (l : List Bool). slice_get l u) c.loop-place.invariant.leading
+    ∙ (range-at (leads_if_wanted a wanted) t u (target_earlier a c.requires.shaped t u def at names) ∙ ap (λ (b : Bool). Some b) (conj (unwrap_or (slice_get wanted u) false) (leads_there a u) flag))
+
+pub loop-place-init : goal.loop-place-init
+loop-place-init c = record {
+  leading = c.new-leading.ensures;
+  met = right-begun c.args.adding.now.graph.now.types c.new-met.result c.new-met.ensures;
+}
+
+pub loop-place-preserved : goal.loop-place-preserved
+loop-place-preserved c =
+    let a : Addition = addition_of c.args.adding.now in
+    let wanted : List Bool = c.args.wanted.now in
+    let t : ℕ = c.loop-place.place in
+    let flag : unwrap_or (slice_get wanted t) false ≡ c.at.result.now = ap (λ (o : Option Bool). unwrap_or o false) c.at.ensures in
+    let told : c.if-at.leads ≡ leads_if_wanted a wanted t = elim c.if-at.branch [
+      | then-at+in_ok-leads w ↦ w.leads-is ∙ (w.in_ok-leads.ensures.leads ∙ sym (conj (unwrap_or (slice_get wanted t) false) (leads_there a t) (flag ∙ w.if-at.true)))
+      | else-at w ↦ w.leads-is ∙ sym (disj (unwrap_or (slice_get wanted t) false) (leads_there a t) (flag ∙ w.if-at.false))
+    ] in
+    record {
+      leading = range-pushed (leads_if_wanted a wanted) t c.loop-place.leading c.push.new.self c.if-at.leads c.loop-place.invariant.leading c.in_ok-push.ensures.ok told;
+      met = elim c.if-at.branch [
+        | then-at+in_ok-leads w ↦ subst (AreRight a.graph.types) (sym w.met-is) w.in_ok-leads.ensures.met
+        | else-at w ↦ subst (AreRight a.graph.types) (sym w.met-is) c.loop-place.invariant.met
+      ];
+    }

@@ -1,0 +1,15 @@
+use Rattle.std.proofs.Common.{◌≡◌, ◌<◌, length}
+use Rattle.wit_digraph.specs.Walks.{walk}
+use Rattle.wit_graph_theory.specs.Sources.{alias_rows}
+use Rattle.wit_link_spec.specs.Resources.{leads_to_resource}
+use Rattle.wit_link_resources.proofs.met.end_of_way.Given as goal
+
+-- the way so far led along aliases
+abbrev pub invariant-loop-target : goal.invariant-loop-target
+invariant-loop-target l = record {
+  there : l.place < length l.types;
+  same : leads_to_resource l.types l.fn.place ≡ leads_to_resource l.types l.place;
+}
+
+abbrev pub decreases-loop-target : goal.decreases-loop-target
+decreases-loop-target l = length (walk (alias_rows l.types) l.place)

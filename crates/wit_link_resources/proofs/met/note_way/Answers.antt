@@ -1,0 +1,28 @@
+use Rattle.std.proofs.Common.{◌≡◌, ◌∙◌, ◌++◌, ◌∷◌, [], ◌<◌, ℕ, length, ap, refl, sym, subst}
+use Rattle.wit_graph_theory.specs.Sources.{alias_rows}
+use Rattle.wit_digraph.specs.Walks.{walk}
+use Rattle.wit_link_spec.specs.Resources.{leads_to_resource}
+use Rattle.wit_link_resources.proofs.Leads.{leads_on, target_there, walk_falls}
+use Rattle.wit_link_resources.proofs.MetTypes.{right-more}
+use Rattle.wit_link_resources.proofs.Rows.{alias_acyclic}
+use Rattle.wit_link_resources.proofs.met.note_way.Goals as goal
+
+pub loop-target-smaller : goal.loop-target-smaller
+loop-target-smaller c =
+    let types = c.args.types.now in
+    let on = c.in-Some.ensures.some c.in-Some.target refl in
+    subst (λ (k : ℕ). length (walk (alias_rows types) k) < length (walk (alias_rows types) c.loop-target.place)) (sym c.index-place.ensures)
+    (walk_falls types (alias_acyclic types c.requires.acyclic) c.loop-target.place c.in-Some.target on.1.0 on.1.1 on.1.2)
+
+pub loop-target-preserved : goal.loop-target-preserved
+loop-target-preserved c =
+    let types = c.args.types.now in
+    let on = c.in-Some.ensures.some c.in-Some.target refl in
+    let more : c.push.new.self ≡ c.loop-target.met ++ (c.loop-target.place, c.args.leads) ∷ [] =
+    c.in_ok-push.ensures.ok ∙ ap (λ (t : ℕ). c.loop-target.met ++ (t, c.args.leads) ∷ []) c.from_index.ensures in
+    record {
+      there = subst (λ (k : ℕ). k < length types) (sym c.index-place.ensures) (target_there types c.requires.acyclic c.loop-target.place c.in-Some.target on.1.0 on.1.1 on.1.2);
+      met = right-more types c.loop-target.met c.push.new.self c.loop-target.place c.args.leads more c.loop-target.invariant.same c.loop-target.invariant.met;
+      same = c.loop-target.invariant.same
+          ∙ (leads_on types (alias_acyclic types c.requires.acyclic) c.loop-target.place c.in-Some.target on.1.0 on.1.1 on.1.2 ∙ ap (leads_to_resource types) (sym c.index-place.ensures));
+    }

@@ -1,0 +1,17 @@
+use Rattle.std.proofs.Common.{◌≡◌, ◌<◌, length}
+use Rattle.wit_digraph.specs.Walks.{walk}
+use Rattle.wit_graph_theory.specs.Sources.{alias_rows}
+use Rattle.wit_link_spec.specs.Resources.{leads_to_resource}
+use Rattle.wit_link_resources.specs.Leading.{AreRight}
+use Rattle.wit_link_resources.proofs.met.note_way.Given as goal
+
+-- what is noted is right, and the same is right of the place that has been reached
+abbrev pub invariant-loop-target : goal.invariant-loop-target
+invariant-loop-target l = record {
+  there : l.place < length l.types;
+  met : AreRight l.types l.met;
+  same : l.leads ≡ leads_to_resource l.types l.place;
+}
+
+abbrev pub decreases-loop-target : goal.decreases-loop-target
+decreases-loop-target l = length (walk (alias_rows l.types) l.place)

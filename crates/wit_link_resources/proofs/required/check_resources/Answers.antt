@@ -1,0 +1,35 @@
+use Rattle.std.proofs.Common.{◌∙◌, ◌<◌, ℕ, length, refl, sym, subst, arith, below_more, below_none}
+use Rattle.std.proofs.lemmas.Bool.{false≢true}
+use Rattle.std.proofs.lemmas.Option.{slice_get_within}
+use Rattle.wit_graph_theory.specs.ListFacts.{place_of, same_at}
+use Rattle.wit_link_spec.specs.Adding.{addition_of}
+use Rattle.wit_link_spec.specs.Gates.{Place}
+use Rattle.wit_link_resources.specs.Leading.{LeadsWhereFound}
+use Rattle.wit_link_resources.proofs.MetTypes.{right-begun}
+use Rattle.wit_link_resources.proofs.required.check_resources.Goals as goal
+
+pub loop-index-preserved : goal.loop-index-preserved
+loop-index-preserved c =
+    record {
+      fine = below_more _ _ c.loop-index.invariant.fine (λ r at.
+          let same = same_at c.args.adding.now.handed.now.required_resource_types c.loop-index.index c.loop-index.index c.at.result.now r refl c.at.ensures at in
+          subst (λ (x : ℕ × Place). LeadsWhereFound (addition_of c.args.adding.now) x.0) same c.in_ok-check_required.ensures.ok);
+      met = c.in_ok-check_required.ensures.met;
+    }
+
+pub returns-clause-resources : goal.returns-clause-resources
+returns-clause-resources c = λ span message is.
+    let required = c.args.adding.now.handed.now.required_resource_types in
+    let at = place_of required (is.t, is.place) is.required in
+    let within : at.0 < length required = slice_get_within required at.0 (is.t, is.place) at.1 in
+    let below : at.0 < c.loop-index.index = let past = c.loop-index-test.false in let long = c.len-index-end.ensures in omega arith in
+    false≢true (sym is.no_resource ∙ c.loop-index.invariant.fine at.0 below (is.t, is.place) at.1 is.t' is.active is.found)
+
+pub loop-index-init : goal.loop-index-init
+loop-index-init c = record {
+  fine = below_none _;
+  met = right-begun c.args.adding.now.graph.now.types c.new-met.result c.new-met.ensures;
+}
+
+pub check_required-requires-clause-met : goal.check_required-requires-clause-met
+check_required-requires-clause-met c = c.loop-index.invariant.met

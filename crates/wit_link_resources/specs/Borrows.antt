@@ -1,0 +1,32 @@
+-- Which types are known to hold no borrow.
+use Rattle.std.specs.Prelude.{◌≡◌, ◌⊎◌, ℕ, true, List, Some, Contains}
+use Rattle.wit_digraph.specs.Relation.{direct}
+use Rattle.wit_data.specs.Reference.{named_option}
+use Rattle.wit_data.specs.declared.function.Function.{Function}
+use Rattle.wit_data.specs.declared.types.TypeDef.{TypeDef}
+use Rattle.wit_graph_data.specs.Questions.{held_rows}
+use Rattle.wit_link_spec.specs.Addition.{Addition}
+use Rattle.wit_link_spec.specs.Gates.{type_is_active}
+use Rattle.wit_link_spec.specs.Lookup.{found_type}
+use Rattle.wit_link_spec.specs.Reasons.{HoldsBorrow, IsBorrow, MayHoldBorrow}
+
+-- these are no bad ones, and use each other alone
+pub record AreFree (rows : List (List ℕ)) (Bad : ℕ → Type 0) (ids : List ℕ) : Type 0 where
+  pub good : (t : ℕ) → Contains ids t → Bad t → ⊥
+  pub closed : (t u : ℕ) → Contains ids t → Contains (direct rows t) u → Contains ids u
+
+-- type t of the package is a borrow, or goes to a type of the graph that holds one
+abbrev pub IsBorrowThere : Addition → ℕ → Type 0
+IsBorrowThere a t = IsBorrow a.handed.types t ⊎ ((t' : ℕ) × (type_is_active a.features a.handed.types t ≡ true) × (found_type a.graph a.handed t ≡ Some t') × HoldsBorrow a.graph.types t')
+
+-- these types of the graph hold no borrow
+abbrev pub AreFreeTypes : List TypeDef → List ℕ → Type 0
+AreFreeTypes types ids = AreFree (held_rows types) (IsBorrow types) ids
+
+-- these types of the package hold no borrow
+abbrev pub AreFreeHanded : Addition → List ℕ → Type 0
+AreFreeHanded a ids = AreFree (held_rows a.handed.types) (IsBorrowThere a) ids
+
+-- what a function returns holds no borrow
+abbrev pub ReturnsNone : Addition → Function → Type 0
+ReturnsNone a f = (t : ℕ) → Contains (named_option f.result_) t → MayHoldBorrow a t → ⊥

@@ -1,0 +1,153 @@
+//! Which types hold a borrow.
+ghost use Rattle.std.specs.Prelude.{◌≡◌, ◌++◌, ◌<◌, ◌↔◌, [], false, IfOk, IsTrue, OnOk, ℕ, length};
+ghost use Rattle.wit_digraph.specs.Relation.{IsAcyclic};
+ghost use Rattle.wit_data.specs.Reference.{type_references};
+ghost use Rattle.wit_data.specs.Shape.{IsShaped};
+ghost use Rattle.wit_data.specs.declared.types.Handle.TheVariants as handle;
+ghost use Rattle.wit_data.specs.declared.types.TypeDefKind.TheVariants as kinds;
+ghost use Rattle.wit_graph_data.specs.Questions.{held_types};
+ghost use Rattle.wit_elaboration.specs.Valid.{IsValid};
+ghost use Rattle.wit_link_spec.specs.Adding.{addition_of, places_of};
+ghost use Rattle.wit_link_spec.specs.Reasons.{HoldsBorrow, MayHoldBorrow};
+ghost use Rattle.wit_link_resources.specs.Borrows.{AreFreeHanded, AreFreeTypes, IsBorrowThere};
+
+use indexmap::IndexSet;
+use std::alloc::{AllocError, Global};
+use wit_data::{Handle, Items, TypeDef, TypeDefKind, TypeId, referred};
+use wit_link_spec::{Adding, Places};
+
+/// Types that are known to hold no borrow, as places: of the package, and of the graph.
+#[derive(Drop)]
+pub(crate) struct Free {
+    pub(crate) handed: IndexSet<usize>,
+    pub(crate) graph: IndexSet<usize>,
+}
+
+impl Free {
+    /// Nothing is known.
+    pub(crate) fn new(alloc: Global) -> Free
+        ensures handed { result.handed.keys ≡ [] }
+        ensures graph { result.graph.keys ≡ [] }
+    {
+        Free {
+            handed: IndexSet::new(alloc),
+            graph: IndexSet::new(alloc),
+        }
+    }
+}
+
+fn is_borrow(kind: &TypeDefKind) -> bool
+    ensures { IsTrue result ↔ ((r : ℕ) × (kind.now ≡ kinds.Handle (handle.Borrow r))) }
+{
+    matches!(kind, TypeDefKind::Handle(Handle::Borrow(_)))
+}
+
+/// Puts what the values of a kind hold on a stack.
+fn push_held(alloc: Global, stack: &mut Items<usize>, kind: &TypeDefKind) -> Result<(), AllocError>
+    ensures { OnOk result (stack.new ≡ stack.old ++ held_types kind.now) }
+{
+    match kind {
+        TypeDefKind::Handle(_) => Ok(()),
+        _ => push_places(stack, referred(alloc, kind)?.as_slice()),
+    }
+}
+
+fn push_places(stack: &mut Items<usize>, ids: &[TypeId]) -> Result<(), AllocError>
+    ensures { OnOk result (stack.new ≡ stack.old ++ ids.now) }
+{
+    for id in ids {
+        stack.push(id.index())?;
+    }
+    Ok(())
+}
+
+/// Whether the values of a type of a graph hold a borrow. The type is there, types refer to types that are there, and
+/// none to itself, through whatever others, as in a valid graph. `free` has types, by their places, that are known to
+/// hold none, with all that these hold; they aren't entered. Where the answer is no, more are known. After another
+/// answer, and after want of memory, which is the only error, the set isn't to be used again.
+///
+/// Source: `type_has_borrow` of wit-parser 0.263.0.
+pub fn holds_borrow(
+    alloc: Global,
+    types: &[TypeDef],
+    free: &mut IndexSet<usize>,
+    id: TypeId,
+) -> Result<bool, AllocError>
+    requires acyclic { IsAcyclic (type_references types.now) }
+    requires there { id < length types.now }
+    requires free { AreFreeTypes types.now free.old.keys }
+    ensures holds { IfOk result (λ holds. IsTrue holds ↔ HoldsBorrow types.now id) }
+    ensures free { IfOk result (λ holds. holds ≡ false → AreFreeTypes types.now free.new.keys) }
+{
+    let mut stack = Items::new(alloc);
+    stack.push(id.index())?;
+    while let Some(place) = stack.pop() {
+        if free.insert(place)? {
+            let kind = &types[place].kind;
+            if is_borrow(kind) {
+                return Ok(true);
+            }
+            push_held(alloc, &mut stack, kind)?;
+        }
+    }
+    Ok(false)
+}
+
+/// Whether a type of the package is a borrow, or goes to a type of the graph that holds one.
+fn is_borrow_there(
+    alloc: Global,
+    adding: &Adding<'_>,
+    places: &Places,
+    free: &mut IndexSet<usize>,
+    place: usize,
+) -> Result<bool, AllocError>
+    requires shaped { IsShaped adding.now.handed.now }
+    requires valid { IsValid adding.now.graph.now }
+    requires places { places.now ≡ places_of (addition_of adding.now) }
+    requires there { place < length adding.now.handed.now.types }
+    requires free { AreFreeTypes adding.now.graph.now.types free.old.keys }
+    ensures holds { IfOk result (λ holds. IsTrue holds ↔ IsBorrowThere (addition_of adding.now) place) }
+    ensures free { IfOk result (λ holds. holds ≡ false → AreFreeTypes adding.now.graph.now.types free.new.keys) }
+{
+    if place < adding.handed.unknown_type_spans.len() {
+        match *places.types.at(place) {
+            Some(found) => holds_borrow(alloc, adding.graph.types.as_slice(), free, found),
+            None => Ok(false),
+        }
+    } else {
+        Ok(is_borrow(&adding.handed.types.at(place).kind))
+    }
+}
+
+/// Whether the values of a type of the package hold a borrow, one of the package or, in a type of another
+/// package, one of the graph. What is known to hold none isn't entered, and more becomes known where it holds
+/// none: so all calls together take a step for each type that they meet and for each that one holds.
+pub(crate) fn may_hold_borrow(
+    alloc: Global,
+    adding: &Adding<'_>,
+    places: &Places,
+    free: &mut Free,
+    id: TypeId,
+) -> Result<bool, AllocError>
+    requires shaped { IsShaped adding.now.handed.now }
+    requires valid { IsValid adding.now.graph.now }
+    requires places { places.now ≡ places_of (addition_of adding.now) }
+    requires there { id < length adding.now.handed.now.types }
+    requires handed { AreFreeHanded (addition_of adding.now) free.old.handed.keys }
+    requires graph { AreFreeTypes adding.now.graph.now.types free.old.graph.keys }
+    ensures holds { IfOk result (λ holds. IsTrue holds ↔ MayHoldBorrow (addition_of adding.now) id) }
+    ensures handed { IfOk result (λ holds. holds ≡ false → AreFreeHanded (addition_of adding.now) free.new.handed.keys) }
+    ensures graph { IfOk result (λ holds. holds ≡ false → AreFreeTypes adding.now.graph.now.types free.new.graph.keys) }
+{
+    let mut stack = Items::new(alloc);
+    stack.push(id.index())?;
+    while let Some(place) = stack.pop() {
+        if free.handed.insert(place)? {
+            if is_borrow_there(alloc, adding, places, &mut free.graph, place)? {
+                return Ok(true);
+            }
+            push_held(alloc, &mut stack, &adding.handed.types.at(place).kind)?;
+        }
+    }
+    Ok(false)
+}

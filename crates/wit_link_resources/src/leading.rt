@@ -1,0 +1,105 @@
+//! Which types lead to a resource by aliases.
+ghost use Rattle.std.specs.Prelude.{◌≡◌, ◌<◌, IfOk, OnOk, length, map};
+ghost use Rattle.std.specs.List.{range_with_len};
+ghost use Rattle.wit_data.specs.Shape.{IsShaped};
+ghost use Rattle.wit_elaboration.specs.Valid.{IsValid};
+ghost use Rattle.wit_link_spec.specs.Adding.{addition_of, places_of};
+ghost use Rattle.wit_link_spec.specs.Reasons.{HasImage};
+ghost use Rattle.wit_link_spec.specs.Resources.{is_resource_kind};
+ghost use Rattle.wit_link_resources.specs.Leading.{AreRight, AreWanted, TargetIsKnown, WantsTargets, leads_if_wanted, leads_there};
+
+use crate::met::leads_to_resource;
+use std::alloc::{AllocError, Global};
+use wit_data::{Items, TypeDefKind, TypeId, alias_target};
+use wit_link_spec::{Adding, Places};
+use wit_values::Table;
+
+/// Whether a type of this kind is a resource.
+pub fn is_resource(kind: &TypeDefKind) -> bool
+    ensures { result ≡ is_resource_kind kind.now }
+{
+    matches!(kind, TypeDefKind::Resource)
+}
+
+/// The types that are asked for, and with each alias the type that it names: enough to tell which of those lead to a
+/// resource. An alias names an earlier type, so one pass from the last type to the first finds them.
+pub(crate) fn wanted(
+    alloc: Global,
+    adding: &Adding<'_>,
+    asked: &Items<bool>,
+) -> Result<Items<bool>, AllocError>
+    requires shaped { IsShaped adding.now.handed.now }
+    requires long { length asked.now ≡ length adding.now.handed.now.types }
+    ensures { IfOk result (AreWanted adding.now.handed.now.types asked.now 0) }
+{
+    let mut wanted = Items::from_vec(asked.as_slice().to_vec(alloc)?);
+    for place in (0..adding.handed.types.len()).rev() {
+        if *wanted.at(place) {
+            if let Some(target) = alias_target(&adding.handed.types.at(place).kind) {
+                wanted.set(target.index(), true);
+            }
+        }
+    }
+    Ok(wanted)
+}
+
+/// For each type of the package, whether it is wanted, takes part and leads to a resource where it goes. What isn't
+/// wanted isn't looked at.
+pub(crate) fn leading(
+    alloc: Global,
+    adding: &Adding<'_>,
+    places: &Places,
+    wanted: &Items<bool>,
+) -> Result<Items<bool>, AllocError>
+    requires shaped { IsShaped adding.now.handed.now }
+    requires valid { IsValid adding.now.graph.now }
+    requires places { places.now ≡ places_of (addition_of adding.now) }
+    requires image { HasImage (addition_of adding.now) }
+    requires long { length wanted.now ≡ length adding.now.handed.now.types }
+    requires closed { WantsTargets adding.now.handed.now.types 0 wanted.now }
+    ensures { IfOk result (λ leading. leading ≡ map (leads_if_wanted (addition_of adding.now) wanted.now) (range_with_len 0 (length adding.now.handed.now.types))) }
+{
+    let mut met = Table::new(alloc);
+    let mut leading = Items::new(alloc);
+    for place in 0..adding.handed.types.len() {
+        let leads = if *wanted.at(place) {
+            leads_there(adding, places, &mut met, &leading, place)?
+        } else {
+            false
+        };
+        leading.push(leads)?;
+    }
+    Ok(leading)
+}
+
+/// The same of one type that is wanted, where it is known of what it names as an alias, and of the types of the graph
+/// that were met.
+fn leads_there(
+    adding: &Adding<'_>,
+    places: &Places,
+    met: &mut Table<TypeId, bool>,
+    earlier: &Items<bool>,
+    place: usize,
+) -> Result<bool, AllocError>
+    requires shaped { IsShaped adding.now.handed.now }
+    requires valid { IsValid adding.now.graph.now }
+    requires places { places.now ≡ places_of (addition_of adding.now) }
+    requires image { HasImage (addition_of adding.now) }
+    requires there { place < length adding.now.handed.now.types }
+    requires earlier { TargetIsKnown (addition_of adding.now) earlier.now place }
+    requires met { AreRight adding.now.graph.now.types met.old }
+    ensures leads { IfOk result (λ leads. leads ≡ leads_there (addition_of adding.now) place) }
+    ensures met { OnOk result (AreRight adding.now.graph.now.types met.new) }
+{
+    let Some(id) = *places.types.at(place) else {
+        return Ok(false);
+    };
+    if place < adding.handed.unknown_type_spans.len() {
+        return leads_to_resource(adding.graph.types.as_slice(), met, id);
+    }
+    let kind = &adding.handed.types.at(place).kind;
+    Ok(match alias_target(kind) {
+        Some(target) => *earlier.at(target.index()),
+        None => is_resource(kind),
+    })
+}

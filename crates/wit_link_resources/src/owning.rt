@@ -1,0 +1,135 @@
+//! Where types go at value positions, and the `own`s that come for that.
+ghost use Rattle.std.specs.Prelude.{◌≡◌, ◌+◌, ◌^◌, ◌≤◌, ◌<◌, IfOk, Option, Some, length, map, slice_get, unwrap_or, ℕ};
+ghost use Rattle.std.specs.List.{range_with_len};
+ghost use Rattle.wit_data.specs.Shape.{IsShaped};
+ghost use Rattle.wit_elaboration.specs.Valid.{IsValid};
+ghost use Rattle.wit_link_spec.specs.Adding.{activity_of, addition_of, places_of, values_of};
+ghost use Rattle.wit_link_spec.specs.Addition.{needs_own, own_types};
+ghost use Rattle.wit_link_spec.specs.Reasons.{HasImage};
+ghost use Rattle.wit_link_spec.specs.Resources.{own_of};
+
+use crate::asked::asked;
+use crate::leading::{leading, wanted};
+use std::alloc::{AllocError, Global};
+use wit_data::{Docs, Handle, Items, Span, Stability, TypeDef, TypeDefKind, TypeId, TypeOwner};
+use wit_link_spec::{Activity, Adding, Places, Values};
+
+/// Where types go at value positions, and the `own`s that come for that. The package has its shape, the graph is valid,
+/// what takes part of the package and where it goes is told by `activity` of wit_link_features and `places` of wit_link_foreign, and
+/// none of 1 to 3 and 9 to 13 speaks against the addition. The only error is want of memory.
+///
+/// It takes a step for each part of the package, and for each alias of the graph on the way from the types of other
+/// packages that values ask for, themselves or through aliases of the package.
+///
+/// Source: `update_ty` of wit-parser 0.263.0.
+pub fn values(
+    alloc: Global,
+    adding: &Adding<'_>,
+    activity: &Activity,
+    places: &Places,
+) -> Result<Values, AllocError>
+    requires shaped { IsShaped adding.now.handed.now }
+    requires valid { IsValid adding.now.graph.now }
+    requires activity { activity.now ≡ activity_of (addition_of adding.now) }
+    requires places { places.now ≡ places_of (addition_of adding.now) }
+    requires image { HasImage (addition_of adding.now) }
+    ensures { IfOk result (λ values. values ≡ values_of (addition_of adding.now)) }
+{
+    let needed = needed(alloc, adding, activity, places)?;
+    let first = first_own(adding, activity);
+    let mut value_places = Items::new(alloc);
+    let mut owns = Items::new(alloc);
+    for place in 0..needed.len() {
+        let id = type_place(places, place);
+        if *needed.at(place) {
+            value_places.push(TypeId::from_index(first + owns.len()))?;
+            owns.push(own_of(id))?;
+        } else {
+            value_places.push(id)?;
+        }
+    }
+    Ok(Values {
+        places: value_places,
+        owns,
+    })
+}
+
+/// For each type of the package, whether a value asks for an `own` of it.
+fn needed(
+    alloc: Global,
+    adding: &Adding<'_>,
+    activity: &Activity,
+    places: &Places,
+) -> Result<Items<bool>, AllocError>
+    requires shaped { IsShaped adding.now.handed.now }
+    requires valid { IsValid adding.now.graph.now }
+    requires activity { activity.now ≡ activity_of (addition_of adding.now) }
+    requires places { places.now ≡ places_of (addition_of adding.now) }
+    requires image { HasImage (addition_of adding.now) }
+    ensures { IfOk result (λ needed. needed ≡ map (needs_own (addition_of adding.now)) (range_with_len 0 (length adding.now.handed.now.types))) }
+{
+    let asked = asked(alloc, adding, activity)?;
+    let wanted = wanted(alloc, adding, &asked)?;
+    let leading = leading(alloc, adding, places, &wanted)?;
+    let mut needed = Items::new(alloc);
+    for place in 0..asked.len() {
+        needed.push(*asked.at(place) && *leading.at(place))?;
+    }
+    Ok(needed)
+}
+
+/// The id of the first `own`: it comes behind the types of the graph and those that the package adds.
+fn first_own(adding: &Adding<'_>, activity: &Activity) -> usize
+    requires shaped { IsShaped adding.now.handed.now }
+    requires activity { activity.now ≡ activity_of (addition_of adding.now) }
+    ensures first { result ≡ length adding.now.graph.now.types + length (own_types (addition_of adding.now)) }
+    ensures room { result + length adding.now.handed.now.types < 2 ^ 64 }
+{
+    adding.graph.types.as_slice().len() + count_own(adding, activity)
+}
+
+/// How many types of its own the package adds.
+fn count_own(adding: &Adding<'_>, activity: &Activity) -> usize
+    requires shaped { IsShaped adding.now.handed.now }
+    requires activity { activity.now ≡ activity_of (addition_of adding.now) }
+    ensures count { result ≡ length (own_types (addition_of adding.now)) }
+    ensures within { result ≤ length adding.now.handed.now.types }
+    ensures small { length adding.now.handed.now.types < 2 ^ 62 }
+{
+    let types = adding.handed.types.as_slice();
+    let mut count = 0;
+    for place in adding.handed.unknown_type_spans.len()..types.len() {
+        if *activity.types.at(place) {
+            count += 1;
+        }
+    }
+    count
+}
+
+/// Where the type at a place of the package goes, which is that of one of its types; one that goes nowhere stays.
+pub fn type_place(places: &Places, place: usize) -> TypeId
+    requires { place < length places.now.types }
+    ensures { (o : Option ℕ) → slice_get places.now.types place ≡ Some o → result ≡ unwrap_or o place }
+{
+    match *places.types.at(place) {
+        Some(id) => id,
+        None => TypeId::from_index(place),
+    }
+}
+
+/// The unnamed `own` of a type.
+///
+/// Source: `update_ty` of wit-parser 0.263.0.
+pub fn own_of(id: TypeId) -> TypeDef
+    ensures { result ≡ own_of id }
+{
+    TypeDef {
+        name: None,
+        kind: TypeDefKind::Handle(Handle::Own(id)),
+        owner: TypeOwner::None,
+        docs: Docs::none(),
+        stability: Stability::Unknown,
+        span: Span::unknown(),
+        external_id: None,
+    }
+}

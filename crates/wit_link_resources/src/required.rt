@@ -1,0 +1,68 @@
+//! Types that have to be resources.
+ghost use Rattle.std.specs.Prelude.{◌≡◌, ◌⊎◌, Contains, IfErr, OnOk};
+ghost use Rattle.wit_data.specs.Shape.{IsShaped};
+ghost use Rattle.wit_elaboration.specs.Valid.{IsValid};
+ghost use Rattle.wit_graph_data.specs.declared.error_kind.ResolveErrorKind.TheVariants.{OutOfMemory};
+ghost use Rattle.wit_link_spec.specs.Adding.{addition_of, places_of};
+ghost use Rattle.wit_link_spec.specs.Cause.{IsCause};
+ghost use Rattle.wit_link_spec.specs.Passed.{HasResources};
+ghost use Rattle.wit_link_resources.specs.Leading.{AreRight, LeadsWhereFound};
+
+use crate::met::leads_to_resource;
+use crate::refusal::not_a_resource;
+use std::alloc::Global;
+use wit_data::{Span, TypeId};
+use wit_graph_data::ResolveResult;
+use wit_link_spec::{Adding, Places};
+use wit_values::Table;
+
+/// Refuses a type that has to be a resource and doesn't lead to one (14). The package has its
+/// shape, the graph is valid, and where things go is told by `places` of wit_link_foreign. A place that
+/// would be told and ends past 4294967295 is refused (27), and else want of memory (28) alone.
+///
+/// It takes a step for each such type, and for each alias of the graph on the way to what they
+/// name.
+///
+/// Source: `process_foreign_deps` of wit-parser 0.263.0.
+pub fn check_resources(alloc: Global, adding: &Adding<'_>, places: &Places) -> ResolveResult<()>
+    requires shaped { IsShaped adding.now.handed.now }
+    requires valid { IsValid adding.now.graph.now }
+    requires places { places.now ≡ places_of (addition_of adding.now) }
+    ensures resources { OnOk result (HasResources (addition_of adding.now)) }
+    ensures cause { IfErr result (λ kind. (kind ≡ OutOfMemory) ⊎ IsCause (addition_of adding.now) kind) }
+{
+    let mut met = Table::new(alloc);
+    for index in 0..adding.handed.required_resource_types.len() {
+        let (id, span) = *adding.handed.required_resource_types.at(index);
+        check_required(alloc, adding, places, &mut met, id, span)?;
+    }
+    Ok(())
+}
+
+/// Refuses one type, where it is found in the graph and doesn't lead to a resource there.
+fn check_required(
+    alloc: Global,
+    adding: &Adding<'_>,
+    places: &Places,
+    met: &mut Table<TypeId, bool>,
+    id: TypeId,
+    span: Span,
+) -> ResolveResult<()>
+    requires shaped { IsShaped adding.now.handed.now }
+    requires valid { IsValid adding.now.graph.now }
+    requires places { places.now ≡ places_of (addition_of adding.now) }
+    requires met { AreRight adding.now.graph.now.types met.old }
+    requires required { Contains adding.now.handed.now.required_resource_types (id, span) }
+    ensures ok { OnOk result (LeadsWhereFound (addition_of adding.now) id) }
+    ensures cause { IfErr result (λ kind. (kind ≡ OutOfMemory) ⊎ IsCause (addition_of adding.now) kind) }
+    ensures met { OnOk result (AreRight adding.now.graph.now.types met.new) }
+{
+    let Some(found) = *places.types.at(id.index()) else {
+        return Ok(());
+    };
+    let leads = leads_to_resource(adding.graph.types.as_slice(), met, found)?;
+    if leads {
+        return Ok(());
+    }
+    Err(not_a_resource(alloc, span, adding.offset)?)
+}

@@ -1,0 +1,147 @@
+-- Feature gates: which things of an unresolved package take part, which are excluded, and whose gates are
+-- asked. A gate is a note on an item: none, `@since(version = ..)`, or `@unstable(feature = ..)`, of which
+-- the deprecation is never asked. A foreign interface or world has several notes, those of the places that
+-- name it.
+-- Source: the WIT page of the component model, "Feature gates"; `include_stability` of wit-parser 0.263.0.
+pub use Rattle.wit_link_order.specs.Sorting.{Place}
+use Rattle.std.specs.Prelude.{◌≡◌, ◌⊎◌, ◌||◌, ℕ, suc, Bool, true, false, List, [], ◌∷◌, length, take, nat_eq, nat_lt, slice_get, Some, Contains, if◌then◌else◌}
+use Rattle.std.specs.List.{flat_map, list_any, position_or_len}
+use Rattle.std.specs.Option.{option_map_or}
+use Rattle.std.specs.Str.{bytes_eq}
+use Rattle.wit_data.specs.Foreign.{ForeignItem, ForeignItems, interface_id, world_id, foreign_interfaces, foreign_worlds}
+use Rattle.wit_data.specs.Entries.{Entry}
+use Rattle.wit_data.specs.declared.function.Function.{Function}
+use Rattle.wit_data.specs.declared.interface.Interface.{Interface}
+use Rattle.wit_data.specs.declared.package_name.PackageName.{PackageName}
+use Rattle.wit_data.specs.declared.stability.Stability.{Stability}
+use Rattle.wit_data.specs.declared.stability.Stability.TheVariants.{Unknown, Stable, Unstable}
+use Rattle.wit_data.specs.declared.types.TypeDef.{TypeDef}
+use Rattle.wit_data.specs.declared.unresolved.AstItem.{AstItem}
+use Rattle.wit_data.specs.declared.unresolved.UnresolvedPackage.{UnresolvedPackage}
+use Rattle.wit_data.specs.declared.world.World.{World}
+use Rattle.wit_data.specs.declared.world.WorldInclude.{WorldInclude}
+use Rattle.wit_data.specs.declared.world.WorldItem.{WorldItem}
+use Rattle.wit_data.specs.declared.world.WorldItem.TheVariants as item
+use Rattle.wit_graph_data.specs.declared.features.Features.{Features}
+
+-- ---- notes
+
+-- the feature is on
+abbrev pub is_on : Features → List ℕ → Bool
+is_on features feature = features.all || list_any (bytes_eq feature) features.names
+
+-- the note lets its item take part. A `@since` does: one that the package's version doesn't reach is a
+-- fault of its own, and no reason to leave the item out
+abbrev pub is_active : Features → Stability → Bool
+is_active features Unknown = true
+is_active features (Stable since deprecated) = true
+is_active features (Unstable feature deprecated) = is_on features feature
+
+-- some note lets the item take part
+abbrev pub some_active : Features → List Stability → Bool
+some_active features notes = list_any (is_active features) notes
+
+-- of several notes those that are asked: in order, up to the first active one
+abbrev pub asked_notes : Features → List Stability → List Stability
+asked_notes features notes = take (suc (position_or_len (is_active features) notes)) notes
+
+-- ---- the notes of interfaces and worlds
+
+-- what is named of other packages, one after another
+abbrev pub foreign_items : ForeignItems → List ForeignItem
+foreign_items deps = flat_map (λ (e : PackageName × List ForeignItem). e.1) deps
+
+-- the notes of a foreign item that has this id among those of its sort
+abbrev pub notes_of_foreign : (AstItem → List ℕ) → ForeignItems → ℕ → List Stability
+notes_of_foreign id deps i = flat_map (λ (named : ForeignItem). if list_any (nat_eq i) (id named.1.0) then named.1.1 else []) (foreign_items deps)
+
+-- is interface i of the package one of another package? So for worlds
+abbrev pub is_foreign_interface : UnresolvedPackage → ℕ → Bool
+is_foreign_interface u i = nat_lt i (length (foreign_interfaces u.foreign_deps))
+
+-- is world w of the package one of another package?
+abbrev pub is_foreign_world : UnresolvedPackage → ℕ → Bool
+is_foreign_world u w = nat_lt w (length (foreign_worlds u.foreign_deps))
+
+-- the notes of interface i: of a foreign one those of the places that name it, else its own
+abbrev pub interface_notes : UnresolvedPackage → ℕ → List Stability
+interface_notes u i =
+    if is_foreign_interface u i then notes_of_foreign interface_id u.foreign_deps i
+    else option_map_or (λ (interface : Interface). interface.stability ∷ []) (slice_get u.interfaces i) []
+
+-- the notes of world w
+abbrev pub world_notes : UnresolvedPackage → ℕ → List Stability
+world_notes u w =
+    if is_foreign_world u w then notes_of_foreign world_id u.foreign_deps w
+    else option_map_or (λ (world : World). world.stability ∷ []) (slice_get u.worlds w) []
+
+-- ---- what takes part
+
+-- a type takes part where its note is active, whatever its owner's is
+abbrev pub type_is_active : Features → List TypeDef → ℕ → Bool
+type_is_active features types t = option_map_or (λ (def : TypeDef). is_active features def.stability) (slice_get types t) false
+
+-- does interface i take part?
+abbrev pub interface_is_active : Features → UnresolvedPackage → ℕ → Bool
+interface_is_active features u i = some_active features (interface_notes u i)
+
+-- does world w take part?
+abbrev pub world_is_active : Features → UnresolvedPackage → ℕ → Bool
+world_is_active features u w = some_active features (world_notes u w)
+
+-- a function of an interface, or of a world, that takes part does so where its note is active
+abbrev pub function_is_active : Features → Function → Bool
+function_is_active features f = is_active features f.stability
+
+-- an entry of a world that takes part does so where its note is active; an entry that is a type has the
+-- note of the type
+abbrev pub item_is_active : Features → List TypeDef → WorldItem → Bool
+item_is_active features types (item.Interface id stability docs span external_id) = is_active features stability
+item_is_active features types (item.Function function) = function_is_active features function
+item_is_active features types (item.Type_ id span) = type_is_active features types id
+
+-- an include of a world that takes part does so where its note is active
+abbrev pub include_is_active : Features → WorldInclude → Bool
+include_is_active features i = is_active features i.stability
+
+-- the package leaves out type t
+abbrev pub IsExcludedType : Features → UnresolvedPackage → ℕ → Type 0
+IsExcludedType features u t = type_is_active features u.types t ≡ false
+
+-- the package leaves out interface i
+abbrev pub IsExcludedInterface : Features → UnresolvedPackage → ℕ → Type 0
+IsExcludedInterface features u i = interface_is_active features u i ≡ false
+
+-- the package leaves out world w
+abbrev pub IsExcludedWorld : Features → UnresolvedPackage → ℕ → Type 0
+IsExcludedWorld features u w = world_is_active features u w ≡ false
+
+-- ---- what is asked
+
+-- a world imports or exports the entry
+abbrev pub HasEntry : World → Entry → Type 0
+HasEntry world e = Contains world.imports e ⊎ Contains world.exports e
+
+-- the note of an entry that has one of its own, and its place
+abbrev pub HasNote : WorldItem → Stability → Place → Type 0
+HasNote (item.Interface id stability docs span external_id) note place = (note ≡ stability) × (place ≡ span)
+HasNote (item.Function function) note place = (note ≡ function.stability) × (place ≡ function.span)
+HasNote (item.Type_ id span) note place = ⊥
+
+-- the notes that are asked, each with the place of its item
+pub data IsAsked (features : Features) (u : UnresolvedPackage) : Stability → Place → Type 0 where
+  -- those of all types, also of foreign ones and of those whose owner is excluded
+  of_type : (t : ℕ) (def : TypeDef) → slice_get u.types t ≡ Some def → IsAsked features u def.stability def.span
+  -- those of interfaces and worlds: of foreign ones up to the first active note
+  of_interface : (i : ℕ) (interface : Interface) (note : Stability) → slice_get u.interfaces i ≡ Some interface
+      → Contains (asked_notes features (interface_notes u i)) note → IsAsked features u note interface.span
+  of_world : (w : ℕ) (world : World) (note : Stability) → slice_get u.worlds w ≡ Some world
+      → Contains (asked_notes features (world_notes u w)) note → IsAsked features u note world.span
+  -- those of the functions of interfaces that take part
+  of_function : (i : ℕ) (interface : Interface) (name : List ℕ) (f : Function) → slice_get u.interfaces i ≡ Some interface → interface_is_active features u i ≡ true
+      → Contains interface.functions (name, f) → IsAsked features u f.stability f.span
+  -- those of the entries and the includes of worlds that take part
+  of_entry : (w : ℕ) (world : World) (e : Entry) (note : Stability) (place : Place) → slice_get u.worlds w ≡ Some world → world_is_active features u w ≡ true
+      → HasEntry world e → HasNote e.1 note place → IsAsked features u note place
+  of_include : (w : ℕ) (world : World) (i : WorldInclude) → slice_get u.worlds w ≡ Some world → world_is_active features u w ≡ true
+      → Contains world.includes i → IsAsked features u i.stability i.span

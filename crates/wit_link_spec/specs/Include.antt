@@ -1,0 +1,163 @@
+-- What an `include` makes of a world: the entries of the included world join its own, those under labels
+-- as copies with fresh ids, so that no two worlds have a type or an interface without a name in common.
+-- Source: the WIT page of the component model, "include"; `resolve_include` of wit-parser 0.263.0. What is
+-- copied is a rule of this project.
+use Rattle.std.specs.Prelude.{ℕ, ◌+◌, ◌&&◌, ◌||◌, Bool, not, true, false, List, [], ◌∷◌, ◌++◌, map, filter, length, nat_eq, is_some, slice_get, Option, Some, if◌then◌else◌}
+use Rattle.std.specs.List.{flat_map, list_any}
+use Rattle.std.specs.Map.{lookup}
+use Rattle.std.specs.Option.{option_eq, option_map_or}
+use Rattle.wit_digraph.specs.Walks.{walk}
+use Rattle.wit_data.specs.Entries.{Entry, is_unnamed, placed_interfaces}
+use Rattle.wit_data.specs.Reference.{function_references, type_references}
+use Rattle.wit_data.specs.declared.function.Function.{Function}
+use Rattle.wit_data.specs.declared.interface.Interface.{Interface}
+use Rattle.wit_data.specs.declared.stability.Stability.{Stability}
+use Rattle.wit_data.specs.declared.stability.Stability.TheVariants.{Unknown, Stable}
+use Rattle.wit_data.specs.declared.types.TypeDef.{TypeDef}
+use Rattle.wit_data.specs.declared.types.TypeOwner.{TypeOwner}
+use Rattle.wit_data.specs.declared.types.TypeOwner.TheVariants as owner
+use Rattle.wit_data.specs.declared.world.IncludeName.{IncludeName}
+use Rattle.wit_data.specs.declared.world.World.{World}
+use Rattle.wit_data.specs.declared.world.WorldItem.{WorldItem}
+use Rattle.wit_data.specs.declared.world.WorldItem.TheVariants as item
+use Rattle.wit_data.specs.declared.world.WorldKey.{WorldKey}
+use Rattle.wit_data.specs.declared.world.WorldKey.TheVariants as key
+use Rattle.wit_elaboration.specs.Entries.{same_key}
+use Rattle.wit_graph_data.specs.declared.graph.Graph.{Graph}
+use Rattle.wit_graph_theory.specs.Image.{Maps, entry_image, interface_image, type_image}
+use Rattle.wit_graph_theory.specs.Operations.{include_maps}
+use Rattle.wit_link_spec.specs.Ranks.{rank, taken}
+use Rattle.wit_labels.specs.Rename.{renamed}
+
+-- the two lists of a world
+pub record Lists : Type 0 where
+  pub imports : List Entry
+  pub exports : List Entry
+
+abbrev pub lists_of : World → Lists
+lists_of world = record { imports = world.imports; exports = world.exports }
+
+-- ---- what is copied
+
+-- the interfaces without a name that stand in a world: they go with it
+abbrev pub goes_with : Graph → World → ℕ → Bool
+goes_with g world i = is_unnamed g.interfaces i && list_any (nat_eq i) (placed_interfaces (world ∷ []))
+
+-- does an owner go with world w?
+abbrev pub owner_goes_with : Graph → ℕ → World → TypeOwner → Bool
+owner_goes_with g w world (owner.World v) = nat_eq v w
+owner_goes_with g w world (owner.Interface i) = goes_with g world i
+owner_goes_with g w world owner.None = false
+
+-- is type t owned by such an owner?
+abbrev pub is_owned_with : Graph → ℕ → World → ℕ → Bool
+is_owned_with g w world t = option_map_or (λ (def : TypeDef). owner_goes_with g w world def.owner) (slice_get g.types t) false
+
+-- the types that an interface names: those of its list, and those that its functions refer to
+abbrev pub interface_mentions : Interface → List ℕ
+interface_mentions interface = map (λ (e : List ℕ × ℕ). e.1) interface.types ++ flat_map (λ (e : List ℕ × Function). function_references e.1) interface.functions
+
+-- the types that an entry names: itself where it is a type, those that its function refers to, those of an
+-- interface that goes with the world
+abbrev pub entry_mentions : Graph → World → Entry → List ℕ
+entry_mentions g world (k, item.Interface i stability docs span external_id) = if goes_with g world i then option_map_or interface_mentions (slice_get g.interfaces i) [] else []
+entry_mentions g world (k, item.Function f) = function_references f
+entry_mentions g world (k, item.Type_ t span) = t ∷ []
+
+-- the types that a world's entries name, and all that these refer to, through whatever others
+abbrev pub mentioned : Graph → World → List ℕ
+mentioned g world = flat_map (walk (type_references g.types)) (flat_map (entry_mentions g world) (world.imports ++ world.exports))
+
+-- has type t no name?
+abbrev pub is_unnamed_type : Graph → ℕ → Bool
+is_unnamed_type g t = option_map_or (λ (def : TypeDef). not (is_some def.name)) (slice_get g.types t) false
+
+-- does an include of world w copy type t? It does where the world's entries name it and it goes with the
+-- world, or has no name and refers to one that does
+abbrev pub is_copied : Graph → ℕ → World → ℕ → Bool
+is_copied g w world t =
+    list_any (nat_eq t) (mentioned g world)
+    && (is_owned_with g w world t || (is_unnamed_type g t && list_any (is_owned_with g w world) (walk (type_references g.types) t)))
+
+-- where things go: what is copied to its copy, behind what is there in the order of the ids; all else stays
+abbrev pub type_copy : Graph → ℕ → World → ℕ → ℕ
+type_copy g w world t = if is_copied g w world t then length g.types + rank (is_copied g w world) t else t
+
+abbrev pub interface_copy : Graph → World → ℕ → ℕ
+interface_copy g world i = if goes_with g world i then length g.interfaces + rank (goes_with g world) i else i
+
+-- the maps of an include of world `from` into world `into` of package `home`, under these renamings
+abbrev pub copy_maps : Graph → ℕ → World → List IncludeName → ℕ → ℕ → Maps
+copy_maps g from world names into home = include_maps (type_copy g from world) (interface_copy g world) (renamed names) from into home
+
+-- the graph with the copies at its ends
+abbrev pub with_copies : Graph → ℕ → World → Maps → Graph
+with_copies g from world m = record g {
+  types = g.types ++ map (type_image m) (taken (is_copied g from world) g.types);
+  interfaces = g.interfaces ++ map (interface_image m) (taken (goes_with g world) g.interfaces);
+}
+
+-- ---- joined stabilities
+
+-- a known stability replaces an unknown one
+abbrev pub joined_stability : Stability → Stability → Stability
+joined_stability Unknown into = into
+joined_stability from into = from
+
+-- the same under an include: the `@since` of a world of another package says nothing here, and leaves
+-- what it joins unknown
+abbrev pub include_stability : Bool → Stability → Stability → Stability
+include_stability true (Stable since deprecated) into = Unknown
+include_stability other from into = joined_stability from into
+
+-- ---- joined lists
+
+-- an interface that stands under its own key, with a stability joined to it
+abbrev pub joined_item : Bool → WorldItem → WorldItem → WorldItem
+joined_item other (item.Interface i from docs span external_id) (item.Interface i' into docs' span' external_id') = item.Interface i' (include_stability other from into) docs' span' external_id'
+joined_item other from into = into
+
+-- an entry that is there keeps all but its stability, which that of a brought entry of its key joins
+abbrev pub joined_entry : Bool → List Entry → Entry → Entry
+joined_entry other brought e = (e.0, option_map_or (λ (from : WorldItem). joined_item other from e.1) (lookup (same_key e.0) brought) e.1)
+
+-- does a list have an entry under this key?
+abbrev pub has_key : List Entry → WorldKey → Bool
+has_key entries k = list_any (λ (e : Entry). same_key k e.0) entries
+
+-- an entry that comes anew: under the key of an interface a `@since` of another package is dropped
+abbrev pub new_item : Bool → WorldKey → WorldItem → WorldItem
+new_item true (key.Interface k) (item.Interface i (Stable since deprecated) docs span external_id) = item.Interface i Unknown docs span external_id
+new_item other k held = held
+
+-- a list with brought entries added to it: those that were there stay in front
+abbrev pub joined : Bool → List Entry → List Entry → List Entry
+joined other current brought =
+    map (joined_entry other brought) current ++ map (λ (e : Entry). (e.0, new_item other e.0 e.1)) (filter (λ (e : Entry). not (has_key current e.0)) brought)
+
+-- ---- the include
+
+-- a graph on its way, and the lists of the world that comes next
+pub record Begun : Type 0 where
+  pub graph : Graph
+  pub lists : Lists
+
+-- is the included world of another package?
+abbrev pub is_other_package : Option ℕ → ℕ → Bool
+is_other_package there home = not (option_eq nat_eq there (Some home))
+
+-- with world `from` included into world `into` of package `home`
+abbrev pub with_world_included : ℕ → ℕ → List IncludeName → ℕ → World → Begun → Begun
+with_world_included home into names from world b =
+    let m = copy_maps b.graph from world names into home in
+    record {
+      graph = with_copies b.graph from world m;
+      lists = record {
+        imports = joined (is_other_package world.package home) b.lists.imports (map (entry_image m from) world.imports);
+        exports = joined (is_other_package world.package home) b.lists.exports (map (entry_image m from) world.exports);
+      };
+    }
+
+-- the same of a world that may not be there
+abbrev pub included : ℕ → ℕ → List IncludeName → ℕ → Begun → Begun
+included home into names from b = option_map_or (λ (world : World). with_world_included home into names from world b) (slice_get b.graph.worlds from) b

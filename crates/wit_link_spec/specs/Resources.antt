@@ -1,0 +1,51 @@
+-- Which types are resources or other names of resources, and where values ask for an unnamed `own`: a value
+-- whose type leads to a resource is written `own` of it.
+-- Source: `update_ty` of wit-parser 0.263.0; handles on the WIT page of the component model.
+use Rattle.std.specs.Prelude.{ℕ, Bool, true, false, List, [], ◌++◌, slice_get, None}
+use Rattle.std.specs.List.{flat_map, list_any}
+use Rattle.std.specs.Option.{option_map_or}
+use Rattle.wit_digraph.specs.Walks.{walk}
+use Rattle.wit_data.specs.Reference.{named_option, named_type, referred}
+use Rattle.wit_data.specs.declared.function.Function.{Function}
+use Rattle.wit_data.specs.declared.function.Param.{Param}
+use Rattle.wit_data.specs.declared.stability.Stability.TheVariants as stability
+use Rattle.wit_data.specs.declared.types.Handle.TheVariants.{Own}
+use Rattle.wit_data.specs.declared.types.TypeDef.{TypeDef}
+use Rattle.wit_data.specs.declared.types.TypeDefKind.{TypeDefKind}
+use Rattle.wit_data.specs.declared.types.TypeDefKind.TheVariants as kind
+use Rattle.wit_data.specs.declared.types.TypeOwner.TheVariants as owner
+use Rattle.wit_graph_theory.specs.Sources.{alias_rows}
+
+abbrev pub is_resource_kind : TypeDefKind → Bool
+is_resource_kind kind.Resource = true
+is_resource_kind _ = false
+
+-- is type t a resource?
+abbrev pub is_resource : List TypeDef → ℕ → Bool
+is_resource types t = option_map_or (λ (def : TypeDef). is_resource_kind def.kind) (slice_get types t) false
+
+-- is type t a resource, or does it lead to one by aliases?
+abbrev pub leads_to_resource : List TypeDef → ℕ → Bool
+leads_to_resource types t = list_any (is_resource types) (walk (alias_rows types) t)
+
+-- the types at the value positions of a kind: all that it names, but not what an alias or a handle names
+abbrev pub value_positions : TypeDefKind → List ℕ
+value_positions (kind.Handle handle) = []
+value_positions (kind.Type_ ty) = []
+value_positions other = referred other
+
+-- those of a function: its parameters and its result
+abbrev pub signature_positions : Function → List ℕ
+signature_positions f = flat_map (λ (p : Param). named_type p.ty) f.params ++ named_option f.result_
+
+-- the unnamed `own` of a type
+abbrev pub own_of : ℕ → TypeDef
+own_of t = record {
+  name = None;
+  kind = kind.Handle (Own t);
+  owner = owner.None;
+  docs = record { contents = None };
+  stability = stability.Unknown;
+  span = None;
+  external_id = None;
+}

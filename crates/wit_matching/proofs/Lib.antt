@@ -1,5 +1,0 @@
-pub mod Mapped
-pub mod Matched
-mod Next
-pub mod Noted
-pub mod TypesFound

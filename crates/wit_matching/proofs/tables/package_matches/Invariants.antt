@@ -1,9 +1,0 @@
-use Rattle.std.proofs.Common.{◌≡◌, map, take}
-use Rattle.std.specs.Map.{lookup}
-use Rattle.wit_items.specs.PackageOrder.{same_package}
-use Rattle.wit_graph.specs.declared.graph.Package.{Package}
-use Rattle.wit_matching.proofs.tables.package_matches.Given as goal
-
--- those of the first ones
-abbrev pub invariant-loop-index : goal.invariant-loop-index
-invariant-loop-index l = l.found ≡ map (λ (home : Package). lookup (same_package home.name) l.graph.package_names) (take l.index l.other.packages)

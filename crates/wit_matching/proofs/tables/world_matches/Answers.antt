@@ -1,8 +1,0 @@
-use Rattle.std.proofs.Common.{sym}
-use Rattle.wit_values.specs.Lists.{map-next}
-use Rattle.wit_matching.specs.Found.{world_under}
-use Rattle.wit_matching.proofs.tables.world_matches.Goals as goal
-
-pub loop-index-preserved : goal.loop-index-preserved
-loop-index-preserved c =
-    rw (c.in_ok-push.ensures.ok, c.loop-index.invariant, c.world_in.ensures, c.as_str.ensures, c.package_beside-home.ensures) (sym (map-next (world_under c.args.graph.now c.args.packages.now) _ _ _ c.at-world.ensures))

@@ -1,7 +1,0 @@
-use Rattle.std.proofs.Common.{◌≡◌, map, take}
-use Rattle.wit_matching.specs.Found.{world_under}
-use Rattle.wit_matching.proofs.tables.world_matches.Given as goal
-
--- those of the first ones
-abbrev pub invariant-loop-index : goal.invariant-loop-index
-invariant-loop-index l = l.found ≡ map (world_under l.graph l.packages) (take l.index l.other.worlds)

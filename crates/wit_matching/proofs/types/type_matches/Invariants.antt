@@ -1,7 +1,0 @@
-use Rattle.std.proofs.Common.{◌≡◌, map, take}
-use Rattle.wit_matching.specs.Found.{type_under}
-use Rattle.wit_matching.proofs.types.type_matches.Given as goal
-
--- those of the first ones
-abbrev pub invariant-loop-index : goal.invariant-loop-index
-invariant-loop-index l = l.found ≡ map (type_under l.graph l.worlds l.interfaces) (take l.index l.other.types)

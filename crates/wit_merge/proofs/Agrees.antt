@@ -1,0 +1,82 @@
+-- What a mover of a merge makes of what a valid graph names is what the maps of the merge make of it.
+use Rattle.std.proofs.Common.{◌≡◌, ◌∙◌, ℕ, ◌<◌, List, Option, Some, length, map, slice_get, unwrap_or, refl, sym, ap, option_map, Contains}
+use Rattle.std.specs.List.{range_with_len}
+use Rattle.wit_data.specs.Entries.{Entry}
+use Rattle.wit_data.specs.declared.function.Function.{Function}
+use Rattle.wit_data.specs.declared.interface.Interface.{Interface}
+use Rattle.wit_data.specs.declared.types.TypeDef.{TypeDef}
+use Rattle.wit_data.specs.declared.world.WorldItem.{WorldItem}
+use Rattle.wit_data.specs.declared.world.WorldItem.TheVariants as item
+use Rattle.wit_data.specs.declared.world.WorldKey.{WorldKey}
+use Rattle.wit_data.specs.declared.world.WorldKey.TheVariants as key
+use Rattle.wit_graph_theory.specs.Image.{entry_image, function_image, interface_image, item_image, key_image, type_image}
+use Rattle.wit_link_spec.specs.RangeFacts.{range-at}
+use Rattle.wit_remap.specs.Movers.{goes, id_or, maps_of}
+use Rattle.wit_remap.specs.declared.mover.Mover.{Mover}
+use Rattle.wit_merge_spec.specs.Matches.{Merging}
+use Rattle.wit_merge_spec.specs.Moved.{interface_place, merge_maps, package_place, type_place, value_place, world_place}
+use Rattle.wit_merge.specs.Joined.{EntryWithin, FunctionMoves, InterfaceMoves, TypeMoves}
+use Rattle.wit_merge.specs.Uniting.{IsReady, merging_of}
+use Rattle.wit_merge.specs.declared.uniting.Uniting.{Uniting}
+use Rattle.wit_merge.proofs.NamesStay.{name_stays}
+use Rattle.wit_merge.proofs.SameImages.{Agree, each_same, entries_same, function_same, interface_same, type_same}
+
+-- where an id that is there goes by a list of places
+goes_there : (places : List (Option ℕ)) (f : ℕ → ℕ) (n x : ℕ) → places ≡ map (λ (t : ℕ). Some (f t)) (range_with_len 0 n) → x < n → goes places x ≡ f x
+goes_there places f n x are below = ap (λ (l : List (Option ℕ)). id_or x (slice_get l x)) are ∙ ap (id_or x) (range-at (λ (t : ℕ). Some (f t)) n x below)
+
+module _ (u : Uniting) (ready : IsReady u) where
+  abbrev m : Merging
+  m = merging_of u
+
+  pub types_go : (x : ℕ) → x < length u.other.now.types → goes u.going.now.places.types x ≡ type_place m x
+  types_go x below = goes_there u.going.now.places.types (type_place m) (length u.other.now.types) x (λ j. (ready.going j).places.types) below
+
+  pub interfaces_go : (x : ℕ) → x < length u.other.now.interfaces → goes u.going.now.places.interfaces x ≡ interface_place m x
+  interfaces_go x below = goes_there u.going.now.places.interfaces (interface_place m) (length u.other.now.interfaces) x (λ j. (ready.going j).places.interfaces) below
+
+  pub worlds_go : (x : ℕ) → x < length u.other.now.worlds → goes u.going.now.places.worlds x ≡ world_place m x
+  worlds_go x below = goes_there u.going.now.places.worlds (world_place m) (length u.other.now.worlds) x (λ j. (ready.going j).places.worlds) below
+
+  values_go : (x : ℕ) → x < length u.other.now.types → unwrap_or (slice_get u.values.now x) x ≡ value_place m x
+  values_go x below = ap (λ (l : List ℕ). unwrap_or (slice_get l x) x) ready.values ∙ ap (λ (o : Option ℕ). unwrap_or o x) (range-at (value_place m) (length u.other.now.types) x below)
+
+  module _ (mv : Mover) (places : mv.places.now ≡ u.going.now.places) (values : mv.values.now ≡ u.values.now) (offset : mv.offset ≡ u.offset) where
+    agrees : Agree (maps_of mv) (merge_maps m) (length u.other.now.types) (length u.other.now.interfaces) (length u.other.now.worlds)
+    agrees = record {
+      of_types = λ x below. ap (λ p. goes p x) (λ j. (places j).types) ∙ types_go x below;
+      of_values = λ x below. ap (λ (l : List ℕ). unwrap_or (slice_get l x) x) values ∙ values_go x below;
+      of_interfaces = λ x below. ap (λ p. goes p x) (λ j. (places j).interfaces) ∙ interfaces_go x below;
+      of_worlds = λ x below. ap (λ p. goes p x) (λ j. (places j).worlds) ∙ worlds_go x below;
+      of_labels = refl;
+      of_offset = offset;
+    }
+
+    pub type_is : (def : TypeDef) → TypeMoves m def → record (type_image (maps_of mv) def) { name = def.name } ≡ type_image (merge_maps m) def
+    type_is def can = name_stays mv def ∙ type_same (maps_of mv) (merge_maps m) (length u.other.now.types) (length u.other.now.interfaces) (length u.other.now.worlds) agrees def can.parts can.owned
+
+    pub function_is : (f : Function) → FunctionMoves m f → function_image (maps_of mv) f ≡ function_image (merge_maps m) f
+    function_is f can = function_same (maps_of mv) (merge_maps m) (length u.other.now.types) (length u.other.now.interfaces) (length u.other.now.worlds) agrees f can.parts
+
+    pub interface_is : (interface : Interface) (can : InterfaceMoves m interface) → mv.«package» ≡ package_place m can.home → interface_image (maps_of mv) interface ≡ interface_image (merge_maps m) interface
+    interface_is interface can home =
+        interface_same (maps_of mv) (merge_maps m) (length u.other.now.types) (length u.other.now.interfaces) (length u.other.now.worlds) agrees interface
+        (ap (λ (p : ℕ). Some p) home ∙ ap (option_map (package_place m)) (sym can.home_is)) can.types (λ e has. (can.functions e has).parts)
+
+    -- entries at their places, whichever world they are of
+    pub entries_are : (w : ℕ) (entries : List Entry) → ((e : Entry) → Contains entries e → EntryWithin (length u.other.now.types) (length u.other.now.interfaces) e)
+        → map (entry_image (maps_of mv) w) entries ≡ map (entry_image (merge_maps m) w) entries
+    entries_are w entries within = entries_same (maps_of mv) (merge_maps m) (length u.other.now.types) (length u.other.now.interfaces) (length u.other.now.worlds) agrees w entries within
+
+  -- whose entries they are changes nothing, since labels stay
+  key_of_any : (v w : ℕ) (k : WorldKey) → key_image (merge_maps m) v k ≡ key_image (merge_maps m) w k
+  key_of_any v w (key.Name label) = refl
+  key_of_any v w (key.Interface i) = refl
+
+  item_of_any : (v w : ℕ) (held : WorldItem) → item_image (merge_maps m) v held ≡ item_image (merge_maps m) w held
+  item_of_any v w (item.Interface i stability docs span external_id) = refl
+  item_of_any v w (item.Function f) = refl
+  item_of_any v w (item.Type_ t span) = refl
+
+  pub of_any : (v w : ℕ) (entries : List Entry) → map (entry_image (merge_maps m) v) entries ≡ map (entry_image (merge_maps m) w) entries
+  of_any v w entries = each_same (entry_image (merge_maps m) v) (entry_image (merge_maps m) w) entries (λ e has j. (key_of_any v w e.0 j, item_of_any v w e.1 j))

@@ -1,0 +1,50 @@
+-- The entries of tables whose things move, with where these go, by lists of what is found and of places.
+use Rattle.std.proofs.Common.{◌≡◌, ◌∙◌, ℕ, ◌<◌, Bool, true, cond, List, [], ◌∷◌, Option, filter, length, map, refl, ap, Contains}
+use Rattle.wit_digraph.specs.MemberFacts.{Contains-here, Contains-there}
+use Rattle.wit_elaboration.proofs.Filters.{Contains-filter}
+use Rattle.wit_merge_match.specs.Going.{moves}
+use Rattle.wit_remap.specs.Movers.{goes}
+use Rattle.wit_merge_spec.specs.Matches.{Merging, found_interface, found_type, found_world}
+use Rattle.wit_merge_spec.specs.Moved.{interface_place, moves_interface, moves_type, moves_world, type_place, world_place}
+use Rattle.wit_merge.specs.Joined.{moved_names}
+use Rattle.wit_merge.specs.Uniting.{IsReady, merging_of}
+use Rattle.wit_merge.specs.declared.uniting.Uniting.{Uniting}
+use Rattle.wit_merge.proofs.Agrees.{interfaces_go, types_go, worlds_go}
+use Rattle.wit_merge.proofs.SameImages.{each_same}
+use Rattle.wit_merge.proofs.UnitedIs.{moves_is}
+
+abbrev pub Table : Type 0
+Table = List (List ℕ × ℕ)
+
+module _ (found places : List (Option ℕ)) (kept : ℕ → Bool) (place : ℕ → ℕ) (count : ℕ) (same : moves found ≡ kept) (go : (x : ℕ) → x < count → goes places x ≡ place x) where
+  names_are : (from : Table) → ((e : List ℕ × ℕ) → Contains from e → e.1 < count) → moved_names found places from ≡ map (λ (e : List ℕ × ℕ). (e.0, place e.1)) (filter (λ (e : List ℕ × ℕ). kept e.1) from)
+  names_are from there =
+      each_same (λ (e : List ℕ × ℕ). (e.0, goes places e.1)) (λ (e : List ℕ × ℕ). (e.0, place e.1)) (filter (λ (e : List ℕ × ℕ). moves found e.1) from)
+      (λ e has j. (e.0, go e.1 (there e (Contains-filter (λ (d : List ℕ × ℕ). moves found d.1) from e has).0) j))
+      ∙ (λ j. map (λ (e : List ℕ × ℕ). (e.0, place e.1)) (filter (λ (e : List ℕ × ℕ). same j e.1) from))
+
+-- where all move, none is left out
+pub all_move : (kept : ℕ → Bool) (from : Table) → ((e : List ℕ × ℕ) → Contains from e → kept e.1 ≡ true) → filter (λ (e : List ℕ × ℕ). kept e.1) from ≡ from
+all_move kept [] all = refl
+all_move kept (e ∷ from) all =
+    ap (λ (b : Bool). cond b (e ∷ filter (λ (d : List ℕ × ℕ). kept d.1) from) (filter (λ (d : List ℕ × ℕ). kept d.1) from)) (all e (Contains-here e from))
+    ∙ ap (λ (l : Table). e ∷ l) (all_move kept from (λ d has. all d (Contains-there e d from has)))
+
+module _ (u : Uniting) (ready : IsReady u) where
+  abbrev m : Merging
+  m = merging_of u
+
+  pub types_moved : (from : Table) → ((e : List ℕ × ℕ) → Contains from e → e.1 < length u.other.now.types)
+      → moved_names u.matches.now.types u.going.now.places.types from ≡ map (λ (e : List ℕ × ℕ). (e.0, type_place m e.1)) (filter (λ (e : List ℕ × ℕ). moves_type m e.1) from)
+  types_moved = names_are u.matches.now.types u.going.now.places.types (moves_type m) (type_place m) (length u.other.now.types) (moves_is (found_type m) (length u.other.now.types) u.matches.now.types ready.matches.types) (types_go u ready)
+
+  pub interfaces_moved : (from : Table) → ((e : List ℕ × ℕ) → Contains from e → e.1 < length u.other.now.interfaces)
+      → moved_names u.matches.now.interfaces u.going.now.places.interfaces from ≡ map (λ (e : List ℕ × ℕ). (e.0, interface_place m e.1)) (filter (λ (e : List ℕ × ℕ). moves_interface m e.1) from)
+  interfaces_moved =
+      names_are u.matches.now.interfaces u.going.now.places.interfaces (moves_interface m) (interface_place m) (length u.other.now.interfaces)
+      (moves_is (found_interface m) (length u.other.now.interfaces) u.matches.now.interfaces ready.matches.interfaces) (interfaces_go u ready)
+
+  pub worlds_moved : (from : Table) → ((e : List ℕ × ℕ) → Contains from e → e.1 < length u.other.now.worlds)
+      → moved_names u.matches.now.worlds u.going.now.places.worlds from ≡ map (λ (e : List ℕ × ℕ). (e.0, world_place m e.1)) (filter (λ (e : List ℕ × ℕ). moves_world m e.1) from)
+  worlds_moved =
+      names_are u.matches.now.worlds u.going.now.places.worlds (moves_world m) (world_place m) (length u.other.now.worlds) (moves_is (found_world m) (length u.other.now.worlds) u.matches.now.worlds ready.matches.worlds) (worlds_go u ready)

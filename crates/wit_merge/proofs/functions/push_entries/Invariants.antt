@@ -1,0 +1,10 @@
+use Rattle.std.proofs.Common.{◌≡◌, ◌++◌}
+use Rattle.std.specs.List.{flat_map}
+use Rattle.wit_data.specs.Entries.{Entry}
+use Rattle.wit_merge_spec.specs.Moved.{item_function}
+use Rattle.wit_link_resources.specs.Active.{seen}
+use Rattle.wit_merge.proofs.functions.push_entries.Given as goal
+
+-- what has been added, and what those will add that are left
+abbrev pub invariant-loop-item : goal.invariant-loop-item
+invariant-loop-item l = seen l.functions.items ++ flat_map (λ (e : Entry). item_function e.1) l.item-iterator ≡ seen l.fn.functions.items ++ flat_map (λ (e : Entry). item_function e.1) l.entries

@@ -1,0 +1,12 @@
+use Rattle.std.proofs.Common.{◌∙◌, ap}
+use Rattle.wit_graph_theory.specs.Image.{interface_image}
+use Rattle.wit_remap.specs.Movers.{maps_of}
+use Rattle.wit_merge.proofs.Agrees.{interface_is}
+use Rattle.wit_merge.proofs.interfaces.InterfacePart.moved.Goals as goal
+
+pub returns : goal.returns
+returns c =
+    let mover = c.mover.result in
+    let can = c.requires.can in
+    c.place.ensures ∙ ap (interface_image (maps_of mover)) c.in_ok-moved.ensures
+    ∙ interface_is c.args.uniting.now c.requires.ready mover c.mover.ensures.places c.mover.ensures.values c.mover.ensures.offset c.args.self.now can (c.mover.ensures.home can.home can.home_is can.there)

@@ -1,0 +1,10 @@
+use Rattle.std.proofs.Common.{◌∙◌, ap}
+use Rattle.wit_graph_theory.specs.Image.{function_image}
+use Rattle.wit_remap.specs.Movers.{maps_of}
+use Rattle.wit_merge.proofs.Agrees.{function_is}
+use Rattle.wit_merge.proofs.interfaces.moved_function.Goals as goal
+
+pub returns : goal.returns
+returns c =
+    let mover = c.mover.result in
+    c.place.ensures ∙ ap (function_image (maps_of mover)) c.in_ok-moved.ensures ∙ function_is c.args.uniting.now c.requires.ready mover c.mover.ensures.places c.mover.ensures.values c.mover.ensures.offset c.args.function.now c.requires.moves

@@ -1,0 +1,10 @@
+use Rattle.std.proofs.Common.{◌≡◌, ◌++◌, map}
+use Rattle.wit_link_spec.specs.Ranks.{taken_places}
+use Rattle.wit_merge_match.specs.Going.{moves}
+use Rattle.wit_merge.specs.Uniting.{merging_of}
+use Rattle.wit_merge.proofs.Numbered.{kept_behind}
+use Rattle.wit_merge.proofs.parts.move_all.Given as goal
+
+-- those so far, and those behind that move
+abbrev pub invariant-loop-index : goal.invariant-loop-index
+invariant-loop-index g l = l.made ++ map (g.T.Part.image (merging_of l.uniting)) (kept_behind l.others (moves l.found) l.index) ≡ map (g.T.Part.image (merging_of l.uniting)) (taken_places (moves l.found) l.others)

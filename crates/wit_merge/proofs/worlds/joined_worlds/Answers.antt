@@ -1,0 +1,24 @@
+use Rattle.std.proofs.Common.{◌∙◌, ℕ}
+use Rattle.std.proofs.lemmas.Result.{IfOk-weaker}
+use Rattle.wit_data.specs.declared.world.World.{World}
+use Rattle.wit_graph_theory.specs.Image.{world_image}
+use Rattle.wit_merge_spec.specs.Joined.{with_world}
+use Rattle.wit_merge_spec.specs.Matches.{found_world}
+use Rattle.wit_merge_spec.specs.Moved.{merge_maps}
+use Rattle.wit_merge.specs.Uniting.{merging_of}
+use Rattle.wit_merge.proofs.Movable.{worlds_join, worlds_move}
+use Rattle.wit_merge.proofs.UnitedIs.{united_is}
+use Rattle.wit_merge.proofs.worlds.joined_worlds.Goals as goal
+
+pub joined_list-requires-clause-joining : goal.joined_list-requires-clause-joining
+joined_list-requires-clause-joining c x x' from into at found there = worlds_join c.args.uniting.now c.requires (x, from) x' into there
+
+pub joined_list-requires-clause-moving : goal.joined_list-requires-clause-moving
+joined_list-requires-clause-moving c x from at moves = worlds_move c.args.uniting.now c.requires x from at
+
+pub returns : goal.returns
+returns c =
+    let u = c.args.uniting.now in
+    let m = merging_of u in
+    let same = united_is (found_world m) _ u.matches.now.worlds c.requires.matches.worlds (with_world m) (λ (e : ℕ × World). world_image (merge_maps m) e.0 e.1) u.other.now.worlds u.graph.now.worlds in
+    IfOk-weaker c.joined_list.result _ _ (λ made is. is ∙ same) c.joined_list.ensures

@@ -1,0 +1,52 @@
+//! What speaks against a merge before anything is made.
+ghost use Rattle.std.specs.Prelude.{◌≡◌, ◌⊎◌, IfErr, OnOk};
+ghost use Rattle.wit_graph_data.specs.declared.error_kind.ResolveErrorKind.TheVariants.{OutOfMemory};
+ghost use Rattle.wit_merge_match.specs.Differing.{merging_by};
+ghost use Rattle.wit_merge_match.specs.Found.{AreMatches};
+ghost use Rattle.wit_merge_spec.specs.Cause.{IsMergeCause};
+ghost use Rattle.wit_merge.specs.Agreeing.{DoAgree};
+
+use std::alloc::Global;
+use wit_data::{Span, Text};
+use wit_graph_data::{Cause, Graph, ResolveErrorKind, ResolveResult};
+use wit_merge_match::{Matches, find_mismatch, find_stability_mismatch, spans_fit};
+
+/// Refuses what is matched and differs (24), stabilities that can't be joined (8), and a span that can't be moved (27).
+pub(crate) fn check_agreement(
+    alloc: Global,
+    graph: &Graph,
+    other: &Graph,
+    matches: &Matches,
+    offset: u32,
+) -> ResolveResult<()>
+    requires { AreMatches graph.now other.now matches.now }
+    ensures agree { OnOk result (DoAgree (merging_by graph.now other.now offset)) }
+    ensures cause { IfErr result (λ e. (e ≡ OutOfMemory) ⊎ IsMergeCause (merging_by graph.now other.now offset) e) }
+{
+    match find_mismatch(alloc, graph, other, matches)? {
+        Some(message) => {
+            return Err(ResolveErrorKind::Semantic {
+                span: Span::unknown(),
+                message: Text::from_string(message),
+                cause: Cause::MergeMismatch,
+            }
+            .into());
+        }
+        None => {}
+    }
+    match find_stability_mismatch(alloc, graph, other, matches)? {
+        Some(pair) => {
+            return Err(ResolveErrorKind::StabilityMismatch {
+                span: Span::unknown(),
+                from: pair.from,
+                into: pair.into,
+            }
+            .into());
+        }
+        None => {}
+    }
+    if !spans_fit(other, offset) {
+        return Err(ResolveErrorKind::OffsetOverflow.into());
+    }
+    Ok(())
+}

@@ -1,0 +1,114 @@
+//! The interfaces of two graphs as one.
+ghost use Rattle.std.specs.Prelude.{◌≡◌, ◌++◌, IfOk, OnOk};
+ghost use Rattle.wit_graph_theory.specs.Image.{function_image};
+ghost use Rattle.wit_merge_spec.specs.Moved.{merge_maps};
+ghost use Rattle.wit_merge_spec.specs.United.{joined_graph};
+ghost use Rattle.wit_merge.specs.Joined.{FunctionMoves, FunctionsMove, brought_beside, functions_image};
+ghost use Rattle.wit_values.specs.Table.{HasDistinctKeys};
+ghost use Rattle.wit_merge.specs.Uniting.{IsReady, merging_of};
+
+use crate::names::push_moved;
+use crate::parts::{Part, joined_list};
+use crate::stabilities::join_stability;
+use crate::uniting::Uniting;
+use std::alloc::{AllocError, Global};
+use wit_data::{Function, Interface, Items, Names, TryClone};
+use wit_remap::Place;
+
+/// One that moves takes its place; one that stays gets what the other brings behind what it has, and the stability of
+/// the other is joined to its own.
+impl Part for Interface {
+    ghost use Rattle.wit_graph_theory.specs.Image.{interface_image};
+    ghost use Rattle.wit_merge_spec.specs.Joined.{with_interface};
+    ghost use Rattle.wit_merge.specs.Joined.{InterfaceJoins, InterfaceMoves};
+
+    ghost can_move = { λ m e. InterfaceMoves m e.1 };
+
+    ghost image = { λ m e. interface_image (merge_maps m) e.1 };
+
+    ghost can_join = { InterfaceJoins };
+
+    ghost union = { λ m p into. with_interface m p.1 into };
+
+    fn moved(
+        &self,
+        _alloc: Global,
+        uniting: &Uniting<'_>,
+        _place: usize,
+    ) -> Result<Interface, AllocError> {
+        let mut moved = self.try_clone()?;
+        moved.place(&uniting.mover(self.package));
+        Ok(moved)
+    }
+
+    fn joined(
+        &self,
+        _alloc: Global,
+        uniting: &Uniting<'_>,
+        _place: usize,
+        from: &Interface,
+    ) -> Result<Interface, AllocError> {
+        let mut joined = self.try_clone()?;
+        let found = &uniting.matches.types;
+        push_moved(
+            &mut joined.types,
+            &from.types,
+            found,
+            &uniting.going.places.types,
+        )?;
+        push_functions(
+            uniting,
+            &mut joined.functions,
+            &self.functions,
+            &from.functions,
+        )?;
+        join_stability(&mut joined.stability, &from.stability)?;
+        Ok(joined)
+    }
+}
+
+/// Adds those functions of another interface whose names aren't among the known ones, at their places.
+fn push_functions(
+    uniting: &Uniting<'_>,
+    into: &mut Names<Function>,
+    known: &Names<Function>,
+    from: &Names<Function>,
+) -> Result<(), AllocError>
+    requires ready { IsReady uniting.now }
+    requires functions { FunctionsMove (merging_of uniting.now) from.now }
+    requires apart { HasDistinctKeys (into.old ++ functions_image (merging_of uniting.now) (brought_beside known.now from.now)) }
+    ensures { OnOk result (into.new ≡ into.old ++ functions_image (merging_of uniting.now) (brought_beside known.now from.now)) }
+{
+    let alloc = into.allocator();
+    for (name, function) in from.iter() {
+        if !known.contains_key(name) {
+            let moved = moved_function(uniting, function)?;
+            into.push(String::from_str(alloc, name)?, moved)?;
+        }
+    }
+    Ok(())
+}
+
+/// A function at its place.
+fn moved_function(uniting: &Uniting<'_>, function: &Function) -> Result<Function, AllocError>
+    requires ready { IsReady uniting.now }
+    requires moves { FunctionMoves (merging_of uniting.now) function.now }
+    ensures { IfOk result (λ moved. moved ≡ function_image (merge_maps (merging_of uniting.now)) function.now) }
+{
+    let mut moved = function.try_clone()?;
+    moved.place(&uniting.mover(None));
+    Ok(moved)
+}
+
+/// The interfaces of the two as one.
+pub(crate) fn joined_interfaces(
+    alloc: Global,
+    uniting: &Uniting<'_>,
+) -> Result<Items<Interface>, AllocError>
+    requires { IsReady uniting.now }
+    ensures { IfOk result (λ interfaces. interfaces ≡ (joined_graph (merging_of uniting.now)).interfaces) }
+{
+    let found = &uniting.matches.interfaces;
+    let others = &uniting.other.interfaces;
+    joined_list(alloc, uniting, found, others, &uniting.graph.interfaces)
+}

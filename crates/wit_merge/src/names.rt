@@ -1,0 +1,49 @@
+//! Tables that take the names of what moves.
+ghost use Rattle.std.specs.Prelude.{◌≡◌, ◌++◌, IfOk, OnOk};
+ghost use Rattle.wit_values.specs.Table.{HasDistinctKeys};
+ghost use Rattle.wit_merge_match.specs.Going.{moves};
+ghost use Rattle.wit_remap.specs.Movers.{goes};
+ghost use Rattle.wit_merge.specs.Joined.{moved_names};
+
+use std::alloc::AllocError;
+use wit_data::{Id, Items, Names, TryClone};
+
+/// Whether the thing at a place moves, by what is found of all: it is matched with none.
+pub(crate) fn moves<S>(found: &Items<Option<Id<S>>>, index: usize) -> bool
+    ensures { result ≡ moves found.now index }
+{
+    match found.get(index) {
+        Some(Some(_)) => false,
+        Some(None) => true,
+        None => true,
+    }
+}
+
+/// Where a thing goes. One that isn't there stays.
+fn goes<S>(places: &Items<Option<Id<S>>>, id: &Id<S>) -> Result<Id<S>, AllocError>
+    ensures { IfOk result (λ place. place ≡ goes places.now id.now) }
+{
+    match places.get(id.try_clone()?.index()) {
+        Some(Some(new)) => new.try_clone(),
+        _ => id.try_clone(),
+    }
+}
+
+/// Adds those entries of another table whose things move, with where these go.
+pub(crate) fn push_moved<S>(
+    into: &mut Names<Id<S>>,
+    from: &Names<Id<S>>,
+    found: &Items<Option<Id<S>>>,
+    places: &Items<Option<Id<S>>>,
+) -> Result<(), AllocError>
+    requires { HasDistinctKeys (into.old ++ moved_names found.now places.now from.now) }
+    ensures { OnOk result (into.new ≡ into.old ++ moved_names found.now places.now from.now) }
+{
+    let alloc = into.allocator();
+    for (name, id) in from.iter() {
+        if moves(found, id.try_clone()?.index()) {
+            into.push(String::from_str(alloc, name)?, goes(places, id)?)?;
+        }
+    }
+    Ok(())
+}

@@ -1,0 +1,109 @@
+//! The packages of two graphs as one.
+ghost use Rattle.std.specs.Prelude.{◌≡◌, ◌++◌, IfOk, OnOk};
+ghost use Rattle.wit_values.specs.Table.{HasDistinctKeys};
+ghost use Rattle.wit_merge_spec.specs.United.{joined_graph};
+ghost use Rattle.wit_merge.specs.Joined.{moved_names};
+ghost use Rattle.wit_merge.specs.Uniting.{IsReady, merging_of};
+
+use crate::names::{moves, push_moved};
+use crate::parts::{Part, joined_list};
+use crate::uniting::Uniting;
+use std::alloc::{AllocError, Global};
+use wit_data::{Items, Names, PackageId, PackageName, Table, TryClone};
+use wit_graph_data::Package;
+
+/// Behind the interfaces and worlds of one that stays come those of the other that move.
+impl Part for Package {
+    ghost use Rattle.wit_merge_spec.specs.Joined.{with_package};
+    ghost use Rattle.wit_merge_spec.specs.United.{package_image};
+    ghost use Rattle.wit_merge.specs.Joined.{PackageJoins, PackageMoves};
+
+    ghost can_move = { λ m e. PackageMoves m e.1 };
+
+    ghost image = { λ m e. package_image m e.1 };
+
+    ghost can_join = { PackageJoins };
+
+    ghost union = { λ m p into. with_package m p.1 into };
+
+    fn moved(
+        &self,
+        alloc: Global,
+        uniting: &Uniting<'_>,
+        _place: usize,
+    ) -> Result<Package, AllocError> {
+        let mut moved = Package {
+            name: self.name.try_clone()?,
+            docs: self.docs.try_clone()?,
+            interfaces: Names::new(alloc),
+            worlds: Names::new(alloc),
+        };
+        push_tables(uniting, &mut moved, self)?;
+        Ok(moved)
+    }
+
+    fn joined(
+        &self,
+        _alloc: Global,
+        uniting: &Uniting<'_>,
+        _place: usize,
+        from: &Package,
+    ) -> Result<Package, AllocError> {
+        let mut joined = self.try_clone()?;
+        push_tables(uniting, &mut joined, from)?;
+        Ok(joined)
+    }
+}
+
+/// Adds the interfaces and worlds of a package of the other graph that move.
+fn push_tables(uniting: &Uniting<'_>, into: &mut Package, from: &Package) -> Result<(), AllocError>
+    requires interfaces { HasDistinctKeys (into.old.interfaces ++ moved_names uniting.now.matches.now.interfaces uniting.now.going.now.places.interfaces from.now.interfaces) }
+    requires worlds { HasDistinctKeys (into.old.worlds ++ moved_names uniting.now.matches.now.worlds uniting.now.going.now.places.worlds from.now.worlds) }
+    ensures { OnOk result (into.new ≡ record into.old {
+      interfaces = into.old.interfaces ++ moved_names uniting.now.matches.now.interfaces uniting.now.going.now.places.interfaces from.now.interfaces;
+      worlds = into.old.worlds ++ moved_names uniting.now.matches.now.worlds uniting.now.going.now.places.worlds from.now.worlds;
+    }) }
+{
+    let (matches, places) = (uniting.matches, &uniting.going.places);
+    push_moved(
+        &mut into.interfaces,
+        &from.interfaces,
+        &matches.interfaces,
+        &places.interfaces,
+    )?;
+    push_moved(
+        &mut into.worlds,
+        &from.worlds,
+        &matches.worlds,
+        &places.worlds,
+    )
+}
+
+/// The packages of the two as one.
+pub(crate) fn joined_packages(
+    alloc: Global,
+    uniting: &Uniting<'_>,
+) -> Result<Items<Package>, AllocError>
+    requires { IsReady uniting.now }
+    ensures { IfOk result (λ packages. packages ≡ (joined_graph (merging_of uniting.now)).packages) }
+{
+    let found = &uniting.matches.packages;
+    let others = &uniting.other.packages;
+    joined_list(alloc, uniting, found, others, &uniting.graph.packages)
+}
+
+/// The names of the packages of the two as one.
+pub(crate) fn joined_names(
+    uniting: &Uniting<'_>,
+) -> Result<Table<PackageName, PackageId>, AllocError>
+    requires { IsReady uniting.now }
+    ensures { IfOk result (λ names. names ≡ (joined_graph (merging_of uniting.now)).package_names) }
+{
+    let mut names = uniting.graph.package_names.try_clone()?;
+    for (name, id) in uniting.other.package_names.iter() {
+        if moves(&uniting.matches.packages, id.index()) {
+            names.push(name.try_clone()?, uniting.package_place(*id))?;
+        }
+    }
+    Ok(names)
+}

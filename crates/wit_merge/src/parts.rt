@@ -1,0 +1,132 @@
+//! Lists of things of two graphs as one.
+ghost use Rattle.std.specs.Prelude.{◌≡◌, ◌++◌, ℕ, IfOk, None, Some, get_or, length, map, slice_get, true};
+ghost use Rattle.std.specs.List.{enumerate_from};
+ghost use Rattle.std.specs.Option.{option_map_or};
+ghost use Rattle.wit_link_spec.specs.Ranks.{taken_places};
+ghost use Rattle.wit_merge_match.specs.Going.{moves};
+ghost use Rattle.wit_merge_spec.specs.Matches.{Merging, partner};
+ghost use Rattle.wit_merge.specs.Partners.{placed_at};
+ghost use Rattle.wit_merge.specs.Uniting.{IsReady, merging_of};
+
+use crate::names::moves;
+use crate::partners::partners;
+use crate::uniting::Uniting;
+use std::alloc::{AllocError, Global};
+use wit_data::{Id, Items, TryClone};
+
+/// What stands in a list of a graph.
+pub(crate) trait Part: TryClone + Drop {
+    /// What is asked of one that moves, which comes with its place.
+    ghost can_move: { Merging → ℕ × Self → Type 0 };
+
+    /// What becomes of one that moves.
+    ghost image: { Merging → ℕ × Self → Self };
+
+    /// What is asked of two, of which the first comes with its place.
+    ghost can_join: { Merging → ℕ × Self → Self → Type 0 };
+
+    /// What is made of two.
+    ghost union: { Merging → ℕ × Self → Self → Self };
+
+    /// A copy as it comes to be where it goes; it stands at a place of the other graph.
+    fn moved(&self, alloc: Global, uniting: &Uniting<'_>, place: usize) -> Result<Self, AllocError>
+        requires ready { IsReady uniting.now }
+        requires can { can_move (merging_of uniting.now) (place, self.now) }
+        ensures { IfOk result (λ made. made ≡ image (merging_of uniting.now) (place, self.now)) };
+
+    /// A copy with another joined to it, which stands at a place of the other graph.
+    fn joined(
+        &self,
+        alloc: Global,
+        uniting: &Uniting<'_>,
+        place: usize,
+        from: &Self,
+    ) -> Result<Self, AllocError>
+        requires ready { IsReady uniting.now }
+        requires can { can_join (merging_of uniting.now) (place, from.now) self.now }
+        ensures { IfOk result (λ made. made ≡ union (merging_of uniting.now) (place, from.now) self.now) };
+}
+
+/// Copies of the things of a graph, each with the one joined to it that is matched with it, if one is; and behind them
+/// those of the other graph that move.
+pub(crate) fn joined_list<S, T: Part>(
+    alloc: Global,
+    uniting: &Uniting<'_>,
+    found: &Items<Option<Id<S>>>,
+    others: &Items<T>,
+    ours: &Items<T>,
+) -> Result<Items<T>, AllocError>
+    requires ready { IsReady uniting.now }
+    requires long { length found.now ≡ length others.now }
+    requires joining { (x x' : ℕ) (from into : T) → slice_get others.now x ≡ Some from → get_or found.now x None ≡ Some x' → slice_get ours.now x' ≡ Some into → T.can_join (merging_of uniting.now) (x, from) into }
+    requires moving { (x : ℕ) (from : T) → slice_get others.now x ≡ Some from → moves found.now x ≡ true → T.can_move (merging_of uniting.now) (x, from) }
+    ensures { IfOk result (λ made. made ≡ map (λ (e : ℕ × T). option_map_or (λ (p : ℕ × T). T.union (merging_of uniting.now) p e.1) (partner (λ x. get_or found.now x None) others.now e.0) e.1) (enumerate_from 0 ours.now) ++ map (T.image (merging_of uniting.now)) (taken_places (moves found.now) others.now)) }
+{
+    let mut made = join_all(alloc, uniting, found, others, ours)?;
+    made.append(move_all(alloc, uniting, found, others)?)?;
+    Ok(made)
+}
+
+/// Those of the graph.
+fn join_all<S, T: Part>(
+    alloc: Global,
+    uniting: &Uniting<'_>,
+    found: &Items<Option<Id<S>>>,
+    others: &Items<T>,
+    ours: &Items<T>,
+) -> Result<Items<T>, AllocError>
+    requires ready { IsReady uniting.now }
+    requires long { length found.now ≡ length others.now }
+    requires can { (x x' : ℕ) (from into : T) → slice_get others.now x ≡ Some from → get_or found.now x None ≡ Some x' → slice_get ours.now x' ≡ Some into → T.can_join (merging_of uniting.now) (x, from) into }
+    ensures { IfOk result (λ made. made ≡ map (λ (e : ℕ × T). option_map_or (λ (p : ℕ × T). T.union (merging_of uniting.now) p e.1) (partner (λ x. get_or found.now x None) others.now e.0) e.1) (enumerate_from 0 ours.now)) }
+{
+    let partners = partners(alloc, found, ours.len())?;
+    let mut made = Items::new(alloc);
+    for index in 0..ours.len() {
+        let into = ours.at(index);
+        let place = *partners.at(index);
+        made.push(join_one(alloc, uniting, others, place, into)?)?;
+    }
+    Ok(made)
+}
+
+/// A copy of a thing, with the one at a place joined to it, if there is one.
+fn join_one<T: Part>(
+    alloc: Global,
+    uniting: &Uniting<'_>,
+    others: &Items<T>,
+    place: Option<usize>,
+    into: &T,
+) -> Result<T, AllocError>
+    requires ready { IsReady uniting.now }
+    requires can { (x : ℕ) (from : T) → place ≡ Some x → slice_get others.now x ≡ Some from → T.can_join (merging_of uniting.now) (x, from) into.now }
+    ensures { IfOk result (λ made. made ≡ option_map_or (λ (p : ℕ × T). T.union (merging_of uniting.now) p into.now) (placed_at others.now place) into.now) }
+{
+    match place {
+        Some(place) => match others.get(place) {
+            Some(from) => into.joined(alloc, uniting, place, from),
+            None => into.try_clone(),
+        },
+        None => into.try_clone(),
+    }
+}
+
+/// Those that move.
+fn move_all<S, T: Part>(
+    alloc: Global,
+    uniting: &Uniting<'_>,
+    found: &Items<Option<Id<S>>>,
+    others: &Items<T>,
+) -> Result<Items<T>, AllocError>
+    requires ready { IsReady uniting.now }
+    requires can { (x : ℕ) (from : T) → slice_get others.now x ≡ Some from → moves found.now x ≡ true → T.can_move (merging_of uniting.now) (x, from) }
+    ensures { IfOk result (λ made. made ≡ map (T.image (merging_of uniting.now)) (taken_places (moves found.now) others.now)) }
+{
+    let mut made = Items::new(alloc);
+    for index in 0..others.len() {
+        if moves(found, index) {
+            made.push(others.at(index).moved(alloc, uniting, index)?)?;
+        }
+    }
+    Ok(made)
+}

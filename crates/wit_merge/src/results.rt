@@ -1,0 +1,81 @@
+//! Functions that move and return a borrow.
+ghost use Rattle.std.specs.Prelude.{◌≡◌, ◌⊎◌, ℕ, List, None, Contains, IfErr, IfOk, OnOk};
+ghost use Rattle.wit_graph_data.specs.declared.cause.Cause.TheVariants as cause;
+ghost use Rattle.wit_graph_data.specs.declared.error_kind.ResolveErrorKind.TheVariants.{OutOfMemory, Semantic};
+ghost use Rattle.wit_link_spec.specs.CauseText.{borrow_text};
+ghost use Rattle.wit_merge_spec.specs.Moved.{moved_functions};
+ghost use Rattle.wit_merge_spec.specs.Reasons.{ReturnsBorrow};
+ghost use Rattle.wit_merge_spec.specs.United.{joined_graph};
+ghost use Rattle.wit_link_resources.specs.Borrows.{AreFreeTypes};
+ghost use Rattle.wit_merge.specs.Returned.{ReturnsFree, TellsBorrow};
+ghost use Rattle.wit_merge.specs.Uniting.{IsReady, merging_of};
+
+use crate::functions::moved_functions;
+use crate::uniting::Uniting;
+use indexmap::IndexSet;
+use std::alloc::{AllocError, Global};
+use wit_data::{Function, Span, Text, TypeDef};
+use wit_graph_data::{Cause, ResolveError, ResolveErrorKind, ResolveResult};
+use wit_link_resources::{holds_borrow, result_type};
+
+/// Refuses a function that moves whose result holds a borrow, by the types of the two graphs as one.
+///
+/// It takes a step for each function that moves, and for each type that their results hold, once for all functions.
+pub(crate) fn check_results(
+    alloc: Global,
+    uniting: &Uniting<'_>,
+    types: &[TypeDef],
+) -> ResolveResult<()>
+    requires ready { IsReady uniting.now }
+    requires types { types.now ≡ (joined_graph (merging_of uniting.now)).types }
+    ensures none { OnOk result ((message : List ℕ) → ReturnsBorrow (merging_of uniting.now) message → ⊥) }
+    ensures cause { IfErr result (λ kind. (kind ≡ OutOfMemory) ⊎ TellsBorrow (merging_of uniting.now) kind) }
+{
+    let functions = moved_functions(alloc, uniting.graph, uniting.other, uniting.matches)?;
+    let mut free = IndexSet::new(alloc);
+    for function in &functions {
+        check_result(alloc, uniting, types, &mut free, function)?;
+    }
+    Ok(())
+}
+
+/// Refuses one function that moves, where its result holds a borrow.
+fn check_result(
+    alloc: Global,
+    uniting: &Uniting<'_>,
+    types: &[TypeDef],
+    free: &mut IndexSet<usize>,
+    function: &Function,
+) -> ResolveResult<()>
+    requires ready { IsReady uniting.now }
+    requires types { types.now ≡ (joined_graph (merging_of uniting.now)).types }
+    requires moved { Contains (moved_functions (merging_of uniting.now)) function.now }
+    requires free { AreFreeTypes types.now free.old.keys }
+    ensures none { OnOk result (ReturnsFree (merging_of uniting.now) function.now) }
+    ensures free { OnOk result (AreFreeTypes types.now free.new.keys) }
+    ensures cause { IfErr result (λ kind. (kind ≡ OutOfMemory) ⊎ TellsBorrow (merging_of uniting.now) kind) }
+{
+    let Some(id) = result_type(function) else {
+        return Ok(());
+    };
+    let place = *uniting.values.at(id.index());
+    if holds_borrow(alloc, types, free, place)? {
+        return Err(borrow_in_result(alloc, &function.name)?);
+    }
+    Ok(())
+}
+
+/// 15: a function returns a borrow.
+fn borrow_in_result(alloc: Global, name: &Text) -> Result<ResolveError, AllocError>
+    ensures { IfOk result (λ e. e ≡ Semantic None (borrow_text name.now) cause.BorrowInResult) }
+{
+    let message = format!(in alloc;
+        "function `{name}` returns a type which contains a `borrow<T>` which is not supported"
+    )?;
+    Ok(ResolveErrorKind::Semantic {
+        span: Span::unknown(),
+        message: Text::from_string(message),
+        cause: Cause::BorrowInResult,
+    }
+    .into())
+}

@@ -1,0 +1,69 @@
+//! The types of two graphs as one.
+ghost use Rattle.std.specs.Prelude.{◌≡◌, IfOk};
+ghost use Rattle.wit_merge_spec.specs.Moved.{added_owns};
+ghost use Rattle.wit_merge_spec.specs.United.{joined_graph};
+ghost use Rattle.wit_merge.specs.Uniting.{IsReady, merging_of};
+
+use crate::parts::{Part, joined_list};
+use crate::stabilities::join_stability;
+use crate::uniting::Uniting;
+use std::alloc::{AllocError, Global};
+use wit_data::{Items, TryClone, TypeDef};
+use wit_remap::Place;
+
+/// One that moves takes its place; to one that stays the stability of the other is joined.
+impl Part for TypeDef {
+    ghost use Rattle.wit_graph_theory.specs.Image.{type_image};
+    ghost use Rattle.wit_merge_spec.specs.Joined.{with_type};
+    ghost use Rattle.wit_merge_spec.specs.Moved.{merge_maps};
+    ghost use Rattle.wit_merge.specs.Joined.{TypeMoves};
+
+    ghost can_move = { λ m e. TypeMoves m e.1 };
+
+    ghost image = { λ m e. type_image (merge_maps m) e.1 };
+
+    ghost can_join = { λ m p into. Unit {0} };
+
+    ghost union = { λ m p into. with_type p.1 into };
+
+    fn moved(
+        &self,
+        _alloc: Global,
+        uniting: &Uniting<'_>,
+        _place: usize,
+    ) -> Result<TypeDef, AllocError> {
+        let mut moved = self.try_clone()?;
+        moved.place(&uniting.mover(None));
+        Ok(moved)
+    }
+
+    fn joined(
+        &self,
+        _alloc: Global,
+        _uniting: &Uniting<'_>,
+        _place: usize,
+        from: &TypeDef,
+    ) -> Result<TypeDef, AllocError> {
+        let mut joined = self.try_clone()?;
+        join_stability(&mut joined.stability, &from.stability)?;
+        Ok(joined)
+    }
+}
+
+/// The types of the two as one: those of the graph, joined with what is matched with them, then those that move, and
+/// the `own`s that values ask for.
+pub(crate) fn joined_types(
+    alloc: Global,
+    uniting: &Uniting<'_>,
+    owns: Items<TypeDef>,
+) -> Result<Items<TypeDef>, AllocError>
+    requires ready { IsReady uniting.now }
+    requires owns { owns ≡ added_owns (merging_of uniting.now) }
+    ensures { IfOk result (λ types. types ≡ (joined_graph (merging_of uniting.now)).types) }
+{
+    let found = &uniting.matches.types;
+    let others = &uniting.other.types;
+    let mut types = joined_list(alloc, uniting, found, others, &uniting.graph.types)?;
+    types.append(owns)?;
+    Ok(types)
+}

@@ -1,0 +1,99 @@
+//! Another graph goes into a graph.
+ghost use Rattle.std.specs.Prelude.{◌≡◌, ◌⊎◌, ℕ, IfErr, IfOk, List, OnOk};
+ghost use Rattle.wit_elaboration.specs.Valid.{IsValid};
+ghost use Rattle.wit_graph_data.specs.declared.error_kind.ResolveErrorKind.{ResolveErrorKind};
+ghost use Rattle.wit_graph_data.specs.declared.error_kind.ResolveErrorKind.TheVariants.{OutOfMemory};
+ghost use Rattle.wit_merge_match.specs.Differing.{merging_by};
+ghost use Rattle.wit_merge_match.specs.Found.{AreMatches};
+ghost use Rattle.wit_merge_match.specs.Going.{going_of};
+ghost use Rattle.wit_merge_spec.specs.Cause.{IsMergeCause};
+ghost use Rattle.wit_merge_spec.specs.Reasons.{ReturnsBorrow};
+ghost use Rattle.wit_merge_spec.specs.United.{joined_graph, united};
+ghost use Rattle.wit_merge.specs.Agreeing.{DoAgree};
+
+use crate::agreement::check_agreement;
+use crate::joined::joined_graph;
+use crate::owning::values;
+use crate::partners::partners;
+use crate::results::check_results;
+use crate::uniting::Uniting;
+use std::alloc::Global;
+use wit_graph_data::{Graph, ResolveResult};
+use wit_link_spec::Values;
+use wit_merge_laws::laws::unions_stay_valid;
+use wit_merge_match::{Going, Matches, find_matches, find_places};
+use wit_unite_common::settle;
+
+/// A graph that another one went into, and where the things of that went.
+#[derive(Drop)]
+pub struct United {
+    pub graph: Graph,
+    pub going: Going,
+}
+
+/// A copy of a valid graph with another valid one: what is matched is made one, all else comes behind what is there,
+/// its spans moved by so many positions, and all worlds are elaborated. The copy is valid.
+///
+/// Refused where the exports of a world would be in conflict (4), where a package would depend on itself (6) or an
+/// interface (22), where two stabilities that would be joined are known and differ (8), where the result of a
+/// function that moves holds a borrow (15), where what matches disagrees (24), where a span of the other would pass
+/// 4294967295 (27), and for memory (28).
+///
+/// Source: `merge` of wit-parser 0.263.0.
+pub fn unite(alloc: Global, graph: &Graph, other: &Graph, offset: u32) -> ResolveResult<United>
+    requires valid { IsValid graph.now }
+    requires other { IsValid other.now }
+    ensures graph { IfOk result (λ made. made.graph ≡ united (merging_by graph.now other.now offset)) }
+    ensures going { IfOk result (λ made. made.going ≡ going_of (merging_by graph.now other.now offset)) }
+    ensures valid { IfOk result (λ made. IsValid made.graph) }
+    ensures cause { IfErr result (λ e. (e ≡ OutOfMemory) ⊎ IsMergeCause (merging_by graph.now other.now offset) e) }
+    ensures refuses { (e : ResolveErrorKind) → IsMergeCause (merging_by graph.now other.now offset) e → OnOk result ⊥ }
+{
+    unions_stay_valid();
+    let matches = find_matches(alloc, graph, other)?;
+    check_agreement(alloc, graph, other, &matches, offset)?;
+    let going = find_places(alloc, graph, other, &matches)?;
+    let mut joined = as_listed(alloc, graph, other, &matches, &going, offset)?;
+    settle(alloc, &mut joined)?;
+    Ok(United {
+        graph: joined,
+        going,
+    })
+}
+
+/// The two graphs as one, as they are listed, where no function that comes returns a borrow (15).
+fn as_listed(
+    alloc: Global,
+    graph: &Graph,
+    other: &Graph,
+    matches: &Matches,
+    going: &Going,
+    offset: u32,
+) -> ResolveResult<Graph>
+    requires valid { IsValid graph.now }
+    requires other { IsValid other.now }
+    requires agree { DoAgree (merging_by graph.now other.now offset) }
+    requires matches { AreMatches graph.now other.now matches.now }
+    requires going { going.now ≡ going_of (merging_by graph.now other.now offset) }
+    ensures joined { IfOk result (λ joined. joined ≡ joined_graph (merging_by graph.now other.now offset)) }
+    ensures none { OnOk result ((message : List ℕ) → ReturnsBorrow (merging_by graph.now other.now offset) message → ⊥) }
+    ensures cause { IfErr result (λ e. (e ≡ OutOfMemory) ⊎ IsMergeCause (merging_by graph.now other.now offset) e) }
+{
+    let Values {
+        places: value_places,
+        owns,
+    } = values(alloc, graph, other, matches, going, offset)?;
+    let partners = partners(alloc, &matches.interfaces, graph.interfaces.len())?;
+    let uniting = Uniting {
+        graph,
+        other,
+        matches,
+        going,
+        values: &value_places,
+        partners: &partners,
+        offset,
+    };
+    let joined = joined_graph(alloc, &uniting, owns)?;
+    check_results(alloc, &uniting, joined.types.as_slice())?;
+    Ok(joined)
+}

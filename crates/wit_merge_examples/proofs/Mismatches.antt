@@ -1,0 +1,90 @@
+-- The examples of what differs.
+use Rattle.std.proofs.Common.{◌≡◌, ℕ, true, false, List, [], ◌∷◌, None, Some, refl, subst, lit<, arith, Contains}
+use Rattle.std.proofs.lemmas.Bool.{false≢true}
+use Rattle.std.specs.Prelude.{codes}
+use Rattle.wit_values.specs.Lists.{differ}
+use Rattle.wit_data.specs.Entries.{Entry}
+use Rattle.wit_data.specs.declared.function.Function.{Function}
+use Rattle.wit_data.specs.declared.function.FunctionKind.TheVariants as function
+use Rattle.wit_data.specs.declared.interface.Interface.{Interface}
+use Rattle.wit_data.specs.declared.types.Type_.TheVariants as type
+use Rattle.wit_data.specs.declared.world.WorldItem.TheVariants as item
+use Rattle.wit_data.specs.declared.world.WorldKey.TheVariants as key
+use Rattle.wit_graph_data.specs.Samples.{entry_of, foo_bar, function_of, instance}
+use Rattle.wit_graph_data.specs.declared.cause.Cause.TheVariants as cause
+use Rattle.wit_graph_data.specs.declared.error_kind.ResolveErrorKind.TheVariants.{Semantic}
+use Rattle.wit_graph_theory.specs.FunctionMismatch.{FunctionMismatch, HaveFunctionMismatch, function_mismatch_text, kinds_differ, parameter_counts_differ, parameter_names_differ, parameter_types_differ, result_counts_differ, results_differ}
+use Rattle.wit_graph_theory.specs.TestFacts.{none_some}
+use Rattle.wit_merge_spec.specs.Agreement.{EntriesDiffer}
+use Rattle.wit_merge_spec.specs.Agreement as mismatch
+use Rattle.wit_merge_spec.specs.Cause.{IsMergeCause}
+use Rattle.wit_merge_spec.specs.Cause as reason
+use Rattle.wit_merge_spec.specs.MismatchText.{linked, part_links, side_word}
+use Rattle.wit_merge_examples.proofs.Passing.{differs_in_nothing}
+use Rattle.wit_merge_examples.specs.Graphs.{merging, taking}
+use Rattle.wit_merge_examples.specs.Refusals.{ExamplesOfMismatches, holding, importing, returning, taking_x}
+
+-- a function of one name in which two interfaces disagree
+pub disagreeing : (from into : Interface) (f g : Function) (text : List ℕ) → f.name ≡ g.name → Contains from.functions (g.name, g) → Contains into.functions (f.name, f) → FunctionMismatch g f text
+    → HaveFunctionMismatch from into (function_mismatch_text g.name text)
+disagreeing from into f g text same has there apart =
+    record { name = g.name; function = g; other = f; has = has; other_has = subst (λ (n : List ℕ). Contains into.functions (n, f)) same there; ending = text; mismatch = apart; text_is = refl }
+
+-- a difference of the function of i is told of i
+of_function : (f g : Function) (text : List ℕ) → f.name ≡ g.name → FunctionMismatch g f text
+    → IsMergeCause (merging (holding f) (holding g)) (Semantic None (linked (part_links foo_bar (codes "interface") (codes "i")) (function_mismatch_text g.name text)) cause.MergeMismatch)
+of_function f g text same apart =
+    reason.merge_mismatch_24 _
+    (mismatch.interfaces (record { x = 0; from = _; x' = 0; into = _; from_is = refl; matched = refl; into_is = refl }) 0 _ (codes "i") _ refl refl refl
+    (disagreeing _ _ f g text same (0, lit< tt, refl) (0, lit< tt, refl) apart))
+
+-- a difference of the imports of w is told of w
+of_imports : (into from : List Entry) (text : List ℕ) → EntriesDiffer (merging (importing into) (importing from)) (side_word false) from into text
+    → IsMergeCause (merging (importing into) (importing from)) (Semantic None (linked (part_links foo_bar (codes "world") (codes "w")) text) cause.MergeMismatch)
+of_imports into from text differs =
+    reason.merge_mismatch_24 _ (mismatch.worlds (record { x = 0; from = _; x' = 0; into = _; from_is = refl; matched = refl; into_is = refl }) 0 _ false _ refl refl differs)
+
+pub mismatches : ExamplesOfMismatches
+mismatches = record {
+  param_names = of_function (taking_x type.U32) (taking (codes "f") (codes "y") type.U32) _ refl (parameter_names_differ 0 _ _ refl refl (differ (codes "y") (codes "x") refl) refl);
+  same = differs_in_nothing _ refl refl;
+  other_function = differs_in_nothing _ refl refl;
+  kinds = of_function (returning None) (record (returning None) { kind = function.Getter }) _ refl (kinds_differ (λ same. cc) refl);
+  methods = differs_in_nothing _ refl refl;
+  counts = of_function (returning None) (taking_x type.U32) _ refl (parameter_counts_differ (λ same. absurd (omega (arith, same))) refl);
+  param_types = of_function (taking_x type.U32) (taking_x type.U8) _ refl (parameter_types_differ 0 _ _ refl refl (λ same. cc) refl);
+  number_and_id = of_function (taking_x type.U32) (taking_x (type.Id 0)) _ refl (parameter_types_differ 0 _ _ refl refl (λ same. cc) refl);
+  ids = differs_in_nothing _ refl refl;
+  result_types = of_function (returning (Some type.U32)) (returning (Some type.U8)) _ refl (results_differ type.U8 type.U32 refl refl (λ same. cc) refl);
+  result_counts = of_function (returning (Some type.U32)) (returning None) _ refl (result_counts_differ (λ same. false≢true same) refl);
+  resource_and_number = differs_in_nothing _ refl refl;
+  import_counts = of_imports (entry_of 0 ∷ []) [] _ (mismatch.count (λ same. absurd (omega (arith, same))));
+  export_counts =
+      reason.merge_mismatch_24 _ (mismatch.worlds (record { x = 0; from = _; x' = 0; into = _; from_is = refl; matched = refl; into_is = refl }) 0 _ true _ refl refl (mismatch.count (λ same. absurd (omega (arith, same)))));
+  same_imports = differs_in_nothing _ refl refl;
+  absent = of_imports (entry_of 0 ∷ []) (entry_of 1 ∷ []) _ (mismatch.absent (entry_of 1) (0, lit< tt, refl) refl);
+  reordered = differs_in_nothing _ refl refl;
+  sorts = of_imports ((key.Name (codes "x"), instance 0) ∷ []) ((key.Name (codes "x"), item.Function (function_of (codes "x") [] None)) ∷ []) _
+      (mismatch.apart _ _ _ (0, lit< tt, refl) refl (mismatch.sorts refl));
+  other_interfaces = of_imports ((key.Name (codes "x"), instance 0) ∷ []) ((key.Name (codes "x"), instance 1) ∷ []) _
+      (mismatch.apart _ _ _ (0, lit< tt, refl) refl (mismatch.interfaces 1 0 refl refl (λ same. absurd (omega (arith, some_number same)))));
+  named_there =
+      reason.merge_mismatch_24 _
+      (mismatch.worlds (record { x = 0; from = _; x' = 0; into = _; from_is = refl; matched = refl; into_is = refl }) 0 _ false _ refl refl
+      (mismatch.apart _ _ _ (0, lit< tt, refl) refl (mismatch.interfaces 0 0 refl refl (λ same. none_some 0 same))));
+  named_comes =
+      reason.merge_mismatch_24 _
+      (mismatch.worlds (record { x = 0; from = _; x' = 0; into = _; from_is = refl; matched = refl; into_is = refl }) 0 _ false _ refl refl
+      (mismatch.apart _ _ _ (0, lit< tt, refl) refl (mismatch.interfaces 0 0 refl refl (λ same. none_some 0 same))));
+  world_functions = differs_in_nothing _ refl refl;
+  unnamed_functions =
+      reason.merge_mismatch_24 _
+      (mismatch.worlds (record { x = 0; from = _; x' = 0; into = _; from_is = refl; matched = refl; into_is = refl }) 0 _ false _ refl refl
+      (mismatch.apart _ _ _ (0, lit< tt, refl) refl
+      (mismatch.unnamed _ (record { x = 0; from = _; x' = 0; into = _; from_is = refl; matched = refl; into_is = refl }) refl refl refl
+      (disagreeing _ _ (returning None) (taking_x type.U32) _ refl (0, lit< tt, refl) (0, lit< tt, refl) (parameter_counts_differ (λ same. absurd (omega (arith, same))) refl)))));
+  unnamed_agree = differs_in_nothing _ refl refl;
+}
+  where
+    some_number : {a b : ℕ} → Some a ≡ Some b → a ≡ b
+    some_number same = cc

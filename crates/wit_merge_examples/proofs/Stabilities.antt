@@ -1,0 +1,68 @@
+-- The examples of stabilities.
+use Rattle.std.proofs.Common.{◌≡◌, false, true, refl, ap, lit<}
+use Rattle.std.specs.Prelude.{codes}
+use Rattle.wit_values.specs.Lists.{differ}
+use Rattle.wit_digraph.specs.Walks.{walk, walk_within}
+use Rattle.wit_data.specs.declared.stability.Stability.{Stability}
+use Rattle.wit_elaboration.specs.Elaborated.{import_steps, import_steps_within}
+use Rattle.wit_graph_data.specs.declared.error_kind.ResolveErrorKind.TheVariants.{StabilityMismatch}
+use Rattle.wit_graph_data.specs.declared.graph.Graph.{Graph}
+use Rattle.wit_graph_theory.specs.TestFacts.{feature_of}
+use Rattle.wit_link_spec.specs.Gates.{Place}
+use Rattle.wit_link_spec.specs.WorldReasons.{Disagree}
+use Rattle.wit_merge_spec.specs.Cause.{IsMergeCause}
+use Rattle.wit_merge_spec.specs.Cause as reason
+use Rattle.wit_merge_spec.specs.Matches.{Merging}
+use Rattle.wit_merge_spec.specs.Reasons.{AreJoined, Mismatches}
+use Rattle.wit_merge_spec.specs.Reasons as joins
+use Rattle.wit_merge_examples.proofs.Passing.{GatesJoin, can_merge, joined_fine}
+use Rattle.wit_merge_examples.specs.Graphs.{gate_f, gate_g, merging}
+use Rattle.wit_merge_examples.specs.Stabilities.{Disagrees, DisagreesNowhere, ExamplesOfStabilities}
+
+other_feature : gate_g ≡ gate_f → ⊥
+other_feature same = differ (codes "g") (codes "f") refl (ap feature_of same)
+
+-- the two gates disagree
+pub gates_apart : Disagree gate_g gate_f
+gates_apart = record { from_known = λ same. cc; into_known = λ same. cc; differ = other_feature }
+
+-- where they are joined 8 is told
+pub disagreeing : (g other : Graph) → AreJoined (merging g other) gate_g gate_f → Disagrees g other
+disagreeing g other joined = reason.mismatch_8 gate_g gate_f (record { joined = joined; apart = gates_apart })
+
+of_mismatch : (m : Merging) (span : Place) (from into : Stability) → IsMergeCause m (StabilityMismatch span from into) → Mismatches m from into
+of_mismatch m _ _ _ (reason.mismatch_8 from into c) = c
+
+-- where all are joined it isn't
+pub nowhere : (g other : Graph) → GatesJoin (merging g other) → DisagreesNowhere g other
+nowhere g other all span from into c = joined_fine (merging g other) all from into (of_mismatch (merging g other) span from into c)
+
+pub stabilities : ExamplesOfStabilities
+unfolding walk walk_within import_steps import_steps_within
+stabilities = record {
+  interfaces = disagreeing _ _ (joins.interfaces (record { x = 0; from = _; x' = 0; into = _; from_is = refl; matched = refl; into_is = refl }));
+  same_interface = nowhere _ _ (record { types = refl; interfaces = refl; worlds = refl });
+  other_interface = nowhere _ _ (record { types = refl; interfaces = refl; worlds = refl });
+  interface_without = nowhere _ _ (record { types = refl; interfaces = refl; worlds = refl });
+  interface_with = nowhere _ _ (record { types = refl; interfaces = refl; worlds = refl });
+  worlds = disagreeing _ _ (joins.worlds (record { x = 0; from = _; x' = 0; into = _; from_is = refl; matched = refl; into_is = refl }));
+  same_world = nowhere _ _ (record { types = refl; interfaces = refl; worlds = refl });
+  other_world = nowhere _ _ (record { types = refl; interfaces = refl; worlds = refl });
+  imports = disagreeing _ _ (joins.entries (record { x = 0; from = _; x' = 0; into = _; from_is = refl; matched = refl; into_is = refl }) false 0 0 _ _ refl (_, _, _, (0, lit< tt, refl)) (_, _, _, (0, lit< tt, refl)));
+  exports = disagreeing _ _ (joins.entries (record { x = 0; from = _; x' = 0; into = _; from_is = refl; matched = refl; into_is = refl }) true 0 0 _ _ refl (_, _, _, (0, lit< tt, refl)) (_, _, _, (0, lit< tt, refl)));
+  same_import = nowhere _ _ (record { types = refl; interfaces = refl; worlds = refl });
+  under_a_label = nowhere _ _ (record { types = refl; interfaces = refl; worlds = refl });
+  functions = nowhere _ _ (record { types = refl; interfaces = refl; worlds = refl });
+  interface_takes = refl;
+  interface_keeps = refl;
+  world_takes = refl;
+  import_takes = refl;
+  label_keeps = refl;
+  function_keeps = refl;
+  interface_taken = can_merge _ (record { interfaces = refl; worlds = refl; rank = λ i. i; uses = refl; packages = refl; exports = refl; gates = record { types = refl; interfaces = refl; worlds = refl }; results = refl; spans = refl });
+  interface_kept = can_merge _ (record { interfaces = refl; worlds = refl; rank = λ i. i; uses = refl; packages = refl; exports = refl; gates = record { types = refl; interfaces = refl; worlds = refl }; results = refl; spans = refl });
+  world_taken = can_merge _ (record { interfaces = refl; worlds = refl; rank = λ i. i; uses = refl; packages = refl; exports = refl; gates = record { types = refl; interfaces = refl; worlds = refl }; results = refl; spans = refl });
+  import_taken = can_merge _ (record { interfaces = refl; worlds = refl; rank = λ i. i; uses = refl; packages = refl; exports = refl; gates = record { types = refl; interfaces = refl; worlds = refl }; results = refl; spans = refl });
+  label_kept = can_merge _ (record { interfaces = refl; worlds = refl; rank = λ i. i; uses = refl; packages = refl; exports = refl; gates = record { types = refl; interfaces = refl; worlds = refl }; results = refl; spans = refl });
+  function_kept = can_merge _ (record { interfaces = refl; worlds = refl; rank = λ i. i; uses = refl; packages = refl; exports = refl; gates = record { types = refl; interfaces = refl; worlds = refl }; results = refl; spans = refl });
+}

@@ -1,0 +1,83 @@
+-- Stabilities that a merge joins: which it refuses (8), which it doesn't, and what is made of them.
+use Rattle.std.specs.Prelude.{◌≡◌, ℕ, List, [], ◌∷◌, Some, None, codes}
+use Rattle.wit_data.specs.Entries.{Entry}
+use Rattle.wit_data.specs.declared.stability.Stability.{Stability}
+use Rattle.wit_data.specs.declared.stability.Stability.TheVariants.{Unknown}
+use Rattle.wit_data.specs.declared.world.WorldKey.TheVariants as key
+use Rattle.wit_data.specs.declared.world.WorldItem.TheVariants as item
+use Rattle.wit_graph_data.specs.Samples.{function_of, interface_of, no_docs, world_of}
+use Rattle.wit_graph_data.specs.declared.error_kind.ResolveErrorKind.TheVariants.{StabilityMismatch}
+use Rattle.wit_graph_data.specs.declared.graph.Graph.{Graph}
+use Rattle.wit_link_spec.specs.Gates.{Place}
+use Rattle.wit_merge_spec.specs.Cause.{CanMerge, IsMergeCause}
+use Rattle.wit_merge_spec.specs.United.{united}
+use Rattle.wit_merge_examples.specs.Graphs.{foo_bar_alone, gate_f, gate_g, merging, with_functions}
+
+-- ---- graphs
+
+-- an interface of this name, under this gate
+abbrev pub gated_interface : List ℕ → Stability → Graph
+gated_interface name note = foo_bar_alone [] (record (interface_of (Some name) []) { stability = note } ∷ []) [] ((name, 0) ∷ []) []
+
+-- a world of this name, under this gate
+abbrev pub gated_world : List ℕ → Stability → Graph
+gated_world name note = foo_bar_alone [] [] (record (world_of name [] []) { stability = note } ∷ []) [] ((name, 0) ∷ [])
+
+-- interface i without a gate, and world w with these imports and exports
+abbrev pub listing : List Entry → List Entry → Graph
+listing imports exports = foo_bar_alone [] (interface_of (Some (codes "i")) [] ∷ []) (world_of (codes "w") imports exports ∷ []) ((codes "i", 0) ∷ []) ((codes "w", 0) ∷ [])
+
+-- i under its own key, or under label x, with this gate
+abbrev pub keyed : Stability → Entry
+keyed note = (key.Interface 0, item.Interface 0 note no_docs None None)
+
+abbrev pub labelled : Stability → Entry
+labelled note = (key.Name (codes "x"), item.Interface 0 note no_docs None None)
+
+-- interface i with a function f under this gate
+abbrev pub gated_function : Stability → Graph
+gated_function note = foo_bar_alone [] (with_functions (record (function_of (codes "f") [] None) { stability = note } ∷ []) (interface_of (Some (codes "i")) []) ∷ []) [] ((codes "i", 0) ∷ []) []
+
+-- ---- examples
+
+-- the gate g comes to the gate f, and 8 is told of both
+abbrev pub Disagrees : Graph → Graph → Type 0
+Disagrees g other = IsMergeCause (merging g other) (StabilityMismatch None gate_g gate_f)
+
+-- no 8 is told, of whatever
+abbrev pub DisagreesNowhere : Graph → Graph → Type 0
+DisagreesNowhere g other = (span : Place) (from into : Stability) → IsMergeCause (merging g other) (StabilityMismatch span from into) → ⊥
+
+pub record ExamplesOfStabilities : Type 0 where
+  -- of interfaces; the same gate, an interface of another name, and none in one of the two are no reason
+  pub interfaces : Disagrees (gated_interface (codes "i") gate_f) (gated_interface (codes "i") gate_g)
+  pub same_interface : DisagreesNowhere (gated_interface (codes "i") gate_f) (gated_interface (codes "i") gate_f)
+  pub other_interface : DisagreesNowhere (gated_interface (codes "i") gate_f) (gated_interface (codes "j") gate_g)
+  pub interface_without : DisagreesNowhere (gated_interface (codes "i") Unknown) (gated_interface (codes "i") gate_g)
+  pub interface_with : DisagreesNowhere (gated_interface (codes "i") gate_f) (gated_interface (codes "i") Unknown)
+  -- of worlds
+  pub worlds : Disagrees (gated_world (codes "w") gate_f) (gated_world (codes "w") gate_g)
+  pub same_world : DisagreesNowhere (gated_world (codes "w") gate_f) (gated_world (codes "w") gate_f)
+  pub other_world : DisagreesNowhere (gated_world (codes "w") gate_f) (gated_world (codes "v") gate_g)
+  -- of imports and of exports of a matched world, under the key of an interface; not under a label
+  pub imports : Disagrees (listing (keyed gate_f ∷ []) []) (listing (keyed gate_g ∷ []) [])
+  pub exports : Disagrees (listing [] (keyed gate_f ∷ [])) (listing [] (keyed gate_g ∷ []))
+  pub same_import : DisagreesNowhere (listing (keyed gate_f ∷ []) []) (listing (keyed gate_f ∷ []) [])
+  pub under_a_label : DisagreesNowhere (listing (labelled gate_f ∷ []) []) (listing (labelled gate_g ∷ []) [])
+  -- nor of functions
+  pub functions : DisagreesNowhere (gated_function gate_f) (gated_function gate_g)
+  -- what is made: a gate replaces none, of an interface, of a world, of an import
+  pub interface_takes : united (merging (gated_interface (codes "i") Unknown) (gated_interface (codes "i") gate_g)) ≡ gated_interface (codes "i") gate_g
+  pub interface_keeps : united (merging (gated_interface (codes "i") gate_f) (gated_interface (codes "i") Unknown)) ≡ gated_interface (codes "i") gate_f
+  pub world_takes : united (merging (gated_world (codes "w") Unknown) (gated_world (codes "w") gate_g)) ≡ gated_world (codes "w") gate_g
+  pub import_takes : united (merging (listing (keyed Unknown ∷ []) []) (listing (keyed gate_g ∷ []) [])) ≡ listing (keyed gate_g ∷ []) []
+  -- under a label it takes none, and a function keeps its own
+  pub label_keeps : united (merging (listing (labelled Unknown ∷ []) []) (listing (labelled gate_g ∷ []) [])) ≡ listing (labelled Unknown ∷ []) []
+  pub function_keeps : united (merging (gated_function gate_f) (gated_function gate_g)) ≡ gated_function gate_f
+  -- and nothing speaks against it
+  pub interface_taken : CanMerge (merging (gated_interface (codes "i") Unknown) (gated_interface (codes "i") gate_g))
+  pub interface_kept : CanMerge (merging (gated_interface (codes "i") gate_f) (gated_interface (codes "i") Unknown))
+  pub world_taken : CanMerge (merging (gated_world (codes "w") Unknown) (gated_world (codes "w") gate_g))
+  pub import_taken : CanMerge (merging (listing (keyed Unknown ∷ []) []) (listing (keyed gate_g ∷ []) []))
+  pub label_kept : CanMerge (merging (listing (labelled Unknown ∷ []) []) (listing (labelled gate_g ∷ []) []))
+  pub function_kept : CanMerge (merging (gated_function gate_f) (gated_function gate_g))

@@ -1,0 +1,12 @@
+//! What merging two graphs makes.
+ghost use Rattle.wit_merge_examples.specs.Unions.{ExamplesOfMatches, ExamplesOfUnions};
+
+/// Things that are matched, and where all things go.
+pub fn examples_of_matches()
+    ensures { ExamplesOfMatches }
+{}
+
+/// Whole graphs that are made of two, and what they aren't.
+pub fn examples_of_unions()
+    ensures { ExamplesOfUnions }
+{}

@@ -1,0 +1,8 @@
+pub mod Apart
+pub mod Mapped
+pub mod Matched
+mod Next
+pub mod Noted
+pub mod Passing
+pub mod Steps
+pub mod TypesFound

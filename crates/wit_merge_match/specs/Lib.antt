@@ -1,0 +1,5 @@
+pub mod Differing
+pub mod Found
+pub mod Going
+pub mod OffsetFacts
+pub mod Stabilities

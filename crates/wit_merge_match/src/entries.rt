@@ -1,0 +1,155 @@
+//! What differs in the entries of matched worlds.
+ghost use Rattle.std.specs.Prelude.{◌≡◌, ◌↔◌, ℕ, IfNone, IfOk, IfSome, IsTrue, List, Some, string_bytes};
+ghost use Rattle.wit_merge_spec.specs.Agreement.{EntriesDiffer, ItemsDiffer, same_sort};
+ghost use Rattle.wit_merge_spec.specs.Matches.{found_interface};
+ghost use Rattle.wit_merge_match.specs.Differing.{AreKnown, EntryDiffers, HeldDiffer, SidesDiffer, merging_of};
+
+use crate::comparing::Comparing;
+use crate::messages::{absent, in_entry, key_text, other_count};
+use std::alloc::{AllocError, Global};
+use wit_data::{Table, World, WorldItem, WorldKey};
+use wit_elaboration::item_interface;
+use wit_unite_common::interface_mismatch;
+
+impl<'a> Comparing<'a> {
+    /// What differs in the imports of matched worlds, or else in their exports. None where nothing does.
+    pub(crate) fn sides_mismatch(
+        &self,
+        alloc: Global,
+        from: &World,
+        into: &World,
+    ) -> Result<Option<String>, AllocError>
+        requires { AreKnown self.now }
+        ensures some { IfOk result (λ found. IfSome found (λ text. SidesDiffer (merging_of self.now) from.now into.now (string_bytes text))) }
+        ensures none { IfOk result (λ found. IfNone found ((text : List ℕ) → SidesDiffer (merging_of self.now) from.now into.now text → ⊥)) }
+    {
+        match self.entries_mismatch(alloc, "import", &from.imports, &into.imports)? {
+            Some(text) => Ok(Some(text)),
+            None => self.entries_mismatch(alloc, "export", &from.exports, &into.exports),
+        }
+    }
+
+    /// What differs in the imports or the exports of matched worlds: their number, or the first entry that differs.
+    /// None where nothing does; word is `import` or `export`.
+    fn entries_mismatch(
+        &self,
+        alloc: Global,
+        word: &str,
+        from: &Table<WorldKey, WorldItem>,
+        into: &Table<WorldKey, WorldItem>,
+    ) -> Result<Option<String>, AllocError>
+        requires { AreKnown self.now }
+        ensures some { IfOk result (λ found. IfSome found (λ text. EntriesDiffer (merging_of self.now) word.now from.now into.now (string_bytes text))) }
+        ensures none { IfOk result (λ found. IfNone found ((text : List ℕ) → EntriesDiffer (merging_of self.now) word.now from.now into.now text → ⊥)) }
+    {
+        if from.len() != into.len() {
+            return Ok(Some(other_count(alloc, word)?));
+        }
+        for index in 0..from.len() {
+            let (key, item) = from.entry_at(index);
+            match self.entry_mismatch(alloc, word, key, item, into)? {
+                Some(text) => return Ok(Some(text)),
+                None => {}
+            }
+        }
+        Ok(None)
+    }
+
+    /// What differs in an entry: that there is none under its key, or what that one is. None where nothing does.
+    fn entry_mismatch(
+        &self,
+        alloc: Global,
+        word: &str,
+        key: &WorldKey,
+        item: &WorldItem,
+        into: &Table<WorldKey, WorldItem>,
+    ) -> Result<Option<String>, AllocError>
+        requires { AreKnown self.now }
+        ensures some { IfOk result (λ found. IfSome found (λ text. EntryDiffers (merging_of self.now) word.now into.now key.now item.now (string_bytes text))) }
+        ensures none { IfOk result (λ found. IfNone found ((text : List ℕ) → EntryDiffers (merging_of self.now) word.now into.now key.now item.now text → ⊥)) }
+    {
+        let Some(there) = self.item_beside(key, into) else {
+            let name = key_text(alloc, self.other, key)?;
+            return Ok(Some(absent(alloc, word, &name)?));
+        };
+        match self.item_mismatch(alloc, item, there)? {
+            Some(text) => {
+                let name = key_text(alloc, self.other, key)?;
+                Ok(Some(in_entry(alloc, word, &name, &text)?))
+            }
+            None => Ok(None),
+        }
+    }
+
+    /// What differs in an item: its sort, or the interface that it is. None where nothing does.
+    fn item_mismatch(
+        &self,
+        alloc: Global,
+        from: &WorldItem,
+        into: &WorldItem,
+    ) -> Result<Option<String>, AllocError>
+        requires { AreKnown self.now }
+        ensures some { IfOk result (λ found. IfSome found (λ text. ItemsDiffer (merging_of self.now) from.now into.now (string_bytes text))) }
+        ensures none { IfOk result (λ found. IfNone found ((text : List ℕ) → ItemsDiffer (merging_of self.now) from.now into.now text → ⊥)) }
+    {
+        if !are_of_one_sort(from, into) {
+            return Ok(Some(String::from_str(alloc, "world items do not have the same type")?));
+        }
+        let Some(id) = item_interface(from) else {
+            return Ok(None);
+        };
+        let Some(there) = item_interface(into) else {
+            return Ok(None);
+        };
+        self.held_mismatch(alloc, id.index(), there.index())
+    }
+
+    /// What differs in the interfaces of two entries: that they aren't matched or, where they have no name, a function.
+    /// None where nothing does.
+    fn held_mismatch(
+        &self,
+        alloc: Global,
+        id: usize,
+        there: usize,
+    ) -> Result<Option<String>, AllocError>
+        requires { AreKnown self.now }
+        ensures some { IfOk result (λ found. IfSome found (λ text. HeldDiffer (merging_of self.now) id there (string_bytes text))) }
+        ensures none { IfOk result (λ found. IfNone found ((text : List ℕ) → HeldDiffer (merging_of self.now) id there text → ⊥)) }
+    {
+        if !self.are_matched(id, there) {
+            return Ok(Some(String::from_str(alloc, "interfaces are not the same")?));
+        }
+        let Some(from) = self.other.interfaces.get(id) else {
+            return Ok(None);
+        };
+        let Some(into) = self.graph.interfaces.get(there) else {
+            return Ok(None);
+        };
+        match from.name {
+            Some(_) => Ok(None),
+            None => interface_mismatch(alloc, from, into),
+        }
+    }
+
+    /// Whether an interface is matched with this one.
+    fn are_matched(&self, id: usize, there: usize) -> bool
+        requires { AreKnown self.now }
+        ensures { IsTrue result ↔ (found_interface (merging_of self.now) id ≡ Some there) }
+    {
+        match self.interface_match(id) {
+            Some(found) => found.index() == there,
+            None => false,
+        }
+    }
+}
+
+/// Whether two items are both interfaces, both functions or both types.
+fn are_of_one_sort(from: &WorldItem, into: &WorldItem) -> bool
+    ensures { result ≡ same_sort from.now into.now }
+{
+    match from {
+        WorldItem::Interface { .. } => matches!(into, WorldItem::Interface { .. }),
+        WorldItem::Function(_) => matches!(into, WorldItem::Function(_)),
+        WorldItem::Type_ { .. } => matches!(into, WorldItem::Type_ { .. }),
+    }
+}

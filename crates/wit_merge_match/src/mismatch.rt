@@ -1,0 +1,122 @@
+//! What differs of what is matched of two graphs, which have to agree to become one.
+ghost use Rattle.std.specs.Prelude.{ℕ, IfNone, IfOk, IfSome, List, string_bytes};
+ghost use Rattle.wit_merge_spec.specs.Agreement.{GraphsDiffer};
+ghost use Rattle.wit_merge_spec.specs.Reasons.{AreOne};
+ghost use Rattle.wit_merge_match.specs.Found.{AreMatches, merging};
+ghost use Rattle.wit_merge_match.specs.Differing.{AreKnown, InterfaceDiffersAt, WorldDiffersAt, merging_of};
+
+use crate::comparing::{Comparing, package_at};
+use crate::matches::Matches;
+use crate::messages::in_part;
+use std::alloc::{AllocError, Global};
+use wit_graph_data::Graph;
+use wit_unite_common::interface_mismatch;
+
+/// What differs of the other graph and what it is matched with in the graph, told with where it is: an interface of a
+/// name that disagrees in a function, or a world whose entries differ. Of several any may be told. None where nothing
+/// differs.
+///
+/// The matches are those of the two graphs. The only error is want of memory.
+///
+/// Source: `build_interface`, `build_function`, `build_world` and `match_world_item` of wit-parser 0.263.0.
+pub fn find_mismatch(
+    alloc: Global,
+    graph: &Graph,
+    other: &Graph,
+    matches: &Matches,
+) -> Result<Option<String>, AllocError>
+    requires { AreMatches graph.now other.now matches.now }
+    ensures some { IfOk result (λ found. IfSome found (λ message. GraphsDiffer (merging graph.now other.now) (string_bytes message))) }
+    ensures none { IfOk result (λ found. IfNone found (AreOne (merging graph.now other.now))) }
+{
+    let comparing = Comparing {
+        graph,
+        other,
+        matches,
+    };
+    match comparing.interfaces_mismatch(alloc)? {
+        Some(message) => Ok(Some(message)),
+        None => comparing.worlds_mismatch(alloc),
+    }
+}
+
+impl<'a> Comparing<'a> {
+    /// What differs in the first interface of a name that disagrees with the one with which it is matched.
+    fn interfaces_mismatch(&self, alloc: Global) -> Result<Option<String>, AllocError>
+        requires { AreKnown self.now }
+        ensures some { IfOk result (λ found. IfSome found (λ message. (i : ℕ) × InterfaceDiffersAt (merging_of self.now) i (string_bytes message))) }
+        ensures none { IfOk result (λ found. IfNone found ((i : ℕ) (message : List ℕ) → InterfaceDiffersAt (merging_of self.now) i message → ⊥)) }
+    {
+        for index in 0..self.other.interfaces.len() {
+            match self.named_mismatch(alloc, index)? {
+                Some(message) => return Ok(Some(message)),
+                None => {}
+            }
+        }
+        Ok(None)
+    }
+
+    /// What differs in an interface, if it has a name.
+    fn named_mismatch(&self, alloc: Global, index: usize) -> Result<Option<String>, AllocError>
+        requires { AreKnown self.now }
+        ensures some { IfOk result (λ found. IfSome found (λ message. InterfaceDiffersAt (merging_of self.now) index (string_bytes message))) }
+        ensures none { IfOk result (λ found. IfNone found ((message : List ℕ) → InterfaceDiffersAt (merging_of self.now) index message → ⊥)) }
+    {
+        let Some(from) = self.other.interfaces.get(index) else {
+            return Ok(None);
+        };
+        let Some(into) = self.interface_beside(index) else {
+            return Ok(None);
+        };
+        let Some(home) = package_at(self.other, from.package) else {
+            return Ok(None);
+        };
+        let Some(name) = &from.name else {
+            return Ok(None);
+        };
+        match interface_mismatch(alloc, from, into)? {
+            Some(text) => {
+                Ok(Some(in_part(alloc, &home.name, "interface", name.as_str(), &text)?))
+            }
+            None => Ok(None),
+        }
+    }
+
+    /// What differs in the first world that differs from the one with which it is matched.
+    fn worlds_mismatch(&self, alloc: Global) -> Result<Option<String>, AllocError>
+        requires { AreKnown self.now }
+        ensures some { IfOk result (λ found. IfSome found (λ message. (w : ℕ) × WorldDiffersAt (merging_of self.now) w (string_bytes message))) }
+        ensures none { IfOk result (λ found. IfNone found ((w : ℕ) (message : List ℕ) → WorldDiffersAt (merging_of self.now) w message → ⊥)) }
+    {
+        for index in 0..self.other.worlds.len() {
+            match self.world_mismatch(alloc, index)? {
+                Some(message) => return Ok(Some(message)),
+                None => {}
+            }
+        }
+        Ok(None)
+    }
+
+    /// What differs in a world.
+    fn world_mismatch(&self, alloc: Global, index: usize) -> Result<Option<String>, AllocError>
+        requires { AreKnown self.now }
+        ensures some { IfOk result (λ found. IfSome found (λ message. WorldDiffersAt (merging_of self.now) index (string_bytes message))) }
+        ensures none { IfOk result (λ found. IfNone found ((message : List ℕ) → WorldDiffersAt (merging_of self.now) index message → ⊥)) }
+    {
+        let Some(from) = self.other.worlds.get(index) else {
+            return Ok(None);
+        };
+        let Some(into) = self.world_beside(index) else {
+            return Ok(None);
+        };
+        let Some(home) = package_at(self.other, from.package) else {
+            return Ok(None);
+        };
+        match self.sides_mismatch(alloc, from, into)? {
+            Some(text) => {
+                Ok(Some(in_part(alloc, &home.name, "world", from.name.as_str(), &text)?))
+            }
+            None => Ok(None),
+        }
+    }
+}

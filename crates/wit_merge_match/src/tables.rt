@@ -1,0 +1,115 @@
+//! What is found by its name in a table of packages, or of a package.
+ghost use Rattle.std.specs.Prelude.{◌≡◌, IfOk, None, get_or, map, option_and_then, slice_get};
+ghost use Rattle.std.specs.Map.{lookup};
+ghost use Rattle.std.specs.Str.{bytes_eq};
+ghost use Rattle.wit_data.specs.PackageOrder.{same_package};
+ghost use Rattle.wit_graph_data.specs.declared.graph.Package.{Package};
+ghost use Rattle.wit_merge_match.specs.Found.{interface_under, world_under};
+
+use std::alloc::{AllocError, Global};
+use wit_data::{Interface, InterfaceId, Items, PackageId, WorldId};
+use wit_graph_data::Graph;
+
+/// Of each package of the other graph that of the graph with its name.
+pub(crate) fn package_matches(
+    alloc: Global,
+    graph: &Graph,
+    other: &Graph,
+) -> Result<Items<Option<PackageId>>, AllocError>
+    ensures { IfOk result (λ found. found ≡ map (λ (home : Package). lookup (same_package home.name) graph.now.package_names) other.now.packages) }
+{
+    let mut found = Items::new(alloc);
+    for index in 0..other.packages.len() {
+        let home = other.packages.at(index);
+        found.push(graph.package_names.get(&home.name).copied())?;
+    }
+    Ok(found)
+}
+
+/// What is found at a place; None past the end.
+pub(crate) fn match_at<T: Copy>(found: &Items<Option<T>>, place: usize) -> Option<T>
+    ensures { result ≡ get_or found.now place None }
+{
+    match found.get(place) {
+        Some(id) => *id,
+        None => None,
+    }
+}
+
+/// The package that is matched with one of the other graph.
+fn package_beside(packages: &Items<Option<PackageId>>, home: Option<PackageId>) -> Option<PackageId>
+    ensures { result ≡ option_and_then (λ p. get_or packages.now p None) home }
+{
+    match_at(packages, home?.index())
+}
+
+/// Of each world of the other graph that of its name in the package that is matched.
+pub(crate) fn world_matches(
+    alloc: Global,
+    graph: &Graph,
+    other: &Graph,
+    packages: &Items<Option<PackageId>>,
+) -> Result<Items<Option<WorldId>>, AllocError>
+    ensures { IfOk result (λ found. found ≡ map (world_under graph.now packages.now) other.now.worlds) }
+{
+    let mut found = Items::new(alloc);
+    for index in 0..other.worlds.len() {
+        let world = other.worlds.at(index);
+        let home = package_beside(packages, world.package);
+        found.push(world_in(graph, home, world.name.as_str()))?;
+    }
+    Ok(found)
+}
+
+/// The world of a name in a package.
+fn world_in(graph: &Graph, home: Option<PackageId>, name: &str) -> Option<WorldId>
+    ensures { result ≡ option_and_then (λ p. option_and_then (λ (there : Package). lookup (bytes_eq name.now) there.worlds) (slice_get graph.now.packages p)) home }
+{
+    let package = graph.packages.get(home?.index())?;
+    let world = package.worlds.get(name)?;
+    Some(*world)
+}
+
+/// Of each interface of the other graph that has a name, that of its name in the package that is matched; None of
+/// those without.
+pub(crate) fn named_interfaces(
+    alloc: Global,
+    graph: &Graph,
+    other: &Graph,
+    packages: &Items<Option<PackageId>>,
+) -> Result<Items<Option<InterfaceId>>, AllocError>
+    ensures { IfOk result (λ found. found ≡ map (interface_under graph.now packages.now) other.now.interfaces) }
+{
+    let mut found = Items::new(alloc);
+    for index in 0..other.interfaces.len() {
+        found.push(interface_match(graph, packages, other.interfaces.at(index)))?;
+    }
+    Ok(found)
+}
+
+/// The interface of the name of one of the other graph, in the package that is matched.
+fn interface_match(
+    graph: &Graph,
+    packages: &Items<Option<PackageId>>,
+    interface: &Interface,
+) -> Option<InterfaceId>
+    ensures { result ≡ interface_under graph.now packages.now interface.now }
+{
+    match &interface.name {
+        Some(name) => interface_in(
+            graph,
+            package_beside(packages, interface.package),
+            name.as_str(),
+        ),
+        None => None,
+    }
+}
+
+/// The interface of a name in a package.
+fn interface_in(graph: &Graph, home: Option<PackageId>, name: &str) -> Option<InterfaceId>
+    ensures { result ≡ option_and_then (λ p. option_and_then (λ (there : Package). lookup (bytes_eq name.now) there.interfaces) (slice_get graph.now.packages p)) home }
+{
+    let package = graph.packages.get(home?.index())?;
+    let interface = package.interfaces.get(name)?;
+    Some(*interface)
+}

@@ -1,7 +1,0 @@
-//! Which names a graph has.
-ghost use Rattle.wit_merging_examples.specs.NamesHeld.{ExamplesOfNames};
-
-/// Names of each kind, and names that aren't there.
-pub fn examples_of_names()
-    ensures { ExamplesOfNames }
-{}

@@ -1,5 +1,0 @@
-use Rattle.wit_merging_laws.specs.SharedImports.{shared_imports}
-use Rattle.wit_merging_laws.proofs.laws.shared_worlds_keep_imports.Goals as goal
-
-pub returns : goal.returns
-returns c = shared_imports c.laws_of_elaboration.ensures

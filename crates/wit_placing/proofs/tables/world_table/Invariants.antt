@@ -1,8 +1,0 @@
-use Rattle.std.proofs.Common.{◌≡◌, take}
-use Rattle.wit_placing.specs.Movers.{maps_of}
-use Rattle.wit_placing.specs.Tables.{worlds_at}
-use Rattle.wit_placing.proofs.tables.world_table.Given as goal
-
--- the table of the worlds so far
-abbrev pub invariant-loop-place : goal.invariant-loop-place
-invariant-loop-place l = l.table ≡ worlds_at (maps_of l.mover) (take l.place-index l.worlds)

@@ -1,5 +1,0 @@
-use Rattle.std.proofs.Common.{rules}
-use Rattle.wit_placing.proofs.types.TypeOwnerPlace.place.Goals as goal
-
-pub returns-in-Interface : goal.returns-in-Interface
-returns-in-Interface g c = search rules

@@ -1,0 +1,53 @@
+-- Flags that are kept beside a graph, one for each type: whether all bits are valid. With them the question takes
+-- no walk and no memory.
+use Rattle.std.specs.Prelude.{◌≡◌, ◌<◌, ◌↔◌, ℕ, suc, Bool, true, false, List, [], ◌∷◌, Some, IsTrue, length, slice_get, unwrap_or}
+use Rattle.std.specs.List.{list_all}
+use Rattle.wit_data.specs.Each.{SomeAt}
+use Rattle.wit_data.specs.declared.types.Field.{Field}
+use Rattle.wit_data.specs.declared.types.TypeDef.{TypeDef}
+use Rattle.wit_data.specs.declared.types.TypeDefKind.{TypeDefKind}
+use Rattle.wit_data.specs.declared.types.TypeDefKind.TheVariants as kind
+use Rattle.wit_data.specs.declared.types.Type_.{Type_}
+use Rattle.wit_data.specs.declared.types.Type_.TheVariants as type
+use Rattle.wit_graph_data.specs.Questions.{HasAllBitsValid, is_number}
+
+-- each flag that is there says whether all bits of its type are valid
+abbrev pub AreValidBits : List TypeDef → List Bool → Type 0
+AreValidBits types flags = (t : ℕ) (flag : Bool) → slice_get flags t ≡ Some flag → IsTrue flag ↔ HasAllBitsValid types (type.Id t)
+
+-- and each type has one
+pub record TellValidBits (types : List TypeDef) (flags : List Bool) : Type 0 where
+  pub each : length flags ≡ length types
+  pub exact : AreValidBits types flags
+
+-- by the flags, all bits of a type are valid
+abbrev pub is_valid_by : List Bool → Type_ → Bool
+is_valid_by flags (type.Id t) = unwrap_or (slice_get flags t) false
+is_valid_by flags other = is_number other
+
+-- a kind is a handle, or has parts at fixed places of which, by the flags, all bits are valid
+abbrev pub has_valid_parts : List Bool → TypeDefKind → Bool
+has_valid_parts flags (kind.Handle handle) = true
+has_valid_parts flags (kind.Type_ ty) = is_valid_by flags ty
+has_valid_parts flags (kind.FixedLengthList ty len) = is_valid_by flags ty
+has_valid_parts flags (kind.Record fields) = list_all (λ (f : Field). is_valid_by flags f.ty) fields
+has_valid_parts flags (kind.Tuple types) = list_all (is_valid_by flags) types
+has_valid_parts flags _ = false
+
+-- The states of flags on their way, on which stand those that are too many: a flag that is off is right,
+abbrev pub AreRightOff : List TypeDef → List Bool → Type 0
+AreRightOff types flags = (t : ℕ) → slice_get flags t ≡ Some false → HasAllBitsValid types (type.Id t) → ⊥
+
+-- one of the first so many that is on, too,
+abbrev pub AreRightBelow : ℕ → List TypeDef → List Bool → Type 0
+AreRightBelow first types flags = (t : ℕ) → t < first → slice_get flags t ≡ Some true → HasAllBitsValid types (type.Id t)
+
+-- and flag t is off, or the parts of its type agree with it
+abbrev pub Agrees : List TypeDef → List Bool → ℕ → Type 0
+Agrees types flags t = slice_get flags t ≡ Some true → SomeAt types t (λ (def : TypeDef). has_valid_parts flags def.kind ≡ true)
+
+-- how many flags are on
+abbrev pub on_count : List Bool → ℕ
+on_count [] = 0
+on_count (true ∷ flags) = suc (on_count flags)
+on_count (false ∷ flags) = on_count flags

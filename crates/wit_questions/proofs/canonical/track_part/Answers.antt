@@ -1,5 +1,0 @@
-use Rattle.std.proofs.Common.{rules}
-use Rattle.wit_questions.proofs.canonical.track_part.Goals as goal
-
-pub returns-in_ok-track-in-Some : goal.returns-in_ok-track-in-Some
-returns-in_ok-track-in-Some c = search rules

@@ -1,9 +1,0 @@
-use Rattle.std.proofs.Common.{◌≡◌}
-use Rattle.wit_graph.specs.Relations.{entry_interfaces}
-use Rattle.wit_questions.proofs.next.next_named.Given as goal
-
--- what was passed over names none
-abbrev pub invariant-loop-item : goal.invariant-loop-item
-invariant-loop-item l =
-    (goal.iterator-loop-item).can_next l.entries × (goal.iterator-loop-item).is_finite l.entries
-    × (entry_interfaces l.types l.initial.entries ≡ entry_interfaces l.types l.entries)

@@ -1,5 +1,0 @@
-use Rattle.wit_questions.proofs.ValidBits.{IsSettling}
-use Rattle.wit_questions.proofs.valid_bits.settle.Given as goal
-
-abbrev pub invariant-loop-place : goal.invariant-loop-place
-invariant-loop-place l = IsSettling l.types l.first l.fn.flags l.settled l.flags l.place

@@ -1,5 +1,0 @@
-use Rattle.wit_relations.proofs.Arranging.{IsArranging}
-use Rattle.wit_relations.proofs.arrange.in_order.Given as goal
-
-abbrev pub invariant-loop-place : goal.invariant-loop-place
-invariant-loop-place g l = IsArranging l.fn.items l.order l.place-index l.slots l.arranged

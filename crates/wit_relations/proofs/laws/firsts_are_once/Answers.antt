@@ -1,5 +1,0 @@
-use Rattle.wit_relations.proofs.WalkLaws.{firsts_are_once}
-use Rattle.wit_relations.proofs.laws.firsts_are_once.Goals as goal
-
-pub returns : goal.returns
-returns c = firsts_are_once

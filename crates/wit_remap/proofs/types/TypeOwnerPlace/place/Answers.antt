@@ -1,0 +1,5 @@
+use Rattle.std.proofs.Common.{rules}
+use Rattle.wit_remap.proofs.types.TypeOwnerPlace.place.Goals as goal
+
+pub returns-in-Interface : goal.returns-in-Interface
+returns-in-Interface g c = search rules

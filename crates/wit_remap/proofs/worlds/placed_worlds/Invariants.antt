@@ -1,0 +1,17 @@
+use Rattle.std.proofs.Common.{◌≡◌, ◌++◌, ℕ, map}
+use Rattle.std.specs.Vec.Iter.{into_iter_items}
+use Rattle.wit_data.specs.Each.{Each}
+use Rattle.wit_data.specs.declared.world.World.{World}
+use Rattle.wit_remap.specs.Fits.{Fits, WorldFits}
+use Rattle.wit_remap.specs.Movers.{maps_of}
+use Rattle.wit_remap.specs.Parts.{kept_of}
+use Rattle.wit_remap.specs.Worlds.{HasKeysApart, placed_world}
+use Rattle.wit_remap.proofs.worlds.placed_worlds.Given as goal
+
+-- those so far, and those to come
+abbrev pub invariant-loop-place : goal.invariant-loop-place
+invariant-loop-place l = record {
+  all : l.placed ++ map (placed_world (maps_of l.mover) l.part) (into_iter_items l.place-iterator) ≡ map (placed_world (maps_of l.mover) l.part) l.fn.worlds;
+  fits : Each (λ (e : ℕ × World). WorldFits (Fits l.mover.offset) e.1) (into_iter_items l.place-iterator);
+  keys : Each (λ (e : ℕ × World). HasKeysApart (maps_of l.mover) (kept_of l.part) e.1) (into_iter_items l.place-iterator);
+}

@@ -1,0 +1,31 @@
+-- Where the things of a package go, as maps.
+use Rattle.std.specs.Prelude.{ℕ, List, Option, None, Some, slice_get, unwrap_or}
+use Rattle.wit_graph_theory.specs.Image.{Maps}
+use Rattle.wit_link_spec.specs.declared.adding.Places.{Places}
+use Rattle.wit_remap.specs.declared.mover.Mover.{Mover}
+
+-- the id that is there, or else the old one
+abbrev pub id_or : ℕ → Option (Option ℕ) → ℕ
+id_or old None = old
+id_or old (Some None) = old
+id_or old (Some (Some new)) = new
+
+-- where an id goes by a list of places: one that goes nowhere stays
+abbrev pub goes : List (Option ℕ) → ℕ → ℕ
+goes places id = id_or id (slice_get places id)
+
+-- the maps by such lists
+abbrev pub maps_with : Places → List ℕ → ℕ → ℕ → Maps
+maps_with places values home offset = record {
+  types = goes places.types;
+  values = λ t. unwrap_or (slice_get values t) t;
+  interfaces = goes places.interfaces;
+  worlds = goes places.worlds;
+  home = λ p. Some home;
+  labels = λ w name. name;
+  offset = offset;
+}
+
+-- the maps that a mover stands for
+abbrev pub maps_of : Mover → Maps
+maps_of m = maps_with m.places.now m.values.now m.«package» m.offset

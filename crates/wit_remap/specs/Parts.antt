@@ -1,0 +1,42 @@
+-- What of a package takes part, and what of that is its own.
+use Rattle.std.specs.Prelude.{ℕ, Bool, false, List, Option, None, Some, nat_le, slice_get, unwrap_or}
+use Rattle.wit_data.specs.declared.world.WorldItem.{WorldItem}
+use Rattle.wit_data.specs.declared.world.WorldItem.TheVariants as item
+use Rattle.wit_graph_data.specs.declared.features.Features.{Features}
+use Rattle.wit_graph_theory.specs.Kept.{Kept}
+use Rattle.wit_link_spec.specs.Gates.{function_is_active, is_active}
+use Rattle.wit_link_spec.specs.declared.adding.Activity.{Activity}
+use Rattle.wit_remap.specs.declared.part.Part.{Part}
+
+-- the flag at a place
+abbrev pub flag : List Bool → ℕ → Bool
+flag flags i = unwrap_or (slice_get flags i) false
+
+-- an entry of a world that takes part, where it is told of types which do
+abbrev pub has_item : Features → (ℕ → Bool) → WorldItem → Bool
+has_item features types (item.Interface id stability docs span external_id) = is_active features stability
+has_item features types (item.Function function) = function_is_active features function
+has_item features types (item.Type_ id span) = types id
+
+-- what takes part
+abbrev pub kept_with : Features → Activity → Kept
+kept_with features activity = record {
+  types = flag activity.types;
+  interfaces = flag activity.interfaces;
+  worlds = flag activity.worlds;
+  functions = function_is_active features;
+  items = has_item features (flag activity.types);
+}
+
+abbrev pub kept_of : Part → Kept
+kept_of part = kept_with part.features.now part.activity.now
+
+-- an id that isn't below the first one
+abbrev pub is_from : ℕ → Option (Option ℕ) → Bool
+is_from first None = false
+is_from first (Some None) = false
+is_from first (Some (Some id)) = nat_le first id
+
+-- what stands at a place goes to an id that isn't there yet
+abbrev pub is_new : ℕ → List (Option ℕ) → ℕ → Bool
+is_new first places i = is_from first (slice_get places i)

@@ -1,0 +1,75 @@
+//! Functions and interfaces, at their places.
+use crate::moves::Moves;
+use crate::place::Place;
+use wit_data::{Function, FunctionKind, Interface, Param};
+
+impl Place for Param {
+    ghost use Rattle.wit_graph_theory.specs.Image.{param_image};
+
+    ghost fits = { λ P param. P param.span };
+
+    ghost placed = { param_image };
+
+    fn place<M: Moves>(&mut self, mover: &M) {
+        self.ty.place(mover);
+        self.span = mover.span(self.span);
+    }
+}
+
+impl Place for FunctionKind {
+    ghost use Rattle.wit_graph_theory.specs.Image.{function_kind_image};
+
+    ghost fits = { λ _ _. Unit {0} };
+
+    ghost placed = { function_kind_image };
+
+    fn place<M: Moves>(&mut self, mover: &M) {
+        match self {
+            FunctionKind::Method(id) => id.place(mover),
+            FunctionKind::AsyncMethod(id) => id.place(mover),
+            FunctionKind::Static(id) => id.place(mover),
+            FunctionKind::AsyncStatic(id) => id.place(mover),
+            FunctionKind::Constructor(id) => id.place(mover),
+            FunctionKind::MethodGetter(id) => id.place(mover),
+            FunctionKind::MethodSetter(id) => id.place(mover),
+            FunctionKind::StaticGetter(id) => id.place(mover),
+            FunctionKind::StaticSetter(id) => id.place(mover),
+            FunctionKind::Freestanding
+            | FunctionKind::AsyncFreestanding
+            | FunctionKind::Getter
+            | FunctionKind::Setter => {}
+        }
+    }
+}
+
+impl Place for Function {
+    ghost use Rattle.wit_graph_theory.specs.Image.{function_image};
+    ghost use Rattle.wit_remap.specs.Fits.{FunctionFits};
+
+    ghost fits = { FunctionFits };
+
+    ghost placed = { function_image };
+
+    fn place<M: Moves>(&mut self, mover: &M) {
+        self.kind.place(mover);
+        self.params.place(mover);
+        self.result_.place(mover);
+        self.span = mover.span(self.span);
+    }
+}
+
+impl Place for Interface {
+    ghost use Rattle.wit_graph_theory.specs.Image.{interface_image};
+    ghost use Rattle.wit_remap.specs.Fits.{InterfaceFits};
+
+    ghost fits = { InterfaceFits };
+
+    ghost placed = { interface_image };
+
+    fn place<M: Moves>(&mut self, mover: &M) {
+        self.types.place(mover);
+        self.functions.place(mover);
+        self.package = Some(mover.home());
+        self.span = mover.span(self.span);
+    }
+}

@@ -1,0 +1,171 @@
+//! What of a package takes part, and what of that is its own.
+ghost use Rattle.std.specs.Prelude.{◌≡◌, IfOk, drop, filter, slice_get};
+ghost use Rattle.std.specs.Option.{option_copied};
+ghost use Rattle.std.specs.Slice.Iter.{iter_rest};
+ghost use Rattle.wit_link_spec.specs.Gates.{include_is_active, is_active};
+ghost use Rattle.wit_link_spec.specs.Ranks.{taken, taken_places};
+ghost use Rattle.wit_graph_theory.specs.Cut.{cut_interface};
+ghost use Rattle.wit_remap.specs.Parts.{is_from, is_new, kept_of};
+
+use std::alloc::{AllocError, Global};
+use std::mem;
+use wit_data::{
+    Function, Id, Interface, Items, Names, Stability, Table, TypeId, WorldInclude, WorldItem,
+    WorldKey,
+};
+use wit_graph_data::Features;
+use wit_link_spec::{Activity, is_active};
+
+/// Which features are on, and what of a package takes part for that.
+#[derive(Clone, Copy)]
+pub struct Part<'a> {
+    pub features: &'a Features,
+    pub activity: &'a Activity,
+}
+
+impl<'a> Part<'a> {
+    /// Whether a note lets its item take part.
+    fn is_active(&self, note: &Stability) -> bool
+        ensures { result ≡ is_active self.now.features.now note.now }
+    {
+        is_active(self.features, note)
+    }
+
+    /// Whether a type takes part.
+    fn has_type(&self, id: TypeId) -> bool
+        ensures { result ≡ (kept_of self.now).types id }
+    {
+        match self.activity.types.get(id.index()) {
+            Some(active) => *active,
+            None => false,
+        }
+    }
+
+    /// Whether an entry of a world that takes part does.
+    fn has_item(&self, item: &WorldItem) -> bool
+        ensures { result ≡ (kept_of self.now).items item.now }
+    {
+        match item {
+            WorldItem::Interface { stability, .. } => self.is_active(stability),
+            WorldItem::Function(function) => self.is_active(&function.stability),
+            WorldItem::Type_ { id, .. } => self.has_type(*id),
+        }
+    }
+
+    /// Leaves of an interface what takes part.
+    pub(crate) fn cut_interface(&self, interface: &mut Interface)
+        ensures { interface.new ≡ cut_interface (kept_of self.now) interface.old }
+    {
+        self.cut_types(&mut interface.types);
+        self.cut_functions(&mut interface.functions);
+    }
+
+    fn cut_types(&self, types: &mut Names<TypeId>)
+        ensures { types.new ≡ filter (λ e. (kept_of self.now).types e.1) types.old }
+    {
+        let alloc = types.allocator();
+        let mut map = mem::replace(types, Names::new(alloc)).into_map();
+        map.retain(
+            |_name: &String, id: &mut TypeId| -> bool
+                ensures { (result ≡ (kept_of self.entry.now).types id.old) × (id.new ≡ id.old) }
+            { self.has_type(*id) },
+        );
+        *types = Names::from_map(map);
+    }
+
+    fn cut_functions(&self, functions: &mut Names<Function>)
+        ensures { functions.new ≡ filter (λ e. (kept_of self.now).functions e.1) functions.old }
+    {
+        let alloc = functions.allocator();
+        let mut map = mem::replace(functions, Names::new(alloc)).into_map();
+        map.retain(
+            |_name: &String, function: &mut Function| -> bool
+                ensures { (result ≡ (kept_of self.entry.now).functions function.old) × (function.new ≡ function.old) }
+            { self.is_active(&function.stability) },
+        );
+        *functions = Names::from_map(map);
+    }
+
+    /// The entries that take part.
+    pub(crate) fn cut_entries(
+        &self,
+        entries: Table<WorldKey, WorldItem>,
+    ) -> Table<WorldKey, WorldItem>
+        ensures { result ≡ filter (λ e. (kept_of self.now).items e.1) entries }
+    {
+        let mut map = entries.into_map();
+        map.retain(
+            |_key: &WorldKey, item: &mut WorldItem| -> bool
+                ensures { (result ≡ (kept_of self.entry.now).items item.old) × (item.new ≡ item.old) }
+            { self.has_item(&*item) },
+        );
+        Table::from_map(map)
+    }
+
+    /// The includes that take part.
+    pub(crate) fn cut_includes(&self, includes: Items<WorldInclude>) -> Items<WorldInclude>
+        ensures { result ≡ filter (include_is_active self.now.features.now) includes }
+    {
+        let mut includes = includes.into_vec();
+        includes.retain(
+            |include: &WorldInclude| -> bool
+                ensures { result ≡ include_is_active self.entry.now.features.now include.now }
+            { self.is_active(&include.stability) },
+        );
+        Items::from_vec(includes)
+    }
+}
+
+/// Whether where a thing goes is an id from the first one on.
+fn is_from<S>(place: Option<&Option<Id<S>>>, first: &Id<S>) -> bool
+    ensures { result ≡ is_from first.now (option_copied place.entry) }
+{
+    match place {
+        Some(Some(id)) => first <= id,
+        _ => false,
+    }
+}
+
+/// Whether what stands at a place goes to an id that isn't there yet.
+fn is_new<S>(places: &[Option<Id<S>>], first: &Id<S>, index: usize) -> bool
+    ensures { result ≡ is_new first.now places.now index }
+{
+    is_from(places.get(index), first)
+}
+
+/// What goes to ids from the first one on.
+pub(crate) fn taken<S, T: Drop>(
+    items: Items<T>,
+    places: &[Option<Id<S>>],
+    first: &Id<S>,
+) -> Items<T>
+    ensures { result ≡ taken (is_new first.now places.now) items }
+{
+    let mut items = items.into_vec();
+    let mut places = places.iter();
+    items.retain(
+        move |_item: &T| -> bool
+            ensures answer { result ≡ is_from first.entry.now (slice_get (iter_rest places.entry) 0) }
+            ensures rest { iter_rest places.exit ≡ drop 1 (iter_rest places.entry) }
+        { is_from(places.next(), first) },
+    );
+    Items::from_vec(items)
+}
+
+/// What goes to ids from the first one on, each with its place.
+pub(crate) fn taken_places<S, T: Drop>(
+    alloc: Global,
+    items: Items<T>,
+    places: &[Option<Id<S>>],
+    first: &Id<S>,
+) -> Result<Items<(usize, T)>, AllocError>
+    ensures { IfOk result (λ taken. taken ≡ taken_places (is_new first.now places.now) items) }
+{
+    let mut taken = Items::new(alloc);
+    for (index, item) in items.into_vec().into_iter().enumerate() {
+        if is_new(places, first, index) {
+            taken.push((index, item))?;
+        }
+    }
+    Ok(taken)
+}

@@ -1,0 +1,213 @@
+//! The parts of a package, added to a graph before its worlds.
+ghost use Rattle.std.specs.Prelude.{◌≡◌, ◌++◌, ◌∷◌, [], IfOk, None, OnOk, length, map};
+ghost use Rattle.std.specs.List.{IsDistinct};
+ghost use Rattle.std.specs.Map.{keys_of, lookup};
+ghost use Rattle.std.specs.Str.{bytes_eq};
+ghost use Rattle.wit_link_spec.specs.Adding.{activity_of, places_of, values_of};
+ghost use Rattle.wit_link_spec.specs.Pushed.{with_parts};
+ghost use Rattle.wit_link_spec.specs.Ranks.{taken, taken_places};
+ghost use Rattle.wit_link_spec.specs.Reasons.{HasImage, PassesTheEnd};
+ghost use Rattle.wit_elaboration.specs.Valid.{IsValid};
+ghost use Rattle.wit_graph_theory.specs.Cut.{cut_interface};
+ghost use Rattle.wit_graph_theory.specs.Image.{interface_image, type_image};
+ghost use Rattle.wit_data.specs.Each.{Each};
+ghost use Rattle.wit_data.specs.PackageOrder.{same_package};
+ghost use Rattle.wit_data.specs.Shape.{IsShaped};
+ghost use Rattle.wit_remap.specs.Added.{IsReady, added_worlds, addition, moved_parts, with_interfaces};
+ghost use Rattle.wit_remap.specs.Fits.{Fits, InterfaceFits, TypeFits};
+ghost use Rattle.wit_remap.specs.Grown.{Grown};
+ghost use Rattle.wit_remap.specs.Movers.{maps_of};
+ghost use Rattle.wit_remap.specs.Parts.{is_new, kept_of};
+ghost use Rattle.wit_remap.specs.Tables.{interfaces_at};
+ghost use Rattle.wit_remap.specs.Worlds.{placed_world};
+
+use crate::mover::Mover;
+use crate::part::{Part, taken, taken_places};
+use crate::place::Place;
+use crate::tables::{interface_table, world_table};
+use crate::worlds::{PlacedWorld, placed_worlds};
+use std::alloc::{AllocError, Global};
+use std::mem;
+use wit_data::{
+    Docs, Interface, InterfaceId, Items, Names, PackageId, TryClone, TypeDef, TypeId,
+    UnresolvedPackage, WorldId,
+};
+use wit_graph_data::{Graph, Package};
+use wit_link_spec::{Places, Values};
+
+/// Adds the types of a package that are its own, at their places, and the `own`s. Where there is no memory some of
+/// them may be there.
+fn add_types(
+    graph: &mut Graph,
+    mover: &Mover<'_>,
+    types: Items<TypeDef>,
+    owns: Items<TypeDef>,
+) -> Result<(), AllocError>
+    requires { Each (TypeFits (Fits mover.now.offset)) types }
+    ensures ok { OnOk result (graph.new ≡ record graph.old { types = graph.old.types ++ (map (type_image (maps_of mover.now)) (taken (is_new (length graph.old.types) mover.now.places.now.types) types) ++ owns) }) }
+    ensures grown { Grown graph.old graph.new }
+{
+    let first = TypeId::from_index(graph.types.len());
+    let mut own = taken(types, mover.places.types.as_slice(), &first);
+    own.place(mover);
+    own.append(owns)?;
+    graph.types.append(own)?;
+    Ok(())
+}
+
+/// Adds the interfaces of a package that are its own, of each what takes part, at their places, and answers the
+/// table of those that have names.
+fn add_interfaces(
+    alloc: Global,
+    graph: &mut Graph,
+    mover: &Mover<'_>,
+    part: &Part<'_>,
+    interfaces: Items<Interface>,
+) -> Result<Names<InterfaceId>, AllocError>
+    requires fits { Each (InterfaceFits (Fits mover.now.offset)) interfaces }
+    requires names { IsDistinct bytes_eq (keys_of (interfaces_at (maps_of mover.now) (taken_places (is_new (length graph.old.interfaces) mover.now.places.now.interfaces) interfaces))) }
+    ensures ok { OnOk result (graph.new ≡ record graph.old { interfaces = graph.old.interfaces ++ map (interface_image (maps_of mover.now)) (map (cut_interface (kept_of part.now)) (taken (is_new (length graph.old.interfaces) mover.now.places.now.interfaces) interfaces)) }) }
+    ensures table { IfOk result (λ table. table ≡ interfaces_at (maps_of mover.now) (taken_places (is_new (length graph.old.interfaces) mover.now.places.now.interfaces) interfaces)) }
+    ensures grown { Grown graph.old graph.new }
+{
+    let first = InterfaceId::from_index(graph.interfaces.len());
+    let places = mover.places.interfaces.as_slice();
+    let own = taken_places(alloc, interfaces, places, &first)?;
+    let table = interface_table(alloc, mover, own.as_slice())?;
+    let placed = placed_interfaces(alloc, mover, part, own)?;
+    graph.interfaces.append(placed)?;
+    Ok(table)
+}
+
+/// Interfaces at their places, of each what takes part.
+fn placed_interfaces(
+    alloc: Global,
+    mover: &Mover<'_>,
+    part: &Part<'_>,
+    interfaces: Items<(usize, Interface)>,
+) -> Result<Items<Interface>, AllocError>
+    requires { Each (λ e. InterfaceFits (Fits mover.now.offset) e.1) interfaces }
+    ensures { IfOk result (λ placed. placed ≡ map (λ e. interface_image (maps_of mover.now) (cut_interface (kept_of part.now) e.1)) interfaces) }
+{
+    let mut placed = Items::new(alloc);
+    for item in interfaces.into_vec() {
+        let (_, mut interface) = item;
+        part.cut_interface(&mut interface);
+        interface.place(mover);
+        placed.push(interface)?;
+    }
+    Ok(placed)
+}
+
+/// Adds a package under its name.
+fn add_package(graph: &mut Graph, package: Package) -> Result<(), AllocError>
+    requires { lookup (same_package «package».name) graph.old.package_names ≡ None }
+    ensures ok { OnOk result (graph.new ≡ record graph.old { packages = graph.old.packages ++ «package» ∷ []; package_names = graph.old.package_names ++ («package».name, length graph.old.packages) ∷ [] }) }
+    ensures grown { Grown graph.old graph.new }
+{
+    let id = PackageId::from_index(graph.packages.len());
+    graph.package_names.push(package.name.try_clone()?, id)?;
+    graph.packages.push(package)?;
+    Ok(())
+}
+
+/// Adds the interfaces of a package that are its own, and the package with a table of its worlds.
+fn add_with_worlds(
+    alloc: Global,
+    graph: &mut Graph,
+    mover: &Mover<'_>,
+    part: &Part<'_>,
+    handed: UnresolvedPackage,
+    worlds: Names<WorldId>,
+) -> Result<(), AllocError>
+    requires new { lookup (same_package handed.name) graph.old.package_names ≡ None }
+    requires fits { Each (InterfaceFits (Fits mover.now.offset)) handed.interfaces }
+    requires names { IsDistinct bytes_eq (keys_of (interfaces_at (maps_of mover.now) (taken_places (is_new (length graph.old.interfaces) mover.now.places.now.interfaces) handed.interfaces))) }
+    ensures ok { OnOk result (graph.new ≡ with_interfaces mover.now.places.now (maps_of mover.now) (kept_of part.now) handed worlds graph.old) }
+    ensures grown { Grown graph.old graph.new }
+{
+    let mut handed = handed;
+    let interfaces = mem::replace(&mut handed.interfaces, Items::new(alloc));
+    let interfaces = add_interfaces(alloc, graph, mover, part, interfaces)?;
+    let docs = mem::replace(&mut handed.docs, Docs::none());
+    let package = Package {
+        name: handed.into_name(),
+        docs,
+        interfaces,
+        worlds,
+    };
+    add_package(graph, package)
+}
+
+/// Adds a package at the ends of a graph, its parts at their places, and answers its worlds. Where there is no
+/// memory some of its parts may be there.
+fn move_parts(
+    alloc: Global,
+    graph: &mut Graph,
+    mover: &Mover<'_>,
+    part: &Part<'_>,
+    owns: Items<TypeDef>,
+    handed: UnresolvedPackage,
+) -> Result<Items<PlacedWorld>, AllocError>
+    requires { IsReady mover.now.places.now (maps_of mover.now) (kept_of part.now) graph.old handed }
+    ensures ok { OnOk result (graph.new ≡ moved_parts mover.now.places.now (maps_of mover.now) (kept_of part.now) owns handed graph.old) }
+    ensures worlds { IfOk result (λ worlds. worlds ≡ map (placed_world (maps_of mover.now) part.now) (taken_places (is_new (length graph.old.worlds) mover.now.places.now.worlds) handed.worlds)) }
+    ensures grown { Grown graph.old graph.new }
+{
+    let mut handed = handed;
+    let types = mem::replace(&mut handed.types, Items::new(alloc));
+    add_types(graph, mover, types, owns)?;
+    let worlds = mem::replace(&mut handed.worlds, Items::new(alloc));
+    let first = WorldId::from_index(graph.worlds.len());
+    let own = taken_places(alloc, worlds, mover.places.worlds.as_slice(), &first)?;
+    let table = world_table(alloc, mover, own.as_slice())?;
+    add_with_worlds(alloc, graph, mover, part, handed, table)?;
+    placed_worlds(alloc, mover, part, own)
+}
+
+/// Adds the parts of a package to a graph: the types and interfaces that are its own and take part, the `own`s that
+/// values ask for, and the package with its tables. Answers its worlds at their places, each with what it includes;
+/// none of them is in the graph yet.
+///
+/// For an `is_shaped` package and a valid graph that has none of its name, where nothing leaves the package without
+/// an image (1 to 3, 9 to 13) and its spans can be moved by the offset. What takes part, where ids go and what values
+/// ask for are those of this addition.
+///
+/// The only error is want of memory. Some parts may be there then: the graph begins as it was, and a mark cuts it
+/// back.
+///
+/// Source: `append` of wit-parser 0.263.0.
+pub fn add_parts(
+    alloc: Global,
+    graph: &mut Graph,
+    part: &Part<'_>,
+    places: &Places,
+    values: Values,
+    handed: UnresolvedPackage,
+    offset: u32,
+) -> Result<Items<PlacedWorld>, AllocError>
+    requires shaped { IsShaped handed }
+    requires valid { IsValid graph.old }
+    requires image { HasImage (addition part.now graph.old handed offset) }
+    requires new { lookup (same_package handed.name) graph.old.package_names ≡ None }
+    requires fits { PassesTheEnd (addition part.now graph.old handed offset) → ⊥ }
+    requires activity { part.now.activity.now ≡ activity_of (addition part.now graph.old handed offset) }
+    requires places { places.now ≡ places_of (addition part.now graph.old handed offset) }
+    requires values { values ≡ values_of (addition part.now graph.old handed offset) }
+    ensures ok { OnOk result (graph.new ≡ with_parts (addition part.now graph.old handed offset)) }
+    ensures worlds { IfOk result (λ worlds. worlds ≡ added_worlds (addition part.now graph.old handed offset)) }
+    ensures grown { Grown graph.old graph.new }
+{
+    let Values {
+        places: values,
+        owns,
+    } = values;
+    let id = PackageId::from_index(graph.packages.len());
+    let mover = Mover {
+        places,
+        values: &values,
+        package: id,
+        offset,
+    };
+    move_parts(alloc, graph, &mover, part, owns, handed)
+}

@@ -1,0 +1,127 @@
+//! Worlds, at their places.
+ghost use Rattle.std.specs.Prelude.{◌≡◌, ℕ, IfOk, map};
+ghost use Rattle.std.specs.List.{IsDistinct};
+ghost use Rattle.std.specs.Map.{keys_of};
+ghost use Rattle.wit_graph_theory.specs.Image.{entry_image, item_image, key_image};
+ghost use Rattle.wit_data.specs.Each.{Each};
+ghost use Rattle.wit_data.specs.WorldKeyFacts.{same_key};
+ghost use Rattle.wit_remap.specs.Fits.{EntriesFit, Fits, ItemFits, WorldFits};
+ghost use Rattle.wit_remap.specs.Movers.{maps_of};
+ghost use Rattle.wit_remap.specs.Parts.{kept_of};
+ghost use Rattle.wit_remap.specs.Worlds.{HasKeysApart, placed_world};
+
+use crate::mover::Mover;
+use crate::moves::Moves;
+use crate::part::Part;
+use crate::place::Place;
+use std::alloc::{AllocError, Global};
+use std::mem;
+use wit_data::{Items, Table, World, WorldId, WorldInclude, WorldItem, WorldKey};
+
+/// A world of a package at its place, before its includes.
+#[derive(Drop)]
+pub struct PlacedWorld {
+    /// Its id in the package.
+    pub place: WorldId,
+    pub world: World,
+    /// What it includes, with the ids that it had in the package.
+    pub includes: Items<WorldInclude>,
+}
+
+/// Worlds at their places, of each what takes part.
+pub(crate) fn placed_worlds(
+    alloc: Global,
+    mover: &Mover<'_>,
+    part: &Part<'_>,
+    worlds: Items<(usize, World)>,
+) -> Result<Items<PlacedWorld>, AllocError>
+    requires fits { Each (λ e. WorldFits (Fits mover.now.offset) e.1) worlds }
+    requires keys { Each (λ e. HasKeysApart (maps_of mover.now) (kept_of part.now) e.1) worlds }
+    ensures { IfOk result (λ placed. placed ≡ map (placed_world (maps_of mover.now) part.now) worlds) }
+{
+    let mut placed = Items::new(alloc);
+    for (place, world) in worlds.into_vec() {
+        let place = WorldId::from_index(place);
+        placed.push(placed_world(alloc, mover, part, place, world)?)?;
+    }
+    Ok(placed)
+}
+
+/// A world at its place, of it what takes part.
+fn placed_world(
+    alloc: Global,
+    mover: &Mover<'_>,
+    part: &Part<'_>,
+    place: WorldId,
+    mut world: World,
+) -> Result<PlacedWorld, AllocError>
+    requires fits { WorldFits (Fits mover.now.offset) world }
+    requires keys { HasKeysApart (maps_of mover.now) (kept_of part.now) world }
+    ensures { IfOk result (λ placed. placed ≡ placed_world (maps_of mover.now) part.now (place, world)) }
+{
+    let imports = mem::replace(&mut world.imports, Table::new(alloc));
+    let imports = placed_entries(alloc, mover, part.cut_entries(imports))?;
+    world.imports = imports;
+    let exports = mem::replace(&mut world.exports, Table::new(alloc));
+    let exports = placed_entries(alloc, mover, part.cut_entries(exports))?;
+    world.exports = exports;
+    let includes = part.cut_includes(mem::replace(&mut world.includes, Items::new(alloc)));
+    world.package = Some(mover.package);
+    world.span = mover.span(world.span);
+    Ok(PlacedWorld {
+        place,
+        world,
+        includes,
+    })
+}
+
+/// Entries of a package's world at their places, in their order: the ids of keys and items go and the
+/// spans move as the mover says. The spans can be moved, and the keys differ where they go. The only
+/// error is want of memory.
+///
+/// Source: `update_world` and `update_world_key` of wit-parser 0.263.0.
+pub fn placed_entries(
+    alloc: Global,
+    mover: &Mover<'_>,
+    entries: Table<WorldKey, WorldItem>,
+) -> Result<Table<WorldKey, WorldItem>, AllocError>
+    requires fits { EntriesFit (Fits mover.now.offset) entries }
+    requires keys { IsDistinct same_key (keys_of (map (entry_image (maps_of mover.now) 0) entries)) }
+    ensures { IfOk result (λ placed. (w : ℕ) → placed ≡ map (entry_image (maps_of mover.now) w) entries) }
+{
+    let mut placed = Table::new(alloc);
+    for (key, item) in entries.into_map() {
+        placed.push(placed_key(mover, key), placed_item(mover, item))?;
+    }
+    Ok(placed)
+}
+
+/// A key of a world at its place.
+fn placed_key(mover: &Mover<'_>, key: WorldKey) -> WorldKey
+    ensures { (w : ℕ) → result ≡ key_image (maps_of mover.now) w key }
+{
+    match key {
+        WorldKey::Name(label) => WorldKey::Name(label),
+        WorldKey::Interface(id) => WorldKey::Interface(mover.interface_id(id)),
+    }
+}
+
+/// What a world holds under a key, at its place.
+fn placed_item(mover: &Mover<'_>, item: WorldItem) -> WorldItem
+    requires { ItemFits (Fits mover.now.offset) item }
+    ensures { (w : ℕ) → result ≡ item_image (maps_of mover.now) w item }
+{
+    let mut item = item;
+    match &mut item {
+        WorldItem::Interface { id, span, .. } => {
+            *id = mover.interface_id(*id);
+            *span = mover.span(*span);
+        }
+        WorldItem::Function(function) => function.place(mover),
+        WorldItem::Type_ { id, span } => {
+            id.place(mover);
+            *span = mover.span(*span);
+        }
+    }
+    item
+}

@@ -1,8 +1,0 @@
-use Rattle.std.proofs.Common.{◌≡◌, ◌++◌}
-use Rattle.std.specs.List.{flat_map, range_with_len}
-use Rattle.wit_adding.specs.Adding.{addition_of}
-use Rattle.wit_resources.specs.Asked.{positions_of_type}
-use Rattle.wit_resources.proofs.asked.push_types.Given as goal
-
-abbrev pub invariant-loop-place : goal.invariant-loop-place
-invariant-loop-place l = l.ids ≡ l.fn.ids ++ flat_map (positions_of_type (addition_of l.adding)) (range_with_len 0 l.place)

@@ -1,7 +1,0 @@
-use Rattle.std.proofs.Common.{◌≡◌, ◌++◌}
-use Rattle.wit_resources.specs.Active.{active_named, seen}
-use Rattle.wit_resources.proofs.functions.push_named.Given as goal
-
--- what has been added, and what those will add that are left
-abbrev pub invariant-loop-function : goal.invariant-loop-function
-invariant-loop-function l = seen l.functions.items ++ active_named l.features l.function-iterator ≡ seen l.fn.functions.items ++ active_named l.features l.named

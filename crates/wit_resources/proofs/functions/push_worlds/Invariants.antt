@@ -1,8 +1,0 @@
-use Rattle.std.proofs.Common.{◌≡◌, ◌++◌}
-use Rattle.std.specs.List.{flat_map, range_with_len}
-use Rattle.wit_adding.specs.Adding.{addition_of}
-use Rattle.wit_resources.specs.Active.{world_functions, seen}
-use Rattle.wit_resources.proofs.functions.push_worlds.Given as goal
-
-abbrev pub invariant-loop-place : goal.invariant-loop-place
-invariant-loop-place l = seen l.functions.items ≡ seen l.fn.functions.items ++ flat_map (world_functions (addition_of l.adding)) (range_with_len 0 l.place)

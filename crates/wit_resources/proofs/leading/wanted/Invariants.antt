@@ -1,6 +1,0 @@
-use Rattle.wit_resources.specs.Leading.{AreWanted}
-use Rattle.wit_resources.proofs.leading.wanted.Given as goal
-
--- all is seen to from some type on
-abbrev pub invariant-loop-place : goal.invariant-loop-place
-invariant-loop-place l = AreWanted l.adding.handed.now.types l.asked l.place l.wanted

@@ -1,8 +1,0 @@
-use Rattle.std.proofs.Common.{◌≡◌}
-use Rattle.wit_adding.specs.Adding.{addition_of}
-use Rattle.wit_adding.specs.Addition.{own_type}
-use Rattle.wit_adding.specs.Ranks.{rank}
-use Rattle.wit_resources.proofs.owning.count_own.Given as goal
-
-abbrev pub invariant-loop-place : goal.invariant-loop-place
-invariant-loop-place l = l.count ≡ rank (own_type (addition_of l.adding)) l.place

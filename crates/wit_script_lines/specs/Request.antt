@@ -1,0 +1,132 @@
+-- What a command of a script that hands in no package says by its tokens alone.
+use Rattle.std.specs.Prelude.{ℕ, ◌||◌, Bool, List, [], ◌∷◌, Option, Some, None, option_and_then, codes, if◌then◌else◌}
+use Rattle.std.specs.Option.{option_map}
+use Rattle.std.specs.Str.{bytes_eq}
+use Rattle.wit_data.specs.declared.package_name.PackageName.{PackageName}
+use Rattle.wit_script_lines.specs.Token.{package_name_of, part_of}
+use Rattle.wit_script_lines.specs.declared.request.Request.{Request}
+use Rattle.wit_script_lines.specs.declared.request.Request.TheVariants as request
+use Rattle.wit_data.specs.declared.track.TrackRule.{TrackRule}
+use Rattle.wit_data.specs.declared.track.TrackRule.TheVariants as tracks
+
+-- a first token that begins such a command
+abbrev pub is_request : List ℕ → Bool
+is_request word =
+    bytes_eq word (codes "feature") || (bytes_eq word (codes "all-features") || (bytes_eq word (codes "tracks") || (bytes_eq word (codes "other")
+    || (bytes_eq word (codes "merge") || (bytes_eq word (codes "importize") || (bytes_eq word (codes "exportize") || (bytes_eq word (codes "semver")
+    || (bytes_eq word (codes "print") || bytes_eq word (codes "select")))))))))
+
+-- a command without arguments
+abbrev pub alone_of : Request → List (List ℕ) → Option Request
+alone_of asked [] = Some asked
+alone_of asked (argument ∷ arguments) = None
+
+-- `NAME`
+abbrev pub feature_of : List (List ℕ) → Option Request
+feature_of [] = None
+feature_of (name ∷ []) = option_map request.Feature (part_of name)
+feature_of (name ∷ next ∷ arguments) = None
+
+-- `published` or `with-prereleases`
+abbrev pub track_rule_of : List ℕ → Option TrackRule
+track_rule_of token =
+    if bytes_eq token (codes "published") then Some tracks.Published
+    else if bytes_eq token (codes "with-prereleases") then Some tracks.WithPrereleases
+    else None
+
+-- the rule of tracks of this name
+abbrev pub tracks_of : List (List ℕ) → Option Request
+tracks_of [] = None
+tracks_of (rule ∷ []) = option_map request.Tracks (track_rule_of rule)
+tracks_of (rule ∷ next ∷ arguments) = None
+
+-- a world of a package
+abbrev pub world_in : List ℕ → List ℕ → Option (PackageName × List ℕ)
+world_in name world = option_and_then (λ owner. option_map (λ own. (owner, own)) (part_of world)) (package_name_of name)
+
+-- `PKG WORLD`
+abbrev pub world_only : List ℕ → List (List ℕ) → Option (PackageName × List ℕ)
+world_only name [] = None
+world_only name (world ∷ []) = world_in name world
+world_only name (world ∷ next ∷ arguments) = None
+
+abbrev pub world_of : List (List ℕ) → Option (PackageName × List ℕ)
+world_of [] = None
+world_of (name ∷ arguments) = world_only name arguments
+
+-- the turning of a world, which then has this name
+abbrev pub importize_to : List ℕ → List ℕ → Option (List ℕ) → Option Request
+importize_to name world out = option_map (λ (of_package : PackageName × List ℕ). request.Importize of_package.0 of_package.1 out) (world_in name world)
+
+abbrev pub importize_as : List ℕ → List ℕ → List ℕ → Option Request
+importize_as name world out = option_and_then (λ new. importize_to name world (Some new)) (part_of out)
+
+-- `PKG WORLD` or `PKG WORLD NAME`
+abbrev pub importize_world : List ℕ → List ℕ → List (List ℕ) → Option Request
+importize_world name world [] = importize_to name world None
+importize_world name world (out ∷ []) = importize_as name world out
+importize_world name world (out ∷ next ∷ arguments) = None
+
+abbrev pub importize_in : List ℕ → List (List ℕ) → Option Request
+importize_in name [] = None
+importize_in name (world ∷ arguments) = importize_world name world arguments
+
+abbrev pub importize_of : List (List ℕ) → Option Request
+importize_of [] = None
+importize_of (name ∷ arguments) = importize_in name arguments
+
+-- the new name of `exportize`, where `-` stands for none
+abbrev pub new_name_of : List ℕ → Option (List ℕ)
+new_name_of token = if bytes_eq token (codes "-") then None else Some token
+
+-- the keys of `exportize`; without any, all imports are turned
+abbrev pub keys_of : List (List ℕ) → Option (List (List ℕ))
+keys_of [] = None
+keys_of (key ∷ keys) = Some (key ∷ keys)
+
+-- the turning of a world by these keys, which then has this name
+abbrev pub exportize_to : List ℕ → List ℕ → List ℕ → List (List ℕ) → Option Request
+exportize_to name world out keys =
+    option_map (λ (of_package : PackageName × List ℕ). request.Exportize of_package.0 of_package.1 (new_name_of out) (keys_of keys)) (world_in name world)
+
+-- `PKG WORLD NAME KEY ..`
+abbrev pub exportize_world : List ℕ → List ℕ → List (List ℕ) → Option Request
+exportize_world name world [] = None
+exportize_world name world (out ∷ keys) = exportize_to name world out keys
+
+abbrev pub exportize_in : List ℕ → List (List ℕ) → Option Request
+exportize_in name [] = None
+exportize_in name (world ∷ arguments) = exportize_world name world arguments
+
+abbrev pub exportize_of : List (List ℕ) → Option Request
+exportize_of [] = None
+exportize_of (name ∷ arguments) = exportize_in name arguments
+
+-- the choice of a world for a package
+abbrev pub select_with : List ℕ → Option (List ℕ) → Option Request
+select_with name said = option_map (λ owner. request.Select owner said) (package_name_of name)
+
+abbrev pub select_text : List ℕ → List ℕ → Option Request
+select_text name text = option_and_then (λ said. select_with name (Some said)) (part_of text)
+
+-- `PKG` or `PKG TEXT`
+abbrev pub select_of : List (List ℕ) → Option Request
+select_of [] = None
+select_of (name ∷ []) = select_with name None
+select_of (name ∷ text ∷ []) = select_text name text
+select_of (name ∷ text ∷ next ∷ arguments) = None
+
+-- such a command by its first token and its arguments
+abbrev pub request_by : List ℕ → List (List ℕ) → Option Request
+request_by word arguments =
+    if bytes_eq word (codes "feature") then feature_of arguments
+    else if bytes_eq word (codes "all-features") then alone_of request.AllFeatures arguments
+    else if bytes_eq word (codes "tracks") then tracks_of arguments
+    else if bytes_eq word (codes "other") then alone_of request.Other arguments
+    else if bytes_eq word (codes "merge") then alone_of request.Merge arguments
+    else if bytes_eq word (codes "importize") then importize_of arguments
+    else if bytes_eq word (codes "exportize") then exportize_of arguments
+    else if bytes_eq word (codes "semver") then option_map (λ of_package. request.Semver of_package.0 of_package.1) (world_of arguments)
+    else if bytes_eq word (codes "print") then option_map (λ of_package. request.Print of_package.0 of_package.1) (world_of arguments)
+    else if bytes_eq word (codes "select") then select_of arguments
+    else None

@@ -1,0 +1,43 @@
+-- What a line of a script says by its tokens alone.
+use Rattle.std.specs.Prelude.{ℕ, List, [], ◌∷◌, Option, Some, None, option_and_then, codes, if◌then◌else◌}
+use Rattle.std.specs.Option.{option_map}
+use Rattle.std.specs.Str.{bytes_eq}
+use Rattle.wit_script_lines.specs.Gate.{gate_of_line, ungated_of}
+use Rattle.wit_script_lines.specs.Line.{is_comment, tokens_of}
+use Rattle.wit_script_lines.specs.PackageLine.{package_line_by}
+use Rattle.wit_script_lines.specs.Request.{is_request, request_by}
+use Rattle.wit_script_lines.specs.Token.{package_name_of}
+use Rattle.wit_script_lines.specs.declared.statement.Statement.{Statement}
+use Rattle.wit_script_lines.specs.declared.statement.Statement.TheVariants as says
+
+-- `package PKG`
+abbrev pub package_statement_of : List (List ℕ) → Option Statement
+package_statement_of [] = None
+package_statement_of (name ∷ []) = option_map says.Package (package_name_of name)
+package_statement_of (name ∷ next ∷ arguments) = None
+
+-- `push`
+abbrev pub push_statement_of : List (List ℕ) → Option Statement
+push_statement_of [] = Some says.Push
+push_statement_of (argument ∷ arguments) = None
+
+-- a line of a package, with its gate
+abbrev pub gated_line_by : List ℕ → List (List ℕ) → Option Statement
+gated_line_by word arguments = option_and_then (λ gate. option_map (λ said. says.Line said gate) (package_line_by word (ungated_of arguments))) (gate_of_line arguments)
+
+-- a line, by its first token
+abbrev pub statement_by : List ℕ → List (List ℕ) → Option Statement
+statement_by word arguments =
+    if is_request word then option_map says.Request (request_by word arguments)
+    else if bytes_eq word (codes "package") then package_statement_of arguments
+    else if bytes_eq word (codes "push") then push_statement_of arguments
+    else gated_line_by word arguments
+
+-- what the tokens of a line say: None where they aren't understood, and inside it None where they say nothing
+abbrev pub said_of_tokens : List (List ℕ) → Option (Option Statement)
+said_of_tokens [] = Some None
+said_of_tokens (word ∷ arguments) = if is_comment word then Some None else option_map Some (statement_by word arguments)
+
+-- what a line says
+abbrev pub said_of : List ℕ → Option (Option Statement)
+said_of line = said_of_tokens (tokens_of line)

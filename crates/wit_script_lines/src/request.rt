@@ -1,0 +1,355 @@
+//! What a command of a script that hands in no package says by its tokens alone.
+ghost use Rattle.std.specs.Prelude.{◌≡◌, map, IfOk};
+ghost use Rattle.wit_script_lines.specs.IsRead.{IsRead};
+ghost use Rattle.wit_script_lines.specs.Request.{alone_of, exportize_in, exportize_of, exportize_to, exportize_world, feature_of, importize_as, importize_in, importize_of, importize_to, importize_world, is_request, keys_of, new_name_of, request_by, select_of, select_text, select_with, track_rule_of, tracks_of, world_in, world_of, world_only};
+
+use crate::fault::LineFault;
+use crate::token::{read_package_name, read_part};
+use std::alloc::{AllocError, Global};
+use wit_data::{Items, PackageName, Text, TrackRule};
+
+/// A command that hands in no package.
+#[derive(Drop)]
+pub enum Request {
+    /// `feature NAME`
+    Feature(Text),
+    /// `all-features`
+    AllFeatures,
+    /// `tracks published` or `tracks with-prereleases`
+    Tracks(TrackRule),
+    /// `other`: opens a second graph.
+    Other,
+    /// `merge`: the second graph goes into the first.
+    Merge,
+    /// `importize PKG WORLD [NAME]`
+    Importize {
+        package: PackageName,
+        world: Text,
+        out: Option<Text>,
+    },
+    /// `exportize PKG WORLD NAME [KEY ..]`
+    Exportize {
+        package: PackageName,
+        world: Text,
+        out: Option<Text>,
+        keys: Option<Items<Text>>,
+    },
+    /// `semver PKG WORLD`
+    Semver {
+        package: PackageName,
+        world: Text,
+    },
+    /// `print PKG WORLD`: shows a world.
+    Print {
+        package: PackageName,
+        world: Text,
+    },
+    /// `select PKG [TEXT]`: chooses a world.
+    Select {
+        package: PackageName,
+        text: Option<Text>,
+    },
+}
+
+/// Whether a first token begins a command that hands in no package.
+pub fn is_request(word: &str) -> bool
+    ensures { result ≡ is_request word.now }
+{
+    match word {
+        "feature" => true,
+        "all-features" => true,
+        "tracks" => true,
+        "other" => true,
+        "merge" => true,
+        "importize" => true,
+        "exportize" => true,
+        "semver" => true,
+        "print" => true,
+        "select" => true,
+        _ => false,
+    }
+}
+
+/// What such a command says by its first token and its arguments. Not understood where none begins so
+/// or takes these arguments. Else only want of memory is an error.
+pub fn read_request(alloc: Global, word: &str, arguments: &[&str]) -> Result<Request, LineFault>
+    ensures { IsRead (request_by word.now (map (λ t. t.now) arguments.now)) result }
+{
+    match word {
+        "feature" => feature(alloc, arguments),
+        "all-features" => alone(arguments, Request::AllFeatures),
+        "tracks" => tracks(arguments),
+        "other" => alone(arguments, Request::Other),
+        "merge" => alone(arguments, Request::Merge),
+        "importize" => importize(alloc, arguments),
+        "exportize" => exportize(alloc, arguments),
+        "semver" => {
+            let (package, world) = read_world(alloc, arguments)?;
+            Ok(Request::Semver { package, world })
+        }
+        "print" => {
+            let (package, world) = read_world(alloc, arguments)?;
+            Ok(Request::Print { package, world })
+        }
+        "select" => select(alloc, arguments),
+        _ => Err(LineFault::NotUnderstood),
+    }
+}
+
+/// A command without arguments.
+fn alone(arguments: &[&str], request: Request) -> Result<Request, LineFault>
+    ensures { IsRead (alone_of request (map (λ t. t.now) arguments.now)) result }
+{
+    match arguments {
+        [] => Ok(request),
+        _ => Err(LineFault::NotUnderstood),
+    }
+}
+
+/// `NAME`
+fn feature(alloc: Global, arguments: &[&str]) -> Result<Request, LineFault>
+    ensures { IsRead (feature_of (map (λ t. t.now) arguments.now)) result }
+{
+    match arguments {
+        [name] => Ok(Request::Feature(read_part(alloc, name)?)),
+        _ => Err(LineFault::NotUnderstood),
+    }
+}
+
+/// The rule of tracks of this name.
+fn tracks(arguments: &[&str]) -> Result<Request, LineFault>
+    ensures { IsRead (tracks_of (map (λ t. t.now) arguments.now)) result }
+{
+    match arguments {
+        [rule] => Ok(Request::Tracks(track_rule(rule)?)),
+        _ => Err(LineFault::NotUnderstood),
+    }
+}
+
+/// `published` or `with-prereleases`
+fn track_rule(token: &str) -> Result<TrackRule, LineFault>
+    ensures { IsRead (track_rule_of token.now) result }
+{
+    match token {
+        "published" => Ok(TrackRule::Published),
+        "with-prereleases" => Ok(TrackRule::WithPrereleases),
+        _ => Err(LineFault::NotUnderstood),
+    }
+}
+
+/// `PKG WORLD`
+fn read_world(alloc: Global, arguments: &[&str]) -> Result<(PackageName, Text), LineFault>
+    ensures { IsRead (world_of (map (λ t. t.now) arguments.now)) result }
+{
+    match arguments.split_first() {
+        Some((owner, rest)) => read_world_in(alloc, owner, rest),
+        None => Err(LineFault::NotUnderstood),
+    }
+}
+
+/// `WORLD` after a package.
+fn read_world_in(
+    alloc: Global,
+    owner: &str,
+    arguments: &[&str],
+) -> Result<(PackageName, Text), LineFault>
+    ensures { IsRead (world_only owner.now (map (λ t. t.now) arguments.now)) result }
+{
+    match arguments.split_first() {
+        Some((world, rest)) => {
+            if !rest.is_empty() {
+                return Err(LineFault::NotUnderstood);
+            }
+            world_in(alloc, owner, world)
+        }
+        None => Err(LineFault::NotUnderstood),
+    }
+}
+
+/// A world of a package.
+fn world_in(alloc: Global, owner: &str, world: &str) -> Result<(PackageName, Text), LineFault>
+    ensures { IsRead (world_in owner.now world.now) result }
+{
+    let package = read_package_name(alloc, owner)?;
+    let world = read_part(alloc, world)?;
+    Ok((package, world))
+}
+
+/// `PKG WORLD` or `PKG WORLD NAME`
+fn importize(alloc: Global, arguments: &[&str]) -> Result<Request, LineFault>
+    ensures { IsRead (importize_of (map (λ t. t.now) arguments.now)) result }
+{
+    match arguments.split_first() {
+        Some((owner, rest)) => importize_in(alloc, owner, rest),
+        None => Err(LineFault::NotUnderstood),
+    }
+}
+
+/// `WORLD` or `WORLD NAME` after a package.
+fn importize_in(alloc: Global, owner: &str, arguments: &[&str]) -> Result<Request, LineFault>
+    ensures { IsRead (importize_in owner.now (map (λ t. t.now) arguments.now)) result }
+{
+    match arguments.split_first() {
+        Some((world, rest)) => importize_world(alloc, owner, world, rest),
+        None => Err(LineFault::NotUnderstood),
+    }
+}
+
+/// Nothing or `NAME` after a package and its world.
+fn importize_world(
+    alloc: Global,
+    owner: &str,
+    world: &str,
+    arguments: &[&str],
+) -> Result<Request, LineFault>
+    ensures { IsRead (importize_world owner.now world.now (map (λ t. t.now) arguments.now)) result }
+{
+    match arguments.split_first() {
+        Some((out, rest)) => {
+            if !rest.is_empty() {
+                return Err(LineFault::NotUnderstood);
+            }
+            importize_as(alloc, owner, world, out)
+        }
+        None => importize_to(alloc, owner, world, None),
+    }
+}
+
+/// The turning of a world that gets a name.
+fn importize_as(alloc: Global, owner: &str, world: &str, out: &str) -> Result<Request, LineFault>
+    ensures { IsRead (importize_as owner.now world.now out.now) result }
+{
+    let out = read_part(alloc, out)?;
+    importize_to(alloc, owner, world, Some(out))
+}
+
+/// The turning of a world, which then has this name.
+fn importize_to(
+    alloc: Global,
+    owner: &str,
+    world: &str,
+    out: Option<Text>,
+) -> Result<Request, LineFault>
+    ensures { IsRead (importize_to owner.now world.now out) result }
+{
+    let (package, world) = world_in(alloc, owner, world)?;
+    Ok(Request::Importize {
+        package,
+        world,
+        out,
+    })
+}
+
+/// `PKG WORLD NAME KEY ..`
+fn exportize(alloc: Global, arguments: &[&str]) -> Result<Request, LineFault>
+    ensures { IsRead (exportize_of (map (λ t. t.now) arguments.now)) result }
+{
+    match arguments.split_first() {
+        Some((owner, rest)) => exportize_in(alloc, owner, rest),
+        None => Err(LineFault::NotUnderstood),
+    }
+}
+
+/// `WORLD NAME KEY ..` after a package.
+fn exportize_in(alloc: Global, owner: &str, arguments: &[&str]) -> Result<Request, LineFault>
+    ensures { IsRead (exportize_in owner.now (map (λ t. t.now) arguments.now)) result }
+{
+    match arguments.split_first() {
+        Some((world, rest)) => exportize_world(alloc, owner, world, rest),
+        None => Err(LineFault::NotUnderstood),
+    }
+}
+
+/// `NAME KEY ..` after a package and its world.
+fn exportize_world(
+    alloc: Global,
+    owner: &str,
+    world: &str,
+    arguments: &[&str],
+) -> Result<Request, LineFault>
+    ensures { IsRead (exportize_world owner.now world.now (map (λ t. t.now) arguments.now)) result }
+{
+    match arguments.split_first() {
+        Some((out, keys)) => exportize_to(alloc, owner, world, out, keys),
+        None => Err(LineFault::NotUnderstood),
+    }
+}
+
+/// The turning of a world by these keys, which then has this name.
+fn exportize_to(
+    alloc: Global,
+    owner: &str,
+    world: &str,
+    out: &str,
+    keys: &[&str],
+) -> Result<Request, LineFault>
+    ensures { IsRead (exportize_to owner.now world.now out.now (map (λ t. t.now) keys.now)) result }
+{
+    let (package, world) = world_in(alloc, owner, world)?;
+    let out = new_name(alloc, out)?;
+    let keys = read_keys(alloc, keys)?;
+    Ok(Request::Exportize {
+        package,
+        world,
+        out,
+        keys,
+    })
+}
+
+/// The new name of a turned world, where `-` stands for none.
+fn new_name(alloc: Global, token: &str) -> Result<Option<Text>, AllocError>
+    ensures { IfOk result (λ name. name ≡ new_name_of token.now) }
+{
+    if token == "-" {
+        return Ok(None);
+    }
+    Ok(Some(Text::try_from_str(alloc, token)?))
+}
+
+/// The keys of imports that are turned; without any, all are.
+fn read_keys(alloc: Global, tokens: &[&str]) -> Result<Option<Items<Text>>, AllocError>
+    ensures { IfOk result (λ keys. keys ≡ keys_of (map (λ t. t.now) tokens.now)) }
+{
+    if tokens.is_empty() {
+        return Ok(None);
+    }
+    Ok(Some(texts(alloc, tokens)?))
+}
+
+/// The texts of tokens.
+fn texts(alloc: Global, tokens: &[&str]) -> Result<Items<Text>, AllocError>
+    ensures { IfOk result (λ found. found ≡ map (λ t. t.now) tokens.now) }
+{
+    let mut found = Items::new(alloc);
+    for token in tokens {
+        found.push(Text::try_from_str(alloc, token)?)?;
+    }
+    Ok(found)
+}
+
+/// `PKG` or `PKG TEXT`
+fn select(alloc: Global, arguments: &[&str]) -> Result<Request, LineFault>
+    ensures { IsRead (select_of (map (λ t. t.now) arguments.now)) result }
+{
+    match arguments {
+        [owner] => select_with(alloc, owner, None),
+        [owner, text] => select_text(alloc, owner, text),
+        _ => Err(LineFault::NotUnderstood),
+    }
+}
+
+/// The choice of the world that a text names.
+fn select_text(alloc: Global, owner: &str, text: &str) -> Result<Request, LineFault>
+    ensures { IsRead (select_text owner.now text.now) result }
+{
+    let text = read_part(alloc, text)?;
+    select_with(alloc, owner, Some(text))
+}
+
+/// The choice of a world for a package.
+fn select_with(alloc: Global, owner: &str, text: Option<Text>) -> Result<Request, LineFault>
+    ensures { IsRead (select_with owner.now text) result }
+{
+    let package = read_package_name(alloc, owner)?;
+    Ok(Request::Select { package, text })
+}

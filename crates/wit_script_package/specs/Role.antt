@@ -1,0 +1,53 @@
+-- What the groups that lead a function's name make of it: `[constructor]`, `[method]`, `[static]`, `[get]`, `[set]`, and
+-- `[method]` or `[static]` followed by `[get]` or `[set]`. What follows them has at least one byte, and doesn't begin with
+-- a `[` once more.
+use Rattle.std.specs.Prelude.{ℕ, ◌==◌, not, Bool, false, List, [], ◌∷◌, Option, Some, None, option_and_then, codes, if◌then◌else◌}
+use Rattle.std.specs.Option.{option_map}
+use Rattle.wit_data.specs.declared.function.FunctionKind.{FunctionKind}
+use Rattle.wit_data.specs.declared.function.FunctionKind.TheVariants as role
+use Rattle.wit_script_lines.specs.Token.{after_prefix, split_at}
+use Rattle.wit_script_package.specs.Naming.{earlier}
+use Rattle.wit_script_package.specs.declared.draft.Draft.{Draft}
+
+-- what may follow the groups
+abbrev pub is_plain : List ℕ → Bool
+is_plain [] = false
+is_plain (b ∷ bs) = not (b == 91)
+
+-- the resource of a constructor: an earlier type
+abbrev pub resource_of : Draft → List ℕ → Option ℕ
+resource_of p rest = if is_plain rest then earlier p rest else None
+
+-- the resource of a member, which is the part before the first dot: an earlier type
+abbrev pub member_of : Draft → List ℕ → Option ℕ
+member_of p rest = if is_plain rest then option_and_then (λ (parts : List ℕ × List ℕ). earlier p parts.0) (split_at 46 rest) else None
+
+-- a function that belongs to no resource
+abbrev pub loose : FunctionKind → List ℕ → Option FunctionKind
+loose does rest = if is_plain rest then Some does else None
+
+-- what comes of what follows a group, where there is that group, or else another thing
+abbrev pub or_group : Option (List ℕ) → (List ℕ → Option FunctionKind) → Option FunctionKind → Option FunctionKind
+or_group (Some rest) of_rest other = of_rest rest
+or_group None of_rest other = other
+
+-- what follows `[method]`
+abbrev pub method_role : Draft → List ℕ → Option FunctionKind
+method_role p rest =
+    or_group (after_prefix (codes "[get]") rest) (λ more. option_map role.MethodGetter (member_of p more))
+    (or_group (after_prefix (codes "[set]") rest) (λ more. option_map role.MethodSetter (member_of p more)) (option_map role.Method (member_of p rest)))
+
+-- what follows `[static]`
+abbrev pub static_role : Draft → List ℕ → Option FunctionKind
+static_role p rest =
+    or_group (after_prefix (codes "[get]") rest) (λ more. option_map role.StaticGetter (member_of p more))
+    (or_group (after_prefix (codes "[set]") rest) (λ more. option_map role.StaticSetter (member_of p more)) (option_map role.Static (member_of p rest)))
+
+-- a name without the groups of a resource
+abbrev pub loose_role : List ℕ → Option FunctionKind
+loose_role name = or_group (after_prefix (codes "[get]") name) (loose role.Getter) (or_group (after_prefix (codes "[set]") name) (loose role.Setter) (loose role.Freestanding name))
+
+abbrev pub role_of : Draft → List ℕ → Option FunctionKind
+role_of p name =
+    or_group (after_prefix (codes "[constructor]") name) (λ rest. option_map role.Constructor (resource_of p rest))
+    (or_group (after_prefix (codes "[method]") name) (method_role p) (or_group (after_prefix (codes "[static]") name) (static_role p) (loose_role name)))

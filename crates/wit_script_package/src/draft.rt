@@ -1,0 +1,256 @@
+//! A package of which some lines are read.
+ghost use Rattle.std.specs.Option.{option_map};
+ghost use Rattle.std.specs.Prelude.{◌≡◌, ◌++◌, [], length, IfOk};
+ghost use Rattle.wit_script_package.specs.Draft.{begun, begun_at, file_of, grouped, span_after, with_newline, with_text};
+ghost use Rattle.wit_script_package.specs.Lines.{with_line};
+ghost use Rattle.wit_script_lines.specs.IsRead.{IsRead};
+
+use crate::mention::Mention;
+use std::alloc::{AllocError, Global};
+use std::mem;
+use wit_data::{
+    AstItem, Docs, Interface, InterfaceId, Items, MapFault, Names, PackageName, SourceMap, Span,
+    Stability, Table, Text, TypeDef, TypeId, UnresolvedPackage, UnresolvedPackageGroup, World,
+    WorldId,
+};
+use wit_script_lines::{LineFault, PackageLine, ink};
+
+/// Into what the next lines of a package go.
+#[derive(Clone, Copy, Debug, PartialEq, Eq)]
+pub enum Scope {
+    /// Into the package alone: it has neither an interface nor a world.
+    Package,
+    /// Into the last interface.
+    Interface,
+    /// Into the last world.
+    World,
+}
+
+/// The gate of a line, and its span in the file of its package, in bytes from 0.
+#[derive(Drop)]
+pub struct Standing {
+    pub gate: Stability,
+    pub span: Span,
+}
+
+/// What a package knows of other packages.
+#[derive(Drop)]
+pub struct Foreign {
+    /// Under each package the interfaces and worlds that are named, each with the gates of the lines
+    /// that name it.
+    pub deps: Table<PackageName, Names<(AstItem, Items<Stability>)>>,
+    /// Where each of these packages is named first.
+    pub dep_spans: Items<Span>,
+    /// Where each type of theirs is used first.
+    pub type_spans: Items<Span>,
+}
+
+/// A package of which some lines are read. What is foreign stands first in its lists.
+pub struct Draft {
+    pub name: PackageName,
+    pub name_span: Span,
+    /// The lines, each with a newline: the file of the package.
+    pub contents: Text,
+    pub interfaces: Items<Interface>,
+    pub worlds: Items<World>,
+    pub types: Items<TypeDef>,
+    /// For each type the one at the end of its aliases.
+    pub roots: Items<TypeId>,
+    /// The foreign types that have to be resources, and where they have to be.
+    pub required: Items<(TypeId, Span)>,
+    /// The interfaces of the package by name.
+    pub interface_ids: Names<InterfaceId>,
+    /// The worlds of the package by name.
+    pub world_ids: Names<WorldId>,
+    pub scope: Scope,
+    pub foreign: Foreign,
+}
+
+/// As the derived one: each field is let go. A call of it costs the check less than a derived one,
+/// which is checked again wherever a value is let go.
+impl Drop for Draft {
+    fn drop(self) {
+        let Draft {
+            name,
+            name_span: _,
+            contents,
+            interfaces,
+            worlds,
+            types,
+            roots,
+            required,
+            interface_ids,
+            world_ids,
+            scope: _,
+            foreign,
+        } = self;
+        drop(name);
+        drop(contents);
+        drop(interfaces);
+        drop(worlds);
+        drop(types);
+        drop(roots);
+        drop(required);
+        drop(interface_ids);
+        drop(world_ids);
+        drop(foreign);
+    }
+}
+
+/// How long a file can be: it takes its length plus one positions, of which the last is 4294967295.
+const LONGEST_FILE: usize = 4294967294;
+
+/// The span of a line that goes, with a newline, to the end of a file of so many bytes: from its first
+/// to its last byte that isn't a space. Not understood where the file would have more than 4294967294
+/// bytes, which is past the positions of a source map.
+pub fn span_of(file_len: usize, line: &str) -> Result<Span, LineFault>
+    ensures { IsRead (span_after file_len line.now) result }
+{
+    if file_len > LONGEST_FILE || line.len() >= LONGEST_FILE - file_len {
+        return Err(LineFault::NotUnderstood);
+    }
+    let (start, end) = ink(line);
+    Ok(Span::new((file_len + start) as u32, (file_len + end) as u32))
+}
+
+/// A file with one more line.
+fn with_newline(contents: Text, line: &str) -> Result<Text, AllocError>
+    ensures { IfOk result (λ file. file ≡ contents ++ with_newline line.now) }
+{
+    let mut contents = contents.into_string();
+    contents.push_str(line)?;
+    contents.push('\n')?;
+    Ok(Text::from_string(contents))
+}
+
+impl Draft {
+    /// The package that a first line begins, and whose lines mention this of other packages, in their
+    /// order. A mention that takes a name for something else than the first mention of it does is left
+    /// out. Not understood where the line doesn't fit into a file, as `span_of` says. Else only want of
+    /// memory is an error.
+    pub fn begin(
+        alloc: Global,
+        name: PackageName,
+        line: &str,
+        mentions: Items<Mention>,
+    ) -> Result<Draft, LineFault>
+        ensures { IsRead (begun name line.now mentions) result }
+    {
+        let span = span_of(0, line)?;
+        let mut draft = Draft::empty(alloc, name, line, span)?;
+        draft.add_mentions(alloc, mentions)?;
+        Ok(draft)
+    }
+
+    /// The package of a first line that stands here, which knows nothing of other packages.
+    fn empty(alloc: Global, name: PackageName, line: &str, span: Span) -> Result<Draft, AllocError>
+        ensures { IfOk result (λ draft. draft ≡ begun_at name line.now [] span) }
+    {
+        let contents = with_newline(Text::new(alloc), line)?;
+        Ok(Draft {
+            name,
+            name_span: span,
+            contents,
+            interfaces: Items::new(alloc),
+            worlds: Items::new(alloc),
+            types: Items::new(alloc),
+            roots: Items::new(alloc),
+            required: Items::new(alloc),
+            interface_ids: Names::new(alloc),
+            world_ids: Names::new(alloc),
+            scope: Scope::Package,
+            foreign: Foreign {
+                deps: Table::new(alloc),
+                dep_spans: Items::new(alloc),
+                type_spans: Items::new(alloc),
+            },
+        })
+    }
+
+    /// The package with one more line of it, which says this and has this gate. Not understood where
+    /// the line can't be added, as `add` says, or doesn't fit into the file, as `span_of` says. Else
+    /// only want of memory is an error.
+    pub fn with_line(
+        self,
+        alloc: Global,
+        said: PackageLine,
+        gate: Stability,
+        line: &str,
+    ) -> Result<Draft, LineFault>
+        ensures { IsRead (with_line self said gate line.now) result }
+    {
+        let (mut draft, span) = self.with_text(alloc, line)?;
+        draft.add(alloc, said, &Standing { gate, span })?;
+        Ok(draft)
+    }
+
+    /// The package with the text of one more line in its file, and where the line stands there.
+    fn with_text(self, alloc: Global, line: &str) -> Result<(Draft, Span), LineFault>
+        ensures { IsRead (option_map (λ span. (with_text self line.now, span)) (span_after (length self.contents) line.now)) result }
+    {
+        let mut draft = self;
+        let span = span_of(draft.contents.len(), line)?;
+        let contents = mem::replace(&mut draft.contents, Text::new(alloc));
+        draft.contents = with_newline(contents, line)?;
+        Ok((draft, span))
+    }
+
+    /// The package as a group of its own, with its file, whose path is the package's name. Not
+    /// understood where the file doesn't fit into a source map. Else only want of memory is an error.
+    pub fn into_group(self, alloc: Global) -> Result<UnresolvedPackageGroup, LineFault>
+        ensures { IsRead (grouped self) result }
+    {
+        let path = self.name.to_string(alloc)?;
+        let Draft {
+            name,
+            name_span,
+            contents,
+            interfaces,
+            worlds,
+            types,
+            roots,
+            required,
+            interface_ids,
+            world_ids,
+            scope: _,
+            foreign,
+        } = self;
+        drop(roots);
+        drop(interface_ids);
+        drop(world_ids);
+        let Foreign {
+            deps,
+            dep_spans,
+            type_spans,
+        } = foreign;
+        let main = UnresolvedPackage {
+            name,
+            package_name_span: name_span,
+            docs: Docs::none(),
+            worlds,
+            interfaces,
+            types,
+            foreign_deps: deps,
+            foreign_dep_spans: dep_spans,
+            unknown_type_spans: type_spans,
+            required_resource_types: required,
+        };
+        Ok(UnresolvedPackageGroup {
+            main,
+            nested: Items::new(alloc),
+            source_map: file_of(alloc, &path, contents)?,
+        })
+    }
+}
+
+/// A source map of one file.
+fn file_of(alloc: Global, path: &str, contents: Text) -> Result<SourceMap, LineFault>
+    ensures { IsRead (file_of path.now contents) result }
+{
+    let mut source_map = SourceMap::new(alloc);
+    match source_map.push_str(alloc, path, contents.into_string()) {
+        Ok(_) => Ok(source_map),
+        Err(MapFault::OffsetOverflow) => Err(LineFault::NotUnderstood),
+        Err(MapFault::OutOfMemory) => Err(LineFault::OutOfMemory),
+    }
+}

@@ -1,0 +1,117 @@
+//! What the groups that lead a function's name make of it.
+ghost use Rattle.std.specs.Prelude.{◌≡◌};
+ghost use Rattle.wit_script_package.specs.Role.{is_plain, loose, loose_role, member_of, method_role, resource_of, role_of, static_role};
+ghost use Rattle.wit_script_lines.specs.IsRead.{IsRead};
+
+use crate::draft::Draft;
+use std::alloc::Global;
+use wit_data::{FunctionKind, TypeId};
+use wit_script_lines::{LineFault, after_prefix};
+
+/// Whether this may follow the groups: it has a byte, and doesn't begin with a `[` once more.
+fn is_plain(rest: &str) -> bool
+    ensures { result ≡ is_plain rest.now }
+{
+    match rest.as_bytes().first() {
+        Some(byte) => *byte != b'[',
+        None => false,
+    }
+}
+
+/// A function that belongs to no resource.
+fn loose(kind: FunctionKind, rest: &str) -> Result<FunctionKind, LineFault>
+    ensures { IsRead (loose kind rest.now) result }
+{
+    if !is_plain(rest) {
+        return Err(LineFault::NotUnderstood);
+    }
+    Ok(kind)
+}
+
+/// What a name without the groups of a resource makes of a function.
+fn loose_role(name: &str) -> Result<FunctionKind, LineFault>
+    ensures { IsRead (loose_role name.now) result }
+{
+    if let Some(rest) = after_prefix("[get]", name) {
+        return loose(FunctionKind::Getter, rest);
+    }
+    match after_prefix("[set]", name) {
+        Some(rest) => loose(FunctionKind::Setter, rest),
+        None => loose(FunctionKind::Freestanding, name),
+    }
+}
+
+impl Draft {
+    /// The resource of a constructor.
+    fn resource_of(&self, alloc: Global, rest: &str) -> Result<TypeId, LineFault>
+        ensures { IsRead (resource_of self.now rest.now) result }
+    {
+        if !is_plain(rest) {
+            return Err(LineFault::NotUnderstood);
+        }
+        match self.earlier(alloc, rest)? {
+            Some(id) => Ok(id),
+            None => Err(LineFault::NotUnderstood),
+        }
+    }
+
+    /// The resource of a member: the part before the first dot.
+    fn member_of(&self, alloc: Global, rest: &str) -> Result<TypeId, LineFault>
+        ensures { IsRead (member_of self.now rest.now) result }
+    {
+        if !is_plain(rest) {
+            return Err(LineFault::NotUnderstood);
+        }
+        let Some((resource, _)) = rest.split_once('.') else {
+            return Err(LineFault::NotUnderstood);
+        };
+        match self.earlier(alloc, resource)? {
+            Some(id) => Ok(id),
+            None => Err(LineFault::NotUnderstood),
+        }
+    }
+
+    /// What follows `[method]`.
+    fn method_role(&self, alloc: Global, rest: &str) -> Result<FunctionKind, LineFault>
+        ensures { IsRead (method_role self.now rest.now) result }
+    {
+        if let Some(more) = after_prefix("[get]", rest) {
+            return Ok(FunctionKind::MethodGetter(self.member_of(alloc, more)?));
+        }
+        match after_prefix("[set]", rest) {
+            Some(more) => Ok(FunctionKind::MethodSetter(self.member_of(alloc, more)?)),
+            None => Ok(FunctionKind::Method(self.member_of(alloc, rest)?)),
+        }
+    }
+
+    /// What follows `[static]`.
+    fn static_role(&self, alloc: Global, rest: &str) -> Result<FunctionKind, LineFault>
+        ensures { IsRead (static_role self.now rest.now) result }
+    {
+        if let Some(more) = after_prefix("[get]", rest) {
+            return Ok(FunctionKind::StaticGetter(self.member_of(alloc, more)?));
+        }
+        match after_prefix("[set]", rest) {
+            Some(more) => Ok(FunctionKind::StaticSetter(self.member_of(alloc, more)?)),
+            None => Ok(FunctionKind::Static(self.member_of(alloc, rest)?)),
+        }
+    }
+
+    /// What the groups that lead a function's name make of it. Not understood where what follows them
+    /// is empty or begins with `[`, and where a constructor, method or static names no earlier type.
+    /// Else only want of memory is an error.
+    pub fn role_of(&self, alloc: Global, name: &str) -> Result<FunctionKind, LineFault>
+        ensures { IsRead (role_of self.now name.now) result }
+    {
+        if let Some(rest) = after_prefix("[constructor]", name) {
+            return Ok(FunctionKind::Constructor(self.resource_of(alloc, rest)?));
+        }
+        if let Some(rest) = after_prefix("[method]", name) {
+            return self.method_role(alloc, rest);
+        }
+        match after_prefix("[static]", name) {
+            Some(rest) => self.static_role(alloc, rest),
+            None => loose_role(name),
+        }
+    }
+}

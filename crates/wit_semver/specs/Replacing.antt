@@ -1,0 +1,132 @@
+-- What the steps of semver merging hand on: which interface replaces which, and which types' uses follow.
+use Rattle.std.specs.Prelude.{◌≡◌, ℕ, Bool, false, true, List, get_or, length, map, nat_eq, slice_set, Option, None, Some, Contains, option_and_then, slice_get, if◌then◌else◌}
+use Rattle.std.specs.List.{enumerate_from, list_any}
+use Rattle.std.specs.Map.{lookup}
+use Rattle.std.specs.Option.{option_map, option_map_or}
+use Rattle.wit_data.specs.declared.interface.Interface.{Interface}
+use Rattle.wit_data.specs.declared.track.TrackRule.{TrackRule}
+use Rattle.wit_data.specs.declared.types.TypeDef.{TypeDef}
+use Rattle.wit_data.specs.declared.world.World.{World}
+use Rattle.wit_elaboration.specs.Entries.{Entry}
+use Rattle.wit_graph_data.specs.declared.graph.Graph.{Graph}
+use Rattle.wit_graph_theory.specs.FunctionMismatch.{HaveFunctionMismatch}
+use Rattle.wit_semver_spec.specs.Rewritten.{relisted_at, replaced_use, retargeted, target_name, type_named}
+use Rattle.wit_semver_spec.specs.TrackCause.{Disagrees, IsComplete, disagreement_text, missing_text, upgrade_message}
+use Rattle.wit_semver_spec.specs.Tracks.{Versioned, both, is_below, track_key, versioned}
+use Rattle.wit_semver_spec.specs.Upgrade.{Upgrade, is_replaced, newest}
+use Rattle.wit_semver.specs.contracts.tracks.TrackKeyPartialEq.TheImpl.{eq-value}
+use Rattle.wit_semver.specs.declared.tracks.TrackKey.{TrackKey}
+use Rattle.wit_semver.specs.declared.tracks.VersionedInterface.{VersionedInterface}
+use Rattle.wit_semver.specs.declared.upgrading.Upgrading.{Upgrading}
+
+-- the imports of a world of a graph are to be merged by a rule
+abbrev pub upgrade : TrackRule → Graph → World → Upgrade
+upgrade rule g world = record { rule = rule; graph = g; world = world }
+
+-- an interface with what is told of it
+abbrev pub told : VersionedInterface → Versioned
+told v = record { name = v.name.now; home = v.home.now; version = v.version.now }
+
+-- the key of its track
+abbrev pub key_of : TrackRule → Versioned → TrackKey
+key_of rule v = record { home = (track_key rule v).0; interface = v.name }
+
+-- the key of the track of interface i
+abbrev pub key_at : TrackRule → Graph → ℕ → Option TrackKey
+key_at rule g i = option_map (key_of rule) (versioned g.packages g.interfaces i)
+
+-- what replaces interface i
+abbrev pub replacement : Upgrade → ℕ → Option ℕ
+replacement u i = if is_replaced u i then Some (newest u i) else None
+
+-- a list tells of each interface what replaces it
+abbrev pub AreReplacements : Upgrade → List (Option ℕ) → Type 0
+AreReplacements u found = (length found ≡ length u.graph.interfaces) × ((i : ℕ) → get_or found i None ≡ replacement u i)
+
+-- ---- the greatest version on each track
+
+-- two keys are of one track
+abbrev pub same_track : TrackKey → TrackKey → Bool
+same_track = eq-value.it
+
+-- interface i is of a smaller version than j
+abbrev pub is_smaller : Graph → ℕ → ℕ → Bool
+is_smaller g i j = both is_below (versioned g.packages g.interfaces i) (versioned g.packages g.interfaces j)
+
+-- it is of a greater version than what is known, if anything is
+abbrev pub is_newer : Graph → Option ℕ → Versioned → Bool
+is_newer g None v = true
+is_newer g (Some j) v = option_map_or (λ w. is_below w v) (versioned g.packages g.interfaces j) true
+
+-- a table tells of each track on which some interfaces are one of them, of which none is of a greater version
+pub record TellsNewest (rule : TrackRule) (g : Graph) (ids : List ℕ) (table : List (TrackKey × ℕ)) : Type 0 where
+  pub from : (k : TrackKey) (j : ℕ) → lookup (same_track k) table ≡ Some j → Contains ids j × (key_at rule g j ≡ Some k)
+  pub into : (i : ℕ) (k : TrackKey) → Contains ids i → key_at rule g i ≡ Some k → (j : ℕ) × (lookup (same_track k) table ≡ Some j) × (is_smaller g j i ≡ false)
+
+-- ---- values at places
+
+-- of so many places those among some have what f gives, and the others nothing
+abbrev pub IsFilled : (ℕ → Option ℕ) → List ℕ → ℕ → List (Option ℕ) → Type 0
+IsFilled f ids count found = (length found ≡ count) × ((i : ℕ) → get_or found i None ≡ (if list_any (nat_eq i) ids then f i else None))
+
+-- ---- a world whose imports are to be merged
+
+-- what is told of it, as an upgrade
+abbrev pub upgrade_of : Upgrading → Upgrade
+upgrade_of a = upgrade a.rule a.graph.now a.world.now
+
+-- it tells of each interface what replaces it
+abbrev pub IsReady : Upgrading → Type 0
+IsReady a = AreReplacements (upgrade_of a) a.replaced
+
+-- the name of the type that type t names as an alias
+abbrev pub name_used : List TypeDef → ℕ → Option (List ℕ)
+name_used types t = option_and_then (target_name types) (slice_get types t)
+
+-- what type t names after the rewriting, if it follows
+abbrev pub used_target : Upgrade → ℕ → Option ℕ
+used_target u t = option_and_then (λ f. option_and_then (type_named u.graph.interfaces (newest u f)) (name_used u.graph.types t)) (replaced_use u t)
+
+-- type t uses a type of a replaced interface, and the newest has none of its name
+pub record LacksTypeAt (u : Upgrade) (t : ℕ) (message : List ℕ) : Type 0 where
+  pub f : ℕ
+  pub name : List ℕ
+  pub uses : replaced_use u t ≡ Some f
+  pub named : name_used u.graph.types t ≡ Some name
+  pub absent : type_named u.graph.interfaces (newest u f) name ≡ None
+  pub message_is : message ≡ upgrade_message u f (missing_text name)
+
+-- one of some types does
+abbrev pub LackTypes : Upgrade → List ℕ → List ℕ → Type 0
+LackTypes u ids message = (t : ℕ) × Contains ids t × LacksTypeAt u t message
+
+-- replaced interface f disagrees with the newest in a function that both have
+pub record DisagreesAt (u : Upgrade) (f : ℕ) (message : List ℕ) : Type 0 where
+  pub old : Interface
+  pub new : Interface
+  pub mismatch : List ℕ
+  pub replaced : is_replaced u f ≡ true
+  pub old_is : slice_get u.graph.interfaces f ≡ Some old
+  pub new_is : slice_get u.graph.interfaces (newest u f) ≡ Some new
+  pub have : HaveFunctionMismatch old new mismatch
+  pub message_is : message ≡ upgrade_message u f (disagreement_text mismatch)
+
+-- ---- the graph that is made
+
+-- types that name what they are told to
+abbrev pub with_targets : List TypeDef → List (Option ℕ) → List TypeDef
+with_targets types targets = map (λ (e : ℕ × TypeDef). retargeted e.1 (get_or targets e.0 None)) (enumerate_from 0 types)
+
+-- and the world at a place with these imports
+abbrev pub with_lists : Graph → ℕ → List Entry → List (Option ℕ) → Graph
+with_lists g w imports targets =
+    record g { types = with_targets g.types targets; worlds = option_map_or (λ (world : World). slice_set g.worlds w (record world { imports = imports })) (slice_get g.worlds w) g.worlds }
+
+-- nothing of what reads the graph as it was speaks against merging the imports of the world at a place, and it is listed
+-- anew
+pub record IsRelisted (rule : TrackRule) (g : Graph) (w : ℕ) (made : Graph) : Type 0 where
+  pub world : World
+  pub there : slice_get g.worlds w ≡ Some world
+  pub complete : IsComplete (upgrade rule g world)
+  pub agree : (message : List ℕ) → Disagrees (upgrade rule g world) message → ⊥
+  pub is : made ≡ relisted_at (upgrade rule g world) w

@@ -1,0 +1,69 @@
+//! Imports of a world merged by tracks.
+ghost use Rattle.std.specs.Prelude.{◌≡◌, ◌⊎◌, ◌<◌, IfErr, IfOk, OnOk, length};
+ghost use Rattle.wit_elaboration.specs.Valid.{IsValid};
+ghost use Rattle.wit_graph_data.specs.declared.error_kind.ResolveErrorKind.{ResolveErrorKind};
+ghost use Rattle.wit_graph_data.specs.declared.error_kind.ResolveErrorKind.TheVariants.{OutOfMemory};
+ghost use Rattle.wit_semver_spec.specs.Rewritten.{rewritten};
+ghost use Rattle.wit_semver_spec.specs.TrackCause.{IsTrackCause};
+ghost use Rattle.wit_semver.specs.Replacing.{IsRelisted};
+
+use crate::relisting::relisted;
+use crate::staying::types_of_entries;
+use crate::upgrading::Upgrading;
+use std::alloc::Global;
+use wit_data::{TrackRule, WorldId};
+use wit_graph_data::{Graph, ResolveResult};
+use wit_semver_laws::laws::rewritten_stay_valid;
+use wit_unite_common::settle;
+
+/// A copy of a graph in which a world lists its replaced imports no more, and what its other entries use
+/// of replaced interfaces they use of the newest. Refused where the newest lacks what is used, or a
+/// function isn't the same there (25).
+fn relisted_world(
+    alloc: Global,
+    graph: &Graph,
+    world: WorldId,
+    rule: TrackRule,
+) -> ResolveResult<Graph>
+    requires valid { IsValid graph.now }
+    requires world { world < length graph.now.worlds }
+    ensures ok { IfOk result (λ made. IsRelisted rule graph.now world made) }
+    ensures cause { IfErr result (λ e. (e ≡ OutOfMemory) ⊎ IsTrackCause rule graph.now world e) }
+{
+    let current = graph.worlds.at(world.index());
+    let upgrading = Upgrading::new(alloc, graph, current, rule)?;
+    upgrading.check_functions(alloc)?;
+    let imports = upgrading.staying(alloc)?;
+    let following = types_of_entries(alloc, graph, &imports, &current.exports)?;
+    let targets = upgrading.new_targets(alloc, &following)?;
+    Ok(relisted(alloc, graph, world, imports, &targets)?)
+}
+
+/// A copy of a valid graph in which the imports of a world of it are merged by a rule of tracks: of the interfaces
+/// that the world imports under their own keys the greatest version on each track is left, what its other entries use
+/// of the others they use of the greatest, and all worlds are elaborated. The copy is valid, and each thing has the
+/// id that it had.
+///
+/// Refused where the greatest lacks a type that is used, or disagrees in a function (25), where a type would refer to
+/// itself (23), an interface use itself (22) or a package depend on itself (6), where the exports of some world are
+/// in conflict (4), and for memory (28).
+///
+/// Source: `merge_world_imports_based_on_semver` of wit-parser 0.263.0.
+pub fn merged_by_track(
+    alloc: Global,
+    graph: &Graph,
+    world: WorldId,
+    rule: TrackRule,
+) -> ResolveResult<Graph>
+    requires valid { IsValid graph.now }
+    requires world { world < length graph.now.worlds }
+    ensures ok { IfOk result (λ merged. merged ≡ rewritten rule graph.now world) }
+    ensures valid { IfOk result IsValid }
+    ensures cause { IfErr result (λ e. (e ≡ OutOfMemory) ⊎ IsTrackCause rule graph.now world e) }
+    ensures refuses { (e : ResolveErrorKind) → IsTrackCause rule graph.now world e → OnOk result ⊥ }
+{
+    rewritten_stay_valid();
+    let mut merged = relisted_world(alloc, graph, world, rule)?;
+    settle(alloc, &mut merged)?;
+    Ok(merged)
+}

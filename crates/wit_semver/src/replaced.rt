@@ -1,0 +1,76 @@
+//! Which interface replaces which.
+ghost use Rattle.std.specs.Prelude.{◌≡◌, ◌<◌, ℕ, Contains, IfOk, false, length};
+ghost use Rattle.std.specs.Option.{option_map_or};
+ghost use Rattle.wit_elaboration.specs.Valid.{IsValid};
+ghost use Rattle.wit_elaboration.specs.Entries.{keyed_interfaces};
+ghost use Rattle.wit_data.specs.declared.world.World.{World};
+ghost use Rattle.wit_semver_spec.specs.Tracks.{is_below, versioned};
+ghost use Rattle.wit_semver.specs.Replacing.{AreReplacements, TellsNewest, replacement, told, upgrade};
+
+use crate::newest::newest_by_track;
+use crate::tracks::{TrackKey, VersionedInterface, versioned};
+use indexmap::IndexMap;
+use std::alloc::{AllocError, Global};
+use wit_data::{InterfaceId, Items, TrackRule, World, WorldKey};
+use wit_graph_data::Graph;
+
+/// Of each interface of a graph the one that replaces it among the imports of a world: the greatest on
+/// its track, where it is imported under its own key and isn't the greatest itself.
+pub(crate) fn replacements(
+    alloc: Global,
+    graph: &Graph,
+    world: &World,
+    rule: TrackRule,
+) -> Result<Items<Option<InterfaceId>>, AllocError>
+    requires valid { IsValid graph.now }
+    requires in_range { (i : ℕ) → Contains (keyed_interfaces world.now.imports) i → i < length graph.now.interfaces }
+    ensures { IfOk result (λ found. AreReplacements (upgrade rule graph.now world.now) found) }
+{
+    let newest = newest_by_track(alloc, graph, rule, &world.imports)?;
+    let mut found = Items::from_vec(vec![in alloc; None; graph.interfaces.len()]?);
+    for index in 0..world.imports.len() {
+        let (key, _) = world.imports.entry_at(index);
+        match key {
+            WorldKey::Interface(id) => {
+                let by = replacement(alloc, graph, rule, &newest, *id)?;
+                found.set(id.index(), by);
+            }
+            WorldKey::Name(_) => {}
+        }
+    }
+    Ok(found)
+}
+
+/// What replaces an import: the newest on its track, where that is of a greater version.
+fn replacement(
+    alloc: Global,
+    graph: &Graph,
+    rule: TrackRule,
+    newest: &IndexMap<TrackKey, InterfaceId>,
+    id: InterfaceId,
+) -> Result<Option<InterfaceId>, AllocError>
+    requires valid { IsValid graph.now }
+    ensures { IfOk result (λ by. (world : World) → TellsNewest rule graph.now (keyed_interfaces world.imports) newest.now.entries → Contains (keyed_interfaces world.imports) id → by ≡ replacement (upgrade rule graph.now world) id) }
+{
+    let Some(interface) = versioned(graph, id) else {
+        return Ok(None);
+    };
+    let key = interface.track_key(alloc, rule)?;
+    let Some(other) = newest.get(&key) else {
+        return Ok(None);
+    };
+    if is_greater(graph, *other, &interface) {
+        return Ok(Some(*other));
+    }
+    Ok(None)
+}
+
+/// Whether an interface is of a greater version than another.
+fn is_greater(graph: &Graph, id: InterfaceId, interface: &VersionedInterface<'_>) -> bool
+    ensures { result ≡ option_map_or (is_below (told interface.now)) (versioned graph.now.packages graph.now.interfaces id) false }
+{
+    match versioned(graph, id) {
+        Some(other) => interface.is_below(&other),
+        None => false,
+    }
+}

@@ -1,0 +1,120 @@
+-- What semver merging keeps of a graph: everything stands at its id.
+use Rattle.std.proofs.Common.{◌≡◌, ◌∙◌, inl, inr, ℕ, Option, None, Some, IsSome, slice_get, option_and_then, refl, sym, ap}
+use Rattle.std.specs.Option.{option_map_or}
+use Rattle.wit_data.specs.Each.{EachAt, SomeAt}
+use Rattle.wit_data.specs.Uses.{alias_target}
+use Rattle.wit_data.specs.declared.types.TypeDef.{TypeDef}
+use Rattle.wit_data.specs.declared.types.TypeOwner.TheVariants as owner
+use Rattle.wit_data.specs.declared.track.TrackRule.{TrackRule}
+use Rattle.wit_data.specs.declared.world.World.{World}
+use Rattle.wit_elaboration.specs.Valid.{IsValid}
+use Rattle.wit_graph_data.specs.declared.graph.Graph.{Graph}
+use Rattle.wit_graph_theory.specs.ListFacts.{at_map, found_at, same_at, some_at}
+use Rattle.wit_graph_theory.specs.AllElaborated.{all_elaborated, elaborated_world}
+use Rattle.wit_values.specs.Lists.{kept-cases, slice_get-set}
+use Rattle.wit_semver_spec.specs.Rewritten.{listed_world, name_of, new_target, relisted_at, retargeted, rewritten_types, target_name}
+use Rattle.wit_semver_spec.specs.Staying.{SameButLists, SameButTarget}
+use Rattle.wit_semver_spec.specs.Upgrade.{Upgrade, newest}
+use Rattle.wit_semver_laws.specs.TrackLaws.{AliasesKeepNames, KeepsThings, RewrittenKeep}
+use Rattle.wit_semver_laws.proofs.TypesAfter.{after, retargeted_name, turned_from, turned_type, type_after, type_into}
+
+some_of : {X Y : Type 0} (f : X → Option Y) (o : Option X) (y : Y) → option_and_then f o ≡ Some y → IsSome o
+some_of f None y is = cc
+some_of f (Some x) y is = refl
+
+abbrev upgrade : TrackRule → Graph → World → Upgrade
+upgrade rule g world = record { rule = rule; graph = g; world = world }
+
+-- ---- worlds
+
+-- elaboration changes the lists of worlds alone
+elaborated_at : (g : Graph) (v : ℕ) (world listed : World) → slice_get g.worlds v ≡ Some listed → SameButLists world listed → SomeAt (all_elaborated g).worlds v (SameButLists world)
+elaborated_at g v world listed at same =
+    some_at (SameButLists world) (all_elaborated g).worlds v (elaborated_world g listed) (at_map (elaborated_world g) g.worlds v listed at)
+    (ap (λ (x : World). record x { imports = (elaborated_world g listed).imports; exports = (elaborated_world g listed).exports }) same)
+
+module _ (u : Upgrade) (w : ℕ) (there : slice_get u.graph.worlds w ≡ Some u.world) where
+  worlds_kept : EachAt (λ v (world : World). SomeAt (all_elaborated (relisted_at u w)).worlds v (SameButLists world)) u.graph.worlds
+  worlds_kept v world at =
+      elim (kept-cases u.graph.worlds w (listed_world u) v world at) [
+        | inl same ↦
+            let one : world ≡ u.world = same_at u.graph.worlds v w world u.world same at there in
+            let listed : slice_get (relisted_at u w).worlds v ≡ Some (listed_world u) =
+            ap (slice_get (relisted_at u w).worlds) same ∙ slice_get-set u.graph.worlds w u.world (listed_world u) there in
+            elaborated_at (relisted_at u w) v world (listed_world u) listed
+            (ap (λ (x : World). record x { imports = (listed_world u).imports; exports = (listed_world u).exports }) (sym one))
+        | inr stays ↦ elaborated_at (relisted_at u w) v world world stays refl
+      ]
+
+-- ---- types
+
+module _ (u : Upgrade) where
+  -- what is turned was an alias, and is one
+  same_but : (t : ℕ) (def : TypeDef) (o : Option ℕ) → new_target u t def ≡ o → SameButTarget def (retargeted def o)
+  same_but t def None is = (refl, inl refl)
+  same_but t def (Some t') is =
+      let turned = turned_from u t def t' is in
+      (refl, inr (some_of (name_of u.graph.types) (alias_target def.kind) turned.name turned.named, refl))
+
+  types_kept : EachAt (λ t (def : TypeDef). SomeAt (rewritten_types u) t (SameButTarget def)) u.graph.types
+  types_kept t def at = some_at (SameButTarget def) (rewritten_types u) t (after u t def) (type_into u t def at) (same_but t def (new_target u t def) refl)
+
+-- ---- the graph
+
+pub rewritten_keep : RewrittenKeep
+rewritten_keep rule g w = by (slice_get g.worlds w) refl
+  where
+    by : (o : Option World) → slice_get g.worlds w ≡ o → KeepsThings g (all_elaborated (option_map_or (λ (world : World). relisted_at (upgrade rule g world) w) o g))
+    by None none = record {
+      types = λ t def at. some_at (SameButTarget def) g.types t def at (refl, inl refl);
+      interfaces = refl;
+      worlds = λ v world at. elaborated_at g v world world at refl;
+      packages = refl;
+      names = refl;
+    }
+    by (Some world) there = record {
+      types = types_kept (upgrade rule g world);
+      interfaces = refl;
+      worlds = worlds_kept (upgrade rule g world) w there;
+      packages = refl;
+      names = refl;
+    }
+
+-- ---- names
+
+module _ (u : Upgrade) where
+  -- types have their names
+  names_kept : (s : ℕ) → name_of (rewritten_types u) s ≡ name_of u.graph.types s
+  names_kept s = by (slice_get u.graph.types s) refl (slice_get (rewritten_types u) s) refl
+    where
+      by : (o : Option TypeDef) → slice_get u.graph.types s ≡ o → (p : Option TypeDef) → slice_get (rewritten_types u) s ≡ p
+          → option_and_then (λ (def : TypeDef). def.name) p ≡ option_and_then (λ (def : TypeDef). def.name) o
+      by None none None absent = refl
+      by None none (Some new) found =
+          let old = type_after u s new found in
+          let impossible : None ≡ Some old.0 = sym none ∙ old.1 in
+          cc
+      by (Some def) at p found = ap (λ (q : Option TypeDef). option_and_then (λ (d : TypeDef). d.name) q) (sym found ∙ type_into u s def at) ∙ retargeted_name def (new_target u s def)
+
+  target_kept : (valid : IsValid u.graph) (t : ℕ) (def : TypeDef) (o : Option ℕ) → new_target u t def ≡ o → target_name (rewritten_types u) (retargeted def o) ≡ target_name u.graph.types def
+  target_kept valid t def None is = by (alias_target def.kind)
+    where
+      by : (o : Option ℕ) → option_and_then (name_of (rewritten_types u)) o ≡ option_and_then (name_of u.graph.types) o
+      by None = refl
+      by (Some s) = names_kept s
+  target_kept valid t def (Some t') is =
+      let turned = turned_from u t def t' is in
+      let named = found_at (λ (x : TypeDef). (x.name ≡ Some turned.name) × (x.owner ≡ owner.Interface (newest u turned.f))) u.graph.types t' (turned_type u valid t def t' turned) in
+      names_kept t' ∙ ap (λ (o : Option TypeDef). option_and_then (λ (d : TypeDef). d.name) o) named.1 ∙ named.2.0 ∙ sym turned.named
+
+pub aliases_keep_names : AliasesKeepNames
+aliases_keep_names rule g w valid = by (slice_get g.worlds w)
+  where
+    by : (o : Option World) → EachAt (λ t (def : TypeDef).
+        SomeAt (all_elaborated (option_map_or (λ (world : World). relisted_at (upgrade rule g world) w) o g)).types t
+        (λ (new : TypeDef). target_name (all_elaborated (option_map_or (λ (world : World). relisted_at (upgrade rule g world) w) o g)).types new ≡ target_name g.types def)) g.types
+    by None t def at = some_at (λ (new : TypeDef). target_name g.types new ≡ target_name g.types def) g.types t def at refl
+    by (Some world) t def at =
+        let u = upgrade rule g world in
+        some_at (λ (new : TypeDef). target_name (rewritten_types u) new ≡ target_name g.types def) (rewritten_types u) t (after u t def) (type_into u t def at)
+        (target_kept u valid t def (new_target u t def) refl)

@@ -1,0 +1,211 @@
+-- What the types of a valid graph are after the rewriting: as they were, but for aliases that name a type of the same
+-- name in the newest interface on a track.
+use Rattle.std.proofs.Common.{◌≡◌, ◌∙◌, ◌⊎◌, inl, inr, ℕ, ◌+◌, Bool, true, false, List, Option, None, Some, IfSome, IsSome, slice_get, option_and_then, refl, sym, ap, subst, arith, Contains, nat_eq, if◌then◌else◌}
+use Rattle.std.specs.List.{enumerate_from, list_any}
+use Rattle.std.specs.Map.{lookup}
+use Rattle.std.specs.Str.{bytes_eq}
+use Rattle.std.proofs.lemmas.Map.Views.{Contains-from_lookup}
+use Rattle.std.proofs.lemmas.Slice.Eq.{bytes_eq-Decides}
+use Rattle.wit_digraph.specs.FreshFacts.{contains_from_any}
+use Rattle.wit_data.specs.Each.{SomeAt}
+use Rattle.wit_data.specs.Ownership.{IsNamedInterface}
+use Rattle.wit_data.specs.Uses.{alias_target, other_owner, type_interface_dep}
+use Rattle.wit_data.specs.declared.interface.Interface.{Interface}
+use Rattle.wit_data.specs.declared.types.TypeDef.{TypeDef}
+use Rattle.wit_data.specs.declared.types.TypeOwner.{TypeOwner}
+use Rattle.wit_data.specs.declared.types.TypeOwner.TheVariants as owner
+use Rattle.wit_elaboration.specs.Valid.{IsValid}
+use Rattle.wit_graph_theory.specs.DependencyFacts.{Needs, needs_from, needs_into}
+use Rattle.wit_graph_theory.specs.Good.{HasGoodThings}
+use Rattle.wit_graph_theory.specs.GoodIsValid.{good_things}
+use Rattle.wit_graph_theory.specs.ListFacts.{at_map, found_at, from_map, place_of, same_at}
+use Rattle.wit_graph_theory.specs.OptionFacts.{option_cases, some_by, some_parts, some_same, some_there}
+use Rattle.wit_graph_theory.specs.PackagesAcyclic.{numbered_from, numbered_into}
+use Rattle.wit_semver_spec.specs.Rewritten.{following, name_of, new_target, replaced_use, retargeted, rewritten_types, target_name, type_named}
+use Rattle.wit_semver_spec.specs.TrackCause.{IsComplete, missing_text, upgrade_message}
+use Rattle.wit_semver_spec.specs.Upgrade.{Upgrade, is_replaced, newest}
+
+-- ---- parts of options
+
+if_some : (P : ℕ → Type 0) (o : Option ℕ) (t : ℕ) → o ≡ Some t → IfSome o P → P t
+if_some P None t is h = cc
+if_some P (Some x) t is h = subst P (some_same x t is) h
+
+pub retargeted_name : (def : TypeDef) (o : Option ℕ) → (retargeted def o).name ≡ def.name
+retargeted_name def None = refl
+retargeted_name def (Some t) = refl
+
+pub retargeted_owner : (def : TypeDef) (o : Option ℕ) → (retargeted def o).owner ≡ def.owner
+retargeted_owner def None = refl
+retargeted_owner def (Some t) = refl
+
+module _ (u : Upgrade) where
+  abbrev types : List TypeDef
+  types = u.graph.types
+
+  abbrev pub after : ℕ → TypeDef → TypeDef
+  after t def = retargeted def (new_target u t def)
+
+  -- a type after it comes of the one at its place, and goes to one
+  pub type_after : (t : ℕ) (new : TypeDef) → slice_get (rewritten_types u) t ≡ Some new → (def : TypeDef) × (slice_get types t ≡ Some def) × (new ≡ after t def)
+  type_after t new at =
+      let from = from_map (λ (e : ℕ × TypeDef). after e.0 e.1) (enumerate_from 0 types) t new at in
+      let numbered = numbered_from 0 types t from.0 from.1 in
+      let place : from.0.0 ≡ t = let is = numbered.0 in omega arith in
+      (from.0.1, numbered.1, sym from.2 ∙ ap (λ (n : ℕ). after n from.0.1) place)
+
+  pub type_into : (t : ℕ) (def : TypeDef) → slice_get types t ≡ Some def → slice_get (rewritten_types u) t ≡ Some (after t def)
+  type_into t def at =
+      let start : 0 + t ≡ t = omega arith in
+      at_map (λ (e : ℕ × TypeDef). after e.0 e.1) (enumerate_from 0 types) t (0 + t, def) (numbered_into 0 types t def at) ∙ ap (λ (n : ℕ). Some (after n def)) start
+
+  -- ---- an alias that is turned
+
+  -- type t uses the replaced interface f, and comes to name type t' of the newest
+  pub record Turned (t : ℕ) (def : TypeDef) (t' : ℕ) : Type 0 where
+    pub f : ℕ
+    pub follows : list_any (nat_eq t) (following u) ≡ true
+    pub uses : type_interface_dep types t ≡ Some f
+    pub replaced : is_replaced u f ≡ true
+    pub name : List ℕ
+    pub named : target_name types def ≡ Some name
+    pub found : type_named u.graph.interfaces (newest u f) name ≡ Some t'
+
+  replaced_use_from : (t f : ℕ) → replaced_use u t ≡ Some f → (type_interface_dep types t ≡ Some f) × (is_replaced u f ≡ true)
+  replaced_use_from t f is =
+      let parts = some_parts (λ (g : ℕ). if is_replaced u g then Some g else None) (type_interface_dep types t) f is in
+      let same = by parts.0 (is_replaced u parts.0) refl parts.2 in
+      (parts.1 ∙ ap Some same.0, subst (λ (g : ℕ). is_replaced u g ≡ true) same.0 same.1)
+    where
+      by : (g : ℕ) (b : Bool) → is_replaced u g ≡ b → (if b then Some g else None) ≡ Some f → (g ≡ f) × (b ≡ true)
+      by g true on h = (some_same g f h, refl)
+      by g false on h = cc
+
+  replaced_use_into : (t f : ℕ) → type_interface_dep types t ≡ Some f → is_replaced u f ≡ true → replaced_use u t ≡ Some f
+  replaced_use_into t f dep on = some_by (λ (g : ℕ). if is_replaced u g then Some g else None) (type_interface_dep types t) f dep ∙ ap (λ (b : Bool). if b then Some f else None) on
+
+  pub turned_from : (t : ℕ) (def : TypeDef) (t' : ℕ) → new_target u t def ≡ Some t' → Turned t def t'
+  turned_from t def t' is = by (list_any (nat_eq t) (following u)) refl is
+    where
+      by : (b : Bool) → list_any (nat_eq t) (following u) ≡ b
+          → (if b then option_and_then (λ f. option_and_then (type_named u.graph.interfaces (newest u f)) (target_name types def)) (replaced_use u t) else None) ≡ Some t' → Turned t def t'
+      by true on h =
+          let one = some_parts (λ f. option_and_then (type_named u.graph.interfaces (newest u f)) (target_name types def)) (replaced_use u t) t' h in
+          let two = some_parts (type_named u.graph.interfaces (newest u one.0)) (target_name types def) t' one.2 in
+          let used = replaced_use_from t one.0 one.1 in
+          record { f = one.0; follows = on; uses = used.0; replaced = used.1; name = two.0; named = two.1; found = two.2 }
+      by false on h = cc
+
+  turned_into : (t : ℕ) (def : TypeDef) (t' : ℕ) → Turned t def t' → new_target u t def ≡ Some t'
+  turned_into t def t' turned =
+      ap (λ (b : Bool). if b then option_and_then (λ f. option_and_then (type_named u.graph.interfaces (newest u f)) (target_name types def)) (replaced_use u t) else None) turned.follows
+      ∙ some_by (λ f. option_and_then (type_named u.graph.interfaces (newest u f)) (target_name types def)) (replaced_use u t) turned.f (replaced_use_into t turned.f turned.uses turned.replaced)
+      ∙ some_by (type_named u.graph.interfaces (newest u turned.f)) (target_name types def) turned.name turned.named
+      ∙ turned.found
+
+  module _ (valid : IsValid u.graph) where
+    things : HasGoodThings u.graph
+    things = good_things u.graph valid
+
+    -- what is found in an interface is a type that it owns, under its name
+    found_type : (i : ℕ) (name : List ℕ) (t : ℕ) → type_named u.graph.interfaces i name ≡ Some t → SomeAt types t (λ (def : TypeDef). (def.name ≡ Some name) × (def.owner ≡ owner.Interface i))
+    found_type i name t is =
+        let parts = some_parts (λ (interface : Interface). lookup (bytes_eq name) interface.types) (slice_get u.graph.interfaces i) t is in
+        let has = Contains-from_lookup (λ x y. (bytes_eq-Decides x y).0) name t parts.0.types parts.2 in
+        let place = place_of parts.0.types (name, t) has in
+        (things.interfaces i parts.0 parts.1).own_types place.0 (name, t) place.1
+
+    -- the type that a turned alias comes to name
+    pub turned_type : (t : ℕ) (def : TypeDef) (t' : ℕ) → (turned : Turned t def t') → SomeAt types t' (λ (named : TypeDef). (named.name ≡ Some turned.name) × (named.owner ≡ owner.Interface (newest u turned.f)))
+    turned_type t def t' turned = found_type (newest u turned.f) turned.name t' turned.found
+
+    -- ---- which interface a type needs after it
+
+    -- what it needed, which isn't turned; or the newest where that is replaced and the type follows
+    pub record NeedsAfter (t j : ℕ) : Type 0 where
+      pub f : ℕ
+      pub needed : type_interface_dep types t ≡ Some f
+      pub is : ((j ≡ f) × ((is_replaced u f ≡ true) → (list_any (nat_eq t) (following u) ≡ true) → ⊥)) ⊎ ((is_replaced u f ≡ true) × (list_any (nat_eq t) (following u) ≡ true) × (j ≡ newest u f))
+
+    -- the target of an alias has a name
+    target_named : (t : ℕ) (def : TypeDef) (target : ℕ) (named : TypeDef) → slice_get types t ≡ Some def → alias_target def.kind ≡ Some target → slice_get types target ≡ Some named
+        → (name : List ℕ) × (target_name types def ≡ Some name)
+    target_named t def target named at names target_at =
+        let alias = if_some (λ (t : ℕ). SomeAt types t (λ (x : TypeDef). IsSome x.name × ((x.owner ≡ def.owner) ⊎ IsNamedInterface u.graph.interfaces x.owner))) (alias_target def.kind) target names (things.types t def at).alias in
+        let found = found_at (λ (x : TypeDef). IsSome x.name × ((x.owner ≡ def.owner) ⊎ IsNamedInterface u.graph.interfaces x.owner)) types target alias in
+        let same = same_at types target target found.0 named refl found.1 target_at in
+        let name = some_there named.name (subst (λ (x : TypeDef). IsSome x.name) same found.2.0) in
+        (name.0, some_by (name_of types) (alias_target def.kind) target names ∙ some_by (λ (x : TypeDef). x.name) (slice_get types target) named target_at ∙ name.1)
+
+    other_is_interface : (a : TypeOwner) (n j : ℕ) → other_owner a (owner.Interface n) ≡ Some j → j ≡ n
+    other_is_interface (owner.World w) n j is = cc
+    other_is_interface owner.None n j is = cc
+    other_is_interface (owner.Interface i) n j is = by (nat_eq i n) is
+      where
+        by : (b : Bool) → (if b then None else Some n) ≡ Some j → j ≡ n
+        by true h = cc
+        by false h = cc
+
+    module _ (complete : IsComplete u) where
+      -- a type that follows and needs a replaced interface is turned
+      turns : (t f : ℕ) (def : TypeDef) (needs : Needs types t f) → slice_get types t ≡ Some def → needs.alias ≡ def → list_any (nat_eq t) (following u) ≡ true → Contains (following u) t → is_replaced u f ≡ true → new_target u t def ≡ None → ⊥
+      turns t f def needs at same follows has replaced none =
+          let dep = needs_into types t f needs in
+          let named = target_named t def needs.target needs.named at (ap (λ (d : TypeDef). alias_target d.kind) (sym same) ∙ needs.names) needs.target_there in
+          elim (option_cases (type_named u.graph.interfaces (newest u f) named.0)) [
+            | inl absent ↦
+                complete (upgrade_message u f (missing_text named.0)) (record {
+                  t = t;
+                  def = def;
+                  f = f;
+                  name = named.0;
+                  follows = has;
+                  is = at;
+                  uses = replaced_use_into t f dep replaced;
+                  named = named.1;
+                  absent = absent;
+                  message_is = refl;
+                })
+            | inr found ↦
+                let turned : new_target u t def ≡ Some found.0 =
+                turned_into t def found.0 (record { f = f; follows = follows; uses = dep; replaced = replaced; name = named.0; named = named.1; found = found.1 }) in
+                none_some (sym none ∙ turned)
+          ]
+        where
+          none_some : {X : Type 0} {x : X} → None ≡ Some x → ⊥
+          none_some same = cc
+
+      after_is : (t : ℕ) (def : TypeDef) (o : Option ℕ) → new_target u t def ≡ o → after t def ≡ retargeted def o
+      after_is t def o is = ap (retargeted def) is
+
+      pub needs_after : (t j : ℕ) → type_interface_dep (rewritten_types u) t ≡ Some j → NeedsAfter t j
+      needs_after t j dep =
+          let needs = needs_from (rewritten_types u) t j dep in
+          let from = type_after t needs.alias needs.there in
+          let target = type_after needs.target needs.named needs.target_there in
+          let by : needs.alias.owner ≡ from.0.owner = ap (λ (d : TypeDef). d.owner) from.2 ∙ retargeted_owner from.0 (new_target u t from.0) in
+          let of : needs.named.owner ≡ target.0.owner = ap (λ (d : TypeDef). d.owner) target.2 ∙ retargeted_owner target.0 (new_target u needs.target target.0) in
+          let other : other_owner from.0.owner target.0.owner ≡ Some j =
+          subst (λ (o : TypeOwner). other_owner o target.0.owner ≡ Some j) by (subst (λ (o : TypeOwner). other_owner needs.alias.owner o ≡ Some j) of needs.other) in
+          elim (option_cases (new_target u t from.0)) [
+            | inl none ↦
+                let kept : needs.alias ≡ from.0 = from.2 ∙ after_is t from.0 None none in
+                let before : Needs types t j = record {
+                  alias = from.0;
+                  there = from.1;
+                  target = needs.target;
+                  names = ap (λ (d : TypeDef). alias_target d.kind) (sym kept) ∙ needs.names;
+                  named = target.0;
+                  target_there = target.1;
+                  other = other;
+                } in
+                record { f = j; needed = needs_into types t j before; is = inl (refl, λ replaced follows. turns t j from.0 before from.1 refl follows (contains_from_any t (following u) follows) replaced none) }
+            | inr some ↦
+                let turned = turned_from t from.0 some.0 some.1 in
+                let kind_is : alias_target needs.alias.kind ≡ Some some.0 = ap (λ (d : TypeDef). alias_target d.kind) (from.2 ∙ after_is t from.0 (Some some.0) some.1) in
+                let same : needs.target ≡ some.0 = some_same needs.target some.0 (sym needs.names ∙ kind_is) in
+                let found = found_at (λ (named : TypeDef). (named.name ≡ Some turned.name) × (named.owner ≡ owner.Interface (newest u turned.f))) types some.0 (turned_type t from.0 some.0 turned) in
+                let one = same_at types needs.target some.0 target.0 found.0 same target.1 found.1 in
+                let owned : target.0.owner ≡ owner.Interface (newest u turned.f) = ap (λ (d : TypeDef). d.owner) one ∙ found.2.1 in
+                record { f = turned.f; needed = turned.uses; is = inr (turned.replaced, turned.follows, other_is_interface from.0.owner (newest u turned.f) j (subst (λ (o : TypeOwner). other_owner from.0.owner o ≡ Some j) owned other)) }
+          ]

@@ -1,0 +1,92 @@
+-- Why semver merging is refused. A type that is missing (25) leaves no rewriting, so nothing that reads it (4, 6, 22,
+-- 23) is a reason beside it; functions that disagree (25) are one beside all others. Of several reasons any may be
+-- told.
+-- Source: `merge_world_imports_based_on_semver` of wit-parser 0.263.0; that a missing type is refused, and its text,
+-- are rules of this project.
+use Rattle.std.specs.Prelude.{◌≡◌, ℕ, true, List, ◌++◌, None, Some, codes, slice_get, unwrap_or, Option, Contains, []}
+use Rattle.wit_data.specs.declared.interface.Interface.{Interface}
+use Rattle.wit_data.specs.declared.package_name.PackageName.{PackageName}
+use Rattle.wit_data.specs.declared.track.TrackRule.{TrackRule}
+use Rattle.wit_data.specs.declared.types.TypeDef.{TypeDef}
+use Rattle.wit_data.specs.declared.world.World.{World}
+use Rattle.wit_graph_data.specs.IdText.{interface_id_at}
+use Rattle.wit_graph_data.specs.declared.cause.Cause.TheVariants as cause
+use Rattle.wit_graph_data.specs.declared.error_kind.ResolveErrorKind.{ResolveErrorKind}
+use Rattle.wit_graph_data.specs.declared.error_kind.ResolveErrorKind.TheVariants.{InvalidTransitiveDependency, PackageCycle, Semantic}
+use Rattle.wit_graph_data.specs.declared.graph.Graph.{Graph}
+use Rattle.wit_graph_theory.specs.AllElaborated.{DependsOnItself, IsInConflict, RefersToItself, UsesItself}
+use Rattle.wit_graph_theory.specs.FunctionMismatch.{HaveFunctionMismatch}
+use Rattle.wit_semver_spec.specs.Rewritten.{following, relisted_at, replaced_use, target_name, type_named}
+use Rattle.wit_semver_spec.specs.Upgrade.{Upgrade, is_replaced, newest}
+
+-- ---- texts
+
+-- 25: by their id texts, an interface and the newest on its track
+abbrev pub upgrade_text : List ℕ → List ℕ → List ℕ → List ℕ
+upgrade_text old new reason =
+    codes "failed to upgrade `" ++ (old ++ (codes "` to `" ++ (new ++ (codes "`, was this semver-compatible update not semver compatible?: " ++ reason))))
+
+-- a type that the newest lacks
+abbrev pub missing_text : List ℕ → List ℕ
+missing_text name = codes "type `" ++ (name ++ codes "` is missing")
+
+-- functions of one name that disagree
+abbrev pub disagreement_text : List ℕ → List ℕ
+disagreement_text mismatch = codes "failed to merge interfaces: " ++ mismatch
+
+-- the message of interface f, which is replaced
+abbrev pub upgrade_message : Upgrade → ℕ → List ℕ → List ℕ
+upgrade_message u f reason = upgrade_text (id_text_at f) (id_text_at (newest u f)) reason
+  where
+    id_text_at : ℕ → List ℕ
+    id_text_at i = unwrap_or (interface_id_at u.graph.packages u.graph.interfaces i) []
+
+-- ---- what speaks against it
+
+-- 25: what follows uses a type of a replaced interface, and the newest has none of its name
+pub record LacksType (u : Upgrade) (message : List ℕ) : Type 0 where
+  pub t : ℕ
+  pub def : TypeDef
+  pub f : ℕ
+  pub name : List ℕ
+  pub follows : Contains (following u) t
+  pub is : slice_get u.graph.types t ≡ Some def
+  pub uses : replaced_use u t ≡ Some f
+  pub named : target_name u.graph.types def ≡ Some name
+  pub absent : type_named u.graph.interfaces (newest u f) name ≡ None
+  pub message_is : message ≡ upgrade_message u f (missing_text name)
+
+-- 25: a replaced interface disagrees with the newest in a function that both have
+pub record Disagrees (u : Upgrade) (message : List ℕ) : Type 0 where
+  pub f : ℕ
+  pub old : Interface
+  pub new : Interface
+  pub mismatch : List ℕ
+  pub replaced : is_replaced u f ≡ true
+  pub old_is : slice_get u.graph.interfaces f ≡ Some old
+  pub new_is : slice_get u.graph.interfaces (newest u f) ≡ Some new
+  pub have : HaveFunctionMismatch old new mismatch
+  pub message_is : message ≡ upgrade_message u f (disagreement_text mismatch)
+
+-- ---- the reasons, by their numbers
+
+-- no type is missing: there is a rewriting
+abbrev pub IsComplete : Upgrade → Type 0
+IsComplete u = (message : List ℕ) → LacksType u message → ⊥
+
+-- why the imports of the world at place w can't be merged by tracks
+pub data UpgradeCause (u : Upgrade) (w : ℕ) : ResolveErrorKind → Type 0 where
+  conflict_4 : (span : Option (ℕ × ℕ)) (name : List ℕ) → IsComplete u → IsInConflict (relisted_at u w) span name → UpgradeCause u w (InvalidTransitiveDependency span name)
+  package_cycle_6 : (home : PackageName) → IsComplete u → DependsOnItself (relisted_at u w) home → UpgradeCause u w (PackageCycle None home)
+  interface_cycle_22 : (message : List ℕ) → IsComplete u → UsesItself (relisted_at u w) message → UpgradeCause u w (Semantic None message cause.InterfaceCycle)
+  type_cycle_23 : (message : List ℕ) → IsComplete u → RefersToItself (relisted_at u w) message → UpgradeCause u w (Semantic None message cause.TypeCycle)
+  type_missing_25 : (message : List ℕ) → LacksType u message → UpgradeCause u w (Semantic None message cause.UpgradeMismatch)
+  functions_disagree_25 : (message : List ℕ) → Disagrees u message → UpgradeCause u w (Semantic None message cause.UpgradeMismatch)
+
+-- of the world at a place
+abbrev pub IsTrackCause : TrackRule → Graph → ℕ → ResolveErrorKind → Type 0
+IsTrackCause rule g w error = (world : World) × (slice_get g.worlds w ≡ Some world) × UpgradeCause (record { rule = rule; graph = g; world = world }) w error
+
+-- nothing speaks against it
+abbrev pub IsAccepted : TrackRule → Graph → ℕ → Type 0
+IsAccepted rule g w = (error : ResolveErrorKind) → IsTrackCause rule g w error → ⊥

@@ -1,5 +1,0 @@
-pub mod Asked
-pub mod Elaborations
-pub mod Reasons
-pub mod Rounds
-pub mod Told

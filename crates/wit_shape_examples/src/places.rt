@@ -1,0 +1,18 @@
+//! Examples of places in source texts, and that each is in one file.
+ghost use Rattle.wit_shape_examples.specs.OneFile.{HaveNoneInCommon};
+ghost use Rattle.wit_shape_examples.specs.Places.{ExamplesOfHighlights, ExamplesOfPlaces};
+
+/// Where spans begin, by files, lines and columns.
+pub fn examples_of_places()
+    ensures { ExamplesOfPlaces }
+{}
+
+/// What stands under spans.
+pub fn examples_of_highlights()
+    ensures { ExamplesOfHighlights }
+{}
+
+/// The files of a source map have no position in common.
+pub fn positions_are_of_one_file()
+    ensures { HaveNoneInCommon }
+{}

@@ -1,0 +1,6 @@
+use Rattle.wit_transform.proofs.TurnedBack.{importized_exports_nothing}
+use Rattle.wit_transform.proofs.laws.importized_exports_nothing.Goals as goal
+
+pub returns : goal.returns
+returns c =
+    importized_exports_nothing

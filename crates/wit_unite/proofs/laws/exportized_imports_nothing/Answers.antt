@@ -1,6 +1,0 @@
-use Rattle.wit_unite.proofs.TurnedBack.{exportized_imports_nothing}
-use Rattle.wit_unite.proofs.laws.exportized_imports_nothing.Goals as goal
-
-pub returns : goal.returns
-returns c =
-    exportized_imports_nothing c.laws_of_elaboration.ensures

@@ -1,6 +1,0 @@
-use Rattle.wit_unite.proofs.TurnedBack.{importized_exports_nothing}
-use Rattle.wit_unite.proofs.laws.importized_exports_nothing.Goals as goal
-
-pub returns : goal.returns
-returns c =
-    importized_exports_nothing

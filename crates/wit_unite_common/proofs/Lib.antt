@@ -1,0 +1,5 @@
+pub mod AllWorlds
+pub mod OnCycles
+pub mod Searching
+pub mod Settled
+pub mod Steps

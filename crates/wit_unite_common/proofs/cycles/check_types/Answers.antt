@@ -1,0 +1,24 @@
+use Rattle.std.proofs.Common.{rules}
+use Rattle.wit_data.specs.Reference.{type_references}
+use Rattle.wit_unite_common.specs.Rounds.{IsRound}
+use Rattle.wit_unite_common.specs.Told.{TellsTypeOf}
+use Rattle.wit_unite_common.proofs.OnCycles.{round_named, round_there, type_told}
+use Rattle.wit_unite_common.proofs.cycles.check_types.Goals as goal
+
+pub type_cycle-requires-clause-in_range : goal.type_cycle-requires-clause-in_range
+type_cycle-requires-clause-in_range c =
+    let round : IsRound (type_references c.args.graph.now.types) c.in_ok-ids-in-Some.ids = search rules in
+    let there = round_there c.args.graph.now.types c.in_ok-ids-in-Some.ids c.requires.in_range round in
+    search (rules, there)
+
+pub type_cycle-requires-clause-named : goal.type_cycle-requires-clause-named
+type_cycle-requires-clause-named c =
+    let round : IsRound (type_references c.args.graph.now.types) c.in_ok-ids-in-Some.ids = search rules in
+    let named = round_named c.args.graph.now.types c.in_ok-ids-in-Some.ids c.requires.named round in
+    search (rules, named)
+
+pub returns-in-Some-clause-cause : goal.returns-in-Some-clause-cause
+returns-in-Some-clause-cause c =
+    let round : IsRound (type_references c.args.graph.now.types) c.in_ok-ids-in-Some.ids = search rules in
+    let told : TellsTypeOf c.args.graph.now.types c.in_ok-ids-in-Some.ids c.in_ok-type_cycle-in-Some.field-0 = search rules in
+    type_told c.args.graph.now c.in_ok-ids-in-Some.ids c.in_ok-type_cycle-in-Some.field-0 round told

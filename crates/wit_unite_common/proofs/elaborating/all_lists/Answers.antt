@@ -1,0 +1,26 @@
+use Rattle.std.proofs.Common.{◌≡◌, ◌∙◌, ◌⊎◌, sym, subst, arith}
+use Rattle.wit_graph_data.specs.AnswerFacts.{told_err}
+use Rattle.wit_graph_data.specs.declared.error_kind.ResolveErrorKind.{ResolveErrorKind}
+use Rattle.wit_graph_data.specs.declared.error_kind.ResolveErrorKind.TheVariants.{OutOfMemory}
+use Rattle.wit_unite_common.specs.Elaborations.{IsRefusedWorld}
+use Rattle.wit_unite_common.proofs.AllWorlds.{below-all, below-next, made-next, refused_world}
+use Rattle.wit_unite_common.proofs.elaborating.all_lists.Goals as goal
+
+pub returns-in_err-lists-clause-cause : goal.returns-in_err-lists-clause-cause
+returns-in_err-lists-clause-cause c =
+    told_err c.from_residual-in_err-lists.result c.from_residual-in_err-lists.ensures.1
+    (λ e is.
+    let same : e ≡ c.in_err-lists.field-0.0 = is in
+    subst (λ (x : ResolveErrorKind). (x ≡ OutOfMemory) ⊎ IsRefusedWorld c.args.graph.now x) (sym same)
+    (refused_world c.args.graph.now c.loop-index.index c.at.result.now c.in_err-lists.field-0.0 c.at.ensures c.in_err-lists.ensures.cause))
+
+pub loop-index-preserved : goal.loop-index-preserved
+loop-index-preserved c = record {
+  lists = c.in_ok-push.ensures.ok
+      ∙ made-next c.args.graph.now c.loop-index.all c.loop-index.index c.at.result.now c.in_ok-lists.lists c.at.ensures c.loop-index.invariant.lists c.in_ok-lists.ensures.imports c.in_ok-lists.ensures.exports;
+  no_conflict = below-next c.loop-index.invariant.no_conflict c.at.result.now c.at.ensures c.in_ok-lists.ensures.no_conflict;
+  same = c.in_ok-lists.ensures.same ∙ c.loop-index.invariant.same;
+}
+
+pub returns-clause-no_conflict : goal.returns-clause-no_conflict
+returns-clause-no_conflict c = below-all c.loop-index.invariant.no_conflict (omega arith)

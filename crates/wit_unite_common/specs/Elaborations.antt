@@ -1,0 +1,26 @@
+-- What elaborating all worlds of a graph makes, and with which error it is refused.
+use Rattle.std.specs.Prelude.{◌≡◌, ℕ, List, Contains}
+use Rattle.wit_data.specs.declared.world.World.{World}
+use Rattle.wit_elaboration.specs.Elaborated.{elaborated_exports, elaborated_imports}
+use Rattle.wit_elaboration.specs.Elaboration.{graph_uses}
+use Rattle.wit_elaboration.specs.Imported.{HasConflict, IsRefusedName}
+use Rattle.wit_elaboration.specs.declared.entries.Lists.{Lists}
+use Rattle.wit_graph_data.specs.declared.error_kind.ResolveErrorKind.{ResolveErrorKind}
+use Rattle.wit_graph_data.specs.declared.error_kind.ResolveErrorKind.TheVariants.{InvalidTransitiveDependency}
+use Rattle.wit_graph_data.specs.declared.graph.Graph.{Graph}
+
+-- the lists of a world of a graph, elaborated
+abbrev pub elaborated_lists : Graph → World → Lists
+elaborated_lists g world = record {
+  imports = elaborated_imports g.types (graph_uses g) world.imports world.exports;
+  exports = elaborated_exports g.types (graph_uses g) world.exports;
+}
+
+-- some world is in conflict, and the error tells it: at its span, by the name that is refused
+pub record IsRefusedWorld (g : Graph) (error : ResolveErrorKind) : Type 0 where
+  pub world : World
+  pub there : Contains g.worlds world
+  pub conflict : HasConflict (graph_uses g) world.exports
+  pub name : List ℕ
+  pub name_is : IsRefusedName g.packages g.interfaces (graph_uses g) world.exports name
+  pub error_is : error ≡ InvalidTransitiveDependency world.span name

@@ -1,0 +1,15 @@
+//! What merging two graphs and semver merging have in common: in what functions of one name disagree, and that a
+//! graph whose worlds have new entries is checked for cycles and elaborated.
+#![tactic(auto)]
+
+mod cycles;
+mod elaborating;
+mod functions;
+mod interfaces;
+mod round;
+mod settling;
+
+pub use crate::elaborating::elaborate_all;
+pub use crate::functions::function_mismatch;
+pub use crate::interfaces::interface_mismatch;
+pub use crate::settling::settle;

@@ -1,9 +1,0 @@
-use Rattle.std.proofs.Common.{◌≡◌, ◌++◌, ℕ, List, map}
-use Rattle.wit_items.specs.declared.function.Function.{Function}
-use Rattle.wit_resources.specs.Active.{seen}
-use Rattle.wit_uniting.proofs.functions.push_all.Given as goal
-
--- what has been added, and what those will add that are left
-abbrev pub invariant-loop-function : goal.invariant-loop-function
-invariant-loop-function l =
-    seen l.functions.items ++ map (λ (e : List ℕ × Function). e.1) l.function-iterator ≡ seen l.fn.functions.items ++ map (λ (e : List ℕ × Function). e.1) l.named

@@ -1,8 +1,0 @@
-use Rattle.std.proofs.Common.{◌≡◌}
-use Rattle.wit_adding.specs.Ranks.{rank}
-use Rattle.wit_matching.specs.Going.{moves}
-use Rattle.wit_uniting.proofs.owning.count_moving.Given as goal
-
--- how many of the first ones do
-abbrev pub invariant-loop-place : goal.invariant-loop-place
-invariant-loop-place l = l.count ≡ rank (moves l.found) l.place

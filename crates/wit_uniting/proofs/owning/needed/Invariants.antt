@@ -1,9 +1,0 @@
-use Rattle.std.proofs.Common.{◌≡◌, ℕ, map}
-use Rattle.std.specs.List.{range_with_len}
-use Rattle.wit_merging.specs.Moved.{needs_own}
-use Rattle.wit_comparing.specs.Differing.{merging_by}
-use Rattle.wit_uniting.proofs.owning.needed.Given as goal
-
--- the flags of the first ones
-abbrev pub invariant-loop-place : goal.invariant-loop-place
-invariant-loop-place l = (offset : ℕ) → l.needed ≡ map (needs_own (merging_by l.graph l.other offset)) (range_with_len 0 l.place)

@@ -1,8 +1,0 @@
-use Rattle.std.proofs.Common.{take}
-use Rattle.wit_graph.specs.Entries.{keyed_interfaces}
-use Rattle.wit_upgrading.specs.Replacing.{TellsNewest}
-use Rattle.wit_upgrading.proofs.newest.newest_by_track.Given as goal
-
--- it tells of the first entries
-abbrev pub invariant-loop-index : goal.invariant-loop-index
-invariant-loop-index l = TellsNewest l.rule l.graph (keyed_interfaces (take l.index l.entries)) l.newest.entries

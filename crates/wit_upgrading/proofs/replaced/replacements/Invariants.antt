@@ -1,8 +1,0 @@
-use Rattle.std.proofs.Common.{length, take}
-use Rattle.wit_graph.specs.Entries.{keyed_interfaces}
-use Rattle.wit_upgrading.specs.Replacing.{IsFilled, replacement, upgrade}
-use Rattle.wit_upgrading.proofs.replaced.replacements.Given as goal
-
--- what replaces the first ones is in its place
-abbrev pub invariant-loop-index : goal.invariant-loop-index
-invariant-loop-index l = IsFilled (replacement (upgrade l.rule l.graph l.world)) (keyed_interfaces (take l.index l.world.imports)) (length l.graph.interfaces) l.found

@@ -1,8 +1,0 @@
-use Rattle.std.proofs.Common.{ℕ, List}
-use Rattle.wit_graph.specs.Valid.{IsWorldOf}
-use Rattle.wit_items.specs.EachFacts.{EachBelow}
-use Rattle.wit_valid.proofs.tables.has_worlds.Given as goal
-
--- the first ones are
-abbrev pub invariant-loop-index : goal.invariant-loop-index
-invariant-loop-index l = EachBelow l.index (λ _ (e : List ℕ × ℕ). IsWorldOf l.worlds l.home e.0 e.1) l.table

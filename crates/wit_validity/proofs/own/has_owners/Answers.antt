@@ -1,0 +1,5 @@
+use Rattle.std.proofs.Common.{rules}
+use Rattle.wit_validity.proofs.own.has_owners.Goals as goal
+
+pub returns : goal.returns
+returns c = search rules

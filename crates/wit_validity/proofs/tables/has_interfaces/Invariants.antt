@@ -1,0 +1,8 @@
+use Rattle.std.proofs.Common.{ℕ, List}
+use Rattle.wit_elaboration.specs.Valid.{IsInterfaceOf}
+use Rattle.wit_data.specs.EachFacts.{EachBelow}
+use Rattle.wit_validity.proofs.tables.has_interfaces.Given as goal
+
+-- the first ones are
+abbrev pub invariant-loop-index : goal.invariant-loop-index
+invariant-loop-index l = EachBelow l.index (λ _ (e : List ℕ × ℕ). IsInterfaceOf l.interfaces l.home e.0 e.1) l.table

@@ -1,0 +1,14 @@
+use Rattle.std.proofs.Common.{ℕ, Some, sym, ap, ◌∙◌}
+use Rattle.std.proofs.lemmas.Bool.Decides.{Decides-eqb}
+use Rattle.std.proofs.lemmas.Slice.Eq.{bytes_eq-Decides}
+use Rattle.wit_validity.proofs.LookUps.{is_found, none_found}
+use Rattle.wit_validity.proofs.tables.has_world.Goals as goal
+
+pub returns-in-Some : goal.returns-in-Some
+returns-in-Some c =
+    let there = is_found bytes_eq-Decides c.args.worlds.now c.args.name.now c.index.result c.args.index c.keys_differ.ensures.test (sym c.in-Some.ensures ∙ ap (λ (i : ℕ). Some i) (sym c.index.ensures)) in
+    let same = Decides-eqb c.index.result c.args.index in
+    (λ passed. there.0 (same.0 passed), λ has. same.1 (there.1 has))
+
+pub returns-in-None : goal.returns-in-None
+returns-in-None c = none_found bytes_eq-Decides c.args.worlds.now c.args.name.now c.args.index c.keys_differ.ensures.test (sym c.in-None.ensures)

@@ -1,0 +1,27 @@
+//! Whether nothing uses, refers to or depends on itself.
+ghost use Rattle.std.specs.Prelude.{◌↔◌, IfOk, IsTrue};
+ghost use Rattle.wit_elaboration.specs.Valid.{HasNoCycles};
+
+use std::alloc::{AllocError, Global};
+use wit_data::{type_references, uses_of};
+use wit_digraph::is_acyclic;
+use wit_graph_data::Graph;
+use wit_queries::package_uses;
+
+/// Whether no interface uses itself, no type refers to itself and no package depends on itself,
+/// through whatever others.
+pub(crate) fn has_no_cycles(alloc: Global, graph: &Graph) -> Result<bool, AllocError>
+    ensures { IfOk result (λ holds. IsTrue holds ↔ HasNoCycles graph.now) }
+{
+    let types = graph.types.as_slice();
+    let references = type_references(alloc, types)?;
+    if !is_acyclic(alloc, references.as_slice())? {
+        return Ok(false);
+    }
+    let uses = uses_of(alloc, types, graph.interfaces.as_slice())?;
+    if !is_acyclic(alloc, uses.as_slice())? {
+        return Ok(false);
+    }
+    let packages = package_uses(alloc, graph)?;
+    is_acyclic(alloc, packages.as_slice())
+}
