@@ -2,7 +2,7 @@
 ghost use Rattle.std.specs.Prelude.{◌≡◌, IfOk, Some, string_bytes};
 ghost use Rattle.std.specs.Option.{option_map};
 ghost use Rattle.semver.specs.Identifiers.{parts_of};
-ghost use Rattle.wit_data.specs.Track.{release_track, track_of, track_suffix, track_text};
+ghost use Rattle.wit_data.specs.Track.{release_track, track_by, track_of, track_suffix, track_text};
 
 use crate::package_name::PackageName;
 use semver::BuildMetadata;
@@ -52,6 +52,24 @@ impl PackageName {
         let text = track_text(alloc, version)?;
         let suffix = track_suffix(alloc, version, text.as_str())?;
         Ok((text, suffix))
+    }
+
+    /// The track of a version by a rule: of 1.2.3-rc.1+b it is 1.2.3-rc.1 by the published rule, and
+    /// 1.0.0 by the one with pre-releases. The only error is want of memory.
+    ///
+    /// Source: `version_compat_track` of wit-parser 0.263.0 for the published rule; the other is a rule
+    /// of this project.
+    pub fn track_by(
+        _alloc: Global,
+        version: &Version,
+        rule: TrackRule,
+    ) -> Result<Version, AllocError>
+        ensures { IfOk result (λ track. track ≡ track_by rule version.now) }
+    {
+        match rule {
+            TrackRule::Published => track_of(version),
+            TrackRule::WithPrereleases => Ok(Version::from_version(release_track(version))),
+        }
     }
 }
 

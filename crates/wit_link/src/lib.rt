@@ -5,10 +5,10 @@ mod adding;
 mod checking;
 mod fits;
 mod including;
-mod remap;
 mod several;
 
 pub use crate::adding::{append, append_with};
-pub use crate::remap::Remap;
 pub use crate::several::{append_all, append_all_with};
+pub use wit_labels::rename;
 pub use wit_link_order::sort_groups;
+pub use wit_remap::Remap;

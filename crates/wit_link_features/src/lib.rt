@@ -3,13 +3,11 @@
 #![tactic(auto)]
 
 mod checker;
-mod messages;
 mod needs;
 mod references;
 mod taking_part;
 mod versions;
 
-pub use crate::messages::{excluded_message, excluded_owner_message};
 pub use crate::references::check_references;
 pub use crate::taking_part::activity;
 pub use crate::versions::check_versions;

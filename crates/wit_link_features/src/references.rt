@@ -17,7 +17,6 @@ ghost use Rattle.wit_link_features.specs.GateSteps.{IsReady, MayRefuse, seen};
 ghost use Rattle.wit_link_features.specs.ReferenceSteps.{FieldStays, ForeignStays, FunctionStays, FunctionsStay, IncludeStays, IsReferred, IsTakenType, ItemStays, KindRefers, KindStays, MayTakePart, OwnerStays, PartsStay, RefersByInclude, RefersByItem, RefersInField, Stays, TypeStays, TypesStay, takes_part, thing_of};
 
 use crate::checker::Checker;
-use crate::messages::{excluded_message, excluded_owner_message};
 use crate::needs::{Needed, flag_at};
 use std::alloc::{AllocError, Global};
 use wit_data::{
@@ -25,7 +24,7 @@ use wit_data::{
     WorldInclude, WorldItem, WorldKey, function_references, referred,
 };
 use wit_graph_data::{Cause, ResolveError, ResolveResult};
-use wit_link_spec::{Activity, Adding};
+use wit_link_spec::{Activity, Adding, excluded_message, excluded_owner_message};
 
 /// Refuses what takes part and needs what is left out: something refers to it (11), or it owns a
 /// type (12). The package has its shape, and what takes part of it is told by `activity`.

@@ -4,6 +4,8 @@
 
 mod adding;
 mod gates;
+mod messages;
 
 pub use crate::adding::{Activity, Adding, Places, Values};
 pub use crate::gates::is_active;
+pub use crate::messages::{excluded_message, excluded_owner_message};

@@ -19,4 +19,4 @@ mod uniting;
 mod whole;
 mod worlds;
 
-pub use crate::whole::{United, unite};
+pub use crate::whole::{United, union_of, unite};

@@ -6,10 +6,12 @@ ghost use Rattle.wit_graph_data.specs.declared.error_kind.ResolveErrorKind.TheVa
 ghost use Rattle.wit_merge_match.specs.Differing.{merging_by};
 ghost use Rattle.wit_merge_match.specs.Found.{AreMatches};
 ghost use Rattle.wit_merge_match.specs.Going.{going_of};
+ghost use Rattle.wit_merge_spec.specs.Moved.{going as ids_of};
 ghost use Rattle.wit_merge_spec.specs.Cause.{IsMergeCause};
 ghost use Rattle.wit_merge_spec.specs.Reasons.{ReturnsBorrow};
 ghost use Rattle.wit_merge_spec.specs.United.{joined_graph, united};
 ghost use Rattle.wit_merge.specs.Agreeing.{DoAgree};
+ghost use Rattle.wit_merge.specs.Remapped.{remap_of};
 
 use crate::agreement::check_agreement;
 use crate::joined::joined_graph;
@@ -19,16 +21,42 @@ use crate::results::check_results;
 use crate::uniting::Uniting;
 use std::alloc::Global;
 use wit_graph_data::{Graph, ResolveResult};
-use wit_link_spec::Values;
+use wit_link_spec::{Places, Values};
 use wit_merge_laws::laws::unions_stay_valid;
 use wit_merge_match::{Going, Matches, find_matches, find_places};
+use wit_remap::Remap;
 use wit_unite_common::settle;
 
-/// A graph that another one went into, and where the things of that went.
+/// A graph that another one was merged into, and where the things of that one are now.
 #[derive(Drop)]
 pub struct United {
     pub graph: Graph,
-    pub going: Going,
+    pub remap: Remap,
+}
+
+/// A valid graph with another valid one, which is consumed: see `union_of`, which leaves both as they are. On a refusal
+/// the graph is as before, and the other is gone.
+///
+/// Source: `merge` of wit-parser 0.263.0.
+pub fn unite(
+    alloc: Global,
+    graph: &Graph,
+    other: Graph,
+    offset: u32,
+) -> ResolveResult<(Graph, Remap)>
+    requires valid { IsValid graph.now }
+    requires other { IsValid other }
+    ensures ok { IfOk result (λ made. made.0 ≡ united (merging_by graph.now other offset)) }
+    ensures remap { IfOk result (λ made. made.1 ≡ remap_of (ids_of (merging_by graph.now other offset))) }
+    ensures valid { IfOk result (λ made. IsValid made.0) }
+    ensures cause { IfErr result (λ e. (e ≡ OutOfMemory) ⊎ IsMergeCause (merging_by graph.now other offset) e) }
+    ensures refuses { (e : ResolveErrorKind) → IsMergeCause (merging_by graph.now other offset) e → OnOk result ⊥ }
+{
+    let United {
+        graph: union_graph,
+        remap,
+    } = union_of(alloc, graph, &other, offset)?;
+    Ok((union_graph, remap))
 }
 
 /// A copy of a valid graph with another valid one: what is matched is made one, all else comes behind what is there,
@@ -40,11 +68,11 @@ pub struct United {
 /// 4294967295 (27), and for memory (28).
 ///
 /// Source: `merge` of wit-parser 0.263.0.
-pub fn unite(alloc: Global, graph: &Graph, other: &Graph, offset: u32) -> ResolveResult<United>
+pub fn union_of(alloc: Global, graph: &Graph, other: &Graph, offset: u32) -> ResolveResult<United>
     requires valid { IsValid graph.now }
     requires other { IsValid other.now }
     ensures graph { IfOk result (λ made. made.graph ≡ united (merging_by graph.now other.now offset)) }
-    ensures going { IfOk result (λ made. made.going ≡ going_of (merging_by graph.now other.now offset)) }
+    ensures remap { IfOk result (λ made. made.remap ≡ remap_of (ids_of (merging_by graph.now other.now offset))) }
     ensures valid { IfOk result (λ made. IsValid made.graph) }
     ensures cause { IfErr result (λ e. (e ≡ OutOfMemory) ⊎ IsMergeCause (merging_by graph.now other.now offset) e) }
     ensures refuses { (e : ResolveErrorKind) → IsMergeCause (merging_by graph.now other.now offset) e → OnOk result ⊥ }
@@ -57,8 +85,21 @@ pub fn unite(alloc: Global, graph: &Graph, other: &Graph, offset: u32) -> Resolv
     settle(alloc, &mut joined)?;
     Ok(United {
         graph: joined,
-        going,
+        remap: into_remap(going),
     })
+}
+
+/// Where things are now, as it is answered.
+fn into_remap(going: Going) -> Remap
+    ensures { result ≡ record { types = going.places.types; interfaces = going.places.interfaces; worlds = going.places.worlds; packages = going.packages } }
+{
+    let Going { places, packages } = going;
+    let Places {
+        types,
+        interfaces,
+        worlds,
+    } = places;
+    Remap::from_lists(types, interfaces, worlds, packages)
 }
 
 /// The two graphs as one, as they are listed, where no function that comes returns a borrow (15).

@@ -6,13 +6,14 @@ use Rattle.wit_sources.specs.SourceMap.{Sources, moved_file, with_sources}
 use Rattle.wit_graph_data.specs.declared.error_kind.ResolveErrorKind.{ResolveErrorKind}
 use Rattle.wit_graph_data.specs.declared.error_kind.ResolveErrorKind.TheVariants.{OffsetOverflow, OutOfMemory}
 use Rattle.wit_graph_data.specs.declared.graph.Graph.{Graph}
-use Rattle.wit_link.specs.declared.remap.Remap.{Remap}
+use Rattle.wit_remap.specs.declared.remap.Remap.{Remap}
 use Rattle.wit_merge_spec.specs.Cause.{IsMergeCause}
 use Rattle.wit_merge_spec.specs.Matches.{Merging}
 use Rattle.wit_merge_spec.specs.Moved.{going}
 use Rattle.wit_merge_spec.specs.United.{united}
 use Rattle.wit_merge_match.specs.Differing.{merging_by}
-use Rattle.wit_resolve_graph.specs.Merging.{FilesPass, Merges, RefusesMerge, answered, merging}
+use Rattle.wit_merge.specs.Remapped.{remap_of}
+use Rattle.wit_resolve_graph.specs.Merging.{FilesPass, Merges, RefusesMerge, merging}
 use Rattle.wit_resolve_graph.specs.State.{State}
 use Rattle.wit_resolve_graph.proofs.FilesAfter.{files_after, files_stay}
 
@@ -49,7 +50,7 @@ module _ (old other : State) (g : Graph) (offset : ℕ) (same : g ≡ other.grap
 
   -- the states are merged
   pub merges : (new : State) (r : Result Remap ResolveErrorKind) → old.source_map.end + other.source_map.end < 2 ^ 32 → OnOk r (new.graph ≡ united (merging_by old.graph g offset))
-      → IfOk r (λ remap. remap ≡ answered (going (merging_by old.graph g offset))) → new.features ≡ old.features → new.track_rule ≡ old.track_rule → new.source_map ≡ with_sources old.source_map other.source_map
+      → IfOk r (λ remap. remap ≡ remap_of (going (merging_by old.graph g offset))) → new.features ≡ old.features → new.track_rule ≡ old.track_rule → new.source_map ≡ with_sources old.source_map other.source_map
       → ((kind : ResolveErrorKind) → IsMergeCause (merging_by old.graph g offset) kind → OnOk r ⊥) → IfOk r (λ remap. Merges old other remap new)
   merges new (Err kind) fits graph remap features rule files refuses = tt
   merges new (Ok remap) fits graph is features rule files refuses = record {
@@ -59,7 +60,7 @@ module _ (old other : State) (g : Graph) (offset : ℕ) (same : g ≡ other.grap
     features = features;
     rule = rule;
     files = files;
-    remap_is = is ∙ ap (λ (m : Merging). answered (going m)) one;
+    remap_is = is ∙ ap (λ (m : Merging). remap_of (going m)) one;
   }
 
   pub never_merged : (new : State) (r : Result Remap ResolveErrorKind) → r ≡ Err OffsetOverflow → IfOk r (λ remap. Merges old other remap new)

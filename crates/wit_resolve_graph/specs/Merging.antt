@@ -3,20 +3,17 @@ use Rattle.std.specs.Prelude.{◌≡◌, ◌⊎◌, ◌≤◌, ◌<◌, ◌+◌,
 use Rattle.wit_sources.specs.SourceMap.{Sources, with_sources}
 use Rattle.wit_graph_data.specs.declared.error_kind.ResolveErrorKind.{ResolveErrorKind}
 use Rattle.wit_graph_data.specs.declared.error_kind.ResolveErrorKind.TheVariants.{OffsetOverflow, OutOfMemory}
-use Rattle.wit_link.specs.declared.remap.Remap.{Remap}
+use Rattle.wit_remap.specs.declared.remap.Remap.{Remap}
+use Rattle.wit_merge.specs.Remapped.{remap_of}
 use Rattle.wit_merge_spec.specs.Cause.{CanMerge, IsMergeCause}
 use Rattle.wit_merge_spec.specs.Matches.{Merging}
-use Rattle.wit_merge_spec.specs.Moved.{Going, going}
+use Rattle.wit_merge_spec.specs.Moved.{going}
 use Rattle.wit_merge_spec.specs.United.{united}
 use Rattle.wit_resolve_graph.specs.State.{State}
 
 -- the graph of another state goes into that of a state; its spans move to the end of the sources, as its files do
 abbrev pub merging : State → State → Merging
 merging old other = record { graph = old.graph; other = other.graph; offset = old.source_map.end }
-
--- where things go, as it is answered
-abbrev pub answered : Going → Remap
-answered g = record { types = g.types; interfaces = g.interfaces; worlds = g.worlds; packages = g.packages }
 
 -- 27: the files of both end past 4294967295
 abbrev pub FilesPass : State → State → ResolveErrorKind → Type 0
@@ -32,7 +29,7 @@ pub record Merges (old other : State) (remap : Remap) (new : State) : Type 0 whe
   pub features : new.features ≡ old.features
   pub rule : new.track_rule ≡ old.track_rule
   pub files : new.source_map ≡ with_sources old.source_map other.source_map
-  pub remap_is : remap ≡ answered (going (merging old other))
+  pub remap_is : remap ≡ remap_of (going (merging old other))
 
 -- where files are after a refusal, given the sources with those that come: at the end, but after a position that is too
 -- large nowhere, and after want of memory there or not

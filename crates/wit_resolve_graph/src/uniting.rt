@@ -7,19 +7,17 @@ ghost use Rattle.wit_graph_data.specs.declared.error_kind.ResolveErrorKind.TheVa
 ghost use Rattle.wit_merge_spec.specs.Cause.{IsMergeCause};
 ghost use Rattle.wit_merge_spec.specs.Moved as moved;
 ghost use Rattle.wit_merge_spec.specs.United.{united};
+ghost use Rattle.wit_merge.specs.Remapped.{remap_of};
 ghost use Rattle.wit_resolve_graph.specs.Kept.{AreKept};
-ghost use Rattle.wit_resolve_graph.specs.Merging.{answered};
 
 use crate::kept::Kept;
 use std::alloc::Global;
 use wit_graph_data::{Graph, ResolveResult};
-use wit_link::Remap;
-use wit_link_spec::Places;
-use wit_merge::{United, unite};
-use wit_merge_match::Going;
+use wit_merge::{United, union_of};
+use wit_remap::Remap;
 
 /// Makes a graph one with another, whose spans move by an offset, and answers where the things of the other stand now:
-/// see `wit_merge::unite`. After a refusal nothing has changed. What is kept is of the graph, and becomes that of the
+/// see `wit_merge::union_of`. After a refusal nothing has changed. What is kept is of the graph, and becomes that of the
 /// new graph.
 pub(crate) fn unite_kept(
     alloc: Global,
@@ -31,32 +29,19 @@ pub(crate) fn unite_kept(
     requires kept { AreKept graph.old kept.old }
     requires other { IsValid other.now }
     ensures graph { OnOk result (graph.new ≡ united (merging_by graph.old other.now offset)) }
-    ensures remap { IfOk result (λ remap. remap ≡ answered (moved.going (merging_by graph.old other.now offset))) }
+    ensures remap { IfOk result (λ remap. remap ≡ remap_of (moved.going (merging_by graph.old other.now offset))) }
     ensures kept { AreKept graph.new kept.new }
     ensures err { OnErr result (graph.new ≡ graph.old) }
     ensures cause { IfErr result (λ kind. (kind ≡ OutOfMemory) ⊎ IsMergeCause (merging_by graph.old other.now offset) kind) }
     ensures refuses { (kind : ResolveErrorKind) → IsMergeCause (merging_by graph.old other.now offset) kind → OnOk result ⊥ }
 {
-    let made = unite(alloc, graph, other, offset)?;
+    let made = union_of(alloc, graph, other, offset)?;
     let rows = Kept::of(alloc, &made.graph)?;
     let United {
-        graph: whole,
-        going,
+        graph: union_graph,
+        remap,
     } = made;
-    *graph = whole;
+    *graph = union_graph;
     *kept = rows;
-    Ok(into_remap(going))
-}
-
-/// Where things went, as it is answered.
-fn into_remap(going: Going) -> Remap
-    ensures { result ≡ record { types = going.places.types; interfaces = going.places.interfaces; worlds = going.places.worlds; packages = going.packages } }
-{
-    let Going { places, packages } = going;
-    let Places {
-        types,
-        interfaces,
-        worlds,
-    } = places;
-    Remap::from_lists(types, interfaces, worlds, packages)
+    Ok(remap)
 }

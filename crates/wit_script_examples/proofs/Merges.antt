@@ -13,7 +13,7 @@ use Rattle.wit_graph_data.specs.declared.error_kind.ResolveErrorKind.TheVariants
 use Rattle.wit_graph_data.specs.declared.features.Features.{Features}
 use Rattle.wit_graph_data.specs.declared.graph.Graph.{Graph}
 use Rattle.wit_graph_theory.specs.TestFacts.{feature_of}
-use Rattle.wit_link.specs.declared.remap.Remap.{Remap}
+use Rattle.wit_remap.specs.declared.remap.Remap.{Remap}
 use Rattle.wit_merge_spec.specs.Cause.{CanMerge}
 use Rattle.wit_merge_spec.specs.Matches.{Merging}
 use Rattle.wit_merge_spec.specs.Moved.{going}

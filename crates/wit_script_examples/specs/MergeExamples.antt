@@ -7,7 +7,7 @@ use Rattle.wit_graph_data.specs.Samples.{foo_bar}
 use Rattle.wit_graph_data.specs.declared.error_kind.ResolveErrorKind.{ResolveErrorKind}
 use Rattle.wit_graph_data.specs.declared.error_kind.ResolveErrorKind.TheVariants.{OffsetOverflow, OutOfMemory, StabilityMismatch}
 use Rattle.wit_graph_data.specs.declared.graph.Graph.{Graph}
-use Rattle.wit_link.specs.declared.remap.Remap.{Remap}
+use Rattle.wit_remap.specs.declared.remap.Remap.{Remap}
 use Rattle.wit_resolve_graph.specs.FilesExamples.{ending}
 use Rattle.wit_resolve_graph.specs.State.{State, new_state}
 use Rattle.wit_resolve_graph.specs.Step.{Run}

@@ -13,4 +13,4 @@ mod targets;
 mod tracks;
 mod upgrading;
 
-pub use crate::merging::merged_by_track;
+pub use crate::merging::{merge_by_track, merged_by_track};

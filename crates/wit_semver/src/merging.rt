@@ -1,5 +1,5 @@
 //! Imports of a world merged by tracks.
-ghost use Rattle.std.specs.Prelude.{◌≡◌, ◌⊎◌, ◌<◌, IfErr, IfOk, OnOk, length};
+ghost use Rattle.std.specs.Prelude.{◌≡◌, ◌⊎◌, ◌<◌, IfErr, IfOk, OnErr, OnOk, length};
 ghost use Rattle.wit_elaboration.specs.Valid.{IsValid};
 ghost use Rattle.wit_graph_data.specs.declared.error_kind.ResolveErrorKind.{ResolveErrorKind};
 ghost use Rattle.wit_graph_data.specs.declared.error_kind.ResolveErrorKind.TheVariants.{OutOfMemory};
@@ -66,4 +66,26 @@ pub fn merged_by_track(
     let mut merged = relisted_world(alloc, graph, world, rule)?;
     settle(alloc, &mut merged)?;
     Ok(merged)
+}
+
+/// Merges the imports of a world of a valid graph by a rule of tracks, in place: see `merged_by_track`, which leaves the
+/// graph as it is. After a refusal the graph is as before.
+///
+/// Source: `merge_world_imports_based_on_semver` of wit-parser 0.263.0.
+pub fn merge_by_track(
+    alloc: Global,
+    graph: &mut Graph,
+    world: WorldId,
+    rule: TrackRule,
+) -> ResolveResult<()>
+    requires valid { IsValid graph.old }
+    requires world { world < length graph.old.worlds }
+    ensures ok { OnOk result (graph.new ≡ rewritten rule graph.old world) }
+    ensures valid { OnOk result (IsValid graph.new) }
+    ensures err { OnErr result (graph.new ≡ graph.old) }
+    ensures cause { IfErr result (λ e. (e ≡ OutOfMemory) ⊎ IsTrackCause rule graph.old world e) }
+    ensures refuses { (e : ResolveErrorKind) → IsTrackCause rule graph.old world e → OnOk result ⊥ }
+{
+    *graph = merged_by_track(alloc, graph, world, rule)?;
+    Ok(())
 }

@@ -1,7 +1,6 @@
 //! Tracks of interfaces: what is the same for all on one track, and which of two is of a greater version.
-ghost use Rattle.std.specs.Prelude.{◌≡◌, [], IfOk};
+ghost use Rattle.std.specs.Prelude.{◌≡◌, IfOk};
 ghost use Rattle.std.specs.Option.{option_map};
-ghost use Rattle.wit_data.specs.Track.{track_by, track_of};
 ghost use Rattle.wit_semver_spec.specs.Tracks.{is_below, versioned};
 ghost use Rattle.wit_semver.specs.Replacing.{key_of, told};
 
@@ -53,7 +52,7 @@ impl<'a> VersionedInterface<'a> {
     pub(crate) fn track_key(&self, alloc: Global, rule: TrackRule) -> Result<TrackKey, AllocError>
         ensures { IfOk result (λ key. key ≡ key_of rule (told self.now)) }
     {
-        let track = track_by(alloc, self.version, rule)?;
+        let track = PackageName::track_by(alloc, self.version, rule)?;
         let (namespace, name, interface) = try_clone_three(
             &self.home.namespace,
             &self.home.name,
@@ -64,29 +63,4 @@ impl<'a> VersionedInterface<'a> {
             interface,
         })
     }
-}
-
-/// The track of a version by a rule.
-fn track_by(alloc: Global, version: &Version, rule: TrackRule) -> Result<Version, AllocError>
-    ensures { IfOk result (λ track. track ≡ track_by rule version.now) }
-{
-    match rule {
-        TrackRule::Published => track_of(alloc, version),
-        TrackRule::WithPrereleases => track_of(alloc, &release_of(version)),
-    }
-}
-
-/// The release of a version: its numbers alone.
-fn release_of(version: &Version) -> Version
-    ensures { result ≡ (version.now.0, version.now.1, version.now.2, [], []) }
-{
-    Version::from_version(semver::Version::new(version.major(), version.minor(), version.patch()))
-}
-
-/// The track of a version.
-fn track_of(alloc: Global, version: &Version) -> Result<Version, AllocError>
-    ensures { IfOk result (λ track. track ≡ track_of version.now) }
-{
-    let (track, _) = PackageName::version_compat_track(alloc, version)?;
-    Ok(track)
 }

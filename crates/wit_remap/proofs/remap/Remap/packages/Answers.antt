@@ -1,5 +1,5 @@
 use Rattle.std.proofs.Common.{rules}
-use Rattle.wit_link.proofs.remap.Remap.from_lists.Goals as goal
+use Rattle.wit_remap.proofs.remap.Remap.packages.Goals as goal
 
 pub returns : goal.returns
 returns c = search rules

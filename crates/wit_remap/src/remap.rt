@@ -7,7 +7,7 @@ ghost use Rattle.wit_graph_data.specs.declared.error_kind.ResolveErrorKind.TheVa
 use std::alloc::{AllocError, Global};
 use wit_data::{Id, InterfaceId, Items, PackageId, Span, Text, TryClone, TypeId, WorldId};
 use wit_graph_data::{Cause, ResolveError, ResolveErrorKind, ResolveResult};
-use wit_link_features::{excluded_message, excluded_owner_message};
+use wit_link_spec::{excluded_message, excluded_owner_message};
 use wit_values::try_clone_four;
 
 /// The ids of the things that were handed in: for each place of the handed-in list the id in the graph that took it,

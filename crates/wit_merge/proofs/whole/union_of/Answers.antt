@@ -6,7 +6,7 @@ use Rattle.wit_graph_data.specs.declared.error_kind.ResolveErrorKind.TheVariants
 use Rattle.wit_merge_match.specs.Differing.{merging_by}
 use Rattle.wit_merge_spec.specs.Cause.{CanMerge, IsMergeCause}
 use Rattle.wit_merge.proofs.Outcome.{is_united, nothing_speaks, settle_told, settles}
-use Rattle.wit_merge.proofs.whole.unite.Goals as goal
+use Rattle.wit_merge.proofs.whole.union_of.Goals as goal
 
 pub returns-in_err-joined-clause-cause : goal.returns-in_err-joined-clause-cause
 returns-in_err-joined-clause-cause c =

@@ -1,5 +1,5 @@
 use Rattle.std.proofs.Common.{rules}
-use Rattle.wit_link.proofs.remap.Remap.map_type.Goals as goal
+use Rattle.wit_remap.proofs.remap.Remap.map_type.Goals as goal
 
 pub returns-clause-found : goal.returns-clause-found
 returns-clause-found c = search rules

@@ -1,0 +1,34 @@
+//! The graph of WIT packages: five lists of plain data in which each name has become a typed number, its errors with
+//! their numbers and texts, canonical worlds, and what is asked of a graph.
+//!
+//! [`Graph`] has public fields; its own methods `id_of`, `id_of_name` and `name_world_key` give id texts, and
+//! [`GraphQueries`] has the other questions. [`elaborate`] makes a world canonical, [`is_valid`] tells whether a graph
+//! is valid, as the graph of each `Resolve` is. A [`ResolveError`] has a number and fields of its kind, and renders
+//! itself with its line of the sources.
+//!
+//! ```text
+//! use wit_graph::{Graph, GraphQueries, ResolveResult};
+//!
+//! fn packages_in_order(alloc: Global, graph: &Graph) -> ResolveResult<Vec<PackageId>> {
+//!     graph.topological_packages(alloc)
+//! }
+//! ```
+#![tactic(auto)]
+
+mod graph_queries;
+
+pub use crate::graph_queries::GraphQueries;
+pub use wit_core_names::{
+    FutureIntrinsic, ResourceIntrinsic, StreamIntrinsic, WasmExport, WasmExportKind, WasmImport,
+    can_name_export, can_name_import, wasm_export_name, wasm_import_name,
+};
+pub use wit_elaboration::{elaborate, is_elaborable};
+pub use wit_graph_data::{
+    Cause, Features, Graph, Package, ResolveError, ResolveErrorKind, ResolveResult,
+};
+pub use wit_queries::{
+    InterfaceDirectDeps, PackageDirectDeps, external_id_value, implements_interface,
+    version_suffix_of,
+};
+pub use wit_selection::select_world;
+pub use wit_validity::is_valid;
