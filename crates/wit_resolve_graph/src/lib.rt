@@ -1,5 +1,20 @@
-//! The `Resolve` of wit-parser 0.263.0: a graph of WIT packages that stays valid, its features and its
-//! sources, and commands on it.
+//! The `Resolve` of wit-parser 0.263.0: a graph of WIT packages that stays valid whatever is done with it, with its
+//! features and its sources, and commands on it.
+//!
+//! A [`Resolve`] takes packages as a reader of WIT makes them ([`UnresolvedPackage`], or a group of them with its
+//! files), adds them with all names looked up, transforms its worlds, takes another `Resolve` in, merges the imports of
+//! a world by SemVer, and answers questions. A call that is refused answers a [`ResolveError`] with its number and
+//! fields, and leaves everything but the source map as it was. [`run`] does a list of commands.
+//!
+//! All that such a program names is here, so one `use` line serves:
+//!
+//! ```text
+//! use wit_resolve_graph::{Resolve, ResolveResult, Shape, UnresolvedPackageGroup, WorldId};
+//!
+//! let mut resolve = Resolve::new(alloc);
+//! let package = resolve.push_group(alloc, group)?;
+//! let world = resolve.select_world(alloc, &[package], None)?;
+//! ```
 #![tactic(auto)]
 
 mod command;
@@ -19,18 +34,17 @@ pub use crate::command::{Command, Reply};
 pub use crate::resolve::Resolve;
 pub use crate::running::run;
 pub use crate::sources::{ParseFault, SourceFault};
-pub use wit_core_names::{
-    FutureIntrinsic, ResourceIntrinsic, StreamIntrinsic, WasmExport, WasmExportKind, WasmImport,
+pub use wit_graph::{
+    Cause, Features, FutureIntrinsic, Graph, GraphQueries, InterfaceDirectDeps, Package,
+    PackageDirectDeps, ResolveError, ResolveErrorKind, ResolveResult, ResourceIntrinsic,
+    StreamIntrinsic, WasmExport, WasmExportKind, WasmImport, is_valid,
 };
-pub use wit_data::{LiftLowerAbi, ManglingAndAbi, TrackRule};
-pub use wit_graph_data::{
-    Cause, Features, Graph, Package, ResolveError, ResolveErrorKind, ResolveResult,
+pub use wit_items::{
+    AccessorKind, AstItem, Case, Docs, EnumCase, Field, Flag, Function, FunctionKind, Handle,
+    IncludeName, Interface, InterfaceId, Items, LiftLowerAbi, ManglingAndAbi, MapFault, Names,
+    PackageId, PackageName, Param, Shape, SourceMap, Span, Stability, Table, Text, TrackRule,
+    TryClone, Type_, TypeDef, TypeDefKind, TypeId, TypeOwner, UnresolvedPackage,
+    UnresolvedPackageGroup, Version, World, WorldId, WorldInclude, WorldItem, WorldKey,
 };
-pub use wit_link::Remap;
 pub use wit_package_sources::{PackageSourceNames, PackageSources};
-pub use wit_queries::{
-    InterfaceDirectDeps, PackageDirectDeps, canonicalized_id_of, canonicalized_id_of_name,
-    find_futures_and_streams, name_canonicalized_world_key,
-};
-pub use wit_shape::{is_group_shaped, is_shaped};
-pub use wit_validity::is_valid;
+pub use wit_remap::Remap;

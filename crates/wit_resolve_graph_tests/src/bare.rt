@@ -7,7 +7,7 @@ use wit_data::{IncludeName, Items};
 use wit_graph_data::{Features, Graph};
 use wit_labels::rename;
 use wit_link::{append, append_all};
-use wit_resolve_graph::is_shaped;
+use wit_resolve_graph::Shape;
 use wit_validity::is_valid;
 
 /// The place of a package that is added to an empty graph, those of two that follow, and how many there are then.
@@ -15,12 +15,12 @@ fn places(rt: &impl Abort, alloc: Global) -> String {
     let (mut graph, features) = (Graph::new(alloc), Features::new(alloc));
     assert!(rt; is_valid(alloc, &graph).expect(rt, "memory"));
     let first = package(rt, alloc, "a", "");
-    assert!(rt; is_shaped(alloc, &first).expect(rt, "memory"));
+    assert!(rt; first.is_shaped(alloc).expect(rt, "memory"));
     let first = append(alloc, &mut graph, &features, first, 0);
     let first = first.expect(rt, "memory").index();
     let (second, third) = (package(rt, alloc, "b", ""), package(rt, alloc, "c", ""));
-    assert!(rt; is_shaped(alloc, &second).expect(rt, "memory"));
-    assert!(rt; is_shaped(alloc, &third).expect(rt, "memory"));
+    assert!(rt; second.is_shaped(alloc).expect(rt, "memory"));
+    assert!(rt; third.is_shaped(alloc).expect(rt, "memory"));
     let mut others = Items::new(alloc);
     others.push((second, 0)).expect(rt, "memory");
     others.push((third, 7)).expect(rt, "memory");

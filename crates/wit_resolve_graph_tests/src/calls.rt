@@ -9,7 +9,7 @@ use wit_data::{
     WorldKey,
 };
 use wit_graph_data::{Cause, Features, ResolveError, ResolveErrorKind};
-use wit_resolve_graph::{Remap, Resolve, is_shaped};
+use wit_resolve_graph::{Remap, Resolve, Shape};
 
 /// The number of the refusal of a package whose spans move so far, or 0.
 fn refusal_of(rt: &impl Abort, alloc: Global, resolve: &mut Resolve, offset: u32) -> u32 {
@@ -17,7 +17,7 @@ fn refusal_of(rt: &impl Abort, alloc: Global, resolve: &mut Resolve, offset: u32
     w.span = Span::new(30, 37);
     let mut made = package(rt, alloc, "main", "");
     made.worlds.push(w).expect(rt, "memory");
-    assert!(rt; is_shaped(alloc, &made).expect(rt, "memory"));
+    assert!(rt; made.is_shaped(alloc).expect(rt, "memory"));
     match resolve.push(alloc, made, offset) {
         Ok(_) => 0,
         Err(refusal) => refusal.number(),

@@ -8,7 +8,7 @@ use wit_data::{
     UnresolvedPackageGroup,
 };
 use wit_graph_data::ResolveResult;
-use wit_resolve_graph::{Resolve, is_group_shaped};
+use wit_resolve_graph::{Resolve, Shape};
 
 /// Package `foo:NAME` with an interface, its name at 8 to 13.
 fn holding(rt: &impl Abort, alloc: Global, name: &str, own: &str) -> UnresolvedPackage {
@@ -53,8 +53,8 @@ fn push_two(
     main: UnresolvedPackageGroup,
     dep: UnresolvedPackageGroup,
 ) -> ResolveResult<PackageId> {
-    assert!(rt; is_group_shaped(alloc, &main).expect(rt, "memory"));
-    assert!(rt; is_group_shaped(alloc, &dep).expect(rt, "memory"));
+    assert!(rt; main.is_shaped(alloc).expect(rt, "memory"));
+    assert!(rt; dep.is_shaped(alloc).expect(rt, "memory"));
     let mut deps = Items::new(alloc);
     deps.push(dep).expect(rt, "memory");
     resolve.push_groups(alloc, main, deps)
@@ -147,7 +147,7 @@ fn pushed_nested(rt: &impl Abort, alloc: Global) -> String {
     let nested = holding(rt, alloc, "a", "i");
     let mut group = group(rt, alloc, "main.wit", holding(rt, alloc, "b", "i"));
     group.nested.push(nested).expect(rt, "memory");
-    assert!(rt; is_group_shaped(alloc, &group).expect(rt, "memory"));
+    assert!(rt; group.is_shaped(alloc).expect(rt, "memory"));
     let answer = resolve.push_group(alloc, group);
     outcome(rt, alloc, &resolve, answer)
 }

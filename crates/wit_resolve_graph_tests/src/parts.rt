@@ -11,7 +11,7 @@ use wit_data::{
     WorldId, WorldItem, WorldKey,
 };
 use wit_graph_data::ResolveResult;
-use wit_resolve_graph::{Resolve, is_group_shaped, is_shaped};
+use wit_resolve_graph::{Resolve, Shape};
 
 /// Ends the test where a text isn't the one that is wanted.
 pub fn assert_told(rt: &impl Abort, told: String, wanted: &str) {
@@ -370,7 +370,7 @@ pub fn push(
     offset: u32,
 ) {
     let copy = package.try_clone().expect(rt, "memory");
-    assert!(rt; is_shaped(alloc, &copy).expect(rt, "memory"));
+    assert!(rt; copy.is_shaped(alloc).expect(rt, "memory"));
     resolve.push(alloc, copy, offset).expect(rt, "a package");
     assert!(rt; resolve.assert_valid(alloc).expect(rt, "memory"));
 }
@@ -388,6 +388,6 @@ pub fn push_group(
     resolve: &mut Resolve,
     group: UnresolvedPackageGroup,
 ) -> ResolveResult<PackageId> {
-    assert!(rt; is_group_shaped(alloc, &group).expect(rt, "memory"));
+    assert!(rt; group.is_shaped(alloc).expect(rt, "memory"));
     resolve.push_group(alloc, group)
 }

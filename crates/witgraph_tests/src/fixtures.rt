@@ -1,7 +1,7 @@
 //! What several tests need.
 use std::alloc::Global;
 use std::process::Abort;
-use wit_resolve_graph::{Resolve, is_shaped};
+use wit_resolve_graph::{Resolve, Shape};
 use wit_script::{ScriptCommand, read_script};
 
 /// Ends the test where a text isn't the one that is wanted.
@@ -32,6 +32,6 @@ fn push(rt: &impl Abort, alloc: Global, resolve: &mut Resolve, command: ScriptCo
     };
     drop(deps);
     let package = main.main;
-    assert!(rt; is_shaped(alloc, &package).expect(rt, "memory"));
+    assert!(rt; package.is_shaped(alloc).expect(rt, "memory"));
     let _id = resolve.push(alloc, package, 0).expect(rt, "memory");
 }

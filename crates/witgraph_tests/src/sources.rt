@@ -12,7 +12,7 @@ use wit_data::{
     Docs, Function, FunctionKind, Interface, Items, Names, PackageId, PackageName, SourceMap, Span,
     Stability, Table, Text, TryClone, UnresolvedPackage, UnresolvedPackageGroup,
 };
-use wit_resolve_graph::{PackageSources, ParseFault, Resolve, SourceFault, is_group_shaped};
+use wit_resolve_graph::{PackageSources, ParseFault, Resolve, SourceFault, Shape};
 
 fn text(rt: &impl Abort, alloc: Global, text: &str) -> Text {
     Text::try_from_str(alloc, text).expect(rt, "memory")
@@ -148,7 +148,7 @@ fn parsed(
         nested: Items::new(alloc),
         source_map,
     };
-    if is_group_shaped(alloc, &group).expect(rt, "memory") {
+    if group.is_shaped(alloc).expect(rt, "memory") {
         return Ok(group);
     }
     Err(ParseFault::OutOfMemory)

@@ -1,0 +1,41 @@
+//! Reading worlds.
+use crate::building::{group, item, with_interface, world};
+use std::alloc::Global;
+use std::fmt::Write;
+use wit_resolve_graph::{
+    InterfaceId, Resolve, ResolveResult, Shape, UnresolvedPackageGroup, WorldItem, WorldKey,
+};
+
+/// The package `foo:api` with an interface `i` and a world `w` that imports it.
+fn importing(alloc: Global) -> ResolveResult<UnresolvedPackageGroup> {
+    let i = InterfaceId::from_index(0);
+    let mut w = world(alloc, "w")?;
+    w.imports.push(WorldKey::Interface(i), item(i))?;
+    let mut package = with_interface(alloc, "api")?;
+    package.worlds.push(w)?;
+    Ok(group(alloc, package))
+}
+
+/// Writes what each world imports: interfaces by their id texts, functions and types by their labels.
+pub fn imports(alloc: Global) -> ResolveResult<String> {
+    let mut out = String::new(alloc);
+    let mut resolve = Resolve::new(alloc);
+    let made = importing(alloc)?;
+    if !made.is_shaped(alloc)? {
+        out.push_str("a package without its shape\n")?;
+        return Ok(out);
+    }
+    let _package = resolve.push_group(alloc, made)?;
+    for world in resolve.worlds() {
+        for (key, item) in world.imports.iter() {
+            let name = resolve.name_world_key(alloc, key)?;
+            let sort = match item {
+                WorldItem::Interface { .. } => "interface",
+                WorldItem::Function(_) => "function",
+                WorldItem::Type_ { .. } => "type",
+            };
+            writeln!(out, "{sort} {name}")?;
+        }
+    }
+    Ok(out)
+}
