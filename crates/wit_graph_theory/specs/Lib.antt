@@ -16,6 +16,7 @@ pub mod GoodTypes
 pub mod GoodWorlds
 pub mod GraphSource
 pub mod Growth
+pub mod IdTexts
 pub mod Image
 pub mod ImagesCome
 pub mod Kept

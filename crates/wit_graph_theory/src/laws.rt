@@ -1,4 +1,5 @@
 //! Laws of the definitions: the contract of each function is what is proved.
+ghost use Rattle.wit_graph_theory.specs.IdTexts.{IdTextsDiffer};
 ghost use Rattle.wit_graph_theory.specs.LawsOfElaboration.{LawsOfElaboration};
 ghost use Rattle.wit_graph_theory.specs.PackageCycles.{PackagesStayAcyclic};
 ghost use Rattle.wit_graph_theory.specs.Theory.{CoveredGraphsAreValid};
@@ -38,3 +39,9 @@ pub fn laws_of_elaboration()
     export_keys_stay();
     elaboration_is_local();
 }
+
+/// No two interfaces of a valid graph have one id text, where the versions of its packages are versions of SemVer, as each
+/// one is that was read from a text: `id_of` tells any two named interfaces apart.
+pub fn id_texts_differ()
+    ensures { IdTextsDiffer }
+{}

@@ -1,4 +1,5 @@
-pub mod ValidParts
-pub mod ValidBits
 pub mod PackageRows
+pub mod PackagesOrdered
 pub mod Unfolds
+pub mod ValidBits
+pub mod ValidParts

@@ -7,6 +7,7 @@ mod entries;
 mod futures;
 mod held;
 mod interface_deps;
+pub mod laws;
 mod next;
 mod package_deps;
 mod valid_bits;

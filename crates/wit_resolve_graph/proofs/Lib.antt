@@ -1,3 +1,4 @@
+pub mod ChosenWorlds
 mod EmptyGraph
 mod FilesAfter
 mod Grouped

@@ -148,7 +148,7 @@ module _ (a : Addition) where
   keeps_worlds (e ∷ es) g = keeps_on g (with_world a g e) (fold (with_world a) (with_world a g e) es) (keeps_world g e) (keeps_worlds es (with_world a g e))
 
   -- an addition keeps it
-  keeps_pushed : Keeps a.graph (pushed a)
+  pub keeps_pushed : Keeps a.graph (pushed a)
   keeps_pushed = keeps_on a.graph (with_parts a) (pushed a) parts (keeps_worlds (own_worlds a) (with_parts a))
     where
       parts : Keeps a.graph (with_parts a)
@@ -204,7 +204,7 @@ module _ (g : Graph) (w : ℕ) (old : World) (turn : Turn) (there : slice_get g.
     names = nothing_more g.package_names;
   }
 
-keeps_turned : (g : Graph) (w : ℕ) (f : World → Turn) → Keeps g (turned g w f)
+pub keeps_turned : (g : Graph) (w : ℕ) (f : World → Turn) → Keeps g (turned g w f)
 keeps_turned g w f = by (slice_get g.worlds w) refl
   where
     by : (o : Option World) → slice_get g.worlds w ≡ o → Keeps g (option_map_or (λ (world : World). turned_at g w world (f world)) o g)
@@ -223,7 +223,7 @@ but_target old new same =
     record { rest = same.0 ∙ ap (λ (s : Stability). record old { kind = new.kind; stability = s }) (sym stabilities); kind = same.1 }
 
 -- a merge keeps it
-keeps_united : (m : Merging) → Keeps m.graph (united m)
+pub keeps_united : (m : Merging) → Keeps m.graph (united m)
 keeps_united m = record {
   types = λ t def at.
       let there = found_at (SameType def) (united m).types t (types_stay m t def at) in
@@ -235,7 +235,7 @@ keeps_united m = record {
 }
 
 -- so does what keeps all but the lists of worlds and what aliases name
-keeps_things : (g h : Graph) → KeepsThings g h → Keeps g h
+pub keeps_things : (g h : Graph) → KeepsThings g h → Keeps g h
 keeps_things g h kept = record {
   types = λ t def at.
       let there = found_at (SameButTarget def) h.types t (kept.types t def at) in

@@ -2,13 +2,27 @@
 ghost use Rattle.wit_resolve_graph.specs.Examples.{ExamplesOfRuns, ExamplesOfSelection};
 ghost use Rattle.wit_resolve_graph.specs.FilesExamples.{ExamplesOfFiles};
 ghost use Rattle.wit_resolve_graph.specs.SourcesExamples.{ExamplesOfSources};
-ghost use Rattle.wit_resolve_graph.specs.RunLaws.{RunsKeep};
+ghost use Rattle.wit_resolve_graph.specs.RunLaws.{AdditionsKeep, GroupsKeep, MergesKeep, RunsKeep, SemverMergesKeep, SourcesKeep, TransformationsKeep};
 
 use wit_semver_laws::laws::rewritten_keep;
 
 /// What was there before a run is there after it, with the same ids.
 pub fn runs_keep()
     ensures { RunsKeep }
+{
+    rewritten_keep();
+}
+
+/// What was there before a call that changes the graph is there after it, with the same ids: a package, groups of
+/// packages or a parsed source are added, a world is transformed by whatever filter, a graph is merged into it, or the
+/// imports of a world are merged by a rule of tracks.
+pub fn calls_keep()
+    ensures additions { AdditionsKeep }
+    ensures groups { GroupsKeep }
+    ensures sources { SourcesKeep }
+    ensures transformations { TransformationsKeep }
+    ensures merges { MergesKeep }
+    ensures semver_merges { SemverMergesKeep }
 {
     rewritten_keep();
 }

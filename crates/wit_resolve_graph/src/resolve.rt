@@ -347,7 +347,7 @@ impl Resolve {
     }
 
     /// The world that a text names: a name in the one main package, or `namespace:package/name` with an optional
-    /// `@version`. Without a text it is the only world of the one main package.
+    /// `@version`. Without a text it is the only world of the one main package. It is a world of this graph.
     ///
     /// The main packages are ids of this graph; one that isn't there is told as if there were none. Refused where the
     /// text is no use path; where there is no main package, or several and the text names no package; where the
@@ -362,9 +362,10 @@ impl Resolve {
         world: Option<&str>,
     ) -> ResolveResult<WorldId>
         ensures ok { IfOk result (λ id. selected_world self.now.graph main_packages.now (option_copied world.entry) ≡ Ok id) }
+        ensures within { IfOk result (λ id. id < length self.now.graph.worlds) }
         ensures err { IfErr result (IsSaid (selected_world self.now.graph main_packages.now (option_copied world.entry))) }
     {
-        select_world(alloc, &self.graph, main_packages, world)
+        select_world(alloc, self.graph(), main_packages, world)
     }
 
     /// The id text of an interface, None where it has no name or isn't there: see `Graph::id_of`. The only refusal is

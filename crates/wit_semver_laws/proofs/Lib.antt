@@ -6,6 +6,7 @@ pub mod KeptKeys
 pub mod KeptLabels
 pub mod ListedUses
 pub mod Merged
+pub mod NewestNamed
 pub mod TypesAfter
 pub mod TypesGood
 pub mod ValidRewriting

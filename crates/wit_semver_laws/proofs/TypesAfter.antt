@@ -71,7 +71,7 @@ module _ (u : Upgrade) where
     pub named : target_name types def ≡ Some name
     pub found : type_named u.graph.interfaces (newest u f) name ≡ Some t'
 
-  replaced_use_from : (t f : ℕ) → replaced_use u t ≡ Some f → (type_interface_dep types t ≡ Some f) × (is_replaced u f ≡ true)
+  pub replaced_use_from : (t f : ℕ) → replaced_use u t ≡ Some f → (type_interface_dep types t ≡ Some f) × (is_replaced u f ≡ true)
   replaced_use_from t f is =
       let parts = some_parts (λ (g : ℕ). if is_replaced u g then Some g else None) (type_interface_dep types t) f is in
       let same = by parts.0 (is_replaced u parts.0) refl parts.2 in
@@ -96,7 +96,7 @@ module _ (u : Upgrade) where
           record { f = one.0; follows = on; uses = used.0; replaced = used.1; name = two.0; named = two.1; found = two.2 }
       by false on h = cc
 
-  turned_into : (t : ℕ) (def : TypeDef) (t' : ℕ) → Turned t def t' → new_target u t def ≡ Some t'
+  pub turned_into : (t : ℕ) (def : TypeDef) (t' : ℕ) → Turned t def t' → new_target u t def ≡ Some t'
   turned_into t def t' turned =
       ap (λ (b : Bool). if b then option_and_then (λ f. option_and_then (type_named u.graph.interfaces (newest u f)) (target_name types def)) (replaced_use u t) else None) turned.follows
       ∙ some_by (λ f. option_and_then (type_named u.graph.interfaces (newest u f)) (target_name types def)) (replaced_use u t) turned.f (replaced_use_into t turned.f turned.uses turned.replaced)
@@ -128,7 +128,7 @@ module _ (u : Upgrade) where
       pub is : ((j ≡ f) × ((is_replaced u f ≡ true) → (list_any (nat_eq t) (following u) ≡ true) → ⊥)) ⊎ ((is_replaced u f ≡ true) × (list_any (nat_eq t) (following u) ≡ true) × (j ≡ newest u f))
 
     -- the target of an alias has a name
-    target_named : (t : ℕ) (def : TypeDef) (target : ℕ) (named : TypeDef) → slice_get types t ≡ Some def → alias_target def.kind ≡ Some target → slice_get types target ≡ Some named
+    pub target_named : (t : ℕ) (def : TypeDef) (target : ℕ) (named : TypeDef) → slice_get types t ≡ Some def → alias_target def.kind ≡ Some target → slice_get types target ≡ Some named
         → (name : List ℕ) × (target_name types def ≡ Some name)
     target_named t def target named at names target_at =
         let alias = if_some (λ (t : ℕ). SomeAt types t (λ (x : TypeDef). IsSome x.name × ((x.owner ≡ def.owner) ⊎ IsNamedInterface u.graph.interfaces x.owner))) (alias_target def.kind) target names (things.types t def at).alias in

@@ -1,9 +1,10 @@
 -- Laws of semver merging, by whatever rule of tracks.
-use Rattle.std.specs.Prelude.{◌≡◌, ◌↔◌, ℕ, true, false, Some, slice_get, Contains}
+use Rattle.std.specs.Prelude.{◌≡◌, ◌↔◌, ℕ, true, false, List, Some, slice_get, Contains}
 use Rattle.std.specs.Map.{keys_of}
 use Rattle.std.specs.declared.cmp.Ordering.TheVariants.{Greater}
 use Rattle.wit_values.specs.Version.{version_cmp}
 use Rattle.wit_data.specs.Each.{EachAt, SomeAt}
+use Rattle.wit_data.specs.Uses.{alias_target}
 use Rattle.wit_data.specs.declared.track.TrackRule.{TrackRule}
 use Rattle.wit_data.specs.declared.types.TypeDef.{TypeDef}
 use Rattle.wit_data.specs.declared.world.World.{World}
@@ -14,7 +15,7 @@ use Rattle.wit_elaboration.specs.Entries.{keyed_interfaces}
 use Rattle.wit_elaboration.specs.KeptByElaboration.{labelled}
 use Rattle.wit_elaboration.specs.Valid.{IsValid}
 use Rattle.wit_graph_data.specs.declared.graph.Graph.{Graph}
-use Rattle.wit_semver_spec.specs.Rewritten.{relisted, rewritten, target_name}
+use Rattle.wit_semver_spec.specs.Rewritten.{following, relisted, replaced_use, rewritten, target_name, type_named}
 use Rattle.wit_semver_spec.specs.Staying.{SameButLists, SameButTarget}
 use Rattle.wit_semver_spec.specs.TrackCause.{IsAccepted}
 use Rattle.wit_semver_spec.specs.Tracks.{Versioned, are_on_one_track, versioned}
@@ -85,3 +86,10 @@ RewrittenKeep = (rule : TrackRule) (g : Graph) (w : ℕ) → KeepsThings g (rewr
 abbrev pub AliasesKeepNames : Type 0
 AliasesKeepNames = (rule : TrackRule) (g : Graph) (w : ℕ) → IsValid g
     → EachAt (λ t (def : TypeDef). SomeAt (rewritten rule g w).types t (λ (new : TypeDef). target_name (rewritten rule g w).types new ≡ target_name g.types def)) g.types
+
+-- and each alias that follows and uses a replaced interface f comes to name the type of the newest that has the name of
+-- what it named
+abbrev pub AliasesNameNewest : Type 0
+AliasesNameNewest = (u : Upgrade) (w t f : ℕ) (def : TypeDef) → IsValid u.graph → slice_get u.graph.worlds w ≡ Some u.world → IsAccepted u.rule u.graph w
+    → Contains (following u) t → replaced_use u t ≡ Some f → slice_get u.graph.types t ≡ Some def
+    → SomeAt (rewritten u.rule u.graph w).types t (λ (new : TypeDef). (name : List ℕ) × (s : ℕ) × (target_name u.graph.types def ≡ Some name) × (type_named u.graph.interfaces (newest u f) name ≡ Some s) × (alias_target new.kind ≡ Some s))

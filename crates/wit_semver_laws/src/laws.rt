@@ -1,5 +1,5 @@
 //! Laws of semver merging: the contract of each function is what is proved.
-ghost use Rattle.wit_semver_laws.specs.TrackLaws.{AliasesKeepNames, ExportsAreKept, KeysAreExact, LabelsAreKept, NewestIsGreatest, OneOnEachTrack, RewrittenKeep, RewrittenStayValid, WorldsAreElaborated};
+ghost use Rattle.wit_semver_laws.specs.TrackLaws.{AliasesKeepNames, AliasesNameNewest, ExportsAreKept, KeysAreExact, LabelsAreKept, NewestIsGreatest, OneOnEachTrack, RewrittenKeep, RewrittenStayValid, WorldsAreElaborated};
 
 use wit_graph_theory::laws::laws_of_elaboration;
 
@@ -60,4 +60,9 @@ pub fn rewritten_keep()
 /// What an alias of a valid graph comes to name has the name of what it named.
 pub fn aliases_keep_names()
     ensures { AliasesKeepNames }
+{}
+
+/// An alias that follows a replaced interface comes to name the newest's type of the name of what it named.
+pub fn aliases_name_newest()
+    ensures { AliasesNameNewest }
 {}
