@@ -1,15 +1,12 @@
 -- No two interfaces of a valid graph have one id text: it is a use path, which is read in one way, and names of packages
 -- and of the interfaces of one package are told apart.
-use Rattle.std.proofs.Common.{◌≡◌, ◌∙◌, ℕ, List, [], Option, None, Some, IfSome, slice_get, option_map, refl, sym, ap, subst, Contains, IsSomeAnd}
+use Rattle.std.proofs.Common.{◌≡◌, ◌∙◌, ℕ, List, [], Option, None, Some, IfSome, slice_get, option_map, refl, ap, subst, Contains, IsSomeAnd}
 use Rattle.std.specs.Option.{option_map_or}
-use Rattle.semver.specs.Grammar as version
 use Rattle.wit_values.specs.Table.{HasDistinctKeys}
 use Rattle.wit_data.specs.Each.{SomeAt}
 use Rattle.wit_data.specs.UsePath.{IsKebabName, IsUsePath, use_path_of}
 use Rattle.wit_data.proofs.UsePathGrammar.{use_path_of-grammar}
-use Rattle.wit_data.specs.declared.interface.Interface.{Interface}
 use Rattle.wit_data.specs.declared.package_name.PackageName.{PackageName}
-use Rattle.wit_data.specs.declared.use_path.ParsedUsePath.{ParsedUsePath}
 use Rattle.wit_data.specs.declared.use_path.ParsedUsePath.TheVariants as path
 use Rattle.wit_elaboration.specs.Valid.{IsValid}
 use Rattle.wit_graph_data.specs.IdText.{id_text, id_text_in, interface_id_at, interface_id_text}
@@ -23,7 +20,7 @@ use Rattle.wit_graph_theory.specs.OptionFacts.{some_parts}
 
 mapped : {X : Type 0} (f : ℕ → X) (o : Option ℕ) (x : X) → option_map f o ≡ Some x → (n : ℕ) × (o ≡ Some n) × (x ≡ f n)
 mapped f None x is = cc
-mapped f (Some n) x is = let same : x ≡ f n = cc in (n, (refl, same))
+mapped f (Some n) x is = let same : x ≡ f n = cc in (n, refl, same)
 
 held : (o : Option ℕ) (P : ℕ → Type 0) (n : ℕ) → o ≡ Some n → IsSomeAnd o P → P n
 held None P n is h = cc
@@ -72,13 +69,10 @@ module _ (g : Graph) (valid : IsValid g) (versions : HasVersions g.packages) whe
         listed = named interface.name (λ n. Contains home.0.interfaces (n, i)) name two.1 home.2;
         is_path = (
           valid.names.namespaces p home.0 home.1,
-          (
-            valid.names.package_names p home.0 home.1,
-            (
-              named interface.name IsKebabName name two.1 (valid.names.interface_names i interface one.1),
-              (versions p home.0 home.1, text_is),
-            ),
-          ),
+          valid.names.package_names p home.0 home.1,
+          named interface.name IsKebabName name two.1 (valid.names.interface_names i interface one.1),
+          versions p home.0 home.1,
+          text_is,
         );
       }
 

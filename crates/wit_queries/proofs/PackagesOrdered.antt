@@ -1,16 +1,12 @@
 -- The packages in order: each once, after those that it depends on.
-use Rattle.std.proofs.Common.{◌≡◌, ◌∙◌, ℕ, ◌+◌, ◌<◌, ◌↔◌, List, [], length, nat_eq, All, Contains, refl, sym, subst, arith, slice_get, Some, get_or}
+use Rattle.std.proofs.Common.{◌≡◌, ℕ, ◌+◌, ◌<◌, List, [], ◌∷◌, length, All, Contains, refl, sym, subst, arith, get_or}
 use Rattle.std.specs.List.{flat_map, range_with_len}
 use Rattle.std.proofs.lemmas.List.FromFn.{get_or-range_with_len, length-range_with_len}
 use Rattle.std.proofs.lemmas.List.Elements.{All-contains}
 use Rattle.wit_digraph.specs.Laws.{FirstsAreOnce, WalksKeepOrder, WalksReach}
-use Rattle.wit_digraph.specs.Relation.{IsAcyclic, IsPath, Reaches, direct}
-use Rattle.wit_digraph.specs.Walks.{UsesFirst, first_of_each, walk}
-use Rattle.wit_data.specs.declared.interface.Interface.{Interface}
-use Rattle.wit_data.specs.declared.types.TypeDef.{TypeDef}
-use Rattle.wit_data.specs.declared.world.World.{World}
+use Rattle.wit_digraph.specs.Relation.{IsAcyclic, IsPath, direct}
+use Rattle.wit_digraph.specs.Walks.{first_of_each, walk}
 use Rattle.wit_graph_data.specs.Relations.{package_uses}
-use Rattle.wit_graph_data.specs.declared.graph.Package.{Package}
 use Rattle.wit_queries.specs.PackageOrder.{IsOrder, PackagesAreInOrder}
 use Rattle.wit_queries.proofs.PackageRows.{length-rows, range-below}
 
@@ -35,7 +31,7 @@ module _ (uses : List (List ℕ)) (acyclic : IsAcyclic uses) where
           all = λ i. (
             λ has. let from = (reach uses (range_with_len 0 count) i acyclic below).0 has in
                 subst (λ n. i < n) long (reached_within from.0 from.2.0 i (All-contains (λ l. l < length uses) (range_with_len 0 count) from.0 below from.1) from.2.1),
-            λ here. (reach uses (range_with_len 0 count) i acyclic below).1 (i, (among_range count i here, ([], refl))),
+            λ here. (reach uses (range_with_len 0 count) i acyclic below).1 (i, among_range count i here, ([], refl)),
           );
           once = (once (flat_map (walk uses) (range_with_len 0 count))).distinct;
           dependencies_first = keep uses (range_with_len 0 count) acyclic below;

@@ -25,7 +25,7 @@ aliases_name_newest u w t f def valid there accepted follows uses at =
     let needs = needs_from u.graph.types t f used.0 in
     let same : needs.alias ≡ def = same_at u.graph.types t t needs.alias def refl needs.there at in
     let named = target_named u valid t def needs.target needs.named at (ap (λ (d : TypeDef). alias_target d.kind) (sym same) ∙ needs.names) needs.target_there in
-    let complete : IsComplete u = λ message lacks. accepted (Semantic None message cause.UpgradeMismatch) (u.world, (there, type_missing_25 message lacks)) in
+    let complete : IsComplete u = λ message lacks. accepted (Semantic None message cause.UpgradeMismatch) (u.world, there, type_missing_25 message lacks) in
     let types_are : (rewritten u.rule u.graph w).types ≡ rewritten_types u =
     ap (λ (o : Option World). (all_elaborated (option_map_or (λ (world : World). relisted_at (record { rule = u.rule; graph = u.graph; world = world }) w) o u.graph)).types) there in
     elim (option_cases (type_named u.graph.interfaces (newest u f) named.0)) [
@@ -35,5 +35,5 @@ aliases_name_newest u w t f def valid there accepted follows uses at =
           subst (λ (types : List TypeDef). SomeAt types t (λ (new : TypeDef). (name : List ℕ) × (s : ℕ) × (target_name u.graph.types def ≡ Some name) × (type_named u.graph.interfaces (newest u f) name ≡ Some s) × (alias_target new.kind ≡ Some s))) (sym types_are)
           (some_at (λ (new : TypeDef). (name : List ℕ) × (s : ℕ) × (target_name u.graph.types def ≡ Some name) × (type_named u.graph.interfaces (newest u f) name ≡ Some s) × (alias_target new.kind ≡ Some s)) (rewritten_types u) t (retargeted def (new_target u t def))
           (type_into u t def at)
-          (named.0, (found.0, (named.1, (found.1, ap (λ (o : Option ℕ). alias_target (retargeted def o).kind) target)))))
+          (named.0, found.0, named.1, found.1, ap (λ (o : Option ℕ). alias_target (retargeted def o).kind) target))
     ]
