@@ -1,4 +1,16 @@
-//! Scripts that build packages, put them into a resolve graph and print its worlds.
+//! The script language: lines that build packages, add them to a resolve graph, transform and merge its worlds and print
+//! them. `docs/SCRIPT.md` has the language.
+//!
+//! [`execute`] reads a script to its end and writes the answers of its commands; it answers false where a line isn't
+//! understood, which is then all that it writes. It works on any reader and writer, each within a [`Watched`], which
+//! records whether one of its calls failed. [`print_world`] gives the text of one world, and [`read_script`] the
+//! commands of a script.
+//!
+//! ```text
+//! let mut reader = Watched::new(script.as_bytes());
+//! let mut writer = Watched::new(io::writer(&rt));
+//! let understood = execute(rt.alloc(), &mut reader, &mut writer)?;
+//! ```
 #![tactic(auto)]
 
 mod ahead;

@@ -15,9 +15,9 @@ use crate::ready::{ReadyCommand, ScriptCommand, other_after};
 use std::alloc::{AllocError, Global};
 use std::mem;
 use wit_data::{Items, PackageName, Stability, UnresolvedPackageGroup};
-use wit_shape::is_group_shaped;
 use wit_script_lines::{LineFault, PackageLine, Request, Statement, lines, read_line};
 use wit_script_package::Draft;
+use wit_shape::is_group_shaped;
 
 /// What the lines so far say.
 #[derive(Drop)]
