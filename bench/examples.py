@@ -1,0 +1,41 @@
+#!/usr/bin/env python3
+"""Compares the examples of docs/FROM_WIT_PARSER.md with the stored cases of `witgraph_cases`.
+
+    python3 bench/examples.py        # at the top of the repository
+
+An example is a line `**N**, `CASE`` and the block below it: without its lines that begin with `# ` it is the script of
+the case, and those lines, without the `# `, are what the case prints. Ends with status 1 where one differs, where an
+example of a number doesn't print a refusal of that number, or where one of 1 to 26 has no example.
+"""
+import re
+import sys
+
+DOCUMENT = "docs/FROM_WIT_PARSER.md"
+CASES = "crates/witgraph_cases/"
+
+
+def cases(path):
+    """The texts under the lines `=== NAME`, by their names."""
+    parts = re.split(r"(?m)^=== ", open(path).read())[1:]
+    return dict(part.split("\n", 1) for part in parts)
+
+
+def main():
+    scripts, answers = cases(CASES + "stdin"), cases(CASES + "stdout")
+    examples = re.findall(r"(?ms)^\*\*(\d+)\*\*, `([^`]+)`\n\n```\n(.*?)^```$", open(DOCUMENT).read())
+    wrong = [number for number in range(1, 27) if str(number) not in {example[0] for example in examples}]
+    for number, case, block in examples:
+        lines = block.splitlines(keepends=True)
+        script = "".join(line for line in lines if not line.startswith("# "))
+        answer = "".join(line[2:] for line in lines if line.startswith("# "))
+        same = script == scripts.get(case) and answer == answers.get(case)
+        if not same or not re.search(rf"(?m)^refused {number} ", answer):
+            wrong.append(int(number))
+    for number in wrong:
+        print(f"{DOCUMENT}: the example of {number} is not as its case")
+    print(f"{len(examples)} examples, {len(wrong)} wrong")
+    return 1 if wrong else 0
+
+
+if __name__ == "__main__":
+    sys.exit(main())
