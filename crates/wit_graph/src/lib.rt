@@ -8,6 +8,7 @@
 //!
 //! ```text
 //! use wit_graph::{Graph, GraphQueries, ResolveResult};
+//! use wit_items::PackageId;
 //!
 //! fn packages_in_order(alloc: Global, graph: &Graph) -> ResolveResult<Vec<PackageId>> {
 //!     graph.topological_packages(alloc)
@@ -32,3 +33,4 @@ pub use wit_queries::{
 };
 pub use wit_selection::select_world;
 pub use wit_validity::is_valid;
+pub use wit_values::NameSet;

@@ -24,10 +24,11 @@ mod adding;
 mod checking;
 mod fits;
 mod including;
+mod labels;
 mod several;
 
 pub use crate::adding::{append, append_with};
+pub use crate::labels::rename;
 pub use crate::several::{append_all, append_all_with};
-pub use wit_labels::rename;
 pub use wit_link_order::sort_groups;
 pub use wit_remap::Remap;

@@ -35,7 +35,7 @@ pub use crate::resolve::Resolve;
 pub use crate::running::run;
 pub use crate::sources::{ParseFault, SourceFault};
 pub use wit_graph::{
-    Cause, Features, FutureIntrinsic, Graph, GraphQueries, InterfaceDirectDeps, Package,
+    Cause, Features, FutureIntrinsic, Graph, GraphQueries, InterfaceDirectDeps, NameSet, Package,
     PackageDirectDeps, ResolveError, ResolveErrorKind, ResolveResult, ResourceIntrinsic,
     StreamIntrinsic, WasmExport, WasmExportKind, WasmImport, is_valid,
 };

@@ -169,7 +169,7 @@ impl Resolve {
     }
 
     /// The futures and streams that the values of a function's parameters and of its result hold: see
-    /// `wit_queries::find_futures_and_streams`. The only refusal is want of memory (28).
+    /// `GraphQueries` of `wit_graph`. The only refusal is want of memory (28).
     ///
     /// Source: `find_futures_and_streams` of wit-parser 0.263.0.
     pub fn find_futures_and_streams(

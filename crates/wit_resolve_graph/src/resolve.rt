@@ -402,7 +402,7 @@ impl Resolve {
 }
 
 impl Resolve {
-    /// Turns a world of this graph into one that imports what it exported: see `wit_transform::importize`, which says
+    /// Makes the exports of a world of this graph its imports: see `wit_unite::importize`, which says
     /// what is refused (19, 20, 28). After a refusal nothing has changed.
     ///
     /// Source: `importize` of wit-parser 0.263.0.
@@ -422,7 +422,7 @@ impl Resolve {
     }
 
     /// Turns a world of this graph into one that exports what it imported where the filter answers true, all without
-    /// one: see `wit_transform::exportize`, which says what is refused (4, 20, 21, 28). The filter can always be called.
+    /// one: see `wit_unite::exportize`, which says what is refused (4, 20, 21, 28). The filter can always be called.
     /// After a refusal nothing has changed.
     ///
     /// Source: `exportize` of wit-parser 0.263.0.
@@ -465,7 +465,7 @@ impl Resolve {
     }
 
     /// Merges the imports of a world of this graph by tracks, with the rule that is in force: see
-    /// `wit_semver::merged_by_track`, which says what is refused (4, 6, 22, 23, 25, 28). After a refusal nothing
+    /// `wit_unite::merge_by_track`, which says what is refused (4, 6, 22, 23, 25, 28). After a refusal nothing
     /// has changed.
     ///
     /// Source: `merge_world_imports_based_on_semver` of wit-parser 0.263.0.
