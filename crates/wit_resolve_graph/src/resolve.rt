@@ -421,7 +421,7 @@ impl Resolve {
         importize(alloc, &mut self.graph, world, out)
     }
 
-    /// Turns a world of this graph into one that exports what it imported where the filter answers true, all without
+    /// Makes the imports of a world of this graph its exports, those for which the filter answers true, or all without
     /// one: see `wit_unite::exportize`, which says what is refused (4, 20, 21, 28). The filter can always be called.
     /// After a refusal nothing has changed.
     ///
