@@ -5,7 +5,7 @@
 
 tries each edit of bench/edits/CRATE, of the named crates or of all that have some, as `rt must-fail` tries those of
 crates/CRATE/must-fail: the prover must refuse each. They are of crates on whose clauses crates above rest, for which the
-gate doesn't pay a second proof. Whoever changes such a crate runs this; docs/PROOFS.md says which crates they are.
+gate doesn't pay a second proof. Whoever changes such a crate runs this; docs/log/edits.md says which crates they are.
 
 The libraries below are built as `rt lib` builds them.
 """
