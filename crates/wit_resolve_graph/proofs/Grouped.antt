@@ -373,11 +373,12 @@ module _ (old : State) (main : Group) (deps : List Group) (packages : List Hande
   never_pushed new (Err kind) far = tt
 
   -- they are refused, and the files stay
-  pub refuses : (new : State) (r : Result ℕ ResolveErrorKind) → (r ≡ Err OffsetOverflow → ⊥) → OnErr r (new.graph ≡ old.graph) → new.features ≡ old.features → new.track_rule ≡ old.track_rule → new.source_map ≡ with_files old.source_map (main ∷ deps)
+  pub refuses : (new : State) (r : Result ℕ ResolveErrorKind) → files_end old.source_map.end (main ∷ deps) < 2 ^ 32 → (r ≡ Err OffsetOverflow → ⊥) → OnErr r (new.graph ≡ old.graph) → new.features ≡ old.features → new.track_rule ≡ old.track_rule → new.source_map ≡ with_files old.source_map (main ∷ deps)
       → IfErr r (λ kind. (kind ≡ OutOfMemory) ⊎ Speaks packages kind) → IfErr r (λ kind. RefusesGroups old main deps kind new)
-  refuses new (Ok id) other graph features rule files cause = tt
-  refuses new (Err kind) other graph features rule files cause = record {
+  refuses new (Ok id) fits other graph features rule files cause = tt
+  refuses new (Err kind) fits other graph features rule files cause = record {
     cause = groups_cause kind cause;
+    past_end = λ past. absurd (omega (arith, fits, past));
     graph = graph;
     features = features;
     rule = rule;
@@ -390,7 +391,7 @@ module _ (old : State) (main : Group) (deps : List Group) (packages : List Hande
   takes_back new (Ok id) far graph features rule files cause = tt
   takes_back new (Err kind) far graph features rule files cause =
       let overflow : kind ≡ OffsetOverflow = cc in
-      record { cause = groups_cause kind cause; graph = graph; features = features; rule = rule; files = files_stay kind old.source_map (with_files old.source_map (main ∷ deps)) new.source_map (inr overflow) files }
+      record { cause = groups_cause kind cause; past_end = λ past. inr overflow; graph = graph; features = features; rule = rule; files = files_stay kind old.source_map (with_files old.source_map (main ∷ deps)) new.source_map (inr overflow) files }
 
   -- what speaks against the groups refuses them
   pub must_refuse : (P : Type 0) → files_end old.source_map.end (main ∷ deps) < 2 ^ 32 → ((kind : ResolveErrorKind) → Speaks packages kind → P)

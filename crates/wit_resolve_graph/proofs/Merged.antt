@@ -68,11 +68,12 @@ module _ (old other : State) (g : Graph) (offset : ℕ) (same : g ≡ other.grap
   never_merged new (Err kind) far = tt
 
   -- they are refused, and the files stay at the end
-  pub refuses : (new : State) (r : Result Remap ResolveErrorKind) → (r ≡ Err OffsetOverflow → ⊥) → OnErr r (new.graph ≡ old.graph) → new.features ≡ old.features → new.track_rule ≡ old.track_rule
+  pub refuses : (new : State) (r : Result Remap ResolveErrorKind) → old.source_map.end + other.source_map.end < 2 ^ 32 → (r ≡ Err OffsetOverflow → ⊥) → OnErr r (new.graph ≡ old.graph) → new.features ≡ old.features → new.track_rule ≡ old.track_rule
       → new.source_map ≡ with_sources old.source_map other.source_map → IfErr r (λ kind. (kind ≡ OutOfMemory) ⊎ IsMergeCause (merging_by old.graph g offset) kind) → IfErr r (λ kind. RefusesMerge old other kind new)
-  refuses new (Ok remap) apart graph features rule files cause = tt
-  refuses new (Err kind) apart graph features rule files cause = record {
+  refuses new (Ok remap) fits apart graph features rule files cause = tt
+  refuses new (Err kind) fits apart graph features rule files cause = record {
     cause = caused kind cause;
+    past_end = λ past. absurd (omega (arith, fits, past));
     graph = graph;
     features = features;
     rule = rule;
@@ -87,6 +88,7 @@ module _ (old other : State) (g : Graph) (offset : ℕ) (same : g ≡ other.grap
       let overflow : kind ≡ OffsetOverflow = cc in
       record {
         cause = caused kind cause;
+        past_end = λ past. inr overflow;
         graph = graph;
         features = features;
         rule = rule;

@@ -41,6 +41,8 @@ HasSourcesAfter _ old added new = new ≡ added
 -- a merge is refused with this error
 pub record RefusesMerge (old other : State) (error : ResolveErrorKind) (new : State) : Type 0 where
   pub cause : (error ≡ OutOfMemory) ⊎ (IsMergeCause (merging old other) error ⊎ FilesPass old other error)
+  -- where the files of both end past 4294967295, no other cause is told
+  pub past_end : 2 ^ 32 ≤ old.source_map.end + other.source_map.end → (error ≡ OutOfMemory) ⊎ (error ≡ OffsetOverflow)
   pub graph : new.graph ≡ old.graph
   pub features : new.features ≡ old.features
   pub rule : new.track_rule ≡ old.track_rule

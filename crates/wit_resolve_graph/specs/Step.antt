@@ -1,7 +1,7 @@
 -- What a command does, and runs of commands. A command changes the state and answers, or refuses with an
 -- error that has a reason and then leaves all but the sources as it was. Want of memory is no reason, but
 -- may always be answered where memory is taken. Only their own commands change features and the rule of tracks.
-use Rattle.std.specs.Prelude.{◌≡◌, ◌⊎◌, ◌<◌, ◌^◌, ℕ, Bool, true, List, [], ◌∷◌, ◌++◌, length, map, slice_get, Option, None, Some, if◌then◌else◌}
+use Rattle.std.specs.Prelude.{◌≡◌, ◌⊎◌, ◌≤◌, ◌<◌, ◌^◌, ℕ, Bool, true, List, [], ◌∷◌, ◌++◌, length, map, slice_get, Option, None, Some, if◌then◌else◌}
 use Rattle.std.specs.List.{list_any}
 use Rattle.std.specs.Str.{bytes_eq}
 use Rattle.wit_sources.specs.SourceMap.{Sources, with_sources}
@@ -12,7 +12,7 @@ use Rattle.wit_graph_data.specs.declared.graph.Graph.{Graph}
 use Rattle.wit_elaboration.specs.Entries.{Entry}
 use Rattle.wit_graph_data.specs.IdText.{key_text}
 use Rattle.wit_graph_data.specs.declared.error_kind.ResolveErrorKind.{ResolveErrorKind}
-use Rattle.wit_graph_data.specs.declared.error_kind.ResolveErrorKind.TheVariants.{OutOfMemory}
+use Rattle.wit_graph_data.specs.declared.error_kind.ResolveErrorKind.TheVariants.{OffsetOverflow, OutOfMemory}
 use Rattle.wit_graph_data.specs.declared.features.Features.{Features}
 use Rattle.wit_link.specs.Groups.{IsGroupsCause, files_end, packages_of}
 use Rattle.wit_link.specs.Several.{ArePushed}
@@ -63,6 +63,8 @@ pub record PushesGroups (old : State) (main : UnresolvedPackageGroup) (deps : Li
 -- the addition of groups is refused with this error
 pub record RefusesGroups (old : State) (main : UnresolvedPackageGroup) (deps : List UnresolvedPackageGroup) (error : ResolveErrorKind) (new : State) : Type 0 where
   pub cause : (error ≡ OutOfMemory) ⊎ IsGroupsCause old.features old.graph old.source_map.end (main ∷ deps) error
+  -- where their files end past 4294967295, no other cause is told
+  pub past_end : 2 ^ 32 ≤ files_end old.source_map.end (main ∷ deps) → (error ≡ OutOfMemory) ⊎ (error ≡ OffsetOverflow)
   pub graph : new.graph ≡ old.graph
   pub features : new.features ≡ old.features
   pub rule : new.track_rule ≡ old.track_rule

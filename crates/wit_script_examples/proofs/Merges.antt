@@ -107,7 +107,7 @@ gates_f_g same = g_not_f (ap feature_of same)
 
 pub refused_are : ExamplesOfRefusedMerges
 refused_are = record {
-  apart = (_, record { cause = inr (inl (gates_apart (codes "f") (codes "g") 10 gates_f_g)); graph = refl; features = refl; rule = refl; files = refl }, refl);
+  apart = (_, record { cause = inr (inl (gates_apart (codes "f") (codes "g") 10 gates_f_g)); past_end = λ past. absurd (omega (arith, past)); graph = refl; features = refl; rule = refl; files = refl }, refl);
   not_its_graph = λ run. g_not_f (ap (λ (s : State). gate_in s.graph) run.2 ∙ ap gate_in run.1.graph);
   not_nothing = λ run. let count : 0 ≡ 1 = ap packages_in run.2 ∙ ap (λ (g : Graph). length g.packages) run.1.graph in absurd (omega (arith, count));
   not_its_features = λ run. false≢true (sym (ap (λ (s : State). s.features.all) run.2 ∙ ap (λ (f : Features). f.all) run.1.features));
@@ -124,7 +124,7 @@ refused_are = record {
         | inl memory ↦ cc
         | inr told ↦ elim told [ inl cause ↦ gates_merge (codes "f") (codes "f") 10 refl _ cause | inr far ↦ far ]
       ];
-  too_far = (_, record { cause = inr (inr (lit≤ tt)); graph = refl; features = refl; rule = refl; files = refl }, refl);
+  too_far = (_, record { cause = inr (inr (lit≤ tt)); past_end = λ past. inr refl; graph = refl; features = refl; rule = refl; files = refl }, refl);
   not_placed = λ run. let ends : 4294967296 ≡ 4294967290 = ap (λ (s : State). s.source_map.end) run.2 ∙ ap (λ (f : Sources). f.end) run.1.files in absurd (omega (arith, ends));
   not_merged = λ remap new run. let fits = run.1.fits in absurd (omega (arith, fits));
   just_fits = (_, record { fits = lit< tt; accepted = packages_merge _ _ _ _ _ refl; graph = refl; features = refl; rule = refl; files = refl; remap_is = refl }, refl);
@@ -133,8 +133,8 @@ refused_are = record {
         | inl memory ↦ cc
         | inr told ↦ elim told [ inl cause ↦ packages_merge [] [] [] [] 4294967290 refl _ cause | inr far ↦ too_many far ]
       ];
-  memory_before = (_, record { cause = inl refl; graph = refl; features = refl; rule = refl; files = inl refl }, refl);
-  memory_after = (_, record { cause = inl refl; graph = refl; features = refl; rule = refl; files = inr refl }, refl);
+  memory_before = (_, record { cause = inl refl; past_end = λ past. inl refl; graph = refl; features = refl; rule = refl; files = inl refl }, refl);
+  memory_after = (_, record { cause = inl refl; past_end = λ past. inl refl; graph = refl; features = refl; rule = refl; files = inr refl }, refl);
   memory_not_alone = λ run.
       elim run.1.files [
         | inl before ↦ g_not_f (ap (λ (s : State). first_path s.source_map) run.2 ∙ ap first_path before)

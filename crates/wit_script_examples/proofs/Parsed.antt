@@ -107,7 +107,7 @@ there_cause = inr (inl (record {
 }))
 
 there : RefusesAnswer (before (one foo_bar)) (made_of file) is_there (behind (one foo_bar))
-there = record { kind = DuplicatePackage foo_bar None None; told_is = refl; refuses = record { cause = inr there_cause; graph = refl; features = refl; rule = refl; files = refl } }
+there = record { kind = DuplicatePackage foo_bar None None; told_is = refl; refuses = record { cause = inr there_cause; past_end = λ past. absurd (omega (arith, past)); graph = refl; features = refl; rule = refl; files = refl } }
 
 there_not_left_out : RefusesAnswer (before (one foo_bar)) (made_of file) is_there (before (one foo_bar)) → ⊥
 there_not_left_out r =
@@ -171,7 +171,7 @@ parsed = record {
   there_told = there;
   there_not_left_out = there_not_left_out;
   not_there = λ new r. let told = free_told once refl (lit< tt) is_there new r in cc;
-  too_far = record { kind = OffsetOverflow; told_is = refl; refuses = record { cause = inr (inr (inr (lit≤ tt))); graph = refl; features = refl; rule = refl; files = refl } };
+  too_far = record { kind = OffsetOverflow; told_is = refl; refuses = record { cause = inr (inr (inr (lit≤ tt))); past_end = λ past. inr refl; graph = refl; features = refl; rule = refl; files = refl } };
   just_fits = free_told (ending 4294967277) refl (lit< tt);
   pushed = pushed_first;
   not_its_id = λ new p. let id : 1 ≡ 0 = (pushes_are once 1 new p.pushes).0 in absurd (omega (arith, id));

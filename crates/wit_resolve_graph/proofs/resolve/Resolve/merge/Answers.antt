@@ -29,6 +29,9 @@ returns-clause-err c =
     let old : State = record { graph = c.self.inside.graph; features = c.self.inside.features; source_map = c.self.inside.source_map; track_rule = c.self.inside.track_rule } in
     let other : State = record { graph = c.other.inside.graph; features = c.other.inside.features; source_map = c.other.inside.source_map; track_rule = c.other.inside.track_rule } in
     let placed : c.append.new.self ≡ with_sources old.source_map other.source_map = c.in_ok-offset.ensures.ok.1 ∙ ap (with_sources old.source_map) c.replace-files.ensures.value in
+    let end : c.replace-files.result.end ≡ other.source_map.end = ap (λ (s : Sources). s.end) c.replace-files.ensures.value in
+    let less = within (old.source_map.end + c.replace-files.result.end) c.in_ok-offset.ensures.overflow (λ far. cc) in
+    let fits : old.source_map.end + other.source_map.end < 2 ^ 32 = omega (arith, less, end) in
     rw (← c.self.view_is, ← c.other.view_is) (elim c.if-is_offset_overflow.branch [
       | then-is_offset_overflow w ↦
           takes_back old other other.graph c.in_ok-offset.offset refl c.in_ok-offset.ensures.ok.0 c.if-is_offset_overflow.self c.unite_kept-merged.result (c.is_offset_overflow.ensures.0 w.if-is_offset_overflow.true)
@@ -38,7 +41,7 @@ returns-clause-err c =
           c.unite_kept-merged.ensures.cause
       | else-is_offset_overflow w ↦
           refuses old other other.graph c.in_ok-offset.offset refl c.in_ok-offset.ensures.ok.0 c.if-is_offset_overflow.self c.unite_kept-merged.result
-          (λ far. false≢true (sym w.if-is_offset_overflow.false ∙ c.is_offset_overflow.ensures.1 far))
+          fits (λ far. false≢true (sym w.if-is_offset_overflow.false ∙ c.is_offset_overflow.ensures.1 far))
           (same_after old.graph c.unite_kept-merged.new.graph c.if-is_offset_overflow.self.graph c.unite_kept-merged.result (ap (λ (s : State). s.graph) w.self-is) c.unite_kept-merged.ensures.err)
           (ap (λ (s : State). s.features) w.self-is) (ap (λ (s : State). s.track_rule) w.self-is)
           (ap (λ (s : State). s.source_map) w.self-is ∙ placed) c.unite_kept-merged.ensures.cause

@@ -40,7 +40,7 @@ returns-clause-err c =
           c.add_packages-pushed.ensures.cause
       | else-is_offset_overflow w ↦
           refuses old c.args.main c.args.deps c.in_ok-packages.packages c.in_ok-packages.ensures.ok c.in_ok-name.name c.in_ok-name.ensures c.if-is_offset_overflow.self c.add_packages-pushed.result
-          (λ far. false≢true (sym w.if-is_offset_overflow.false ∙ c.is_offset_overflow.ensures.1 far)) (same_after old.graph c.add_packages-pushed.new.graph c.if-is_offset_overflow.self.graph c.add_packages-pushed.result (ap (λ (s : State). s.graph) w.self-is) c.add_packages-pushed.ensures.err) (ap (λ (s : State). s.features) w.self-is) (ap (λ (s : State). s.track_rule) w.self-is)
+          c.in_ok-packages.ensures.fits (λ far. false≢true (sym w.if-is_offset_overflow.false ∙ c.is_offset_overflow.ensures.1 far)) (same_after old.graph c.add_packages-pushed.new.graph c.if-is_offset_overflow.self.graph c.add_packages-pushed.result (ap (λ (s : State). s.graph) w.self-is) c.add_packages-pushed.ensures.err) (ap (λ (s : State). s.features) w.self-is) (ap (λ (s : State). s.track_rule) w.self-is)
           (ap (λ (s : State). s.source_map) w.self-is ∙ c.in_ok-packages.ensures.files) c.add_packages-pushed.ensures.cause
     ])
 
