@@ -23,9 +23,8 @@ error, as FILE:LINE: WHAT:
     import l: interface {}    an interface named WORLD-import-l (or -export-l), which stands under the label l
     @deprecated               nothing
 
-A record that stands for a result or a tuple is a type of the interface or world that writes it. In a world its name ends
-with `@WORLD`. What is gated by a feature has records of its own, which have that gate and whose names end with
-`@FEATURE`, where the whole interface or world isn't gated by it.
+A record that stands for a result or a tuple is a type of the interface or world that writes it. In a world its name
+ends with `@WORLD`. A feature that gates a type of its parts, or the whole interface or world, gates the record, too.
 
 Where something can't be written, each such place is told in the same way, there is no script, and the status is 1.
 """
@@ -624,12 +623,12 @@ class Writer:
 
     def found(self, file, path):
         """A path in place of the name that its file has for it."""
-        line = path.line
+        found = path
         for _ in range(1 + len(file.aliases)):
-            if path.package or path.name in self.scopes or path.name not in file.aliases:
-                return path
-            path = file.aliases[path.name]
-        raise Problem(line, f"`{path.name}` is another name of itself", file)
+            if found.package or found.name in self.scopes or found.name not in file.aliases:
+                return found
+            found = file.aliases[found.name]
+        raise Problem(path.line, f"`{path.name}` is another name of itself", file)
 
 
 class ScopeWriter:
@@ -638,8 +637,8 @@ class ScopeWriter:
     def __init__(self, writer, scope):
         self.writer, self.scope, self.file = writer, scope, scope.file
         self.is_world = scope.word == "world"
-        # its types, its records in place of results and tuples, and all names of its lists
-        self.types, self.stand_ins, self.names = set(), set(), set()
+        # its types, each with the feature that gates it, its records in place of results and tuples, and its names
+        self.types, self.stand_ins, self.names = {}, set(), set()
 
     def note(self, line, what):
         self.writer.report.note(self.file, line, what)
@@ -689,9 +688,9 @@ class ScopeWriter:
             raise Problem(line, f"{self.scope.word} `{self.scope.name}` has `{name}` already")
         self.names.add((of, name))
 
-    def add_type(self, line, name):
+    def add_type(self, line, name, gate):
         self.add_name(line, name)
-        self.types.add(name)
+        self.types[name] = gate.feature
         if name in TAKEN:
             raise Problem(line, f"a type of a script can't have the name `{name}`, which is that of one of its own")
 
@@ -708,7 +707,7 @@ class ScopeWriter:
 
     def use(self, use):
         for _, new in use.names:
-            self.add_type(use.line, new)
+            self.add_type(use.line, new, use.gate)
         path = self.path(use.path, "interface")
         for old, new in use.names:
             if old not in self.writer.types.get(path, [old]):
@@ -717,17 +716,17 @@ class ScopeWriter:
 
     def definition(self, definition):
         word, name, line, gate = definition.word, definition.name, definition.line, definition.gate
-        self.add_type(line, name)
+        self.add_type(line, name, gate)
         if word == "resource":
             self.line(f"resource {name}", gate)
         elif word == "type":
             ty = definition.parts[0][1]
-            fields = self.fields(ty, gate)
+            fields = self.fields(ty)
             if fields:
                 self.note(line, f"`{ty}` becomes a record, named `{name}`")
                 self.record(name, fields, gate)
             else:
-                self.line(f"type {name} {self.type(ty, gate)}", gate)
+                self.line(f"type {name} {self.type(ty)}", gate)
         else:
             if not definition.parts:
                 raise Problem(line, f"a {word} of a script has parts, and `{name}` has none")
@@ -735,17 +734,17 @@ class ScopeWriter:
                 self.note(line, f"variant `{name}` becomes a record, with a field for each case")
             elif word != "record":
                 self.note(line, f"{word} `{name}` becomes a record, with a field of `bool` for each name")
-            self.record(name, [(it, self.type(ty, gate) if ty else "bool") for it, ty in definition.parts], gate)
+            self.record(name, [(it, self.type(ty) if ty else "bool") for it, ty in definition.parts], gate)
 
     def record(self, name, fields, gate):
         self.line(f"record {name} " + " ".join(f"{it}:{ty}" for it, ty in fields), gate)
 
     def function(self, function, of="import"):
         self.add_name(function.line, function.name, of)
-        gate, word = function.gate, f"{of}-func" if self.is_world else "func"
-        parameters = ",".join(f"{it}:{self.type(ty, gate)}" for it, ty in function.parameters)
-        result = f"->{self.type(function.result, gate)}" if function.result else ""
-        self.line(f"{word} {function.name}({parameters}){result}", gate)
+        word = f"{of}-func" if self.is_world else "func"
+        parameters = ",".join(f"{it}:{self.type(ty)}" for it, ty in function.parameters)
+        result = f"->{self.type(function.result)}" if function.result else ""
+        self.line(f"{word} {function.name}({parameters}){result}", function.gate)
 
     def entry(self, entry):
         if isinstance(entry.item, Function):
@@ -757,44 +756,43 @@ class ScopeWriter:
 
     # types
 
-    def type(self, ty, gate):
+    def type(self, ty):
         """The text of a type. The records that stand for its parts are written first."""
         if not ty.is_form:
             if ty.name not in PRIMITIVES and ty.name not in self.types:
                 raise Problem(ty.line, f"{self.scope.word} `{self.scope.name}` has no type `{ty.name}`")
             return ty.name
-        fields = self.fields(ty, gate)
+        fields = self.fields(ty)
         if fields:
-            return self.stand_in(ty, fields, gate)
+            return self.stand_in(ty, fields)
         if ty.name == "map":
             self.note(ty.line, f"`{ty}` becomes a list of tuples")
-            return f"list<{self.type(Type('tuple', ty.line, True, ty.parts), gate)}>"
+            return f"list<{self.type(Type('tuple', ty.line, True, ty.parts))}>"
         if ty.name == "list" and len(ty.parts) == 2:
             self.note(ty.line, f"`{ty}` becomes a list of any length")
-        return f"{ty.name}<{self.type(ty.parts[0], gate)}>" if ty.parts else ty.name
+        return f"{ty.name}<{self.type(ty.parts[0])}>" if ty.parts else ty.name
 
-    def fields(self, ty, gate):
+    def fields(self, ty):
         """The fields of a record that stands for a tuple or a result, None for another type."""
         if not ty.is_form or ty.name not in ("tuple", "result"):
             return None
-        texts = [self.type(it, gate) if it else "bool" for it in ty.parts]
+        texts = [self.type(it) if it else "bool" for it in ty.parts]
         if ty.name == "tuple":
             return [(f"f{n}", it) for n, it in enumerate(texts)]
         return list(zip(("ok", "err"), [*texts, "bool", "bool"]))
 
-    def stand_in(self, ty, fields, gate):
+    def stand_in(self, ty, fields):
         """The name of the record with these fields, which is written where it isn't there."""
         parts = ";".join("_" if part is None else text for part, (_, text) in zip(ty.parts, fields))
-        name = f"{ty.name}<{parts}>" if parts else ty.name
-        feature = gate.feature or self.scope.gate.feature
-        if feature != self.scope.gate.feature:
-            name += f"@{feature}"
-        if self.is_world:
-            name += f"@{self.scope.name}"
+        name = (f"{ty.name}<{parts}>" if parts else ty.name) + (f"@{self.scope.name}" if self.is_world else "")
         if name not in self.stand_ins:
             if name in self.types:
                 raise Problem(ty.line, f"`{name}` is a type already, and can't stand for `{ty}`")
-            self.types.add(name)
+            features = {self.types[it] for it in ty.names()} - {""} or {self.scope.gate.feature}
+            if len(features) > 1:
+                raise Problem(ty.line, f"a record in place of `{ty}` would be gated by two features")
+            (feature,) = features
+            self.types[name] = feature
             self.stand_ins.add(name)
             self.note(ty.line, f"`{ty}` becomes a record, named `{name}`")
             self.record(name, fields, Gate(f"@unstable={feature}" if feature else ""))
@@ -825,7 +823,7 @@ def packages_of(path, report):
             report.problem(file, problem)
         except UnicodeDecodeError:
             raise OSError(f"{file.path}: this isn't UTF-8") from None
-    if package.name is None and (package.scopes or not nested):
+    if package.name is None and (package.scopes or not nested) and not report.problems:
         report.problem(files[0], Problem(1, "no line says which package it is"))
     return ([package] if package.name else []) + nested
 
