@@ -460,6 +460,7 @@ class Problems(Case):
         gates = "3: expected `since`, `unstable` or `deprecated`, found `later`"
         self.within("@later(version = 1.0.0) f: func();", gates)
         self.within("@since(version = 1.0) f: func();", "3: expected a version, found `1`")
+        self.within("@since(version = 01.0.0) f: func();", "3: expected a version, found `01`")
         self.within("type t = list;", "3: `list` is no type, since `list` has other parts")
         self.within("type t = result<u8, _>;", "3: `result<u8, _>` is no type, since `result` has other parts")
         self.within("type t = own<list<u8>>;", "3: `own<list<u8>>` is no type, since `own` has other parts")

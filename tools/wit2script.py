@@ -53,12 +53,14 @@ FORMS = {
 TAKEN = PRIMITIVES | {"future", "stream"}
 DEFINITIONS = ("type", "record", "variant", "enum", "flags", "resource")
 
-# what stands in a version behind `-` and `+`
-IDENTIFIERS = r"[0-9A-Za-z-]+(?:\.[0-9A-Za-z-]+)*"
+# the parts of a version: a number, and what stands behind `-` and behind `+`
+NUMBER = r"(?:0|[1-9][0-9]*)"
+BEFORE = rf"(?:[0-9]*[A-Za-z-][0-9A-Za-z-]*|{NUMBER})"
+BUILD = r"[0-9A-Za-z-]+"
 TOKEN = re.compile(
     r"(?P<blank>\s+|//[^\n]*)"
     r"|(?P<comment>/\*)"
-    rf"|(?P<version>[0-9]+\.[0-9]+\.[0-9]+(?:-{IDENTIFIERS})?(?:\+{IDENTIFIERS})?)"
+    rf"|(?P<version>{NUMBER}\.{NUMBER}\.{NUMBER}(?:-{BEFORE}(?:\.{BEFORE})*)?(?:\+{BUILD}(?:\.{BUILD})*)?)"
     r"|(?P<number>[0-9]+)"
     r"|(?P<name>%?[A-Za-z][A-Za-z0-9]*(?:-[A-Za-z0-9]+)*)"
     r"|(?P<sign>->|[{}()<>=,;:/.@_])"
