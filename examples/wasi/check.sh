@@ -8,6 +8,7 @@ set -u
 store=
 [ "${1-}" = --store ] && { store=yes; shift; }
 program=$(realpath "${1:?which program? a build of witgraph}") || exit 1
+[ -f "$program" ] && [ -x "$program" ] || { echo "$1: this is no program"; exit 1; }
 cd "$(dirname "$0")" || exit 1
 status=0
 made=$(mktemp -d) || exit 1
