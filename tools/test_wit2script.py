@@ -276,6 +276,8 @@ class Order(Case):
         self.refused(types, "2: type `a` names itself, through whatever others")
         scopes = "package a:b;\ninterface i { use j.{t}; }\ninterface j { use i.{t}; }"
         self.refused(scopes, "2: interface `i` names itself, through whatever others")
+        behind = "package a:b; interface i {\ntype a = b;\ntype b = c;\ntype c = list<b>; }"
+        self.refused(behind, "3: type `b` names itself, through whatever others")
         self.refused("package a:b;\nworld w { include w; }", "2: world `w` names itself, through whatever others")
         names = "package a:b;\nuse i as j; use j as i;\ninterface k {\nuse i.{t}; }"
         self.refused(names, "4: `i` is another name of itself")
@@ -551,6 +553,11 @@ class Files(Case):
         with open("p.wit", "wb") as file:
             file.write(b"package a:b; // \xff")
         self.assertEqual(self.run_tool("p.wit"), (1, "", "wit2script.py: p.wit: this isn't UTF-8\n"))
+
+    def test_deep_types(self):
+        deep = "list<" * 100_000 + "u8" + ">" * 100_000
+        self.write("p.wit", f"package a:b; interface i {{ type t = {deep}; }}")
+        self.assertEqual(self.run_tool("p.wit"), (1, "", "wit2script.py: a type nests too deep to be read\n"))
 
     def test_help(self):
         tool = os.path.join(TOP, "tools", "wit2script.py")

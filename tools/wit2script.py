@@ -581,10 +581,14 @@ def in_order(nodes, needs, tell):
             last_needed[user] = n
             if not missing[user]:
                 heapq.heappush(ready, user)
-    for node, it in zip(nodes, missing):
-        if it:
-            what = f"{node.word} `{node.name}` names itself, through whatever others"
-            raise Problem(node.line, what, getattr(node, "file", None))
+    if len(placed) < len(nodes):
+        # from one to the next that it misses, until one comes again: that one is on a cycle
+        n, met = next(n for n, it in enumerate(missing) if it), set()
+        while n not in met:
+            met.add(n)
+            n = min(missing[n])
+        what = f"{nodes[n].word} `{nodes[n].name}` names itself, through whatever others"
+        raise Problem(nodes[n].line, what, getattr(nodes[n], "file", None))
     return [nodes[n] for n in placed]
 
 
@@ -863,6 +867,9 @@ def main(arguments=None):
             sys.stdout.write(script)
     except OSError as fault:
         print(f"wit2script.py: {fault}", file=sys.stderr)
+        return 1
+    except RecursionError:
+        print("wit2script.py: a type nests too deep to be read", file=sys.stderr)
         return 1
     return 0
 
