@@ -473,6 +473,25 @@ class Problems(Case):
         text = "package a:b; interface i {}\nworld w { import w2; }\nworld w2 {}\ninterface j { use i.{t}; }"
         self.refused(text, "2: the package has no interface `w2`", "4: interface `i` has no type `t`")
 
+    def test_handles(self):
+        body = """
+            interface i { resource r; type s = r; type t = u8; }
+            interface j { use i.{s as u}; use c:d/e.{v}; type w = v; f: func(x: own<u>, y: borrow<w>); }"""
+        lines = """
+            interface i
+            resource r
+            type s r
+            type t u8
+            interface j
+            use i s u
+            use c:d/e v
+            type w v
+            func f(x:own<u>,y:borrow<w>)"""
+        self.same(body, lines)
+        self.within("record r { x: u8 }\nf: func(x: own<r>);", "4: `own<r>` is no type, since `r` is no resource")
+        text = "package a:b; interface i { type t = u8; }\ninterface j { use i.{t};\nf: func(x: list<borrow<t>>); }"
+        self.refused(text, "3: `borrow<t>` is no type, since `t` is no resource")
+
     def test_what_is_there_twice(self):
         self.within("type t = u8;\nf: func();\ntype t = u16;", "5: interface `i` has `t` already")
         self.within("f: func();\nf: func();", "4: interface `i` has `f` already")

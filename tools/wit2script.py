@@ -599,8 +599,8 @@ class Writer:
         self.report, self.lines = report, []
 
     def package(self, package):
-        # its interfaces and worlds by their names, and the types of the interfaces
-        self.scopes, self.types = {}, {}
+        # its interfaces and worlds by their names, and those that are written or begun, by theirs
+        self.scopes, self.written = {}, {}
         self.lines.append(f"package {package.name}")
         scopes = [it for scope in package.scopes for it in [*self.within(scope), scope]]
         for scope in scopes:
@@ -643,8 +643,9 @@ class ScopeWriter:
     def __init__(self, writer, scope):
         self.writer, self.scope, self.file = writer, scope, scope.file
         self.is_world = scope.word == "world"
-        # its types, each with the feature that gates it, its records in place of results and tuples, and its names
-        self.types, self.stand_ins, self.names = {}, set(), set()
+        # its types, each with the feature that gates it; those that may be resources; its records in place of results
+        # and tuples; all its names
+        self.types, self.resources, self.stand_ins, self.names = {}, set(), set(), set()
 
     def note(self, line, what):
         self.writer.report.note(self.file, line, what)
@@ -656,7 +657,7 @@ class ScopeWriter:
         scope = self.scope
         self.writer.lines.append("")
         self.line(f"{scope.word} {scope.name}", scope.gate)
-        self.writer.types[scope.name] = self.types
+        self.writer.written[scope.name] = self
         self.each(self.use, scope.of(Use))
         try:
             definitions = in_order(scope.of(Definition), Definition.names, lambda it, what: self.note(it.line, what))
@@ -715,19 +716,25 @@ class ScopeWriter:
         for _, new in use.names:
             self.add_type(use.line, new, use.gate)
         path = self.path(use.path, "interface")
+        of = self.writer.written.get(path)
         for old, new in use.names:
-            if old not in self.writer.types.get(path, [old]):
+            if of and old not in of.types:
                 raise Problem(use.line, f"interface `{path}` has no type `{old}`")
+            if not of or old in of.resources:
+                self.resources.add(new)
             self.line(f"use {path} {old}" + (f" {new}" if new != old else ""), use.gate)
 
     def definition(self, definition):
         word, name, line, gate = definition.word, definition.name, definition.line, definition.gate
         self.add_type(line, name, gate)
         if word == "resource":
+            self.resources.add(name)
             self.line(f"resource {name}", gate)
         elif word == "type":
             ty = definition.parts[0][1]
             fields = self.fields(ty)
+            if ty.name in self.resources:
+                self.resources.add(name)
             if fields:
                 self.note(line, f"`{ty}` becomes a record, named `{name}`")
                 self.record(name, fields, gate)
@@ -776,7 +783,10 @@ class ScopeWriter:
             return f"list<{self.type(Type('tuple', ty.line, True, ty.parts))}>"
         if ty.name == "list" and len(ty.parts) == 2:
             self.note(ty.line, f"`{ty}` becomes a list of any length")
-        return f"{ty.name}<{self.type(ty.parts[0])}>" if ty.parts else ty.name
+        text = f"{ty.name}<{self.type(ty.parts[0])}>" if ty.parts else ty.name
+        if ty.name in ("own", "borrow") and ty.parts[0].name not in self.resources:
+            raise Problem(ty.line, f"`{text}` is no type, since `{ty.parts[0].name}` is no resource")
+        return text
 
     def fields(self, ty):
         """The fields of a record that stands for a tuple or a result, None for another type."""
