@@ -1,0 +1,49 @@
+#!/usr/bin/env bash
+# check.sh [--store] PATH/TO/witgraph: whether what is stored here is what the tool and the program make of it.
+#
+# Makes the scripts of the packages anew from the texts in wit, and what the tool tells of them (notes.txt). Runs the
+# program on each walk-through, and asks the model of the rules (bench/model), too. Compares the cases of
+# crates/witgraph_cases. Names what differs, and then ends with status 1. With --store it is stored, but for the cases.
+set -u
+store=
+[ "${1-}" = --store ] && { store=yes; shift; }
+program=$(realpath "${1:?which program? a build of witgraph}") || exit 1
+[ -f "$program" ] && [ -x "$program" ] || { echo "$1: this is no program"; exit 1; }
+cd "$(dirname "$0")" || exit 1
+status=0
+made=$(mktemp -d) || exit 1
+trap 'rm -rf "$made"' EXIT
+
+# same MADE STORED: whether a file is as it is stored
+same() {
+    [ -n "$store" ] && cp "$1" "$2"
+    cmp -s "$1" "$2" || { echo "$2: it isn't what is made now"; status=1; }
+}
+
+# the case of a name in a file of cases
+case_of() {
+    awk -v name="=== wasi-$1" '/^=== / { inside = $0 == name; next } inside' "../../crates/witgraph_cases/$2"
+}
+
+for version in 0.2.0 0.2.3; do
+    for text in wit/$version/*.wit; do
+        package=$(basename "$text" .wit)
+        ../../tools/wit2script.py -o "$made/script" "$text" 2>> "$made/notes-$version" || status=1
+        same "$made/script" "$version/$package.script"
+    done
+    same "$made/notes-$version" "$version/notes.txt"
+done
+
+for walk in features merge proxy tool; do
+    ./walk.sh $walk > "$made/$walk.script"
+    "$program" < "$made/$walk.script" > "$made/$walk.out" || { echo "$walk: the program ends with status $?"; status=1; }
+    same "$made/$walk.out" "$walk.out"
+    { echo "=== $walk"; cat "$made/$walk.script"; } >> "$made/stdin"
+    { echo "=== $walk"; cat "$made/$walk.out"; } >> "$made/stdout"
+done
+for walk in features merge tool; do
+    case_of $walk stdin | cmp -s - "$made/$walk.script" || { echo "case wasi-$walk: its script isn't that of walk.sh"; status=1; }
+    case_of $walk stdout | cmp -s - "$made/$walk.out" || { echo "case wasi-$walk: its answers aren't $walk.out"; status=1; }
+done
+python3 ../../bench/compare.py --stored "$made/stdin" "$made/stdout" || status=1
+exit $status
