@@ -85,12 +85,17 @@ def compared_with_original(both, kinds, numbers, jobs):
             counts[kind][row] += 1
             if shown:
                 print(shown, flush=True)
-    print("| | " + " | ".join(kinds) + " |\n|---" * (len(kinds) + 1) + "|")
-    rows = {"scripts": [sum(counts[kind].values()) for kind in kinds]}
-    rows |= {row: [counts[kind][row] for kind in kinds] for row in (EQUAL, *original.ROWS, NO_ROW)}
-    for row, figures in rows.items():
-        print(f"| {row} | " + " | ".join(f"{it:,}" for it in figures) + " |")
-    return 1 if any(counts[kind][NO_ROW] for kind in kinds) else 0
+    show(counts)
+    return 1 if any(of[NO_ROW] for of in counts.values()) else 0
+
+
+def show(counts):
+    """Shows a table of the scripts of each kind: how many are equal, and how many differ first by which row."""
+    print("| | " + " | ".join(counts) + " |\n" + "|---" * (len(counts) + 1) + "|")
+    figures = {"scripts": [of.total() for of in counts.values()]}
+    figures |= {row: [of[row] for of in counts.values()] for row in (EQUAL, *original.ROWS, NO_ROW)}
+    for row, of_kinds in figures.items():
+        print(f"| {row} | " + " | ".join(f"{it:,}" for it in of_kinds) + " |")
 
 
 def read(path):

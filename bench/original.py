@@ -9,6 +9,7 @@ either its graphs are as before. It tries each command in a child process first,
 answered, by the model's graph before the command, and by what the model has to say of the command. Where none is told,
 one of the two programs is wrong, or a row is missing.
 """
+import copy
 import re
 import subprocess
 
@@ -18,6 +19,7 @@ from model.causes import excluded
 from model.data import Interface, Type
 from model.elaboration import WATCHERS, Conflict, refuse_conflict
 from model.graph import sort
+from model.names import version_key
 from model.scripts import Session, commands_of
 
 # seconds after which the original is taken not to end
@@ -195,6 +197,34 @@ def is_other_export(it):
     return it.ours.startswith("refused ") and any(conflicts(it))
 
 
+def is_before_include(it):
+    """Whether the model tells the original's reason, of a world, once the includes that are refused themselves are gone.
+
+    The original goes from world to world, and in each from include to include.
+    """
+    if not it.is_of("push"):
+        return False
+    commands, graph = copy.deepcopy(it.commands), it.session().graphs[-1]
+    is_changed = False
+    for package in sort(commands[it.at][1])[1]:
+        added = Addition(graph, package)
+        for world in package.worlds.values():
+            kept = [of for of in world.includes if not is_refused_include(added, of)]
+            is_changed |= len(kept) < len(world.includes)
+            world.includes = kept
+        graph.packages.append(added.made)
+    without = Difference(commands, it.at, it.ours, it.theirs)
+    return is_changed and any(tells(without) for tells in (is_other_reason, is_debug_form, is_labelled_export, is_other_export))
+
+
+def is_refused_include(added, include):
+    """Whether an include of a package that is added has a gate that can't be asked, or names a world that is left out."""
+    word, *text = include.note
+    version = added.package.name.version
+    is_unmet = word == "stable" and (version is None or version_key(text[0]) > version_key(version))
+    return is_unmet or added.active.get(include) and not added.active[include.world]
+
+
 def is_taken_name(it):
     is_turn = it.is_of("importize", "exportize") and it.has_cause(20)
     return is_turn and (it.theirs == "done" or bool(re.fullmatch(CONFLICT.format(".*"), it.theirs[len("refused ") :])))
@@ -261,6 +291,7 @@ ROWS = {
     "a gated type of a world": is_gated_world_type,
     "a labelled export": is_labelled_export,
     "the export of a conflict": is_other_export,
+    "a reason before an include": is_before_include,
     "a taken name of a world": is_taken_name,
     "a type that is exported": is_exported_type,
     "a type that is missing": is_missing_type,
@@ -278,7 +309,7 @@ def rows_of(script, ours, theirs):
     Commands are compared as long as both graphs are the same: up to the first that one of the two carries out otherwise.
     """
     commands = commands_of(script)
-    if theirs is None or isinstance(commands, int):
+    if None in (ours, theirs) or isinstance(commands, int):
         return [None]
     session, answers = Session(model.Rules()), list(zip(answers_of(ours), answers_of(theirs)))
     found = []
