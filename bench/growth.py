@@ -14,7 +14,7 @@ import tempfile
 import time
 
 # sizes other than 1,000, 10,000 and 100,000
-SIZES = {"pushes": [1000, 10000, 30000]}
+SIZES = {"pushes": [1000, 10000, 30000], "alias_pushes": [1000, 3000, 10000]}
 
 
 def chain(size):
@@ -163,6 +163,20 @@ def pushes(size):
     yield "push"
 
 
+def alias_pushes(size):
+    """Packages pushed one after another: the first has a resource, each later one an alias of what the one before has, and a function that takes it."""
+    yield "package foo:p0"
+    yield "interface a"
+    yield "resource t"
+    yield "push"
+    for number in range(1, size):
+        yield f"package foo:p{number}"
+        yield "interface a"
+        yield f"use foo:p{number - 1}/a t"
+        yield "func f(x:t)"
+        yield "push"
+
+
 def tracks(size):
     """Interfaces in two versions, and users of the first; a world imports all, and its imports are merged by tracks."""
     for version in ("1.0.0", "1.1.0"):
@@ -210,7 +224,7 @@ def merges(size):
 
 KINDS = {
     it.__name__: it
-    for it in (chain, separate, worlds, aliases, nested, fields, includes, renames, resources, handed_on, groups, pushes, tracks, merges)
+    for it in (chain, separate, worlds, aliases, nested, fields, includes, renames, resources, handed_on, groups, pushes, alias_pushes, tracks, merges)
 }
 
 

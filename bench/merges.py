@@ -130,14 +130,6 @@ class Merger(Writer):
         changes = [it for it in changes if re.search(it[0], line)]
         return re.sub(*self.one(changes), line, count=1) if changes and self.may(self.change) else line
 
-    def is_done(self):
-        if not self.is_other:
-            return super().is_done()
-        self.lines.append("merge")
-        told = model.answers("\n".join(self.lines))
-        self.lines.pop()
-        return not any(it.startswith("refused") for it in told[-2])
-
     def commands(self):
         """Writes commands that nothing is pushed by."""
         if self.may(0.15):

@@ -23,6 +23,7 @@ class Writer:
         self.random = random.Random(number)
         self.kind = kind
         self.lines, self.block = [], []
+        self.follower, self.reader = model.Follower(), model.Reader()
         # the types of interfaces of other packages, by path, and the worlds
         self.interfaces, self.worlds, self.turned, self.there = {}, [], [], set()
         self.foreign, self.kept = self.one([0.1, 0.3, 0.6]), self.one([0.2, 0.7])
@@ -44,14 +45,14 @@ class Writer:
 
     def add(self, line):
         """Adds a line to the package, where it is understood."""
-        reader = model.Reader()
         try:
-            for it in [*self.block, line]:
-                reader.line(it.split(" "))
+            self.reader.line(line.split(" "))
         except model.NotUnderstood:
+            self.reader = model.Reader()
+            for it in self.block:
+                self.reader.line(it.split(" "))
             return False
         self.block.append(line)
-        self.reader = reader
         return True
 
     def type(self, names, depth=0):
@@ -152,7 +153,7 @@ class Writer:
 
     def package(self, name):
         """Writes a package, and answers it as it is read."""
-        self.block = []
+        self.block, self.reader = [], model.Reader()
         self.write(f"package {name}")
         self.fill(name)
         self.lines += self.block
@@ -203,10 +204,11 @@ class Writer:
                 self.learn(it)
         elif not self.may(self.kept):
             self.lines = before[3]
+            self.follower.drop_to(self.lines)
 
     def is_done(self):
         """Whether the last command isn't refused."""
-        return not any(it.startswith("refused") for it in model.answers("\n".join(self.lines))[-1])
+        return not any(it.startswith("refused") for it in self.follower.answer(self.lines))
 
     def turn(self):
         """Writes a command that turns a world."""

@@ -11,6 +11,6 @@ graph, `merging` and `tracks` what merges, with `mismatches` and `finishing`; `s
 from .labels import groups_of
 from .names import NotUnderstood
 from .reader import Reader
-from .scripts import Rules, answers, is_right
+from .scripts import Follower, Rules, answers, is_right
 
-__all__ = ["NotUnderstood", "Reader", "Rules", "answers", "groups_of", "is_right"]
+__all__ = ["Follower", "NotUnderstood", "Reader", "Rules", "answers", "groups_of", "is_right"]

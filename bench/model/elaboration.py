@@ -2,6 +2,9 @@
 from .data import Entry, Function, Interface
 from .walks import in_order
 
+# what is called with the listed imports and exports of each world that is elaborated
+WATCHERS = []
+
 
 class Conflict(Exception):
     """An interface that is exported, and imported through another export."""
@@ -18,6 +21,8 @@ def walk(interface):
 
 def elaborate(imports, exports):
     """The imports and the exports of a world that lists these; or raises the conflict."""
+    for watch in WATCHERS:
+        watch(imports, exports)
     exported = {id(it.item) for it in exports if it.label is None}
     interfaces = [it for it in exports if isinstance(it.item, Interface)]
     refuse_conflict(exported, interfaces)

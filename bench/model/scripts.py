@@ -32,26 +32,48 @@ class Rules:
     by_structure: bool = False
 
 
+class Commands:
+    """Reads the lines of a script one after another."""
+
+    def __init__(self):
+        self.reader, self.is_other = Reader(), False
+
+    def read(self, words):
+        """The command of a line with the packages that it ends; None of a line of a package."""
+        if words[0] not in COMMANDS:
+            self.reader.line(words)
+            return None
+        if words[0] in ("other", "merge"):
+            need(self.is_other == (words[0] == "merge"))
+            self.is_other = not self.is_other
+        packages = self.reader.packages
+        command = read_command(words, COMMANDS[words[0]], packages)
+        self.reader = Reader()
+        return command, packages
+
+    def are_open(self):
+        """Whether a package or another graph has no end yet."""
+        return bool(self.reader.packages) or self.is_other
+
+
+def words_of(line):
+    """The words of a line, none of a comment."""
+    words = [it for it in line.split(" ") if it]
+    return [] if words and words[0].startswith("#") else words
+
+
 def commands_of(text):
     """The commands with their packages; or the number of the first line that isn't understood."""
-    reader, commands, last, is_other = Reader(), [], 0, False
+    reading, commands, last = Commands(), [], 0
     for number, line in enumerate(text.split("\n"), 1):
-        words = [it for it in line.split(" ") if it]
-        if not words or words[0].startswith("#"):
-            continue
-        last = number
-        try:
-            if words[0] not in COMMANDS:
-                reader.line(words)
-                continue
-            if words[0] in ("other", "merge"):
-                need(is_other == (words[0] == "merge"))
-                is_other = not is_other
-            commands.append((read_command(words, COMMANDS[words[0]], reader.packages), reader.packages))
-            reader = Reader()
-        except NotUnderstood:
-            return number
-    return last if reader.packages or is_other else commands
+        words = words_of(line)
+        if words:
+            last = number
+            try:
+                commands.append(reading.read(words))
+            except NotUnderstood:
+                return number
+    return last if reading.are_open() else [it for it in commands if it is not None]
 
 
 def read_command(words, counts, packages):
@@ -125,6 +147,25 @@ def shown(package, world):
     """What `print` prints."""
     lines = [f"\n  {side} {it.shown()}" for side, entries in world.lists() for it in entries]
     return f"world {package.name.id_of(world.name)}" + "".join(lines)
+
+
+class Follower:
+    """Follows the lines of a script that is being written; each is read once."""
+
+    def __init__(self, rules=Rules()):
+        self.reading, self.session, self.count, self.told = Commands(), Session(rules), 0, None
+
+    def answer(self, lines):
+        """What the last command of these lines may print. Up to those that were followed they are as before."""
+        for line in lines[self.count :]:
+            command = self.reading.read(words_of(line))
+            self.told = self.session.answer(*command) if command else self.told
+        self.count = len(lines)
+        return self.told
+
+    def drop_to(self, lines):
+        """Forgets lines behind these, whose commands changed nothing."""
+        self.count = len(lines)
 
 
 def answers(text, rules=Rules()):
