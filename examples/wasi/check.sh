@@ -4,6 +4,9 @@
 # Makes the scripts of the packages anew from the texts in wit, and what the tool tells of them (notes.txt). Runs the
 # program on each walk-through, and asks the model of the rules (bench/model), too. Compares the cases of
 # crates/witgraph_cases. Names what differs, and then ends with status 1. With --store it is stored, but for the cases.
+#
+# Where ORIGINAL is the path of the original that reads scripts (bench/original.py), that is asked too; it answers the
+# same but for the numbers of refusals, which it doesn't have.
 set -u
 store=
 [ "${1-}" = --store ] && { store=yes; shift; }
@@ -44,6 +47,10 @@ done
 for walk in features merge tool; do
     case_of $walk stdin | cmp -s - "$made/$walk.script" || { echo "case wasi-$walk: its script isn't that of walk.sh"; status=1; }
     case_of $walk stdout | cmp -s - "$made/$walk.out" || { echo "case wasi-$walk: its answers aren't $walk.out"; status=1; }
+done
+for walk in ${ORIGINAL:+features merge proxy tool}; do
+    sed 's/^refused [0-9]* /refused ? /' "$made/$walk.out" > "$made/expected"
+    "$ORIGINAL" < "$made/$walk.script" | cmp -s - "$made/expected" || { echo "$walk: the original answers otherwise"; status=1; }
 done
 python3 ../../bench/compare.py --stored "$made/stdin" "$made/stdout" || status=1
 exit $status
