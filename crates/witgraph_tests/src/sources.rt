@@ -12,7 +12,7 @@ use wit_data::{
     Docs, Function, FunctionKind, Interface, Items, Names, PackageId, PackageName, SourceMap, Span,
     Stability, Table, Text, TryClone, UnresolvedPackage, UnresolvedPackageGroup,
 };
-use wit_resolve_graph::{PackageSources, ParseFault, Resolve, SourceFault, Shape};
+use wit_resolve_graph::{PackageSources, ParseFault, Resolve, Shape, SourceFault};
 
 fn text(rt: &impl Abort, alloc: Global, text: &str) -> Text {
     Text::try_from_str(alloc, text).expect(rt, "memory")
