@@ -18,7 +18,7 @@ fn write_interface(rt: &impl Abort, out: &mut String, number: usize) {
         }
     }
     if let Some(before) = number.checked_sub(2) {
-        for place in 0..number - 1 {
+        for place in 0..=before {
             write!(out, "use i{before} t{place} u{place}\n").expect(rt, "memory");
         }
     }

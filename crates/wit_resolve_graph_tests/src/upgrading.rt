@@ -165,15 +165,24 @@ fn the_rule_of_tracks_is_set_copied_and_kept(rt: HostRuntime) {
         rules_set(&rt, rt.alloc()),
         "published 2;with pre-releases 1;with pre-releases 1;published 2;",
     );
-    let (published, with) = (TrackRule::Published, TrackRule::WithPrereleases);
     assert_told(
         &rt,
-        rule_kept(&rt, rt.alloc(), published, with),
+        rule_kept(
+            &rt,
+            rt.alloc(),
+            TrackRule::Published,
+            TrackRule::WithPrereleases,
+        ),
         "merged published 2;refused published 2;",
     );
     assert_told(
         &rt,
-        rule_kept(&rt, rt.alloc(), with, published),
+        rule_kept(
+            &rt,
+            rt.alloc(),
+            TrackRule::WithPrereleases,
+            TrackRule::Published,
+        ),
         "merged with pre-releases 1;refused with pre-releases 1;",
     );
     assert_told(
