@@ -1,5 +1,6 @@
 //! Refused merges of two graphs, and of the imports of a world, where something would depend on itself or doesn't
-//! agree: what is told, and that all but the files is as before.
+//! agree: what is told, and that all but the files is as before. Of those on a cycle any may be named; here stands the
+//! one that is.
 use crate::parts::{assert_told, string};
 use crate::scripts::pushed;
 use crate::shown::shown;
@@ -35,8 +36,8 @@ const MERGES: [(&str, &str, &str); 4] = [
         interface y\n\
         use x v\n\
         push\n",
-        "22 at 0-0 message interface `foo:bar/y` would depend on itself\n\
-        interface `foo:bar/y` would depend on itself\n\
+        "22 at 0-0 message interface `foo:bar/x` would depend on itself\n\
+        interface `foo:bar/x` would depend on itself\n\
         graph as before, files foo:bar foo:bar to 120",
     ),
     // Packages that would use each other.
@@ -57,8 +58,8 @@ const MERGES: [(&str, &str, &str); 4] = [
         interface h\n\
         use foo:b/k v\n\
         push\n",
-        "6 at 0-0 package foo:a\n\
-        package `foo:a` creates a dependency cycle\n\
+        "6 at 0-0 package foo:b\n\
+        package `foo:b` creates a dependency cycle\n\
         graph as before, files foo:a foo:b foo:b foo:a to 158",
     ),
     // A function whose parameter has another name.
@@ -170,8 +171,8 @@ const UPGRADES: [(&str, &str); 5] = [
         import j\n\
         import i\n\
         push\n",
-        "22 at 0-0 message interface `a:x/j@1.1.0` would depend on itself\n\
-        interface `a:x/j@1.1.0` would depend on itself\n\
+        "22 at 0-0 message interface `a:x/i@1.1.0` would depend on itself\n\
+        interface `a:x/i@1.1.0` would depend on itself\n\
         graph as before, files a:x@1.0.0 a:x@1.1.0 to 178",
     ),
     // Packages that would use each other.
@@ -195,8 +196,8 @@ const UPGRADES: [(&str, &str); 5] = [
         import b:y/j\n\
         import i\n\
         push\n",
-        "6 at 0-0 package b:y\n\
-        package `b:y` creates a dependency cycle\n\
+        "6 at 0-0 package a:x@1.1.0\n\
+        package `a:x@1.1.0` creates a dependency cycle\n\
         graph as before, files a:x@1.0.0 b:y a:x@1.1.0 to 211",
     ),
     // Exports of which one would need the other from outside.

@@ -55,7 +55,8 @@ fn merged_with_itself(rt: &impl Abort, alloc: Global) -> String {
 }
 
 /// All that has a name stays where it was. What has none comes once more, and is named by nothing that was there.
-const MERGED_WITH_ITSELF: &str = "type 0 type 11 type 12 type 13 type 4 type 5 type 6 type 14 type 15 type 9 type 10 interface 0 interface 1 interface 2 world 0 world 1 package 0 package 1 \n\
+const MERGED_WITH_ITSELF: &str =
+    "type 0 type 11 type 12 type 13 type 4 type 5 type 6 type 14 type 15 type 9 type 10 interface 0 interface 1 interface 2 world 0 world 1 package 0 package 1 \n\
     type #11: borrow #0 at 380-418\n\
     type #12: option u32 at 380-418\n\
     type #13: list #12 at 380-418\n\
