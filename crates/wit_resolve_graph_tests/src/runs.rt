@@ -79,29 +79,21 @@ fn run_none(rt: &impl Abort, alloc: Global) -> String {
 fn run_some(rt: &impl Abort, alloc: Global) -> String {
     let mut resolve = resolve(rt, alloc);
     let before = shown(rt, alloc, resolve.graph());
-    let mut commands = Vec::new(alloc);
-    commands
-        .push(Command::AddFeature(text(rt, alloc, "g")))
-        .expect(rt, "memory");
-    commands
-        .push(Command::Importize {
+    let commands = [
+        Command::AddFeature(text(rt, alloc, "g")),
+        Command::Importize {
             package: package_name(rt, alloc, "bar", ""),
             world: text(rt, alloc, "w"),
             out: Some(text(rt, alloc, "v")),
-        })
-        .expect(rt, "memory");
-    commands
-        .push(Command::Semver {
+        },
+        Command::Semver {
             package: package_name(rt, alloc, "bar", "1.0.0"),
             world: text(rt, alloc, "w"),
-        })
-        .expect(rt, "memory");
-    commands
-        .push(Command::SetAllFeatures(true))
-        .expect(rt, "memory");
-    commands
-        .push(Command::SetTrackRule(TrackRule::Published))
-        .expect(rt, "memory");
+        },
+        Command::SetAllFeatures(true),
+        Command::SetTrackRule(TrackRule::Published),
+    ];
+    let commands = Vec::from_array(alloc, commands).expect(rt, "memory");
     let replies = run(alloc, &mut resolve, commands).expect(rt, "memory");
     outcome(rt, alloc, before.as_str(), &resolve, replies)
 }
