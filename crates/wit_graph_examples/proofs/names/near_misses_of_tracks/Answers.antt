@@ -20,6 +20,7 @@ returns c = record {
   other_numbers = λ same. let apart : 2 ≡ 3 = ap (λ (v : Parts). v.1) same in absurd (omega (arith, apart));
   other_build = refl;
   not_built = λ same. differ [] (codes "b") refl (ap (λ (v : Parts). v.4) same);
+  by_each_rule = (refl, refl);
   with_release = refl;
   not_alone = λ same. let apart : 0 ≡ 2 = ap (λ (v : Parts). v.1) same in absurd (omega (arith, apart));
   still_other_major = λ same. let apart : 1 ≡ 2 = ap (λ (v : Parts). v.0) same in absurd (omega (arith, apart));
