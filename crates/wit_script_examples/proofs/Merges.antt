@@ -14,11 +14,12 @@ use Rattle.wit_graph_data.specs.declared.features.Features.{Features}
 use Rattle.wit_graph_data.specs.declared.graph.Graph.{Graph}
 use Rattle.wit_graph_theory.specs.TestFacts.{feature_of}
 use Rattle.wit_remap.specs.declared.remap.Remap.{Remap}
+use Rattle.wit_merge.specs.Remapped.{remap_of}
 use Rattle.wit_merge_spec.specs.Cause.{CanMerge}
 use Rattle.wit_merge_spec.specs.Matches.{Merging}
 use Rattle.wit_merge_spec.specs.Moved.{going}
 use Rattle.wit_merge_spec.specs.United.{united}
-use Rattle.wit_resolve_graph.specs.Merging.{FilesPass, Merges, answered, merging}
+use Rattle.wit_resolve_graph.specs.Merging.{FilesPass, Merges, merging}
 use Rattle.wit_resolve_graph.specs.State.{State, new_state}
 use Rattle.wit_resolve_graph.specs.declared.command.Reply.TheVariants.{Merged}
 use Rattle.wit_script_examples.proofs.Mergeable.{gates_apart, gates_merge, packages_merge, told_gates}
@@ -50,7 +51,7 @@ abbrev of_states : Graph → Graph → Merging
 of_states g other = merging (first_of g) (second_of other)
 
 -- a merge is done where nothing speaks against it
-merges : (g other made : Graph) (remap : Remap) → CanMerge (of_states g other) → made ≡ united (of_states g other) → remap ≡ answered (going (of_states g other)) → MayMerge g other (Merged remap) (after made)
+merges : (g other made : Graph) (remap : Remap) → CanMerge (of_states g other) → made ≡ united (of_states g other) → remap ≡ remap_of (going (of_states g other)) → MayMerge g other (Merged remap) (after made)
 merges g other made remap accepted graph remap_is =
     (after made, record { fits = lit< tt; accepted = accepted; graph = graph; features = refl; rule = refl; files = refl; remap_is = remap_is }, refl)
 

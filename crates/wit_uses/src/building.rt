@@ -141,7 +141,9 @@ fn name_foreign(
     items.push(String::from_str(alloc, "i")?, named)?;
     let namespace = Text::try_from_str(alloc, "foo")?;
     let home = PackageName::new(namespace, Text::try_from_str(alloc, home)?, None);
-    made.foreign_deps.push(home, items)?;
+    let mut foreign_deps = Table::new(alloc);
+    foreign_deps.push(home, items)?;
+    made.foreign_deps = foreign_deps;
     made.foreign_dep_spans.push(span)?;
     made.unknown_type_spans.push(span)?;
     Ok(())

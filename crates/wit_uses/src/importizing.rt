@@ -3,14 +3,16 @@ use crate::building::{group, item, with_interface, world};
 use std::alloc::Global;
 use std::fmt::Write;
 use wit_resolve_graph::{
-    InterfaceId, Resolve, ResolveResult, Shape, UnresolvedPackageGroup, WorldKey,
+    InterfaceId, Resolve, ResolveResult, Shape, Table, UnresolvedPackageGroup, WorldKey,
 };
 
 /// The package `foo:api` with an interface `i` and a world `w` that exports it.
 fn exporting(alloc: Global) -> ResolveResult<UnresolvedPackageGroup> {
     let i = InterfaceId::from_index(0);
+    let mut exports = Table::new(alloc);
+    exports.push(WorldKey::Interface(i), item(i))?;
     let mut w = world(alloc, "w")?;
-    w.exports.push(WorldKey::Interface(i), item(i))?;
+    w.exports = exports;
     let mut package = with_interface(alloc, "api")?;
     package.worlds.push(w)?;
     Ok(group(alloc, package))
