@@ -20,7 +20,7 @@ from model.data import Interface, Type
 from model.elaboration import WATCHERS, Conflict, refuse_conflict
 from model.graph import sort
 from model.names import version_key
-from model.scripts import Session, commands_of
+from model.scripts import Session, commands_of, words_of
 
 # seconds after which the original is taken not to end
 PATIENCE = 60
@@ -44,9 +44,19 @@ def run(program, script):
 
 def run_original(program, script):
     """What the original writes for a script. It has one rule of tracks, and no line that sets one."""
-    script = re.sub(r"(?m)^( *)tracks ", r"\1# tracks ", script)
+    script = without_tracks(script)
     quick = run([program, "--explain", "--no-trial"], script)
     return run([program, "--explain"], script) if quick is None else quick
+
+
+def without_tracks(script):
+    """A script, in which lines that set a rule of tracks are comments, up to the first that isn't understood."""
+    if "tracks" not in script:
+        return script
+    lines, commands = script.split("\n"), commands_of(script)
+    end = commands - 1 if isinstance(commands, int) else len(lines)
+    is_rule = [words_of(line)[:1] == ["tracks"] for line in lines]
+    return "\n".join(f"# {line}" if is_rule[at] and at < end else line for at, line in enumerate(lines))
 
 
 def answers_of(printed):
@@ -67,8 +77,8 @@ def are_same(ours, theirs):
 class Difference:
     """A command that the two answer otherwise.
 
-    `may` has what the model says of it, `graph` is the model's before the command, `lists` has the listed imports and
-    exports of each world that the command elaborates.
+    `may` has what the model says of it, `texts` the same without numbers, `lists` the listed imports and exports of each
+    world that the command elaborates.
     """
 
     def __init__(self, commands, at, ours, theirs):
@@ -116,10 +126,9 @@ def note_in_words(found):
     """A stability as the program says it, of its debug form."""
     if found[1] is None:
         return f"unstable {found[2]}"
-    field = dict(re.findall(r'(\w+): (?:\w+\("(.*?)"\)|\d+)', found[1]))
-    major, minor, patch = re.findall(r": (\d+)", found[1])[:3]
-    before, build = field.get("pre"), field.get("build")
-    return f"stable {major}.{minor}.{patch}" + (f"-{before}" if before else "") + (f"+{build}" if build else "")
+    parts = dict(re.findall(r'(\w+): (?:\w+\(")?([^,"]*)', found[1]))
+    ends = "".join(f"{sign}{parts[it]}" for sign, it in (("-", "pre"), ("+", "build")) if it in parts)
+    return "stable {major}.{minor}.{patch}".format_map(parts) + ends
 
 
 def is_debug_form(it):
