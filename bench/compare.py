@@ -70,7 +70,8 @@ class Both:
         ours, theirs = original.run([self.program], script), original.run_original(self.other, script)
         if original.are_same(ours, theirs):
             return kind, EQUAL, None
-        rows = original.rows_of(script, ours, theirs) if model.is_right(script, ours or "", self.rules) else [None]
+        is_right = model.is_right(script, ours or "", self.rules)
+        rows = original.rows_of(script, ours, theirs, self.rules) if is_right else [None]
         if None not in rows:
             return kind, rows[0], None
         return kind, NO_ROW, f"{kind} {number} differs\n{script}--- prints\n{ours}--- the original prints\n{theirs}"

@@ -20,7 +20,7 @@ from model.data import Interface, Type
 from model.elaboration import WATCHERS, Conflict, refuse_conflict
 from model.graph import sort
 from model.names import version_key
-from model.scripts import Session, commands_of
+from model.scripts import Session, commands_of, words_of
 
 # seconds after which the original is taken not to end
 PATIENCE = 60
@@ -44,9 +44,19 @@ def run(program, script):
 
 def run_original(program, script):
     """What the original writes for a script. It has one rule of tracks, and no line that sets one."""
-    script = re.sub(r"(?m)^( *)tracks ", r"\1# tracks ", script)
+    script = without_tracks(script)
     quick = run([program, "--explain", "--no-trial"], script)
     return run([program, "--explain"], script) if quick is None else quick
+
+
+def without_tracks(script):
+    """A script, in which lines that set a rule of tracks are comments, up to the first that isn't understood."""
+    if "tracks" not in script:
+        return script
+    lines, commands = script.split("\n"), commands_of(script)
+    end = commands - 1 if isinstance(commands, int) else len(lines)
+    is_rule = [words_of(line)[:1] == ["tracks"] for line in lines]
+    return "\n".join(f"# {line}" if is_rule[at] and at < end else line for at, line in enumerate(lines))
 
 
 def answers_of(printed):
@@ -67,12 +77,13 @@ def are_same(ours, theirs):
 class Difference:
     """A command that the two answer otherwise.
 
-    `may` has what the model says of it, `graph` is the model's before the command, `lists` has the listed imports and
-    exports of each world that the command elaborates.
+    `may` has what the model says of it, `texts` the same without numbers, `lists` the listed imports and exports of each
+    world that the command elaborates.
     """
 
-    def __init__(self, commands, at, ours, theirs):
+    def __init__(self, commands, at, ours, theirs, rules):
         self.commands, self.at, self.ours, self.theirs = commands, at, plain(ours), plain(theirs)
+        self.rules = rules
         self.words, self.packages = commands[at]
         self.lists = []
         session = self.session()
@@ -83,9 +94,9 @@ class Difference:
             WATCHERS.clear()
         self.texts = {plain(it) for it in self.may}
 
-    def session(self, prepare=None, without=None):
+    def session(self, prepare=None, without=None, rules=None):
         """The session before the command, where the model leaves out commands of a word, or prepares each in some way."""
-        session = Session(model.Rules())
+        session = Session(rules or self.rules)
         for words, packages in self.commands[: self.at]:
             if words[0] != without:
                 if prepare:
@@ -116,10 +127,9 @@ def note_in_words(found):
     """A stability as the program says it, of its debug form."""
     if found[1] is None:
         return f"unstable {found[2]}"
-    field = dict(re.findall(r'(\w+): (?:\w+\("(.*?)"\)|\d+)', found[1]))
-    major, minor, patch = re.findall(r": (\d+)", found[1])[:3]
-    before, build = field.get("pre"), field.get("build")
-    return f"stable {major}.{minor}.{patch}" + (f"-{before}" if before else "") + (f"+{build}" if build else "")
+    parts = dict(re.findall(r'(\w+): (?:\w+\(")?([^,"]*)', found[1]))
+    ends = "".join(f"{sign}{parts[it]}" for sign, it in (("-", "pre"), ("+", "build")) if it in parts)
+    return "stable {major}.{minor}.{patch}".format_map(parts) + ends
 
 
 def is_debug_form(it):
@@ -213,7 +223,7 @@ def is_before_include(it):
             is_changed |= len(kept) < len(world.includes)
             world.includes = kept
         graph.packages.append(added.made)
-    without = Difference(commands, it.at, it.ours, it.theirs)
+    without = Difference(commands, it.at, it.ours, it.theirs, it.rules)
     return is_changed and any(tells(without) for tells in (is_other_reason, is_debug_form, is_labelled_export, is_other_export))
 
 
@@ -279,6 +289,12 @@ def is_on(graph, note):
     return note[0] != "unstable" or graph.all_features or note[1] in graph.features
 
 
+def is_structure(it):
+    """Whether the model says what the original does where merges don't compare the structures of types."""
+    texts = it.session(rules=model.Rules(by_structure=False)).answer(it.words, it.packages)
+    return it.is_of("merge") and it.theirs in {plain(text) for text in texts}
+
+
 def is_other_rule(it):
     """Whether the model says what the original does where no line sets a rule of tracks."""
     return it.theirs in {plain(text) for text in it.session(without="tracks").answer(it.words, it.packages)}
@@ -299,11 +315,12 @@ ROWS = {
     "a cycle of a merge": is_cycle_of_merge,
     "a later type in a merge": is_later_type,
     "a function that a merge leaves out": is_dropped_function,
+    "the structure of types in a merge": is_structure,
     "the second rule of tracks": is_other_rule,
 }
 
 
-def rows_of(script, ours, theirs):
+def rows_of(script, ours, theirs, rules=model.Rules()):
     """The rows of the differences between what the two print for a script; None of one that is of no row.
 
     Commands are compared as long as both graphs are the same: up to the first that one of the two carries out otherwise.
@@ -311,7 +328,7 @@ def rows_of(script, ours, theirs):
     commands = commands_of(script)
     if None in (ours, theirs) or isinstance(commands, int):
         return [None]
-    session, answers = Session(model.Rules()), list(zip(answers_of(ours), answers_of(theirs)))
+    session, answers = Session(rules), list(zip(answers_of(ours), answers_of(theirs)))
     found = []
     for at, command in enumerate(commands):
         if session.answer(*command) is None:
@@ -320,7 +337,7 @@ def rows_of(script, ours, theirs):
             return [*found, None]
         one, other = answers.pop(0)
         if plain(one) != plain(other):
-            difference = Difference(commands, at, one, other)
+            difference = Difference(commands, at, one, other, rules)
             found.append(next((name for name, is_row in ROWS.items() if is_row(difference)), None))
             if found[-1] is None or not difference.are_both_refused():
                 return found
