@@ -1,30 +1,41 @@
 //! The lines of a script, and the tokens of a line.
-ghost use Rattle.std.specs.Prelude.{◌≡◌, ◌≤◌, ◌==◌, map, length, IfOk};
+ghost use Rattle.std.specs.Prelude.{◌≡◌, ◌≤◌, ◌<◌, ◌==◌, map, length, IfOk};
 ghost use Rattle.std.specs.List.{slice_split};
 ghost use Rattle.wit_script_lines.specs.Line.{tokens_of, lines_of, ink_start_of, ink_end_of, trimmed_len_of, is_comment};
 
 use std::alloc::{AllocError, Global};
+
+/// The parts of a text between occurrences of an ASCII character. The only error is want of memory.
+///
+/// (A `collect` asks for room for some of the parts at once, and goes on without it where that is refused.)
+pub(crate) fn parts_between<'a>(
+    alloc: Global,
+    text: &'a str,
+    mark: char,
+) -> Result<Vec<&'a str>, AllocError>
+    requires { mark < 128 }
+    ensures { IfOk result (λ v. map (λ x. x.now) v.items ≡ slice_split (λ b. b == mark) text.now) }
+{
+    let mut parts = Vec::new(alloc);
+    for part in text.split(mark) {
+        parts.push(part)?;
+    }
+    Ok(parts)
+}
 
 /// The lines of a text: its parts between newlines, so that a text which ends with a newline has an
 /// empty last line. The only error is want of memory.
 pub fn lines<'a>(alloc: Global, text: &'a str) -> Result<Vec<&'a str>, AllocError>
     ensures { IfOk result (λ v. map (λ x. x.now) v.items ≡ lines_of text.now) }
 {
-    text.split('\n').collect(alloc)
-}
-
-/// The parts of a line between spaces.
-fn spaced<'a>(alloc: Global, line: &'a str) -> Result<Vec<&'a str>, AllocError>
-    ensures { IfOk result (λ v. map (λ x. x.now) v.items ≡ slice_split (λ b. b == 32) line.now) }
-{
-    line.split(' ').collect(alloc)
+    parts_between(alloc, text, '\n')
 }
 
 /// The tokens of a line: its parts between spaces that are not empty. The only error is want of memory.
 pub fn tokens<'a>(alloc: Global, line: &'a str) -> Result<Vec<&'a str>, AllocError>
     ensures { IfOk result (λ v. map (λ x. x.now) v.items ≡ tokens_of line.now) }
 {
-    let parts = spaced(alloc, line)?;
+    let parts = parts_between(alloc, line, ' ')?;
     let mut found = Vec::new(alloc);
     for part in &parts {
         if !part.is_empty() {

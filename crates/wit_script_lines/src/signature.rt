@@ -1,13 +1,13 @@
 //! Names with types, and functions, as lines write them.
-ghost use Rattle.std.specs.Prelude.{◌≡◌, ◌==◌, map, IfOk};
-ghost use Rattle.std.specs.List.{slice_split};
+ghost use Rattle.std.specs.Prelude.{◌≡◌, map, IfOk};
 ghost use Rattle.wit_script_lines.specs.IsRead.{IsRead};
 ghost use Rattle.wit_script_lines.specs.Signature.{answer_of, each_of, params_of, signature_of, signature_with, typed_name_of};
 
 use crate::fault::LineFault;
+use crate::line::parts_between;
 use crate::token::{after_prefix, read_part};
 use crate::type_text::{TypeText, read_type_text};
-use std::alloc::{AllocError, Global};
+use std::alloc::Global;
 use wit_data::{Items, Text};
 
 /// A name and a type, as `NAME:TYPE` writes them.
@@ -75,15 +75,8 @@ fn read_params(alloc: Global, text: &str) -> Result<Items<TypedName>, LineFault>
     if text.is_empty() {
         return Ok(Items::new(alloc));
     }
-    let params = parted(alloc, text)?;
+    let params = parts_between(alloc, text, ',')?;
     read_typed_names(alloc, &params)
-}
-
-/// The parts of a text between commas.
-fn parted<'a>(alloc: Global, text: &'a str) -> Result<Vec<&'a str>, AllocError>
-    ensures { IfOk result (λ v. map (λ x. x.now) v.items ≡ slice_split (λ b. b == 44) text.now) }
-{
-    text.split(',').collect(alloc)
 }
 
 /// What follows the closing bracket: nothing, or `->TYPE`.
