@@ -1,11 +1,10 @@
 -- Items that leave their slots in an order.
-use Rattle.std.proofs.Common.{◌≡◌, ◌∙◌, ◌<◌, ◌≤◌, ◌+◌, ℕ, zero, suc, false, List, [], ◌∷◌, ◌++◌, length, take, refl, ap, sym, subst, inl, inr, arith, Option, Some, None, map, slice_get, slice_set, get_or, Contains, All, nat_eq}
-use Rattle.std.proofs.lemmas.Bool.{eqb-false}
+use Rattle.std.proofs.Common.{◌≡◌, ◌∙◌, ◌<◌, ◌≤◌, ◌+◌, ℕ, zero, suc, List, [], ◌∷◌, ◌++◌, length, take, refl, ap, sym, subst, arith, Option, Some, None, map, slice_get, slice_set, get_or, Contains, All, nat_eq}
 use Rattle.std.proofs.lemmas.List.{length-map, length-set, take_all}
 use Rattle.std.proofs.lemmas.List.Elements.{Contains-append_left, Contains-push}
 use Rattle.std.specs.List.{AllZip, IsDistinct}
-use Rattle.wit_values.specs.Lists.{AllByRecursion-at, take-next_at}
-use Rattle.wit_digraph.specs.MemberFacts.{Contains-cons_cases, Contains-nil}
+use Rattle.wit_values.specs.Lists.{take-next_at}
+use Rattle.wit_digraph.specs.MemberFacts.{not_before}
 
 module _ {X : Type 0} where
   -- what stands at a place that is there
@@ -39,17 +38,6 @@ module _ {X Y : Type 0} (R : X → Y → Type 0) where
   zip-push (z ∷ zs) [] x y all here = absurd all
   zip-push (w ∷ ws) (z ∷ zs) x y all here = (all.0, zip-push ws zs x y all.1 here)
 
--- a member isn't among those before it
-not_before : (xs : List ℕ) (i x : ℕ) → IsDistinct nat_eq xs → slice_get xs i ≡ Some x → Contains (take i xs) x → ⊥
-unfolding IsDistinct
-not_before [] i x distinct at has = cc
-not_before (y ∷ ys) zero x distinct at has = Contains-nil has
-not_before (y ∷ ys) (suc i) x distinct at has =
-    elim (Contains-cons_cases y x (take i ys) has) [
-      | inl same ↦ eqb-false y x (AllByRecursion-at (λ z. nat_eq y z ≡ false) ys i x distinct.0 at) same
-      | inr there ↦ not_before ys i x distinct.1 at there
-    ]
-
 -- the first n places of the order have given their items, and the other items are in their slots
 pub record IsArranging {X : Type 0} (items : List X) (order : List ℕ) (n : ℕ) (slots : List (Option X)) (arranged : List X) : Type 0 where
   pub long : length slots ≡ length items
@@ -69,7 +57,7 @@ module _ {X : Type 0} (items : List X) (order : List ℕ) where
       → n < length order → slice_get slots (get_or order n 0) ≡ Some r → (x : X) × (r ≡ Some x) × (slice_get items (get_or order n 0) ≡ Some x)
   arranging-slot n slots arranged r is distinct inside within slot =
       let item = some_at items (get_or order n 0) (inside n 0 within) in
-      let full = is.full (get_or order n 0) item.0 item.1 (not_before order n (get_or order n 0) distinct (at_get order n 0 within)) in
+      let full = is.full (get_or order n 0) item.0 item.1 (not_before order n distinct within) in
       let same : Some r ≡ Some (Some item.0) = sym slot ∙ full in
       (item.0, cc, item.1)
 

@@ -1,71 +1,87 @@
 -- What marks tell of the nodes that are listed.
-use Rattle.std.proofs.Common.{◌≡◌, ◌↔◌, ℕ, ◌<◌, Bool, true, false, Some, List, [], ◌∷◌, ◌++◌, inl, inr, length, get_or, set, drop, ◌+◌, sym, subst, ◌∙◌, nat_eq, arith, IsTrue, slice_get, All, Contains}
-use Rattle.std.specs.List.{list_any}
-use Rattle.std.proofs.lemmas.Bool.{cases_eq, cases_Bool, false≢true}
-use Rattle.std.proofs.Math.Seq.{get_or-append_seam}
-use Rattle.std.proofs.lemmas.List.{get_or-set_same, get_or-set_other, get_or_append_left, length-set, length_push, drop_more}
-use Rattle.std.proofs.lemmas.List.Elements.{All-contains, All-head, All-tail, All-weaker}
+use Rattle.std.proofs.Common.{◌≡◌, ◌≢◌, ℕ, ◌<◌, ◌≤◌, ◌*◌, ◌/◌, Some, List, [], ◌∷◌, ◌++◌, inl, inr, length, set, drop, ◌+◌, sym, subst, ap, ◌∙◌, arith, slice_get, All, Contains}
+use Rattle.std.proofs.lemmas.Bool.{cases_eq}
+use Rattle.std.proofs.lemmas.List.{length-set, length_push, drop_more}
+use Rattle.std.proofs.lemmas.List.Elements.{All-head, All-tail, All-push, All-weaker, Contains-push, Contains-append_cases, Contains-append_left}
 use Rattle.std.proofs.lemmas.Option.{get_or_from_slice_get, slice_get_cases}
+use Rattle.wit_digraph.specs.BitFacts.{bit_of-taken_same, bit_of-taken_other, bit_of-longer}
 use Rattle.wit_digraph.specs.MemberFacts.{Contains-nil, Contains-cons_cases}
-use Rattle.wit_digraph.specs.FreshFacts.{any_from_contains, contains_from_any, no_any_from}
+use Rattle.wit_digraph.specs.Rows.{HasBit, bit_of}
 use Rattle.wit_digraph.specs.Walks.{MarksTell}
 
--- a mark tells whether its node is listed
-pub mark_tells : (marks : List Bool) (order : List ℕ) (i : ℕ) (mark : Bool) → MarksTell marks order → i < length marks → slice_get marks i ≡ Some mark → IsTrue mark ↔ Contains order i
-mark_tells marks order i mark tell below is =
-    let same : mark ≡ list_any (nat_eq i) order = sym (get_or_from_slice_get marks i mark false is) ∙ tell.each i below in
-    (λ on. contains_from_any i order (sym same ∙ on), λ has. same ∙ any_from_contains i order has)
+-- without bits none is listed
+pub MarksTell-none : (nodes : ℕ) (marks : List ℕ) → nodes ≤ 64 * length marks → ((i : ℕ) → bit_of marks i ≡ 0) → MarksTell nodes marks []
+MarksTell-none nodes marks enough off = record {
+  enough = enough;
+  each = λ i. (λ on. absurd (omega (arith, on, off i)), λ has. absurd (Contains-nil has));
+  in_range = λ k d below. absurd (omega (arith, below));
+}
 
--- each mark that is set is of a node in the list
-pub record MarksAreOf (marks : List Bool) (order : List ℕ) : Type 0 where
-  pub marked : (i : ℕ) → i < length marks → get_or marks i false ≡ true → Contains order i
-  pub in_range : All (λ i. i < length marks) order
+-- one more is listed
+pub MarksTell-listed : (nodes : ℕ) (marks new order : List ℕ) (node : ℕ) → MarksTell nodes marks order → node < nodes → length new ≡ length marks → HasBit new node → ((k : ℕ) → k ≢ node → bit_of new k ≡ bit_of marks k) → MarksTell nodes new (order ++ node ∷ [])
+MarksTell-listed nodes marks new order node tell below long set others = record {
+  enough = omega (arith, tell.enough, long);
+  each = λ i. (
+    λ on. elim (cases_eq i node) [
+      | inl same ↦ subst (λ k. Contains (order ++ node ∷ []) k) (sym same) (Contains-push order node)
+      | inr apart ↦ Contains-append_left order (node ∷ []) i ((tell.each i).0 (sym (others i apart) ∙ on))
+    ],
+    λ has. elim (cases_eq i node) [
+      | inl same ↦ subst (HasBit new) (sym same) set
+      | inr apart ↦ elim (Contains-append_cases order (node ∷ []) i has) [
+        | inl old ↦ others i apart ∙ (tell.each i).1 old
+        | inr last ↦ elim (Contains-cons_cases node i [] last) [ inl same ↦ absurd (apart (sym same)) | inr none ↦ absurd (Contains-nil none) ]
+      ]
+    ],
+  );
+  in_range = All-push (λ k. k < nodes) order node tell.in_range below;
+}
 
-pub MarksAreOf-from_tell : (marks : List Bool) (order : List ℕ) → MarksTell marks order → MarksAreOf marks order
-MarksAreOf-from_tell marks order tell = record {
-  marked = λ i below on. contains_from_any i order (sym (tell.each i below) ∙ on);
+-- one node more
+pub MarksTell-more : (nodes : ℕ) (marks order : List ℕ) → MarksTell nodes marks order → nodes + 1 ≤ 64 * length marks → MarksTell (nodes + 1) marks order
+MarksTell-more nodes marks order tell enough = record {
+  enough = enough;
+  each = tell.each;
+  in_range = All-weaker (λ k. k < nodes) (λ k. k < nodes + 1) (λ k below. omega (arith, below)) order tell.in_range;
+}
+
+-- one word more
+pub MarksTell-longer : (nodes : ℕ) (marks order : List ℕ) → MarksTell nodes marks order → MarksTell nodes (marks ++ 0 ∷ []) order
+MarksTell-longer nodes marks order tell = record {
+  enough = omega (arith, tell.enough, length_push marks 0);
+  each = λ i. (λ on. (tell.each i).0 (sym (bit_of-longer marks i) ∙ on), λ has. bit_of-longer marks i ∙ (tell.each i).1 has);
   in_range = tell.in_range;
 }
 
-pub first_below : (marks : List Bool) (i : ℕ) (rest : List ℕ) → MarksAreOf marks (i ∷ rest) → i < length marks
-first_below marks i rest are = All-head (λ k. k < length marks) i rest are.in_range
+-- each bit that is set is of a node in the list
+pub record MarksAreOf (nodes : ℕ) (marks order : List ℕ) : Type 0 where
+  pub enough : nodes ≤ 64 * length marks
+  pub marked : (i : ℕ) → HasBit marks i → Contains order i
+  pub in_range : All (λ i. i < nodes) order
 
--- so it stays where the first node is left out and its mark taken off
-pub MarksAreOf-unset : (marks : List Bool) (i : ℕ) (rest : List ℕ) → MarksAreOf marks (i ∷ rest) → MarksAreOf (set marks i false) rest
-MarksAreOf-unset marks i rest are = record {
-  marked = λ k below on. elim (cases_eq k i) [
-    | inl same ↦
-        let off : get_or (set marks i false) i false ≡ false = get_or-set_same marks i false false (first_below marks i rest are) in
-        absurd (false≢true (sym off ∙ subst (λ j. get_or (set marks i false) j false ≡ true) same on))
-    | inr apart ↦
-        let old : get_or marks k false ≡ true = sym (get_or-set_other marks i k false false apart) ∙ on in
-        let inside : k < length marks = omega (arith, length-set marks i false) in
-        elim (Contains-cons_cases i k rest (are.marked k inside old)) [ inl same ↦ absurd (apart (sym same)) | inr there ↦ there ]
+pub MarksAreOf-from_tell : (nodes : ℕ) (marks order : List ℕ) → MarksTell nodes marks order → MarksAreOf nodes marks order
+MarksAreOf-from_tell nodes marks order tell = record { enough = tell.enough; marked = λ i on. (tell.each i).0 on; in_range = tell.in_range }
+
+pub first_below : (nodes : ℕ) (marks : List ℕ) (i : ℕ) (rest : List ℕ) → MarksAreOf nodes marks (i ∷ rest) → i / 64 < length marks
+first_below nodes marks i rest are = omega (arith, All-head (λ k. k < nodes) i rest are.in_range, are.enough)
+
+-- so it stays where the first node is left out and its word taken off
+pub MarksAreOf-unset : (nodes : ℕ) (marks : List ℕ) (i : ℕ) (rest : List ℕ) → MarksAreOf nodes marks (i ∷ rest) → MarksAreOf nodes (set marks (i / 64) 0) rest
+MarksAreOf-unset nodes marks i rest are = record {
+  enough = omega (arith, are.enough, length-set marks (i / 64) 0);
+  marked = λ k on. elim (cases_eq (k / 64) (i / 64)) [
+    | inl same ↦ absurd (omega (arith, on, bit_of-taken_same marks i k (first_below nodes marks i rest are) same))
+    | inr apart ↦ elim (Contains-cons_cases i k rest (are.marked k (sym (bit_of-taken_other marks i k apart) ∙ on))) [ inl same ↦ absurd (apart (ap (λ j. j / 64) (sym same))) | inr there ↦ there ]
   ];
-  in_range = rw (length-set marks i false) (All-tail (λ k. k < length marks) i rest are.in_range);
+  in_range = All-tail (λ k. k < nodes) i rest are.in_range;
 }
 
-pub MarksTell-from_none : (marks : List Bool) → MarksAreOf marks [] → MarksTell marks []
-MarksTell-from_none marks are = record {
-  each = λ i below. elim (cases_Bool (get_or marks i false)) [ inl on ↦ absurd (Contains-nil (are.marked i below on)) | inr off ↦ off ];
-  in_range = are.in_range;
+pub MarksTell-from_none : (nodes kept : ℕ) (marks : List ℕ) → kept ≤ nodes → MarksAreOf nodes marks [] → MarksTell kept marks []
+MarksTell-from_none nodes kept marks few are = record {
+  enough = omega (arith, are.enough, few);
+  each = λ i. (λ on. are.marked i on, λ has. absurd (Contains-nil has));
+  in_range = λ k d below. absurd (omega (arith, below));
 }
-
--- one node more, whose mark is off
-pub MarksTell-more : (marks : List Bool) (order : List ℕ) → MarksTell marks order → MarksTell (marks ++ false ∷ []) order
-MarksTell-more marks order tell =
-    let long : length (marks ++ false ∷ []) ≡ length marks + 1 = length_push marks false in
-    record {
-      each = λ i below. elim (cases_eq i (length marks)) [
-        | inl last ↦
-            let off : get_or (marks ++ false ∷ []) i false ≡ false = subst (λ (k : ℕ). get_or (marks ++ false ∷ []) k false ≡ false) (sym last) (get_or-append_seam marks false [] false) in
-            off ∙ sym (no_any_from i order (λ (has : Contains order i). let within : i < length marks = All-contains (λ k. k < length marks) order i tell.in_range has in omega (arith, last, within)))
-        | inr apart ↦
-            let inside : i < length marks = omega arith in
-            get_or_append_left marks (false ∷ []) false i inside ∙ tell.each i inside
-      ];
-      in_range = All-weaker (λ k. k < length marks) (λ k. k < length (marks ++ false ∷ [])) (λ k below. omega (arith, long, below)) order tell.in_range;
-    }
 
 -- the list from an index on begins with the node that is read there
 pub listed_from : (order : List ℕ) (at node : ℕ) → slice_get order at ≡ Some node → drop at order ≡ node ∷ drop (at + 1) order

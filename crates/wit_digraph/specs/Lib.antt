@@ -1,4 +1,5 @@
 pub mod AmongFacts
+pub mod BitFacts
 pub mod Cycles
 pub mod EarlierFacts
 pub mod Examples
@@ -6,5 +7,6 @@ pub mod FreshFacts
 pub mod Laws
 pub mod MemberFacts
 pub mod Relation
+pub mod Rows
 pub mod WalkFacts
 pub mod Walks

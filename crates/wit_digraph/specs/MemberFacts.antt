@@ -1,8 +1,9 @@
 -- Facts on members of lists, by the first element and of lists joined end to end, for the proofs of this
 -- crate and of the crates above. They say nothing about this crate's code.
-use Rattle.std.proofs.Common.{◌≡◌, zero, suc, List, [], ◌∷◌, ◌⊎◌, inl, inr, refl, sym, subst, arith, Contains}
-use Rattle.std.specs.List.{flat_map}
-use Rattle.std.proofs.lemmas.List.Elements.{Contains-append_cases, Contains-append_left, Contains-append_right}
+use Rattle.std.proofs.Common.{◌≡◌, ◌<◌, ℕ, zero, suc, false, List, [], ◌∷◌, ◌⊎◌, inl, inr, get_or, length, take, refl, sym, subst, arith, nat_eq, Contains}
+use Rattle.std.specs.List.{IsDistinct, flat_map}
+use Rattle.std.proofs.lemmas.Bool.{eqb-false}
+use Rattle.std.proofs.lemmas.List.Elements.{All-from_recursion, Contains-append_cases, Contains-append_left, Contains-append_right}
 
 pub Contains-nil : {X : Type 0} {x : X} → Contains [] x → ⊥
 Contains-nil h = omega (arith, h.1)
@@ -38,4 +39,15 @@ Contains-flat_map_cases f (z ∷ xs) y has =
     elim (Contains-append_cases (f z) (flat_map f xs) y has) [
       | inl here ↦ (z, (Contains-here z xs, here))
       | inr there ↦ let more = Contains-flat_map_cases f xs y there in (more.0, (Contains-there z more.0 xs more.1.0, more.1.1))
+    ]
+
+-- a member of a list in which each stands once isn't among those before it
+pub not_before : (xs : List ℕ) (i : ℕ) → IsDistinct nat_eq xs → i < length xs → Contains (take i xs) (get_or xs i 0) → ⊥
+unfolding IsDistinct
+not_before [] i distinct below has = absurd (omega (arith, below))
+not_before (y ∷ ys) zero distinct below has = Contains-nil has
+not_before (y ∷ ys) (suc i) distinct below has =
+    elim (Contains-cons_cases y (get_or ys i 0) (take i ys) has) [
+      | inl same ↦ eqb-false y (get_or ys i 0) (All-from_recursion (λ z. nat_eq y z ≡ false) ys distinct.0 i 0 (omega (arith, below))) same
+      | inr there ↦ not_before ys i distinct.1 (omega (arith, below)) there
     ]

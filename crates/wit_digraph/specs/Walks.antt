@@ -1,7 +1,8 @@
 -- The walk of a node: the walks of its direct uses, in order, then the node; and the first of each member.
-use Rattle.std.specs.Prelude.{◌≡◌, ℕ, ◌<◌, zero, suc, Bool, false, List, [], ◌∷◌, ◌++◌, length, Contains, All, nat_eq, slice_index_or, if◌then◌else◌}
+use Rattle.std.specs.Prelude.{◌↔◌, ℕ, ◌<◌, ◌≤◌, ◌*◌, zero, suc, List, [], ◌∷◌, ◌++◌, length, Contains, All, nat_eq, if◌then◌else◌}
 use Rattle.std.specs.List.{flat_map, list_any}
 use Rattle.wit_digraph.specs.Relation.{direct}
+use Rattle.wit_digraph.specs.Rows.{HasBit}
 
 -- the walks of i's direct uses in order, then i, along paths of at most `members` members
 unfoldable pub walk_within : List (List ℕ) → ℕ → ℕ → List ℕ
@@ -32,7 +33,8 @@ pub record Listed : Type 0 where
   pub nodes : ℕ
   pub order : List ℕ
 
--- the marks tell which nodes are listed, and no other is
-pub record MarksTell (marks : List Bool) (order : List ℕ) : Type 0 where
-  pub each : (i : ℕ) → i < length marks → slice_index_or marks i false ≡ list_any (nat_eq i) order
-  pub in_range : All (λ i. i < length marks) order
+-- the bits of the marks tell which nodes are listed, and no other is
+pub record MarksTell (nodes : ℕ) (marks order : List ℕ) : Type 0 where
+  pub enough : nodes ≤ 64 * length marks
+  pub each : (i : ℕ) → HasBit marks i ↔ Contains order i
+  pub in_range : All (λ i. i < nodes) order

@@ -1,4 +1,4 @@
-//! Rows of uses: row i lists the direct uses of node i, in order, with repeats.
+//! Adjacency lists: list i has the direct uses of node i, in order, with repeats.
 //!
 //! Nodes are numbered things that use one another, as interfaces, types or packages do.
 ghost use Rattle.std.specs.Prelude.{◌≡◌, ◌<◌, ◌↔◌, All, IsTrue, length};

@@ -9,26 +9,28 @@ ghost use Rattle.wit_digraph.specs.Walks.{UsesFirst, first_of_each, fresh, walk}
 
 use crate::frame::Frame;
 use crate::relation::direct_uses;
+use crate::row::{has_bit, set_bit};
 use std::alloc::{AllocError, Global};
 use std::marker::Model;
 use wit_values::Items;
 
-/// Some of a number of nodes, in the order in which they were listed. Nodes count from 0.
+/// Some of a number of nodes, in the order in which they were listed. Nodes count from 0. A row of
+/// bits, one for each node, tells which are listed.
 #[derive(Drop)]
 pub struct Listing {
-    marks: Items<bool>,
+    nodes: usize,
+    marks: Vec<u64>,
     order: Items<usize>,
 }
 
 impl Model for Listing {
-    ghost use Rattle.std.specs.Prelude.{length};
     ghost use Rattle.wit_digraph.specs.Walks.{Listed, MarksTell};
 
     ghost Value = { Listed };
 
-    ghost view = { λ a. record { nodes = length a.marks; order = a.order } };
+    ghost view = { λ a. record { nodes = a.nodes; order = a.order } };
 
-    ghost invariant = { λ a. MarksTell a.marks a.order };
+    ghost invariant = { λ a. MarksTell a.nodes a.marks.items a.order };
 }
 
 impl Listing {
@@ -37,18 +39,20 @@ impl Listing {
         ensures { result ≡ record { nodes = 0; order = [] } }
     {
         Listing {
-            marks: Items::new(alloc),
+            nodes: 0,
+            marks: Vec::new(alloc),
             order: Items::new(alloc),
         }
     }
 
-    /// None of `nodes` nodes. It takes a mark for each. The only error is want of memory.
+    /// None of `nodes` nodes. It takes a bit for each. The only error is want of memory.
     pub fn new(alloc: Global, nodes: usize) -> Result<Listing, AllocError>
         ensures { IfOk result (λ l. l ≡ record { nodes = nodes; order = [] }) }
     {
-        let marks = vec![in alloc; false; nodes]?;
+        let marks = vec![in alloc; 0u64; nodes / 64 + 1]?;
         Ok(Listing {
-            marks: Items::from_vec(marks),
+            nodes,
+            marks,
             order: Items::new(alloc),
         })
     }
@@ -56,7 +60,7 @@ impl Listing {
     /// All nodes, each after all that it uses. Each use is of a node that is there, and no path
     /// leads from a node back to it. The only error is want of memory.
     ///
-    /// It takes a mark and a step for each node, and a step for each of their uses.
+    /// It takes a bit and a step for each node, and a step for each of their uses.
     pub fn of_all(alloc: Global, uses: &[Items<usize>]) -> Result<Listing, AllocError>
         requires { IsAcyclic uses.now }
         ensures nodes { IfOk result (λ l. l.nodes ≡ length uses.now) }
@@ -90,7 +94,7 @@ impl Listing {
         requires { node < self.now.nodes }
         ensures { IsTrue result ↔ Contains self.now.order node }
     {
-        *self.marks.at(node)
+        has_bit(&self.marks, node)
     }
 
     /// Lists one more of the nodes that there are, which isn't listed yet. Where there is no memory
@@ -102,7 +106,7 @@ impl Listing {
         ensures err { OnErr result (self.new ≡ self.old) }
     {
         self.order.push(node)?;
-        self.marks.set(node, true);
+        set_bit(&mut self.marks, node);
         Ok(())
     }
 
@@ -111,24 +115,32 @@ impl Listing {
         ensures ok { OnOk result (self.new ≡ record self.old { nodes = self.old.nodes + 1 }) }
         ensures err { OnErr result (self.new ≡ self.old) }
     {
-        self.marks.push(false)
+        let Some(nodes) = self.nodes.checked_add(1) else {
+            return Err(AllocError);
+        };
+        if self.nodes / 64 == self.marks.len() {
+            self.marks.push(0)?;
+        }
+        self.nodes = nodes;
+        Ok(())
     }
 
     /// How many nodes there are, listed or not.
     pub fn nodes(&self) -> usize
         ensures { result ≡ self.now.nodes }
     {
-        self.marks.len()
+        self.nodes
     }
 
     /// None of the first `nodes` nodes, of which there are at least as many now; the others are no
-    /// nodes any more. It takes no memory, and a step for each node that was listed or goes.
+    /// nodes any more. It takes no memory and gives none back, at a step for each node that was
+    /// listed.
     pub fn cut(&mut self, nodes: usize)
         requires { nodes ≤ self.old.nodes }
         ensures { self.new ≡ record { nodes = nodes; order = [] } }
     {
         self.clear();
-        self.marks.truncate(nodes);
+        self.nodes = nodes;
     }
 
     /// Takes all nodes off the list, at a step for each that is listed.
@@ -137,13 +149,13 @@ impl Listing {
     {
         for index in 0..self.order.len() {
             let node = *self.order.at(index);
-            self.marks.set(node, false);
+            self.marks[node / 64] = 0;
         }
         self.order.truncate(0);
     }
 
     /// Lists the members of the walk of `root` that are not listed yet, in the walk's order. The
-    /// listing is of as many nodes as there are rows, `root` and each use are among them, no path
+    /// listing is of as many nodes as the relation has, `root` and each use are among them, no path
     /// leads from a node back to it, and each node that is listed already stands after all that it
     /// uses.
     ///
@@ -175,9 +187,9 @@ impl Listing {
             },
         ]?;
         while let Some(frame) = stack.pop() {
-            let row = direct_uses(uses, frame.node);
-            if frame.next < row.len() {
-                let used = row[frame.next];
+            let used_nodes = direct_uses(uses, frame.node);
+            if frame.next < used_nodes.len() {
+                let used = used_nodes[frame.next];
                 stack.push(Frame {
                     node: frame.node,
                     next: frame.next + 1,
@@ -200,7 +212,7 @@ impl Listing {
 /// is there, as each root is, and no path leads from a node back to it. The only error is want of
 /// memory.
 ///
-/// It takes a mark for each node, and a step for each root, for each node that a root reaches and
+/// It takes a bit for each node, and a step for each root, for each node that a root reaches and
 /// for each of their uses.
 pub fn walk_order(
     alloc: Global,

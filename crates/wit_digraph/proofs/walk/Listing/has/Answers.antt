@@ -1,10 +1,14 @@
-use Rattle.std.proofs.Common.{◌≡◌, length, ap, arith}
+use Rattle.std.proofs.Common.{◌≡◌, List, ℕ, ap, subst}
+use Rattle.std.specs.Prelude.{Contains}
+use Rattle.wit_digraph.specs.Rows.{HasBit}
 use Rattle.wit_digraph.specs.Walks.{Listed}
-use Rattle.wit_digraph.proofs.Marks.{mark_tells}
 use Rattle.wit_digraph.proofs.walk.Listing.has.Goals as goal
 
 pub returns : goal.returns
 returns c =
-    let nodes : length c.self.inside.marks ≡ c.args.self.now.nodes = ap (λ (a : Listed). a.nodes) c.self.view_is in
     let order : c.self.inside.order ≡ c.args.self.now.order = ap (λ (a : Listed). a.order) c.self.view_is in
-    rw order at (mark_tells _ _ _ _ c.self.invariant (omega arith) c.at.ensures)
+    let bits : c.deref.result.now ≡ c.self.inside.marks.items = c.deref.ensures.value in
+    let tell = c.self.invariant.each c.args.node in (
+      λ on. subst (λ (xs : List ℕ). Contains xs c.args.node) order (tell.0 (subst (λ (row : List ℕ). HasBit row c.args.node) bits (c.has_bit.ensures.0 on))),
+      λ has. c.has_bit.ensures.1 (rw bits (tell.1 (rw order has))),
+    )

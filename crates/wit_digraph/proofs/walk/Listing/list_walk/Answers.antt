@@ -18,14 +18,14 @@ loop-frame-init c = record {
 
 pub loop-frame-smaller-in-Continue-branch-3 : goal.loop-frame-smaller-in-Continue-branch-3
 loop-frame-smaller-in-Continue-branch-3 c =
-    let row = c.direct_uses-row.ensures in
+    let row = c.direct_uses-used_nodes.ensures in
     let more : c.in-Some.frame.next < length (direct c.args.uses.now c.in-Some.frame.node) = omega (arith, ap length row) in
     rw (c.in_ok-push-2.ensures.items, c.in_ok-push.ensures.items, c.in-Some.ensures.items)
     (turns_enter c.args.uses.now c.requires.acyclic _ c.in-Some.frame.node c.in-Some.frame.next _ more (ap (λ (xs : List ℕ). get_or xs c.in-Some.frame.next 0) row))
 
 pub loop-frame-preserved-in-Continue-branch-3 : goal.loop-frame-preserved-in-Continue-branch-3
 loop-frame-preserved-in-Continue-branch-3 c =
-    let row = c.direct_uses-row.ensures in
+    let row = c.direct_uses-used_nodes.ensures in
     let more : c.in-Some.frame.next < length (direct c.args.uses.now c.in-Some.frame.node) = omega (arith, ap length row) in
     let is = rw c.in-Some.ensures.items at c.loop-frame.invariant.walking in
     record {
@@ -39,17 +39,17 @@ returns-in_err-push-2-clause-uses_first c = IsWalking-uses_first _ _ _ _ c.loop-
 
 pub loop-frame-smaller-else-not-has : goal.loop-frame-smaller-else-not-has
 loop-frame-smaller-else-not-has c =
-    let row = c.direct_uses-row.ensures in
+    let row = c.direct_uses-used_nodes.ensures in
     let more : c.in-Some.frame.next < length (direct c.args.uses.now c.in-Some.frame.node) = omega (arith, ap length row) in
     rw (c.in_ok-push.ensures.items, c.in-Some.ensures.items)
     (turns_skip c.args.uses.now c.requires.acyclic _ c.in-Some.frame.node c.in-Some.frame.next _ more (ap (λ (xs : List ℕ). get_or xs c.in-Some.frame.next 0) row))
 
 pub loop-frame-preserved-else-not-has : goal.loop-frame-preserved-else-not-has
 loop-frame-preserved-else-not-has c =
-    let row = c.direct_uses-row.ensures in
+    let row = c.direct_uses-used_nodes.ensures in
     let more : c.in-Some.frame.next < length (direct c.args.uses.now c.in-Some.frame.node) = omega (arith, ap length row) in
     let is = rw c.in-Some.ensures.items at c.loop-frame.invariant.walking in
-    let listed = c.has-then-frame-row.ensures.0 c.if-not-has.false in
+    let listed = c.has-then-frame-used_nodes.ensures.0 c.if-not-has.false in
     record {
       walking = rw c.in_ok-push.ensures.items
           (step_skip c.args.uses.now c.requires.acyclic _ _ _ c.in-Some.frame.node c.in-Some.frame.next _ is more (ap (λ (xs : List ℕ). get_or xs c.in-Some.frame.next 0) row) listed);
@@ -62,11 +62,11 @@ loop-frame-smaller-in-Continue-branch-4 c =
 
 pub loop-frame-preserved-in-Continue-branch-4 : goal.loop-frame-preserved-in-Continue-branch-4
 loop-frame-preserved-in-Continue-branch-4 c =
-    let done : length (direct c.args.uses.now c.in-Some.frame.node) ≤ c.in-Some.frame.next = omega (arith, ap length c.direct_uses-row.ensures) in
+    let done : length (direct c.args.uses.now c.in-Some.frame.node) ≤ c.in-Some.frame.next = omega (arith, ap length c.direct_uses-used_nodes.ensures) in
     let is = rw c.in-Some.ensures.items at c.loop-frame.invariant.walking in
     record {
       walking = rw c.in_ok-push-3.ensures.ok
-          (step_list c.args.uses.now c.requires.acyclic _ _ _ c.in-Some.frame.node c.in-Some.frame.next is done (λ listed. let on = c.has-else-frame-row.ensures.1 listed in cc));
+          (step_list c.args.uses.now c.requires.acyclic _ _ _ c.in-Some.frame.node c.in-Some.frame.next is done (λ listed. let on = c.has-else-frame-used_nodes.ensures.1 listed in cc));
       nodes = rw c.in_ok-push-3.ensures.ok c.loop-frame.invariant.nodes;
     }
 
@@ -80,9 +80,9 @@ loop-frame-smaller c =
 
 pub loop-frame-preserved : goal.loop-frame-preserved
 loop-frame-preserved c =
-    let done : length (direct c.args.uses.now c.in-Some.frame.node) ≤ c.in-Some.frame.next = omega (arith, ap length c.direct_uses-row.ensures) in
+    let done : length (direct c.args.uses.now c.in-Some.frame.node) ≤ c.in-Some.frame.next = omega (arith, ap length c.direct_uses-used_nodes.ensures) in
     let is = rw c.in-Some.ensures.items at c.loop-frame.invariant.walking in
-    let listed = c.has-else-frame-row.ensures.0 c.if-not-has-2.false in
+    let listed = c.has-else-frame-used_nodes.ensures.0 c.if-not-has-2.false in
     record {
       walking = step_drop c.args.uses.now c.requires.acyclic _ _ _ c.in-Some.frame.node c.in-Some.frame.next is done listed;
       nodes = c.loop-frame.invariant.nodes;
