@@ -33,3 +33,11 @@ pub mod Steps
 mod EachLemmas
 mod Examples
 mod QuestionExamples
+pub mod ReachedColumns
+pub mod JoinedRows
+pub mod Closing
+pub mod Counting
+pub mod ColumnFacts
+pub mod PassMarks
+pub mod MayConflict
+pub mod AllWorlds

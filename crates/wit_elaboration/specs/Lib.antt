@@ -1,3 +1,5 @@
+pub mod AllWorlds
+pub mod Closures
 pub mod Elaborated
 pub mod Elaborating
 pub mod Elaboration

@@ -2,16 +2,19 @@
 //!
 //! Each interface that the exports need is walked once. In the order of the walk, in which uses
 //! come first, it is marked whether it reaches an exported interface, and then whether it reaches
-//! one outside the exports that does.
-ghost use Rattle.std.specs.Prelude.{◌≡◌, ◌++◌, ◌∷◌, ◌<◌, ◌↔◌, ◌⊎◌, [], ℕ, OnOk, IfOk, IsTrue, All, Contains, length};
+//! one outside the exports that does. Where there are rows of a closure, they are asked first: they
+//! tell of most worlds without a conflict that there is none.
+ghost use Rattle.std.specs.Prelude.{◌≡◌, ◌++◌, ◌∷◌, ◌<◌, ◌↔◌, ◌⊎◌, [], ℕ, OnOk, IfOk, IfSome, IsTrue, All, Contains, length};
 ghost use Rattle.std.specs.List.{flat_map};
+ghost use Rattle.wit_elaboration.specs.Closures.{IsClosureOf};
 ghost use Rattle.wit_elaboration.specs.Elaborated.{needs};
 ghost use Rattle.wit_elaboration.specs.Elaborating.{AreMarked, AreOutside, HasMarkedUse, HaveNodes, IsFirstConflict, IsWalk, TellsExported};
 ghost use Rattle.wit_elaboration.specs.Entries.{Entry, item_interface};
-ghost use Rattle.wit_elaboration.specs.Imported.{LeadsToConflict, exported_interfaces, exported_keys};
+ghost use Rattle.wit_elaboration.specs.Imported.{HasConflict, LeadsToConflict, exported_interfaces, exported_keys};
 ghost use Rattle.wit_digraph.specs.Relation.{IsAcyclic, direct};
 ghost use Rattle.wit_digraph.specs.Walks.{UsesFirst, first_of_each, fresh};
 
+use crate::closure_rows::ClosureRows;
 use crate::imports::walk_needs;
 use crate::marks::Marks;
 use crate::role::{Role, item_interface, key_interface};
@@ -215,15 +218,42 @@ fn find_conflict(
     Ok(first_conflict(uses, exports, &marks.leading))
 }
 
+/// Whether exports may be in conflict: where there are rows and they answer false, they are not.
+fn may_conflict(
+    alloc: Global,
+    uses: &[Items<usize>],
+    exports: &Table<WorldKey, WorldItem>,
+    exported: &Listing,
+    rows: &Option<ClosureRows>,
+) -> Result<bool, AllocError>
+    requires acyclic { IsAcyclic uses.now }
+    requires interfaces { All (λ i. i < length uses.now) (exported_interfaces exports.now) }
+    requires nodes { exported.now.nodes ≡ length uses.now }
+    requires tells { TellsExported exported.now.order exports.now }
+    requires rows { IfSome rows.now (λ r. IsClosureOf uses.now r) }
+    ensures { IfOk result (λ may. HasConflict uses.now exports.now → IsTrue may) }
+{
+    match rows {
+        Some(rows) => {
+            let may = rows.may_conflict(alloc, uses, exports, exported)?;
+            Ok(may)
+        }
+        None => Ok(true),
+    }
+}
+
 /// The place of the first export of an interface that is in conflict, None where there is none. It
-/// lists the exported keys too.
+/// lists the exported keys too. Where there are rows of a closure, they are asked first.
 pub(crate) fn find_refused(
     alloc: Global,
     uses: &[Items<usize>],
     exports: &Table<WorldKey, WorldItem>,
     marks: &mut Marks,
+    rows: &Option<ClosureRows>,
 ) -> Result<Option<usize>, AllocError>
     requires acyclic { IsAcyclic uses.now }
+    requires own { (j : ℕ) → Contains (exported_keys exports.now) j → Contains (exported_interfaces exports.now) j }
+    requires rows { IfSome rows.now (λ r. IsClosureOf uses.now r) }
     requires interfaces { All (λ i. i < length uses.now) (exported_interfaces exports.now) }
     requires keys { All (λ i. i < length uses.now) (exported_keys exports.now) }
     requires nodes { HaveNodes marks.old (length uses.now) }
@@ -233,5 +263,9 @@ pub(crate) fn find_refused(
 {
     marks.exported.clear();
     list_exported(exports, &mut marks.exported)?;
+    let may = may_conflict(alloc, uses, exports, &marks.exported, rows)?;
+    if !may {
+        return Ok(None);
+    }
     find_conflict(alloc, uses, exports, marks)
 }

@@ -12,6 +12,8 @@ ghost use Rattle.wit_graph_data.specs.declared.error_kind.ResolveErrorKind.TheVa
 ghost use Rattle.wit_data.specs.Uses.{uses_of};
 ghost use Rattle.wit_digraph.specs.Relation.{IsAcyclic};
 
+use crate::closure::Closure;
+use crate::closure_rows::ClosureRows;
 use crate::conflict::find_refused;
 use crate::entries::Lists;
 use crate::exports::{add_functions, export_listed};
@@ -24,22 +26,25 @@ use wit_graph_data::{Graph, ResolveError, ResolveErrorKind, ResolveResult};
 use wit_values::{Items, Table, Text, TryClone};
 
 /// What the elaboration of several worlds of one graph shares: which interfaces use which, and marks
-/// for them. A world then costs what it reaches.
+/// for them. A world then costs what it reaches. One that is made of a closure has its rows too, as
+/// long as no interface comes or goes.
 #[derive(Drop)]
 pub struct Elaborator {
     uses: Items<Items<usize>>,
     marks: Marks,
+    rows: Option<ClosureRows>,
 }
 
 impl Model for Elaborator {
-    ghost use Rattle.std.specs.Prelude.{ℕ, List, length};
+    ghost use Rattle.std.specs.Prelude.{ℕ, List, IfSome, length};
+    ghost use Rattle.wit_elaboration.specs.Closures.{IsClosureOf};
     ghost use Rattle.wit_elaboration.specs.Elaborating.{HaveNodes};
 
     ghost Value = { List (List ℕ) };
 
     ghost view = { λ a. a.uses };
 
-    ghost invariant = { λ a. HaveNodes a.marks (length a.uses) };
+    ghost invariant = { λ a. HaveNodes a.marks (length a.uses) × IfSome a.rows (λ rows. IsClosureOf a.uses rows) };
 }
 
 impl Elaborator {
@@ -50,6 +55,7 @@ impl Elaborator {
         Elaborator {
             uses: Items::new(alloc),
             marks: Marks::empty(alloc),
+            rows: None,
         }
     }
 
@@ -64,7 +70,25 @@ impl Elaborator {
     {
         let uses = uses_of(alloc, types, interfaces)?;
         let marks = Marks::new(alloc, uses.len())?;
-        Ok(Elaborator { uses, marks })
+        Ok(Elaborator {
+            uses,
+            marks,
+            rows: None,
+        })
+    }
+
+    /// For the worlds of the graph of a closure, whose rows it asks first whether there can be a
+    /// conflict. The only error is want of memory.
+    pub fn of(alloc: Global, closure: Closure) -> Result<Elaborator, AllocError>
+        ensures { IfOk result (λ elaborator. elaborator ≡ closure) }
+    {
+        let (uses, rows) = closure.into_parts();
+        let marks = Marks::new(alloc, uses.len())?;
+        Ok(Elaborator {
+            uses,
+            marks,
+            rows: Some(rows),
+        })
     }
 
     /// The same, where over these types it is for the first so many of the interfaces already. It
@@ -80,18 +104,19 @@ impl Elaborator {
         ensures begins { take (length self.old) self.new ≡ self.old }
     {
         for index in self.interfaces()..interfaces.len() {
-            self.add_row(interface_uses(alloc, types, &interfaces[index])?)?;
+            self.add_uses(interface_uses(alloc, types, &interfaces[index])?)?;
         }
         Ok(())
     }
 
     /// One interface more, which uses these. Where there is no memory it is as before.
-    fn add_row(&mut self, row: Items<usize>) -> Result<(), AllocError>
-        ensures ok { OnOk result (self.new ≡ self.old ++ row ∷ []) }
+    fn add_uses(&mut self, used: Items<usize>) -> Result<(), AllocError>
+        ensures ok { OnOk result (self.new ≡ self.old ++ used ∷ []) }
         ensures err { OnErr result (self.new ≡ self.old) }
     {
         let interfaces = self.uses.len();
-        self.uses.push(row)?;
+        self.rows = None;
+        self.uses.push(used)?;
         let added = self.marks.add_node();
         if added.is_err() {
             self.uses.truncate(interfaces);
@@ -104,6 +129,7 @@ impl Elaborator {
     pub fn cut(&mut self, count: usize)
         ensures { self.new ≡ take count self.old }
     {
+        self.rows = None;
         self.uses.truncate(count);
         self.marks.cut(self.uses.len());
     }
@@ -174,7 +200,7 @@ impl Elaborator {
         ensures same { self.new ≡ self.old }
     {
         let uses = self.uses.as_slice();
-        let found = find_refused(alloc, uses, &world.exports, &mut self.marks)?;
+        let found = find_refused(alloc, uses, &world.exports, &mut self.marks, &self.rows)?;
         match found {
             Some(index) => Err(conflict_error(alloc, graph, world, index)?),
             None => {
@@ -189,7 +215,11 @@ impl TryClone for Elaborator {
     fn try_clone(&self) -> Result<Elaborator, AllocError> {
         let uses = self.uses.try_clone()?;
         let marks = Marks::new(uses.allocator(), uses.len())?;
-        Ok(Elaborator { uses, marks })
+        Ok(Elaborator {
+            uses,
+            marks,
+            rows: None,
+        })
     }
 }
 
@@ -272,10 +302,7 @@ pub fn elaborate(alloc: Global, graph: &mut Graph, world: WorldId) -> ResolveRes
     ensures cause { IfErr result (IsElaborationError graph.old world) }
     ensures refuses { HasConflictAt graph.old world → OnOk result ⊥ }
 {
-    let mut elaborator = Elaborator::new(
-        alloc,
-        graph.types.as_slice(),
-        graph.interfaces.as_slice(),
-    )?;
+    let closure = Closure::of(alloc, graph)?;
+    let mut elaborator = Elaborator::of(alloc, closure)?;
     elaborator.elaborate(alloc, graph, world)
 }

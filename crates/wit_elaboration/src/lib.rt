@@ -2,6 +2,9 @@
 //! refuses it where its exports are in conflict.
 #![tactic(auto)]
 
+mod all_worlds;
+mod closure;
+mod closure_rows;
 mod conflict;
 mod elaborable;
 mod elaboration;
@@ -10,7 +13,9 @@ mod exports;
 mod imports;
 pub mod laws;
 mod marks;
+mod passes;
 mod role;
+pub mod rows;
 
 pub use crate::elaborable::is_elaborable;
 pub use crate::elaboration::{Elaborator, elaborate};

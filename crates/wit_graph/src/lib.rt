@@ -2,9 +2,9 @@
 //! their numbers and texts, canonical worlds, and what is asked of a graph.
 //!
 //! [`Graph`] has public fields; its own methods `id_of`, `id_of_name` and `name_world_key` give id texts, and
-//! [`GraphQueries`] has the other questions. [`elaborate`] makes a world canonical, [`is_valid`] tells whether a graph
-//! is valid, as the graph of each `Resolve` is. A [`ResolveError`] has a number and fields of its kind, and renders
-//! itself with its line of the sources.
+//! [`GraphQueries`] has the other questions. [`elaborate`] makes a world canonical, [`rows`] has what interfaces reach
+//! and makes all worlds canonical, [`is_valid`] tells whether a graph is valid, as the graph of each `Resolve` is. A
+//! [`ResolveError`] has a number and fields of its kind, and renders itself with its line of the sources.
 //!
 //! ```text
 //! use wit_graph::{Graph, GraphQueries, ResolveResult};
@@ -23,7 +23,7 @@ pub use wit_core_names::{
     FutureIntrinsic, ResourceIntrinsic, StreamIntrinsic, WasmExport, WasmExportKind, WasmImport,
     can_name_export, can_name_import, wasm_export_name, wasm_import_name,
 };
-pub use wit_elaboration::{elaborate, is_elaborable};
+pub use wit_elaboration::{elaborate, is_elaborable, rows};
 pub use wit_graph_data::{
     Cause, Features, Graph, Package, ResolveError, ResolveErrorKind, ResolveResult,
 };

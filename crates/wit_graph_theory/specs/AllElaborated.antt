@@ -2,32 +2,19 @@
 -- speaks against it.
 -- Source: `merge` and `merge_world_imports_based_on_semver` of wit-parser 0.263.0; that cycles are refused, and how
 -- those of interfaces and types are told, are rules of this project.
-use Rattle.std.specs.Prelude.{◌≡◌, ℕ, List, ◌++◌, Option, Some, codes, map, slice_get, Contains}
+use Rattle.std.specs.Prelude.{◌≡◌, ℕ, List, ◌++◌, Option, Some, codes, slice_get, Contains}
 use Rattle.wit_digraph.specs.Cycles.{IsOnCycle}
 use Rattle.wit_data.specs.Reference.{type_references}
 use Rattle.wit_data.specs.declared.package_name.PackageName.{PackageName}
 use Rattle.wit_data.specs.declared.types.TypeDef.{TypeDef}
 use Rattle.wit_data.specs.declared.world.World.{World}
-use Rattle.wit_elaboration.specs.Elaborated.{elaborated_exports, elaborated_imports}
+pub use Rattle.wit_elaboration.specs.AllWorlds.{all_elaborated, elaborated_world}
 use Rattle.wit_elaboration.specs.Elaboration.{graph_uses}
 use Rattle.wit_graph_data.specs.IdText.{interface_id_at}
 use Rattle.wit_elaboration.specs.Imported.{HasConflict, IsRefusedName}
 use Rattle.wit_graph_data.specs.Relations.{package_uses}
 use Rattle.wit_graph_data.specs.declared.graph.Graph.{Graph}
 use Rattle.wit_graph_data.specs.declared.graph.Package.{Package}
-
--- ---- the graph
-
--- a world of a graph, elaborated
-abbrev pub elaborated_world : Graph → World → World
-elaborated_world g world = record world {
-  imports = elaborated_imports g.types (graph_uses g) world.imports world.exports;
-  exports = elaborated_exports g.types (graph_uses g) world.exports;
-}
-
--- the graph with all its worlds elaborated
-abbrev pub all_elaborated : Graph → Graph
-all_elaborated g = record g { worlds = map (elaborated_world g) g.worlds }
 
 -- ---- what speaks against it
 

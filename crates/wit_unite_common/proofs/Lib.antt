@@ -1,4 +1,3 @@
-pub mod AllWorlds
 pub mod OnCycles
 pub mod Searching
 pub mod Settled

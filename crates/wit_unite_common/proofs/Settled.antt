@@ -13,7 +13,7 @@ use Rattle.wit_graph_data.specs.declared.error_kind.ResolveErrorKind.{ResolveErr
 use Rattle.wit_graph_data.specs.declared.error_kind.ResolveErrorKind.TheVariants.{OutOfMemory}
 use Rattle.wit_graph_data.specs.declared.graph.Graph.{Graph}
 use Rattle.wit_graph_theory.specs.AllElaborated.{graph_package_uses}
-use Rattle.wit_unite_common.specs.Elaborations.{IsRefusedWorld}
+use Rattle.wit_elaboration.specs.AllWorlds.{IsRefusedWorld}
 use Rattle.wit_unite_common.specs.Reasons.{SettleCause, conflict_4, interface_cycle_22, package_cycle_6, type_cycle_23}
 
 -- nothing depends on itself

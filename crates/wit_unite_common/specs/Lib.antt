@@ -1,6 +1,5 @@
 pub mod Agreeing
 pub mod Asked
-pub mod Elaborations
 pub mod Reasons
 pub mod Rounds
 pub mod Told

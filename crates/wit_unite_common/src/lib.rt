@@ -3,13 +3,11 @@
 #![tactic(auto)]
 
 mod cycles;
-mod elaborating;
 mod functions;
 mod interfaces;
 mod round;
 mod settling;
 
-pub use crate::elaborating::elaborate_all;
 pub use crate::functions::function_mismatch;
 pub use crate::interfaces::interface_mismatch;
 pub use crate::settling::settle;

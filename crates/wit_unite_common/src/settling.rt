@@ -7,8 +7,8 @@ ghost use Rattle.wit_unite_common.specs.Asked.{CanSettle};
 ghost use Rattle.wit_unite_common.specs.Reasons.{SettleCause};
 
 use crate::cycles::{check_interfaces, check_packages, check_types};
-use crate::elaborating::elaborate_all;
 use std::alloc::Global;
+use wit_elaboration::rows::elaborate_all;
 use wit_graph_data::{Graph, ResolveResult};
 
 /// Elaborates all worlds of a graph in which nothing depends on itself. What types refer to, interfaces use and

@@ -1,9 +1,11 @@
-use Rattle.std.proofs.Common.{◌≡◌, ◌∙◌, sym, subst, ℕ, List}
+use Rattle.std.proofs.Common.{◌≡◌, ◌∙◌, sym, subst, ℕ, List, length}
 use Rattle.wit_digraph.specs.Relation.{IsAcyclic}
 use Rattle.wit_elaboration.specs.Elaborating.{IsFirstConflict}
 use Rattle.wit_elaboration.specs.Elaboration.{graph_uses}
 use Rattle.wit_elaboration.specs.Imported.{HasConflict}
 use Rattle.wit_elaboration.proofs.Refusing.{below_from_get, conflict_cause, interfaces_in_range, keys_in_range, listed_over, none_found}
+use Rattle.wit_elaboration.proofs.ElaboratedIs.{own_keys}
+use Rattle.wit_elaboration.proofs.Roles.{in_order}
 use Rattle.wit_elaboration.proofs.elaboration.Elaborator.lists_for.Goals as goal
 
 pub find_refused-requires-clause-interfaces : goal.find_refused-requires-clause-interfaces
@@ -41,3 +43,10 @@ returns-in_ok-lists_of-in-None-clause-no_conflict c =
     let uses : c.as_slice-uses.result.now ≡ graph_uses c.args.graph.now = c.as_slice-uses.ensures ∙ c.self.view_is ∙ c.requires.uses in
     subst (λ (us : List (List ℕ)). HasConflict us c.args.world.now.exports → ⊥) uses
     (none_found c.as_slice-uses.result.now c.args.world.now.exports (subst (IsFirstConflict c.as_slice-uses.result.now c.args.world.now.exports) c.in-None.is c.in_ok-found.ensures.found))
+
+pub find_refused-requires-clause-own : goal.find_refused-requires-clause-own
+find_refused-requires-clause-own c =
+    let uses : c.as_slice-uses.result.now ≡ graph_uses c.args.graph.now = c.as_slice-uses.ensures ∙ c.self.view_is ∙ c.requires.uses in
+    let acyclic : IsAcyclic c.as_slice-uses.result.now = subst IsAcyclic (sym uses) c.requires.acyclic in
+    own_keys c.args.graph.now.types c.as_slice-uses.result.now acyclic c.args.world.now.imports c.args.world.now.exports
+    (in_order c.args.graph.now.types (length c.as_slice-uses.result.now) c.args.world.now.imports c.args.world.now.exports (listed_over c.args.graph.now c.as_slice-uses.result.now c.args.world.now uses c.requires.listed))

@@ -3,8 +3,8 @@ use Rattle.wit_elaboration.specs.Elaboration.{graph_uses}
 use Rattle.wit_elaboration.specs.Imported.{HasConflict}
 use Rattle.wit_data.specs.EachFacts.{EachBelow}
 use Rattle.wit_data.specs.declared.world.World.{World}
-use Rattle.wit_unite_common.specs.Elaborations.{elaborated_lists}
-use Rattle.wit_unite_common.proofs.elaborating.all_lists.Given as goal
+use Rattle.wit_elaboration.specs.AllWorlds.{elaborated_lists}
+use Rattle.wit_elaboration.proofs.all_worlds.all_lists.Given as goal
 
 -- the lists of the first worlds are made, and none of these is in conflict
 abbrev pub invariant-loop-index : goal.invariant-loop-index

@@ -1,6 +1,6 @@
 use Rattle.std.proofs.Common.{◌≡◌, length}
-use Rattle.wit_unite_common.proofs.AllWorlds.{IsPlacing}
-use Rattle.wit_unite_common.proofs.elaborating.place_lists.Given as goal
+use Rattle.wit_elaboration.proofs.AllWorlds.{IsPlacing}
+use Rattle.wit_elaboration.proofs.all_worlds.place_lists.Given as goal
 
 abbrev pub invariant-loop-lists : goal.invariant-loop-lists
 invariant-loop-lists l = record {

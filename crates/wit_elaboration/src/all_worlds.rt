@@ -4,20 +4,21 @@ ghost use Rattle.wit_elaboration.specs.Elaboration.{graph_uses};
 ghost use Rattle.wit_elaboration.specs.Imported.{HasConflict};
 ghost use Rattle.wit_elaboration.specs.Sound.{HasSoundEntries};
 ghost use Rattle.wit_graph_data.specs.declared.error_kind.ResolveErrorKind.TheVariants.{OutOfMemory};
-ghost use Rattle.wit_graph_theory.specs.AllElaborated.{all_elaborated};
 ghost use Rattle.wit_data.specs.Each.{Each};
 ghost use Rattle.wit_data.specs.declared.world.World.{World};
 ghost use Rattle.wit_digraph.specs.Relation.{IsAcyclic};
-ghost use Rattle.wit_unite_common.specs.Elaborations.{IsRefusedWorld, elaborated_lists};
+ghost use Rattle.wit_elaboration.specs.AllWorlds.{IsRefusedWorld, all_elaborated, elaborated_lists};
 
+use crate::closure::Closure;
+use crate::elaboration::Elaborator;
+use crate::entries::Lists;
 use std::alloc::Global;
-use wit_elaboration::{Elaborator, Lists};
 use wit_graph_data::{Graph, ResolveResult};
 use wit_values::Items;
 
-/// Elaborates all worlds of a graph. In it no interface comes back to itself along its uses, and in each world what
-/// stands under the key of an interface is that interface, and the interfaces of all entries are there. It costs what
-/// the types of all interfaces and what each world reaches cost.
+/// Elaborates all worlds of a graph over one closure. In it no interface comes back to itself along its uses, and in each
+/// world what stands under the key of an interface is that interface, and the interfaces of all entries are there. It
+/// costs what the types of all interfaces, their uses and what each world reaches cost.
 ///
 /// It is refused, with the kind `InvalidTransitiveDependency` (4), where what the exports of some world need from
 /// outside is exported, at the span of that world and under the name that its elaboration tells. Else it is refused for
@@ -45,11 +46,8 @@ fn all_lists(alloc: Global, graph: &Graph) -> ResolveResult<Items<Lists>>
     ensures no_conflict { OnOk result (Each (λ (world : World). HasConflict (graph_uses graph.now) world.exports → ⊥) graph.now.worlds) }
     ensures cause { IfErr result (λ e. (e ≡ OutOfMemory) ⊎ IsRefusedWorld graph.now e) }
 {
-    let mut elaborator = Elaborator::new(
-        alloc,
-        graph.types.as_slice(),
-        graph.interfaces.as_slice(),
-    )?;
+    let closure = Closure::of(alloc, graph)?;
+    let mut elaborator = Elaborator::of(alloc, closure)?;
     let mut all = Items::new(alloc);
     for index in 0..graph.worlds.len() {
         let lists = elaborator.lists_for(alloc, graph, graph.worlds.at(index))?;

@@ -2,9 +2,9 @@ use Rattle.std.proofs.Common.{◌≡◌, ◌∙◌, ◌⊎◌, sym, subst, arith
 use Rattle.wit_graph_data.specs.AnswerFacts.{told_err}
 use Rattle.wit_graph_data.specs.declared.error_kind.ResolveErrorKind.{ResolveErrorKind}
 use Rattle.wit_graph_data.specs.declared.error_kind.ResolveErrorKind.TheVariants.{OutOfMemory}
-use Rattle.wit_unite_common.specs.Elaborations.{IsRefusedWorld}
-use Rattle.wit_unite_common.proofs.AllWorlds.{below-all, below-next, made-next, refused_world}
-use Rattle.wit_unite_common.proofs.elaborating.all_lists.Goals as goal
+use Rattle.wit_elaboration.specs.AllWorlds.{IsRefusedWorld}
+use Rattle.wit_elaboration.proofs.AllWorlds.{below-all, below-next, made-next, refused_world}
+use Rattle.wit_elaboration.proofs.all_worlds.all_lists.Goals as goal
 
 pub returns-in_err-lists-clause-cause : goal.returns-in_err-lists-clause-cause
 returns-in_err-lists-clause-cause c =

@@ -11,8 +11,7 @@ use Rattle.wit_elaboration.specs.declared.entries.Lists.{Lists}
 use Rattle.wit_graph_data.specs.declared.error_kind.ResolveErrorKind.{ResolveErrorKind}
 use Rattle.wit_graph_data.specs.declared.error_kind.ResolveErrorKind.TheVariants.{PackageNotFound, WorldNotFound, InterfaceNotFound, InvalidTransitiveDependency, DuplicatePackage, PackageCycle, ItemShadowing, StabilityMismatch, Semantic, OffsetOverflow, OutOfMemory}
 use Rattle.wit_graph_data.specs.declared.graph.Graph.{Graph}
-use Rattle.wit_graph_theory.specs.AllElaborated.{elaborated_world}
-use Rattle.wit_unite_common.specs.Elaborations.{IsRefusedWorld, elaborated_lists}
+use Rattle.wit_elaboration.specs.AllWorlds.{IsRefusedWorld, elaborated_lists, elaborated_world}
 
 -- ---- a refusal
 

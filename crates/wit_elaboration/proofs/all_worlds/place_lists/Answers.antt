@@ -1,5 +1,5 @@
-use Rattle.wit_unite_common.proofs.AllWorlds.{placing-step, with_worlds}
-use Rattle.wit_unite_common.proofs.elaborating.place_lists.Goals as goal
+use Rattle.wit_elaboration.proofs.AllWorlds.{placing-step, with_worlds}
+use Rattle.wit_elaboration.proofs.all_worlds.place_lists.Goals as goal
 
 pub loop-lists-preserved : goal.loop-lists-preserved
 loop-lists-preserved c =

@@ -1,5 +1,5 @@
--- What elaborating all worlds of a graph makes, and with which error it is refused.
-use Rattle.std.specs.Prelude.{◌≡◌, ℕ, List, Contains}
+-- All worlds of a graph elaborated, and with which error that is refused.
+use Rattle.std.specs.Prelude.{◌≡◌, ℕ, List, map, Contains}
 use Rattle.wit_data.specs.declared.world.World.{World}
 use Rattle.wit_elaboration.specs.Elaborated.{elaborated_exports, elaborated_imports}
 use Rattle.wit_elaboration.specs.Elaboration.{graph_uses}
@@ -8,6 +8,17 @@ use Rattle.wit_elaboration.specs.declared.entries.Lists.{Lists}
 use Rattle.wit_graph_data.specs.declared.error_kind.ResolveErrorKind.{ResolveErrorKind}
 use Rattle.wit_graph_data.specs.declared.error_kind.ResolveErrorKind.TheVariants.{InvalidTransitiveDependency}
 use Rattle.wit_graph_data.specs.declared.graph.Graph.{Graph}
+
+-- a world of a graph, elaborated
+abbrev pub elaborated_world : Graph → World → World
+elaborated_world g world = record world {
+  imports = elaborated_imports g.types (graph_uses g) world.imports world.exports;
+  exports = elaborated_exports g.types (graph_uses g) world.exports;
+}
+
+-- the graph with all its worlds elaborated
+abbrev pub all_elaborated : Graph → Graph
+all_elaborated g = record g { worlds = map (elaborated_world g) g.worlds }
 
 -- the lists of a world of a graph, elaborated
 abbrev pub elaborated_lists : Graph → World → Lists

@@ -1,0 +1,8 @@
+use Rattle.std.proofs.Common.{ℕ, Contains, take}
+use Rattle.wit_digraph.specs.Relation.{direct}
+use Rattle.wit_elaboration.specs.Closures.{HaveCommonBit}
+use Rattle.wit_elaboration.proofs.closure_rows.ClosureRows.may_need.Given as goal
+
+-- none so far
+abbrev pub invariant-loop-index : goal.invariant-loop-index
+invariant-loop-index l = (d : ℕ) → Contains (take l.index l.used) d → ((Contains l.exported.order d → ⊥) × HaveCommonBit (direct l.self.rows d) l.columns) → ⊥

@@ -1,0 +1,31 @@
+use Rattle.std.proofs.Common.{◌≡◌, ◌∙◌, bit_or, sym, ap, subst, arith, length, drop, get_or}
+use Rattle.std.specs.Prelude.{EachIndex, slice_index}
+use Rattle.std.proofs.lemmas.List.{take_at, take_more, take_all}
+use Rattle.wit_digraph.specs.Relation.{direct}
+use Rattle.wit_elaboration.specs.Closures.{RowTells}
+use Rattle.wit_elaboration.proofs.ReachedColumns.{HasReached-more, HasReached-end}
+use Rattle.wit_elaboration.proofs.closure_rows.row_of.Goals as goal
+
+pub loop-index-preserved : goal.loop-index-preserved
+loop-index-preserved c =
+    let uses = c.args.uses.now in
+    let rows = c.args.rows.now in
+    let at = c.loop-index.index in
+    let list = c.direct_uses-used.result.now in
+    let used = get_or c.direct_uses-used.result.now c.loop-index.index 0 in
+    let whole = take_at c.or_into.new.into (drop (length c.or_into.new.into) c.loop-index.row.items) c.loop-index.row.len (omega arith) in
+    let row : list ≡ direct uses c.args.node = c.direct_uses-used.ensures in
+    let told = c.requires.told at 0 (omega (arith, ap length row)) in
+    let told' : RowTells uses (direct rows used) used = subst (λ xs. RowTells uses (direct rows (get_or xs at 0)) (get_or xs at 0)) (sym row) told in
+    let told'' : RowTells uses c.row_at.result.now used = subst (λ xs. RowTells uses xs used) (sym c.row_at.ensures) told' in
+    record {
+      reached = rw (whole, take_more list at 0 (omega arith))
+          (HasReached-more uses c.loop-index.row.items c.row_at.result.now c.or_into.new.into c.args.node used _ c.loop-index.invariant.reached told'' (omega arith)
+          (subst (λ old. EachIndex c.or_into.new.into (λ k. slice_index c.or_into.new.into k ≡ bit_or (slice_index old k) (slice_index c.row_at.result.now k))) c.deref_mut-in-loop-index.ensures.value c.or_into.ensures));
+      joins = omega (arith, c.loop-index.invariant.joins);
+    }
+
+pub returns-clause-row : goal.returns-clause-row
+returns-clause-row c =
+    let all = take_all c.loop-index.index c.direct_uses-used.result.now (omega arith) ∙ c.direct_uses-used.ensures in
+    rw c.from_vec.ensures (HasReached-end c.args.uses.now c.loop-index.row.items c.args.node (rw all at c.loop-index.invariant.reached))

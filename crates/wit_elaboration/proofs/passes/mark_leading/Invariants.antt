@@ -1,0 +1,9 @@
+use Rattle.std.proofs.Common.{◌≡◌, take, length}
+use Rattle.wit_elaboration.specs.Closures.{IsMarkRow}
+use Rattle.wit_elaboration.proofs.passes.mark_leading.Given as goal
+
+abbrev pub invariant-loop-index : goal.invariant-loop-index
+invariant-loop-index l = record {
+  marked : IsMarkRow l.uses (take l.index l.order) (λ t. t ≡ l.to) l.marks;
+  long : length l.marks ≡ length l.fn.marks;
+}
