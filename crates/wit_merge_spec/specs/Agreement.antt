@@ -10,16 +10,16 @@ use Rattle.wit_graph_data.specs.IdText.{key_text}
 use Rattle.wit_graph_data.specs.declared.graph.Package.{Package}
 use Rattle.wit_graph_theory.specs.FunctionMismatch.{HaveFunctionMismatch}
 use Rattle.wit_graph_theory.specs.OnePlace.{entries_of}
-use Rattle.wit_merge_spec.specs.Matches.{Merging, Pair, found_interface, found_item, found_world}
+use Rattle.wit_merge_spec.specs.Matches.{Merging, Pair, found_interface, found_item, found_type, found_world}
 use Rattle.wit_merge_spec.specs.MismatchText.{absent_text, entry_count_text, entry_link, linked, other_interface_text, other_sort_text, part_links, side_word}
 use Rattle.wit_merge_spec.specs.TypePairs.{FirstDiffers, type_pairs}
+use Rattle.wit_merge_structure.specs.Structure.{DifferInStructure}
 
 -- ---- types
 
--- how matched types t and t' differ in structure, the end of a message. Nothing is asked of their structure so far:
--- matched types never differ. What is to be asked of them goes here alone
+-- how type t of the incoming graph and type t' of the graph, which are matched, differ in structure, the end of a message
 abbrev pub StructuresDiffer : Merging → ℕ → ℕ → List ℕ → Type 0
-StructuresDiffer m t t' ending = ⊥
+StructuresDiffer m = DifferInStructure m.other.types m.graph.types (found_type m)
 
 -- ---- worlds
 

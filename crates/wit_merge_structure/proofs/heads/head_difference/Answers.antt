@@ -1,0 +1,22 @@
+use Rattle.std.proofs.Common.{◌≡◌, ◌∙◌, rules, sym}
+use Rattle.wit_merge_structure.specs.Kinds.{steps_of}
+use Rattle.wit_merge_structure.specs.Structure.{variant_of}
+use Rattle.wit_merge_structure.proofs.KindParts.{lengths_differ, names_differ, variants_differ}
+use Rattle.wit_merge_structure.proofs.heads.head_difference.Goals as goal
+
+pub returns-then-ne-clause-some : goal.returns-then-ne-clause-some
+returns-then-ne-clause-some c =
+    variants_differ c.args.from.now c.args.into.now
+    (λ same. let both : c.variant_of.result ≡ c.variant_of-2.result = c.variant_of.ensures ∙ (same ∙ sym c.variant_of-2.ensures) in search rules)
+
+pub returns-then-not-have_same_parts-clause-some : goal.returns-then-not-have_same_parts-clause-some
+returns-then-not-have_same_parts-clause-some c =
+    let one : variant_of c.args.from.now ≡ variant_of c.args.into.now = search rules in
+    names_differ c.args.from.now c.args.into.now one (λ same. let on = c.have_same_parts.ensures.1 same in cc)
+
+pub returns-then-ne-2-clause-some : goal.returns-then-ne-2-clause-some
+returns-then-ne-2-clause-some c =
+    let one : variant_of c.args.from.now ≡ variant_of c.args.into.now = search rules in
+    let steps : steps_of c.args.from.now ≡ steps_of c.args.into.now = c.have_same_parts.ensures.0 c.if-not-have_same_parts.false in
+    lengths_differ c.args.from.now c.args.into.now one steps
+    (λ same. let both : c.fixed_length.result ≡ c.fixed_length-2.result = c.fixed_length.ensures ∙ (same ∙ sym c.fixed_length-2.ensures) in search rules)
