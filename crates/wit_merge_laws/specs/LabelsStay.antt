@@ -30,7 +30,7 @@ use Rattle.wit_merge_laws.specs.UnitedWorlds.{entries_from, is_elaborated}
 use Rattle.wit_merge_laws.specs.WorldsStand.{entry}
 
 -- what elaboration adds stands under no label
-no_label : (label : List ℕ) (j : ℕ) → key.Name label ≡ key.Interface j → ⊥
+pub no_label : (label : List ℕ) (j : ℕ) → key.Name label ≡ key.Interface j → ⊥
 no_label label j same = cc
 
 -- an item that stands under a key where another stood, with the same interface if it is one

@@ -7,7 +7,7 @@ use Rattle.wit_graph_data.specs.declared.graph.Graph.{Graph}
 use Rattle.wit_merge_spec.specs.Cause.{CanMerge}
 use Rattle.wit_merge_spec.specs.Matches.{Merging}
 use Rattle.wit_merge_spec.specs.United.{united}
-use Rattle.wit_merge_laws.specs.Names.{HasImport, HasName, HaveSameNames, Name, of_world}
+use Rattle.wit_merge_laws.specs.Names.{HasImport, HasName, Name, of_world}
 
 -- one graph goes into another
 abbrev pub merging : Graph → Graph → ℕ → Merging
@@ -29,12 +29,3 @@ UnionsHaveBothNames = (m : Merging) (name : Name) → IsValid m.graph → IsVali
 abbrev pub SharedWorldsKeepImports : Type 0
 SharedWorldsKeepImports = (m : Merging) (home of : PackageName) (world name : List ℕ) → IsValid m.graph → IsValid m.other → CanMerge m → HasName m.graph (of_world home world) → HasName m.other (of_world home world)
     → (HasImport (united m) home world of name ↔ HasImport m.graph home world of name) × (HasImport m.other home world of name ↔ HasImport m.graph home world of name)
-
--- two graphs have the same names, and the worlds that g and h both have import the same in them
-pub record AreNamedAlike (g h one other : Graph) : Type 0 where
-  pub names : HaveSameNames one other
-  pub imports : (home : PackageName) (world : List ℕ) (of : PackageName) (name : List ℕ) → HasName g (of_world home world) → HasName h (of_world home world) → HasImport one home world of name ↔ HasImport other home world of name
-
--- so merging in either order gives the same names
-abbrev pub NamesInEitherOrder : Type 0
-NamesInEitherOrder = (g h : Graph) (offset back : ℕ) → IsValid g → IsValid h → CanMerge (merging g h offset) → CanMerge (merging h g back) → AreNamedAlike g h (united (merging g h offset)) (united (merging h g back))

@@ -48,7 +48,7 @@ use Rattle.wit_merge_laws.specs.WorldsStand.{entry}
 use Rattle.wit_merge_laws.specs.WholeFacts.{interface_from}
 
 -- a label comes of that label, the key of an interface of the key of one that goes there
-label_key : (m : Merging) (w : ℕ) (k : WorldKey) (label : List ℕ) → key_image (merge_maps m) w k ≡ key.Name label → k ≡ key.Name label
+pub label_key : (m : Merging) (w : ℕ) (k : WorldKey) (label : List ℕ) → key_image (merge_maps m) w k ≡ key.Name label → k ≡ key.Name label
 label_key m w (key.Name a) label is = is
 label_key m w (key.Interface i) label is = cc
 

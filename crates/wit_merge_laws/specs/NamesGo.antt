@@ -52,7 +52,7 @@ pub record Part (h g : Graph) (to : Places) : Type 0 where
   pub interfaces_go : (i : ℕ) (old : Interface) → slice_get h.interfaces i ≡ Some old → SomeAt g.interfaces (to.interfaces i) (InterfaceGoes to.packages old)
   pub worlds_go : (w : ℕ) (old : World) → slice_get h.worlds w ≡ Some old → SomeAt g.worlds (to.worlds w) (WorldGoes to.packages to.interfaces old)
 
-home_is : (P : ℕ → Type 0) (o : Option ℕ) → IsSomeAnd o P → (p : ℕ) × (o ≡ Some p) × P p
+pub home_is : (P : ℕ → Type 0) (o : Option ℕ) → IsSomeAnd o P → (p : ℕ) × (o ≡ Some p) × P p
 home_is P None h = absurd h
 home_is P (Some p) h = (p, refl, h)
 

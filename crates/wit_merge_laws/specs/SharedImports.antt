@@ -1,5 +1,6 @@
 -- What a world that both graphs have imports, told by names. Names tell packages, interfaces and worlds of a valid graph
 -- apart.
+use Rattle.std.specs.Prelude.{◌↔◌}
 use Rattle.std.proofs.Common.{◌≡◌, ◌∙◌, ℕ, inl, inr, true, false, List, [], ◌∷◌, nat_eq, IsSome, Some, slice_get, refl, sym, ap, subst, arith, Contains}
 use Rattle.std.specs.List.{list_any}
 use Rattle.std.proofs.lemmas.Bool.{cases_Bool}
@@ -7,7 +8,8 @@ use Rattle.std.proofs.lemmas.List.Elements.{All-contains}
 use Rattle.std.proofs.lemmas.Option.{slice_get_within}
 use Rattle.wit_digraph.specs.FreshFacts.{contains_from_any}
 use Rattle.wit_digraph.specs.MemberFacts.{Contains-flat_map, Contains-here}
-use Rattle.wit_data.specs.Each.{SomeAt}
+use Rattle.wit_values.specs.Table.{HasDistinctKeys}
+use Rattle.wit_data.specs.Each.{Each, EachAt, SomeAt}
 use Rattle.wit_data.specs.Entries.{Entry, IsImport, item_interface}
 use Rattle.wit_data.specs.declared.interface.Interface.{Interface}
 use Rattle.wit_data.specs.declared.package_name.PackageName.{PackageName}
@@ -20,7 +22,7 @@ use Rattle.wit_data.specs.declared.world.WorldKey.TheVariants as key
 use Rattle.wit_elaboration.specs.Elaboration.{graph_uses}
 use Rattle.wit_elaboration.specs.Entries.{keyed_interfaces, role_of}
 use Rattle.wit_elaboration.specs.Imported.{roots_of}
-use Rattle.wit_elaboration.specs.Valid.{IsValid}
+use Rattle.wit_elaboration.specs.Valid.{HasPackageNames, IsValid, IsWorldInTable}
 use Rattle.wit_graph_data.specs.declared.graph.Graph.{Graph}
 use Rattle.wit_graph_data.specs.declared.graph.Package.{Package}
 use Rattle.wit_graph_theory.specs.AllElaborated.{elaborated_world}
@@ -28,7 +30,6 @@ use Rattle.wit_graph_theory.specs.EntryFacts.{key_entry}
 use Rattle.wit_graph_theory.specs.LawsOfElaboration.{LawsOfElaboration}
 use Rattle.wit_graph_theory.specs.ListFacts.{at_map, found_at, place_of, same_at, some_at}
 use Rattle.wit_graph_theory.specs.OptionFacts.{some_same}
-use Rattle.wit_merge_spec.specs.Cause.{CanMerge}
 use Rattle.wit_merge_spec.specs.Joined.{joined_world}
 use Rattle.wit_merge_spec.specs.Matches.{Merging, found_world}
 use Rattle.wit_merge_spec.specs.Moved.{interface_place, moves_world, world_place}
@@ -37,39 +38,57 @@ use Rattle.wit_merge_spec.specs.United.{joined_graph, united}
 use Rattle.wit_merge_laws.specs.JoinedGood.{CanElaborate, in_order, listed_imports}
 use Rattle.wit_merge_laws.specs.ListedStand.{moved_world_goes, old_world_at}
 use Rattle.wit_merge_laws.specs.MatchFacts.{goes_to}
-use Rattle.wit_merge_laws.specs.MatchedOnce.{one_under, world_in_table}
+use Rattle.wit_merge_laws.specs.MatchedOnce.{has_some, one_under}
 use Rattle.wit_merge_laws.specs.MergingLaws.{SharedWorldsKeepImports}
-use Rattle.wit_merge_laws.specs.Names.{HasImport, IsInterface, IsPackage, IsWorld}
+use Rattle.wit_merge_laws.specs.Names.{HasImport, HasName, IsInterface, IsPackage, IsWorld, of_world}
 use Rattle.wit_merge_laws.specs.NamesGo.{Part, interface_back, interface_goes, world_goes}
 use Rattle.wit_merge_laws.specs.NamesParts.{going_to, graph_part, other_part, staying}
 use Rattle.wit_merge_laws.specs.NoCycles.{are_one, can_elaborate}
+use Rattle.wit_merge_laws.specs.PackagesStand.{good_names, good_tables}
 use Rattle.wit_merge_laws.specs.SharedWorlds.{holds_test, import_from, import_into, keyed_import}
 use Rattle.wit_merge_laws.specs.TypesStand.{matched_some}
 use Rattle.wit_merge_laws.specs.UnitedWorlds.{is_elaborated, named_key}
 use Rattle.wit_merge_laws.specs.UsesListed.{key_in, world_keeps_entries}
 use Rattle.wit_merge_laws.specs.WorldsStand.{entry}
-use Rattle.wit_merge_laws.specs.ValidUnions.{united_valid}
 
 -- ---- names tell apart
 
-module _ (g : Graph) (valid : IsValid g) where
+-- what names of packages and worlds tell apart
+record TellApart (g : Graph) : Type 0 where
+  names : HasPackageNames g.packages g.package_names
+  listed : EachAt (IsWorldInTable g.packages) g.worlds
+  distinct : Each (λ (home : Package). HasDistinctKeys home.worlds) g.packages
+
+valid_apart : (g : Graph) → IsValid g → TellApart g
+valid_apart g valid = record { names = valid.well_formed.package_names; listed = valid.well_formed.tables.worlds_listed; distinct = valid.well_formed.tables.distinct_worlds }
+
+module _ (g : Graph) (apart : TellApart g) where
   package_unique : (home : PackageName) (p q : ℕ) → IsPackage g home p → IsPackage g home q → p ≡ q
   package_unique home p q first second =
       let a = found_at (λ (there : Package). there.name ≡ home) g.packages p first in
       let b = found_at (λ (there : Package). there.name ≡ home) g.packages q second in
-      let names = valid.well_formed.package_names in
+      let names = apart.names in
       one_under g.package_names names.distinct home p q (subst (λ (n : PackageName). Contains g.package_names (n, p)) a.2 (names.listed p a.0 a.1)) (subst (λ (n : PackageName). Contains g.package_names (n, q)) b.2 (names.listed q b.0 b.1))
 
-  world_unique : (home : PackageName) (name : List ℕ) (w v : ℕ) → IsWorld g home name w → IsWorld g home name v → w ≡ v
-  world_unique home name w v first second =
+  in_table : (w : ℕ) (world : World) (p : ℕ) → slice_get g.worlds w ≡ Some world → world.package ≡ Some p → (home : Package) × (slice_get g.packages p ≡ Some home) × Contains home.worlds (world.name, w)
+  in_table w world p at of =
+      let has = has_some world.package (λ p. SomeAt g.packages p (λ (home : Package). Contains home.worlds (world.name, w))) p of (apart.listed w world at) in
+      found_at (λ (home : Package). Contains home.worlds (world.name, w)) g.packages p has
+
+  worlds_unique : (home : PackageName) (name : List ℕ) (w v : ℕ) → IsWorld g home name w → IsWorld g home name v → w ≡ v
+  worlds_unique home name w v first second =
       let a = found_at (λ (world : World). (world.name ≡ name) × (world.package ≡ Some first.p)) g.worlds w first.is in
       let b = found_at (λ (world : World). (world.name ≡ name) × (world.package ≡ Some second.p)) g.worlds v second.is in
       let homes = package_unique home first.p second.p first.of second.of in
-      let mine = world_in_table g valid w a.0 second.p a.1 (a.2.1 ∙ ap (λ (p : ℕ). Some p) homes) in
-      let other = world_in_table g valid v b.0 second.p b.1 b.2.1 in
+      let mine = in_table w a.0 second.p a.1 (a.2.1 ∙ ap (λ (p : ℕ). Some p) homes) in
+      let other = in_table v b.0 second.p b.1 b.2.1 in
       let same : mine.0 ≡ other.0 = some_same mine.0 other.0 (sym mine.1 ∙ other.1) in
-      one_under other.0.worlds (valid.well_formed.tables.distinct_worlds second.p other.0 other.1) name w v
+      one_under other.0.worlds (apart.distinct second.p other.0 other.1) name w v
       (subst (λ (n : List ℕ). Contains other.0.worlds (n, w)) a.2.0 (subst (λ (x : Package). Contains x.worlds (a.0.name, w)) same mine.2)) (subst (λ (n : List ℕ). Contains other.0.worlds (n, v)) b.2.0 other.2)
+
+-- no two worlds of a valid graph have one name
+pub world_unique : (g : Graph) → IsValid g → (home : PackageName) (name : List ℕ) (w v : ℕ) → IsWorld g home name w → IsWorld g home name v → w ≡ v
+world_unique g valid home name w v first second = worlds_unique g (valid_apart g valid) home name w v first second
 
 -- what a world of a valid graph imports is there
 imported_there : (h : Graph) → IsValid h → (w : ℕ) (world : World) (i : ℕ) → slice_get h.worlds w ≡ Some world → Contains (keyed_interfaces world.imports) i → (interface : Interface) × (slice_get h.interfaces i ≡ Some interface)
@@ -92,11 +111,11 @@ key_root types uses (item.Function fn) i is = cc
 key_root types uses (item.Type_ t span) i is = cc
 
 -- what a world imports under the key of an interface, it imports
-record Imports (g : Graph) (w i : ℕ) : Type 0 where
-  held : WorldItem
-  has : SomeAt g.worlds w (λ (there : World). Contains there.imports (entry (key.Interface i) held))
+pub record Imports (g : Graph) (w i : ℕ) : Type 0 where
+  pub held : WorldItem
+  pub has : SomeAt g.worlds w (λ (there : World). Contains there.imports (entry (key.Interface i) held))
 
-imports_it : (g : Graph) (w : ℕ) (world : World) (i : ℕ) → slice_get g.worlds w ≡ Some world → Contains (keyed_interfaces world.imports) i → Imports g w i
+pub imports_it : (g : Graph) (w : ℕ) (world : World) (i : ℕ) → slice_get g.worlds w ≡ Some world → Contains (keyed_interfaces world.imports) i → Imports g w i
 imports_it g w world i there has =
     let e = key_entry world.imports i has in
     record { held = e.0.1; has = some_at (λ (x : World). Contains x.imports (entry (key.Interface i) e.0.1)) g.worlds w world there (subst (λ (k : WorldKey). Contains world.imports (entry k e.0.1)) e.2 e.1) }
@@ -107,13 +126,7 @@ imported_by g w world i held there has =
     let same = same_at g.worlds w w found.0 world refl found.1 there in
     key_in world.imports i held (subst (λ (x : World). Contains x.imports (entry (key.Interface i) held)) same found.2)
 
-module _ (laws : LawsOfElaboration) (m : Merging) (valid : IsValid m.graph) (valid_other : IsValid m.other) (can : CanMerge m) where
-  abbrev one : AreOne m
-  one = are_one m can
-
-  abbrev elaborates : CanElaborate m
-  elaborates = can_elaborate m valid valid_other can laws.refused
-
+module _ (laws : LawsOfElaboration) (m : Merging) (valid : IsValid m.graph) (valid_other : IsValid m.other) (one : AreOne m) (elaborates : CanElaborate m) where
   abbrev g : Graph
   g = joined_graph m
 
@@ -123,16 +136,18 @@ module _ (laws : LawsOfElaboration) (m : Merging) (valid : IsValid m.graph) (val
   abbrev theirs : Part m.other (united m) (going_to m)
   theirs = other_part laws m valid valid_other one elaborates
 
-  abbrev all_valid : IsValid (united m)
-  all_valid = united_valid laws m valid valid_other can
+  united_apart : TellApart (united m)
+  united_apart =
+      let tables = good_tables m valid valid_other in
+      record { names = good_names m valid valid_other; listed = tables.worlds; distinct = λ p there at. (tables.packages p there at).distinct_worlds }
 
   module _ (home of : PackageName) (world name : List ℕ) (w w' : ℕ) (is_mine : IsWorld m.graph home world w') (is_theirs : IsWorld m.other home world w) where
     -- worlds of one name are matched
-    matched : (into : World) → slice_get m.graph.worlds w' ≡ Some into → found_world m w ≡ Some w'
+    pub matched : (into : World) → slice_get m.graph.worlds w' ≡ Some into → found_world m w ≡ Some w'
     matched into into_there =
         let here = world_goes m.graph (united m) staying mine home world w' is_mine in
         let there = world_goes m.other (united m) (going_to m) theirs home world w is_theirs in
-        let same = world_unique (united m) all_valid home world (world_place m w) w' there here in
+        let same = worlds_unique (united m) united_apart home world (world_place m w) w' there here in
         elim (cases_Bool (moves_world m w)) [
           | inl goes ↦
               let next = moved_world_goes m w goes in
@@ -182,7 +197,7 @@ module _ (laws : LawsOfElaboration) (m : Merging) (valid : IsValid m.graph) (val
 
       from_united : HasImport (united m) home world of name → HasImport m.graph home world of name
       from_united (v, i, held, is_world, is_interface, has) =
-          let same = world_unique (united m) all_valid home world v w' is_world (world_goes m.graph (united m) staying mine home world w' is_mine) in
+          let same = worlds_unique (united m) united_apart home world v w' is_world (world_goes m.graph (united m) staying mine home world w' is_mine) in
           let imported = imported_by (united m) w' done i held done_at (subst (λ (x : ℕ). SomeAt (united m).worlds x (λ (y : World). Contains y.imports (entry (key.Interface i) held))) same has) in
           let all = (laws.least g.types (graph_uses g) listed done elaborates.acyclic (in_order m valid valid_other one w' listed listed_at) (is_elaborated laws m valid valid_other one elaborates w' listed listed_at)).1
           (λ j. list_any (nat_eq j) (keyed_interfaces into.imports)) (holds_test laws.least m valid valid_other one w w' old into there found into_there) in
@@ -202,16 +217,25 @@ module _ (laws : LawsOfElaboration) (m : Merging) (valid : IsValid m.graph) (val
           let by = imports_it (united m) w' done i done_at (holds.roots i root) in
           (w', i, by.held, world_goes m.graph (united m) staying mine home world w' is_mine, interface_goes m.graph (united m) staying mine of name i is_interface, by.has)
 
-pub shared_imports : LawsOfElaboration → SharedWorldsKeepImports
-shared_imports laws m home of world name valid valid_other can (w', is_mine) (w, is_theirs) =
+-- so where the two agree and can be elaborated as one
+abbrev pub KeepSharedImports : Merging → Type 0
+KeepSharedImports m = (home of : PackageName) (world name : List ℕ) → HasName m.graph (of_world home world) → HasName m.other (of_world home world)
+    → (HasImport (united m) home world of name ↔ HasImport m.graph home world of name) × (HasImport m.other home world of name ↔ HasImport m.graph home world of name)
+
+pub imports_of_both : LawsOfElaboration → (m : Merging) → IsValid m.graph → IsValid m.other → AreOne m → CanElaborate m → KeepSharedImports m
+imports_of_both laws m valid valid_other one can home of world name (w', is_mine) (w, is_theirs) =
     let into = found_at (λ (x : World). (x.name ≡ world) × (x.package ≡ Some is_mine.p)) m.graph.worlds w' is_mine.is in
     let old = found_at (λ (x : World). (x.name ≡ world) × (x.package ≡ Some is_theirs.p)) m.other.worlds w is_theirs.is in (
       (
-        from_united laws m valid valid_other can home of world name w w' is_mine is_theirs into.0 old.0 into.1 old.1,
-        into_united laws m valid valid_other can home of world name w w' is_mine is_theirs into.0 old.0 into.1 old.1,
+        from_united laws m valid valid_other one can home of world name w w' is_mine is_theirs into.0 old.0 into.1 old.1,
+        into_united laws m valid valid_other one can home of world name w w' is_mine is_theirs into.0 old.0 into.1 old.1,
       ),
       (
-        from_other laws m valid valid_other can home of world name w w' is_mine is_theirs into.0 old.0 into.1 old.1,
-        into_other laws m valid valid_other can home of world name w w' is_mine is_theirs into.0 old.0 into.1 old.1,
+        from_other laws m valid valid_other one can home of world name w w' is_mine is_theirs into.0 old.0 into.1 old.1,
+        into_other laws m valid valid_other one can home of world name w w' is_mine is_theirs into.0 old.0 into.1 old.1,
       ),
     )
+
+pub shared_imports : LawsOfElaboration → SharedWorldsKeepImports
+shared_imports laws m home of world name valid valid_other can mine theirs =
+    imports_of_both laws m valid valid_other (are_one m can) (can_elaborate m valid valid_other can laws.refused) home of world name mine theirs

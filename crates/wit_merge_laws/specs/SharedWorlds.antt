@@ -1,12 +1,11 @@
 -- A world that both graphs have imports the same interfaces under their own keys in both, and in what is made of them:
 -- matched worlds have matched entries, so what is used there by either is imported by both.
-use Rattle.std.proofs.Common.{◌≡◌, ◌∙◌, ◌⊎◌, inl, inr, ℕ, Bool, true, false, List, [], ◌∷◌, length, nat_eq, Option, None, Some, slice_get, refl, sym, ap, subst, arith, Contains}
+use Rattle.std.proofs.Common.{◌≡◌, ◌∙◌, ◌⊎◌, inl, inr, ℕ, Bool, true, false, List, [], ◌∷◌, nat_eq, Option, None, Some, slice_get, refl, sym, ap, subst, Contains}
 use Rattle.std.specs.List.{flat_map, list_any}
 use Rattle.std.specs.Map.{lookup}
 use Rattle.std.specs.Option.{option_map_or}
-use Rattle.std.proofs.lemmas.Bool.{cases_Bool, eq-eqb, eqb-true, false≢true}
+use Rattle.std.proofs.lemmas.Bool.{false≢true}
 use Rattle.std.proofs.lemmas.Map.Views.{Contains-from_lookup}
-use Rattle.std.proofs.lemmas.Option.{slice_get_within}
 use Rattle.wit_digraph.specs.FreshFacts.{any_from_contains, contains_from_any}
 use Rattle.wit_digraph.specs.MemberFacts.{Contains-flat_map, Contains-flat_map_cases, Contains-here, Contains-nil}
 use Rattle.wit_digraph.specs.Relation.{IsPath, direct}
@@ -32,24 +31,23 @@ use Rattle.wit_graph_theory.specs.DependencyFacts.{needs_from, needs_into}
 use Rattle.wit_graph_theory.specs.EntryFacts.{export_uses, import_uses, instance_interface, key_entry, one_of, root_interface}
 use Rattle.wit_graph_theory.specs.EntryFacts as entries
 use Rattle.wit_graph_theory.specs.GoodWorlds.{same_one}
-use Rattle.wit_graph_theory.specs.ListFacts.{Contains-map_cases, found_at, place_of, same_at}
+use Rattle.wit_graph_theory.specs.ListFacts.{Contains-map_cases, found_at, place_of}
 use Rattle.wit_graph_theory.specs.OnePlace.{entries_of}
 use Rattle.wit_graph_theory.specs.PackageCycles.{ListsKey}
 use Rattle.wit_link_spec.specs.Include.{joined_entry, joined_item}
 use Rattle.wit_merge_spec.specs.Agreement.{same_sort}
-use Rattle.wit_merge_spec.specs.Agreement as differ
 use Rattle.wit_merge_spec.specs.Joined.{joined_world, with_world}
 use Rattle.wit_merge_spec.specs.Matches.{Merging, found_key, found_world, partner}
 use Rattle.wit_merge_spec.specs.Moved.{interface_place}
 use Rattle.wit_merge_spec.specs.Reasons.{AreOne}
 use Rattle.wit_merge_spec.specs.United.{joined_graph}
-use Rattle.wit_merge_laws.specs.Covering.{covers}
 use Rattle.wit_merge_laws.specs.ListedStand.{interfaces_apart}
+use Rattle.wit_merge_laws.specs.MatchedEntries.{covered}
 use Rattle.wit_merge_laws.specs.MatchedOnce.{lists_distinct, one_under}
 use Rattle.wit_merge_laws.specs.NamesParts.{item_matched}
 use Rattle.wit_merge_laws.specs.UsesFrom.{old_needs, use_from}
 use Rattle.wit_merge_laws.specs.UsesListed.{held_one, key_goes, key_in, one_held, partner_lists_key, world_keeps_entries}
-use Rattle.wit_merge_laws.specs.WorldsStand.{entry, differs, entry_there}
+use Rattle.wit_merge_laws.specs.WorldsStand.{entry, entry_there}
 
 -- ---- items
 
@@ -137,57 +135,11 @@ module _ (least : ImportsAreLeast) (m : Merging) (valid : IsValid m.graph) (vali
   abbrev uses : List (List ℕ)
   uses = graph_uses g
 
-  -- no two keys are looked for under one
-  key_once : (j k l : WorldKey) → found_key m j ≡ Some l → found_key m k ≡ Some l → j ≡ k
-  key_once (key.Name a) (key.Name b) l first second = cc
-  key_once (key.Name a) (key.Interface i) l first second = let other = key_goes m i l second in cc
-  key_once (key.Interface i) (key.Name b) l first second = let other = key_goes m i l first in cc
-  key_once (key.Interface i) (key.Interface j) l first second = ap (λ (x : ℕ). key.Interface x) (interfaces_apart m valid valid_other i j (one_key (sym (key_goes m i l first) ∙ key_goes m j l second)))
-    where
-      one_key : {a b : ℕ} → key.Interface a ≡ key.Interface b → a ≡ b
-      one_key same = cc
-
   module _ (w w' : ℕ) (old into : World) (there : slice_get m.other.worlds w ≡ Some old) (found : found_world m w ≡ Some w') (into_there : slice_get m.graph.worlds w' ≡ Some into) where
-    same_count : (exported : Bool) → length (entries_of exported old) ≡ length (entries_of exported into)
-    same_count exported = elim (cases_Bool (nat_eq (length (entries_of exported old)) (length (entries_of exported into)))) [
-      | inl same ↦ eqb-true (length (entries_of exported old)) (length (entries_of exported into)) same
-      | inr other ↦
-          absurd (differs m valid valid_other one w w' old into there found into_there exported
-          (differ.count (λ same. false≢true (sym other ∙ eq-eqb (length (entries_of exported old)) (length (entries_of exported into)) same))))
-    ]
-
-    -- the place of the entry under whose key one is looked for
-    record Goes (exported : Bool) (d : Entry) (p : ℕ) : Type 0 where
-      e : Entry
-      at : slice_get (entries_of exported into) p ≡ Some e
-      key_is : found_key m d.0 ≡ Some e.0
-
-    goes : (exported : Bool) (d : Entry) → Contains (entries_of exported old) d → (p : ℕ) × Goes exported d p
-    goes exported d has =
-        let here = entry_there m valid valid_other one w w' old into there found into_there exported d.0 d.1 has in
-        let place = place_of (entries_of exported into) (entry here.k' here.here) (Contains-from_lookup same_key-true here.k' here.here (entries_of exported into) here.looked) in
-        (place.0, record { e = entry here.k' here.here; at = place.1; key_is = here.key_is })
-
-    goes_once : (exported : Bool) (k l : ℕ) (x y : Entry) (p : ℕ) → slice_get (entries_of exported old) k ≡ Some x → slice_get (entries_of exported old) l ≡ Some y → Goes exported x p → Goes exported y p → k ≡ l
-    goes_once exported k l x y p first second a b =
-        let same = same_at (entries_of exported into) p p a.e b.e refl a.at b.at in
-        let keys = key_once x.0 y.0 b.e.0 (a.key_is ∙ ap (λ (e : Entry). Some e.0) same) b.key_is in
-        lists_distinct m.other valid_other w exported old there k l x y first second keys
-
-    -- each entry is that of one of the other world
-    covered : (exported : Bool) (e : Entry) → Contains (entries_of exported into) e → (d : Entry) × Contains (entries_of exported old) d × (found_key m d.0 ≡ Some e.0)
-    covered exported e has =
-        let place = place_of (entries_of exported into) e has in
-        let count = same_count exported in
-        let within = slice_get_within (entries_of exported into) place.0 e place.1 in
-        let from = covers (Goes exported) (entries_of exported old) (goes exported)
-        (λ x p is. let inside = slice_get_within (entries_of exported into) p is.e is.at in omega (arith, inside, count)) (goes_once exported) place.0 (omega (arith, within, count)) in
-        (from.0, from.1, from.2.key_is ∙ ap (λ (x : Entry). Some x.0) (same_at (entries_of exported into) place.0 place.0 from.2.e e refl from.2.at place.1))
-
     -- where an interface at the place of one stands, that one stands there
     stands_too : (exported : Bool) (e : Entry) (i : ℕ) → Contains (entries_of exported into) e → item_interface e.1 ≡ interface_place m i ∷ [] → (d : Entry) × Contains (entries_of exported old) d × (item_interface d.1 ≡ i ∷ [])
     stands_too exported e i has is =
-        let from = covered exported e has in
+        let from = covered m valid valid_other one w w' old into there found into_there exported e has in
         let here = entry_there m valid valid_other one w w' old into there found into_there exported from.0.0 from.0.1 from.1 in
         let same_key_is : here.k' ≡ e.0 = some_key here.k' e.0 (sym here.key_is ∙ from.2) in
         let under = subst (λ (k : WorldKey). Contains (entries_of exported into) (entry k here.here)) same_key_is (Contains-from_lookup same_key-true here.k' here.here (entries_of exported into) here.looked) in
@@ -213,7 +165,7 @@ module _ (least : ImportsAreLeast) (m : Merging) (valid : IsValid m.graph) (vali
     pub import_from : (i : ℕ) → Contains (keyed_interfaces into.imports) i → (j : ℕ) × (i ≡ interface_place m j) × Contains (keyed_interfaces old.imports) j
     import_from i has =
         let e = key_entry into.imports i has in
-        let from = covered false e.0 e.1 in
+        let from = covered m valid valid_other one w w' old into there found into_there false e.0 e.1 in
         by from.0.0 (from.2 ∙ ap (λ (k : WorldKey). Some k) e.2) from.0.1 from.1
       where
         by : (k : WorldKey) → found_key m k ≡ Some (key.Interface i) → (held : WorldItem) → Contains old.imports (entry k held) → (j : ℕ) × (i ≡ interface_place m j) × Contains (keyed_interfaces old.imports) j

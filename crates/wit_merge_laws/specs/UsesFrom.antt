@@ -63,7 +63,7 @@ listing_uses g valid i j l =
     in_row (interface_uses g.types) g.interfaces i found.0 j found.1 (filter_map_into (λ (e : List ℕ × ℕ). type_interface_dep g.types e.1) found.0.types (l.name, l.t) j found.2 (needs_into g.types l.t j l.needs))
 
 -- what an alias of a valid graph names is there
-target_there : (g : Graph) → IsValid g → (t : ℕ) (def : TypeDef) (u : ℕ) → slice_get g.types t ≡ Some def → alias_target def.kind ≡ Some u → (named : TypeDef) × (slice_get g.types u ≡ Some named)
+pub target_there : (g : Graph) → IsValid g → (t : ℕ) (def : TypeDef) (u : ℕ) → slice_get g.types t ≡ Some def → alias_target def.kind ≡ Some u → (named : TypeDef) × (slice_get g.types u ≡ Some named)
 target_there g valid t def u at names =
     let found = found_at (λ (named : TypeDef). IsSome named.name × _) g.types u (from_if (IsAliased g.types g.interfaces def.owner) (alias_target def.kind) u (valid.well_formed.references.aliases t def at) names) in
     (found.0, found.1)

@@ -1,5 +1,7 @@
 //! Laws of merging: the contract of each function is what is proved.
-ghost use Rattle.wit_merge_laws.specs.MergingLaws.{NamesInEitherOrder, NothingComes, SharedWorldsKeepImports, UnionsHaveBothNames, UnionsStayValid};
+ghost use Rattle.wit_merge_laws.specs.BorrowLaws.{MergesMakeNoBorrow};
+ghost use Rattle.wit_merge_laws.specs.MergingLaws.{NothingComes, SharedWorldsKeepImports, UnionsHaveBothNames, UnionsStayValid};
+ghost use Rattle.wit_merge_laws.specs.OrderLaws.{AgreementIsSymmetric, MergingIsOrderFree, ResourcesStay};
 
 use wit_graph_theory::laws::laws_of_elaboration;
 
@@ -30,10 +32,26 @@ pub fn shared_worlds_keep_imports()
     laws_of_elaboration();
 }
 
-/// Where nothing speaks against either merge, merging two valid graphs in either order gives the same names, and the
-/// same imports of worlds that both have.
-pub fn names_in_either_order()
-    ensures { NamesInEitherOrder }
+/// Where nothing differs between two valid graphs one way, nothing differs the other way.
+pub fn agreement_is_symmetric()
+    ensures { AgreementIsSymmetric }
+{}
+
+/// Where two valid graphs agree, and in neither order an interface would use itself or a world is in conflict, merging
+/// them in either order gives the same names, the same sorts under labels, and each world the same labels and keys.
+pub fn merging_is_order_free()
+    ensures { MergingIsOrderFree }
 {
     laws_of_elaboration();
 }
+
+/// A type that leads to a resource in one of two valid graphs that agree leads to one in what is united of them.
+pub fn resources_stay()
+    ensures { ResourcesStay }
+{}
+
+/// A merge of two valid graphs that agree refuses a result that holds a borrow only where one of the incoming graph's
+/// functions returns a borrow itself.
+pub fn merges_make_no_borrow()
+    ensures { MergesMakeNoBorrow }
+{}
