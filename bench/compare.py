@@ -16,8 +16,6 @@ With `--original` both programs run each script, `--many` of each kind, and a ta
 scripts the first difference is of which row of docs/DIFFERENCES.md; `bench/original.py` tells the rows, and what
 the original is. Where the two differ the program is compared with the model, too. A script with a difference of no row,
 or with an answer that the model doesn't give, is printed with what both print, and the status is 1 then.
-
-With `--structure` the model also compares the structures of types that a merge makes one. The program doesn't.
 """
 import argparse
 import collections
@@ -108,14 +106,13 @@ def main():
     parser = argparse.ArgumentParser()
     parser.add_argument("files", nargs="+")
     parser.add_argument("--stored", action="store_true")
-    parser.add_argument("--structure", action="store_true")
     parser.add_argument("--first", type=int, default=1)
     parser.add_argument("--many", type=int, default=1000)
     parser.add_argument("--kind", action="append", choices=KINDS)
     parser.add_argument("--original")
     parser.add_argument("--jobs", type=int, default=1)
     asked = parser.parse_args()
-    rules = model.Rules(asked.structure)
+    rules = model.Rules()
     if asked.stored:
         stdin, stdout = (cases_of(read(it)) for it in asked.files)
         return compared(stdin, stdout, rules)

@@ -290,9 +290,16 @@ def is_on(graph, note):
 
 
 def is_structure(it):
-    """Whether the model says what the original does where merges don't compare the structures of types."""
-    texts = it.session(rules=model.Rules(by_structure=False)).answer(it.words, it.packages)
-    return it.is_of("merge") and it.theirs in {plain(text) for text in texts}
+    """Whether the model says what the original does where merges don't compare the structures of types, or says something
+    else there of which another row tells what the original does in its place."""
+    if not it.is_of("merge") or "mismatch in type" not in it.ours:
+        return False
+    rules = model.Rules(by_structure=False)
+    texts = it.session(rules=rules).answer(it.words, it.packages)
+    others = [is_row for is_row in ROWS.values() if is_row is not is_structure]
+    return it.theirs in {plain(text) for text in texts} or any(
+        is_row(Difference(it.commands, it.at, text, it.theirs, rules)) for text in texts for is_row in others
+    )
 
 
 def is_other_rule(it):

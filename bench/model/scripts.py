@@ -29,7 +29,7 @@ OF_PACKAGES = {"importize", "exportize", "print", "select", "semver"}
 class Rules:
     """Whether merges compare types that are to be one by their structures."""
 
-    by_structure: bool = False
+    by_structure: bool = True
 
 
 class Commands:

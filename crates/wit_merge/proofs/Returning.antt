@@ -27,7 +27,7 @@ use Rattle.wit_merge_spec.specs.Reasons.{ReturnsBorrow}
 use Rattle.wit_merge_spec.specs.United.{joined_graph}
 use Rattle.wit_merge_laws.specs.TypesStand.{type_stands, values_stand}
 use Rattle.wit_merge.specs.Returned.{ReturnsFree}
-use Rattle.wit_merge.proofs.Positions.{moved_refers}
+use Rattle.wit_merge_laws.specs.FunctionsThere.{moved_refers}
 
 one_of : (x y : ℕ) → Contains (x ∷ []) y → x ≡ y
 one_of x y has = elim (Contains-cons_cases x y [] has) [ inl same ↦ same | inr none ↦ absurd (Contains-nil none) ]

@@ -1,5 +1,6 @@
 //! What speaks against a merge before anything is made.
 ghost use Rattle.std.specs.Prelude.{◌≡◌, ◌⊎◌, IfErr, OnOk};
+ghost use Rattle.wit_elaboration.specs.Valid.{IsValid};
 ghost use Rattle.wit_graph_data.specs.declared.error_kind.ResolveErrorKind.TheVariants.{OutOfMemory};
 ghost use Rattle.wit_merge_match.specs.Differing.{merging_by};
 ghost use Rattle.wit_merge_match.specs.Found.{AreMatches};
@@ -19,7 +20,9 @@ pub(crate) fn check_agreement(
     matches: &Matches,
     offset: u32,
 ) -> ResolveResult<()>
-    requires { AreMatches graph.now other.now matches.now }
+    requires graph { IsValid graph.now }
+    requires other { IsValid other.now }
+    requires matches { AreMatches graph.now other.now matches.now }
     ensures agree { OnOk result (DoAgree (merging_by graph.now other.now offset)) }
     ensures cause { IfErr result (λ e. (e ≡ OutOfMemory) ⊎ IsMergeCause (merging_by graph.now other.now offset) e) }
 {

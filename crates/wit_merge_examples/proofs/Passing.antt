@@ -1,10 +1,12 @@
 -- Tests of small merges that compute: what passes has no reason of that kind.
-use Rattle.std.proofs.Common.{◌≡◌, ◌∙◌, ℕ, ◌+◌, ◌<◌, ◌≤◌, Bool, true, false, not, ◌&&◌, List, [], ◌∷◌, length, nat_eq, nat_lt, Option, Some, None, slice_get, option_and_then, refl, sym, ap, subst, arith, Contains}
+use Rattle.std.proofs.Common.{◌≡◌, ◌∙◌, ℕ, ◌+◌, ◌<◌, ◌≤◌, Bool, true, false, not, ◌&&◌, List, [], ◌∷◌, inl, inr, length, map, nat_eq, nat_lt, Option, Some, None, slice_get, option_and_then, refl, sym, ap, subst, arith, Contains}
 use Rattle.std.proofs.lemmas.Bool.{and_parts, eqb-true, false≢true, ltb-true}
+use Rattle.std.proofs.lemmas.List.Elements.{Contains-append_right}
 use Rattle.std.proofs.lemmas.Slice.Eq.{bytes_eq-Decides}
 use Rattle.std.specs.List.{list_all}
 use Rattle.std.specs.Option.{option_eq, option_map_or}
 use Rattle.std.specs.Str.{bytes_eq}
+use Rattle.wit_digraph.specs.MemberFacts.{Contains-cons_cases, Contains-here, Contains-nil}
 use Rattle.wit_digraph.specs.Relation.{direct}
 use Rattle.wit_data.specs.Entries.{Entry, item_interface}
 use Rattle.wit_data.specs.Reference.{named_option}
@@ -35,7 +37,7 @@ use Rattle.wit_graph_theory.specs.TestFacts.{all_are, all_at, all_uses, at_are, 
 use Rattle.wit_link_spec.specs.Gates.{Place}
 use Rattle.wit_link_spec.specs.Reasons.{HoldsBorrow}
 use Rattle.wit_link_spec.specs.WorldReasons.{Disagree, HasStability}
-use Rattle.wit_merge_spec.specs.Agreement.{EntriesDiffer, ItemsDiffer, same_sort}
+use Rattle.wit_merge_spec.specs.Agreement.{EntriesDiffer, ItemsDiffer, StructuresDiffer, same_sort}
 use Rattle.wit_merge_spec.specs.Agreement as differ
 use Rattle.wit_merge_spec.specs.Cause.{CanMerge, IsMergeCause}
 use Rattle.wit_merge_spec.specs.Cause as reason
@@ -44,7 +46,10 @@ use Rattle.wit_merge_spec.specs.MismatchText.{side_word}
 use Rattle.wit_merge_spec.specs.Moved.{merge_maps, moved_functions}
 use Rattle.wit_merge_spec.specs.Reasons.{AreJoined, AreOne, Mismatches, PassesTheEnd, ReturnsBorrow, graph_spans}
 use Rattle.wit_merge_spec.specs.Reasons as joins
+use Rattle.wit_merge_spec.specs.TypePairs.{FirstDiffers, TypePair, type_pairs}
 use Rattle.wit_merge_spec.specs.United.{joined_graph}
+use Rattle.wit_merge_structure.specs.DifferenceFacts.{same_no_first}
+use Rattle.wit_merge_structure.specs.Structure.{Feature, structure}
 use Rattle.wit_merge_laws.specs.InterfacesStand.{option_is, option_so}
 
 -- ---- interfaces
@@ -83,6 +88,28 @@ there_passes : {X : Type 0} (test : X → Bool) (o : Option X) → option_map_or
 there_passes test None passes none = false≢true passes
 there_passes test (Some x) passes none = none_some x (sym none)
 
+-- ---- types
+
+-- the structures of the types that are compared, of either graph
+abbrev pub structures_from : Merging → List (List Feature)
+structures_from m = map (λ (p : TypePair). structure m.other.types (found_type m) p.from) (type_pairs m)
+
+abbrev pub structures_into : Merging → List (List Feature)
+structures_into m = map (λ (p : TypePair). structure m.graph.types Some p.into) (type_pairs m)
+
+same_each : (f g : TypePair → List Feature) (ps : List TypePair) → map f ps ≡ map g ps → (p : TypePair) → Contains ps p → f p ≡ g p
+same_each f g [] same p among = absurd (Contains-nil among)
+same_each f g (q ∷ ps) same p among = elim (Contains-cons_cases q p ps among) [
+  | inl is ↦ let heads : f q ≡ g q = cc in subst (λ (r : TypePair). f r ≡ g r) is heads
+  | inr there ↦ let tails : map f ps ≡ map g ps = cc in same_each f g ps tails p there
+]
+
+types_fine : (m : Merging) → structures_from m ≡ structures_into m → (message : List ℕ) → FirstDiffers (StructuresDiffer m) (type_pairs m) message → ⊥
+types_fine m same message first =
+    let among : Contains (type_pairs m) first.pair = subst (λ (l : List TypePair). Contains l first.pair) (sym first.pairs_are) (Contains-append_right first.before (first.pair ∷ first.after) first.pair (Contains-here first.pair first.after)) in
+    let alike = same_each (λ (p : TypePair). structure m.other.types (found_type m) p.from) (λ (p : TypePair). structure m.graph.types Some p.into) (type_pairs m) same first.pair among in
+    same_no_first _ _ first.differs.x first.differs.y alike first.differs.first
+
 module _ (m : Merging) (interfaces : interfaces_pass m ≡ true) where
   items_fine : (from there : WorldItem) → items_pass m from there ≡ true → (text : List ℕ) → ItemsDiffer m from there text → ⊥
   items_fine from there all _ (differ.sorts off) = false≢true (sym off ∙ (and_parts _ _ all).0)
@@ -101,11 +128,11 @@ module _ (m : Merging) (interfaces : interfaces_pass m ≡ true) where
       (some_passes (items_pass m e.1) false (found_item m into e.0) there is
       (all_are (λ (e : Entry). option_map_or (items_pass m e.1) (found_item m into e.0) false) from (and_parts (nat_eq (length from) (length into)) _ all).1 e listed)) text apart
 
-  module _ (worlds : worlds_pass m ≡ true) where
+  module _ (worlds : worlds_pass m ≡ true) (types : structures_from m ≡ structures_into m) where
     -- what passes differs in nothing
     pub are_one : AreOne m
     are_one _ (differ.interfaces p home there name text named of is differs) = pair_fine m interfaces p text differs
-    are_one _ (differ.types message first) = first.differs
+    are_one _ (differ.types message first) = types_fine m types message first
     are_one _ (differ.worlds p home there exported text of is differs) = by exported differs
       where
         beside : world_beside m p.x ≡ Some p.into
@@ -264,6 +291,7 @@ fits m all c =
 pub record Passes (m : Merging) : Type 0 where
   pub interfaces : interfaces_pass m ≡ true
   pub worlds : worlds_pass m ≡ true
+  pub types : structures_from m ≡ structures_into m
   pub rank : ℕ → ℕ
   pub uses : all_uses (falls rank) (graph_uses (joined_graph m)) ≡ true
   pub packages : all_uses (falls (λ p. p)) (graph_package_uses (joined_graph m)) ≡ true
@@ -278,9 +306,9 @@ can_merge m p _ (reason.package_cycle_6 home one c) = no_cycle (λ p. p) (graph_
 can_merge m p _ (reason.mismatch_8 from into c) = joined_fine m p.gates from into c
 can_merge m p _ (reason.borrow_in_result_15 message one c) = results_fine m p.results message c
 can_merge m p _ (reason.interface_cycle_22 message one c) = no_cycle p.rank (graph_uses (joined_graph m)) p.uses c.i c.j c.on_cycle
-can_merge m p _ (reason.merge_mismatch_24 message c) = are_one m p.interfaces p.worlds message c
+can_merge m p _ (reason.merge_mismatch_24 message c) = are_one m p.interfaces p.worlds p.types message c
 can_merge m p _ (reason.offset_overflow_27 c) = fits m p.spans c
 
 -- what differs in nothing is told nothing of
-pub differs_in_nothing : (m : Merging) → interfaces_pass m ≡ true → worlds_pass m ≡ true → (span : Place) (message : List ℕ) → IsMergeCause m (Semantic span message cause.MergeMismatch) → ⊥
-differs_in_nothing m interfaces worlds _ _ (reason.merge_mismatch_24 message c) = are_one m interfaces worlds message c
+pub differs_in_nothing : (m : Merging) → interfaces_pass m ≡ true → worlds_pass m ≡ true → structures_from m ≡ structures_into m → (span : Place) (message : List ℕ) → IsMergeCause m (Semantic span message cause.MergeMismatch) → ⊥
+differs_in_nothing m interfaces worlds types _ _ (reason.merge_mismatch_24 message c) = are_one m interfaces worlds types message c

@@ -21,6 +21,7 @@ use Rattle.wit_merge_spec.specs.Cause as reason
 use Rattle.wit_merge_spec.specs.Matches.{Merging}
 use Rattle.wit_merge_spec.specs.Reasons as joins
 use Rattle.wit_merge_spec.specs.United.{joined_graph}
+use Rattle.wit_merge_structure.specs.Structure.{structure, structure_within}
 use Rattle.wit_merge_examples.proofs.Passing.{are_one, fits, in_no_conflict, results_fine}
 use Rattle.wit_merge_examples.proofs.Stabilities.{disagreeing, nowhere}
 use Rattle.wit_merge_examples.specs.Graphs.{merging}
@@ -61,7 +62,8 @@ not_first f inside c =
     none_in c.2.0 (subst (λ (x : ℕ). Contains (direct (graph_uses (joined_graph (merging exports_two c_uses_b))) x) c.2.0) (sym i) c.2.2)
 
 conflict : IsMergeCause (merging exports_two c_uses_b) (InvalidTransitiveDependency (Some (30, 31)) (codes "foo:bar/c"))
-conflict = reason.conflict_4 _ _ (are_one (merging exports_two c_uses_b) refl refl) (record {
+unfolding walk walk_within structure structure_within
+conflict = reason.conflict_4 _ _ (are_one (merging exports_two c_uses_b) refl refl refl) (record {
   interfaces = λ message c. no_cycle (λ i. i) (graph_uses (joined_graph (merging exports_two c_uses_b))) refl c.i c.j c.on_cycle;
   types = λ message c. no_cycle (λ t. t) (type_references (joined_graph (merging exports_two c_uses_b)).types) refl c.t c.u c.on_cycle;
   world = _;
@@ -76,20 +78,20 @@ conflict = reason.conflict_4 _ _ (are_one (merging exports_two c_uses_b) refl re
 })
 
 pub refusals : ExamplesOfRefusals
-unfolding walk walk_within
+unfolding walk walk_within structure structure_within
 refusals = record {
   conflict = conflict;
   no_conflict = λ span name c. in_no_conflict (merging exports_two b_alone) refl span name (of_conflict _ span name c);
-  cycle_a = reason.package_cycle_6 _ (are_one _ refl refl) (record { p = 0; q = 1; on_cycle = record { is_used = (0, lit< tt, refl); leads_back = (0 ∷ [], ((0, lit< tt, refl), refl)) }; there = _; is = refl; home_is = refl });
-  cycle_b = reason.package_cycle_6 _ (are_one _ refl refl) (record { p = 1; q = 0; on_cycle = record { is_used = (0, lit< tt, refl); leads_back = (1 ∷ [], ((0, lit< tt, refl), refl)) }; there = _; is = refl; home_is = refl });
+  cycle_a = reason.package_cycle_6 _ (are_one _ refl refl refl) (record { p = 0; q = 1; on_cycle = record { is_used = (0, lit< tt, refl); leads_back = (0 ∷ [], ((0, lit< tt, refl), refl)) }; there = _; is = refl; home_is = refl });
+  cycle_b = reason.package_cycle_6 _ (are_one _ refl refl refl) (record { p = 1; q = 0; on_cycle = record { is_used = (0, lit< tt, refl); leads_back = (1 ∷ [], ((0, lit< tt, refl), refl)) }; there = _; is = refl; home_is = refl });
   no_cycle = λ span home c. let is = of_cycle _ span home c in no_cycle (λ i. i) _ refl is.p is.q is.on_cycle;
   gates = disagreeing _ _ (joins.types (record { x = 0; from = _; x' = 0; into = _; from_is = refl; matched = refl; into_is = refl }));
   no_gate = nowhere _ _ (record { types = refl; interfaces = refl; worlds = refl });
-  borrow = reason.borrow_in_result_15 _ (are_one _ refl refl) (record { f = _; t' = 1; moved = (0, lit< tt, refl); result_is = (0, lit< tt, refl); holds = (1, ([], refl), (0, refl)); message_is = refl });
+  borrow = reason.borrow_in_result_15 _ (are_one _ refl refl refl) (record { f = _; t' = 1; moved = (0, lit< tt, refl); result_is = (0, lit< tt, refl); holds = (1, ([], refl), (0, refl)); message_is = refl });
   own = λ span message c. results_fine _ refl message (of_borrow _ span message c);
   stays = λ span message c. results_fine _ refl message (of_borrow _ span message c);
-  circle_x = reason.interface_cycle_22 _ (are_one _ refl refl) (record { i = 1; j = 0; on_cycle = record { is_used = (0, lit< tt, refl); leads_back = (1 ∷ [], ((0, lit< tt, refl), refl)) }; id = _; id_is = refl; message_is = refl });
-  circle_y = reason.interface_cycle_22 _ (are_one _ refl refl) (record { i = 0; j = 1; on_cycle = record { is_used = (0, lit< tt, refl); leads_back = (0 ∷ [], ((0, lit< tt, refl), refl)) }; id = _; id_is = refl; message_is = refl });
+  circle_x = reason.interface_cycle_22 _ (are_one _ refl refl refl) (record { i = 1; j = 0; on_cycle = record { is_used = (0, lit< tt, refl); leads_back = (1 ∷ [], ((0, lit< tt, refl), refl)) }; id = _; id_is = refl; message_is = refl });
+  circle_y = reason.interface_cycle_22 _ (are_one _ refl refl refl) (record { i = 0; j = 1; on_cycle = record { is_used = (0, lit< tt, refl); leads_back = (0 ∷ [], ((0, lit< tt, refl), refl)) }; id = _; id_is = refl; message_is = refl });
   no_circle = λ span message c. let is = of_circle _ span message c in no_cycle (λ i. i) _ refl is.i is.j is.on_cycle;
   too_far = reason.offset_overflow_27 (record { from = 5; to = 10; known = (1, lit< tt, refl); past = lit≤ tt });
   just_fits = λ c. fits _ refl (of_overflow _ c);

@@ -15,6 +15,7 @@ use Rattle.wit_merge_spec.specs.Cause as reason
 use Rattle.wit_merge_spec.specs.Matches.{Merging}
 use Rattle.wit_merge_spec.specs.Reasons.{AreJoined, Mismatches}
 use Rattle.wit_merge_spec.specs.Reasons as joins
+use Rattle.wit_merge_structure.specs.Structure.{structure, structure_within}
 use Rattle.wit_merge_examples.proofs.Passing.{GatesJoin, can_merge, joined_fine}
 use Rattle.wit_merge_examples.specs.Graphs.{gate_f, gate_g, merging}
 use Rattle.wit_merge_examples.specs.Stabilities.{Disagrees, DisagreesNowhere, ExamplesOfStabilities}
@@ -38,7 +39,7 @@ pub nowhere : (g other : Graph) → GatesJoin (merging g other) → DisagreesNow
 nowhere g other all span from into c = joined_fine (merging g other) all from into (of_mismatch (merging g other) span from into c)
 
 pub stabilities : ExamplesOfStabilities
-unfolding walk walk_within import_steps import_steps_within
+unfolding walk walk_within import_steps import_steps_within structure structure_within
 stabilities = record {
   interfaces = disagreeing _ _ (joins.interfaces (record { x = 0; from = _; x' = 0; into = _; from_is = refl; matched = refl; into_is = refl }));
   same_interface = nowhere _ _ (record { types = refl; interfaces = refl; worlds = refl });
@@ -59,10 +60,10 @@ stabilities = record {
   import_takes = refl;
   label_keeps = refl;
   function_keeps = refl;
-  interface_taken = can_merge _ (record { interfaces = refl; worlds = refl; rank = λ i. i; uses = refl; packages = refl; exports = refl; gates = record { types = refl; interfaces = refl; worlds = refl }; results = refl; spans = refl });
-  interface_kept = can_merge _ (record { interfaces = refl; worlds = refl; rank = λ i. i; uses = refl; packages = refl; exports = refl; gates = record { types = refl; interfaces = refl; worlds = refl }; results = refl; spans = refl });
-  world_taken = can_merge _ (record { interfaces = refl; worlds = refl; rank = λ i. i; uses = refl; packages = refl; exports = refl; gates = record { types = refl; interfaces = refl; worlds = refl }; results = refl; spans = refl });
-  import_taken = can_merge _ (record { interfaces = refl; worlds = refl; rank = λ i. i; uses = refl; packages = refl; exports = refl; gates = record { types = refl; interfaces = refl; worlds = refl }; results = refl; spans = refl });
-  label_kept = can_merge _ (record { interfaces = refl; worlds = refl; rank = λ i. i; uses = refl; packages = refl; exports = refl; gates = record { types = refl; interfaces = refl; worlds = refl }; results = refl; spans = refl });
-  function_kept = can_merge _ (record { interfaces = refl; worlds = refl; rank = λ i. i; uses = refl; packages = refl; exports = refl; gates = record { types = refl; interfaces = refl; worlds = refl }; results = refl; spans = refl });
+  interface_taken = can_merge _ (record { interfaces = refl; worlds = refl; types = refl; rank = λ i. i; uses = refl; packages = refl; exports = refl; gates = record { types = refl; interfaces = refl; worlds = refl }; results = refl; spans = refl });
+  interface_kept = can_merge _ (record { interfaces = refl; worlds = refl; types = refl; rank = λ i. i; uses = refl; packages = refl; exports = refl; gates = record { types = refl; interfaces = refl; worlds = refl }; results = refl; spans = refl });
+  world_taken = can_merge _ (record { interfaces = refl; worlds = refl; types = refl; rank = λ i. i; uses = refl; packages = refl; exports = refl; gates = record { types = refl; interfaces = refl; worlds = refl }; results = refl; spans = refl });
+  import_taken = can_merge _ (record { interfaces = refl; worlds = refl; types = refl; rank = λ i. i; uses = refl; packages = refl; exports = refl; gates = record { types = refl; interfaces = refl; worlds = refl }; results = refl; spans = refl });
+  label_kept = can_merge _ (record { interfaces = refl; worlds = refl; types = refl; rank = λ i. i; uses = refl; packages = refl; exports = refl; gates = record { types = refl; interfaces = refl; worlds = refl }; results = refl; spans = refl });
+  function_kept = can_merge _ (record { interfaces = refl; worlds = refl; types = refl; rank = λ i. i; uses = refl; packages = refl; exports = refl; gates = record { types = refl; interfaces = refl; worlds = refl }; results = refl; spans = refl });
 }

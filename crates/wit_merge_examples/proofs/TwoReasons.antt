@@ -26,6 +26,7 @@ use Rattle.wit_merge_spec.specs.Matches.{Merging}
 use Rattle.wit_merge_spec.specs.Reasons.{AreOne, ReturnsBorrow}
 use Rattle.wit_merge_spec.specs.Reasons as joins
 use Rattle.wit_merge_spec.specs.United.{joined_graph}
+use Rattle.wit_merge_structure.specs.Structure.{structure, structure_within}
 use Rattle.wit_merge_examples.proofs.Mismatches.{disagreeing}
 use Rattle.wit_merge_examples.proofs.Passing.{are_one}
 use Rattle.wit_merge_examples.proofs.Refused.{of_conflict}
@@ -130,22 +131,22 @@ unfolding walk walk_within
 would_return = record { f = _; t' = 1; moved = (0, lit< tt, refl); result_is = (0, lit< tt, refl); holds = (1, ([], refl), (0, refl)); message_is = refl }
 
 pub two_reasons : ExamplesOfTwoReasons
-unfolding walk walk_within
+unfolding walk walk_within structure structure_within
 two_reasons = record {
-  conflict = reason.conflict_4 _ _ (are_one l_agrees refl refl) l_conflict;
-  cycle = reason.package_cycle_6 _ (are_one l_agrees refl refl) (record { p = 0; q = 1; on_cycle = record { is_used = (0, lit< tt, refl); leads_back = (0 ∷ [], ((0, lit< tt, refl), refl)) }; there = _; is = refl; home_is = refl });
+  conflict = reason.conflict_4 _ _ (are_one l_agrees refl refl refl) l_conflict;
+  cycle = reason.package_cycle_6 _ (are_one l_agrees refl refl refl) (record { p = 0; q = 1; on_cycle = record { is_used = (0, lit< tt, refl); leads_back = (0 ∷ [], ((0, lit< tt, refl), refl)) }; there = _; is = refl; home_is = refl });
   l_told = reason.merge_mismatch_24 _ l_differ;
   would_conflict = would_conflict;
   would_cycle = record { p = 0; q = 1; on_cycle = record { is_used = (0, lit< tt, refl); leads_back = (0 ∷ [], ((0, lit< tt, refl), refl)) }; there = _; is = refl; home_is = refl };
   no_conflict = λ span name c. one_of_conflict l_differs span name c _ l_differ;
   no_cycle = λ span home c. one_of_cycle l_differs span home c _ l_differ;
-  circle = reason.interface_cycle_22 _ (are_one x_agrees refl refl) x_circle;
+  circle = reason.interface_cycle_22 _ (are_one x_agrees refl refl refl) x_circle;
   would_conflict_too = would_conflict_too;
   no_conflict_beside = λ span name c. (of_conflict x_agrees span name c).interfaces _ x_circle;
   x_told = reason.merge_mismatch_24 _ x_differ;
   would_circle = record { i = 1; j = 0; on_cycle = record { is_used = (0, lit< tt, refl); leads_back = (1 ∷ [], ((0, lit< tt, refl), refl)) }; id = _; id_is = refl; message_is = refl };
   no_circle = λ span message c. one_of_circle x_differs span message c _ x_differ;
-  borrow = reason.borrow_in_result_15 _ (are_one t_agrees refl refl) (record { f = _; t' = 1; moved = (0, lit< tt, refl); result_is = (0, lit< tt, refl); holds = (1, ([], refl), (0, refl)); message_is = refl });
+  borrow = reason.borrow_in_result_15 _ (are_one t_agrees refl refl refl) (record { f = _; t' = 1; moved = (0, lit< tt, refl); result_is = (0, lit< tt, refl); holds = (1, ([], refl), (0, refl)); message_is = refl });
   t_told = reason.merge_mismatch_24 _ t_differ;
   would_return = would_return;
   no_borrow = λ span message c. one_of_borrow t_differs span message c _ t_differ;

@@ -89,6 +89,10 @@ abbrev pub record_x : Graph
 record_x = foo_bar_alone (number_in 0 (codes "t") ∷ type_in 0 (codes "x") (kind.Record (field_a (type.Id 0) ∷ [])) ∷ [])
     (interface_of (Some (codes "i")) ((codes "t", 0) ∷ (codes "x", 1) ∷ []) ∷ []) [] ((codes "i", 0) ∷ []) []
 
+-- interface i with a resource t, and a record x with a field that names it itself
+abbrev pub resource_record : Graph
+resource_record = record record_x { types = type_in 0 (codes "t") kind.Resource ∷ type_in 0 (codes "x") (kind.Record (field_a (type.Id 0) ∷ [])) ∷ [] }
+
 -- interface i, and a world w that imports it
 abbrev pub world_of_i : Graph
 world_of_i = record one_number { worlds = world_of (codes "w") (entry_of 0 ∷ []) [] ∷ []; packages = foo_bar_of ((codes "i", 0) ∷ []) ((codes "w", 0) ∷ []) ∷ [] }

@@ -20,7 +20,7 @@ use Rattle.wit_graph_data.specs.declared.graph.Graph.{Graph}
 use Rattle.wit_link_spec.specs.Gates.{Place}
 use Rattle.wit_merge_spec.specs.Cause.{CanMerge, IsMergeCause}
 use Rattle.wit_merge_spec.specs.Matches.{Merging}
-use Rattle.wit_merge_examples.specs.Graphs.{a_beside_b, a_uses_b, alias_in, b_uses_a, field_a, foo_bar_alone, foo_named, gate_f, gate_g, i_uses_j, inner, merging, more, number_in, one_number, only_c, record_x, resource_t, taking, three, two_numbers, with_functions, world_of_i}
+use Rattle.wit_merge_examples.specs.Graphs.{a_beside_b, a_uses_b, alias_in, b_uses_a, field_a, foo_bar_alone, foo_named, gate_f, gate_g, i_uses_j, inner, merging, more, number_in, one_number, only_c, record_x, resource_record, resource_t, taking, three, two_numbers, with_functions, world_of_i}
 use Rattle.wit_merge_examples.specs.Unions.{gated, named_x, v_alone, world_function}
 
 -- ---- graphs
@@ -40,15 +40,23 @@ returning ty = function_of (codes "f") [] ty
 abbrev pub importing : List Entry → Graph
 importing imports = foo_bar_alone [] (interface_of (Some (codes "a")) [] ∷ interface_of (Some (codes "b")) [] ∷ []) (world_of (codes "w") imports [] ∷ []) ((codes "a", 0) ∷ (codes "b", 1) ∷ []) ((codes "w", 0) ∷ [])
 
+-- interface i with a number of this name, and s as another name of it
+abbrev pub naming : List ℕ → Graph
+naming name = foo_bar_alone (number_in 0 name ∷ alias_in 0 (codes "s") 0 ∷ []) (interface_of (Some (codes "i")) ((name, 0) ∷ (codes "s", 1) ∷ []) ∷ []) [] ((codes "i", 0) ∷ []) []
+
+-- interface i with a number u
+abbrev pub one_number_u : Graph
+one_number_u = foo_bar_alone (number_in 0 (codes "u") ∷ []) (interface_of (Some (codes "i")) ((codes "u", 0) ∷ []) ∷ []) [] ((codes "i", 0) ∷ []) []
+
 -- interface i with a handle t of its resource r
 abbrev pub handle_t : Handle → Graph
 handle_t h = foo_bar_alone (type_in 0 (codes "r") kind.Resource ∷ type_in 0 (codes "t") (kind.Handle h) ∷ []) (interface_of (Some (codes "i")) ((codes "r", 0) ∷ (codes "t", 1) ∷ []) ∷ []) [] ((codes "i", 0) ∷ []) []
 
--- interface i with a number t and a function f that returns it
-abbrev pub returns_t : Graph
-returns_t = record one_number { interfaces = with_functions (returning (Some (type.Id 0)) ∷ []) (interface_of (Some (codes "i")) ((codes "t", 0) ∷ [])) ∷ [] }
+-- i with the same two and a function f that returns t; no commands make it of a borrow
+abbrev pub returns_t : Handle → Graph
+returns_t h = record (handle_t h) { interfaces = with_functions (returning (Some (type.Id 1)) ∷ []) (interface_of (Some (codes "i")) ((codes "r", 0) ∷ (codes "t", 1) ∷ [])) ∷ [] }
 
--- the same function among those of i with the handle
+-- and with a function f that returns nothing
 abbrev pub returns_handle : Handle → Graph
 returns_handle h = record (handle_t h) { interfaces = with_functions (returning None ∷ []) (interface_of (Some (codes "i")) ((codes "r", 0) ∷ (codes "t", 1) ∷ [])) ∷ [] }
 
@@ -121,8 +129,12 @@ pub record ExamplesOfMismatches : Type 0 where
   pub ids : DifferInNothing (holding (taking_x (type.Id 0))) (holding (taking_x (type.Id 1)))
   pub result_types : DifferIn (holding (returning (Some type.U32))) (holding (returning (Some type.U8))) (codes "failed to merge interface `i`: mismatch in function `f`: different function result types: different kinds of types")
   pub result_counts : DifferIn (holding (returning (Some type.U32))) (holding (returning None)) (codes "failed to merge interface `i`: mismatch in function `f`: different number of function results")
-  -- nothing is asked of the structure of types
-  pub resource_and_number : DifferInNothing resource_t record_x
+  -- matched types by their structure, of which wit_merge_structure has more examples
+  pub resource_and_number : DifferIn resource_t record_x (codes "failed to merge interface `i`: mismatch in type `t`: different kinds of types")
+  pub other_target : DifferIn (naming (codes "u")) (naming (codes "v")) (codes "failed to merge interface `i`: mismatch in type `s`: at alias: different types")
+  pub same_target : DifferInNothing (naming (codes "u")) (naming (codes "u"))
+  -- types under two names are not matched, whatever they are
+  pub other_type : DifferInNothing resource_t one_number_u
   -- worlds
   pub import_counts : DifferIn (importing (entry_of 0 ∷ [])) (importing []) (codes "failed to merge world `w`: world contains different number of imports than expected")
   pub export_counts : DifferIn (importing []) (record (importing []) { worlds = world_of (codes "w") [] (entry_of 0 ∷ []) ∷ [] }) (codes "failed to merge world `w`: world contains different number of exports than expected")
@@ -157,10 +169,10 @@ pub record ExamplesOfRefusals : Type 0 where
   -- 8: of what is handed in, to what is there
   pub gates : IsMergeCause (merging (gated gate_f) (gated gate_g)) (StabilityMismatch None gate_g gate_f)
   pub no_gate : (span : Place) (from into : Stability) → IsMergeCause (merging (gated gate_f) one_number) (StabilityMismatch span from into) → ⊥
-  -- 15: t is a borrow here; where it is an `own` here, or where i has its function, there is no such reason
-  pub borrow : IsMergeCause (merging (handle_t (handle.Borrow 0)) returns_t) (Semantic None (codes "function `f` returns a type which contains a `borrow<T>` which is not supported") cause.BorrowInResult)
-  pub own : (span : Place) (message : List ℕ) → IsMergeCause (merging (handle_t (handle.Own 0)) returns_t) (Semantic span message cause.BorrowInResult) → ⊥
-  pub stays : (span : Place) (message : List ℕ) → IsMergeCause (merging (returns_handle (handle.Borrow 0)) returns_t) (Semantic span message cause.BorrowInResult) → ⊥
+  -- 15: a function that comes returns a borrow; where t is an `own`, or where i has its function, there is no such reason
+  pub borrow : IsMergeCause (merging (handle_t (handle.Borrow 0)) (returns_t (handle.Borrow 0))) (Semantic None (codes "function `f` returns a type which contains a `borrow<T>` which is not supported") cause.BorrowInResult)
+  pub own : (span : Place) (message : List ℕ) → IsMergeCause (merging (handle_t (handle.Own 0)) (returns_t (handle.Own 0))) (Semantic span message cause.BorrowInResult) → ⊥
+  pub stays : (span : Place) (message : List ℕ) → IsMergeCause (merging (returns_handle (handle.Borrow 0)) (returns_t (handle.Borrow 0))) (Semantic span message cause.BorrowInResult) → ⊥
   -- 22: either interface of the cycle
   pub circle_x : IsMergeCause (merging x_uses_y y_uses_x) (Semantic None (codes "interface `foo:bar/x` would depend on itself") cause.InterfaceCycle)
   pub circle_y : IsMergeCause (merging x_uses_y y_uses_x) (Semantic None (codes "interface `foo:bar/y` would depend on itself") cause.InterfaceCycle)
@@ -180,7 +192,7 @@ pub record ExamplesOfAccepted : Type 0 where
   pub nothing_comes : CanMerge (merging three empty_graph)
   pub itself : CanMerge (merging three three)
   pub grown : CanMerge (merging one_number more)
-  pub resource : CanMerge (merging resource_t record_x)
+  pub resource : CanMerge (merging resource_t resource_record)
   pub first_order : CanMerge (merging (two_numbers (codes "u")) (two_numbers (codes "v")))
   pub second_order : CanMerge (merging (two_numbers (codes "v")) (two_numbers (codes "u")))
   pub elaborated : CanMerge (merging world_of_i i_uses_j)
@@ -188,7 +200,7 @@ pub record ExamplesOfAccepted : Type 0 where
   pub into_nothing : CanMerge (merging empty_graph three)
   pub less : CanMerge (merging more one_number)
   pub no_own : CanMerge (merging one_number record_x)
-  pub not_owned : CanMerge (merging record_x resource_t)
+  pub not_owned : CanMerge (merging resource_record resource_t)
   pub inner_joined : CanMerge (merging (inner ((codes "t", 0) ∷ []) (number_in 0 (codes "t") ∷ []) []) (inner ((codes "u", 0) ∷ []) (number_in 0 (codes "u") ∷ []) (function_of (codes "f") (type.Id 0 ∷ []) None ∷ [])))
   pub function_once : CanMerge (merging world_function world_function)
   pub world_comes : CanMerge (merging world_of_i v_alone)

@@ -17,7 +17,7 @@ use Rattle.wit_merge_spec.specs.Cause.{IsMergeCause}
 use Rattle.wit_merge_spec.specs.Matches.{Merging}
 use Rattle.wit_merge_spec.specs.Reasons.{ReturnsBorrow}
 use Rattle.wit_merge_spec.specs.United.{joined_graph}
-use Rattle.wit_merge_examples.specs.Graphs.{alias_in, foo_named, gate_f, gate_g, interface_in, merging, number_in, one_number, package_named, taking, with_functions}
+use Rattle.wit_merge_examples.specs.Graphs.{alias_in, foo_named, gate_f, gate_g, interface_in, merging, number_in, package_named, taking, with_functions}
 use Rattle.wit_merge_examples.specs.Refusals.{handle_t, holding, returning, x_uses_y, y_uses_x}
 
 -- ---- graphs
@@ -37,11 +37,11 @@ exporting_l f = record {
   package_names = (foo_named (codes "a"), 0) ∷ (foo_named (codes "b"), 1) ∷ [];
 }
 
--- package foo:b with j, which has a number t, and foo:a with l, which has another name of it, and a function
+-- package foo:b with j, which has a number u, and foo:a with l, which has another name of it, and a function
 abbrev pub l_uses_j : Function → Graph
 l_uses_j f = record {
-  types = number_in 0 (codes "t") ∷ alias_in 1 (codes "t") 0 ∷ [];
-  interfaces = interface_in 0 (codes "j") ((codes "t", 0) ∷ []) ∷ with_functions (f ∷ []) (interface_in 1 (codes "l") ((codes "t", 1) ∷ [])) ∷ [];
+  types = number_in 0 (codes "u") ∷ alias_in 1 (codes "u") 0 ∷ [];
+  interfaces = interface_in 0 (codes "j") ((codes "u", 0) ∷ []) ∷ with_functions (f ∷ []) (interface_in 1 (codes "l") ((codes "u", 1) ∷ [])) ∷ [];
   worlds = [];
   packages = package_named (codes "b") ((codes "j", 0) ∷ []) ∷ package_named (codes "a") ((codes "l", 1) ∷ []) ∷ [];
   package_names = (foo_named (codes "b"), 0) ∷ (foo_named (codes "a"), 1) ∷ [];
@@ -72,12 +72,12 @@ x_agrees = merging (exporting_x (g_of (codes "p"))) (y_uses_such (g_of (codes "p
 abbrev pub x_differs : Merging
 x_differs = merging (exporting_x (g_of (codes "p"))) (y_uses_such (g_of (codes "q")))
 
--- interface i with a borrow t and a function g, and one with a number t, a function f that returns it, and a function g
+-- interface i with a borrow t and a function g, and with a function f that returns it beside that
 abbrev pub borrow_and : Function → Graph
 borrow_and f = record (handle_t (handle.Borrow 0)) { interfaces = with_functions (f ∷ []) (interface_of (Some (codes "i")) ((codes "r", 0) ∷ (codes "t", 1) ∷ [])) ∷ [] }
 
 abbrev pub returns_and : Function → Graph
-returns_and f = record one_number { interfaces = with_functions (returning (Some (type.Id 0)) ∷ f ∷ []) (interface_of (Some (codes "i")) ((codes "t", 0) ∷ [])) ∷ [] }
+returns_and f = record (handle_t (handle.Borrow 0)) { interfaces = with_functions (returning (Some (type.Id 1)) ∷ f ∷ []) (interface_of (Some (codes "i")) ((codes "r", 0) ∷ (codes "t", 1) ∷ [])) ∷ [] }
 
 abbrev pub t_agrees : Merging
 t_agrees = merging (borrow_and (g_of (codes "p"))) (returns_and (g_of (codes "p")))

@@ -18,7 +18,7 @@ use Rattle.wit_graph_data.specs.declared.graph.Package.{Package}
 use Rattle.wit_merge_spec.specs.Matches.{found_interface, found_package, found_type, found_world}
 use Rattle.wit_merge_spec.specs.Moved.{going}
 use Rattle.wit_merge_spec.specs.United.{united}
-use Rattle.wit_merge_examples.specs.Graphs.{a_beside_b, a_uses_b, alias_in, b_uses_a, field_a, foo_bar_alone, foo_named, gate_f, i_uses_j, inner, interface_in, merging, more, number_in, one_number, only_c, package_named, record_x, resource_t, three, two_numbers, world_of_i}
+use Rattle.wit_merge_examples.specs.Graphs.{a_beside_b, a_uses_b, alias_in, b_uses_a, field_a, foo_bar_alone, foo_named, gate_f, i_uses_j, inner, interface_in, merging, more, number_in, one_number, only_c, package_named, record_x, resource_record, resource_t, three, two_numbers, world_of_i}
 
 -- an interface without a name beside world w, which imports and exports these
 abbrev pub nameless : List Entry → List Entry → Graph
@@ -138,17 +138,17 @@ pub record ExamplesOfUnions : Type 0 where
   pub second_import : united (merging (two_numbers (codes "v")) (two_numbers (codes "u"))) ≡ record (three_numbers (codes "v") (codes "u")) { worlds = world_of (codes "w") [] [] ∷ [] } → ⊥
   -- so the two graphs that are made aren't equal
   pub orders_differ : united (merging (two_numbers (codes "u")) (two_numbers (codes "v"))) ≡ united (merging (two_numbers (codes "v")) (two_numbers (codes "u"))) → ⊥
-  -- t is a resource here, so a value of it is an `own`, which stands behind what moves; the record itself isn't kept out
-  pub owned : (united (merging resource_t record_x)).types ≡ type_in 0 (codes "t") kind.Resource ∷ type_in 0 (codes "x") (kind.Record (record { name = codes "a"; ty = type.Id 2; docs = no_docs; span = None } ∷ [])) ∷ unnamed (kind.Handle (handle.Own 0)) ∷ []
+  -- t is a resource, so a value of it that comes is an `own`, which stands behind what moves; the record itself isn't kept out
+  pub owned : (united (merging resource_t resource_record)).types ≡ type_in 0 (codes "t") kind.Resource ∷ type_in 0 (codes "x") (kind.Record (record { name = codes "a"; ty = type.Id 2; docs = no_docs; span = None } ∷ [])) ∷ unnamed (kind.Handle (handle.Own 0)) ∷ []
   -- not a plain value of it, not a `borrow`, not an `own` before the record, and t becomes no number
-  pub not_plain : (united (merging resource_t record_x)).types ≡ type_in 0 (codes "t") kind.Resource ∷ x_of (type.Id 0) ∷ [] → ⊥
-  pub not_borrowed : (united (merging resource_t record_x)).types ≡ type_in 0 (codes "t") kind.Resource ∷ x_of (type.Id 2) ∷ unnamed (kind.Handle (handle.Borrow 0)) ∷ [] → ⊥
-  pub not_before : (united (merging resource_t record_x)).types ≡ type_in 0 (codes "t") kind.Resource ∷ unnamed (kind.Handle (handle.Own 0)) ∷ x_of (type.Id 1) ∷ [] → ⊥
-  pub no_number : (united (merging resource_t record_x)).types ≡ number_in 0 (codes "t") ∷ x_of (type.Id 2) ∷ unnamed (kind.Handle (handle.Own 0)) ∷ [] → ⊥
-  -- where t is a number here too no `own` comes
+  pub not_plain : (united (merging resource_t resource_record)).types ≡ type_in 0 (codes "t") kind.Resource ∷ x_of (type.Id 0) ∷ [] → ⊥
+  pub not_borrowed : (united (merging resource_t resource_record)).types ≡ type_in 0 (codes "t") kind.Resource ∷ x_of (type.Id 2) ∷ unnamed (kind.Handle (handle.Borrow 0)) ∷ [] → ⊥
+  pub not_before : (united (merging resource_t resource_record)).types ≡ type_in 0 (codes "t") kind.Resource ∷ unnamed (kind.Handle (handle.Own 0)) ∷ x_of (type.Id 1) ∷ [] → ⊥
+  pub no_number : (united (merging resource_t resource_record)).types ≡ number_in 0 (codes "t") ∷ x_of (type.Id 2) ∷ unnamed (kind.Handle (handle.Own 0)) ∷ [] → ⊥
+  -- where t is a number no `own` comes
   pub no_own : united (merging one_number record_x) ≡ record_x
-  -- and t stays what it is here
-  pub not_owned : united (merging record_x resource_t) ≡ record_x
+  -- and a value that is there stays as it is
+  pub not_owned : united (merging resource_record resource_t) ≡ resource_record
   -- i uses j now, so a world that imports i imports j, before it
   pub elaborated : (united (merging world_of_i i_uses_j)).worlds ≡ world_of (codes "w") (entry_of 1 ∷ entry_of 0 ∷ []) [] ∷ []
   pub not_as_listed : (united (merging world_of_i i_uses_j)).worlds ≡ world_of_i.worlds → ⊥

@@ -3,6 +3,8 @@ pub mod Mapped
 pub mod Matched
 mod Next
 pub mod Noted
+pub mod PairSteps
 pub mod Passing
 pub mod Steps
+pub mod TypesCompared
 pub mod TypesFound

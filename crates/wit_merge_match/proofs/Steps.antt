@@ -1,12 +1,14 @@
 -- The steps that look for a mismatch: what is looked up, the loops, and from what they tell to the definitions.
-use Rattle.std.proofs.Common.{◌≡◌, ◌≢◌, ◌∙◌, ℕ, ◌+◌, ◌<◌, ◌≤◌, true, false, List, [], ◌∷◌, ◌++◌, append_assoc, length, Option, Some, None, option_and_then, slice_get, refl, sym, ap, subst, arith, below_more, codes, IfNone}
+use Rattle.std.proofs.Common.{◌≡◌, ◌≢◌, ◌∙◌, ℕ, ◌+◌, ◌<◌, ◌≤◌, true, false, List, [], ◌∷◌, ◌++◌, append_assoc, length, Option, Some, None, option_and_then, slice_get, refl, sym, ap, subst, arith, below_more, codes, Contains, IfNone}
 use Rattle.std.proofs.lemmas.Option.{slice_get_within}
 use Rattle.std.proofs.lemmas.Bool.{false≢true}
+use Rattle.std.proofs.lemmas.List.Elements.{Contains-append_right}
 use Rattle.wit_data.specs.Entries.{Entry, item_interface}
 use Rattle.wit_data.specs.PackageName.{package_name_text}
 use Rattle.wit_data.specs.declared.interface.Interface.{Interface}
 use Rattle.wit_data.specs.declared.package_name.PackageName.{PackageName}
 use Rattle.wit_data.specs.declared.world.WorldItem.{WorldItem}
+use Rattle.wit_digraph.specs.MemberFacts.{Contains-here}
 use Rattle.wit_graph_data.specs.declared.graph.Package.{Package}
 use Rattle.wit_graph_theory.specs.FunctionMismatch.{HaveFunctionMismatch}
 use Rattle.wit_graph_theory.specs.ListFacts.{contained_at, place_of}
@@ -14,10 +16,12 @@ use Rattle.wit_graph_theory.specs.OptionFacts.{some_parts, some_same, some_whole
 use Rattle.wit_merge_spec.specs.Agreement as agreement
 use Rattle.wit_merge_spec.specs.Agreement.{EntriesDiffer, GraphsDiffer, ItemsDiffer, same_sort}
 use Rattle.wit_merge_spec.specs.Matches.{Merging, Pair, found_interface, found_world}
-use Rattle.wit_merge_spec.specs.MismatchText.{entry_count_text, entry_link, linked, other_interface_text, other_sort_text, part_links}
+use Rattle.wit_merge_spec.specs.MismatchText.{entry_count_text, entry_link, linked, other_interface_text, other_sort_text, part_links, type_link}
 use Rattle.wit_merge_spec.specs.Reasons.{AreOne}
+use Rattle.wit_merge_spec.specs.TypePairs.{TypePair, type_pairs}
 use Rattle.wit_merge_match.specs.Differing as differing
 use Rattle.wit_merge_match.specs.Differing.{DifferAt, EntryDiffers, HeldDiffer, InterfaceDiffersAt, InterfacesDiffer, PartDiffers, WorldDiffersAt, WorldsDiffer}
+use Rattle.wit_merge_match.specs.Structures.{FirstTold, NoneDiffer}
 
 -- what follows where there is nothing
 pub if_none : {X P Q : Type 0} → (P → Q) → (o : Option X) → IfNone o P → IfNone o Q
@@ -28,6 +32,9 @@ if_none follows (Some x) h = h
 
 pub entry_text : (word key text : List ℕ) → word ++ (codes " `" ++ (key ++ (codes "` didn't match target world: " ++ text))) ≡ linked (entry_link word key ∷ []) text
 entry_text word key text = simp append_assoc
+
+pub type_text : (name text : List ℕ) → codes "mismatch in type `" ++ (name ++ (codes "`: " ++ text)) ≡ linked (type_link name ∷ []) text
+type_text name text = simp append_assoc
 
 pub part_text : (home : PackageName) (sort name text : List ℕ)
     → codes "failed to merge package `" ++ (package_name_text home ++ (codes "` into existing copy: failed to merge " ++ (sort ++ (codes " `" ++ (name ++ (codes "`: " ++ text)))))) ≡ linked (part_links home sort name) text
@@ -161,12 +168,16 @@ module _ (m : Merging) where
       subst (GraphsDiffer m) (sym (d.message_is ∙ ap (λ (name : List ℕ). linked (part_links d.there.name (codes "world") name) d.text) called))
       (agreement.worlds pair.0 home.0 d.there d.differ.exported d.text home.1 home.2 d.differ.differ)
 
-  pub are_one : ((i : ℕ) (message : List ℕ) → InterfaceDiffersAt m i message → ⊥) → ((w : ℕ) (message : List ℕ) → WorldDiffersAt m w message → ⊥) → AreOne m
-  are_one interfaces worlds _ (agreement.interfaces p home there name text named of is apart) =
+  -- of matched types the first that differ
+  pub types_differ : (message : List ℕ) → FirstTold m (type_pairs m) message → GraphsDiffer m message
+  types_differ message first = agreement.types message first
+
+  pub are_one : ((i : ℕ) (message : List ℕ) → InterfaceDiffersAt m i message → ⊥) → ((w : ℕ) (message : List ℕ) → WorldDiffersAt m w message → ⊥) → NoneDiffer m (type_pairs m) → AreOne m
+  are_one interfaces worlds types _ (agreement.interfaces p home there name text named of is apart) =
       interfaces p.x _
       (from_pair (found_interface m) m.other.interfaces m.graph.interfaces (InterfacesDiffer m) p _
       (record { there = there; there_is = some_whole (slice_get m.other.packages) p.from.package home there of is; called = name; called_is = named; text = text; differ = apart; message_is = refl }))
-  are_one interfaces worlds _ (agreement.worlds p home there exported text of is d) =
+  are_one interfaces worlds types _ (agreement.worlds p home there exported text of is d) =
       worlds p.x _
       (from_pair (found_world m) m.other.worlds m.graph.worlds (WorldsDiffer m) p _
       (record {
@@ -178,4 +189,6 @@ module _ (m : Merging) where
         differ = record { exported = exported; differ = d };
         message_is = refl;
       }))
-  are_one interfaces worlds _ (agreement.types message first) = first.differs
+  are_one interfaces worlds types _ (agreement.types message first) =
+      let among : Contains (type_pairs m) first.pair = subst (λ (l : List TypePair). Contains l first.pair) (sym first.pairs_are) (Contains-append_right first.before (first.pair ∷ first.after) first.pair (Contains-here first.pair first.after)) in
+      types first.pair first.ending among first.differs

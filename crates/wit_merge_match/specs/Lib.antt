@@ -3,3 +3,4 @@ pub mod Found
 pub mod Going
 pub mod OffsetFacts
 pub mod Stabilities
+pub mod Structures

@@ -25,7 +25,7 @@ module _ (g other : Graph) (a b : ℕ) where
   pub differ_by : (message : List ℕ) → GraphsDiffer (merging_by g other a) message → GraphsDiffer (merging_by g other b) message
   differ_by _ (agreement.interfaces p home there name text named of is apart) = agreement.interfaces p home there name text named of is apart
   differ_by _ (agreement.worlds p home there exported text of is d) = agreement.worlds p home there exported text of is (entries_by _ _ _ text d)
-  differ_by _ (agreement.types message first) = absurd first.differs
+  differ_by _ (agreement.types message first) = agreement.types message first
 
   joined_by : (from into : Stability) → AreJoined (merging_by g other a) from into → AreJoined (merging_by g other b) from into
   joined_by _ _ (reasons.types p) = reasons.types p

@@ -12,6 +12,7 @@ mod mismatch;
 mod spans;
 mod spots;
 mod stabilities;
+mod structures;
 mod tables;
 mod types;
 

@@ -1,7 +1,7 @@
 //! The messages of mismatches: what differs, and where.
 ghost use Rattle.std.specs.Prelude.{◌≡◌, ◌∷◌, [], IfOk, string_bytes};
 ghost use Rattle.wit_graph_data.specs.IdText.{key_text};
-ghost use Rattle.wit_merge_spec.specs.MismatchText.{absent_text, entry_count_text, entry_link, linked, part_links};
+ghost use Rattle.wit_merge_spec.specs.MismatchText.{absent_text, entry_count_text, entry_link, linked, part_links, type_link};
 
 use std::alloc::{AllocError, Global};
 use wit_data::{PackageName, WorldKey};
@@ -32,6 +32,13 @@ pub(crate) fn in_entry(
     ensures { IfOk result (λ message. string_bytes message ≡ linked (entry_link word.now key.now ∷ []) text.now) }
 {
     format!(in alloc; "{word} `{key}` didn't match target world: {text}")
+}
+
+/// What differs in a type.
+pub(crate) fn in_type(alloc: Global, name: &str, text: &str) -> Result<String, AllocError>
+    ensures { IfOk result (λ message. string_bytes message ≡ linked (type_link name.now ∷ []) text.now) }
+{
+    format!(in alloc; "mismatch in type `{name}`: {text}")
 }
 
 /// There is no such entry.

@@ -1,5 +1,6 @@
 //! What differs of what is matched of two graphs, which have to agree to become one.
 ghost use Rattle.std.specs.Prelude.{ℕ, IfNone, IfOk, IfSome, List, string_bytes};
+ghost use Rattle.wit_elaboration.specs.Valid.{IsValid};
 ghost use Rattle.wit_merge_spec.specs.Agreement.{GraphsDiffer};
 ghost use Rattle.wit_merge_spec.specs.Reasons.{AreOne};
 ghost use Rattle.wit_merge_match.specs.Found.{AreMatches, merging};
@@ -13,10 +14,10 @@ use wit_graph_data::Graph;
 use wit_unite_common::interface_mismatch;
 
 /// What differs of the other graph and what it is matched with in the graph, told with where it is: an interface of a
-/// name that disagrees in a function, or a world whose entries differ. Of several any may be told. None where nothing
-/// differs.
+/// name that disagrees in a function, a world whose entries differ, or types that differ in structure. Of several any
+/// may be told, but of types the first in order alone. None where nothing differs.
 ///
-/// The matches are those of the two graphs. The only error is want of memory.
+/// Both graphs are valid, and the matches are theirs. The only error is want of memory.
 ///
 /// Source: `build_interface`, `build_function`, `build_world` and `match_world_item` of wit-parser 0.263.0.
 pub fn find_mismatch(
@@ -25,7 +26,9 @@ pub fn find_mismatch(
     other: &Graph,
     matches: &Matches,
 ) -> Result<Option<String>, AllocError>
-    requires { AreMatches graph.now other.now matches.now }
+    requires graph { IsValid graph.now }
+    requires other { IsValid other.now }
+    requires matches { AreMatches graph.now other.now matches.now }
     ensures some { IfOk result (λ found. IfSome found (λ message. GraphsDiffer (merging graph.now other.now) (string_bytes message))) }
     ensures none { IfOk result (λ found. IfNone found (AreOne (merging graph.now other.now))) }
 {
@@ -36,7 +39,10 @@ pub fn find_mismatch(
     };
     match comparing.interfaces_mismatch(alloc)? {
         Some(message) => Ok(Some(message)),
-        None => comparing.worlds_mismatch(alloc),
+        None => match comparing.worlds_mismatch(alloc)? {
+            Some(message) => Ok(Some(message)),
+            None => comparing.structures_mismatch(alloc),
+        },
     }
 }
 

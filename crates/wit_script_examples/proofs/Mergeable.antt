@@ -1,5 +1,5 @@
 -- Small merges against which nothing speaks, and one that is refused for what its interfaces are under.
-use Rattle.std.proofs.Common.{◌≡◌, ◌∙◌, ℕ, zero, suc, true, List, [], ◌∷◌, Option, Some, None, slice_get, refl, sym, ap, subst, Contains}
+use Rattle.std.proofs.Common.{◌≡◌, ◌∙◌, ℕ, zero, suc, true, List, [], ◌∷◌, ◌++◌, Option, Some, None, slice_get, refl, sym, ap, subst, Contains}
 use Rattle.wit_digraph.specs.MemberFacts.{Contains-nil}
 use Rattle.wit_sources.specs.Span.{Place}
 use Rattle.wit_data.specs.declared.interface.Interface.{Interface}
@@ -19,6 +19,7 @@ use Rattle.wit_merge_spec.specs.Matches.{Merging, Pair, found_interface, found_t
 use Rattle.wit_merge_spec.specs.Reasons.{AreJoined, Mismatches}
 use Rattle.wit_merge_spec.specs.Reasons as joins
 use Rattle.wit_merge_spec.specs.United.{joined_graph}
+use Rattle.wit_merge_structure.specs.Structure.{DifferInStructure, Feature, structure, structure_within}
 use Rattle.wit_script_examples.specs.SmallGraphs.{bare, gate, gated}
 
 no_pair : {X : Type 0} (found : ℕ → Option ℕ) (ours : List X) → Pair found [] ours → ⊥
@@ -27,6 +28,15 @@ no_pair found ours p = let is = p.from_is in cc
 pub the_one : {X : Type 0} (first x : X) (k : ℕ) → slice_get (first ∷ []) k ≡ Some x → first ≡ x
 the_one first x zero at = cc
 the_one first x (suc k) at = cc
+
+-- where there are no types none differ
+in_front : (before after : List Feature) (x : Feature) → [] ≡ before ++ (x ∷ after) → ⊥
+in_front [] after x same = cc
+in_front (y ∷ before) after x same = cc
+
+no_types : (found : ℕ → Option ℕ) (t t' : ℕ) (text : List ℕ) → DifferInStructure [] [] found t t' text → ⊥
+unfolding structure structure_within
+no_types found t t' text d = in_front d.first.before d.first.after d.x d.first.xs_are
 
 -- ---- packages alone
 
@@ -43,7 +53,7 @@ module _ (ps : List Package) (ns : List (PackageName × ℕ)) (qs : List Package
   none_differ : (message : List ℕ) → GraphsDiffer of_packages message → ⊥
   none_differ _ (differ.interfaces p home there name text named of is told) = no_pair (found_interface of_packages) [] p
   none_differ _ (differ.worlds p home there exported text of is told) = no_pair (found_world of_packages) [] p
-  none_differ _ (differ.types message first) = first.differs
+  none_differ _ (differ.types message first) = no_types (found_type of_packages) first.pair.from first.pair.into first.ending first.differs
 
   module _ (falling : all_uses (falls (λ p. p)) (graph_package_uses (joined_graph of_packages)) ≡ true) where
     pub packages_merge : CanMerge of_packages
@@ -88,7 +98,7 @@ module _ (f g : List ℕ) (offset : ℕ) where
   agree : (message : List ℕ) → GraphsDiffer of_gates message → ⊥
   agree _ (differ.interfaces p home there name text named of is told) = no_function p.from p.into p.x text p.from_is told
   agree _ (differ.worlds p home there exported text of is told) = no_pair (found_world of_gates) [] p
-  agree _ (differ.types message first) = first.differs
+  agree _ (differ.types message first) = no_types (found_type of_gates) first.pair.from first.pair.into first.ending first.differs
 
   module _ (same : gate g ≡ gate f) where
     join : (from into : Stability) → Mismatches of_gates from into → ⊥
