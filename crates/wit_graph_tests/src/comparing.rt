@@ -1,11 +1,13 @@
 //! What speaks against merging another graph into a valid one: each of the three reasons that read the two graphs and
 //! what is matched of them alone.
-use crate::fixtures::{entries, function, label, names, string, text};
-use crate::validity::{Breach, graph};
+use crate::fixtures::{
+    entries, function, function_entry, interface_item, label, names, string, text, type_at,
+};
+use crate::validity::{Breach, add_entry, graph};
 use std::alloc::Global;
 use std::process::Abort;
 use std::rt::HostRuntime;
-use wit_data::{FunctionKind, Span, Stability, Type_, TypeId, WorldItem};
+use wit_data::{FunctionKind, Span, Stability, Table, Type_, TypeDefKind, WorldItem, WorldKey};
 use wit_graph_data::Graph;
 use wit_merge_match::{find_matches, find_mismatch, find_stability_mismatch, spans_fit};
 use wit_validity::is_valid;
@@ -18,7 +20,10 @@ enum Change {
     FurtherImport,
     FurtherExport,
     Export,
-    ExportOfType,
+    ExportOfInterface,
+    TypeOfInterface,
+    TypeOfUnnamed,
+    TypeOfWorld,
 }
 
 /// What differs of the graph with this change and the valid one, `-` where nothing does.
@@ -28,8 +33,12 @@ fn mismatch_of(rt: &impl Abort, alloc: Global, change: Change) -> String {
     mismatch(rt, alloc, &ours, &other)
 }
 
-fn mismatch(rt: &impl Abort, alloc: Global, ours: &Graph, other: &Graph) -> String {
+/// What differs of two graphs, `-` where nothing does; an empty text where one of them isn't valid.
+pub(crate) fn mismatch(rt: &impl Abort, alloc: Global, ours: &Graph, other: &Graph) -> String {
     if !is_valid(alloc, ours).expect(rt, "memory") {
+        return String::new(alloc);
+    }
+    if !is_valid(alloc, other).expect(rt, "memory") {
         return String::new(alloc);
     }
     let found = find_matches(alloc, ours, other).expect(rt, "memory");
@@ -42,8 +51,7 @@ fn mismatch(rt: &impl Abort, alloc: Global, ours: &Graph, other: &Graph) -> Stri
 fn changed(rt: &impl Abort, alloc: Global, change: Change) -> Graph {
     match change {
         Change::Nothing => graph(rt, alloc, Breach::Nothing),
-        Change::FurtherImport => graph(rt, alloc, Breach::UnnamedInTwoPlaces),
-        Change::FurtherExport => graph(rt, alloc, Breach::UnnamedOfOtherExported),
+        Change::FurtherImport => importing(rt, alloc, "more"),
         Change::Parameter => {
             let kind = FunctionKind::Freestanding;
             let f = function(rt, alloc, "f", kind, Type_::U32);
@@ -54,19 +62,58 @@ fn changed(rt: &impl Abort, alloc: Global, change: Change) -> Graph {
             }
             other
         }
-        Change::Export => exporting(rt, alloc, "k"),
-        Change::ExportOfType => exporting(rt, alloc, "h"),
+        Change::FurtherExport => exporting(rt, alloc, "h", Some("more")),
+        Change::Export => exporting(rt, alloc, "k", None),
+        Change::ExportOfInterface => exporting_interface(rt, alloc, "h"),
+        Change::TypeOfInterface => with_kind(rt, alloc, 0, TypeDefKind::Type_(Type_::U8)),
+        Change::TypeOfUnnamed => with_kind(rt, alloc, 3, TypeDefKind::List(Type_::U32)),
+        Change::TypeOfWorld => with_kind(rt, alloc, 4, TypeDefKind::Type_(type_at(0))),
     }
 }
 
-/// The graph whose world exports a type alone, under this label.
-fn exporting(rt: &impl Abort, alloc: Global, name: &str) -> Graph {
-    let item = WorldItem::Type_ {
-        id: TypeId::from_index(4),
-        span: Span::unknown(),
-    };
+/// The graph where a type is of another kind.
+fn with_kind(rt: &impl Abort, alloc: Global, index: usize, kind: TypeDefKind) -> Graph {
     let mut other = graph(rt, alloc, Breach::Nothing);
-    let exports = entries(rt, alloc, [(label(rt, alloc, name), item)]);
+    if index < other.types.len() {
+        other.types.at_mut(index).kind = kind;
+    }
+    other
+}
+
+/// A function of a number under its label.
+fn of_number(rt: &impl Abort, alloc: Global, name: &str) -> (WorldKey, WorldItem) {
+    let kind = FunctionKind::Freestanding;
+    function_entry(rt, alloc, name, function(rt, alloc, name, kind, Type_::U32))
+}
+
+/// The graph whose world imports a further function.
+fn importing(rt: &impl Abort, alloc: Global, name: &str) -> Graph {
+    let (key, item) = of_number(rt, alloc, name);
+    let mut other = graph(rt, alloc, Breach::Nothing);
+    if other.worlds.len() > 0 {
+        add_entry(rt, &mut other.worlds.at_mut(0).imports, key, item);
+    }
+    other
+}
+
+/// The graph whose world exports one function or two.
+fn exporting(rt: &impl Abort, alloc: Global, name: &str, more: Option<&str>) -> Graph {
+    let mut exports = entries(rt, alloc, [of_number(rt, alloc, name)]);
+    if let Some(more) = more {
+        let (key, item) = of_number(rt, alloc, more);
+        add_entry(rt, &mut exports, key, item);
+    }
+    with_exports(rt, alloc, exports)
+}
+
+/// The graph whose world exports interface `a` under a label.
+fn exporting_interface(rt: &impl Abort, alloc: Global, name: &str) -> Graph {
+    let exports = entries(rt, alloc, [(label(rt, alloc, name), interface_item(0))]);
+    with_exports(rt, alloc, exports)
+}
+
+fn with_exports(rt: &impl Abort, alloc: Global, exports: Table<WorldKey, WorldItem>) -> Graph {
+    let mut other = graph(rt, alloc, Breach::Nothing);
     if other.worlds.len() > 0 {
         other.worlds.at_mut(0).exports = exports;
     }
@@ -94,8 +141,20 @@ fn what_is_matched_has_to_agree(rt: HostRuntime) {
             "failed to merge package `foo:bar` into existing copy: failed to merge world `w`: export `k` not found in target world",
         ),
         (
-            Change::ExportOfType,
+            Change::ExportOfInterface,
             "failed to merge package `foo:bar` into existing copy: failed to merge world `w`: export `h` didn't match target world: world items do not have the same type",
+        ),
+        (
+            Change::TypeOfInterface,
+            "failed to merge package `foo:bar` into existing copy: failed to merge interface `a`: mismatch in type `t`: at alias: different kinds of types",
+        ),
+        (
+            Change::TypeOfUnnamed,
+            "failed to merge package `foo:bar` into existing copy: failed to merge world `w`: import `in-place` didn't match target world: mismatch in type `k`: different kinds of types",
+        ),
+        (
+            Change::TypeOfWorld,
+            "failed to merge package `foo:bar` into existing copy: failed to merge world `w`: import `y` didn't match target world: mismatch in type `y`: at alias: different types",
         ),
     ];
     for &(change, text) in &told {

@@ -28,6 +28,30 @@ fn gates_are_copied_and_shown(rt: HostRuntime) {
     );
 }
 
+/// Whether gates are unknown, and whether they are stable: none, `@since`, and `@unstable`.
+fn gates_asked(rt: &impl Abort, alloc: Global) -> [(bool, bool); 3] {
+    let since = Version::parse(alloc, "0.3.1").expect(rt, "a version");
+    let stable = Stability::Stable {
+        since,
+        deprecated: None,
+    };
+    let unstable = Stability::Unstable {
+        feature: text(rt, alloc, "fancy"),
+        deprecated: None,
+    };
+    let none = Stability::Unknown;
+    [
+        (none.is_unknown(), none.is_stable()),
+        (stable.is_unknown(), stable.is_stable()),
+        (unstable.is_unknown(), unstable.is_stable()),
+    ]
+}
+
+#[test]
+fn gates_are_unknown_stable_or_neither(rt: HostRuntime) {
+    assert!(rt; gates_asked(&rt, rt.alloc()) == [(true, false), (false, true), (false, false)]);
+}
+
 /// How many types, interfaces, worlds and nested packages the copy of a group has.
 fn copied_group(rt: &impl Abort, alloc: Global) -> [usize; 4] {
     let group = group(rt, alloc, Change::Nothing, Change::Nothing);

@@ -24,7 +24,11 @@ mod names;
 #[cfg(test)]
 mod places;
 #[cfg(test)]
+mod rows;
+#[cfg(test)]
 mod shape;
+#[cfg(test)]
+mod structures;
 #[cfg(test)]
 mod validity;
 #[cfg(test)]

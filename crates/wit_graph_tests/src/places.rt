@@ -1,15 +1,21 @@
-//! Errors that are told without a place, and tracks of versions.
+//! Errors as they are told in a file and without a place, and tracks of versions.
 use crate::fixtures::{assert_told, string};
 use std::alloc::Global;
 use std::process::Abort;
 use wit_data::{PackageName, SourceMap, Span, Version};
 use wit_graph_data::ResolveError;
 
-/// Where a span begins, and how the error `bad` at it is told, by a file of 25 bytes.
-fn bad_at(rt: &impl Abort, alloc: Global, span: Span) -> String {
+/// A file of 24 bytes, which takes 25 positions.
+fn file(rt: &impl Abort, alloc: Global) -> SourceMap {
     let mut map = SourceMap::new(alloc);
     let contents = string(rt, alloc, "package a:b;\nworld w {}\n");
     map.push_str(alloc, "m.wit", contents).expect(rt, "memory");
+    map
+}
+
+/// Where a span begins, and how the error `bad` at it is told, by the file.
+fn bad_at(rt: &impl Abort, alloc: Global, span: Span) -> String {
+    let map = file(rt, alloc);
     let error = ResolveError::new_semantic(span, string(rt, alloc, "bad"));
     let place = map.render_location(alloc, span).expect(rt, "memory");
     let shown = error.render(alloc, &map).expect(rt, "memory");
@@ -20,6 +26,48 @@ fn bad_at(rt: &impl Abort, alloc: Global, span: Span) -> String {
 fn an_error_without_a_place_is_its_text(rt: HostRuntime) {
     for span in [Span::unknown(), Span::new(25, 26)] {
         assert_told(&rt, bad_at(&rt, rt.alloc(), span), "<unknown> bad");
+    }
+}
+
+#[test]
+fn an_error_is_told_in_its_line(rt: HostRuntime) {
+    assert_told(
+        &rt,
+        bad_at(&rt, rt.alloc(), Span::new(13, 18)),
+        "m.wit:2:1 bad\n\
+        \x20    --> m.wit:2:1\n\
+        \x20     |\n\
+        \x20   2 | world w {}\n\
+        \x20     | ^----",
+    );
+}
+
+/// Where a second file begins, and how a text is told at a span of the two.
+fn highlighted(rt: &impl Abort, alloc: Global, span: Span) -> String {
+    let mut map = file(rt, alloc);
+    let start = map.append(alloc, file(rt, alloc)).expect(rt, "positions");
+    let end = map.end();
+    let shown = map.highlight_span(alloc, span, "bad").expect(rt, "memory");
+    match shown {
+        Some(shown) => format!(in alloc; "{start} {end} {shown}").expect(rt, "memory"),
+        None => format!(in alloc; "{start} {end} nowhere").expect(rt, "memory"),
+    }
+}
+
+#[test]
+fn a_text_is_told_in_the_line_of_its_span(rt: HostRuntime) {
+    let alloc = rt.alloc();
+    assert_told(
+        &rt,
+        highlighted(&rt, alloc, Span::new(44, 45)),
+        "25 50 bad\n\
+        \x20    --> m.wit:2:7\n\
+        \x20     |\n\
+        \x20   2 | world w {}\n\
+        \x20     |       ^",
+    );
+    for span in [Span::unknown(), Span::new(50, 51)] {
+        assert_told(&rt, highlighted(&rt, alloc, span), "25 50 nowhere");
     }
 }
 

@@ -206,7 +206,7 @@ fn package(name: PackageName, interfaces: Names<InterfaceId>, worlds: Names<Worl
 }
 
 /// Interfaces under names.
-fn listed_interfaces(
+pub(crate) fn listed_interfaces(
     rt: &impl Abort,
     alloc: Global,
     interfaces: &[(&str, usize)],
@@ -496,7 +496,7 @@ fn exports(rt: &impl Abort, alloc: Global, breach: Breach) -> Table<WorldKey, Wo
 }
 
 /// Adds an entry, where its key isn't there.
-fn add_entry(
+pub(crate) fn add_entry(
     rt: &impl Abort,
     entries: &mut Table<WorldKey, WorldItem>,
     key: WorldKey,

@@ -39,9 +39,9 @@ fn record(rt: &impl Abort, alloc: Global, name: &str, place: usize) -> TypeDef {
     made
 }
 
-/// The types of interfaces 0 and 1: in the first `t` is a number.
+/// The types of interfaces 0 and 1: in the first `t` is a resource.
 fn types_of_both(rt: &impl Abort, alloc: Global) -> Items<TypeDef> {
-    let t = named(rt, alloc, 0, "t", TypeDefKind::Type_(Type_::U32));
+    let t = named(rt, alloc, 0, "t", TypeDefKind::Resource);
     let u = named(rt, alloc, 0, "u", TypeDefKind::Type_(Type_::U8));
     let x = record(rt, alloc, "x", 0);
     let used = named(rt, alloc, 1, "u", TypeDefKind::Type_(type_at(1)));
@@ -51,7 +51,7 @@ fn types_of_both(rt: &impl Abort, alloc: Global) -> Items<TypeDef> {
     type_list(rt, alloc, [t, u, x, flags, cases, variant, used])
 }
 
-/// Package `foo:bar@1.0.0` with that interface, in which `t` is a number, with another that uses it, and a world.
+/// Package `foo:bar@1.0.0` with that interface, with another that uses it, and a world.
 fn with_user(rt: &impl Abort, alloc: Global) -> UnresolvedPackage {
     let mut made = package(rt, alloc, "bar", "1.0.0");
     made.types = types_of_both(rt, alloc);
@@ -123,8 +123,8 @@ fn merged(rt: &impl Abort, alloc: Global) -> String {
     out
 }
 
-/// The resource stays, and what comes holds an `own` of it, behind all types. Spans move by 16.
-const MERGED: &str = "#0 #1 #2 #3 #4 #5 #6 interface 0 interface 1 package 0 \n\
+/// The resource stays, and what comes holds the `own` of it that comes too, behind all types. Spans move by 16.
+const MERGED: &str = "#0 #1 #2 #3 #4 #5 #6 #7 interface 0 interface 1 package 0 \n\
     package 0 foo:bar@1.0.0\n\
     \x20 interface i 0\n\
     \x20 interface j 1\n\
