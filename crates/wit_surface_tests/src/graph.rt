@@ -1,0 +1,186 @@
+//! The calls of `wit_graph`.
+use crate::fixtures::{assert_told, file, graph};
+use std::alloc::Global;
+use std::fmt::Write;
+use std::process::Abort;
+use wit_graph::{Graph, GraphQueries, ResolveError, elaborate, is_elaborable, is_valid};
+use wit_items::{
+    Docs, InterfaceId, PackageId, Span, Stability, TypeId, WorldId, WorldItem, WorldKey,
+};
+
+/// Package 0 is `foo:dep@0.2.1` with interface 0, which has type 0 and a function that holds a future and a stream;
+/// package 1 is `foo:main` with interface 1, which uses it by type 3, and a world that imports interface 1.
+const SCRIPT: &str = "package foo:dep@0.2.1\n\
+    interface i\n\
+    type t u32\n\
+    func f(a:future<t>)->stream<string>\n\
+    push\n\
+    package foo:main\n\
+    interface j\n\
+    use foo:dep/i@0.2.1 t\n\
+    world w\n\
+    import j\n\
+    push\n";
+
+/// The dependencies of an alias, of an interface and of a package, and the packages in order.
+fn dependencies(rt: &impl Abort, alloc: Global) -> String {
+    let graph = graph(rt, alloc, SCRIPT);
+    assert!(rt; is_valid(alloc, &graph).expect(rt, "memory"));
+    assert!(rt; graph.interfaces.len() == 2 && graph.packages.len() == 2);
+    let mut out = String::new(alloc);
+    for index in 0..graph.types.len() {
+        if let Some(id) = graph.type_interface_dep(TypeId::from_index(index)) {
+            let place = id.index();
+            write!(out, "type {index} of {place}, ").expect(rt, "memory");
+        }
+    }
+    for id in graph.interface_direct_deps(InterfaceId::from_index(1)) {
+        let place = id.index();
+        write!(out, "interface 1 uses {place}, ").expect(rt, "memory");
+    }
+    for id in graph.package_direct_deps(PackageId::from_index(1)) {
+        let place = id.index();
+        write!(out, "package 1 uses {place}, ").expect(rt, "memory");
+    }
+    for id in graph.topological_packages(alloc).expect(rt, "memory") {
+        let place = id.index();
+        write!(out, "{place};").expect(rt, "memory");
+    }
+    out
+}
+
+#[test]
+fn dependencies_are_told(rt: HostRuntime) {
+    assert_told(
+        &rt,
+        dependencies(&rt, rt.alloc()),
+        "type 3 of 0, interface 1 uses 0, package 1 uses 0, package 1 uses 0, 0;1;",
+    );
+}
+
+/// Interface 0 by its id text and its canonical one, by its name in package 0, and by its key.
+fn names(rt: &impl Abort, alloc: Global) -> String {
+    let graph = graph(rt, alloc, SCRIPT);
+    let (id, home) = (InterfaceId::from_index(0), PackageId::from_index(0));
+    let key = WorldKey::Interface(id);
+    let mut out = String::new(alloc);
+    let told = graph.id_of(alloc, id).expect(rt, "memory");
+    write!(out, "{} ", told.expect(rt, "a name")).expect(rt, "memory");
+    let told = graph.canonicalized_id_of(alloc, id).expect(rt, "memory");
+    write!(out, "{} ", told.expect(rt, "a name")).expect(rt, "memory");
+    let told = graph.id_of_name(alloc, home, "x").expect(rt, "memory");
+    write!(out, "{told} ").expect(rt, "memory");
+    let told = graph.canonicalized_id_of_name(alloc, home, "x");
+    write!(out, "{} ", told.expect(rt, "memory")).expect(rt, "memory");
+    let told = graph.name_world_key(alloc, &key).expect(rt, "memory");
+    write!(out, "{told} ").expect(rt, "memory");
+    let told = graph.name_canonicalized_world_key(alloc, &key);
+    write!(out, "{}", told.expect(rt, "memory")).expect(rt, "memory");
+    out
+}
+
+#[test]
+fn names_are_told(rt: HostRuntime) {
+    assert_told(
+        &rt,
+        names(&rt, rt.alloc()),
+        "foo:dep/i@0.2.1 foo:dep/i@0.2 foo:dep/x@0.2.1 foo:dep/x@0.2 foo:dep/i@0.2.1 foo:dep/i@0.2",
+    );
+}
+
+/// The places of the futures and streams of function `f`.
+fn futures(rt: &impl Abort, alloc: Global) -> String {
+    let graph = graph(rt, alloc, SCRIPT);
+    assert!(rt; is_valid(alloc, &graph).expect(rt, "memory"));
+    assert!(rt; !graph.interfaces.is_empty());
+    let function = graph.interfaces.at(0).functions.get("f");
+    let function = function.expect(rt, "a function");
+    let mut out = String::new(alloc);
+    for id in graph
+        .find_futures_and_streams(alloc, function)
+        .expect(rt, "memory")
+    {
+        let place = id.index();
+        write!(out, "{place};").expect(rt, "memory");
+    }
+    out
+}
+
+#[test]
+fn futures_and_streams_are_found(rt: HostRuntime) {
+    assert_told(&rt, futures(&rt, rt.alloc()), "1;2;");
+}
+
+/// Writes the interfaces that the world imports, and whether the graph is valid.
+fn write_imports(rt: &impl Abort, alloc: Global, out: &mut String, graph: &Graph) {
+    assert!(rt; graph.worlds.len() == 1);
+    for (key, _item) in graph.worlds.at(0).imports.iter() {
+        if let WorldKey::Interface(id) = key {
+            let place = id.index();
+            write!(out, "{place},").expect(rt, "memory");
+        }
+    }
+    let valid = is_valid(alloc, graph).expect(rt, "memory");
+    write!(out, " {valid};").expect(rt, "memory");
+}
+
+/// The world as it is, with what it lists alone, and elaborated.
+fn elaborated(rt: &impl Abort, alloc: Global) -> String {
+    let mut graph = graph(rt, alloc, SCRIPT);
+    let mut out = String::new(alloc);
+    write_imports(rt, alloc, &mut out, &graph);
+    assert!(rt; graph.worlds.len() == 1);
+    let imports = &mut graph.worlds.at_mut(0).imports;
+    imports.truncate(0);
+    let (key, item) = (WorldKey::Interface(InterfaceId::from_index(1)), entry(1));
+    imports.push(key, item).expect(rt, "memory");
+    write_imports(rt, alloc, &mut out, &graph);
+    let w = WorldId::from_index(0);
+    assert!(rt; is_elaborable(alloc, &graph, w).expect(rt, "memory"));
+    elaborate(alloc, &mut graph, w).expect(rt, "a world");
+    write_imports(rt, alloc, &mut out, &graph);
+    out
+}
+
+/// The entry of an interface.
+fn entry(index: usize) -> WorldItem {
+    WorldItem::Interface {
+        id: InterfaceId::from_index(index),
+        stability: Stability::Unknown,
+        docs: Docs::none(),
+        span: Span::unknown(),
+        external_id: None,
+    }
+}
+
+#[test]
+fn worlds_are_elaborated(rt: HostRuntime) {
+    assert_told(
+        &rt,
+        elaborated(&rt, rt.alloc()),
+        "0,1, true;1, false;0,1, true;",
+    );
+}
+
+/// The number of an error and its text, and how it is told in its file.
+fn error(rt: &impl Abort, alloc: Global) -> String {
+    let map = file(rt, alloc);
+    let message = String::from_str(alloc, "bad").expect(rt, "memory");
+    let error = ResolveError::new_semantic(Span::new(13, 18), message);
+    let shown = error.render(alloc, &map).expect(rt, "memory");
+    let number = error.number();
+    format!(in alloc; "{number} {error} {shown}").expect(rt, "memory")
+}
+
+#[test]
+fn errors_are_told_in_their_line(rt: HostRuntime) {
+    assert_told(
+        &rt,
+        error(&rt, rt.alloc()),
+        "0 bad bad\n\
+        \x20    --> m.wit:2:1\n\
+        \x20     |\n\
+        \x20   2 | world w {}\n\
+        \x20     | ^----",
+    );
+}

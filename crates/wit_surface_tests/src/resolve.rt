@@ -1,0 +1,150 @@
+//! The calls of `Resolve` that add, merge and transform, whose names `wit_resolve_graph` gives alone.
+use crate::fixtures::{assert_told, file, groups, package, resolve};
+use std::alloc::Global;
+use std::fmt::Write;
+use std::process::Abort;
+use wit_resolve_graph::{
+    Items, PackageId, Resolve, Shape, Span, TrackRule, TryClone, UnresolvedPackageGroup, WorldItem,
+    WorldKey,
+};
+use wit_script::print_world;
+
+/// What is set and which file is there, of a copy.
+fn settings(rt: &impl Abort, alloc: Global) -> String {
+    let mut resolve = Resolve::new(alloc);
+    resolve.add_feature(alloc, "f").expect(rt, "memory");
+    resolve.set_all_features(true);
+    resolve.set_track_rule(TrackRule::WithPrereleases);
+    let start = resolve.push_source_map(alloc, file(rt, alloc));
+    let start = start.expect(rt, "positions");
+    let copy = resolve.try_clone().expect(rt, "memory");
+    let (count, all, rule) = (
+        copy.features().names.len(),
+        copy.all_features(),
+        copy.track_rule(),
+    );
+    let place = copy.render_location(alloc, Span::new(13, 18));
+    let (place, end) = (place.expect(rt, "memory"), copy.source_map().end());
+    format!(in alloc; "{count} {all} {rule:?} {start} {end} {place}").expect(rt, "memory")
+}
+
+#[test]
+fn a_copy_has_what_is_set(rt: HostRuntime) {
+    assert_told(
+        &rt,
+        settings(&rt, rt.alloc()),
+        "1 true WithPrereleases 0 25 m.wit:2:1",
+    );
+}
+
+/// The last group of a list.
+fn last(rt: &impl Abort, groups: &mut Items<UnresolvedPackageGroup>) -> UnresolvedPackageGroup {
+    groups.pop().expect(rt, "a group")
+}
+
+/// The id of the first of two packages that come together.
+fn push_two(rt: &impl Abort, alloc: Global, resolve: &mut Resolve, script: &str) -> PackageId {
+    let mut groups = groups(rt, alloc, script);
+    let (dep, main) = (last(rt, &mut groups), last(rt, &mut groups));
+    assert!(rt; main.is_shaped(alloc).expect(rt, "memory"));
+    assert!(rt; dep.is_shaped(alloc).expect(rt, "memory"));
+    let mut deps = Items::new(alloc);
+    deps.push(dep).expect(rt, "memory");
+    resolve
+        .push_groups(alloc, main, deps)
+        .expect(rt, "packages")
+}
+
+/// The ids of a package, of the main one of two, and where those of another graph go.
+fn added(rt: &impl Abort, alloc: Global) -> String {
+    let mut all = Resolve::new(alloc);
+    let package = package(rt, alloc, "package foo:a\ninterface i\npush\n");
+    assert!(rt; package.is_shaped(alloc).expect(rt, "memory"));
+    let a = all.push(alloc, package, 0).expect(rt, "a package").index();
+    let c = push_two(rt, alloc, &mut all, "package foo:c\npackage foo:b\npush\n").index();
+    let other = "package foo:d\ninterface i\npush\npackage foo:a\ninterface j\npush\n";
+    let remap = all.merge(alloc, resolve(rt, alloc, other));
+    let mut out = format!(in alloc; "{a} {c}:").expect(rt, "memory");
+    for id in remap.expect(rt, "a merge").packages() {
+        let place = id.index();
+        write!(out, " {place}").expect(rt, "memory");
+    }
+    let (packages, interfaces) = (all.packages().len(), all.interfaces().len());
+    write!(out, " of {packages} {interfaces}").expect(rt, "memory");
+    assert!(rt; all.assert_valid(alloc).expect(rt, "memory"));
+    out
+}
+
+#[test]
+fn packages_are_added_and_merged(rt: HostRuntime) {
+    assert_told(&rt, added(&rt, rt.alloc()), "0 2: 3 0 of 4 3");
+}
+
+/// Two versions of `x`, `y` that uses the older one, and worlds that import and export it.
+const SCRIPT: &str = "package foo:x@0.2.0\n\
+    interface x\n\
+    type t u32\n\
+    push\n\
+    package foo:x@0.2.1\n\
+    interface x\n\
+    type t u32\n\
+    push\n\
+    package foo:main\n\
+    interface y\n\
+    use foo:x/x@0.2.0 t\n\
+    world w\n\
+    import y\n\
+    import foo:x/x@0.2.1\n\
+    world v\n\
+    export y\n\
+    push\n";
+
+/// Writes the world of the last package that has this name.
+fn write_world(rt: &impl Abort, alloc: Global, out: &mut String, resolve: &Resolve, name: &str) {
+    let id = resolve.select_world(alloc, &[PackageId::from_index(2)], Some(name));
+    let told = print_world(alloc, resolve, id.expect(rt, "a world"));
+    out.push_str(told.expect(rt, "memory").as_str())
+        .expect(rt, "memory");
+}
+
+/// A world with its imports merged, and another with its exports as imports and with all of these as exports.
+fn transformed(rt: &impl Abort, alloc: Global) -> String {
+    let mut resolve = resolve(rt, alloc, SCRIPT);
+    let mut out = String::new(alloc);
+    let main = [PackageId::from_index(2)];
+    let w = resolve.select_world(alloc, &main, Some("w"));
+    resolve
+        .merge_world_imports_based_on_semver(alloc, w.expect(rt, "a world"))
+        .expect(rt, "a merge");
+    write_world(rt, alloc, &mut out, &resolve, "w");
+    let v = resolve.select_world(alloc, &main, Some("v"));
+    resolve
+        .importize(alloc, v.expect(rt, "a world"), None)
+        .expect(rt, "a world");
+    write_world(rt, alloc, &mut out, &resolve, "v-importized");
+    let v = resolve.select_world(alloc, &main, Some("v-importized"));
+    let filter = |_key: &WorldKey, _item: &WorldItem| true;
+    let name = String::from_str(alloc, "u").expect(rt, "memory");
+    resolve
+        .exportize(alloc, v.expect(rt, "a world"), Some(name), Some(filter))
+        .expect(rt, "a world");
+    write_world(rt, alloc, &mut out, &resolve, "u");
+    out
+}
+
+#[test]
+fn worlds_are_merged_and_transformed(rt: HostRuntime) {
+    assert_told(
+        &rt,
+        transformed(&rt, rt.alloc()),
+        "world foo:main/w\n\
+        \x20 import foo:x/x@0.2.1\n\
+        \x20 import foo:main/y\n\
+        world foo:main/v-importized\n\
+        \x20 import foo:x/x@0.2.1\n\
+        \x20 import foo:main/y\n\
+        world foo:main/u\n\
+        \x20 export foo:x/x@0.2.1\n\
+        \x20 export foo:main/y\n",
+    );
+}
