@@ -35,3 +35,5 @@ mod validity;
 mod values;
 #[cfg(test)]
 mod walks;
+#[cfg(test)]
+mod worlds;

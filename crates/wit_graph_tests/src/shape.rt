@@ -25,12 +25,15 @@ pub enum Change {
     ForeignFunction,
     ForeignNamedOtherwise,
     ForeignWorldHoldsEntry,
+    ForeignListsKnown,
     SpanOfTypeMissing,
+    UnknownOfOwn,
     UnknownLater,
     RequiredKnown,
     PackageSaid,
     RefersToItself,
     RefersLater,
+    RefersNowhere,
     NotListed,
     ListedOtherwise,
     ListedTwice,
@@ -69,19 +72,22 @@ const KEEPS: [Change; 3] = [
 ];
 
 /// Changes that break a rule, in the order of the rules.
-const BREAKS: [Change; 40] = [
+const BREAKS: [Change; 43] = [
     Change::SpanOfPackageMissing,
     Change::ForeignTwice,
     Change::GateMissing,
     Change::ForeignFunction,
     Change::ForeignNamedOtherwise,
     Change::ForeignWorldHoldsEntry,
+    Change::ForeignListsKnown,
     Change::SpanOfTypeMissing,
+    Change::UnknownOfOwn,
     Change::UnknownLater,
     Change::RequiredKnown,
     Change::PackageSaid,
     Change::RefersToItself,
     Change::RefersLater,
+    Change::RefersNowhere,
     Change::NotListed,
     Change::ListedOtherwise,
     Change::ListedTwice,
@@ -266,81 +272,63 @@ fn gates(rt: &impl Abort, alloc: Global, is_there: bool) -> Items<Stability> {
 /// `t` of `e`; `u`, `r`, a handle of `r` and a record with it in `a`; `z` in `b`; `k` in the interface
 /// without a name; `y` in world `w`.
 fn types(rt: &impl Abort, alloc: Global, change: Change) -> Items<TypeDef> {
-    let aliased = if change == Change::RefersLater { 4 } else { 0 };
-    let mut types = Items::new(alloc);
-    types
-        .push(type_def(rt, alloc, "t", TypeDefKind::Unknown, interface_owner(0)))
-        .expect(rt, "memory");
-    types
-        .push(type_def(
-            rt,
-            alloc,
-            "u",
-            TypeDefKind::Type_(type_at(aliased)),
-            interface_owner(1),
-        ))
-        .expect(rt, "memory");
-    types
-        .push(type_def(rt, alloc, "r", TypeDefKind::Resource, interface_owner(1)))
-        .expect(rt, "memory");
-    let name = if change == Change::NameWithoutOwner {
-        "q"
-    } else {
-        ""
+    let owner = either(change == Change::UnknownOfOwn, 1, 0);
+    let t = type_def(rt, alloc, "t", TypeDefKind::Unknown, interface_owner(owner));
+    let u = alias(rt, alloc, "u", first_alias(change), interface_owner(1));
+    let r = type_def(rt, alloc, "r", TypeDefKind::Resource, interface_owner(1));
+    let name = either(change == Change::NameWithoutOwner, "q", "");
+    let q = type_def(rt, alloc, name, handle(change), TypeOwner::None);
+    let rec = type_def(rt, alloc, "rec", record(rt, alloc), interface_owner(1));
+    let aliased = either(change == Change::AliasOfUnnamed, 3, 4);
+    let z = alias(rt, alloc, "z", aliased, interface_owner(2));
+    let name = either(change == Change::OwnerWithoutName, "", "k");
+    let k = type_def(rt, alloc, name, later_kind(change), interface_owner(3));
+    let aliased = either(change == Change::AliasIntoUnnamedInterface, 6, 5);
+    let w = TypeOwner::World(WorldId::from_index(1));
+    let y = alias(rt, alloc, "y", aliased, w);
+    let types = Vec::from_array(alloc, [t, u, r, q, rec, z, k, y]);
+    let mut types = Items::from_vec(types.expect(rt, "memory"));
+    let more = match change {
+        Change::UsesItself => alias(rt, alloc, "back", 5, interface_owner(1)),
+        Change::ForeignListsKnown => number(rt, alloc, "s", interface_owner(0)),
+        _ => return types,
     };
+    types.push(more).expect(rt, "memory");
     types
-        .push(type_def(rt, alloc, name, handle(change), TypeOwner::None))
-        .expect(rt, "memory");
-    types
-        .push(type_def(rt, alloc, "rec", record(rt, alloc), interface_owner(1)))
-        .expect(rt, "memory");
-    let aliased = if change == Change::AliasOfUnnamed {
-        3
-    } else {
-        4
-    };
-    types
-        .push(type_def(
-            rt,
-            alloc,
-            "z",
-            TypeDefKind::Type_(type_at(aliased)),
-            interface_owner(2),
-        ))
-        .expect(rt, "memory");
-    let kind = match change {
+}
+
+/// The first where something is changed, else the second.
+fn either<T: Copy>(is_changed: bool, changed: T, kept: T) -> T {
+    match is_changed {
+        true => changed,
+        false => kept,
+    }
+}
+
+/// Another name of the type at a place.
+fn alias(rt: &impl Abort, alloc: Global, name: &str, of: usize, owner: TypeOwner) -> TypeDef {
+    type_def(rt, alloc, name, TypeDefKind::Type_(type_at(of)), owner)
+}
+
+/// Another name of a number.
+fn number(rt: &impl Abort, alloc: Global, name: &str, owner: TypeOwner) -> TypeDef {
+    type_def(rt, alloc, name, TypeDefKind::Type_(Type_::U32), owner)
+}
+
+/// Of which type `u` is another name.
+fn first_alias(change: Change) -> usize {
+    match change {
+        Change::RefersLater => 4,
+        Change::RefersNowhere => 8,
+        _ => 0,
+    }
+}
+
+fn later_kind(change: Change) -> TypeDefKind {
+    match change {
         Change::UnknownLater => TypeDefKind::Unknown,
         _ => TypeDefKind::Type_(Type_::U32),
-    };
-    let name = if change == Change::OwnerWithoutName {
-        ""
-    } else {
-        "k"
-    };
-    types
-        .push(type_def(rt, alloc, name, kind, interface_owner(3)))
-        .expect(rt, "memory");
-    let aliased = if change == Change::AliasIntoUnnamedInterface {
-        6
-    } else {
-        5
-    };
-    let owner = TypeOwner::World(WorldId::from_index(1));
-    types
-        .push(type_def(rt, alloc, "y", TypeDefKind::Type_(type_at(aliased)), owner))
-        .expect(rt, "memory");
-    if change == Change::UsesItself {
-        types
-            .push(type_def(
-                rt,
-                alloc,
-                "back",
-                TypeDefKind::Type_(type_at(5)),
-                interface_owner(1),
-            ))
-            .expect(rt, "memory");
     }
-    types
 }
 
 fn handle(change: Change) -> TypeDefKind {
@@ -376,8 +364,13 @@ fn interfaces(rt: &impl Abort, alloc: Global, change: Change) -> Items<Interface
         Change::ForeignFunction => functions(rt, alloc, Change::Nothing),
         _ => Names::new(alloc),
     };
+    let types: &[(&str, usize)] = match change {
+        Change::UnknownOfOwn => &[],
+        Change::ForeignListsKnown => &[("t", 0), ("s", 8)],
+        _ => &[("t", 0)],
+    };
     interfaces
-        .push(interface(rt, alloc, name, &[("t", 0)], functions, None))
+        .push(interface(rt, alloc, name, types, functions, None))
         .expect(rt, "memory");
     interfaces
         .push(interface_a(rt, alloc, change))
@@ -402,6 +395,7 @@ fn interfaces(rt: &impl Abort, alloc: Global, change: Change) -> Items<Interface
 fn interface_a(rt: &impl Abort, alloc: Global, change: Change) -> Interface {
     let functions = functions(rt, alloc, change);
     let types: &[(&str, usize)] = match change {
+        Change::UnknownOfOwn => &[("u", 1), ("r", 2), ("rec", 4), ("t", 0)],
         Change::NotListed => &[("u", 1), ("r", 2)],
         Change::ListedOtherwise => &[("u", 1), ("r", 2), ("rek", 4)],
         Change::ListedTwice => &[("u", 1), ("r", 2), ("rec", 4), ("rek", 4)],

@@ -50,8 +50,9 @@ fn remap(rt: &impl Abort, alloc: Global) -> Remap {
 /// Writes the number and the place of the refusal that is told of a thing that is left out.
 fn write_told(rt: &impl Abort, out: &mut String, refusal: Option<ResolveError>) {
     let refusal = refusal.expect(rt, "a refusal");
-    let (number, start) = (refusal.number(), refusal.kind().span().start());
-    write!(out, " {number} at {start}").expect(rt, "memory");
+    let (number, span) = (refusal.number(), refusal.kind().span());
+    let (start, end) = (span.start(), span.end());
+    write!(out, " {number} at {start}-{end}").expect(rt, "memory");
 }
 
 /// Where type 0 is, and what is told of the things that are left out, at position 3.
@@ -95,7 +96,7 @@ fn what_was_handed_in_is_found_or_left_out(rt: HostRuntime) {
     assert_told(
         &rt,
         answers(&rt, rt.alloc()),
-        "5 11 at 3 11 at 3 12 at 3 11 at 3 12 at 3",
+        "5 11 at 3-4 11 at 3-4 12 at 3-4 11 at 3-4 12 at 3-4",
     );
 }
 

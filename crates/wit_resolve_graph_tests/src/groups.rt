@@ -1,5 +1,6 @@
 //! Groups of several packages, built by hand: in which order they are added, and how they are refused.
 use crate::parts::{assert_told, interface, interface_list, name_foreign, package};
+use crate::shown::shown;
 use crate::{parts, told};
 use std::alloc::Global;
 use std::process::Abort;
@@ -200,5 +201,48 @@ fn a_name_twice_is_told_at_both_places(rt: HostRuntime) {
         \x20 * a2.wit:1:9\n\
         \x20 * a1.wit:1:9\n\
         graph as before, files a1.wit a2.wit to 32",
+    );
+}
+
+/// How a push of two packages that name each other is refused.
+fn naming_each_other(rt: &impl Abort, alloc: Global) -> String {
+    let mut resolve = told::first(rt, alloc);
+    let before = shown(rt, alloc, resolve.graph());
+    let main = group(rt, alloc, "a.wit", naming(rt, alloc, "a", "i", "b", "j"));
+    let dep = group(rt, alloc, "b.wit", naming(rt, alloc, "b", "j", "a", "i"));
+    let pushed = push_two(rt, alloc, &mut resolve, main, dep);
+    told::told(rt, alloc, before.as_str(), &resolve, pushed)
+}
+
+/// How the push of a package alone is refused that names an interface of its own name. Nothing is sorted, so the package
+/// counts as there and empty.
+fn naming_itself(rt: &impl Abort, alloc: Global) -> String {
+    let mut resolve = told::first(rt, alloc);
+    let before = shown(rt, alloc, resolve.graph());
+    let package = naming(rt, alloc, "a", "j", "a", "i");
+    assert!(rt; package.is_shaped(alloc).expect(rt, "memory"));
+    let pushed = resolve.push(alloc, package, 7);
+    told::told(rt, alloc, before.as_str(), &resolve, pushed)
+}
+
+#[test]
+fn packages_that_name_themselves_are_told(rt: HostRuntime) {
+    assert_told(
+        &rt,
+        naming_each_other(&rt, rt.alloc()),
+        "6 at 77-79 package foo:a\n\
+        package `foo:a` creates a dependency cycle\n\
+        \x20    --> b.wit:1:3\n\
+        \x20     |\n\
+        \x20   1 | package foo:a;\n\
+        \x20     |   ^-\n\
+        graph as before, files first.wit a.wit b.wit to 91",
+    );
+    assert_told(
+        &rt,
+        naming_itself(&rt, rt.alloc()),
+        "3 at 0-0 interface i package foo:a\n\
+        interface 'i' not found in package 'foo:a'\n\
+        graph as before, files first.wit to 59",
     );
 }

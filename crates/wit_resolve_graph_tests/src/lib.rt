@@ -11,6 +11,10 @@ mod bare;
 #[cfg(test)]
 mod calls;
 #[cfg(test)]
+mod cycles;
+#[cfg(test)]
+mod ends;
+#[cfg(test)]
 mod files;
 #[cfg(test)]
 mod functions;
@@ -21,18 +25,32 @@ mod gates;
 #[cfg(test)]
 mod groups;
 #[cfg(test)]
+mod including;
+#[cfg(test)]
 mod inline;
 #[cfg(test)]
 mod kinds;
 #[cfg(test)]
+mod ladder;
+#[cfg(test)]
 mod merging;
+#[cfg(test)]
+mod merging_laws;
 #[cfg(test)]
 mod parts;
 #[cfg(test)]
 mod refusals;
 #[cfg(test)]
+mod runs;
+#[cfg(test)]
+mod scripts;
+#[cfg(test)]
 mod shown;
+#[cfg(test)]
+mod taken_back;
 #[cfg(test)]
 mod told;
 #[cfg(test)]
 mod turning;
+#[cfg(test)]
+mod upgrading;

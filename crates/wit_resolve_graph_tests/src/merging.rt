@@ -12,7 +12,8 @@ use std::alloc::{AllocError, Global};
 use std::fmt::Write;
 use std::process::Abort;
 use wit_data::{
-    Docs, Field, Items, SourceMap, Span, Type_, TypeDef, TypeDefKind, UnresolvedPackage,
+    Docs, Field, InterfaceId, Items, SourceMap, Span, Type_, TypeDef, TypeDefKind, TypeId,
+    UnresolvedPackage, WorldId,
 };
 use wit_resolve_graph::{Remap, Resolve};
 
@@ -88,21 +89,28 @@ fn holding(
     resolve
 }
 
-/// Where types, interfaces and packages of the other graph are.
-fn write_remap(out: &mut String, remap: &Remap) -> Result<(), AllocError> {
-    for id in remap.types().iter().flatten() {
-        let place = id.index();
-        write!(out, "#{place} ")?;
+/// Where the things of the other graph are, with a dash for each that is nowhere.
+pub fn write_remap(out: &mut String, remap: &Remap) -> Result<(), AllocError> {
+    for id in remap.types() {
+        write_place(out, "type", id.map(TypeId::index))?;
     }
-    for id in remap.interfaces().iter().flatten() {
-        let place = id.index();
-        write!(out, "interface {place} ")?;
+    for id in remap.interfaces() {
+        write_place(out, "interface", id.map(InterfaceId::index))?;
+    }
+    for id in remap.worlds() {
+        write_place(out, "world", id.map(WorldId::index))?;
     }
     for id in remap.packages() {
-        let place = id.index();
-        write!(out, "package {place} ")?;
+        write_place(out, "package", Some(id.index()))?;
     }
     out.push_str("\n")
+}
+
+fn write_place(out: &mut String, word: &str, place: Option<usize>) -> Result<(), AllocError> {
+    match place {
+        Some(place) => write!(out, "{word} {place} "),
+        None => write!(out, "{word} - "),
+    }
 }
 
 /// 15 bytes.
@@ -124,7 +132,8 @@ fn merged(rt: &impl Abort, alloc: Global) -> String {
 }
 
 /// The resource stays, and what comes holds the `own` of it that comes too, behind all types. Spans move by 16.
-const MERGED: &str = "#0 #1 #2 #3 #4 #5 #6 #7 interface 0 interface 1 package 0 \n\
+const MERGED: &str =
+    "type 0 type 1 type 2 type 3 type 4 type 5 type 6 type 7 interface 0 interface 1 world 0 package 0 \n\
     package 0 foo:bar@1.0.0\n\
     \x20 interface i 0\n\
     \x20 interface j 1\n\

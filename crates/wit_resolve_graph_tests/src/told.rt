@@ -129,7 +129,7 @@ fn line(rt: &impl Abort, alloc: Global, resolve: &Resolve, refusal: ResolveError
 }
 
 /// Whether the graph is shown as before.
-fn kept(rt: &impl Abort, alloc: Global, before: &str, resolve: &Resolve) -> &'static str {
+pub fn kept(rt: &impl Abort, alloc: Global, before: &str, resolve: &Resolve) -> &'static str {
     let after = shown(rt, alloc, resolve.graph());
     if before == after.as_str() {
         "graph as before"
@@ -139,7 +139,7 @@ fn kept(rt: &impl Abort, alloc: Global, before: &str, resolve: &Resolve) -> &'st
 }
 
 /// The names of the files, and where they end.
-fn write_files(out: &mut String, resolve: &Resolve) -> Result<(), AllocError> {
+pub fn write_files(out: &mut String, resolve: &Resolve) -> Result<(), AllocError> {
     for name in resolve.source_map().source_names() {
         write!(out, " {name}")?;
     }

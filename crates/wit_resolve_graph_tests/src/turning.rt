@@ -4,6 +4,7 @@ use crate::parts::{
     assert_told, entries, function, function_entry, interface, interface_entry, interface_list,
     named, of_world, package, push, string, type_at, type_entry, type_list, world, world_list,
 };
+use crate::scripts::pushed;
 use crate::shown::shown;
 use std::alloc::Global;
 use std::process::Abort;
@@ -162,5 +163,79 @@ const TURNS: [(usize, Turn, &str, &str); 6] = [
 fn refused_turns_change_nothing(rt: HostRuntime) {
     for &(place, asked, out, wanted) in &TURNS {
         assert_told(&rt, said(&rt, rt.alloc(), place, asked, out), wanted);
+    }
+}
+
+/// Two worlds, of which the first has an import and an export.
+const TWO_WORLDS: &str = "package foo:bar\n\
+    interface a\n\
+    interface b\n\
+    world w\n\
+    import a\n\
+    export b\n\
+    world v\n\
+    push\n";
+
+/// What the graph holds after the first world was turned and has this name.
+fn renamed(rt: &impl Abort, alloc: Global, asked: Turn, out: &str) -> String {
+    let mut resolve = pushed(rt, alloc, TWO_WORLDS);
+    answer_to(rt, alloc, &mut resolve, W, asked, out).expect(rt, "a turn");
+    assert!(rt; resolve.assert_valid(alloc).expect(rt, "memory"));
+    shown(rt, alloc, resolve.graph())
+}
+
+/// The empty text is a name. The name stands last in its table, also where it is the one that was there.
+const RENAMED: [(Turn, &str, &str); 3] = [
+    (
+        Turn::Importize,
+        "",
+        "package 0 foo:bar\n\
+        \x20 interface a 0\n\
+        \x20 interface b 1\n\
+        \x20 world v 1\n\
+        \x20 world  0\n\
+        named foo:bar 0\n\
+        interface 0 a of package 0 at 16-27\n\
+        interface 1 b of package 0 at 28-39\n\
+        world 0  of package 0 at 40-47 includes 0\n\
+        \x20 import 1: interface 1\n\
+        world 1 v of package 0 at 66-73 includes 0\n",
+    ),
+    (
+        Turn::Exportize(&[1]),
+        "",
+        "package 0 foo:bar\n\
+        \x20 interface a 0\n\
+        \x20 interface b 1\n\
+        \x20 world v 1\n\
+        \x20 world  0\n\
+        named foo:bar 0\n\
+        interface 0 a of package 0 at 16-27\n\
+        interface 1 b of package 0 at 28-39\n\
+        world 0  of package 0 at 40-47 includes 0\n\
+        \x20 export 0: interface 0\n\
+        world 1 v of package 0 at 66-73 includes 0\n",
+    ),
+    (
+        Turn::Exportize(&[]),
+        "w",
+        "package 0 foo:bar\n\
+        \x20 interface a 0\n\
+        \x20 interface b 1\n\
+        \x20 world v 1\n\
+        \x20 world w 0\n\
+        named foo:bar 0\n\
+        interface 0 a of package 0 at 16-27\n\
+        interface 1 b of package 0 at 28-39\n\
+        world 0 w of package 0 at 40-47 includes 0\n\
+        \x20 import 0: interface 0\n\
+        world 1 v of package 0 at 66-73 includes 0\n",
+    ),
+];
+
+#[test]
+fn worlds_take_any_name_that_is_free(rt: HostRuntime) {
+    for &(asked, out, wanted) in &RENAMED {
+        assert_told(&rt, renamed(&rt, rt.alloc(), asked, out), wanted);
     }
 }

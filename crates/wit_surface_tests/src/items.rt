@@ -1,10 +1,11 @@
 //! The calls of `wit_items`.
-use crate::fixtures::{assert_told, file, groups, version};
+use crate::fixtures::{assert_told, file, groups, list, text, version};
 use std::alloc::Global;
 use std::fmt::Write;
 use std::process::Abort;
 use wit_items::{
-    PackageName, ParsedUsePath, Shape, Span, TrackRule, is_kebab_name, parse_use_path,
+    InterfaceId, Items, Names, PackageName, ParsedUsePath, Shape, Span, Table, Text, TrackRule,
+    is_kebab_name, parse_use_path,
 };
 
 const SCRIPT: &str = "package foo:bar\ninterface i\ntype t u32\npush\n";
@@ -113,4 +114,38 @@ fn spans_are_found_in_their_files(rt: HostRuntime) {
     );
     assert!(rt; !Span::unknown().is_known() && Span::new(0, 0).is_known());
     assert!(rt; Span::new(0, 1).moved(u32::MAX).is_none());
+}
+
+/// A text, a list, a table and names, each given back as the type of the language that it was made from.
+fn given_back(rt: &impl Abort, alloc: Global) -> String {
+    let text = Text::from_string(text(rt, alloc, "t").into_string());
+    let mut items = list(rt, alloc, [1, 2]);
+    assert!(rt; items.len() == 2);
+    let former = items.replace(1, 3);
+    let items = Items::from_vec(items.into_vec());
+    let mut table: Table<InterfaceId, usize> = Table::new(alloc);
+    table
+        .push(InterfaceId::from_index(4), 5)
+        .expect(rt, "memory");
+    let table = Table::from_map(table.into_map());
+    let mut names: Names<usize> = Names::new(alloc);
+    let name = String::from_str(alloc, "n").expect(rt, "memory");
+    names.push(name, 6).expect(rt, "memory");
+    let names = Names::from_map(names.into_map());
+    let mut out = format!(in alloc; "{text} {former}").expect(rt, "memory");
+    for item in &items {
+        write!(out, " {item}").expect(rt, "memory");
+    }
+    for (key, value) in table.iter() {
+        write!(out, " {} {value}", key.index()).expect(rt, "memory");
+    }
+    for (name, value) in names.iter() {
+        write!(out, " {name} {value}").expect(rt, "memory");
+    }
+    out
+}
+
+#[test]
+fn data_are_given_back(rt: HostRuntime) {
+    assert_told(&rt, given_back(&rt, rt.alloc()), "t 2 1 3 4 5 n 6");
 }

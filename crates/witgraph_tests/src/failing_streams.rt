@@ -22,26 +22,45 @@ const PRINTED: &str = "pushed foo:bar\n\
     \x20 import foo:bar/a\n\
     \x20 import foo:bar/b\n";
 
-/// How many bytes a call gives or takes at most.
-const BYTES_A_CALL: usize = 5;
-
 /// No script here makes as many calls.
 const MANY_CALLS: usize = 1000;
 
-/// A reader of some bytes, all of whose calls fail from one on.
+/// How streams go: how many bytes a call gives or takes at most, and which calls fail.
+#[derive(Clone, Copy)]
+struct Pace {
+    bytes: usize,
+    calls_left: usize,
+    /// Whether all calls fail from one on; else only that one does.
+    fails_on: bool,
+}
+
+impl Pace {
+    /// Whether the next call goes through.
+    fn passes(&mut self) -> bool {
+        if self.calls_left > 0 {
+            self.calls_left -= 1;
+            return true;
+        }
+        if !self.fails_on {
+            self.calls_left = MANY_CALLS;
+        }
+        false
+    }
+}
+
+/// A reader of some bytes.
 #[derive(Drop)]
 struct FailingReader<'a> {
     rest: &'a [u8],
-    calls_left: usize,
+    pace: Pace,
 }
 
 impl Read for FailingReader<'_> {
     fn read(&mut self, buf: &mut [u8]) -> io::Result<usize> {
-        if self.calls_left == 0 {
+        if !self.pace.passes() {
             return Err(io::Error::from(ErrorKind::TimedOut));
         }
-        self.calls_left -= 1;
-        let count = self.rest.len().min(buf.len()).min(BYTES_A_CALL);
+        let count = self.rest.len().min(buf.len()).min(self.pace.bytes);
         let (given, rest) = self.rest.split_at(count);
         buf[..count].copy_from_slice(given);
         self.rest = rest;
@@ -49,20 +68,19 @@ impl Read for FailingReader<'_> {
     }
 }
 
-/// A writer that keeps what it takes, all of whose calls fail from one on.
+/// A writer that keeps what it takes.
 #[derive(Drop)]
 struct FailingWriter {
     taken: Vec<u8>,
-    calls_left: usize,
+    pace: Pace,
 }
 
 impl Write for FailingWriter {
     fn write(&mut self, buf: &[u8]) -> io::Result<usize> {
-        if self.calls_left == 0 {
+        if !self.pace.passes() {
             return Err(io::Error::from(ErrorKind::TimedOut));
         }
-        self.calls_left -= 1;
-        let count = buf.len().min(BYTES_A_CALL);
+        let count = buf.len().min(self.pace.bytes);
         self.taken
             .extend_from_slice(&buf[..count])
             .map_err(AllocError::from)?;
@@ -70,65 +88,108 @@ impl Write for FailingWriter {
     }
 
     fn flush(&mut self) -> io::Result<()> {
-        if self.calls_left == 0 {
+        if !self.pace.passes() {
             return Err(io::Error::from(ErrorKind::TimedOut));
         }
-        self.calls_left -= 1;
         Ok(())
     }
 }
 
-/// The answer to a script, where the reader and the writer fail after so many calls, and what the
-/// writer has taken.
+/// The answer to a script, where the reader and the writer go like this, and what the writer has taken. Each knows
+/// whether it failed.
 fn run(
     rt: &impl Abort,
     alloc: Global,
     script: &[u8],
-    reads: usize,
-    writes: usize,
+    reads: Pace,
+    writes: Pace,
 ) -> (Result<bool, ScriptFault>, String) {
     let mut reader = Watched::new(FailingReader {
         rest: script,
-        calls_left: reads,
+        pace: reads,
     });
     let mut writer = Watched::new(FailingWriter {
         taken: Vec::new(alloc),
-        calls_left: writes,
+        pace: writes,
     });
     let answer = execute(alloc, &mut reader, &mut writer);
+    assert!(rt; reader.failed() == (answer == Err(ScriptFault::Read)));
+    assert!(rt; writer.failed() == (answer == Err(ScriptFault::Write)));
     let taken = writer.into_inner().taken;
     (answer, String::from_utf8(taken).expect(rt, "a text"))
 }
 
+/// A stream whose calls all go through, with so many bytes each.
+fn steady(bytes: usize) -> Pace {
+    Pace {
+        bytes,
+        calls_left: MANY_CALLS,
+        fails_on: true,
+    }
+}
+
+/// How many bytes a call has, whether all calls fail from one on, and how many calls of the reader and of the writer
+/// there are, the last of them at the end of the input and the flush.
+const PACES: [(usize, bool, usize, usize); 3] = [
+    (5, true, 21, 15),
+    (5, false, 21, 15),
+    (1, false, 98, 70),
+];
+
 #[test]
 fn a_read_that_fails_is_told(rt: HostRuntime) {
-    let calls = SCRIPT.len().div_ceil(BYTES_A_CALL) + 1;
-    for reads in 0..calls {
-        let (answer, text) = run(&rt, rt.alloc(), SCRIPT.as_bytes(), reads, MANY_CALLS);
-        assert!(rt; answer == Err(ScriptFault::Read), "{reads}");
-        assert_told(&rt, text, "");
+    for &(bytes, fails_on, calls, _) in &PACES {
+        for calls_left in 0..calls {
+            let reads = Pace {
+                bytes,
+                calls_left,
+                fails_on,
+            };
+            let (answer, text) = run(&rt, rt.alloc(), SCRIPT.as_bytes(), reads, steady(bytes));
+            assert!(rt; answer == Err(ScriptFault::Read), "{calls_left}");
+            assert_told(&rt, text, "");
+        }
     }
-    let (answer, text) = run(&rt, rt.alloc(), SCRIPT.as_bytes(), calls, MANY_CALLS);
-    assert!(rt; answer == Ok(true));
-    assert_told(&rt, text, PRINTED);
 }
 
 #[test]
 fn a_write_that_fails_is_told(rt: HostRuntime) {
-    let calls = PRINTED.len().div_ceil(BYTES_A_CALL) + 1;
-    for writes in 0..calls {
-        let (answer, text) = run(&rt, rt.alloc(), SCRIPT.as_bytes(), MANY_CALLS, writes);
-        assert!(rt; answer == Err(ScriptFault::Write), "{writes}");
-        assert!(rt; PRINTED.starts_with(text.as_str()), "{writes}");
+    for &(bytes, fails_on, _, calls) in &PACES {
+        for calls_left in 0..calls {
+            let writes = Pace {
+                bytes,
+                calls_left,
+                fails_on,
+            };
+            let (answer, text) = run(&rt, rt.alloc(), SCRIPT.as_bytes(), steady(bytes), writes);
+            assert!(rt; answer == Err(ScriptFault::Write), "{calls_left}");
+            assert!(rt; PRINTED.starts_with(text.as_str()), "{calls_left}");
+        }
     }
-    let (answer, text) = run(&rt, rt.alloc(), SCRIPT.as_bytes(), MANY_CALLS, calls);
-    assert!(rt; answer == Ok(true));
-    assert_told(&rt, text, PRINTED);
+}
+
+#[test]
+fn streams_that_fail_after_all_calls_or_go_slowly_change_nothing(rt: HostRuntime) {
+    for &(bytes, fails_on, reads, writes) in &PACES {
+        let reads = Pace {
+            bytes,
+            calls_left: reads,
+            fails_on,
+        };
+        let writes = Pace {
+            bytes,
+            calls_left: writes,
+            fails_on,
+        };
+        let (answer, text) = run(&rt, rt.alloc(), SCRIPT.as_bytes(), reads, writes);
+        assert!(rt; answer == Ok(true));
+        assert_told(&rt, text, PRINTED);
+    }
 }
 
 #[test]
 fn input_that_is_no_text_prints_nothing(rt: HostRuntime) {
-    let (answer, text) = run(&rt, rt.alloc(), b"push\xff", MANY_CALLS, MANY_CALLS);
+    let (answer, text) = run(&rt, rt.alloc(), b"push\xff", steady(1), steady(1));
     assert!(rt; answer == Err(ScriptFault::NotUtf8));
     assert_told(&rt, text, "");
 }

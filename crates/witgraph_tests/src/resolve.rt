@@ -3,8 +3,9 @@
 use crate::fixtures::{assert_told, assert_valid, resolve_of};
 use std::alloc::Global;
 use std::process::Abort;
-use wit_data::{InterfaceId, PackageId, SourceMap, TryClone, WorldKey};
+use wit_data::{InterfaceId, PackageId, SourceMap, TryClone, WorldId, WorldKey};
 use wit_resolve_graph::Resolve;
+use wit_script::print_world;
 
 /// Interface `a` with type `t`, `b` which uses it, and world `w`, which imports `b`.
 const SCRIPT: &str = "package foo:bar\n\
@@ -66,6 +67,26 @@ fn things_have_their_id_texts(rt: HostRuntime) {
         &rt,
         id_texts(&rt, rt.alloc()),
         "foo:bar/b foo:bar/w foo:bar/a",
+    );
+}
+
+/// World `w` as it is printed, and one that isn't there.
+fn printed(rt: &impl Abort, alloc: Global) -> String {
+    let resolve = resolve(rt, alloc);
+    let there = print_world(alloc, &resolve, WorldId::from_index(0)).expect(rt, "memory");
+    let absent = print_world(alloc, &resolve, WorldId::from_index(1)).expect(rt, "memory");
+    format!(in alloc; "{there}{absent}.").expect(rt, "memory")
+}
+
+#[test]
+fn worlds_are_printed(rt: HostRuntime) {
+    assert_told(
+        &rt,
+        printed(&rt, rt.alloc()),
+        "world foo:bar/w\n\
+        \x20 import foo:bar/a\n\
+        \x20 import foo:bar/b\n\
+        .",
     );
 }
 

@@ -1,0 +1,130 @@
+//! The last position, and one past it: of spans that move with their package, and of files.
+use crate::parts::{assert_told, file, group, interface, interface_list, package};
+use crate::shown::shown;
+use crate::told::{first, told, write_files};
+use std::alloc::Global;
+use std::fmt::Write;
+use std::process::Abort;
+use wit_data::{Items, SourceMap, Span, UnresolvedPackage};
+use wit_resolve_graph::{Resolve, Shape};
+
+/// A package with an interface that has this span.
+fn spanned(rt: &impl Abort, alloc: Global, name: &str, span: Span) -> UnresolvedPackage {
+    let mut i = interface(rt, alloc, "i", &[]);
+    i.span = span;
+    let mut made = package(rt, alloc, name, "");
+    made.interfaces = interface_list(rt, alloc, [i]);
+    made
+}
+
+/// What the graph holds after such a package was moved so far, or how it is refused.
+fn pushed_at(rt: &impl Abort, alloc: Global, span: Span, offset: u32) -> String {
+    let mut resolve = Resolve::new(alloc);
+    let before = shown(rt, alloc, resolve.graph());
+    let made = spanned(rt, alloc, "main", span);
+    assert!(rt; made.is_shaped(alloc).expect(rt, "memory"));
+    match resolve.push(alloc, made, offset) {
+        Ok(_) => shown(rt, alloc, resolve.graph()),
+        Err(refusal) => told(rt, alloc, before.as_str(), &resolve, Err(refusal)),
+    }
+}
+
+const PASSED: &str = "27 at 0-0\n\
+    source positions would pass 4294967295\n\
+    graph as before, files to 0";
+
+#[test]
+fn spans_move_up_to_the_last_position(rt: HostRuntime) {
+    let alloc = rt.alloc();
+    assert_told(
+        &rt,
+        pushed_at(&rt, alloc, Span::new(8, 10), 4294967285),
+        "package 0 foo:main\n\
+        \x20 interface i 0\n\
+        named foo:main 0\n\
+        interface 0 i of package 0 at 4294967293-4294967295\n",
+    );
+    assert_told(
+        &rt,
+        pushed_at(&rt, alloc, Span::new(8, 10), 4294967286),
+        PASSED,
+    );
+    assert_told(
+        &rt,
+        pushed_at(&rt, alloc, Span::unknown(), 4294967295),
+        "package 0 foo:main\n\
+        \x20 interface i 0\n\
+        named foo:main 0\n\
+        interface 0 i of package 0\n",
+    );
+}
+
+/// Where a file begins behind all but five positions, or how it is refused, and the files then.
+fn file_at_the_end(rt: &impl Abort, alloc: Global, contents: &str) -> String {
+    let mut resolve = Resolve::new(alloc);
+    let base = SourceMap::with_base(alloc, 4294967290);
+    resolve.push_source_map(alloc, base).expect(rt, "positions");
+    let mut out = String::new(alloc);
+    for path in ["m.wit", "n.wit"] {
+        match resolve.push_source_map(alloc, file(rt, alloc, path, contents)) {
+            Ok(offset) => write!(out, "at {offset}").expect(rt, "memory"),
+            Err(refusal) => write!(out, "{}", refusal.number()).expect(rt, "memory"),
+        }
+        out.push_str(", files").expect(rt, "memory");
+        write_files(&mut out, &resolve).expect(rt, "memory");
+        out.push_str(";").expect(rt, "memory");
+    }
+    out
+}
+
+#[test]
+fn files_stand_up_to_the_last_position(rt: HostRuntime) {
+    assert_told(
+        &rt,
+        file_at_the_end(&rt, rt.alloc(), "1234"),
+        "at 4294967290, files m.wit to 4294967295;27, files m.wit to 4294967295;",
+    );
+    assert_told(
+        &rt,
+        file_at_the_end(&rt, rt.alloc(), "12345"),
+        "27, files to 4294967290;27, files to 4294967290;",
+    );
+}
+
+/// What comes of two groups, where the first file ends at 59 and the files of the two would end there.
+fn groups_up_to(rt: &impl Abort, alloc: Global, end: u32, contents: &str) -> String {
+    let mut resolve = first(rt, alloc);
+    let before = shown(rt, alloc, resolve.graph());
+    let mut main = group(rt, alloc, "", "", spanned(rt, alloc, "a", Span::unknown()));
+    main.source_map = SourceMap::with_base(alloc, end);
+    let dep = spanned(rt, alloc, "b", Span::unknown());
+    let dep = group(rt, alloc, "dep.wit", contents, dep);
+    assert!(rt; main.is_shaped(alloc).expect(rt, "memory"));
+    assert!(rt; dep.is_shaped(alloc).expect(rt, "memory"));
+    let mut deps = Items::new(alloc);
+    deps.push(dep).expect(rt, "memory");
+    match resolve.push_groups(alloc, main, deps) {
+        Ok(id) => {
+            let mut out = format!(in alloc; "package {}, files", id.index()).expect(rt, "memory");
+            write_files(&mut out, &resolve).expect(rt, "memory");
+            out
+        }
+        Err(refusal) => told(rt, alloc, before.as_str(), &resolve, Err(refusal)),
+    }
+}
+
+#[test]
+fn files_of_a_second_group_fit_or_none_stays(rt: HostRuntime) {
+    assert_told(
+        &rt,
+        groups_up_to(&rt, rt.alloc(), 4294967231, "1234"),
+        "package 1, files first.wit dep.wit to 4294967295",
+    );
+    assert_told(
+        &rt,
+        groups_up_to(&rt, rt.alloc(), 4294967231, "12345"),
+        "27 at 0-0\n\
+        source positions would pass 4294967295\n\
+        graph as before, files first.wit to 59",
+    );
+}
