@@ -1,0 +1,41 @@
+//! The interfaces that a world imports and exports under their own ids.
+use std::alloc::{AllocError, Global};
+use wit_resolve_graph::{InterfaceId, Resolve, Table, WorldId, WorldItem, WorldKey};
+
+/// The interfaces of entries under their own ids.
+fn own_interfaces(
+    alloc: Global,
+    entries: &Table<WorldKey, WorldItem>,
+) -> Result<Vec<InterfaceId>, AllocError> {
+    let mut interfaces = Vec::new(alloc);
+    for (key, _) in entries.iter() {
+        if let WorldKey::Interface(id) = key {
+            interfaces.push(*id)?;
+        }
+    }
+    Ok(interfaces)
+}
+
+/// Those that a world imports.
+pub fn own_imports(
+    alloc: Global,
+    resolve: &Resolve,
+    world: WorldId,
+) -> Result<Vec<InterfaceId>, AllocError> {
+    match resolve.worlds().get(world.index()) {
+        Some(world) => own_interfaces(alloc, &world.imports),
+        None => Ok(Vec::new(alloc)),
+    }
+}
+
+/// Those that a world exports.
+pub fn own_exports(
+    alloc: Global,
+    resolve: &Resolve,
+    world: WorldId,
+) -> Result<Vec<InterfaceId>, AllocError> {
+    match resolve.worlds().get(world.index()) {
+        Some(world) => own_interfaces(alloc, &world.exports),
+        None => Ok(Vec::new(alloc)),
+    }
+}
