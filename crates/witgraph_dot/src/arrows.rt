@@ -1,5 +1,7 @@
 //! The arrows of a picture.
-ghost use Rattle.std.specs.Prelude.{◌<◌, length};
+ghost use Rattle.std.specs.Prelude.{◌≡◌, ◌<◌, length, nat_eq};
+ghost use Rattle.std.specs.List.{list_any};
+ghost use Rattle.witgraph_dot.specs.Listed.{import_kind};
 
 use crate::listing::Listing;
 use crate::texts::Quoted;
@@ -51,8 +53,10 @@ pub fn write_uses(
 }
 
 /// Whether an index is one of some.
-fn is_among(indices: &[usize], index: usize) -> bool {
-    indices.iter().any(|other| *other == index)
+fn is_among(indices: &[usize], index: usize) -> bool
+    ensures { result ≡ list_any (nat_eq index) indices.now }
+{
+    indices.iter().any(|other| index == *other)
 }
 
 /// Writes the arrows from a world to what it imports and exports.
@@ -72,11 +76,18 @@ pub fn write_entries(
 }
 
 /// What the arrow of an import says. Elaboration adds nothing under a label.
-fn import_kind(listing: &Listing, world: WorldId, key: &WorldKey) -> ArrowKind {
+fn import_kind(listing: &Listing, world: WorldId, key: &WorldKey) -> ArrowKind
+    ensures { result ≡ import_kind listing.now.imports.items world key.now }
+{
     match key {
         WorldKey::Name(_) => ArrowKind::Listed,
-        WorldKey::Interface(interface) if listing.has(world, *interface) => ArrowKind::Listed,
-        WorldKey::Interface(_) => ArrowKind::Added,
+        WorldKey::Interface(interface) => {
+            if listing.has(world, *interface) {
+                ArrowKind::Listed
+            } else {
+                ArrowKind::Added
+            }
+        }
     }
 }
 

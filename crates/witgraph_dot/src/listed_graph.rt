@@ -1,7 +1,11 @@
 //! A graph on which commands work, with what lines list for its worlds.
+ghost use Rattle.std.specs.Prelude.{◌≡◌, OnOk};
 ghost use Rattle.wit_resolve_graph.specs.CommandShape.{IsCommandShaped};
+ghost use Rattle.wit_resolve_graph.specs.State.{new_state};
+ghost use Rattle.wit_resolve_graph.specs.declared.command.Command.TheVariants.{Merge, PushGroups};
 ghost use Rattle.wit_script.specs.Ready.{IsReady};
 ghost use Rattle.wit_script.specs.declared.ready.ScriptCommand.TheVariants as asks;
+ghost use Rattle.witgraph_dot.specs.Drawn.{Carries};
 
 use crate::listing::Listing;
 use crate::names::world_named;
@@ -11,8 +15,6 @@ use wit_resolve_graph::{
     Command, Items, PackageName, Reply, Resolve, ResolveError, ResolveResult, Text, TryClone,
     UnresolvedPackageGroup, run,
 };
-use wit_script::ScriptCommand;
-use wit_script_lines::Request;
 
 /// A graph, and what lines list for its worlds.
 #[derive(Drop)]
@@ -23,54 +25,12 @@ pub struct ListedGraph {
 
 impl ListedGraph {
     /// An empty graph.
-    pub fn new(alloc: Global) -> ListedGraph {
+    pub fn new(alloc: Global) -> ListedGraph
+        ensures { result.resolve ≡ new_state }
+    {
         ListedGraph {
             resolve: Resolve::new(alloc),
             listing: Listing::new(alloc),
-        }
-    }
-
-    /// Carries out a command, and answers why it comes to nothing, if it does: a text for a note. `other` and `merge` work
-    /// on two graphs and do nothing here. The only refusal is want of memory outside a command.
-    pub fn carry_out(
-        &mut self,
-        alloc: Global,
-        command: ScriptCommand,
-    ) -> ResolveResult<Option<String>>
-        requires { IsReady command }
-    {
-        match command {
-            ScriptCommand::Push { main, deps } => self.push(alloc, main, deps),
-            ScriptCommand::Request(request) => self.carry_out_request(alloc, request),
-        }
-    }
-
-    /// The same of a command that pushes nothing.
-    fn carry_out_request(
-        &mut self,
-        alloc: Global,
-        request: Request,
-    ) -> ResolveResult<Option<String>> {
-        match request {
-            Request::Feature(name) => self.change(alloc, Command::AddFeature(name)),
-            Request::AllFeatures => self.change(alloc, Command::SetAllFeatures(true)),
-            Request::Tracks(rule) => self.change(alloc, Command::SetTrackRule(rule)),
-            Request::Importize {
-                package,
-                world,
-                out,
-            } => self.importize(alloc, package, world, out),
-            Request::Exportize {
-                package,
-                world,
-                out,
-                keys,
-            } => self.exportize(alloc, package, world, out, keys),
-            Request::Semver { package, world } => self.semver(alloc, package, world),
-            Request::Print { package, world } => self.print(alloc, &package, &world),
-            Request::Select { package, text } => self.select(alloc, &package, &text),
-            Request::Other => Ok(None),
-            Request::Merge => Ok(None),
         }
     }
 
@@ -81,9 +41,11 @@ impl ListedGraph {
         Ok(Some(format!(in alloc; "refused {number}\n{text}")?))
     }
 
-    /// Carries out a command on the graph.
+    /// Carries out a command on the graph, and answers why it comes to nothing, if it does: a text for a note. The only
+    /// refusal is want of memory outside the command.
     pub fn change(&mut self, alloc: Global, command: Command) -> ResolveResult<Option<String>>
         requires { IsCommandShaped command }
+        ensures { OnOk result (Carries self.old.resolve command self.new.resolve) }
     {
         let mut commands = Items::new(alloc);
         commands.push(command)?;
@@ -96,13 +58,14 @@ impl ListedGraph {
     }
 
     /// `push`: the lines of the packages list imports.
-    fn push(
+    pub fn push(
         &mut self,
         alloc: Global,
         main: UnresolvedPackageGroup,
         deps: Items<UnresolvedPackageGroup>,
     ) -> ResolveResult<Option<String>>
         requires { IsReady (asks.Push main deps) }
+        ensures { OnOk result (Carries self.old.resolve (PushGroups main deps) self.new.resolve) }
     {
         let mut groups = Items::new(alloc);
         groups.push(main.try_clone()?)?;
@@ -117,19 +80,25 @@ impl ListedGraph {
     }
 
     /// `merge`: takes the things of another graph and what lines list there.
-    pub fn merge(&mut self, alloc: Global, other: ListedGraph) -> ResolveResult<Option<String>> {
+    pub fn merge(&mut self, alloc: Global, other: ListedGraph) -> ResolveResult<Option<String>>
+        ensures { OnOk result (Carries self.old.resolve (Merge other.resolve) self.new.resolve) }
+    {
         let ListedGraph { resolve, listing } = other;
-        match self.resolve.merge(alloc, resolve) {
-            Ok(remap) => {
-                self.listing.merge(&listing, &remap)?;
+        let mut commands = Items::new(alloc);
+        commands.push(Command::Merge(resolve))?;
+        let replies = run(alloc, &mut self.resolve, commands.into_vec())?;
+        match replies.first() {
+            Some(Reply::Refused(refusal)) => self.refusal_note(alloc, refusal),
+            Some(Reply::Merged(remap)) => {
+                self.listing.merge(&listing, remap)?;
                 Ok(None)
             }
-            Err(refusal) => self.refusal_note(alloc, &refusal),
+            _ => Ok(None),
         }
     }
 
     /// `print`: all worlds are drawn, so that there is such a world is all that is asked.
-    fn print(
+    pub fn print(
         &self,
         alloc: Global,
         package: &PackageName,
@@ -142,7 +111,7 @@ impl ListedGraph {
     }
 
     /// `select`: that there is one such world.
-    fn select(
+    pub fn select(
         &self,
         alloc: Global,
         package: &PackageName,
@@ -163,6 +132,6 @@ impl ListedGraph {
 }
 
 /// What a note says where there is no world of a name.
-pub fn no_world_note(alloc: Global) -> ResolveResult<Option<String>> {
+fn no_world_note(alloc: Global) -> ResolveResult<Option<String>> {
     Ok(Some(String::from_str(alloc, "no world")?))
 }

@@ -1,4 +1,7 @@
 //! The imports that lines list.
+ghost use Rattle.std.specs.Prelude.{◌≡◌, IfOk, OnOk, []};
+ghost use Rattle.witgraph_dot.specs.Listed.{imports_of, lists, others_of, with_import, with_imports};
+
 use std::alloc::{AllocError, Global};
 use wit_resolve_graph::{InterfaceId, Remap, WorldId};
 
@@ -22,28 +25,25 @@ pub struct Listing {
 
 impl Listing {
     /// No import.
-    pub fn new(alloc: Global) -> Listing {
+    pub fn new(alloc: Global) -> Listing
+        ensures { result.imports.items ≡ [] }
+    {
         Listing {
             imports: Vec::new(alloc),
         }
     }
 
     /// Whether a line lists this interface for this world.
-    pub fn has(&self, world: WorldId, interface: InterfaceId) -> bool {
-        for import in &self.imports {
-            if import.world == world && import.interface == interface {
-                return true;
-            }
-        }
-        false
+    pub fn has(&self, world: WorldId, interface: InterfaceId) -> bool
+        ensures { result ≡ lists self.now.imports.items world interface }
+    {
+        self.imports.iter().any(|import| import.world == world && import.interface == interface)
     }
 
     /// What lines list for a world.
-    pub fn imports_of(
-        &self,
-        alloc: Global,
-        world: WorldId,
-    ) -> Result<Vec<InterfaceId>, AllocError> {
+    pub fn imports_of(&self, alloc: Global, world: WorldId) -> Result<Vec<InterfaceId>, AllocError>
+        ensures { IfOk result (λ interfaces. interfaces.items ≡ imports_of world self.now.imports.items) }
+    {
         let mut interfaces = Vec::new(alloc);
         for import in &self.imports {
             if import.world == world {
@@ -54,7 +54,9 @@ impl Listing {
     }
 
     /// Adds an interface to what is listed for a world.
-    pub fn add(&mut self, world: WorldId, interface: InterfaceId) -> Result<(), AllocError> {
+    pub fn add(&mut self, world: WorldId, interface: InterfaceId) -> Result<(), AllocError>
+        ensures { OnOk result (self.new.imports.items ≡ with_import self.old.imports.items world interface) }
+    {
         if !self.has(world, interface) {
             self.imports.push(Import { world, interface })?;
         }
@@ -62,11 +64,9 @@ impl Listing {
     }
 
     /// Adds these interfaces to what is listed for a world.
-    pub fn add_all(
-        &mut self,
-        world: WorldId,
-        interfaces: &[InterfaceId],
-    ) -> Result<(), AllocError> {
+    pub fn add_all(&mut self, world: WorldId, interfaces: &[InterfaceId]) -> Result<(), AllocError>
+        ensures { OnOk result (self.new.imports.items ≡ with_imports self.old.imports.items world interfaces.now) }
+    {
         for interface in interfaces {
             self.add(world, *interface)?;
         }
@@ -79,7 +79,9 @@ impl Listing {
         alloc: Global,
         world: WorldId,
         interfaces: &[InterfaceId],
-    ) -> Result<(), AllocError> {
+    ) -> Result<(), AllocError>
+        ensures { OnOk result (self.new.imports.items ≡ with_imports (others_of world self.old.imports.items) world interfaces.now) }
+    {
         let mut imports = Vec::new(alloc);
         for import in &self.imports {
             if import.world != world {

@@ -33,14 +33,15 @@ const END: &str = "  </table>>;
 
 /// The graph of a stage in DOT, with the notes. The only error is want of memory.
 pub fn draw(alloc: Global, stage: &Stage) -> Result<String, AllocError> {
-    let resolve = &stage.first.resolve;
+    let first = stage.first();
+    let resolve = &first.resolve;
     let mut text = String::from_str(alloc, HEAD)?;
     for (index, package) in resolve.packages().iter().enumerate() {
         write_frame(resolve.worlds(), package, index, &mut text)?;
     }
-    write_arrows(alloc, resolve, &stage.first.listing, &mut text)?;
+    write_arrows(alloc, resolve, &first.listing, &mut text)?;
     text.push_str(LEGEND)?;
-    write_notes(stage.notes.as_slice(), &mut text)?;
+    write_notes(stage.notes(), &mut text)?;
     text.push_str(END)?;
     Ok(text)
 }

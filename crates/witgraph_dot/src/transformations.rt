@@ -1,10 +1,18 @@
 //! The commands that transform a world, and what counts as listed after them.
+ghost use Rattle.std.specs.Prelude.{◌≡◌, IfOk, OnOk, filter, nat_eq, not};
+ghost use Rattle.std.specs.List.{list_any};
+ghost use Rattle.wit_resolve_graph.specs.declared.command.Command.TheVariants.{Exportize, Importize, Semver};
+ghost use Rattle.witgraph_dot.specs.Drawn.{Carries};
+
 use crate::entries::{own_exports, own_imports};
-use crate::listed_graph::{ListedGraph, no_world_note};
+use crate::listed_graph::ListedGraph;
+use crate::listing::Listing;
 use crate::names::world_named;
 use crate::track::are_versions_of_one;
 use std::alloc::{AllocError, Global};
-use wit_resolve_graph::{Command, InterfaceId, Items, PackageName, ResolveResult, Text, WorldId};
+use wit_resolve_graph::{
+    Command, InterfaceId, Items, PackageName, Resolve, ResolveResult, Text, WorldId,
+};
 
 impl ListedGraph {
     /// `importize`: after it the former exports count as listed.
@@ -14,11 +22,11 @@ impl ListedGraph {
         package: PackageName,
         world: Text,
         out: Option<Text>,
-    ) -> ResolveResult<Option<String>> {
-        let Some(id) = world_named(&self.resolve, &package, world.as_str()) else {
-            return no_world_note(alloc);
-        };
-        let exports = own_exports(alloc, &self.resolve, id)?;
+    ) -> ResolveResult<Option<String>>
+        ensures { OnOk result (Carries self.old.resolve (Importize «package» world out) self.new.resolve) }
+    {
+        let id = world_named(&self.resolve, &package, world.as_str());
+        let exports = exports_of(alloc, &self.resolve, &id)?;
         let command = Command::Importize {
             package,
             world,
@@ -26,7 +34,9 @@ impl ListedGraph {
         };
         let note = self.change(alloc, command)?;
         if note.is_none() {
-            self.listing.replace(alloc, id, &exports)?;
+            if let Some(id) = id {
+                self.listing.replace(alloc, id, &exports)?;
+            }
         }
         Ok(note)
     }
@@ -39,10 +49,10 @@ impl ListedGraph {
         world: Text,
         out: Option<Text>,
         keys: Option<Items<Text>>,
-    ) -> ResolveResult<Option<String>> {
-        let Some(id) = world_named(&self.resolve, &package, world.as_str()) else {
-            return no_world_note(alloc);
-        };
+    ) -> ResolveResult<Option<String>>
+        ensures { OnOk result (Carries self.old.resolve (Exportize «package» world out keys) self.new.resolve) }
+    {
+        let id = world_named(&self.resolve, &package, world.as_str());
         let command = Command::Exportize {
             package,
             world,
@@ -51,10 +61,9 @@ impl ListedGraph {
         };
         let note = self.change(alloc, command)?;
         if note.is_none() {
-            let listed = self.listing.imports_of(alloc, id)?;
-            let exports = own_exports(alloc, &self.resolve, id)?;
-            let left = without(alloc, &listed, &exports)?;
-            self.listing.replace(alloc, id, &left)?;
+            if let Some(id) = id {
+                list_unexported(alloc, &self.resolve, &mut self.listing, id)?;
+            }
         }
         Ok(note)
     }
@@ -65,27 +74,59 @@ impl ListedGraph {
         alloc: Global,
         package: PackageName,
         world: Text,
-    ) -> ResolveResult<Option<String>> {
-        let Some(id) = world_named(&self.resolve, &package, world.as_str()) else {
-            return no_world_note(alloc);
-        };
+    ) -> ResolveResult<Option<String>>
+        ensures { OnOk result (Carries self.old.resolve (Semver «package» world) self.new.resolve) }
+    {
+        let id = world_named(&self.resolve, &package, world.as_str());
         let note = self.change(alloc, Command::Semver { package, world })?;
         if note.is_none() {
-            self.list_newest(alloc, id)?;
+            if let Some(id) = id {
+                list_newest(alloc, &self.resolve, &mut self.listing, id)?;
+            }
         }
         Ok(note)
     }
+}
 
-    /// Adds to what is listed the imports of a world that stand on the track of something listed.
-    fn list_newest(&mut self, alloc: Global, world: WorldId) -> Result<(), AllocError> {
-        for newest in own_imports(alloc, &self.resolve, world)? {
-            for listed in self.listing.imports_of(alloc, world)? {
-                if are_versions_of_one(alloc, &self.resolve, listed, newest)? {
-                    self.listing.add(world, newest)?;
-                }
+/// Takes what a world exports from what is listed for it.
+fn list_unexported(
+    alloc: Global,
+    resolve: &Resolve,
+    listing: &mut Listing,
+    world: WorldId,
+) -> Result<(), AllocError> {
+    let listed = listing.imports_of(alloc, world)?;
+    let exports = own_exports(alloc, resolve, world)?;
+    let left = without(alloc, &listed, &exports)?;
+    listing.replace(alloc, world, &left)
+}
+
+/// Adds to what is listed the imports of a world that stand on the track of something listed.
+fn list_newest(
+    alloc: Global,
+    resolve: &Resolve,
+    listing: &mut Listing,
+    world: WorldId,
+) -> Result<(), AllocError> {
+    for newest in own_imports(alloc, resolve, world)? {
+        for listed in listing.imports_of(alloc, world)? {
+            if are_versions_of_one(alloc, resolve, listed, newest)? {
+                listing.add(world, newest)?;
             }
         }
-        Ok(())
+    }
+    Ok(())
+}
+
+/// The interfaces that a world exports under their own ids, none where there is no world.
+fn exports_of(
+    alloc: Global,
+    resolve: &Resolve,
+    world: &Option<WorldId>,
+) -> Result<Vec<InterfaceId>, AllocError> {
+    match world {
+        Some(world) => own_exports(alloc, resolve, *world),
+        None => Ok(Vec::new(alloc)),
     }
 }
 
@@ -94,7 +135,9 @@ fn without(
     alloc: Global,
     interfaces: &[InterfaceId],
     others: &[InterfaceId],
-) -> Result<Vec<InterfaceId>, AllocError> {
+) -> Result<Vec<InterfaceId>, AllocError>
+    ensures { IfOk result (λ left. left.items ≡ filter (λ i. not (list_any (nat_eq i) others.now)) interfaces.now) }
+{
     let mut left = Vec::new(alloc);
     for id in interfaces {
         if !is_among(others, *id) {
@@ -105,11 +148,8 @@ fn without(
 }
 
 /// Whether an interface is one of some.
-fn is_among(interfaces: &[InterfaceId], id: InterfaceId) -> bool {
-    for other in interfaces {
-        if *other == id {
-            return true;
-        }
-    }
-    false
+fn is_among(interfaces: &[InterfaceId], id: InterfaceId) -> bool
+    ensures { result ≡ list_any (nat_eq id) interfaces.now }
+{
+    interfaces.iter().any(|other| id == *other)
 }
