@@ -1,0 +1,117 @@
+-- What is shown of the refusals of a script: each with the line at which it is. Nothing else is.
+use Rattle.std.specs.Prelude.{◌≡◌, ℕ, Bool, true, false, List, [], ◌∷◌, ◌++◌, Option, None, Some, Result, Ok, Err, codes, MatchOption}
+use Rattle.std.specs.Fmt.{decimal}
+use Rattle.std.specs.List.{flat_map}
+use Rattle.std.specs.Str.{IsUtf8}
+use Rattle.wit_sources.specs.declared.source_map.SourceFile.{SourceFile}
+use Rattle.wit_data.specs.declared.package_name.PackageName.{PackageName}
+use Rattle.wit_graph_data.specs.Error.{error_number}
+use Rattle.wit_graph_data.specs.Rendered.{rendered}
+use Rattle.wit_graph_data.specs.declared.error_kind.ResolveErrorKind.{ResolveErrorKind}
+use Rattle.wit_resolve_graph.specs.State.{State, new_state}
+use Rattle.wit_resolve_graph.specs.Step.{Run}
+use Rattle.wit_resolve_graph.specs.declared.command.Command.{Command}
+use Rattle.wit_resolve_graph.specs.declared.command.Command.TheVariants.{AddFeature, SetAllFeatures, SetTrackRule, PushGroups, Merge, Importize, Exportize, Semver}
+use Rattle.wit_resolve_graph.specs.declared.command.Reply.{Reply}
+use Rattle.wit_resolve_graph.specs.declared.command.Reply.TheVariants as reply
+use Rattle.wit_script_lines.specs.declared.request.Request.{Request}
+use Rattle.wit_script_lines.specs.declared.request.Request.TheVariants as request
+use Rattle.wit_script.specs.Answer.{IsChoice, package_named}
+use Rattle.wit_script.specs.Prints.{PrintsLine}
+use Rattle.wit_script.specs.Script.{IsUnderstood}
+use Rattle.wit_script.specs.declared.ready.ScriptCommand.{ScriptCommand}
+use Rattle.wit_script.specs.declared.ready.ScriptCommand.TheVariants as asks
+use Rattle.witgraph_c.specs.declared.refusals.Stage.{Stage}
+
+-- `refused N TEXT`, N being the number of the refusal, with its line in these files and a mark
+abbrev pub rendered_refusal : List SourceFile → ResolveErrorKind → List ℕ
+rendered_refusal files kind = codes "refused " ++ (decimal (error_number kind) ++ (codes " " ++ (rendered files kind ++ codes "\n")))
+
+-- what is shown of a reply, in the state after it
+abbrev pub rendered_reply : State → Reply → List ℕ
+rendered_reply after reply.Done = []
+rendered_reply after (reply.Pushed id) = []
+rendered_reply after (reply.Merged remap) = []
+rendered_reply after reply.NoWorld = []
+rendered_reply after (reply.Refused kind) = rendered_refusal after.source_map.files kind
+
+-- a run of one command, and what is shown of its replies
+abbrev pub ExplainsRun : State → Command → List ℕ → State → Type 0
+ExplainsRun before command text after = (replies : List Reply) × Run before (command ∷ []) replies after × (text ≡ flat_map (rendered_reply after) replies)
+
+-- a graph, and no other
+abbrev pub alone : State → Stage
+alone state = record { first = state; second = None }
+
+-- the graph on which commands work
+abbrev pub active_of : State → Option State → State
+active_of first None = first
+active_of first (Some second) = second
+
+abbrev pub active : Stage → State
+active stage = active_of stage.first stage.second
+
+-- the stage after that graph has become another
+abbrev pub with_active_of : State → Option State → State → Stage
+with_active_of first None new = alone new
+with_active_of first (Some second) new = record { first = first; second = Some new }
+
+abbrev pub with_active : Stage → State → Stage
+with_active stage new = with_active_of stage.first stage.second new
+
+-- a run of one command on the graph on which commands work
+abbrev pub ExplainsWork : Stage → Command → List ℕ → Stage → Type 0
+ExplainsWork before command text after = (new : State) × ExplainsRun (active before) command text new × (after ≡ with_active before new)
+
+-- `merge`: the second graph goes into the first, and is no longer there
+abbrev pub ExplainsMerge : Stage → Option State → List ℕ → Stage → Type 0
+ExplainsMerge before None text after = (text ≡ []) × (after ≡ before)
+ExplainsMerge before (Some second) text after = (new : State) × ExplainsRun before.first (Merge second) text new × (after ≡ alone new)
+
+-- what is shown of a choice of a world
+abbrev pub rendered_choice : List SourceFile → Result ℕ ResolveErrorKind → List ℕ
+rendered_choice files (Ok world) = []
+rendered_choice files (Err kind) = rendered_refusal files kind
+
+-- `select`: a choice that may be made of a package; nothing where the package isn't there
+abbrev pub ExplainsSelect : State → PackageName → Option (List ℕ) → List ℕ → Type 0
+ExplainsSelect state owner said text =
+    MatchOption (package_named state.graph owner) (text ≡ []) (λ id. (choice : Result ℕ ResolveErrorKind) × IsChoice state.graph id said choice × (text ≡ rendered_choice state.source_map.files choice))
+
+-- what is shown of a command that pushes nothing, and the stage after it
+abbrev pub ExplainsRequest : Stage → Request → List ℕ → Stage → Type 0
+ExplainsRequest before (request.Feature name) text after = ExplainsWork before (AddFeature name) text after
+ExplainsRequest before request.AllFeatures text after = ExplainsWork before (SetAllFeatures true) text after
+ExplainsRequest before (request.Tracks rule) text after = ExplainsWork before (SetTrackRule rule) text after
+ExplainsRequest before request.Other text after = (text ≡ []) × (after ≡ record { first = before.first; second = Some new_state })
+ExplainsRequest before request.Merge text after = ExplainsMerge before before.second text after
+ExplainsRequest before (request.Importize owner world out) text after = ExplainsWork before (Importize owner world out) text after
+ExplainsRequest before (request.Exportize owner world out keys) text after = ExplainsWork before (Exportize owner world out keys) text after
+ExplainsRequest before (request.Semver owner world) text after = ExplainsWork before (Semver owner world) text after
+ExplainsRequest before (request.Print owner world) text after = (text ≡ []) × (after ≡ before)
+ExplainsRequest before (request.Select owner said) text after = (after ≡ before) × ExplainsSelect (active before) owner said text
+
+-- what is shown of a command, and the stage after it
+abbrev pub ExplainsCommand : Stage → ScriptCommand → List ℕ → Stage → Type 0
+ExplainsCommand before (asks.Push main deps) text after = ExplainsWork before (PushGroups main deps) text after
+ExplainsCommand before (asks.Request asked) text after = ExplainsRequest before asked text after
+
+-- what is shown of commands, one after another
+abbrev pub ExplainsAll : Stage → List ScriptCommand → List ℕ → Stage → Type 0
+ExplainsAll before [] text after = (text ≡ []) × (after ≡ before)
+ExplainsAll before (command ∷ commands) text after =
+    (between : Stage) × (first : List ℕ) × (rest : List ℕ)
+    × ExplainsCommand before command first between × ExplainsAll between commands rest after × (text ≡ first ++ rest)
+
+-- what is shown of a script that is understood: the refusals of its commands on an empty graph
+pub record ExplainsScript (input text : List ℕ) : Type 0 where
+  pub utf8 : IsUtf8 input
+  pub commands : List ScriptCommand
+  pub understood : IsUnderstood input commands
+  pub after : Stage
+  pub shown : ExplainsAll (alone new_state) commands text after
+
+-- what is shown of a script, and whether it is understood; of one that isn't, the line that a run answers
+abbrev pub Explains : List ℕ → Bool → List ℕ → Type 0
+Explains input true text = ExplainsScript input text
+Explains input false text = PrintsLine input text

@@ -1,0 +1,240 @@
+//! The refusals of a script, each with the line at which it is.
+ghost use Rattle.std.specs.Prelude.{◌≡◌, IfOk, IsErrOf, string_bytes};
+ghost use Rattle.std.specs.List.{flat_map};
+ghost use Rattle.std.specs.Str.{IsUtf8};
+ghost use Rattle.wit_resolve_graph.specs.CommandShape.{IsCommandShaped};
+ghost use Rattle.wit_resolve_graph.specs.State.{new_state};
+ghost use Rattle.wit_resolve_graph.specs.declared.command.Command.TheVariants.{Exportize};
+ghost use Rattle.witgraph_c.specs.Refusals.{Explains, ExplainsMerge, ExplainsSelect, ExplainsRun, ExplainsCommand, ExplainsAll, ExplainsRequest, ExplainsWork, active, alone, rendered_refusal, rendered_reply};
+ghost use Rattle.witgraph_c.specs.declared.refusals.Stage.{Stage};
+
+use std::alloc::Global;
+use wit_resolve_graph::{
+    Command, Items, PackageName, Reply, Resolve, ResolveError, ResolveResult, Text, run,
+};
+use wit_script::{ReadFault, ReadyCommand, ScriptCommand, ScriptFault, read_script};
+use wit_script_lines::Request;
+
+/// The graph of a script, and the second one between `other` and `merge`.
+#[derive(Drop)]
+pub struct Stage {
+    pub first: Resolve,
+    pub second: Option<Resolve>,
+}
+
+impl Stage {
+    /// An empty graph, and no other.
+    fn new(alloc: Global) -> Stage
+        ensures { result ≡ alone new_state }
+    {
+        Stage {
+            first: Resolve::new(alloc),
+            second: None,
+        }
+    }
+
+    /// The graph on which commands work.
+    fn active(&self) -> &Resolve
+        ensures { result.now ≡ active self.now }
+    {
+        match &self.second {
+            Some(second) => second,
+            None => &self.first,
+        }
+    }
+
+    /// Carries out a command on that graph, and answers its refusal, or an empty text.
+    fn work(&mut self, alloc: Global, command: Command) -> ResolveResult<String>
+        requires { IsCommandShaped command }
+        ensures { IfOk result (λ text. ExplainsWork self.old command (string_bytes text) self.new) }
+    {
+        match &mut self.second {
+            Some(second) => carry_out(alloc, second, command),
+            None => carry_out(alloc, &mut self.first, command),
+        }
+    }
+
+    /// `merge`: the second graph goes into the first, and is no longer there, whether it is refused or not.
+    fn merge(&mut self, alloc: Global) -> ResolveResult<String>
+        ensures { IfOk result (λ text. ExplainsMerge self.old self.old.second (string_bytes text) self.new) }
+    {
+        match self.second.take() {
+            Some(second) => carry_out(alloc, &mut self.first, Command::Merge(second)),
+            None => Ok(String::new(alloc)),
+        }
+    }
+
+    /// The refusal of a choice of a world.
+    fn select(
+        &self,
+        alloc: Global,
+        owner: &PackageName,
+        text: &Option<Text>,
+    ) -> ResolveResult<String>
+        ensures { IfOk result (λ out. ExplainsSelect (active self.now) owner.now text.now (string_bytes out)) }
+    {
+        let resolve = self.active();
+        let Some(id) = resolve.package_names().get(owner) else {
+            return Ok(String::new(alloc));
+        };
+        let text = match text {
+            Some(text) => Some(text.as_str()),
+            None => None,
+        };
+        match resolve.select_world(alloc, &[*id], text) {
+            Ok(_) => Ok(String::new(alloc)),
+            Err(refusal) => rendered_refusal(alloc, resolve, &refusal),
+        }
+    }
+}
+
+/// What there is to say of a script: its refusals where it is understood, and whether it is.
+pub fn explain(alloc: Global, input: &[u8]) -> Result<(bool, String), ScriptFault>
+    ensures ok { IfOk result (λ answer. Explains input.now answer.0 (string_bytes answer.1)) }
+    ensures utf8 { IsErrOf result ScriptFault.NotUtf8 → IsUtf8 input.now → ⊥ }
+{
+    let Ok(script) = str::from_utf8(input) else {
+        return Err(ScriptFault::NotUtf8);
+    };
+    match read_script(alloc, script) {
+        Ok(commands) => match refusals_to(alloc, commands) {
+            Ok(text) => Ok((true, text)),
+            Err(_) => Err(ScriptFault::OutOfMemory),
+        },
+        Err(ReadFault::NotUnderstood { line }) => Ok((
+            false,
+            format!(in alloc; "line {line}: not understood\n")?,
+        )),
+        Err(ReadFault::OutOfMemory) => Err(ScriptFault::OutOfMemory),
+    }
+}
+
+/// The refusals of commands on an empty graph, in order. The only error is want of memory outside a command.
+fn refusals_to(alloc: Global, commands: Items<ReadyCommand>) -> ResolveResult<String>
+    ensures { IfOk result (λ text. (after : Stage) × ExplainsAll (alone new_state) commands (string_bytes text) after) }
+{
+    let mut stage = Stage::new(alloc);
+    let mut all = String::new(alloc);
+    for command in commands.into_vec() {
+        let text = refusal_to(alloc, &mut stage, command)?;
+        all.push_str(&text)?;
+    }
+    Ok(all)
+}
+
+/// The refusal of a command, if it is refused.
+fn refusal_to(alloc: Global, stage: &mut Stage, command: ReadyCommand) -> ResolveResult<String>
+    ensures { IfOk result (λ text. ExplainsCommand stage.old command (string_bytes text) stage.new) }
+{
+    match command.into_command() {
+        ScriptCommand::Push { main, deps } => {
+            stage.work(alloc, Command::PushGroups { main, deps })
+        }
+        ScriptCommand::Request(request) => refusal_to_request(alloc, stage, request),
+    }
+}
+
+/// The same of a command that pushes nothing.
+fn refusal_to_request(alloc: Global, stage: &mut Stage, request: Request) -> ResolveResult<String>
+    ensures { IfOk result (λ text. ExplainsRequest stage.old request (string_bytes text) stage.new) }
+{
+    match request {
+        Request::Feature(name) => stage.work(alloc, Command::AddFeature(name)),
+        Request::AllFeatures => stage.work(alloc, Command::SetAllFeatures(true)),
+        Request::Tracks(rule) => stage.work(alloc, Command::SetTrackRule(rule)),
+        Request::Other => {
+            stage.second = Some(Resolve::new(alloc));
+            Ok(String::new(alloc))
+        }
+        Request::Merge => stage.merge(alloc),
+        Request::Importize {
+            package,
+            world,
+            out,
+        } => {
+            let command = Command::Importize {
+                package,
+                world,
+                out,
+            };
+            stage.work(alloc, command)
+        }
+        Request::Exportize {
+            package,
+            world,
+            out,
+            keys,
+        } => exportize(alloc, stage, package, world, out, keys),
+        Request::Semver { package, world } => {
+            stage.work(alloc, Command::Semver { package, world })
+        }
+        Request::Print { .. } => Ok(String::new(alloc)),
+        Request::Select { package, text } => stage.select(alloc, &package, &text),
+    }
+}
+
+/// The same of `exportize`.
+fn exportize(
+    alloc: Global,
+    stage: &mut Stage,
+    package: PackageName,
+    world: Text,
+    out: Option<Text>,
+    keys: Option<Items<Text>>,
+) -> ResolveResult<String>
+    ensures { IfOk result (λ text. ExplainsWork stage.old (Exportize «package» world out keys) (string_bytes text) stage.new) }
+{
+    let command = Command::Exportize {
+        package,
+        world,
+        out,
+        keys,
+    };
+    stage.work(alloc, command)
+}
+
+/// Carries out a command, and answers its refusal, or an empty text.
+fn carry_out(alloc: Global, resolve: &mut Resolve, command: Command) -> ResolveResult<String>
+    requires { IsCommandShaped command }
+    ensures { IfOk result (λ text. ExplainsRun resolve.old command (string_bytes text) resolve.new) }
+{
+    let mut commands = Items::new(alloc);
+    commands.push(command)?;
+    let replies = run(alloc, resolve, commands.into_vec())?;
+    rendered_replies(alloc, resolve, &replies)
+}
+
+/// What is shown of replies.
+fn rendered_replies(alloc: Global, resolve: &Resolve, replies: &[Reply]) -> ResolveResult<String>
+    ensures { IfOk result (λ text. string_bytes text ≡ flat_map (rendered_reply resolve.now) replies.now) }
+{
+    let mut text = String::new(alloc);
+    for reply in replies {
+        let shown = rendered_reply(alloc, resolve, reply)?;
+        text.push_str(&shown)?;
+    }
+    Ok(text)
+}
+
+/// What is shown of a reply.
+fn rendered_reply(alloc: Global, resolve: &Resolve, reply: &Reply) -> ResolveResult<String>
+    ensures { IfOk result (λ text. string_bytes text ≡ rendered_reply resolve.now reply.now) }
+{
+    match reply {
+        Reply::Refused(refusal) => rendered_refusal(alloc, resolve, refusal),
+        _ => Ok(String::new(alloc)),
+    }
+}
+
+/// `refused N TEXT`, N being the number of the refusal, with its line and a mark where it has a place.
+fn rendered_refusal(
+    alloc: Global,
+    resolve: &Resolve,
+    refusal: &ResolveError,
+) -> ResolveResult<String>
+    ensures { IfOk result (λ text. string_bytes text ≡ rendered_refusal resolve.now.source_map.files refusal.now) }
+{
+    let number = refusal.number();
+    let text = refusal.render(alloc, resolve.source_map())?;
+    Ok(format!(in alloc; "refused {number} {text}\n")?)
+}

@@ -1,0 +1,127 @@
+-- Commands on the graphs of a script, as `execute` has them.
+use Rattle.std.proofs.Common.{◌≡◌, ◌⊎◌, ℕ, Bool, List, [], ◌∷◌, ◌++◌, Option, None, Some, Result, Ok, Err, refl, inl, inr, ap, sym, subst, is_some, OnOk, codes, MatchOption}
+use Rattle.std.specs.List.{flat_map}
+use Rattle.wit_data.specs.declared.package_name.PackageName.{PackageName}
+use Rattle.wit_data.specs.declared.unresolved.UnresolvedPackageGroup.{UnresolvedPackageGroup}
+use Rattle.wit_graph_data.specs.declared.error_kind.ResolveErrorKind.{ResolveErrorKind}
+use Rattle.wit_graph_data.specs.declared.error_kind.ResolveErrorKind.TheVariants.{OutOfMemory}
+use Rattle.wit_graph_data.specs.declared.graph.Graph.{Graph}
+use Rattle.wit_resolve_graph.specs.State.{State, new_state}
+use Rattle.wit_resolve_graph.specs.Step.{Run}
+use Rattle.wit_resolve_graph.specs.declared.command.Command.{Command}
+use Rattle.wit_resolve_graph.specs.declared.command.Command.TheVariants.{Merge, PushGroups}
+use Rattle.wit_resolve_graph.specs.declared.command.Reply.{Reply}
+use Rattle.wit_script_lines.specs.declared.request.Request.{Request}
+use Rattle.wit_script_lines.specs.declared.request.Request.TheVariants as request
+use Rattle.wit_script.proofs.Answered.{AnswersAll-more}
+use Rattle.wit_script.proofs.Waiting.{others-come}
+use Rattle.wit_script.specs.Answer.{IsChoice, IsChoiceTold, IsPrinted, IsSelected, Replies, Works, active, alone, package_named, refusal_text, reply_text, world_named}
+use Rattle.wit_script.specs.Ready.{MayAllCome}
+use Rattle.wit_script.specs.World.{world_text_at}
+use Rattle.wit_script.specs.declared.answer.Stage.{Stage}
+use Rattle.wit_script.specs.declared.ready.ScriptCommand.{ScriptCommand}
+use Rattle.wit_script.specs.declared.ready.ScriptCommand.TheVariants as asks
+use Rattle.witgraph_dot.specs.Drawn.{Carries, Follows, FollowsAll, graphs}
+use Rattle.witgraph_dot.specs.declared.listed_graph.ListedGraph.{ListedGraph}
+
+-- what follows where there is an answer
+on-ok : {A E P Q : Type 0} → (P → Q) → (r : Result A E) → OnOk r P → OnOk r Q
+on-ok f (Ok x) p = f p
+on-ok f (Err e) p = tt
+
+-- what holds anyhow
+holding : {A E P : Type 0} → P → (r : Result A E) → OnOk r P
+holding p (Ok x) = p
+holding p (Err e) = tt
+
+-- a command on the active graph, however its reply is told
+works : (told : Graph → Reply → List ℕ) (listed after : ListedGraph) (waiting : Option ListedGraph) (command : Command)
+    → Carries listed.resolve command after.resolve → (text : List ℕ) × Works Run told (graphs listed waiting) command text (graphs after waiting)
+works told listed after None command carried = (flat_map (told after.resolve.graph) carried.0, (after.resolve, (inl (carried.0, (carried.1, refl)), refl)))
+works told listed after (Some first) command carried = (flat_map (told after.resolve.graph) carried.0, (after.resolve, (inl (carried.0, (carried.1, refl)), refl)))
+
+-- the active graph goes into the first one
+merges : (listed first after : ListedGraph) → Carries first.resolve (Merge listed.resolve) after.resolve
+    → Follows (graphs listed (Some first)) (asks.Request request.Merge) (graphs after None)
+merges listed first after carried = (flat_map (reply_text after.resolve.graph) carried.0, (after.resolve, (inl (carried.0, (carried.1, refl)), refl)))
+
+pub merges-in : {A E : Type 0} (told : Result A E) (listed first after : ListedGraph) (waiting left : Option ListedGraph) → waiting ≡ Some first → left ≡ None
+    → OnOk told (Carries first.resolve (Merge listed.resolve) after.resolve) → OnOk told (Follows (graphs listed waiting) (asks.Request request.Merge) (graphs after left))
+merges-in told listed first after waiting left there gone carried =
+    subst (λ (w : Option ListedGraph). OnOk told (Follows (graphs listed w) (asks.Request request.Merge) (graphs after left))) (sym there)
+    (subst (λ (w : Option ListedGraph). OnOk told (Follows (graphs listed (Some first)) (asks.Request request.Merge) (graphs after w))) (sym gone)
+    (on-ok (merges listed first after) told carried))
+
+-- `print` and `select` can be answered, and leave the graphs as they are
+printable : (g : Graph) (owner : PackageName) (world : List ℕ) → (text : List ℕ) × IsPrinted g owner world text
+printable g owner world = of (world_named g owner world) where
+  of : (o : Option ℕ) → (text : List ℕ) × MatchOption o (text ≡ codes "no world\n") (λ id. (text ≡ world_text_at g id) ⊎ (text ≡ refusal_text OutOfMemory))
+  of None = (codes "no world\n", refl)
+  of (Some id) = (refusal_text OutOfMemory, inr refl)
+
+prints : (listed : ListedGraph) (waiting : Option ListedGraph) (owner : PackageName) (world : List ℕ)
+    → Follows (graphs listed waiting) (asks.Request (request.Print owner world)) (graphs listed waiting)
+prints listed waiting owner world = let told = printable (active (graphs listed waiting)).graph owner world in (told.0, (refl, told.1))
+
+selectable : (g : Graph) (owner : PackageName) (said : Option (List ℕ)) → (text : List ℕ) × IsSelected IsChoice g owner said text
+selectable g owner said = of (package_named g owner) where
+  of : (o : Option ℕ) → (text : List ℕ) × MatchOption o (text ≡ codes "no package\n") (λ id. IsChoiceTold IsChoice g id said text)
+  of None = (codes "no package\n", refl)
+  of (Some id) = (refusal_text OutOfMemory, (Err OutOfMemory, (inl refl, refl)))
+
+selects : (listed : ListedGraph) (waiting : Option ListedGraph) (owner : PackageName) (said : Option (List ℕ))
+    → Follows (graphs listed waiting) (asks.Request (request.Select owner said)) (graphs listed waiting)
+selects listed waiting owner said = let told = selectable (active (graphs listed waiting)).graph owner said in (told.0, (refl, told.1))
+
+-- `other` waits where a first graph does
+pub waits : (listed : ListedGraph) (waiting : Option ListedGraph) → is_some (graphs listed waiting).second ≡ is_some waiting
+waits listed None = refl
+waits listed (Some first) = refl
+
+-- one more command
+pub FollowsAll-more : (commands : List ScriptCommand) (command : ScriptCommand) (between after : Stage) → FollowsAll commands between → Follows between command after → FollowsAll (commands ++ command ∷ []) after
+FollowsAll-more commands command between after all one =
+    (all.0 ++ one.0, AnswersAll-more Run IsChoice (alone new_state) between after commands command all.0 one.0 all.1 one.1)
+
+-- after it the others can be asked
+pub others-wait : (listed next : ListedGraph) (waiting left : Option ListedGraph) (command : ScriptCommand) (commands : List ScriptCommand)
+    → Follows (graphs listed waiting) command (graphs next left) → MayAllCome (command ∷ commands) (is_some waiting) → MayAllCome commands (is_some left)
+others-wait listed next waiting left command commands follows come =
+    subst (λ (b : Bool). MayAllCome commands b) (waits next left)
+    (others-come Run IsChoice (graphs listed waiting) (graphs next left) command commands follows.0 follows.1 (subst (λ (b : Bool). MayAllCome (command ∷ commands) b) (sym (waits listed waiting)) come))
+
+-- ---- what is asked, as it is read
+
+-- a command that pushes nothing
+pub as-asked : {A E : Type 0} (told : Result A E) (before after : Stage) (asked read : Request) → asked ≡ read → OnOk told (Follows before (asks.Request read) after) → OnOk told (Follows before (asks.Request asked) after)
+as-asked told before after asked read is follows = subst (λ (r : Request). OnOk told (Follows before (asks.Request r) after)) (sym is) follows
+
+-- one that is carried out on the active graph
+pub works-as : {A E : Type 0} (line : Graph → Reply → List ℕ) (told : Result A E) (listed after : ListedGraph) (waiting : Option ListedGraph) (asked read : Request) (command : Command)
+    → ((text : List ℕ) → Works Run line (graphs listed waiting) command text (graphs after waiting) → Replies Run IsChoice (graphs listed waiting) read text (graphs after waiting))
+    → asked ≡ read → OnOk told (Carries listed.resolve command after.resolve) → OnOk told (Follows (graphs listed waiting) (asks.Request asked) (graphs after waiting))
+works-as line told listed after waiting asked read command reply is carried =
+    as-asked told (graphs listed waiting) (graphs after waiting) asked read is
+    (on-ok (λ (c : Carries listed.resolve command after.resolve). let done = works line listed after waiting command c in (done.0, reply done.0 done.1)) told carried)
+
+-- the packages of a push
+pub pushes-as : {A E : Type 0} (told : Result A E) (listed after : ListedGraph) (waiting : Option ListedGraph) (main : UnresolvedPackageGroup) (deps : List UnresolvedPackageGroup)
+    → OnOk told (Carries listed.resolve (PushGroups main deps) after.resolve) → OnOk told (Follows (graphs listed waiting) (asks.Push main deps) (graphs after waiting))
+pushes-as told listed after waiting main deps carried = on-ok (works reply_text listed after waiting (PushGroups main deps)) told carried
+
+pub prints-as : {A E : Type 0} (told : Result A E) (listed : ListedGraph) (waiting : Option ListedGraph) (asked : Request) (owner : PackageName) (world : List ℕ)
+    → asked ≡ request.Print owner world → OnOk told (Follows (graphs listed waiting) (asks.Request asked) (graphs listed waiting))
+prints-as told listed waiting asked owner world is =
+    as-asked told (graphs listed waiting) (graphs listed waiting) asked (request.Print owner world) is (holding (prints listed waiting owner world) told)
+
+pub selects-as : {A E : Type 0} (told : Result A E) (listed : ListedGraph) (waiting : Option ListedGraph) (asked : Request) (owner : PackageName) (said : Option (List ℕ))
+    → asked ≡ request.Select owner said → OnOk told (Follows (graphs listed waiting) (asks.Request asked) (graphs listed waiting))
+selects-as told listed waiting asked owner said is =
+    as-asked told (graphs listed waiting) (graphs listed waiting) asked (request.Select owner said) is (holding (selects listed waiting owner said) told)
+
+-- `other`, where none waits
+pub opens-as : (listed next : ListedGraph) (waiting left : Option ListedGraph) (asked : Request) → asked ≡ request.Other → waiting ≡ None
+    → graphs next left ≡ record { first = listed.resolve; second = Some new_state } → Follows (graphs listed waiting) (asks.Request asked) (graphs next left)
+opens-as listed next waiting left asked is closed opened =
+    subst (λ (r : Request). Follows (graphs listed waiting) (asks.Request r) (graphs next left)) (sym is)
+    (subst (λ (w : Option ListedGraph). Follows (graphs listed w) (asks.Request request.Other) (graphs next left)) (sym closed) ([], (refl, opened)))

@@ -1,0 +1,7 @@
+use Rattle.std.proofs.Common.{◌≡◌, take}
+use Rattle.witgraph_dot.specs.Listed.{others_of}
+use Rattle.witgraph_dot.proofs.listing.Listing.replace.Given as goal
+
+-- those of the imports so far that are of other worlds
+abbrev pub invariant-loop-import : goal.invariant-loop-import
+invariant-loop-import l = l.imports.items ≡ others_of l.world (take l.import-index l.fn.self.imports.items)

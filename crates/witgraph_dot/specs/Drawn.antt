@@ -1,0 +1,44 @@
+-- The graphs of a script while it is carried out, and what stands in a world under the ids of interfaces.
+use Rattle.std.specs.Prelude.{ℕ, List, [], ◌∷◌, Option, None, Some, slice_get}
+use Rattle.wit_elaboration.specs.Entries.{keyed_interfaces}
+use Rattle.wit_graph_data.specs.declared.graph.Graph.{Graph}
+use Rattle.wit_data.specs.declared.world.World.{World}
+use Rattle.wit_resolve_graph.specs.State.{State, new_state}
+use Rattle.wit_resolve_graph.specs.Step.{Run}
+use Rattle.wit_resolve_graph.specs.declared.command.Command.{Command}
+use Rattle.wit_resolve_graph.specs.declared.command.Reply.{Reply}
+use Rattle.wit_script.specs.Answer.{Answers, AnswersAll, IsChoice, alone}
+use Rattle.wit_script.specs.declared.answer.Stage.{Stage}
+use Rattle.wit_script.specs.declared.ready.ScriptCommand.{ScriptCommand}
+use Rattle.witgraph_dot.specs.declared.listed_graph.ListedGraph.{ListedGraph}
+
+-- ---- graphs
+
+-- a command is carried out on a graph, whatever is replied
+abbrev pub Carries : State → Command → State → Type 0
+Carries before command after = (replies : List Reply) × Run before (command ∷ []) replies after
+
+-- the graphs as `execute` has them: that on which commands work, and the first one where it waits for `merge`
+abbrev pub graphs : ListedGraph → Option ListedGraph → Stage
+graphs active None = alone active.resolve
+graphs active (Some first) = record { first = first.resolve; second = Some active.resolve }
+
+-- the graphs that `execute` may have after a command, whatever it answers
+abbrev pub Follows : Stage → ScriptCommand → Stage → Type 0
+Follows before command after = (text : List ℕ) × Answers Run IsChoice before command text after
+
+-- the graphs that `execute` may have after commands on an empty graph
+abbrev pub FollowsAll : List ScriptCommand → Stage → Type 0
+FollowsAll commands after = (text : List ℕ) × AnswersAll Run IsChoice (alone new_state) commands text after
+
+-- ---- worlds
+
+-- the interfaces that a world imports under their own ids
+abbrev pub own_imports : Option World → List ℕ
+own_imports None = []
+own_imports (Some world) = keyed_interfaces world.imports
+
+-- those that it exports so
+abbrev pub own_exports : Option World → List ℕ
+own_exports None = []
+own_exports (Some world) = keyed_interfaces world.exports

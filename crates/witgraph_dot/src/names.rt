@@ -1,0 +1,76 @@
+//! Worlds and interfaces by their names.
+use wit_resolve_graph::{
+    AstItem, InterfaceId, Package, PackageName, Resolve, UnresolvedPackage, WorldId,
+};
+
+/// The package of this name.
+fn package_named<'a>(resolve: &'a Resolve, name: &PackageName) -> Option<&'a Package> {
+    let id = resolve.package_names().get(name)?;
+    resolve.packages().get(id.index())
+}
+
+/// The world of this name in the package of that name.
+pub fn world_named(resolve: &Resolve, owner: &PackageName, name: &str) -> Option<WorldId> {
+    let id = package_named(resolve, owner)?.worlds.get(name)?;
+    Some(*id)
+}
+
+/// The interface of this name in the package of that name.
+fn interface_named(resolve: &Resolve, owner: &PackageName, name: &str) -> Option<InterfaceId> {
+    let id = package_named(resolve, owner)?.interfaces.get(name)?;
+    Some(*id)
+}
+
+/// Whether an item of another package is the interface of this id.
+fn is_interface(item: &AstItem, id: InterfaceId) -> bool {
+    match item {
+        AstItem::Interface(other) => *other == id,
+        AstItem::World(_) => false,
+    }
+}
+
+/// Whether an item of another package is the world of this id.
+fn is_world(item: &AstItem, id: WorldId) -> bool {
+    match item {
+        AstItem::Interface(_) => false,
+        AstItem::World(other) => *other == id,
+    }
+}
+
+/// The interface of the graph that a package which is pushed names by this id of its own.
+pub fn interface_of(
+    resolve: &Resolve,
+    package: &UnresolvedPackage,
+    id: InterfaceId,
+) -> Option<InterfaceId> {
+    for (owner, items) in package.foreign_deps.iter() {
+        for (name, (item, _)) in items.iter() {
+            if is_interface(item, id) {
+                return interface_named(resolve, owner, name);
+            }
+        }
+    }
+    let interface = package.interfaces.get(id.index())?;
+    let name = interface.name.as_ref()?;
+    interface_named(resolve, &package.name, name.as_str())
+}
+
+/// The world of the graph that a package which is pushed names by this id of its own.
+pub fn world_of(resolve: &Resolve, package: &UnresolvedPackage, id: WorldId) -> Option<WorldId> {
+    for (owner, items) in package.foreign_deps.iter() {
+        for (name, (item, _)) in items.iter() {
+            if is_world(item, id) {
+                return world_named(resolve, owner, name);
+            }
+        }
+    }
+    let world = package.worlds.get(id.index())?;
+    world_named(resolve, &package.name, world.name.as_str())
+}
+
+/// The package and the name of an interface of the graph, where it has both.
+pub fn full_name(resolve: &Resolve, id: InterfaceId) -> Option<(&PackageName, &str)> {
+    let interface = resolve.interfaces().get(id.index())?;
+    let owner = resolve.packages().get(interface.package?.index())?;
+    Some((&owner.name, interface.name.as_ref()?.as_str()))
+}

@@ -1,0 +1,73 @@
+/* witgraph: scripts of WIT packages and of what to do with them are run, and answered.
+ *
+ * docs/SCRIPT.md has the language of the scripts and of their answers. The functions are those of the static library
+ * libwitgraph_c.a, which `rt lib` builds in crates/witgraph_c; a program links it, and after it the toolchain's
+ * liblibc_c.a, by which the library calls the program's malloc, realloc and free. bindings/README.md has the commands.
+ *
+ * No function keeps anything between calls: it takes no handle, gives none, and calls in different threads don't
+ * disturb each other. What it allocates it frees before it returns. It opens no file, and neither reads nor writes
+ * anything but its arguments.
+ */
+#ifndef WITGRAPH_H
+#define WITGRAPH_H
+
+#include <stddef.h>
+#include <stdint.h>
+
+#ifdef __cplusplus
+extern "C" {
+#endif
+
+/* What a call tells. No other number is returned. */
+enum {
+  /* The script was understood and run; the output has its answers, refusals among them. */
+  WITGRAPH_UNDERSTOOD = 0,
+  /* The script wasn't understood and wasn't run; the output is one line, `line N: not understood`. */
+  WITGRAPH_NOT_UNDERSTOOD = 1,
+  /* The output is shorter than what was to be written: nothing is written, and *needed says how long that is. Call
+   * again with so many bytes. */
+  WITGRAPH_OUTPUT_TOO_SMALL = 2,
+  /* The input isn't UTF-8: nothing is written, and *needed is 0. */
+  WITGRAPH_INPUT_NOT_UTF8 = 3,
+  /* Memory was refused, outside a command: nothing is written, and *needed is 0. (Where a command wants memory and is
+   * refused it, the answers tell: `refused 28`, and the script goes on.) */
+  WITGRAPH_NO_MEMORY = 4
+};
+
+/* Runs a script on an empty graph, and writes its answers: those that the program witgraph writes.
+ *
+ * input     the bytes of the script, in UTF-8. They are read during the call only, and stay the caller's. Not null,
+ *           not even where length is 0.
+ * length    how many bytes the script has. No byte ends it: a zero byte is a byte like any other.
+ * output    where the answers go, from its first byte on. It stays the caller's. Its bytes are initialized; those
+ *           behind the answers stay as they were. No zero byte is added. Not null, not even where capacity is 0.
+ * capacity  how many bytes the output has room for.
+ * needed    gets how many bytes the answers have, which may be 0: as many are written where the status is 0 or 1.
+ *           Not null, and aligned.
+ *
+ * The three don't overlap. Each of length and capacity is below 2^63, as of any object.
+ *
+ * The status is one of those above. Answers may be longer than the script, so a caller that knows no better begins with
+ * a capacity of 0 or a guess, and calls again at WITGRAPH_OUTPUT_TOO_SMALL. */
+uint32_t witgraph_execute(const uint8_t *input, size_t length, uint8_t *output, size_t capacity, size_t *needed);
+
+/* Runs a script on an empty graph, and writes its refusals alone, each with the line at which it is:
+ *
+ *     refused 11 found a reference to a interface which is excluded due to its feature not being activated
+ *          --> p:q:4:1
+ *           |
+ *         4 | import i
+ *           | ^-------
+ *
+ * The place is the name of a package, a line counted from the first of that package, and a column. A refusal that has no
+ * place, as of `select`, is its text alone. Nothing is written, and *needed is 0, where no command is refused; where the
+ * script isn't understood, the line that witgraph_execute writes.
+ *
+ * The arguments and the status are as there. */
+uint32_t witgraph_explain(const uint8_t *input, size_t length, uint8_t *output, size_t capacity, size_t *needed);
+
+#ifdef __cplusplus
+}
+#endif
+
+#endif
