@@ -9,7 +9,7 @@ use wit_resolve_graph::{
     Items, PackageId, ParseFault, Resolve, Shape, SourceFault, SourceMap, Span, Text, TryClone,
     UnresolvedPackage, UnresolvedPackageGroup,
 };
-use wit_sweep_layers::marks::{call, tell_made, tell_refusal};
+use wit_sweep_layers::marks::{call, copy_of, tell_made, tell_refusal};
 
 /// Each way to add a package that is alone.
 pub fn add_package(
@@ -53,8 +53,8 @@ pub fn push_groups(
 ) -> Option<()>
     requires { AllByRecursion IsGroupShaped (main.now ∷ deps.now) }
 {
-    let mut copy = resolve.try_clone().ok()?;
-    let (main, deps) = (main.try_clone().ok()?, deps.try_clone().ok()?);
+    let mut copy = copy_of(resolve)?;
+    let (main, deps) = (copy_of(main)?, copy_of(deps)?);
     call(rt, "push_groups");
     let answer = copy.push_groups(alloc, main, deps);
     tell_state(rt, answer, &copy)
@@ -68,8 +68,8 @@ fn push(
 ) -> Option<()>
     requires { IsShaped «package».now }
 {
-    let mut copy = resolve.try_clone().ok()?;
-    let package = package.try_clone().ok()?;
+    let mut copy = copy_of(resolve)?;
+    let package = copy_of(package)?;
     call(rt, "push");
     let answer = copy.push(alloc, package, 0);
     tell_state(rt, answer, &copy)
@@ -83,8 +83,8 @@ fn push_group(
 ) -> Option<()>
     requires { IsGroupShaped group.now }
 {
-    let mut copy = resolve.try_clone().ok()?;
-    let group = group.try_clone().ok()?;
+    let mut copy = copy_of(resolve)?;
+    let group = copy_of(group)?;
     incoming(rt, &group.source_map)?;
     call(rt, "push_group");
     let answer = copy.push_group(alloc, group);
@@ -123,7 +123,7 @@ fn push_source(
     resolve: &Resolve,
     package: &UnresolvedPackage,
 ) -> Option<()> {
-    let mut copy = resolve.try_clone().ok()?;
+    let mut copy = copy_of(resolve)?;
     let parse = |source_map: SourceMap| parsed(alloc, source_map, package);
     incoming_source(rt)?;
     call(rt, "push_source");
@@ -164,7 +164,7 @@ fn push_source_unread(
     resolve: &Resolve,
     has_memory: bool,
 ) -> Option<()> {
-    let mut copy = resolve.try_clone().ok()?;
+    let mut copy = copy_of(resolve)?;
     let parse = |source_map: SourceMap| unread(alloc, source_map, has_memory);
     incoming_source(rt)?;
     call(

@@ -5,9 +5,9 @@ ghost use Rattle.wit_resolve_graph.specs.CommandShape.{IsCommandShaped};
 use crate::states::{incoming, state, tell_state};
 use std::alloc::Global;
 use wit_resolve_graph::{
-    Command, Remap, Reply, Resolve, ResolveResult, TryClone, WorldId, WorldItem, WorldKey, run,
+    Command, Remap, Reply, Resolve, ResolveResult, WorldId, WorldItem, WorldKey, run,
 };
-use wit_sweep_layers::marks::{call, tell_refusal};
+use wit_sweep_layers::marks::{call, copy_of, tell_refusal};
 use wit_sweep_layers::sources::one_file;
 
 /// Changes that need no world.
@@ -17,14 +17,14 @@ pub fn change(rt: &impl Print, alloc: Global, resolve: &Resolve) -> Option<()> {
 }
 
 fn add_feature(rt: &impl Print, alloc: Global, resolve: &Resolve) -> Option<()> {
-    let mut copy = resolve.try_clone().ok()?;
+    let mut copy = copy_of(resolve)?;
     call(rt, "add_feature");
     let answer = copy.add_feature(alloc, "f");
     tell_state(rt, answer, &copy)
 }
 
 fn push_source_map(rt: &impl Print, alloc: Global, resolve: &Resolve) -> Option<()> {
-    let mut copy = resolve.try_clone().ok()?;
+    let mut copy = copy_of(resolve)?;
     let map = one_file(alloc)?;
     call(rt, "push_source_map");
     let answer = copy.push_source_map(alloc, map);
@@ -61,7 +61,7 @@ fn importize(
 ) -> Option<()>
     requires { world < length resolve.now.graph.worlds }
 {
-    let mut copy = resolve.try_clone().ok()?;
+    let mut copy = copy_of(resolve)?;
     let out = string(alloc, out)?;
     call(rt, "importize");
     let answer = copy.importize(alloc, WorldId::from_index(world), out);
@@ -72,7 +72,7 @@ fn importize(
 fn exportize(rt: &impl Print, alloc: Global, resolve: &Resolve, world: usize) -> Option<()>
     requires { world < length resolve.now.graph.worlds }
 {
-    let mut copy = resolve.try_clone().ok()?;
+    let mut copy = copy_of(resolve)?;
     let filter = Some(|_key: &WorldKey, _item: &WorldItem| true);
     call(rt, "exportize");
     let answer = copy.exportize(alloc, WorldId::from_index(world), None, filter);
@@ -83,7 +83,7 @@ fn exportize(rt: &impl Print, alloc: Global, resolve: &Resolve, world: usize) ->
 fn exportize_filtered(rt: &impl Print, alloc: Global, resolve: &Resolve, world: usize) -> Option<()>
     requires { world < length resolve.now.graph.worlds }
 {
-    let mut copy = resolve.try_clone().ok()?;
+    let mut copy = copy_of(resolve)?;
     let out = string(alloc, Some("out"))?;
     let filter = Some(|key: &WorldKey, _item: &WorldItem| matches!(key, WorldKey::Name(_)));
     call(rt, "exportize of labels");
@@ -94,7 +94,7 @@ fn exportize_filtered(rt: &impl Print, alloc: Global, resolve: &Resolve, world: 
 fn semver(rt: &impl Print, alloc: Global, resolve: &Resolve, world: usize) -> Option<()>
     requires { world < length resolve.now.graph.worlds }
 {
-    let mut copy = resolve.try_clone().ok()?;
+    let mut copy = copy_of(resolve)?;
     call(rt, "merge_world_imports_based_on_semver");
     let answer = copy.merge_world_imports_based_on_semver(alloc, WorldId::from_index(world));
     tell_state(rt, answer, &copy)
@@ -103,8 +103,8 @@ fn semver(rt: &impl Print, alloc: Global, resolve: &Resolve, world: usize) -> Op
 // ---- merging
 
 pub fn merge(rt: &impl Print, alloc: Global, resolve: &Resolve, other: &Resolve) -> Option<()> {
-    let mut copy = resolve.try_clone().ok()?;
-    let other = other.try_clone().ok()?;
+    let mut copy = copy_of(resolve)?;
+    let other = copy_of(other)?;
     incoming(rt, other.source_map())?;
     call(rt, "merge");
     let answer = types_of(copy.merge(alloc, other));
@@ -121,7 +121,7 @@ pub fn types_of(answer: ResolveResult<Remap>) -> ResolveResult<usize> {
 
 /// A merge as a command.
 pub fn run_merge(rt: &impl Print, alloc: Global, resolve: &Resolve, other: &Resolve) -> Option<()> {
-    let other = other.try_clone().ok()?;
+    let other = copy_of(other)?;
     run_command(rt, alloc, resolve, Command::Merge(other))
 }
 
@@ -136,7 +136,7 @@ pub fn run_command(
 ) -> Option<()>
     requires { IsCommandShaped command }
 {
-    let mut copy = resolve.try_clone().ok()?;
+    let mut copy = copy_of(resolve)?;
     let commands = vec![in alloc; command, Command::SetAllFeatures(true)].ok()?;
     call(rt, "run");
     let answer = run(alloc, &mut copy, commands);

@@ -3,7 +3,7 @@ ghost use Rattle.std.specs.Prelude.{◌≡◌, ◌<◌, ◌∷◌, [], IfSome, l
 ghost use Rattle.wit_data.specs.Shape.{IsShaped};
 ghost use Rattle.wit_elaboration.specs.Valid.{IsValid};
 
-use crate::marks::{call, done, tell, tell_made};
+use crate::marks::{call, copy_of, done, tell, tell_made};
 use crate::states::{graph_state, tell_graph};
 use std::alloc::Global;
 use wit_graph::{Features, Graph, ResolveResult, elaborate, is_elaborable};
@@ -56,8 +56,8 @@ fn append_one(
     requires valid { IsValid graph.now }
     requires shaped { IsShaped «package».now }
 {
-    let mut copy = graph.try_clone().ok()?;
-    let package = package.try_clone().ok()?;
+    let mut copy = copy_of(graph)?;
+    let package = copy_of(package)?;
     call(rt, "append");
     let answer = append(alloc, &mut copy, features, package, 0);
     tell_graph(rt, answer, &copy)
@@ -73,7 +73,7 @@ fn append_list(
     requires valid { IsValid graph.now }
     requires shaped { IsShaped «package».now }
 {
-    let mut copy = graph.try_clone().ok()?;
+    let mut copy = copy_of(graph)?;
     let list = alone(alloc, package)?;
     call(rt, "append_all");
     let answer = append_all(alloc, &mut copy, features, list);
@@ -94,7 +94,7 @@ pub fn transform(rt: &impl Print, alloc: Global, graph: &Graph, world: usize) ->
 }
 
 fn elaborate_world(rt: &impl Print, alloc: Global, graph: &Graph, world: usize) -> Option<()> {
-    let mut copy = graph.try_clone().ok()?;
+    let mut copy = copy_of(graph)?;
     call(rt, "is_elaborable");
     tell_made(rt, is_elaborable(alloc, &copy, WorldId::from_index(world)))?;
     if !is_elaborable(alloc, &copy, WorldId::from_index(world)).ok()? {
@@ -109,7 +109,7 @@ fn importize_world(rt: &impl Print, alloc: Global, graph: &Graph, world: usize) 
     requires valid { IsValid graph.now }
     requires world { world < length graph.now.worlds }
 {
-    let mut copy = graph.try_clone().ok()?;
+    let mut copy = copy_of(graph)?;
     call(rt, "importize of a graph");
     let answer = importize(alloc, &mut copy, WorldId::from_index(world), None);
     tell_graph(rt, answer, &copy)
@@ -119,7 +119,7 @@ fn exportize_world(rt: &impl Print, alloc: Global, graph: &Graph, world: usize) 
     requires valid { IsValid graph.now }
     requires world { world < length graph.now.worlds }
 {
-    let mut copy = graph.try_clone().ok()?;
+    let mut copy = copy_of(graph)?;
     let filter = Some(|_key: &WorldKey, _item: &WorldItem| true);
     call(rt, "exportize of a graph");
     let answer = exportize(alloc, &mut copy, WorldId::from_index(world), None, filter);
@@ -130,7 +130,7 @@ fn merge_tracks(rt: &impl Print, alloc: Global, graph: &Graph, world: usize) -> 
     requires valid { IsValid graph.now }
     requires world { world < length graph.now.worlds }
 {
-    let mut copy = graph.try_clone().ok()?;
+    let mut copy = copy_of(graph)?;
     call(rt, "merge_by_track");
     let rule = TrackRule::Published;
     let answer = merge_by_track(alloc, &mut copy, WorldId::from_index(world), rule);

@@ -3,6 +3,8 @@
 //! A line `call NAME` comes before a call that takes memory, and a line `answer ..` after it: between them
 //! `bench/sweep.py` refuses requests for memory. `bare NAME` comes before a call that takes none: there it refuses each.
 //! Nothing of this is seen where nobody refuses.
+ghost use Rattle.std.specs.Prelude.{◌≡◌, IfSome};
+
 use std::alloc::AllocError;
 use std::fmt;
 use wit_graph::{ResolveError, ResolveResult};
@@ -53,8 +55,15 @@ pub fn done<T: Drop>(answer: ResolveResult<T>) -> ResolveResult<()> {
     }
 }
 
-/// A copy of a value.
+/// The call that copies a value.
 pub fn copied<T: TryClone>(rt: &impl Print, name: &str, value: &T) -> Option<()> {
     call(rt, name);
     tell(rt, done(refusing(value.try_clone())))
+}
+
+/// A copy of a value for a call that changes it or takes it.
+pub fn copy_of<T: TryClone>(value: &T) -> Option<T>
+    ensures { IfSome result (λ copy. copy ≡ value.now) }
+{
+    value.try_clone().ok()
 }

@@ -2,12 +2,11 @@
 ghost use Rattle.std.specs.Prelude.{◌<◌, length};
 ghost use Rattle.wit_elaboration.specs.Valid.{IsValid};
 
-use crate::marks::{bare, call, done, tell};
+use crate::marks::{bare, call, copy_of, done, tell};
 use crate::states::tell_graph;
 use std::alloc::Global;
 use wit_graph::Graph;
 use wit_graph::rows::{Closure, elaborate_all, or_into};
-use wit_items::TryClone;
 
 /// Calls on a graph, or on a copy of it.
 pub fn close(rt: &impl Print, alloc: Global, graph: &Graph) -> Option<()>
@@ -20,7 +19,7 @@ pub fn close(rt: &impl Print, alloc: Global, graph: &Graph) -> Option<()>
 fn elaborate_worlds(rt: &impl Print, alloc: Global, graph: &Graph) -> Option<()>
     requires valid { IsValid graph.now }
 {
-    let mut copy = graph.try_clone().ok()?;
+    let mut copy = copy_of(graph)?;
     call(rt, "elaborate_all");
     let answer = elaborate_all(alloc, &mut copy);
     tell_graph(rt, answer, &copy)
