@@ -1,8 +1,14 @@
 -- Refusals that are shown, one after another.
-use Rattle.std.proofs.Common.{◌≡◌, ℕ, List, [], ◌∷◌, ◌++◌, refl, sym, ap, ◌∙◌, subst, append_assoc}
+use Rattle.std.proofs.Common.{◌≡◌, ℕ, List, [], ◌∷◌, ◌++◌, Option, Some, Result, Ok, Err, String, string_bytes, refl, sym, ap, ◌∙◌, subst, append_assoc}
+use Rattle.std.specs.Prelude.{IfOk}
+use Rattle.std.specs.declared.alloc.Global.{Global}
 use Rattle.std.proofs.lemmas.List.{append-nil}
+use Rattle.wit_data.specs.declared.package_name.PackageName.{PackageName}
+use Rattle.wit_graph_data.specs.declared.error_kind.ResolveErrorKind.{ResolveErrorKind}
+use Rattle.wit_resolve_graph.specs.State.{State}
+use Rattle.wit_script.specs.Answer.{IsChoice, package_named}
 use Rattle.wit_script.specs.declared.ready.ScriptCommand.{ScriptCommand}
-use Rattle.witgraph_c.specs.Refusals.{ExplainsCommand, ExplainsAll}
+use Rattle.witgraph_c.specs.Refusals.{ExplainsCommand, ExplainsAll, ExplainsSelect, rendered_refusal}
 use Rattle.witgraph_c.specs.declared.refusals.Stage.{Stage}
 
 -- one more command
@@ -18,3 +24,10 @@ ExplainsAll-more before between after (first ∷ commands) command text more all
   ExplainsAll-more all.0 between after commands command all.2 more all.4 one,
   ap (λ (t : List ℕ). t ++ more) all.5 ∙ append_assoc all.1 all.2 more,
 )
+
+-- a choice that is refused, of a package that is there
+pub select-refused : {E : Type 0} (state : State) (owner : PackageName) (text : Option (List ℕ)) (id : ℕ) (kind : ResolveErrorKind) (told : Result (String Global) E)
+    → package_named state.graph owner ≡ Some id → IsChoice state.graph id text (Err kind)
+    → IfOk told (λ out. string_bytes out ≡ rendered_refusal state.source_map.files kind) → IfOk told (λ out. ExplainsSelect state owner text (string_bytes out))
+select-refused state owner text id kind (Ok out) there refused said = rw there (Err kind, refused, said)
+select-refused state owner text id kind (Err e) there refused said = tt

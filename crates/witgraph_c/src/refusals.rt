@@ -1,16 +1,18 @@
 //! The refusals of a script, each with the line at which it is.
-ghost use Rattle.std.specs.Prelude.{◌≡◌, IfOk, IsErrOf, string_bytes};
+ghost use Rattle.std.specs.Prelude.{◌≡◌, Err, IfErr, IfOk, IsErrOf, Ok, string_bytes};
 ghost use Rattle.std.specs.List.{flat_map};
 ghost use Rattle.std.specs.Str.{IsUtf8};
 ghost use Rattle.wit_resolve_graph.specs.CommandShape.{IsCommandShaped};
 ghost use Rattle.wit_resolve_graph.specs.State.{new_state};
 ghost use Rattle.wit_resolve_graph.specs.declared.command.Command.TheVariants.{Exportize};
+ghost use Rattle.wit_script.specs.Answer.{IsChoice};
 ghost use Rattle.witgraph_c.specs.Refusals.{Explains, ExplainsMerge, ExplainsSelect, ExplainsRun, ExplainsCommand, ExplainsAll, ExplainsRequest, ExplainsWork, active, alone, rendered_refusal, rendered_reply};
 ghost use Rattle.witgraph_c.specs.declared.refusals.Stage.{Stage};
 
 use std::alloc::Global;
 use wit_resolve_graph::{
-    Command, Items, PackageName, Reply, Resolve, ResolveError, ResolveResult, Text, run,
+    Command, Items, PackageId, PackageName, Reply, Resolve, ResolveError, ResolveResult, Text,
+    WorldId, run,
 };
 use wit_script::{ReadFault, ReadyCommand, ScriptCommand, ScriptFault, read_script};
 use wit_script_lines::Request;
@@ -61,29 +63,6 @@ impl Stage {
         match self.second.take() {
             Some(second) => carry_out(alloc, &mut self.first, Command::Merge(second)),
             None => Ok(String::new(alloc)),
-        }
-    }
-
-    /// The refusal of a choice of a world.
-    fn select(
-        &self,
-        alloc: Global,
-        owner: &PackageName,
-        text: &Option<Text>,
-    ) -> ResolveResult<String>
-        ensures { IfOk result (λ out. ExplainsSelect (active self.now) owner.now text.now (string_bytes out)) }
-    {
-        let resolve = self.active();
-        let Some(id) = resolve.package_names().get(owner) else {
-            return Ok(String::new(alloc));
-        };
-        let text = match text {
-            Some(text) => Some(text.as_str()),
-            None => None,
-        };
-        match resolve.select_world(alloc, &[*id], text) {
-            Ok(_) => Ok(String::new(alloc)),
-            Err(refusal) => rendered_refusal(alloc, resolve, &refusal),
         }
     }
 }
@@ -169,7 +148,7 @@ fn refusal_to_request(alloc: Global, stage: &mut Stage, request: Request) -> Res
             stage.work(alloc, Command::Semver { package, world })
         }
         Request::Print { .. } => Ok(String::new(alloc)),
-        Request::Select { package, text } => stage.select(alloc, &package, &text),
+        Request::Select { package, text } => select(alloc, stage.active(), &package, &text),
     }
 }
 
@@ -237,4 +216,39 @@ fn rendered_refusal(
     let number = refusal.number();
     let text = refusal.render(alloc, resolve.source_map())?;
     Ok(format!(in alloc; "refused {number} {text}\n")?)
+}
+
+/// What is shown of the choice of a world of a package, and nothing where the package isn't there.
+fn select(
+    alloc: Global,
+    resolve: &Resolve,
+    owner: &PackageName,
+    text: &Option<Text>,
+) -> ResolveResult<String>
+    ensures { IfOk result (λ out. ExplainsSelect resolve.now owner.now text.now (string_bytes out)) }
+{
+    let Some(id) = resolve.package_names().get(owner) else {
+        return Ok(String::new(alloc));
+    };
+    match chosen(alloc, resolve, *id, text) {
+        Ok(_) => Ok(String::new(alloc)),
+        Err(refusal) => rendered_refusal(alloc, resolve, &refusal),
+    }
+}
+
+/// The world that is chosen of a package.
+fn chosen(
+    alloc: Global,
+    resolve: &Resolve,
+    id: PackageId,
+    text: &Option<Text>,
+) -> ResolveResult<WorldId>
+    ensures ok { IfOk result (λ world. IsChoice resolve.now.graph id text.now (Ok world)) }
+    ensures err { IfErr result (λ kind. IsChoice resolve.now.graph id text.now (Err kind)) }
+{
+    let text = match text {
+        Some(text) => Some(text.as_str()),
+        None => None,
+    };
+    resolve.select_world(alloc, &[id], text)
 }

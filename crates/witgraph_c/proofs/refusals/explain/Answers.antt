@@ -15,9 +15,8 @@ returns-in-Ok-refusals_to-clause-ok c =
       shown = c.in-Ok-refusals_to.ensures.1;
     }
 
-pub returns-in_ok-format-in-Err-NotUnderstood-clause-ok :
-    goal.returns-in_ok-format-in-Err-NotUnderstood-clause-ok
-returns-in_ok-format-in-Err-NotUnderstood-clause-ok c =
+pub returns-in-Err-NotUnderstood-clause-ok : goal.returns-in-Err-NotUnderstood-clause-ok
+returns-in-Err-NotUnderstood-clause-ok c =
     let same : c.in-Ok.script.now ≡ c.args.input.now = search rules in
     let utf8 : IsUtf8 c.args.input.now = search rules in
     record {
