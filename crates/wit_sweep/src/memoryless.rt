@@ -66,9 +66,10 @@ pub fn read_interface(rt: &impl Print, resolve: &Resolve, index: usize) -> Optio
     requires { index < length resolve.now.graph.interfaces }
 {
     bare(rt, "interface_direct_deps");
-    let count = resolve
-        .interface_direct_deps(InterfaceId::from_index(index))
-        .count();
+    let mut count = 0usize;
+    for _id in resolve.interface_direct_deps(InterfaceId::from_index(index)) {
+        count = count.saturating_add(1);
+    }
     tell(rt, Ok(count))
 }
 
@@ -77,9 +78,10 @@ pub fn read_package(rt: &impl Print, resolve: &Resolve, index: usize) -> Option<
     requires { index < length resolve.now.graph.packages }
 {
     bare(rt, "package_direct_deps");
-    let count = resolve
-        .package_direct_deps(PackageId::from_index(index))
-        .count();
+    let mut count = 0usize;
+    for _id in resolve.package_direct_deps(PackageId::from_index(index)) {
+        count = count.saturating_add(1);
+    }
     tell(rt, Ok(count))
 }
 
