@@ -1,7 +1,6 @@
 -- The graphs of a script while it is carried out, and what stands in a world under the ids of interfaces.
-use Rattle.std.specs.Prelude.{ℕ, List, [], ◌∷◌, Option, None, Some, slice_get}
+use Rattle.std.specs.Prelude.{ℕ, List, [], ◌∷◌, Option, None, Some}
 use Rattle.wit_elaboration.specs.Entries.{keyed_interfaces}
-use Rattle.wit_graph_data.specs.declared.graph.Graph.{Graph}
 use Rattle.wit_data.specs.declared.world.World.{World}
 use Rattle.wit_resolve_graph.specs.State.{State, new_state}
 use Rattle.wit_resolve_graph.specs.Step.{Run}

@@ -1,4 +1,3 @@
-use Rattle.std.proofs.Common.{rules}
 use Rattle.witgraph_dot.proofs.Staged.{pushes-as}
 use Rattle.witgraph_dot.proofs.stage.Stage.failure_of.Goals as goal
 
