@@ -133,7 +133,7 @@ fn given_back(rt: &impl Abort, alloc: Global) -> String {
     names.push(name, 6).expect(rt, "memory");
     let names = Names::from_map(names.into_map());
     let mut out = format!(in alloc; "{text} {former}").expect(rt, "memory");
-    for item in &items {
+    for item in items.iter() {
         write!(out, " {item}").expect(rt, "memory");
     }
     for (key, value) in table.iter() {
