@@ -36,13 +36,13 @@ holding p (Err e) = tt
 -- a command on the active graph, however its reply is told
 works : (told : Graph → Reply → List ℕ) (listed after : ListedGraph) (waiting : Option ListedGraph) (command : Command)
     → Carries listed.resolve command after.resolve → (text : List ℕ) × Works Run told (graphs listed waiting) command text (graphs after waiting)
-works told listed after None command carried = (flat_map (told after.resolve.graph) carried.0, (after.resolve, (inl (carried.0, (carried.1, refl)), refl)))
-works told listed after (Some first) command carried = (flat_map (told after.resolve.graph) carried.0, (after.resolve, (inl (carried.0, (carried.1, refl)), refl)))
+works told listed after None command carried = (flat_map (told after.resolve.graph) carried.0, (after.resolve, inl (carried.0, carried.1, refl), refl))
+works told listed after (Some first) command carried = (flat_map (told after.resolve.graph) carried.0, (after.resolve, inl (carried.0, carried.1, refl), refl))
 
 -- the active graph goes into the first one
 merges : (listed first after : ListedGraph) → Carries first.resolve (Merge listed.resolve) after.resolve
     → Follows (graphs listed (Some first)) (asks.Request request.Merge) (graphs after None)
-merges listed first after carried = (flat_map (reply_text after.resolve.graph) carried.0, (after.resolve, (inl (carried.0, (carried.1, refl)), refl)))
+merges listed first after carried = (flat_map (reply_text after.resolve.graph) carried.0, (after.resolve, inl (carried.0, carried.1, refl), refl))
 
 pub merges-in : {A E : Type 0} (told : Result A E) (listed first after : ListedGraph) (waiting left : Option ListedGraph) → waiting ≡ Some first → left ≡ None
     → OnOk told (Carries first.resolve (Merge listed.resolve) after.resolve) → OnOk told (Follows (graphs listed waiting) (asks.Request request.Merge) (graphs after left))
@@ -66,7 +66,7 @@ selectable : (g : Graph) (owner : PackageName) (said : Option (List ℕ)) → (t
 selectable g owner said = of (package_named g owner) where
   of : (o : Option ℕ) → (text : List ℕ) × MatchOption o (text ≡ codes "no package\n") (λ id. IsChoiceTold IsChoice g id said text)
   of None = (codes "no package\n", refl)
-  of (Some id) = (refusal_text OutOfMemory, (Err OutOfMemory, (inl refl, refl)))
+  of (Some id) = (refusal_text OutOfMemory, (Err OutOfMemory, inl refl, refl))
 
 selects : (listed : ListedGraph) (waiting : Option ListedGraph) (owner : PackageName) (said : Option (List ℕ))
     → Follows (graphs listed waiting) (asks.Request (request.Select owner said)) (graphs listed waiting)
@@ -104,9 +104,11 @@ works-as line told listed after waiting asked read command reply is carried =
     (on-ok (λ (c : Carries listed.resolve command after.resolve). let done = works line listed after waiting command c in (done.0, reply done.0 done.1)) told carried)
 
 -- the packages of a push
-pub pushes-as : {A E : Type 0} (told : Result A E) (listed after : ListedGraph) (waiting : Option ListedGraph) (main : UnresolvedPackageGroup) (deps : List UnresolvedPackageGroup)
-    → OnOk told (Carries listed.resolve (PushGroups main deps) after.resolve) → OnOk told (Follows (graphs listed waiting) (asks.Push main deps) (graphs after waiting))
-pushes-as told listed after waiting main deps carried = on-ok (works reply_text listed after waiting (PushGroups main deps)) told carried
+pub pushes-as : {A E : Type 0} (told : Result A E) (listed after : ListedGraph) (waiting : Option ListedGraph) (asked : ScriptCommand) (main : UnresolvedPackageGroup) (deps : List UnresolvedPackageGroup)
+    → asked ≡ asks.Push main deps → OnOk told (Carries listed.resolve (PushGroups main deps) after.resolve) → OnOk told (Follows (graphs listed waiting) asked (graphs after waiting))
+pushes-as told listed after waiting asked main deps is carried =
+    subst (λ (c : ScriptCommand). OnOk told (Follows (graphs listed waiting) c (graphs after waiting))) (sym is)
+    (on-ok (works reply_text listed after waiting (PushGroups main deps)) told carried)
 
 pub prints-as : {A E : Type 0} (told : Result A E) (listed : ListedGraph) (waiting : Option ListedGraph) (asked : Request) (owner : PackageName) (world : List ℕ)
     → asked ≡ request.Print owner world → OnOk told (Follows (graphs listed waiting) (asks.Request asked) (graphs listed waiting))
