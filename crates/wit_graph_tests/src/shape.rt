@@ -365,13 +365,14 @@ fn interfaces(rt: &impl Abort, alloc: Global, change: Change) -> Items<Interface
         _ => Names::new(alloc),
     };
     let types: &[(&str, usize)] = match change {
-        Change::UnknownOfOwn => &[],
         Change::ForeignListsKnown => &[("t", 0), ("s", 8)],
         _ => &[("t", 0)],
     };
-    interfaces
-        .push(interface(rt, alloc, name, types, functions, None))
-        .expect(rt, "memory");
+    let mut foreign = interface(rt, alloc, name, types, functions, None);
+    if change == Change::UnknownOfOwn {
+        foreign.types = Names::new(alloc);
+    }
+    interfaces.push(foreign).expect(rt, "memory");
     interfaces
         .push(interface_a(rt, alloc, change))
         .expect(rt, "memory");

@@ -32,8 +32,8 @@ fn add_interfaces(rt: &impl Abort, alloc: Global, graph: &mut Graph) {
         ("b", &[("t", 1)]),
         ("c", &[("t", 2), ("u", 3)]),
     ];
-    let package = Some(PackageId::from_index(0));
     for &(name, types) in &lists {
+        let package = Some(PackageId::from_index(0));
         let made = interface(rt, alloc, name, types, Names::new(alloc), package);
         graph.interfaces.push(made).expect(rt, "memory");
     }
