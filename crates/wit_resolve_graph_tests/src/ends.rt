@@ -1,11 +1,12 @@
 //! The last position, and one past it: of spans that move with their package, and of files.
+use crate::groups::push_two;
 use crate::parts::{assert_told, file, group, interface, interface_list, package};
 use crate::shown::shown;
 use crate::told::{first, told, write_files};
 use std::alloc::Global;
 use std::fmt::Write;
 use std::process::Abort;
-use wit_data::{Items, SourceMap, Span, UnresolvedPackage};
+use wit_data::{SourceMap, Span, UnresolvedPackage};
 use wit_resolve_graph::{Resolve, Shape};
 
 /// A package with an interface that has this span.
@@ -99,11 +100,7 @@ fn groups_up_to(rt: &impl Abort, alloc: Global, end: u32, contents: &str) -> Str
     main.source_map = SourceMap::with_base(alloc, end);
     let dep = spanned(rt, alloc, "b", Span::unknown());
     let dep = group(rt, alloc, "dep.wit", contents, dep);
-    assert!(rt; main.is_shaped(alloc).expect(rt, "memory"));
-    assert!(rt; dep.is_shaped(alloc).expect(rt, "memory"));
-    let mut deps = Items::new(alloc);
-    deps.push(dep).expect(rt, "memory");
-    match resolve.push_groups(alloc, main, deps) {
+    match push_two(rt, alloc, &mut resolve, main, dep) {
         Ok(id) => {
             let mut out = format!(in alloc; "package {}, files", id.index()).expect(rt, "memory");
             write_files(&mut out, &resolve).expect(rt, "memory");

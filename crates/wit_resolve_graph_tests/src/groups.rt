@@ -47,7 +47,7 @@ fn group(
 }
 
 /// What a push of two groups answers.
-fn push_two(
+pub fn push_two(
     rt: &impl Abort,
     alloc: Global,
     resolve: &mut Resolve,

@@ -36,13 +36,13 @@ fn imports(rt: &impl Abort, alloc: Global) -> [usize; 2] {
     let resolve = pushed(rt, alloc, script.as_str());
     let mut counts = [0, 0];
     for world in resolve.worlds() {
-        for (place, (key, _item)) in world.imports.iter().enumerate() {
-            counts[0] = place.wrapping_add(1);
+        for (key, _item) in world.imports.iter() {
             if let WorldKey::Interface(id) = key {
-                if id.index() == place {
+                if id.index() == counts[0] {
                     counts[1] = counts[1].wrapping_add(1);
                 }
             }
+            counts[0] = counts[0].wrapping_add(1);
         }
     }
     counts
