@@ -34,7 +34,7 @@ impl PackageName {
     {
         let text = track_text(alloc, version)?;
         let suffix = track_suffix(alloc, version, text.as_str())?;
-        Ok((track_of(version)?, suffix))
+        Ok((track_of(alloc, version)?, suffix))
     }
 
     /// The text of a version's track, and what remains of the version's text after it, None where
@@ -60,34 +60,35 @@ impl PackageName {
     /// Source: `version_compat_track` of wit-parser 0.263.0 for the published rule; the other is a rule
     /// of this project.
     pub fn track_by(
-        _alloc: Global,
+        alloc: Global,
         version: &Version,
         rule: TrackRule,
     ) -> Result<Version, AllocError>
         ensures { IfOk result (λ track. track ≡ track_by rule version.now) }
     {
         match rule {
-            TrackRule::Published => track_of(version),
-            TrackRule::WithPrereleases => Ok(Version::from_version(release_track(version))),
+            TrackRule::Published => track_of(alloc, version),
+            TrackRule::WithPrereleases => Version::from_version(alloc, release_track(version)),
         }
     }
 }
 
 /// The track of a version.
-fn track_of(version: &Version) -> Result<Version, AllocError>
+fn track_of(alloc: Global, version: &Version) -> Result<Version, AllocError>
     ensures { IfOk result (λ track. track ≡ track_of version.now) }
 {
     if version.pre().is_empty() {
-        return Ok(Version::from_version(release_track(version)));
+        return Version::from_version(alloc, release_track(version));
     }
     let pre = version.as_version().pre.clone()?;
-    Ok(Version::from_version(semver::Version {
+    let track = semver::Version {
         major: version.major(),
         minor: version.minor(),
         patch: version.patch(),
         pre,
         build: BuildMetadata::empty(),
-    }))
+    };
+    Version::from_version(alloc, track)
 }
 
 /// The track of a release of these numbers.

@@ -206,7 +206,7 @@ fn parse_version(alloc: Global, text: &str) -> Result<Version, UsePathFault>
     ensures invalid { (result ≡ Err UsePathFault.Invalid) ↔ IsErr (version_parts text.now) }
 {
     match semver::Version::parse(alloc, text) {
-        Ok(version) => Ok(Version::from_version(version)),
+        Ok(version) => Ok(Version::from_version(alloc, version)?),
         Err(error) => Err(version_fault(error)),
     }
 }

@@ -120,7 +120,7 @@ fn features_are_told_in_their_order(rt: HostRuntime) {
 /// The numbers and texts of a version, which is given to `semver` and back.
 fn version_parts(rt: &impl Abort, alloc: Global) -> String {
     let version = Version::parse(alloc, "1.2.3-rc.1+b").expect(rt, "a version");
-    let version = Version::from_version(version.into_version());
+    let version = Version::from_version(alloc, version.into_version()).expect(rt, "memory");
     let kept = version.as_version();
     let (major, minor, patch) = (version.major(), version.minor(), version.patch());
     let (pre, build) = (version.pre(), version.build());

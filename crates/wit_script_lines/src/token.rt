@@ -27,7 +27,7 @@ pub fn read_version(alloc: Global, text: &str) -> Result<Version, LineFault>
     ensures { IsRead (version_of text.now) result }
 {
     match semver::Version::parse(alloc, text) {
-        Ok(version) => Ok(Version::from_version(version)),
+        Ok(version) => Ok(Version::from_version(alloc, version)?),
         Err(error) => {
             if error == semver::Error::from(AllocError) {
                 return Err(LineFault::OutOfMemory);
