@@ -5,3 +5,4 @@ mod GroupSteps
 mod NewLabels
 mod PlacingSteps
 mod SetterSteps
+mod UnplacedSetters

@@ -1,13 +1,14 @@
 //! Setters that stand before their getters are moved to just after them.
-ghost use Rattle.std.specs.Prelude.{◌≡◌, ℕ, ◌<◌, ◌++◌, ◌∷◌, [], IfOk, None, OnOk, Some, is_some, length, map, slice_get, slice_index_or, slice_set, if◌then◌else◌};
+ghost use Rattle.std.specs.Prelude.{◌≡◌, ℕ, ◌<◌, ◌++◌, ◌∷◌, ◌↔◌, [], IfOk, IsTrue, None, OnOk, Some, is_some, length, map, slice_get, slice_index_or, slice_set, if◌then◌else◌};
 ghost use Rattle.std.specs.List.{IsDistinct, range_with_len};
 ghost use Rattle.std.specs.Map.{keys_of};
+ghost use Rattle.wit_data.specs.Each.{Each};
 ghost use Rattle.wit_data.specs.Entries.{Entry};
 ghost use Rattle.wit_data.specs.contracts.world.WorldKeyPartialEq.TheImpl.{eq-value};
 ghost use Rattle.wit_labels.specs.Placing.{getters_of, placed_order, waiters};
-ghost use Rattle.wit_labels.specs.Setters.{after, awaited, placed};
+ghost use Rattle.wit_labels.specs.Setters.{after, awaited, placed, wanted_getter};
 
-use crate::setters::wanted_getter;
+use crate::setters::{is_setter, wanted_getter};
 use indexmap::IndexMap;
 use std::alloc::{AllocError, Global};
 use wit_data::{Items, Table, WorldItem, WorldKey};
@@ -18,6 +19,32 @@ use wit_digraph::in_order;
 ///
 /// Source: `process_world_includes` of wit-parser 0.263.0; WIT.md of the component model.
 pub fn place_setters(
+    alloc: Global,
+    entries: Table<WorldKey, WorldItem>,
+) -> Result<Table<WorldKey, WorldItem>, AllocError>
+    ensures { IfOk result (λ new. new ≡ placed entries) }
+{
+    if has_no_setter(&entries) {
+        Ok(entries)
+    } else {
+        moved_setters(alloc, entries)
+    }
+}
+
+/// Whether no entry is a setter.
+fn has_no_setter(entries: &Table<WorldKey, WorldItem>) -> bool
+    ensures { IsTrue result ↔ Each (λ (e : Entry). wanted_getter e.0 e.1 ≡ None) entries.now }
+{
+    for (key, item) in entries.iter() {
+        if is_setter(key, item) {
+            return false;
+        }
+    }
+    true
+}
+
+/// The entries in the order of `placed_order`.
+fn moved_setters(
     alloc: Global,
     entries: Table<WorldKey, WorldItem>,
 ) -> Result<Table<WorldKey, WorldItem>, AllocError>

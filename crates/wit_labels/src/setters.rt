@@ -1,5 +1,5 @@
 //! Setters and their getters.
-ghost use Rattle.std.specs.Prelude.{◌≡◌, IfOk, IfSome, IfNone, Some, None, if◌then◌else◌};
+ghost use Rattle.std.specs.Prelude.{◌≡◌, IfOk, IfSome, IfNone, Some, None, if◌then◌else◌, is_some};
 ghost use Rattle.wit_labels.specs.Setters.{HaveGetters, LacksGetterAt, getter_label, is_setter_label, wanted_getter};
 
 use crate::groups::has_group;
@@ -27,6 +27,19 @@ pub fn getter_label(alloc: Global, label: &str) -> Result<Text, AllocError>
             Ok(Text::from_string(getter))
         }
         None => Text::try_from_str(alloc, label),
+    }
+}
+
+/// Whether an entry is a setter.
+pub(crate) fn is_setter(key: &WorldKey, item: &WorldItem) -> bool
+    ensures { result ≡ is_some (wanted_getter key.now item.now) }
+{
+    match key {
+        WorldKey::Name(label) => match item {
+            WorldItem::Function(_) => is_setter_label(label.as_str()),
+            WorldItem::Interface { .. } | WorldItem::Type_ { .. } => false,
+        },
+        WorldKey::Interface(_) => false,
     }
 }
 

@@ -1,33 +1,6 @@
-use Rattle.wit_labels.proofs.PlacingSteps.{getters-below, placing-below, placing-differ, placing-of, placing-once, placing-placed}
+use Rattle.std.proofs.Common.{sym}
+use Rattle.wit_labels.proofs.UnplacedSetters.{none_placed}
 use Rattle.wit_labels.proofs.placing.place_setters.Goals as goal
 
-pub placed_order-requires : goal.placed_order-requires
-placed_order-requires c = rw c.in_ok-getters.ensures (getters-below c.into_map-map.result.entries)
-
-pub in_order-requires-clause-once : goal.in_order-requires-clause-once
-in_order-requires-clause-once c =
-    placing-once c.args.entries c.in_ok-items_of.field-0 c.as_slice.result.now
-    (placing-of c.args.entries c.into_map-map.result.entries c.in_ok-items_of.field-0 c.in_ok-getters.getters c.in_ok-order.order c.as_slice.result.now
-    c.into_map-map.ensures c.in_ok-getters.ensures c.in_ok-order.ensures c.in_ok-items_of.ensures c.as_slice.ensures)
-
-pub in_order-requires-clause-in_range : goal.in_order-requires-clause-in_range
-in_order-requires-clause-in_range c =
-    placing-below c.args.entries c.in_ok-items_of.field-0 c.as_slice.result.now
-    (placing-of c.args.entries c.into_map-map.result.entries c.in_ok-items_of.field-0 c.in_ok-getters.getters c.in_ok-order.order c.as_slice.result.now
-    c.into_map-map.ensures c.in_ok-getters.ensures c.in_ok-order.ensures c.in_ok-items_of.ensures c.as_slice.ensures)
-
-pub table_of-requires : goal.table_of-requires
-table_of-requires c =
-    placing-differ c.args.entries c.in_ok-items_of.field-0 c.in_ok-items.items c.as_slice.result.now
-    (placing-of c.args.entries c.into_map-map.result.entries c.in_ok-items_of.field-0 c.in_ok-getters.getters c.in_ok-order.order c.as_slice.result.now
-    c.into_map-map.ensures c.in_ok-getters.ensures c.in_ok-order.ensures c.in_ok-items_of.ensures c.as_slice.ensures)
-    c.keys_differ.ensures.test c.in_ok-items.ensures
-
-pub returns : goal.returns
-returns c =
-    let same =
-    placing-placed c.args.entries c.in_ok-items_of.field-0 c.in_ok-items.items c.as_slice.result.now
-    (placing-of c.args.entries c.into_map-map.result.entries c.in_ok-items_of.field-0 c.in_ok-getters.getters c.in_ok-order.order c.as_slice.result.now
-    c.into_map-map.ensures c.in_ok-getters.ensures c.in_ok-order.ensures c.in_ok-items_of.ensures c.as_slice.ensures)
-    c.in_ok-items.ensures in
-    rw same at c.table_of.ensures
+pub returns-then-has_no_setter : goal.returns-then-has_no_setter
+returns-then-has_no_setter c = sym (none_placed c.args.entries (c.has_no_setter.ensures.0 c.if-has_no_setter.true))
