@@ -27,6 +27,9 @@ pub(crate) fn check_names(
     ensures fine { OnOk result (AreRenamed world.now names.now) }
     ensures cause { IfErr result (λ kind. (kind ≡ OutOfMemory) ⊎ ((name : IncludeName) × IsFirstUnmatched world.now names.now name × (kind ≡ Semantic span (rename_text name.name) cause.RenameUnmatched))) }
 {
+    if names.is_empty() {
+        return Ok(());
+    }
     let words = words_of(alloc, world)?;
     for place in 0..names.len() {
         let name = &names.at(place).name;
