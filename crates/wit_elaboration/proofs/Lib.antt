@@ -41,3 +41,4 @@ pub mod ColumnFacts
 pub mod PassMarks
 pub mod MayConflict
 pub mod AllWorlds
+mod SortedClasses

@@ -277,9 +277,9 @@ fn lists_of(
         &mut lists,
         &world.exports,
     )?;
-    let imports = sorted_by_class(alloc, types, &lists.imports)?;
-    lists.imports = imports;
-    Ok(lists)
+    let Lists { imports, exports } = lists;
+    let imports = sorted_by_class(alloc, types, imports)?;
+    Ok(Lists { imports, exports })
 }
 
 /// Elaborates a world of a graph: its imports become the listed ones with all that they, the type

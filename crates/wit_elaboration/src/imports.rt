@@ -1,5 +1,5 @@
 //! The imports of a world, each after what it needs, and their order by class.
-ghost use Rattle.std.specs.Prelude.{◌≡◌, ◌++◌, ◌<◌, ◌≤◌, [], drop, All, OnOk, IfOk, length, map};
+ghost use Rattle.std.specs.Prelude.{◌≡◌, ◌++◌, ◌<◌, ◌≤◌, [], drop, All, OnOk, IfOk, IsTrue, length, map};
 ghost use Rattle.std.specs.List.{flat_map};
 ghost use Rattle.std.specs.Map.{keys_of};
 ghost use Rattle.wit_elaboration.specs.Elaborated.{dependency_of, import_carries, import_walk, needs};
@@ -169,8 +169,38 @@ fn add_class(
     Ok(())
 }
 
+/// Whether no entry is of an earlier class than the one before it. The entries are then sorted by class.
+fn are_sorted(types: &[TypeDef], entries: &Table<WorldKey, WorldItem>) -> bool
+    ensures { IsTrue result → by_class types.now entries.now ≡ entries.now }
+{
+    let mut class = 0;
+    for (_, item) in entries.iter() {
+        let next = Role::of(types, item).class();
+        if next < class {
+            return false;
+        }
+        class = next;
+    }
+    true
+}
+
 /// The entries sorted by class, those of one class in their order.
 pub(crate) fn sorted_by_class(
+    alloc: Global,
+    types: &[TypeDef],
+    entries: Table<WorldKey, WorldItem>,
+) -> Result<Table<WorldKey, WorldItem>, AllocError>
+    ensures { IfOk result (λ sorted. sorted ≡ by_class types.now entries) }
+{
+    if are_sorted(types, &entries) {
+        Ok(entries)
+    } else {
+        copied_by_class(alloc, types, &entries)
+    }
+}
+
+/// Copies of the entries, sorted by class.
+fn copied_by_class(
     alloc: Global,
     types: &[TypeDef],
     entries: &Table<WorldKey, WorldItem>,

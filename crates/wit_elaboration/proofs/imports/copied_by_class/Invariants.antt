@@ -1,7 +1,7 @@
 use Rattle.std.proofs.Common.{◌≡◌, []}
 use Rattle.wit_elaboration.specs.Entries.{fresh_entries}
 use Rattle.wit_elaboration.proofs.FirstClasses.{first_classes}
-use Rattle.wit_elaboration.proofs.imports.sorted_by_class.Given as goal
+use Rattle.wit_elaboration.proofs.imports.copied_by_class.Given as goal
 
 -- the classes so far
 abbrev pub invariant-loop-class : goal.invariant-loop-class
