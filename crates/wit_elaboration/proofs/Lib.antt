@@ -42,3 +42,4 @@ pub mod PassMarks
 pub mod MayConflict
 pub mod AllWorlds
 mod SortedClasses
+mod CompleteWorlds

@@ -1,5 +1,6 @@
 -- All worlds of a graph elaborated, and with which error that is refused.
-use Rattle.std.specs.Prelude.{◌≡◌, ℕ, List, map, Contains}
+use Rattle.std.specs.Prelude.{◌≡◌, ℕ, List, map, Contains, Option, None, Some}
+use Rattle.std.specs.List.{AllZip}
 use Rattle.wit_data.specs.declared.world.World.{World}
 use Rattle.wit_elaboration.specs.Elaborated.{elaborated_exports, elaborated_imports}
 use Rattle.wit_elaboration.specs.Elaboration.{graph_uses}
@@ -20,12 +21,14 @@ elaborated_world g world = record world {
 abbrev pub all_elaborated : Graph → Graph
 all_elaborated g = record g { worlds = map (elaborated_world g) g.worlds }
 
--- the lists of a world of a graph, elaborated
-abbrev pub elaborated_lists : Graph → World → Lists
-elaborated_lists g world = record {
-  imports = elaborated_imports g.types (graph_uses g) world.imports world.exports;
-  exports = elaborated_exports g.types (graph_uses g) world.exports;
-}
+-- a world with other lists in place of its own, where there are others
+abbrev pub with_lists : World → Option Lists → World
+with_lists world None = world
+with_lists world (Some lists) = record world { imports = lists.imports; exports = lists.exports }
+
+-- of each world its lists, which make of it the elaborated one
+abbrev pub AreListsOf : Graph → List World → List (Option Lists) → Type 0
+AreListsOf g worlds lists = AllZip (λ (world : World) (new : Option Lists). with_lists world new ≡ elaborated_world g world) worlds lists
 
 -- some world is in conflict, and the error tells it: at its span, by the name that is refused
 pub record IsRefusedWorld (g : Graph) (error : ResolveErrorKind) : Type 0 where

@@ -1,18 +1,19 @@
 //! All worlds of a graph are elaborated, or none.
-ghost use Rattle.std.specs.Prelude.{◌≡◌, ◌⊎◌, IfErr, IfOk, OnErr, OnOk, length, map};
-ghost use Rattle.wit_elaboration.specs.Elaboration.{graph_uses};
+ghost use Rattle.std.specs.Prelude.{◌≡◌, ◌⊎◌, IfErr, IfOk, OnErr, OnOk, length};
+ghost use Rattle.wit_elaboration.specs.Elaboration.{IsConflictError, graph_uses};
 ghost use Rattle.wit_elaboration.specs.Imported.{HasConflict};
 ghost use Rattle.wit_elaboration.specs.Sound.{HasSoundEntries};
 ghost use Rattle.wit_graph_data.specs.declared.error_kind.ResolveErrorKind.TheVariants.{OutOfMemory};
 ghost use Rattle.wit_data.specs.Each.{Each};
 ghost use Rattle.wit_data.specs.declared.world.World.{World};
 ghost use Rattle.wit_digraph.specs.Relation.{IsAcyclic};
-ghost use Rattle.wit_elaboration.specs.AllWorlds.{IsRefusedWorld, all_elaborated, elaborated_lists};
+ghost use Rattle.wit_elaboration.specs.AllWorlds.{AreListsOf, IsRefusedWorld, all_elaborated, elaborated_world, with_lists};
 
 use crate::closure::Closure;
 use crate::elaboration::Elaborator;
 use crate::entries::Lists;
 use std::alloc::Global;
+use wit_data::World;
 use wit_graph_data::{Graph, ResolveResult};
 use wit_values::Items;
 
@@ -38,11 +39,11 @@ pub fn elaborate_all(alloc: Global, graph: &mut Graph) -> ResolveResult<()>
     Ok(())
 }
 
-/// The elaborated lists of all worlds, in their order.
-fn all_lists(alloc: Global, graph: &Graph) -> ResolveResult<Items<Lists>>
+/// The elaborated lists of all worlds, in their order, but of those that keep their own.
+fn all_lists(alloc: Global, graph: &Graph) -> ResolveResult<Items<Option<Lists>>>
     requires acyclic { IsAcyclic (graph_uses graph.now) }
     requires listed { Each (λ (world : World). HasSoundEntries graph.now.types (length graph.now.interfaces) world.imports world.exports) graph.now.worlds }
-    ensures lists { IfOk result (λ lists. lists ≡ map (elaborated_lists graph.now) graph.now.worlds) }
+    ensures lists { IfOk result (AreListsOf graph.now graph.now.worlds) }
     ensures no_conflict { OnOk result (Each (λ (world : World). HasConflict (graph_uses graph.now) world.exports → ⊥) graph.now.worlds) }
     ensures cause { IfErr result (λ e. (e ≡ OutOfMemory) ⊎ IsRefusedWorld graph.now e) }
 {
@@ -50,21 +51,56 @@ fn all_lists(alloc: Global, graph: &Graph) -> ResolveResult<Items<Lists>>
     let mut elaborator = Elaborator::of(alloc, closure)?;
     let mut all = Items::new(alloc);
     for index in 0..graph.worlds.len() {
-        let lists = elaborator.lists_for(alloc, graph, graph.worlds.at(index))?;
+        let lists = new_lists(alloc, graph, &mut elaborator, graph.worlds.at(index))?;
         all.push(lists)?;
     }
     Ok(all)
 }
 
-/// Puts the elaborated lists of all worlds in the place of their own. It takes no memory.
-fn place_lists(graph: &mut Graph, all: Items<Lists>)
-    requires { all ≡ map (elaborated_lists graph.old) graph.old.worlds }
+/// The elaborated lists of a world over the types and interfaces of a graph, or None where the world is complete, so
+/// that its own are these.
+fn new_lists(
+    alloc: Global,
+    graph: &Graph,
+    elaborator: &mut Elaborator,
+    world: &World,
+) -> ResolveResult<Option<Lists>>
+    requires uses { elaborator.old ≡ graph_uses graph.now }
+    requires acyclic { IsAcyclic (graph_uses graph.now) }
+    requires listed { HasSoundEntries graph.now.types (length graph.now.interfaces) world.now.imports world.now.exports }
+    ensures lists { IfOk result (λ lists. with_lists world.now lists ≡ elaborated_world graph.now world.now) }
+    ensures no_conflict { OnOk result (HasConflict (graph_uses graph.now) world.now.exports → ⊥) }
+    ensures cause { IfErr result (IsConflictError graph.now world.now) }
+    ensures same { elaborator.new ≡ elaborator.old }
+{
+    let complete = elaborator.is_complete(graph, world)?;
+    if complete {
+        return Ok(None);
+    }
+    Ok(Some(elaborator.lists_for(alloc, graph, world)?))
+}
+
+/// Puts the elaborated lists of worlds in the place of their own. It takes no memory.
+fn place_lists(graph: &mut Graph, all: Items<Option<Lists>>)
+    requires { AreListsOf graph.old graph.old.worlds all }
     ensures { graph.new ≡ all_elaborated graph.old }
 {
     let mut left = all;
     while let Some(lists) = left.pop() {
         let world = graph.worlds.at_mut(left.len());
-        world.imports = lists.imports;
-        world.exports = lists.exports;
+        set_lists(world, lists);
+    }
+}
+
+/// Puts other lists in the place of those of a world, where there are others.
+fn set_lists(world: &mut World, lists: Option<Lists>)
+    ensures { world.new ≡ with_lists world.old lists }
+{
+    match lists {
+        Some(lists) => {
+            world.imports = lists.imports;
+            world.exports = lists.exports;
+        }
+        None => {}
     }
 }

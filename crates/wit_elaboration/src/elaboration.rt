@@ -2,7 +2,8 @@
 //!
 //! A listed world says what it imports and exports; its elaboration adds what these need. Imports
 //! get what they use before them, exports too, and what exports need from outside is imported.
-ghost use Rattle.std.specs.Prelude.{◌≡◌, ◌<◌, ◌++◌, ◌∷◌, [], IfOk, IfErr, OnOk, OnErr, length, take};
+ghost use Rattle.std.specs.Prelude.{◌≡◌, ◌<◌, ◌++◌, ◌∷◌, [], IfOk, IfErr, IsTrue, OnOk, OnErr, length, take};
+ghost use Rattle.wit_elaboration.specs.AllWorlds.{elaborated_world};
 ghost use Rattle.wit_elaboration.specs.Elaborated.{elaborated_exports, elaborated_imports};
 ghost use Rattle.wit_elaboration.specs.Elaborating.{HaveNodes, TellsExported};
 ghost use Rattle.wit_elaboration.specs.Elaboration.{AreElaborated, ElaboratesWorld, HasConflictAt, IsConflictError, IsElaborationError, IsErrorAt, HasSoundEntriesAt, graph_uses};
@@ -14,6 +15,7 @@ ghost use Rattle.wit_digraph.specs.Relation.{IsAcyclic};
 
 use crate::closure::Closure;
 use crate::closure_rows::ClosureRows;
+use crate::complete::{are_complete, exports_no_interface};
 use crate::conflict::find_refused;
 use crate::entries::Lists;
 use crate::exports::{add_functions, export_listed};
@@ -208,6 +210,29 @@ impl Elaborator {
                 Ok(lists_of(alloc, types, uses, &mut self.marks, world)?)
             }
         }
+    }
+}
+
+impl Elaborator {
+    /// Whether a world over the types and interfaces of a graph is told at once to be its own elaboration: each import
+    /// stands after what it uses, as elaboration has it, and no interface is exported. A world that is not told so may
+    /// still be. The graph has these types and interfaces, and conditions are those of `elaborate`. The only error is
+    /// want of memory.
+    pub fn is_complete(&mut self, graph: &Graph, world: &World) -> Result<bool, AllocError>
+        requires uses { self.old ≡ graph_uses graph.now }
+        requires acyclic { IsAcyclic (graph_uses graph.now) }
+        requires listed { HasSoundEntries graph.now.types (length graph.now.interfaces) world.now.imports world.now.exports }
+        ensures no_conflict { IfOk result (λ complete. IsTrue complete → HasConflict (graph_uses graph.now) world.now.exports → ⊥) }
+        ensures own { IfOk result (λ complete. IsTrue complete → elaborated_world graph.now world.now ≡ world.now) }
+        ensures same { self.new ≡ self.old }
+    {
+        if !exports_no_interface(&world.exports) {
+            return Ok(false);
+        }
+        self.marks.walked.clear();
+        let types = graph.types.as_slice();
+        let uses = self.uses.as_slice();
+        are_complete(types, uses, &mut self.marks.walked, &world.imports)
     }
 }
 

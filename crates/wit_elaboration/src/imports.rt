@@ -170,7 +170,7 @@ fn add_class(
 }
 
 /// Whether no entry is of an earlier class than the one before it. The entries are then sorted by class.
-fn are_sorted(types: &[TypeDef], entries: &Table<WorldKey, WorldItem>) -> bool
+pub(crate) fn are_sorted(types: &[TypeDef], entries: &Table<WorldKey, WorldItem>) -> bool
     ensures { IsTrue result → by_class types.now entries.now ≡ entries.now }
 {
     let mut class = 0;

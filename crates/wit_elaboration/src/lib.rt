@@ -5,6 +5,7 @@
 mod all_worlds;
 mod closure;
 mod closure_rows;
+mod complete;
 mod conflict;
 mod elaborable;
 mod elaboration;

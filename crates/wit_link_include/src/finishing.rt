@@ -1,7 +1,9 @@
 //! A world is finished.
 ghost use Rattle.std.specs.Prelude.{◌≡◌, ◌⊎◌, IfErr, IfOk, OnOk, OnErr, length};
 ghost use Rattle.wit_link_include.specs.Finished.{CanFinish, IsFinishCause, with_finished};
-ghost use Rattle.wit_elaboration.specs.Elaboration.{graph_uses};
+ghost use Rattle.wit_elaboration.specs.AllWorlds.{elaborated_world};
+ghost use Rattle.wit_elaboration.specs.Elaboration.{IsConflictError, graph_uses};
+ghost use Rattle.wit_elaboration.specs.Imported.{HasConflict};
 ghost use Rattle.wit_elaboration.specs.Sound.{HasSoundEntries};
 ghost use Rattle.wit_graph_data.specs.declared.error_kind.ResolveErrorKind.TheVariants.{OutOfMemory};
 ghost use Rattle.wit_labels.specs.Setters.{placed};
@@ -37,11 +39,34 @@ pub(crate) fn finish_world(
     ensures same { elaborator.new ≡ elaborator.old }
 {
     check_labels(alloc, &world)?;
-    let mut world = with_placed_setters(alloc, world)?;
-    let lists = elaborator.lists_for(alloc, graph, &world)?;
-    world.imports = lists.imports;
-    world.exports = lists.exports;
+    let world = with_placed_setters(alloc, world)?;
+    let world = elaborated(alloc, graph, elaborator, world)?;
     Ok(graph.worlds.push(world)?)
+}
+
+/// The world elaborated over the types and interfaces of a graph. One that is complete stays as it is.
+fn elaborated(
+    alloc: Global,
+    graph: &Graph,
+    elaborator: &mut Elaborator,
+    world: World,
+) -> ResolveResult<World>
+    requires uses { elaborator.old ≡ graph_uses graph.now }
+    requires acyclic { IsAcyclic (graph_uses graph.now) }
+    requires listed { HasSoundEntries graph.now.types (length graph.now.interfaces) world.imports world.exports }
+    ensures ok { IfOk result (λ new. new ≡ elaborated_world graph.now world) }
+    ensures no_conflict { OnOk result (HasConflict (graph_uses graph.now) world.exports → ⊥) }
+    ensures cause { IfErr result (IsConflictError graph.now world) }
+    ensures same { elaborator.new ≡ elaborator.old }
+{
+    let mut world = world;
+    let complete = elaborator.is_complete(graph, &world)?;
+    if !complete {
+        let lists = elaborator.lists_for(alloc, graph, &world)?;
+        world.imports = lists.imports;
+        world.exports = lists.exports;
+    }
+    Ok(world)
 }
 
 /// The world with its setters after their getters.

@@ -1,8 +1,8 @@
-use Rattle.std.proofs.Common.{◌≡◌, ◌∙◌, ◌⊎◌, sym, subst, arith}
+use Rattle.std.proofs.Common.{◌≡◌, ◌∙◌, ◌⊎◌, ◌+◌, take, sym, subst, arith}
 use Rattle.wit_graph_data.specs.AnswerFacts.{told_err}
 use Rattle.wit_graph_data.specs.declared.error_kind.ResolveErrorKind.{ResolveErrorKind}
 use Rattle.wit_graph_data.specs.declared.error_kind.ResolveErrorKind.TheVariants.{OutOfMemory}
-use Rattle.wit_elaboration.specs.AllWorlds.{IsRefusedWorld}
+use Rattle.wit_elaboration.specs.AllWorlds.{AreListsOf, IsRefusedWorld}
 use Rattle.wit_elaboration.proofs.AllWorlds.{below-all, below-next, made-next, refused_world}
 use Rattle.wit_elaboration.proofs.all_worlds.all_lists.Goals as goal
 
@@ -16,8 +16,8 @@ returns-in_err-lists-clause-cause c =
 
 pub loop-index-preserved : goal.loop-index-preserved
 loop-index-preserved c = record {
-  lists = c.in_ok-push.ensures.ok
-      ∙ made-next c.args.graph.now c.loop-index.all c.loop-index.index c.at.result.now c.in_ok-lists.lists c.at.ensures c.loop-index.invariant.lists c.in_ok-lists.ensures.imports c.in_ok-lists.ensures.exports;
+  lists = subst (AreListsOf c.args.graph.now (take (c.loop-index.index + 1) c.args.graph.now.worlds)) (sym c.in_ok-push.ensures.ok)
+      (made-next c.args.graph.now c.loop-index.all c.loop-index.index c.at.result.now c.in_ok-lists.lists c.at.ensures c.loop-index.invariant.lists c.in_ok-lists.ensures.lists);
   no_conflict = below-next c.loop-index.invariant.no_conflict c.at.result.now c.at.ensures c.in_ok-lists.ensures.no_conflict;
   same = c.in_ok-lists.ensures.same ∙ c.loop-index.invariant.same;
 }

@@ -1,15 +1,15 @@
-use Rattle.std.proofs.Common.{◌≡◌, map, take}
+use Rattle.std.proofs.Common.{◌≡◌, take}
 use Rattle.wit_elaboration.specs.Elaboration.{graph_uses}
 use Rattle.wit_elaboration.specs.Imported.{HasConflict}
 use Rattle.wit_data.specs.EachFacts.{EachBelow}
 use Rattle.wit_data.specs.declared.world.World.{World}
-use Rattle.wit_elaboration.specs.AllWorlds.{elaborated_lists}
+use Rattle.wit_elaboration.specs.AllWorlds.{AreListsOf}
 use Rattle.wit_elaboration.proofs.all_worlds.all_lists.Given as goal
 
 -- the lists of the first worlds are made, and none of these is in conflict
 abbrev pub invariant-loop-index : goal.invariant-loop-index
 invariant-loop-index l = record {
-  lists : l.all ≡ map (elaborated_lists l.graph) (take l.index l.graph.worlds);
+  lists : AreListsOf l.graph (take l.index l.graph.worlds) l.all;
   no_conflict : EachBelow l.index (λ _ (world : World). HasConflict (graph_uses l.graph) world.exports → ⊥) l.graph.worlds;
   same : l.elaborator ≡ graph_uses l.graph;
 }
