@@ -302,8 +302,13 @@ fn lists_of(
         &mut lists,
         &world.exports,
     )?;
-    let Lists { imports, exports } = lists;
-    let imports = sorted_by_class(alloc, types, imports)?;
+    let Lists {
+        imports,
+        mut exports,
+    } = lists;
+    let mut imports = sorted_by_class(alloc, types, imports)?;
+    imports.shrink();
+    exports.shrink();
     Ok(Lists { imports, exports })
 }
 

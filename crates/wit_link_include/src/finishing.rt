@@ -61,7 +61,10 @@ fn elaborated(
 {
     let mut world = world;
     let complete = elaborator.is_complete(graph, &world)?;
-    if !complete {
+    if complete {
+        world.imports.shrink();
+        world.exports.shrink();
+    } else {
         let lists = elaborator.lists_for(alloc, graph, &world)?;
         world.imports = lists.imports;
         world.exports = lists.exports;

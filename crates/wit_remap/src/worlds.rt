@@ -93,6 +93,7 @@ pub fn placed_entries(
     for (key, item) in entries.into_map() {
         placed.push(placed_key(mover, key), placed_item(mover, item))?;
     }
+    placed.shrink();
     Ok(placed)
 }
 

@@ -85,10 +85,43 @@ impl Draft {
         let id = InterfaceId::from_index(self.interfaces.len());
         let key = String::from_str(alloc, name.as_str())?;
         let interface = new_interface(alloc, name, here)?;
+        self.close();
         self.interfaces.push(interface)?;
         self.interface_ids.push(key, id)?;
         self.scope = Scope::Interface;
         Ok(())
+    }
+
+    /// Gives back memory that nothing takes in the interface or the world into which lines went.
+    pub(crate) fn close(&mut self)
+        ensures { self.new ≡ self.old }
+    {
+        if let Some(at) = self.open_interface() {
+            self.shrink_interface(at);
+        }
+        if let Some(at) = self.open_world() {
+            self.shrink_world(at);
+        }
+    }
+
+    /// Gives back memory that nothing takes in the interface at a place.
+    fn shrink_interface(&mut self, at: usize)
+        requires { at < length self.old.interfaces }
+        ensures { self.new ≡ self.old }
+    {
+        let interface = self.interfaces.at_mut(at);
+        interface.types.shrink();
+        interface.functions.shrink();
+    }
+
+    /// Gives back memory that nothing takes in the world at a place.
+    fn shrink_world(&mut self, at: usize)
+        requires { at < length self.old.worlds }
+        ensures { self.new ≡ self.old }
+    {
+        let world = self.worlds.at_mut(at);
+        world.imports.shrink();
+        world.exports.shrink();
     }
 
     /// Begins a world; the next lines go into it. Not understood where the package has one of its own
@@ -103,6 +136,7 @@ impl Draft {
         let id = WorldId::from_index(self.worlds.len());
         let key = String::from_str(alloc, name.as_str())?;
         let world = new_world(alloc, name, here)?;
+        self.close();
         self.worlds.push(world)?;
         self.world_ids.push(key, id)?;
         self.scope = Scope::World;

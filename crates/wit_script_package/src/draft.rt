@@ -200,6 +200,15 @@ impl Draft {
     pub fn into_group(self, alloc: Global) -> Result<UnresolvedPackageGroup, LineFault>
         ensures { IsRead (grouped self) result }
     {
+        let mut draft = self;
+        draft.close();
+        draft.into_closed_group(alloc)
+    }
+
+    /// The same, where nothing more comes into what lines went into.
+    fn into_closed_group(self, alloc: Global) -> Result<UnresolvedPackageGroup, LineFault>
+        ensures { IsRead (grouped self) result }
+    {
         let path = self.name.to_string(alloc)?;
         let Draft {
             name,

@@ -133,6 +133,13 @@ impl<V> Names<V> {
         Ok(())
     }
 
+    /// Gives back memory that no pair takes.
+    pub fn shrink(&mut self)
+        ensures { self.new ≡ self.old }
+    {
+        self.inner.shrink_to_fit();
+    }
+
     /// Leaves the first `len` pairs, or all where there are fewer.
     pub fn truncate(&mut self, len: usize)
     where
@@ -179,6 +186,7 @@ impl<V: TryClone> TryClone for Names<V> {
             let (key, value) = copy_pair(alloc, key, value)?;
             copy.push(key, value)?;
         }
+        copy.shrink();
         Ok(copy)
     }
 }

@@ -136,6 +136,13 @@ impl<K: Eq + Hash, V> Table<K, V> {
         Ok(())
     }
 
+    /// Gives back memory that no pair takes.
+    pub fn shrink(&mut self)
+        ensures { self.new ≡ self.old }
+    {
+        self.inner.shrink_to_fit();
+    }
+
     /// Leaves the first `len` pairs, or all where there are fewer.
     pub fn truncate(&mut self, len: usize)
     where
@@ -154,6 +161,7 @@ impl<K: Eq + Hash + TryClone, V: TryClone> TryClone for Table<K, V> {
             let (key, value) = try_clone_two(key, value)?;
             copy.push(key, value)?;
         }
+        copy.shrink();
         Ok(copy)
     }
 }

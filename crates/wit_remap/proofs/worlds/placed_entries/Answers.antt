@@ -35,5 +35,6 @@ loop-key-init c =
 
 pub returns : goal.returns
 returns c = λ w.
-    placed-all (entry_image (maps_of c.args.mover.now) 0) c.loop-key.placed c.loop-key.key-iterator (map (entry_image (maps_of c.args.mover.now) 0) c.args.entries) c.loop-key.invariant.all c.in-None.ensures.steps.0
+    c.shrink.ensures
+    ∙ placed-all (entry_image (maps_of c.args.mover.now) 0) c.loop-key.placed c.loop-key.key-iterator (map (entry_image (maps_of c.args.mover.now) 0) c.args.entries) c.loop-key.invariant.all c.in-None.ensures.steps.0
     ∙ entries_same c.args.mover.now 0 w c.args.entries

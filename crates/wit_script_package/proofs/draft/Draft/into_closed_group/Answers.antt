@@ -1,5 +1,5 @@
 use Rattle.std.proofs.Common.{rules}
-use Rattle.wit_script_package.proofs.draft.Draft.into_group.Goals as goal
+use Rattle.wit_script_package.proofs.draft.Draft.into_closed_group.Goals as goal
 
 pub returns : goal.returns
 returns c = search rules
