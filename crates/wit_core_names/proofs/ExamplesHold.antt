@@ -6,7 +6,7 @@ use Rattle.wit_data.specs.declared.function.Function.{Function}
 use Rattle.wit_data.specs.declared.world.WorldKey.{WorldKey}
 use Rattle.wit_data.specs.declared.world.WorldKey.TheVariants as key
 use Rattle.wit_digraph.specs.Walks.{walk, walk_within}
-use Rattle.wit_core_names.specs.Examples.{ExamplesOfNames, ExamplesOfImports, ExamplesOfExports, ExamplesOfConditions, of_futures}
+use Rattle.wit_core_names.specs.examples.Examples.{ExamplesOfNames, ExamplesOfImports, ExamplesOfExports, ExamplesOfConditions, of_futures}
 
 import_examples : (x : Bor WorldKey) (f : Bor Function) → x.now ≡ key.Interface 0 → f.now ≡ of_futures → ExamplesOfImports x f
 unfolding walk walk_within digits

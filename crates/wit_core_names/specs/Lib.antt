@@ -1,3 +1,3 @@
 pub mod Conditions
-pub mod Examples
 pub mod Names
+pub mod examples

@@ -2,7 +2,7 @@
 //! have a contract alone, which is what is proved.
 ghost use Rattle.std.specs.Prelude.{◌≡◌};
 ghost use Rattle.wit_data.specs.PackageOrder.{package_cmp, same_package};
-ghost use Rattle.wit_data.specs.TrackExamples.{ExamplesOfTracks};
+ghost use Rattle.wit_data.specs.examples.TrackExamples.{ExamplesOfTracks};
 
 use crate::package_name::PackageName;
 use std::cmp::Ordering;

@@ -3,8 +3,8 @@ use Rattle.std.proofs.Common.{◌≡◌, ◌∙◌, ◌<◌, ◌≤◌, ◌+◌,
 use Rattle.std.proofs.lemmas.List.{length-map, length-set, take_all}
 use Rattle.std.proofs.lemmas.List.Elements.{Contains-append_left, Contains-push}
 use Rattle.std.specs.List.{AllZip, IsDistinct}
-use Rattle.wit_values.specs.Lists.{take-next_at}
-use Rattle.wit_digraph.specs.MemberFacts.{not_before}
+use Rattle.wit_values.specs.facts.Lists.{take-next_at}
+use Rattle.wit_digraph.specs.facts.MemberFacts.{not_before}
 
 module _ {X : Type 0} where
   -- what stands at a place that is there

@@ -1,10 +1,10 @@
 -- The worked rows.
 use Rattle.std.proofs.Common.{ℕ, ◌<◌, ◌≤◌, zero, suc, List, [], ◌∷◌, refl, arith, lit<, inl, inr, Contains, All}
 use Rattle.std.proofs.lemmas.List.Elements.{All-from_recursion, All-contains, All-nil}
-use Rattle.wit_digraph.specs.MemberFacts.{Contains-nil, Contains-here, Contains-there, Contains-cons_cases}
+use Rattle.wit_digraph.specs.facts.MemberFacts.{Contains-nil, Contains-here, Contains-there, Contains-cons_cases}
 use Rattle.wit_digraph.specs.Relation.{direct, IsPath, IsInRange}
 use Rattle.wit_digraph.specs.Walks.{walk_within, walk}
-use Rattle.wit_digraph.specs.Examples.{stairs, ring, ExamplesOfPaths, ExamplesOfCycles, ExamplesOfWalks}
+use Rattle.wit_digraph.specs.examples.Examples.{stairs, ring, ExamplesOfPaths, ExamplesOfCycles, ExamplesOfWalks}
 
 -- where each node uses lower ones alone, paths go down
 descends : (uses : List (List ℕ)) → ((i : ℕ) → All (λ j. j < i) (direct uses i)) → (i : ℕ) (path : List ℕ) (j : ℕ) → IsPath uses i path j → j ≤ i

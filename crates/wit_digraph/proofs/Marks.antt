@@ -4,9 +4,9 @@ use Rattle.std.proofs.lemmas.Bool.{cases_eq}
 use Rattle.std.proofs.lemmas.List.{length-set, length_push, drop_more}
 use Rattle.std.proofs.lemmas.List.Elements.{All-head, All-tail, All-push, All-weaker, Contains-push, Contains-append_cases, Contains-append_left}
 use Rattle.std.proofs.lemmas.Option.{get_or_from_slice_get, slice_get_cases}
-use Rattle.wit_digraph.specs.BitFacts.{bit_of-taken_same, bit_of-taken_other, bit_of-longer}
-use Rattle.wit_digraph.specs.MemberFacts.{Contains-nil, Contains-cons_cases}
-use Rattle.wit_digraph.specs.Rows.{HasBit, bit_of}
+use Rattle.wit_digraph.specs.facts.BitFacts.{bit_of-taken_same, bit_of-taken_other, bit_of-longer}
+use Rattle.wit_digraph.specs.facts.MemberFacts.{Contains-nil, Contains-cons_cases}
+use Rattle.wit_digraph.specs.steps.Rows.{HasBit, bit_of}
 use Rattle.wit_digraph.specs.Walks.{MarksTell}
 
 -- without bits none is listed

@@ -3,7 +3,7 @@ use Rattle.std.proofs.Common.{◌≡◌, ℕ, ◌<◌, ◌≤◌, ◌+◌, ◌-�
 use Rattle.std.proofs.lemmas.Bool.{cases_eq, cases_lt}
 use Rattle.std.proofs.lemmas.List.{get_or-set_same, get_or-set_other, length-set, get_or_default}
 use Rattle.std.proofs.lemmas.List.Elements.{All-nil, All-pop, All-push, Contains-append_cases, Contains-append_left, Contains-get_or, Contains-push}
-use Rattle.wit_digraph.specs.MemberFacts.{Contains-nil, Contains-here, Contains-cons_cases}
+use Rattle.wit_digraph.specs.facts.MemberFacts.{Contains-nil, Contains-here, Contains-cons_cases}
 use Rattle.wit_digraph.proofs.Searching.{KeepsDone, set_done, set_open, DoneAreClear-open, DoneAreClear-done, IsWay, IsWay-keeps, last_done, IsWay-replaced, IsWay-popped, IsWay-reaches}
 use Rattle.wit_digraph.specs.Relation.{direct, Reaches, IsInRange}
 use Rattle.wit_digraph.specs.Cycles.{IsOnCycle, mark_of, DoneAreClear, IsSettled}

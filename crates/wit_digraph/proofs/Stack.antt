@@ -4,8 +4,8 @@ use Rattle.std.specs.List.{flat_map}
 use Rattle.std.proofs.lemmas.List.{append-nil, length_push, take_more, drop_more, drop_all}
 use Rattle.std.proofs.lemmas.List.Elements.{All-push, All-pop, All-nil}
 use Rattle.std.proofs.lemmas.List.Concat.{flat_map-append}
-use Rattle.wit_digraph.specs.WalkFacts.{walk_is, UsesFirst-append, UsesFirst-left, UsesFirst-walk, UsesFirst-IsPath, Reaches-from_walk, Contains-walk_end}
-use Rattle.wit_digraph.specs.FreshFacts.{fresh-there, fresh-absent, fresh-append, fresh-all_seen, UsesFirst-fresh}
+use Rattle.wit_digraph.specs.facts.WalkFacts.{walk_is, UsesFirst-append, UsesFirst-left, UsesFirst-walk, UsesFirst-IsPath, Reaches-from_walk, Contains-walk_end}
+use Rattle.wit_digraph.specs.facts.FreshFacts.{fresh-there, fresh-absent, fresh-append, fresh-all_seen, UsesFirst-fresh}
 use Rattle.wit_digraph.specs.Relation.{direct, IsAcyclic}
 use Rattle.wit_digraph.specs.Walks.{walk, fresh, first_of_each, UsesFirst}
 use Rattle.wit_digraph.specs.declared.frame.Frame.{Frame}

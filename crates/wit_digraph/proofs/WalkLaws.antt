@@ -2,11 +2,11 @@
 use Rattle.std.proofs.Common.{ℕ, ◌<◌, List, [], length}
 use Rattle.std.specs.List.{flat_map}
 use Rattle.std.proofs.lemmas.List.Elements.{All-contains}
-use Rattle.wit_digraph.specs.MemberFacts.{Contains-flat_map, Contains-flat_map_cases}
-use Rattle.wit_digraph.specs.WalkFacts.{walk_is, walk-from_IsPath, Reaches-from_walk, UsesFirst-walk, UsesFirst-flat_map}
-use Rattle.wit_digraph.specs.FreshFacts.{fresh_in, fresh_all, IsDistinct-fresh, UsesFirst-fresh}
+use Rattle.wit_digraph.specs.facts.MemberFacts.{Contains-flat_map, Contains-flat_map_cases}
+use Rattle.wit_digraph.specs.facts.WalkFacts.{walk_is, walk-from_IsPath, Reaches-from_walk, UsesFirst-walk, UsesFirst-flat_map}
+use Rattle.wit_digraph.specs.facts.FreshFacts.{fresh_in, fresh_all, IsDistinct-fresh, UsesFirst-fresh}
 use Rattle.wit_digraph.specs.Walks.{walk}
-use Rattle.wit_digraph.specs.Laws.{FirstsAreOnce, WalksUnfold, WalksReach, WalksKeepOrder}
+use Rattle.wit_digraph.specs.laws.Laws.{FirstsAreOnce, WalksUnfold, WalksReach, WalksKeepOrder}
 
 pub walks_unfold : WalksUnfold
 walks_unfold uses i acyclic here = walk_is uses acyclic i here

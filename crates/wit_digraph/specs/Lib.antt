@@ -1,12 +1,7 @@
-pub mod AmongFacts
-pub mod BitFacts
 pub mod Cycles
-pub mod EarlierFacts
-pub mod Examples
-pub mod FreshFacts
-pub mod Laws
-pub mod MemberFacts
 pub mod Relation
-pub mod Rows
-pub mod WalkFacts
 pub mod Walks
+pub mod examples
+pub mod facts
+pub mod laws
+pub mod steps

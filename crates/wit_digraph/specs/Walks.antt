@@ -2,7 +2,7 @@
 use Rattle.std.specs.Prelude.{◌↔◌, ℕ, ◌<◌, ◌≤◌, ◌*◌, zero, suc, List, [], ◌∷◌, ◌++◌, length, Contains, All, nat_eq, if◌then◌else◌}
 use Rattle.std.specs.List.{flat_map, list_any}
 use Rattle.wit_digraph.specs.Relation.{direct}
-use Rattle.wit_digraph.specs.Rows.{HasBit}
+use Rattle.wit_digraph.specs.steps.Rows.{HasBit}
 
 -- the walks of i's direct uses in order, then i, along paths of at most `members` members
 unfoldable pub walk_within : List (List ℕ) → ℕ → ℕ → List ℕ

@@ -1,7 +1,7 @@
 //! Laws of the definitions: each function has no body, and its contract is what is proved.
 ghost use Rattle.std.specs.Prelude.{ℕ, List};
-ghost use Rattle.wit_digraph.specs.Examples.{ExamplesOfCycles, ExamplesOfPaths, ExamplesOfWalks};
-ghost use Rattle.wit_digraph.specs.Laws.{FirstsAreOnce, WalksKeepOrder, WalksReach, WalksUnfold};
+ghost use Rattle.wit_digraph.specs.examples.Examples.{ExamplesOfCycles, ExamplesOfPaths, ExamplesOfWalks};
+ghost use Rattle.wit_digraph.specs.laws.Laws.{FirstsAreOnce, WalksKeepOrder, WalksReach, WalksUnfold};
 
 /// Where no node reaches itself, a walk is the walks of the direct uses, in order, and then the
 /// node.

@@ -1,6 +1,6 @@
 //! Rows of bits in words of 64.
 ghost use Rattle.std.specs.Prelude.{◌≡◌, ◌≢◌, ◌↔◌, ℕ, ◌*◌, ◌<◌, IsTrue, length};
-ghost use Rattle.wit_digraph.specs.Rows.{HasBit, bit_of};
+ghost use Rattle.wit_digraph.specs.steps.Rows.{HasBit, bit_of};
 
 /// Whether the row has bit `i`, which is one of its words' bits.
 pub fn has_bit(row: &[u64], i: usize) -> bool

@@ -7,13 +7,13 @@ use Rattle.wit_data.specs.declared.types.TypeDef.{TypeDef}
 use Rattle.wit_data.specs.declared.world.WorldItem.{WorldItem}
 use Rattle.wit_data.specs.declared.world.WorldKey.{WorldKey}
 use Rattle.wit_data.specs.declared.world.WorldKey.TheVariants.{Name, Interface}
-use Rattle.wit_digraph.specs.MemberFacts.{Contains-nil, Contains-here, Contains-there, Contains-flat_map_cases}
-use Rattle.wit_digraph.specs.WalkFacts.{Reaches-from_walk, UsesFirst-append, UsesFirst-IsPath}
+use Rattle.wit_digraph.specs.facts.MemberFacts.{Contains-nil, Contains-here, Contains-there, Contains-flat_map_cases}
+use Rattle.wit_digraph.specs.facts.WalkFacts.{Reaches-from_walk, UsesFirst-append, UsesFirst-IsPath}
 use Rattle.wit_digraph.specs.Relation.{direct, IsAcyclic}
 use Rattle.wit_digraph.specs.Walks.{UsesFirst, walk}
 use Rattle.wit_elaboration.specs.Entries.{Entry, Role, Instance, TypeUse, TypeDefinition, FreeFunction, ResourceFunction, role_of, key_interface, same_key, fresh_entries}
 use Rattle.wit_elaboration.specs.Elaborated.{Carried, dependency_of, needs, entry_walk}
-use Rattle.wit_elaboration.specs.ElaborationLaws.{stands_on, DependenciesFirst}
+use Rattle.wit_elaboration.specs.laws.ElaborationLaws.{stands_on, DependenciesFirst}
 use Rattle.wit_elaboration.specs.Sound.{IsRoleInRange}
 use Rattle.wit_elaboration.proofs.FreshEntries.{AllNew, interfaces_of_keys, ids-push, id_known, Contains-deps, fresh_entries-all_known, fresh_entries-new}
 use Rattle.wit_elaboration.proofs.Order.{AreOwn}

@@ -2,9 +2,9 @@
 use Rattle.std.proofs.Common.{◌≡◌, ◌∙◌, ◌⊎◌, inl, inr, ℕ, zero, suc, true, ◌+◌, ◌<◌, ◌≤◌, List, [], ◌∷◌, ◌++◌, length, map, take, Option, Some, slice_get, slice_set, refl, sym, ap, subst, arith, append_assoc, Contains}
 use Rattle.std.specs.List.{AllZip}
 use Rattle.std.proofs.lemmas.Option.{slice_get_within}
-use Rattle.wit_values.specs.Lists.{take-next_at}
+use Rattle.wit_values.specs.facts.Lists.{take-next_at}
 use Rattle.wit_data.specs.Each.{EachAt}
-use Rattle.wit_data.specs.EachFacts.{EachBelow, all, more}
+use Rattle.wit_data.specs.facts.EachFacts.{EachBelow, all, more}
 use Rattle.wit_data.specs.declared.world.World.{World}
 use Rattle.wit_elaboration.specs.Elaborated.{elaborated_exports, elaborated_imports}
 use Rattle.wit_elaboration.specs.Elaboration.{IsConflictError, graph_uses}

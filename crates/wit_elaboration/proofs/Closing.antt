@@ -4,13 +4,13 @@ use Rattle.std.specs.List.{flat_map, IsDistinct}
 use Rattle.std.proofs.lemmas.Bool.{cases_eq}
 use Rattle.std.proofs.lemmas.List.{get_or_default, get_or-set_same, get_or-set_other, length-set}
 use Rattle.std.proofs.lemmas.List.Elements.{All-contains, All-push, Contains-get_or}
-use Rattle.wit_digraph.specs.MemberFacts.{Contains-flat_map, Contains-flat_map_cases}
-use Rattle.wit_digraph.specs.WalkFacts.{Contains-walk_end, Reaches-from_walk, UsesFirst-walk, UsesFirst-flat_map}
-use Rattle.wit_digraph.specs.FreshFacts.{fresh_in, fresh_all, UsesFirst-fresh, IsDistinct-fresh}
+use Rattle.wit_digraph.specs.facts.MemberFacts.{Contains-flat_map, Contains-flat_map_cases}
+use Rattle.wit_digraph.specs.facts.WalkFacts.{Contains-walk_end, Reaches-from_walk, UsesFirst-walk, UsesFirst-flat_map}
+use Rattle.wit_digraph.specs.facts.FreshFacts.{fresh_in, fresh_all, UsesFirst-fresh, IsDistinct-fresh}
 use Rattle.wit_digraph.specs.Relation.{direct, IsPath, IsAcyclic}
 use Rattle.wit_digraph.specs.Walks.{UsesFirst, walk, first_of_each}
 use Rattle.wit_elaboration.proofs.Marking.{UsesFirst-at}
-use Rattle.wit_elaboration.specs.Closures.{IsOrder, RowTells, RowsTell}
+use Rattle.wit_elaboration.specs.steps.Closures.{IsOrder, RowTells, RowsTell}
 
 -- what is reached is there
 pub IsPath-below : (uses : List (List ℕ)) → IsAcyclic uses → (i : ℕ) (path : List ℕ) (j : ℕ) → i < length uses → IsPath uses i path j → j < length uses

@@ -5,10 +5,10 @@ use Rattle.std.proofs.Math.Nat.{pow-suc}
 use Rattle.std.proofs.lemmas.Bool.{cases_lt, cases_eq}
 use Rattle.std.proofs.lemmas.List.{get_or_past, take_more}
 use Rattle.std.proofs.lemmas.List.Elements.{Contains-push, Contains-append_left, Contains-append_cases}
-use Rattle.wit_digraph.specs.MemberFacts.{Contains-nil, Contains-cons_cases}
+use Rattle.wit_digraph.specs.facts.MemberFacts.{Contains-nil, Contains-cons_cases}
 use Rattle.std.proofs.lemmas.Nat.Bits.{bit_at_and, bit_at-lt, bit_at-zero, bit_at-suc, bit_at_lowest}
-use Rattle.wit_digraph.specs.Rows.{HasBit, bit_of}
-use Rattle.wit_elaboration.specs.Closures.{HaveCommonBit, column, HasColumnsOf}
+use Rattle.wit_digraph.specs.steps.Rows.{HasBit, bit_of}
+use Rattle.wit_elaboration.specs.steps.Closures.{HaveCommonBit, column, HasColumnsOf}
 
 -- a number that isn't 0 has a bit
 pub some_bit : (n w : ℕ) → w < 2 ^ n → w ≢ 0 → (k : ℕ) × (k < n) × (bit_at w k ≡ 1)

@@ -7,17 +7,17 @@ use Rattle.std.specs.Option.{option_to_list}
 use Rattle.std.proofs.lemmas.List.{append-nil, take_all, take_more}
 use Rattle.std.proofs.lemmas.List.Elements.{All-get_or, All-push}
 use Rattle.wit_data.specs.Each.{Each}
-use Rattle.wit_data.specs.EachFacts.{EachAt-cons, EachAt-nil}
+use Rattle.wit_data.specs.facts.EachFacts.{EachAt-cons, EachAt-nil}
 use Rattle.wit_data.specs.declared.types.TypeDef.{TypeDef}
 use Rattle.wit_data.specs.declared.world.WorldItem.{WorldItem}
 use Rattle.wit_data.specs.declared.world.WorldItem.TheVariants as item
 use Rattle.wit_data.specs.declared.world.WorldKey.{WorldKey}
 use Rattle.wit_data.specs.declared.world.WorldKey.TheVariants.{Name, Interface}
 use Rattle.wit_data.specs.contracts.world.WorldKeyPartialEq.TheImpl.{eq-value}
-use Rattle.wit_digraph.specs.MemberFacts.{Contains-nil, Contains-cons_cases}
+use Rattle.wit_digraph.specs.facts.MemberFacts.{Contains-nil, Contains-cons_cases}
 use Rattle.wit_digraph.specs.Relation.{IsAcyclic}
 use Rattle.wit_elaboration.specs.Elaborated.{dependency_of, elaborated_exports, elaborated_imports, export_carries, export_imports, export_walk, import_carries, import_steps, import_walk, settled_item}
-use Rattle.wit_elaboration.specs.ElaborationLaws.{DependenciesFirst, stands_on}
+use Rattle.wit_elaboration.specs.laws.ElaborationLaws.{DependenciesFirst, stands_on}
 use Rattle.wit_elaboration.specs.Entries.{Entry, Instance, by_class, fresh_entries, is_interface, item_interface, key_interface, role_of, same_key}
 use Rattle.wit_elaboration.specs.Imported.{HasConflict, exported_interfaces, is_exported}
 use Rattle.wit_elaboration.specs.Sound.{AreSound, IsRoleInRange, IsUnderOwnKey}

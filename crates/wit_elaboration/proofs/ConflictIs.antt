@@ -3,13 +3,13 @@ use Rattle.std.proofs.Common.{◌≡◌, ℕ, ◌<◌, ◌↔◌, inl, inr, List
 use Rattle.std.specs.List.{list_any}
 use Rattle.std.proofs.lemmas.Bool.{cases_Bool, false≢true}
 use Rattle.std.proofs.lemmas.List.Elements.{All-contains}
-use Rattle.wit_digraph.specs.FreshFacts.{fresh_all, fresh_in, contains_from_any, any_from_contains}
-use Rattle.wit_digraph.specs.MemberFacts.{Contains-flat_map, Contains-flat_map_cases}
-use Rattle.wit_digraph.specs.WalkFacts.{Contains-walk_end, UsesFirst-IsPath}
+use Rattle.wit_digraph.specs.facts.FreshFacts.{fresh_all, fresh_in, contains_from_any, any_from_contains}
+use Rattle.wit_digraph.specs.facts.MemberFacts.{Contains-flat_map, Contains-flat_map_cases}
+use Rattle.wit_digraph.specs.facts.WalkFacts.{Contains-walk_end, UsesFirst-IsPath}
 use Rattle.wit_digraph.specs.Relation.{direct, IsPath, Reaches, IsAcyclic}
 use Rattle.wit_digraph.specs.Walks.{UsesFirst, walk, first_of_each}
 use Rattle.wit_elaboration.specs.Elaborated.{needs}
-use Rattle.wit_elaboration.specs.Elaborating.{AreMarked, AreOutside, HasMarkedUse, TellsExported}
+use Rattle.wit_elaboration.specs.steps.Elaborating.{AreMarked, AreOutside, HasMarkedUse, TellsExported}
 use Rattle.wit_elaboration.specs.Entries.{Entry, Instance, item_interface}
 use Rattle.wit_elaboration.specs.Imported.{HasConflict, LeadsToConflict, IsInConflict, exported_keys, exported_interfaces}
 use Rattle.wit_elaboration.proofs.ExportSteps.{all_needs}

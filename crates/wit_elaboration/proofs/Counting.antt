@@ -4,8 +4,8 @@ use Rattle.std.specs.List.{list_any, sum_by}
 use Rattle.std.proofs.lemmas.Bool.{cases_eq, cases_Bool, false≢true, cond-true, cond-false}
 use Rattle.std.proofs.lemmas.List.Elements.{Contains-append_cases, Contains-append_left, Contains-push}
 use Rattle.std.proofs.lemmas.List.Sums.{sum_by-cons}
-use Rattle.wit_digraph.specs.MemberFacts.{Contains-nil, Contains-cons_cases}
-use Rattle.wit_digraph.specs.FreshFacts.{any_from_contains, contains_from_any, no_any_from}
+use Rattle.wit_digraph.specs.facts.MemberFacts.{Contains-nil, Contains-cons_cases}
+use Rattle.wit_digraph.specs.facts.FreshFacts.{any_from_contains, contains_from_any, no_any_from}
 use Rattle.wit_digraph.specs.Relation.{direct}
 
 -- how many uses the nodes from `at` on have that are done

@@ -11,12 +11,12 @@ use Rattle.wit_data.specs.declared.world.WorldItem.TheVariants as item
 use Rattle.wit_data.specs.declared.world.WorldKey.{WorldKey}
 use Rattle.wit_data.specs.declared.world.WorldKey.TheVariants.{Interface}
 use Rattle.wit_data.specs.contracts.world.WorldKeyPartialEq.TheImpl.{eq-value}
-use Rattle.wit_digraph.specs.FreshFacts.{any_from_contains, contains_from_any}
-use Rattle.wit_digraph.specs.MemberFacts.{Contains-nil, Contains-here, Contains-there, Contains-cons_cases, Contains-flat_map, Contains-flat_map_cases, flat_map-same}
+use Rattle.wit_digraph.specs.facts.FreshFacts.{any_from_contains, contains_from_any}
+use Rattle.wit_digraph.specs.facts.MemberFacts.{Contains-nil, Contains-here, Contains-there, Contains-cons_cases, Contains-flat_map, Contains-flat_map_cases, flat_map-same}
 use Rattle.wit_digraph.specs.Relation.{IsAcyclic}
 use Rattle.wit_digraph.specs.Walks.{Listed}
 use Rattle.wit_elaboration.specs.Elaborated.{dependency_of, needs, export_carries, import_walk, import_steps, export_imports, export_walk, elaborated_imports, elaborated_exports}
-use Rattle.wit_elaboration.specs.Elaborating.{TellsExported, is_listed, walked_exports, walked_imports}
+use Rattle.wit_elaboration.specs.steps.Elaborating.{TellsExported, is_listed, walked_exports, walked_imports}
 use Rattle.wit_elaboration.specs.Entries.{Entry, Instance, role_of, item_interface, key_interface, is_instance, is_interface, same_key, by_class, fresh_entries}
 use Rattle.wit_elaboration.specs.Imported.{HasConflict, exported_keys, exported_interfaces, is_exported}
 use Rattle.wit_elaboration.specs.Sound.{IsRoleInRange}

@@ -6,11 +6,11 @@ use Rattle.std.proofs.lemmas.List.Elements.{Contains-append_cases, Contains-appe
 use Rattle.wit_data.specs.declared.types.TypeDef.{TypeDef}
 use Rattle.wit_data.specs.declared.world.World.{World}
 use Rattle.wit_data.specs.declared.world.WorldKey.{WorldKey}
-use Rattle.wit_digraph.specs.MemberFacts.{Contains-nil, Contains-here, Contains-there, Contains-cons_cases, Contains-flat_map}
+use Rattle.wit_digraph.specs.facts.MemberFacts.{Contains-nil, Contains-here, Contains-there, Contains-cons_cases, Contains-flat_map}
 use Rattle.wit_digraph.specs.Relation.{IsAcyclic}
 use Rattle.wit_elaboration.specs.Entries.{Entry, is_interface, fresh_entries}
 use Rattle.wit_elaboration.specs.Elaborated.{entry_walk, export_carries, elaborated_imports, elaborated_exports}
-use Rattle.wit_elaboration.specs.KeptByElaboration.{ElaboratedOnce, ExportKeysStay}
+use Rattle.wit_elaboration.specs.laws.KeptByElaboration.{ElaboratedOnce, ExportKeysStay}
 use Rattle.wit_values.specs.Table.{HasDistinctKeys}
 use Rattle.wit_elaboration.proofs.Classes.{by_class-new}
 use Rattle.wit_elaboration.proofs.ExportedUses.{exported_entry}

@@ -7,9 +7,9 @@ use Rattle.wit_data.specs.declared.world.WorldItem.{WorldItem}
 use Rattle.wit_data.specs.declared.world.WorldItem.TheVariants as item
 use Rattle.wit_data.specs.declared.world.WorldKey.{WorldKey}
 use Rattle.wit_data.specs.declared.world.WorldKey.TheVariants.{Name, Interface}
-use Rattle.wit_digraph.specs.FreshFacts.{any_from_contains, no_any_from}
-use Rattle.wit_digraph.specs.MemberFacts.{Contains-nil, Contains-here, Contains-cons_cases, Contains-flat_map, Contains-flat_map_cases}
-use Rattle.wit_digraph.specs.WalkFacts.{Reaches-from_walk, walk-from_IsPath}
+use Rattle.wit_digraph.specs.facts.FreshFacts.{any_from_contains, no_any_from}
+use Rattle.wit_digraph.specs.facts.MemberFacts.{Contains-nil, Contains-here, Contains-cons_cases, Contains-flat_map, Contains-flat_map_cases}
+use Rattle.wit_digraph.specs.facts.WalkFacts.{Reaches-from_walk, walk-from_IsPath}
 use Rattle.wit_digraph.specs.Relation.{direct, IsPath, Reaches, IsAcyclic}
 use Rattle.wit_digraph.specs.Walks.{walk}
 use Rattle.wit_elaboration.specs.Entries.{Entry, Role, Instance, TypeUse, TypeDefinition, FreeFunction, ResourceFunction, role_of, item_interface, key_interface, keyed_interfaces, by_class}

@@ -13,8 +13,8 @@ use Rattle.wit_data.specs.declared.world.World.{World}
 use Rattle.wit_elaboration.proofs.EachLemmas.{EachAt-nil, EachAt-one, EachAt-two, HasDistinctKeys-nil, HasDistinctKeys-one, HasDistinctKeys-two, differ_by_test, none_in}
 use Rattle.wit_elaboration.specs.Elaborated.{Elaborated, import_steps, import_steps_within}
 use Rattle.wit_elaboration.specs.Entries.{keyed_interfaces}
-use Rattle.wit_elaboration.specs.Examples.{ExamplesOfValidity, empty_graph}
-use Rattle.wit_graph_data.specs.Samples.{entry_of, foo_bar, foo_bar_of, interface_of, labelled_entry, sample, sample_interfaces, sample_types, world_of}
+use Rattle.wit_elaboration.specs.examples.Examples.{ExamplesOfValidity, empty_graph}
+use Rattle.wit_graph_data.specs.examples.Samples.{entry_of, foo_bar, foo_bar_of, interface_of, labelled_entry, sample, sample_interfaces, sample_types, world_of}
 use Rattle.wit_elaboration.specs.Valid.{HasKebabNames, HasOwners, HasReferences, HasTables, HasWorlds, IsValid}
 
 -- ---- relations without cycles

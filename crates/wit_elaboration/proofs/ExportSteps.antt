@@ -2,8 +2,8 @@
 use Rattle.std.proofs.Common.{◌≡◌, ℕ, List, [], ◌∷◌, ◌++◌, Option, Some, None, slice_get, refl, ◌∙◌, ap, sym, subst, append_assoc, Contains}
 use Rattle.std.specs.List.{flat_map}
 use Rattle.std.specs.Option.{option_to_list}
-use Rattle.wit_digraph.specs.FreshFacts.{fresh-append}
-use Rattle.wit_digraph.specs.MemberFacts.{Contains-here, Contains-flat_map}
+use Rattle.wit_digraph.specs.facts.FreshFacts.{fresh-append}
+use Rattle.wit_digraph.specs.facts.MemberFacts.{Contains-here, Contains-flat_map}
 use Rattle.wit_digraph.specs.Walks.{fresh}
 use Rattle.wit_elaboration.specs.Elaborated.{needs}
 use Rattle.wit_elaboration.specs.Entries.{Entry, Instance, item_interface}

@@ -8,10 +8,10 @@ use Rattle.std.proofs.lemmas.List.Elements.{Contains-append_cases}
 use Rattle.wit_data.specs.declared.world.WorldItem.{WorldItem}
 use Rattle.wit_data.specs.declared.world.WorldItem.TheVariants as item
 use Rattle.wit_data.specs.declared.world.WorldKey.TheVariants.{Interface}
-use Rattle.wit_digraph.specs.FreshFacts.{fresh_in}
+use Rattle.wit_digraph.specs.facts.FreshFacts.{fresh_in}
 use Rattle.wit_digraph.specs.Walks.{Listed, fresh}
 use Rattle.wit_elaboration.specs.Elaborated.{Carried, dependency_of, export_carries, needs}
-use Rattle.wit_elaboration.specs.Elaborating.{IsWalk, IsExporting, walked_exports, walked_imports}
+use Rattle.wit_elaboration.specs.steps.Elaborating.{IsWalk, IsExporting, walked_exports, walked_imports}
 use Rattle.wit_elaboration.specs.Entries.{Entry, Instance, item_interface, is_instance, fresh_entries}
 use Rattle.wit_elaboration.proofs.Filters.{Contains-filtered}
 use Rattle.wit_elaboration.proofs.FreshEntries.{fresh_entries-next, fresh_entries-filter, dependency_added, key_stays}

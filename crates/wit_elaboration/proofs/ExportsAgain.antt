@@ -5,7 +5,7 @@ use Rattle.std.proofs.lemmas.List.{append-nil, length-map}
 use Rattle.std.proofs.lemmas.Bool.{cases_Bool, false≢true, false_from_ne_true}
 use Rattle.std.proofs.lemmas.List.Elements.{Contains-append_cases, Contains-append_right, filter-append}
 use Rattle.wit_data.specs.declared.types.TypeDef.{TypeDef}
-use Rattle.wit_digraph.specs.MemberFacts.{Contains-nil, Contains-here, Contains-cons_cases, Contains-flat_map, Contains-flat_map_cases}
+use Rattle.wit_digraph.specs.facts.MemberFacts.{Contains-nil, Contains-here, Contains-cons_cases, Contains-flat_map, Contains-flat_map_cases}
 use Rattle.wit_digraph.specs.Relation.{IsAcyclic}
 use Rattle.wit_elaboration.specs.Entries.{Entry, Role, Instance, role_of, is_interface, fresh_entries}
 use Rattle.wit_elaboration.specs.Elaborated.{Carried, dependency_of, needs, entry_walk, export_carries, exported_uses, elaborated_exports}

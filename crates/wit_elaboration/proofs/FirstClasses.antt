@@ -10,7 +10,7 @@ use Rattle.std.proofs.lemmas.List.Elements.{Contains-append_cases}
 use Rattle.wit_data.specs.declared.types.TypeDef.{TypeDef}
 use Rattle.wit_data.specs.declared.world.WorldKey.{WorldKey}
 use Rattle.wit_data.specs.contracts.world.WorldKeyPartialEq.TheImpl.{eq-value}
-use Rattle.wit_digraph.specs.MemberFacts.{Contains-nil, Contains-cons_cases, Contains-here, Contains-there}
+use Rattle.wit_digraph.specs.facts.MemberFacts.{Contains-nil, Contains-cons_cases, Contains-here, Contains-there}
 use Rattle.wit_elaboration.specs.Entries.{Entry, same_key, role_of, class_of, of_class, by_class, fresh_entries}
 use Rattle.wit_elaboration.proofs.Classes.{by_class-new}
 use Rattle.wit_elaboration.proofs.Filters.{filter-pass}

@@ -1,8 +1,8 @@
 -- The first export that is in conflict.
 use Rattle.std.proofs.Common.{◌≡◌, ℕ, ◌↔◌, inl, inr, List, [], ◌∷◌, take, Some, slice_get, sym, ap, ◌∙◌, subst, Contains}
-use Rattle.wit_digraph.specs.MemberFacts.{Contains-nil, Contains-here, Contains-cons_cases}
+use Rattle.wit_digraph.specs.facts.MemberFacts.{Contains-nil, Contains-here, Contains-cons_cases}
 use Rattle.wit_digraph.specs.Relation.{direct}
-use Rattle.wit_elaboration.specs.Elaborating.{HasMarkedUse, IsFirstConflict}
+use Rattle.wit_elaboration.specs.steps.Elaborating.{HasMarkedUse, IsFirstConflict}
 use Rattle.wit_elaboration.specs.Entries.{Entry, item_interface}
 use Rattle.wit_elaboration.specs.Imported.{IsInConflict, LeadsToConflict}
 use Rattle.wit_elaboration.proofs.Marking.{contains_at}

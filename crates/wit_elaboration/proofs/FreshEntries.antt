@@ -11,8 +11,8 @@ use Rattle.std.proofs.lemmas.Map.Views.{Contains-from_any}
 use Rattle.std.proofs.lemmas.Slice.Eq.{bytes_eq-Decides}
 use Rattle.wit_data.specs.declared.world.WorldKey.{WorldKey}
 use Rattle.wit_data.specs.declared.world.WorldKey.TheVariants.{Name, Interface}
-use Rattle.wit_digraph.specs.MemberFacts.{Contains-nil, Contains-here, Contains-there, Contains-cons_cases, Contains-flat_map_cases}
-use Rattle.wit_digraph.specs.FreshFacts.{fresh-seen, fresh-new, contains_from_any}
+use Rattle.wit_digraph.specs.facts.MemberFacts.{Contains-nil, Contains-here, Contains-there, Contains-cons_cases, Contains-flat_map_cases}
+use Rattle.wit_digraph.specs.facts.FreshFacts.{fresh-seen, fresh-new, contains_from_any}
 use Rattle.wit_digraph.specs.Walks.{fresh}
 use Rattle.wit_elaboration.specs.Entries.{Entry, same_key, key_interface, keyed_interfaces, fresh_entries}
 use Rattle.wit_elaboration.specs.Elaborated.{Carried, dependency_of}

@@ -6,12 +6,12 @@ use Rattle.wit_data.specs.declared.types.TypeDef.{TypeDef}
 use Rattle.wit_data.specs.declared.world.WorldItem.{WorldItem}
 use Rattle.wit_data.specs.declared.world.WorldItem.TheVariants as item
 use Rattle.wit_data.specs.declared.world.World.{World}
-use Rattle.wit_digraph.specs.MemberFacts.{Contains-nil, Contains-cons_cases, Contains-flat_map_cases, flat_map-same}
+use Rattle.wit_digraph.specs.facts.MemberFacts.{Contains-nil, Contains-cons_cases, Contains-flat_map_cases, flat_map-same}
 use Rattle.wit_digraph.specs.Relation.{direct, IsAcyclic}
 use Rattle.wit_elaboration.specs.Entries.{Entry, role_of, item_interface, is_instance, is_interface, class_of, of_class, by_class, fresh_entries}
 use Rattle.wit_elaboration.specs.Elaborated.{Carried, dependency_of, needs, import_carries, export_carries, settled_item, import_walk, export_imports, export_walk, import_steps, exported_uses, elaborated_imports, elaborated_exports}
 use Rattle.wit_elaboration.specs.Imported.{Needed, HasConflict, is_exported}
-use Rattle.wit_elaboration.specs.KeptByElaboration.{ElaborationIsLocal, SameRoles, SameCarried}
+use Rattle.wit_elaboration.specs.laws.KeptByElaboration.{ElaborationIsLocal, SameRoles, SameCarried}
 use Rattle.wit_elaboration.proofs.Classes.{by_class_in}
 use Rattle.wit_elaboration.proofs.Exact.{instance_below}
 use Rattle.wit_elaboration.proofs.Filters.{Contains-filter, filter-same}

@@ -3,8 +3,8 @@ use Rattle.std.proofs.Common.{◌≡◌, ℕ, zero, suc, ◌<◌, Bool, cond, Li
 use Rattle.std.specs.List.{flat_map}
 use Rattle.std.proofs.lemmas.List.{length-map, map-append}
 use Rattle.std.proofs.lemmas.List.Elements.{All-contains}
-use Rattle.wit_digraph.specs.MemberFacts.{flat_map-same}
-use Rattle.wit_digraph.specs.WalkFacts.{uses_ind, walk_is}
+use Rattle.wit_digraph.specs.facts.MemberFacts.{flat_map-same}
+use Rattle.wit_digraph.specs.facts.WalkFacts.{uses_ind, walk_is}
 use Rattle.wit_digraph.specs.Relation.{direct, IsPath, IsAcyclic}
 use Rattle.wit_digraph.specs.Walks.{walk}
 use Rattle.wit_elaboration.specs.Elaborated.{needs, import_steps, exported_uses}

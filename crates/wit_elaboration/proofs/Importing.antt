@@ -7,10 +7,10 @@ use Rattle.std.proofs.lemmas.List.Concat.{flat_map-append}
 use Rattle.std.proofs.lemmas.List.Elements.{Contains-append_cases}
 use Rattle.wit_data.specs.declared.types.TypeDef.{TypeDef}
 use Rattle.wit_data.specs.declared.world.WorldKey.TheVariants.{Interface}
-use Rattle.wit_digraph.specs.FreshFacts.{fresh-append, fresh_in}
+use Rattle.wit_digraph.specs.facts.FreshFacts.{fresh-append, fresh_in}
 use Rattle.wit_digraph.specs.Walks.{Listed, fresh, walk}
 use Rattle.wit_elaboration.specs.Elaborated.{Carried, dependency_of, import_carries, needs, settled_item, import_walk}
-use Rattle.wit_elaboration.specs.Elaborating.{IsWalk, IsImporting}
+use Rattle.wit_elaboration.specs.steps.Elaborating.{IsWalk, IsImporting}
 use Rattle.wit_elaboration.specs.Entries.{Entry, role_of, fresh_entries}
 use Rattle.wit_elaboration.proofs.FreshEntries.{fresh_entries-next, fresh_entries-fresh, dependency_added, key_stays}
 

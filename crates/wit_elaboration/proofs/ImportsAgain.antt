@@ -6,13 +6,13 @@ use Rattle.std.proofs.lemmas.List.{append-nil}
 use Rattle.std.proofs.lemmas.List.Elements.{Contains-append_cases, Contains-append_right}
 use Rattle.wit_data.specs.declared.types.TypeDef.{TypeDef}
 use Rattle.wit_data.specs.declared.world.WorldKey.TheVariants.{Interface}
-use Rattle.wit_digraph.specs.FreshFacts.{any_from_contains, contains_from_any}
-use Rattle.wit_digraph.specs.MemberFacts.{Contains-nil, Contains-here, Contains-there, Contains-cons_cases, Contains-flat_map, Contains-flat_map_cases}
+use Rattle.wit_digraph.specs.facts.FreshFacts.{any_from_contains, contains_from_any}
+use Rattle.wit_digraph.specs.facts.MemberFacts.{Contains-nil, Contains-here, Contains-there, Contains-cons_cases, Contains-flat_map, Contains-flat_map_cases}
 use Rattle.wit_digraph.specs.Relation.{IsAcyclic}
 use Rattle.wit_digraph.specs.Walks.{UsesFirst}
 use Rattle.wit_elaboration.specs.Entries.{Entry, Instance, role_of, item_interface, is_interface, keyed_interfaces, same_key, by_class, fresh_entries}
 use Rattle.wit_elaboration.specs.Elaborated.{Carried, dependency_of, needs, import_carries, export_carries, settled_item, import_walk, import_steps, export_imports, elaborated_imports, elaborated_exports}
-use Rattle.wit_elaboration.specs.ElaborationLaws.{DependenciesFirst}
+use Rattle.wit_elaboration.specs.laws.ElaborationLaws.{DependenciesFirst}
 use Rattle.wit_elaboration.specs.Imported.{HasConflict, exported_keys, is_exported}
 use Rattle.wit_elaboration.specs.Sound.{IsRoleInRange}
 use Rattle.wit_elaboration.proofs.Absorbed.{absorbed}

@@ -7,12 +7,12 @@ use Rattle.std.proofs.lemmas.List.Elements.{Contains-append_cases, Contains-appe
 use Rattle.wit_data.specs.declared.types.TypeDef.{TypeDef}
 use Rattle.wit_data.specs.declared.world.World.{World}
 use Rattle.wit_data.specs.declared.world.WorldKey.{WorldKey}
-use Rattle.wit_digraph.specs.MemberFacts.{Contains-nil, Contains-cons_cases, Contains-flat_map_cases, flat_map-same}
+use Rattle.wit_digraph.specs.facts.MemberFacts.{Contains-nil, Contains-cons_cases, Contains-flat_map_cases, flat_map-same}
 use Rattle.wit_digraph.specs.Relation.{IsAcyclic}
 use Rattle.wit_elaboration.specs.Entries.{Entry, role_of, same_key, class_of, of_class, by_class, fresh_entries}
 use Rattle.wit_elaboration.specs.Elaborated.{dependency_of, needs, import_carries, import_walk, export_imports, elaborated_imports}
 use Rattle.wit_elaboration.specs.Imported.{is_exported}
-use Rattle.wit_elaboration.specs.KeptByElaboration.{LabelsStay, is_label, labelled, settled}
+use Rattle.wit_elaboration.specs.laws.KeptByElaboration.{LabelsStay, is_label, labelled, settled}
 use Rattle.wit_elaboration.proofs.Classes.{by_class-new, by_class-by_class}
 use Rattle.wit_elaboration.proofs.ElaboratedKeys.{distinct-AllNew}
 use Rattle.wit_elaboration.proofs.Filters.{filter-pass, filter-fail, filter-none, filter-flat_map}

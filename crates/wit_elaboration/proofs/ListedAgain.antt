@@ -7,11 +7,11 @@ use Rattle.wit_data.specs.declared.world.World.{World}
 use Rattle.wit_data.specs.declared.world.WorldItem.{WorldItem}
 use Rattle.wit_data.specs.declared.world.WorldKey.{WorldKey}
 use Rattle.wit_data.specs.declared.world.WorldKey.TheVariants.{Name, Interface}
-use Rattle.wit_digraph.specs.MemberFacts.{Contains-here, Contains-there}
+use Rattle.wit_digraph.specs.facts.MemberFacts.{Contains-here, Contains-there}
 use Rattle.wit_digraph.specs.Relation.{IsAcyclic}
 use Rattle.wit_elaboration.specs.Entries.{Entry, Instance, role_of, is_interface, by_class}
 use Rattle.wit_elaboration.specs.Elaborated.{elaborated_imports, elaborated_exports}
-use Rattle.wit_elaboration.specs.KeptByElaboration.{ListedStays}
+use Rattle.wit_elaboration.specs.laws.KeptByElaboration.{ListedStays}
 use Rattle.wit_elaboration.specs.Sound.{AreSound, IsRoleInRange, IsUnderOwnKey}
 use Rattle.wit_elaboration.proofs.Classes.{by_class_in}
 use Rattle.wit_elaboration.proofs.ExportsAgain.{functions, kept, kept_own, kept_range}

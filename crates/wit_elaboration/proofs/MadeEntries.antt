@@ -4,15 +4,15 @@ use Rattle.std.proofs.lemmas.Bool.{cond_both}
 use Rattle.std.proofs.lemmas.List.Elements.{Contains-append_cases, All-contains}
 use Rattle.wit_data.specs.declared.types.TypeDef.{TypeDef}
 use Rattle.wit_data.specs.declared.world.World.{World}
-use Rattle.wit_digraph.specs.FreshFacts.{contains_from_any}
-use Rattle.wit_digraph.specs.MemberFacts.{Contains-nil, Contains-here, Contains-cons_cases, Contains-flat_map, Contains-flat_map_cases}
-use Rattle.wit_digraph.specs.WalkFacts.{Reaches-from_walk}
+use Rattle.wit_digraph.specs.facts.FreshFacts.{contains_from_any}
+use Rattle.wit_digraph.specs.facts.MemberFacts.{Contains-nil, Contains-here, Contains-cons_cases, Contains-flat_map, Contains-flat_map_cases}
+use Rattle.wit_digraph.specs.facts.WalkFacts.{Reaches-from_walk}
 use Rattle.wit_digraph.specs.Relation.{direct, IsPath, IsAcyclic}
 use Rattle.wit_digraph.specs.Walks.{walk}
 use Rattle.wit_elaboration.specs.Entries.{Entry, Role, Instance, TypeUse, TypeDefinition, FreeFunction, ResourceFunction, role_of, is_interface, key_interface, by_class}
 use Rattle.wit_elaboration.specs.Elaborated.{dependency_of, needs, import_carries, export_carries, settled_item, import_walk, import_steps_within, import_steps, export_imports, elaborated_imports, elaborated_exports}
 use Rattle.wit_elaboration.specs.Imported.{IsImported, exported_keys, is_exported}
-use Rattle.wit_elaboration.specs.KeptByElaboration.{ElaboratedEntries, IsSettled, IsMadeImport, IsMadeExport}
+use Rattle.wit_elaboration.specs.laws.KeptByElaboration.{ElaboratedEntries, IsSettled, IsMadeImport, IsMadeExport}
 use Rattle.wit_elaboration.specs.Sound.{IsRoleInRange}
 use Rattle.wit_elaboration.proofs.Classes.{by_class_in}
 use Rattle.wit_elaboration.proofs.Exact.{exact_to}

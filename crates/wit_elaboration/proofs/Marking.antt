@@ -2,12 +2,12 @@
 use Rattle.std.proofs.Common.{◌≡◌, ℕ, zero, suc, ◌+◌, ◌<◌, ◌≤◌, ◌⊎◌, inl, inr, List, [], ◌∷◌, ◌++◌, take, get_or, length, Some, slice_get, append_assoc, refl, sym, subst, arith, Contains}
 use Rattle.std.proofs.lemmas.List.{append-nil, take_more, take_all}
 use Rattle.std.proofs.lemmas.List.Elements.{Contains-append_cases, Contains-append_left, Contains-append_right, All-contains}
-use Rattle.wit_values.specs.Lists.{take-next_at}
-use Rattle.wit_digraph.specs.FreshFacts.{fresh_in, fresh_all}
-use Rattle.wit_digraph.specs.MemberFacts.{Contains-nil, Contains-here, Contains-there, Contains-cons_cases}
+use Rattle.wit_values.specs.facts.Lists.{take-next_at}
+use Rattle.wit_digraph.specs.facts.FreshFacts.{fresh_in, fresh_all}
+use Rattle.wit_digraph.specs.facts.MemberFacts.{Contains-nil, Contains-here, Contains-there, Contains-cons_cases}
 use Rattle.wit_digraph.specs.Relation.{direct, IsPath}
 use Rattle.wit_digraph.specs.Walks.{UsesFirst, fresh}
-use Rattle.wit_elaboration.specs.Elaborating.{ReachesOneOf, AreMarked, AreOutside, HasMarkedUse}
+use Rattle.wit_elaboration.specs.steps.Elaborating.{ReachesOneOf, AreMarked, AreOutside, HasMarkedUse}
 
 -- what stands at a place is a member
 pub contains_at : {X : Type 0} (xs : List X) (i : ℕ) (x : X) → slice_get xs i ≡ Some x → Contains xs x

@@ -1,10 +1,10 @@
 -- What columns tell of a conflict.
 use Rattle.std.proofs.Common.{◌≡◌, ◌<◌, ℕ, inl, inr, List, [], ◌∷◌, length, refl, sym, subst, Contains}
 use Rattle.std.proofs.lemmas.List.Elements.{All-contains}
-use Rattle.wit_digraph.specs.MemberFacts.{Contains-nil, Contains-cons_cases, Contains-flat_map_cases}
+use Rattle.wit_digraph.specs.facts.MemberFacts.{Contains-nil, Contains-cons_cases, Contains-flat_map_cases}
 use Rattle.wit_digraph.specs.Relation.{direct, IsAcyclic}
-use Rattle.wit_elaboration.specs.Closures.{HasColumnsOf, MayNeed, RowsTell, column}
-use Rattle.wit_elaboration.specs.Elaborating.{TellsExported}
+use Rattle.wit_elaboration.specs.steps.Closures.{HasColumnsOf, MayNeed, RowsTell, column}
+use Rattle.wit_elaboration.specs.steps.Elaborating.{TellsExported}
 use Rattle.wit_elaboration.specs.Entries.{Entry, item_interface}
 use Rattle.wit_elaboration.specs.Imported.{HasConflict}
 

@@ -4,9 +4,9 @@ use Rattle.std.specs.List.{flat_map}
 use Rattle.std.proofs.lemmas.List.{append-nil, length-map}
 use Rattle.std.proofs.lemmas.Bool.{cases_Bool, false≢true, cond-true, cond-false, false_from_ne_true}
 use Rattle.std.proofs.lemmas.List.Elements.{All-contains, filter-append}
-use Rattle.wit_digraph.specs.FreshFacts.{any_from_contains, contains_from_any}
-use Rattle.wit_digraph.specs.MemberFacts.{flat_map-same}
-use Rattle.wit_digraph.specs.WalkFacts.{uses_ind, walk_is, Reaches-from_walk}
+use Rattle.wit_digraph.specs.facts.FreshFacts.{any_from_contains, contains_from_any}
+use Rattle.wit_digraph.specs.facts.MemberFacts.{flat_map-same}
+use Rattle.wit_digraph.specs.facts.WalkFacts.{uses_ind, walk_is, Reaches-from_walk}
 use Rattle.wit_digraph.specs.Relation.{direct, IsAcyclic}
 use Rattle.wit_digraph.specs.Walks.{walk}
 use Rattle.wit_elaboration.specs.Elaborated.{needs, import_steps, exported_uses}

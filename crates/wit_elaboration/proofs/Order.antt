@@ -9,13 +9,13 @@ use Rattle.wit_data.specs.declared.types.TypeDef.{TypeDef}
 use Rattle.wit_data.specs.declared.world.WorldItem.{WorldItem}
 use Rattle.wit_data.specs.declared.world.WorldKey.{WorldKey}
 use Rattle.wit_data.specs.declared.world.WorldKey.TheVariants.{Interface}
-use Rattle.wit_digraph.specs.MemberFacts.{Contains-nil, Contains-here, Contains-there, Contains-cons_cases, Contains-flat_map}
-use Rattle.wit_digraph.specs.WalkFacts.{UsesFirst-walk, UsesFirst-flat_map, Contains-walk_end}
+use Rattle.wit_digraph.specs.facts.MemberFacts.{Contains-nil, Contains-here, Contains-there, Contains-cons_cases, Contains-flat_map}
+use Rattle.wit_digraph.specs.facts.WalkFacts.{UsesFirst-walk, UsesFirst-flat_map, Contains-walk_end}
 use Rattle.wit_digraph.specs.Relation.{direct, IsAcyclic}
 use Rattle.wit_digraph.specs.Walks.{UsesFirst, walk}
 use Rattle.wit_elaboration.specs.Entries.{Entry, Role, Instance, TypeUse, TypeDefinition, FreeFunction, ResourceFunction, role_of, same_key, key_interface, keyed_interfaces, fresh_entries}
 use Rattle.wit_elaboration.specs.Elaborated.{Carried, dependency_of, needs, entry_walk}
-use Rattle.wit_elaboration.specs.ElaborationLaws.{stands_on, DependenciesFirst}
+use Rattle.wit_elaboration.specs.laws.ElaborationLaws.{stands_on, DependenciesFirst}
 use Rattle.wit_elaboration.specs.Sound.{IsRoleInRange}
 use Rattle.wit_elaboration.proofs.FreshEntries.{interfaces_of_keys, keyed_interfaces-map, contains_from_known, fresh_entries-known, fresh_entries-new}
 

@@ -6,7 +6,7 @@ use Rattle.wit_digraph.specs.Relation.{IsPath}
 use Rattle.wit_digraph.specs.Walks.{walk, walk_within}
 use Rattle.wit_data.specs.Each.{SomeAt}
 use Rattle.wit_data.specs.declared.types.TypeDef.{TypeDef}
-use Rattle.wit_elaboration.specs.Examples.{ExamplesOfQuestions, value_types}
+use Rattle.wit_elaboration.specs.examples.Examples.{ExamplesOfQuestions, value_types}
 use Rattle.wit_graph_data.specs.Questions.{has_fixed_parts, held_rows}
 
 -- nothing but type 3 is reached from it

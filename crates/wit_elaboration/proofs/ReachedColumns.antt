@@ -7,11 +7,11 @@ use Rattle.std.proofs.lemmas.Bool.{cases_lt, cases_eq}
 use Rattle.std.proofs.lemmas.List.{get_or_past}
 use Rattle.std.proofs.lemmas.Nat.Bits.{bit_at_or, bit_at-lt, bit_at-zero}
 use Rattle.std.proofs.lemmas.List.Elements.{Contains-push, Contains-append_left, Contains-append_cases}
-use Rattle.wit_digraph.specs.MemberFacts.{Contains-nil, Contains-cons_cases}
+use Rattle.wit_digraph.specs.facts.MemberFacts.{Contains-nil, Contains-cons_cases}
 use Rattle.wit_digraph.specs.Relation.{direct, IsPath, Reaches}
-use Rattle.wit_digraph.specs.Rows.{bit_of, HasBit}
-use Rattle.wit_digraph.specs.BitFacts.{bit_of-zero, no_bits}
-use Rattle.wit_elaboration.specs.Closures.{column, ReachesColumn, RowTells}
+use Rattle.wit_digraph.specs.steps.Rows.{bit_of, HasBit}
+use Rattle.wit_digraph.specs.facts.BitFacts.{bit_of-zero, no_bits}
+use Rattle.wit_elaboration.specs.steps.Closures.{column, ReachesColumn, RowTells}
 
 -- a row whose words are zeros up to its end
 pub cleared : (row : List ℕ) → ((k : ℕ) → k < length row → get_or row k 0 ≡ 0) → (i : ℕ) → bit_of row i ≡ 0

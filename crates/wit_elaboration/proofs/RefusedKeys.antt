@@ -5,13 +5,13 @@ use Rattle.std.proofs.lemmas.Bool.{and_parts, cases_Bool, false≢true, or_cases
 use Rattle.std.proofs.lemmas.List.Elements.{All-contains, Contains-append_right}
 use Rattle.std.proofs.lemmas.List.Folds.{list_any_at}
 use Rattle.wit_data.specs.declared.world.WorldKey.{WorldKey}
-use Rattle.wit_digraph.specs.FreshFacts.{any_from_contains, contains_from_any, no_any_from}
-use Rattle.wit_digraph.specs.MemberFacts.{Contains-nil, Contains-here, Contains-there, Contains-cons_cases}
-use Rattle.wit_digraph.specs.WalkFacts.{Reaches-from_walk, walk-from_IsPath}
+use Rattle.wit_digraph.specs.facts.FreshFacts.{any_from_contains, contains_from_any, no_any_from}
+use Rattle.wit_digraph.specs.facts.MemberFacts.{Contains-nil, Contains-here, Contains-there, Contains-cons_cases}
+use Rattle.wit_digraph.specs.facts.WalkFacts.{Reaches-from_walk, walk-from_IsPath}
 use Rattle.wit_digraph.specs.Relation.{direct, IsAcyclic}
 use Rattle.wit_digraph.specs.Walks.{walk}
 use Rattle.wit_elaboration.specs.Entries.{Entry, item_interface}
-use Rattle.wit_elaboration.specs.ElaborationLaws.{ConflictsAreRefused}
+use Rattle.wit_elaboration.specs.laws.ElaborationLaws.{ConflictsAreRefused}
 use Rattle.wit_elaboration.specs.Imported.{IsInConflict, IsRefusedKey, exported_keys, is_exported}
 use Rattle.wit_elaboration.proofs.ConflictIs.{conflict_found, conflict_from}
 use Rattle.wit_elaboration.proofs.ElaboratedIs.{own_keys}

@@ -6,7 +6,7 @@ use Rattle.wit_data.specs.Uses.{type_interface_dep}
 use Rattle.wit_data.specs.declared.types.TypeDef.{TypeDef}
 use Rattle.wit_data.specs.declared.world.WorldItem.{WorldItem}
 use Rattle.wit_data.specs.declared.world.WorldItem.TheVariants as item
-use Rattle.wit_digraph.specs.MemberFacts.{Contains-nil, Contains-cons_cases}
+use Rattle.wit_digraph.specs.facts.MemberFacts.{Contains-nil, Contains-cons_cases}
 use Rattle.wit_elaboration.specs.Entries.{Entry, Instance, type_role, function_role, role_of, item_interface, is_instance, class_of}
 use Rattle.wit_elaboration.specs.Elaborated.{settled_item}
 use Rattle.wit_elaboration.specs.Sound.{IsUnderOwnKey, IsRoleInRange, HasSoundEntries}

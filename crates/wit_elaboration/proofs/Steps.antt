@@ -3,8 +3,8 @@ use Rattle.std.proofs.Common.{◌≡◌, ℕ, zero, suc, ◌<◌, Bool, cond, Li
 use Rattle.std.specs.List.{flat_map}
 use Rattle.std.proofs.lemmas.Bool.{cond_both}
 use Rattle.std.proofs.lemmas.List.Elements.{All-contains}
-use Rattle.wit_digraph.specs.MemberFacts.{Contains-nil, Contains-here, Contains-there, Contains-flat_map_cases, flat_map-same}
-use Rattle.wit_digraph.specs.WalkFacts.{HasShortPaths, IsAcyclic-short, Reaches-from_walk, UsesFirst-append, UsesFirst-walk}
+use Rattle.wit_digraph.specs.facts.MemberFacts.{Contains-nil, Contains-here, Contains-there, Contains-flat_map_cases, flat_map-same}
+use Rattle.wit_digraph.specs.facts.WalkFacts.{HasShortPaths, IsAcyclic-short, Reaches-from_walk, UsesFirst-append, UsesFirst-walk}
 use Rattle.wit_digraph.specs.Relation.{direct, IsPath, IsAcyclic}
 use Rattle.wit_digraph.specs.Walks.{UsesFirst, walk}
 use Rattle.wit_elaboration.specs.Entries.{Role, Instance, TypeUse, TypeDefinition, FreeFunction, ResourceFunction}

@@ -2,14 +2,14 @@
 use Rattle.std.proofs.Common.{◌≡◌, ℕ, false, List, [], ◌∷◌, inl, inr, refl, sym, ◌∙◌, subst, nat_eq, Contains}
 use Rattle.std.specs.List.{list_any}
 use Rattle.std.proofs.lemmas.Bool.{false≢true}
-use Rattle.wit_digraph.specs.FreshFacts.{any_from_contains}
-use Rattle.wit_digraph.specs.MemberFacts.{Contains-nil, Contains-here, Contains-there, Contains-cons_cases}
+use Rattle.wit_digraph.specs.facts.FreshFacts.{any_from_contains}
+use Rattle.wit_digraph.specs.facts.MemberFacts.{Contains-nil, Contains-here, Contains-there, Contains-cons_cases}
 use Rattle.wit_digraph.specs.Walks.{walk, walk_within}
 use Rattle.wit_digraph.specs.Relation.{direct, IsPath}
 use Rattle.wit_elaboration.specs.Elaborated.{import_steps, import_steps_within}
 use Rattle.wit_elaboration.specs.Entries.{Entry}
 use Rattle.wit_elaboration.specs.Imported.{HasConflict, IsInConflict, LeadsToConflict, exported_keys}
-use Rattle.wit_elaboration.specs.ElaborationExamples.{chain, a, b, c, d, labelled, WorkedElaborations, WorkedConflicts}
+use Rattle.wit_elaboration.specs.examples.ElaborationExamples.{chain, a, b, c, d, labelled, WorkedElaborations, WorkedConflicts}
 
 pub worked_elaborations : WorkedElaborations
 unfolding walk walk_within import_steps import_steps_within

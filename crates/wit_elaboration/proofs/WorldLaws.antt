@@ -3,10 +3,10 @@ use Rattle.std.proofs.Common.{◌≡◌, ℕ, inl, inr, List, [], length, sym, a
 use Rattle.std.specs.List.{flat_map}
 use Rattle.wit_data.specs.declared.types.TypeDef.{TypeDef}
 use Rattle.wit_data.specs.declared.world.World.{World}
-use Rattle.wit_digraph.specs.MemberFacts.{Contains-flat_map, Contains-flat_map_cases}
+use Rattle.wit_digraph.specs.facts.MemberFacts.{Contains-flat_map, Contains-flat_map_cases}
 use Rattle.wit_elaboration.specs.Entries.{Entry, role_of, item_interface, key_interface, keyed_interfaces}
 use Rattle.wit_elaboration.specs.Elaborated.{Elaborated, elaborated_imports, elaborated_exports}
-use Rattle.wit_elaboration.specs.ElaborationLaws.{ElaboratesOnce, ImportsAreExact, ImportsKeepOrder, OrderIsFree, SameEntries, DependenciesFirst}
+use Rattle.wit_elaboration.specs.laws.ElaborationLaws.{ElaboratesOnce, ImportsAreExact, ImportsKeepOrder, OrderIsFree, SameEntries, DependenciesFirst}
 use Rattle.wit_elaboration.specs.Imported.{Needed, HasConflict, IsImported, roots_of}
 use Rattle.wit_elaboration.proofs.Exact.{exact_to, exact_from}
 use Rattle.wit_elaboration.proofs.ExportsAgain.{exports_again}

@@ -9,7 +9,7 @@ use Rattle.wit_data.specs.declared.world.WorldItem.TheVariants as item
 use Rattle.wit_data.specs.declared.world.WorldKey.{WorldKey}
 use Rattle.wit_data.specs.declared.world.WorldKey.TheVariants.{Name, Interface}
 pub use Rattle.wit_data.specs.Entries.{Entry, item_interface}
-pub use Rattle.wit_data.specs.WorldKeyFacts.{same_key}
+pub use Rattle.wit_data.specs.facts.WorldKeyFacts.{same_key}
 pub use Rattle.wit_elaboration.specs.declared.role.Role.{Role}
 pub use Rattle.wit_elaboration.specs.declared.role.Role.TheVariants.{Instance, TypeUse, TypeDefinition, FreeFunction, ResourceFunction}
 

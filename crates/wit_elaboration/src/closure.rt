@@ -2,7 +2,7 @@
 ghost use Rattle.std.specs.Prelude.{◌≡◌, ◌↔◌, ◌<◌, IfErr, IfOk, IsTrue, length};
 ghost use Rattle.std.specs.List.{sum_by};
 ghost use Rattle.wit_digraph.specs.Relation.{IsAcyclic, Reaches};
-ghost use Rattle.wit_elaboration.specs.Closures.{IsClosureOf};
+ghost use Rattle.wit_elaboration.specs.steps.Closures.{IsClosureOf};
 ghost use Rattle.wit_elaboration.specs.Elaboration.{graph_uses};
 ghost use Rattle.wit_graph_data.specs.declared.error_kind.ResolveErrorKind.TheVariants.{OutOfMemory};
 
@@ -22,7 +22,7 @@ pub struct Closure {
 
 impl Model for Closure {
     ghost use Rattle.std.specs.Prelude.{ℕ, List};
-    ghost use Rattle.wit_elaboration.specs.Closures.{IsClosureOf};
+    ghost use Rattle.wit_elaboration.specs.steps.Closures.{IsClosureOf};
 
     ghost Value = { List (List ℕ) };
 

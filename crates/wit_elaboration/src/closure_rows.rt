@@ -6,8 +6,8 @@
 ghost use Rattle.std.specs.Prelude.{◌≡◌, ℕ, ◌+◌, ◌^◌, ◌<◌, ◌≤◌, ◌↔◌, All, Contains, IfOk, OnOk, IsTrue, length, slice_index, nat_eq};
 ghost use Rattle.std.specs.List.{IsDistinct, sum_by};
 ghost use Rattle.wit_digraph.specs.Relation.{IsAcyclic, Reaches, direct};
-ghost use Rattle.wit_elaboration.specs.Closures.{AreRowsOf, HasColumnsOf, HaveCommonBit, IsOrder, MayNeed, RowTells, RowsTell, column};
-ghost use Rattle.wit_elaboration.specs.Elaborating.{TellsExported};
+ghost use Rattle.wit_elaboration.specs.steps.Closures.{AreRowsOf, HasColumnsOf, HaveCommonBit, IsOrder, MayNeed, RowTells, RowsTell, column};
+ghost use Rattle.wit_elaboration.specs.steps.Elaborating.{TellsExported};
 ghost use Rattle.wit_elaboration.specs.Imported.{HasConflict, exported_interfaces};
 
 use crate::passes::mark_leading;

@@ -2,7 +2,7 @@
 ghost use Rattle.std.specs.Prelude.{◌≡◌, ◌↔◌, ◌<◌, ◌++◌, ℕ, [], All, Contains, IfOk, IsTrue, OnOk, length};
 ghost use Rattle.std.specs.List.{flat_map};
 ghost use Rattle.wit_elaboration.specs.Elaborated.{import_walk, settled_item};
-ghost use Rattle.wit_elaboration.specs.ElaborationLaws.{DependenciesFirst, stands_on};
+ghost use Rattle.wit_elaboration.specs.laws.ElaborationLaws.{DependenciesFirst, stands_on};
 ghost use Rattle.wit_elaboration.specs.Entries.{by_class, fresh_entries, item_interface, key_interface, role_of};
 ghost use Rattle.wit_elaboration.specs.Sound.{AreSound, IsRoleInRange};
 ghost use Rattle.wit_data.specs.Each.{Each};

@@ -6,9 +6,9 @@
 //! tell of most worlds without a conflict that there is none.
 ghost use Rattle.std.specs.Prelude.{◌≡◌, ◌++◌, ◌∷◌, ◌<◌, ◌↔◌, ◌⊎◌, [], ℕ, OnOk, IfOk, IfSome, IsTrue, All, Contains, length};
 ghost use Rattle.std.specs.List.{flat_map};
-ghost use Rattle.wit_elaboration.specs.Closures.{IsClosureOf};
+ghost use Rattle.wit_elaboration.specs.steps.Closures.{IsClosureOf};
 ghost use Rattle.wit_elaboration.specs.Elaborated.{needs};
-ghost use Rattle.wit_elaboration.specs.Elaborating.{AreMarked, AreOutside, HasMarkedUse, HaveNodes, IsFirstConflict, IsWalk, TellsExported};
+ghost use Rattle.wit_elaboration.specs.steps.Elaborating.{AreMarked, AreOutside, HasMarkedUse, HaveNodes, IsFirstConflict, IsWalk, TellsExported};
 ghost use Rattle.wit_elaboration.specs.Entries.{Entry, item_interface};
 ghost use Rattle.wit_elaboration.specs.Imported.{HasConflict, LeadsToConflict, exported_interfaces, exported_keys};
 ghost use Rattle.wit_digraph.specs.Relation.{IsAcyclic, direct};

@@ -5,7 +5,7 @@
 ghost use Rattle.std.specs.Prelude.{◌≡◌, ◌<◌, ◌++◌, ◌∷◌, [], IfOk, IfErr, IsTrue, OnOk, OnErr, length, take};
 ghost use Rattle.wit_elaboration.specs.AllWorlds.{elaborated_world};
 ghost use Rattle.wit_elaboration.specs.Elaborated.{elaborated_exports, elaborated_imports};
-ghost use Rattle.wit_elaboration.specs.Elaborating.{HaveNodes, TellsExported};
+ghost use Rattle.wit_elaboration.specs.steps.Elaborating.{HaveNodes, TellsExported};
 ghost use Rattle.wit_elaboration.specs.Elaboration.{AreElaborated, ElaboratesWorld, HasConflictAt, IsConflictError, IsElaborationError, IsErrorAt, HasSoundEntriesAt, graph_uses};
 ghost use Rattle.wit_elaboration.specs.Imported.{HasConflict};
 ghost use Rattle.wit_elaboration.specs.Sound.{HasSoundEntries};
@@ -39,8 +39,8 @@ pub struct Elaborator {
 
 impl Model for Elaborator {
     ghost use Rattle.std.specs.Prelude.{ℕ, List, IfSome, length};
-    ghost use Rattle.wit_elaboration.specs.Closures.{IsClosureOf};
-    ghost use Rattle.wit_elaboration.specs.Elaborating.{HaveNodes};
+    ghost use Rattle.wit_elaboration.specs.steps.Closures.{IsClosureOf};
+    ghost use Rattle.wit_elaboration.specs.steps.Elaborating.{HaveNodes};
 
     ghost Value = { List (List ℕ) };
 

@@ -4,7 +4,7 @@ ghost use Rattle.std.specs.Prelude.{◌≡◌, ◌++◌, ◌∷◌, ◌<◌, [],
 ghost use Rattle.std.specs.List.{flat_map};
 ghost use Rattle.std.specs.Map.{keys_of};
 ghost use Rattle.wit_elaboration.specs.Elaborated.{dependency_of, export_carries, needs};
-ghost use Rattle.wit_elaboration.specs.Elaborating.{IsExporting, is_listed, walked_exports, walked_imports};
+ghost use Rattle.wit_elaboration.specs.steps.Elaborating.{IsExporting, is_listed, walked_exports, walked_imports};
 ghost use Rattle.wit_elaboration.specs.Entries.{fresh_entries, is_interface};
 ghost use Rattle.wit_elaboration.specs.Imported.{exported_interfaces};
 ghost use Rattle.wit_digraph.specs.Relation.{IsAcyclic};

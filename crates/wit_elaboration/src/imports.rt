@@ -3,7 +3,7 @@ ghost use Rattle.std.specs.Prelude.{◌≡◌, ◌++◌, ◌<◌, ◌≤◌, [],
 ghost use Rattle.std.specs.List.{flat_map};
 ghost use Rattle.std.specs.Map.{keys_of};
 ghost use Rattle.wit_elaboration.specs.Elaborated.{dependency_of, import_carries, import_walk, needs};
-ghost use Rattle.wit_elaboration.specs.Elaborating.{IsImporting, IsWalk};
+ghost use Rattle.wit_elaboration.specs.steps.Elaborating.{IsImporting, IsWalk};
 ghost use Rattle.wit_elaboration.specs.Entries.{by_class, fresh_entries, of_class, role_of};
 ghost use Rattle.wit_elaboration.specs.Sound.{AreSound, IsRoleInRange};
 ghost use Rattle.wit_digraph.specs.Relation.{IsAcyclic};

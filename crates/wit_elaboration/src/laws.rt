@@ -3,10 +3,10 @@
 //!
 //! The laws are over uses along which no interface comes back to itself, and over worlds in which what
 //! stands under the key of an interface is that interface and the interfaces of all entries are there.
-ghost use Rattle.wit_elaboration.specs.ElaborationExamples.{WorkedConflicts, WorkedElaborations};
-ghost use Rattle.wit_elaboration.specs.ElaborationLaws.{ConflictsAreRefused, ElaboratesOnce, ImportsAreExact, ImportsKeepOrder, OrderIsFree};
-ghost use Rattle.wit_elaboration.specs.Examples.{ExamplesOfQuestions, ExamplesOfRelations, ExamplesOfValidity};
-ghost use Rattle.wit_elaboration.specs.KeptByElaboration.{ElaboratedEntries, ElaboratedOnce, ElaborationIsLocal, ExportKeysStay, ImportsAreLeast, LabelsStay, ListedStays};
+ghost use Rattle.wit_elaboration.specs.examples.ElaborationExamples.{WorkedConflicts, WorkedElaborations};
+ghost use Rattle.wit_elaboration.specs.laws.ElaborationLaws.{ConflictsAreRefused, ElaboratesOnce, ImportsAreExact, ImportsKeepOrder, OrderIsFree};
+ghost use Rattle.wit_elaboration.specs.examples.Examples.{ExamplesOfQuestions, ExamplesOfRelations, ExamplesOfValidity};
+ghost use Rattle.wit_elaboration.specs.laws.KeptByElaboration.{ElaboratedEntries, ElaboratedOnce, ElaborationIsLocal, ExportKeysStay, ImportsAreLeast, LabelsStay, ListedStays};
 
 /// Elaborating an elaborated world changes nothing.
 pub fn elaborates_once()

@@ -1,6 +1,6 @@
 //! Marks of interfaces, for the elaboration of one world after another.
 ghost use Rattle.std.specs.Prelude.{◌≡◌, ℕ, ◌+◌, [], IfOk, OnOk};
-ghost use Rattle.wit_elaboration.specs.Elaborating.{HaveAtLeast, HaveNodes};
+ghost use Rattle.wit_elaboration.specs.steps.Elaborating.{HaveAtLeast, HaveNodes};
 
 use std::alloc::{AllocError, Global};
 use wit_digraph::Listing;

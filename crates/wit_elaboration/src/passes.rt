@@ -1,9 +1,9 @@
 //! Marks, as a row of bits, of what reaches a target: one pass over an order, a test for each use.
 ghost use Rattle.std.specs.Prelude.{◌≡◌, ℕ, ◌*◌, ◌<◌, ◌≤◌, ◌↔◌, All, IsTrue, length, []};
 ghost use Rattle.wit_digraph.specs.Relation.{IsAcyclic};
-ghost use Rattle.wit_digraph.specs.Rows.{HasBit};
+ghost use Rattle.wit_digraph.specs.steps.Rows.{HasBit};
 ghost use Rattle.wit_digraph.specs.Walks.{UsesFirst};
-ghost use Rattle.wit_elaboration.specs.Closures.{HasUse, IsMarkRow};
+ghost use Rattle.wit_elaboration.specs.steps.Closures.{HasUse, IsMarkRow};
 
 use crate::rows::clear;
 use wit_digraph::{direct_uses, has_bit, set_bit};

@@ -4,8 +4,8 @@
 //! all worlds of a graph canonical over one closure.
 ghost use Rattle.std.specs.Prelude.{◌≡◌, ◌↔◌, ℕ, ◌+◌, ◌≤◌, IsTrue, length, slice_index, EachIndex, bit_or};
 ghost use Rattle.std.specs.Simd.Lanes.{zip2, chunk, put_chunk};
-ghost use Rattle.wit_digraph.specs.Rows.{bit_of};
-ghost use Rattle.wit_elaboration.specs.Closures.{HaveCommonBit};
+ghost use Rattle.wit_digraph.specs.steps.Rows.{bit_of};
+ghost use Rattle.wit_elaboration.specs.steps.Closures.{HaveCommonBit};
 
 pub use crate::all_worlds::elaborate_all;
 pub use crate::closure::Closure;

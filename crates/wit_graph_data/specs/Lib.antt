@@ -1,10 +1,9 @@
-pub mod AnswerFacts
 pub mod Error
-pub mod ErrorLoan
 pub mod ErrorText
-pub mod HeldFacts
 pub mod IdText
 pub mod Questions
 pub mod Relations
 pub mod Rendered
-pub mod Samples
+pub mod examples
+pub mod facts
+pub mod steps

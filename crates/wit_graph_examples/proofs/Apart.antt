@@ -1,8 +1,8 @@
 -- What tells outcomes apart.
 use Rattle.std.proofs.Common.{◌≡◌, false, List, ℕ, None, Some}
 use Rattle.std.specs.Str.{bytes_eq}
-use Rattle.wit_graph_theory.specs.OptionFacts.{some_same}
-use Rattle.wit_values.specs.Lists.{differ}
+use Rattle.wit_graph_theory.specs.facts.OptionFacts.{some_same}
+use Rattle.wit_values.specs.facts.Lists.{differ}
 
 -- texts that are there and that a test tells apart are different
 pub some_differ : (a b : List ℕ) → bytes_eq a b ≡ false → Some a ≡ Some b → ⊥

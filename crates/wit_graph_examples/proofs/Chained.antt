@@ -1,6 +1,6 @@
 -- The chain with a type in its world: what is in conflict, and where a type would be exported.
 use Rattle.std.proofs.Common.{◌≡◌, ℕ, true, false, List, [], ◌∷◌, None, Some, codes, refl, sym, ap, subst, arith, inl, inr, Contains}
-use Rattle.wit_digraph.specs.MemberFacts.{Contains-here, Contains-nil, Contains-there}
+use Rattle.wit_digraph.specs.facts.MemberFacts.{Contains-here, Contains-nil, Contains-there}
 use Rattle.wit_digraph.specs.Relation.{direct}
 use Rattle.wit_sources.specs.Span.{Place}
 use Rattle.wit_data.specs.declared.world.World.{World}
@@ -8,14 +8,14 @@ use Rattle.wit_data.specs.declared.world.WorldKey.TheVariants as key
 use Rattle.wit_elaboration.specs.Elaboration.{graph_uses}
 use Rattle.wit_elaboration.specs.Entries.{Entry}
 use Rattle.wit_elaboration.specs.Imported.{HasConflict, IsInConflict, IsRefusedName, exported_keys}
-use Rattle.wit_graph_data.specs.Samples.{entry_of, world_of}
+use Rattle.wit_graph_data.specs.examples.Samples.{entry_of, world_of}
 use Rattle.wit_graph_data.specs.declared.cause.Cause.TheVariants.{TypeExported}
 use Rattle.wit_graph_data.specs.declared.error_kind.ResolveErrorKind.TheVariants.{InvalidTransitiveDependency, Semantic}
 use Rattle.wit_graph_data.specs.declared.graph.Package.{Package}
-use Rattle.wit_graph_theory.specs.OptionFacts.{some_same}
-use Rattle.wit_graph_theory.specs.TestFacts.{one_of_two, only_one}
+use Rattle.wit_graph_theory.specs.facts.OptionFacts.{some_same}
+use Rattle.wit_graph_theory.specs.examples.TestFacts.{one_of_two, only_one}
 use Rattle.wit_transform.specs.TurnCause.{ExportizeCause, HasTypeAt, IsTaken, export_conflict, exportized_taken, type_exported, type_exported_text}
-use Rattle.wit_transform.specs.TurnExamples.{a, b}
+use Rattle.wit_transform.specs.examples.TurnExamples.{a, b}
 use Rattle.wit_transform.specs.Turned.{exportized}
 use Rattle.wit_graph_examples.proofs.TakenNames.{not_taken}
 use Rattle.wit_graph_examples.specs.ReasonsOfTurns.{ExamplesOfConflictsBesideTypes, chain_with_k, ends_and, k}

@@ -5,25 +5,25 @@ use Rattle.std.proofs.lemmas.Slice.Eq.{bytes_eq-Decides}
 use Rattle.std.specs.List.{list_all}
 use Rattle.std.specs.Option.{option_map_or}
 use Rattle.std.specs.Str.{bytes_eq}
-use Rattle.wit_digraph.specs.MemberFacts.{Contains-here, Contains-nil, Contains-there}
+use Rattle.wit_digraph.specs.facts.MemberFacts.{Contains-here, Contains-nil, Contains-there}
 use Rattle.wit_digraph.specs.Relation.{direct}
 use Rattle.wit_digraph.specs.Walks.{walk, walk_within}
-use Rattle.wit_values.specs.Lists.{differ}
+use Rattle.wit_values.specs.facts.Lists.{differ}
 use Rattle.wit_data.specs.declared.world.World.{World}
 use Rattle.wit_elaboration.specs.Elaborated.{import_steps, import_steps_within}
 use Rattle.wit_elaboration.specs.Elaboration.{graph_uses}
 use Rattle.wit_elaboration.specs.Entries.{Entry}
 use Rattle.wit_elaboration.specs.Imported.{HasConflict}
-use Rattle.wit_graph_data.specs.Samples.{foo_bar_of, world_of}
+use Rattle.wit_graph_data.specs.examples.Samples.{foo_bar_of, world_of}
 use Rattle.wit_graph_data.specs.declared.cause.Cause.TheVariants.{NameTaken}
 use Rattle.wit_graph_data.specs.declared.error_kind.ResolveErrorKind.{ResolveErrorKind}
 use Rattle.wit_graph_data.specs.declared.error_kind.ResolveErrorKind.TheVariants.{Semantic}
 use Rattle.wit_graph_data.specs.declared.graph.Graph.{Graph}
 use Rattle.wit_graph_data.specs.declared.graph.Package.{Package}
-use Rattle.wit_graph_theory.specs.OptionFacts.{some_same}
-use Rattle.wit_graph_theory.specs.TestFacts.{all_are, implied, implies, only_one}
+use Rattle.wit_graph_theory.specs.facts.OptionFacts.{some_same}
+use Rattle.wit_graph_theory.specs.examples.TestFacts.{all_are, implied, implies, only_one}
 use Rattle.wit_transform.specs.TurnCause.{ExportizeCause, HasTypeAt, ImportizeCause, IsTaken, export_conflict, exportized_taken, importized_taken, label_clash, name_taken_text, type_exported}
-use Rattle.wit_transform.specs.TurnExamples.{a}
+use Rattle.wit_transform.specs.examples.TurnExamples.{a}
 use Rattle.wit_transform.specs.Turned.{exportized, importized}
 use Rattle.wit_graph_examples.specs.ReasonsOfTurns.{ExamplesOfTakenNames, of_w, w_imports_a}
 

@@ -7,9 +7,9 @@ use Rattle.wit_data.specs.declared.types.Type_.TheVariants as type
 use Rattle.wit_data.specs.declared.world.WorldItem.TheVariants as item
 use Rattle.wit_data.specs.declared.world.WorldKey.TheVariants as key
 use Rattle.wit_elaboration.specs.Entries.{Entry}
-use Rattle.wit_graph_data.specs.Samples.{function_of, labelled_entry, sample, type_in, type_of}
+use Rattle.wit_graph_data.specs.examples.Samples.{function_of, labelled_entry, sample, type_in, type_of}
 use Rattle.wit_graph_data.specs.declared.graph.Graph.{Graph}
-use Rattle.wit_transform.specs.TurnExamples.{a, b, named}
+use Rattle.wit_transform.specs.examples.TurnExamples.{a, b, named}
 use Rattle.wit_transform.specs.Turned.{importized, turned}
 
 -- the sample, in which interface b uses a, and a world that defines a type k and has another name u of the type of a

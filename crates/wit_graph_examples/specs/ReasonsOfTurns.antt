@@ -10,13 +10,13 @@ use Rattle.wit_data.specs.declared.world.World.{World}
 use Rattle.wit_data.specs.declared.world.WorldItem.TheVariants as item
 use Rattle.wit_data.specs.declared.world.WorldKey.TheVariants as key
 use Rattle.wit_elaboration.specs.Entries.{Entry}
-use Rattle.wit_graph_data.specs.Samples.{entry_of, foo_bar, foo_bar_of, sample, type_of, world_of}
+use Rattle.wit_graph_data.specs.examples.Samples.{entry_of, foo_bar, foo_bar_of, sample, type_of, world_of}
 use Rattle.wit_graph_data.specs.declared.cause.Cause.TheVariants.{NameTaken, TypeExported}
 use Rattle.wit_graph_data.specs.declared.error_kind.ResolveErrorKind.{ResolveErrorKind}
 use Rattle.wit_graph_data.specs.declared.error_kind.ResolveErrorKind.TheVariants.{InvalidTransitiveDependency, Semantic}
 use Rattle.wit_graph_data.specs.declared.graph.Graph.{Graph}
 use Rattle.wit_transform.specs.TurnCause.{IsExportizeCause, IsImportizeCause, type_exported_text}
-use Rattle.wit_transform.specs.TurnExamples.{a, b, chain}
+use Rattle.wit_transform.specs.examples.TurnExamples.{a, b, chain}
 use Rattle.wit_transform.specs.Turned.{exportized, importized, turned}
 
 -- ---- names that are taken

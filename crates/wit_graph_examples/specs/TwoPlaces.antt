@@ -2,7 +2,7 @@
 use Rattle.std.specs.Prelude.{◌≡◌, ◌≢◌, ℕ, List, [], ◌∷◌, Option, Some, None, codes}
 use Rattle.wit_sources.specs.declared.source_map.SourceFile.{SourceFile}
 use Rattle.wit_graph_data.specs.Rendered.{rendered, text_with_places}
-use Rattle.wit_graph_data.specs.Samples.{foo_bar}
+use Rattle.wit_graph_data.specs.examples.Samples.{foo_bar}
 use Rattle.wit_graph_data.specs.declared.error_kind.ResolveErrorKind.TheVariants.{DuplicatePackage, PackageCycle}
 
 -- two files that say the same, of 16 bytes

@@ -12,9 +12,9 @@ use Rattle.wit_elaboration.specs.Valid.{IsValid}
 use Rattle.wit_graph_data.specs.IdText.{id_text, id_text_in, interface_id_at, interface_id_text}
 use Rattle.wit_graph_data.specs.declared.graph.Graph.{Graph}
 use Rattle.wit_graph_data.specs.declared.graph.Package.{Package}
-use Rattle.wit_graph_theory.specs.IdTexts.{HasVersions, IdTextsDiffer}
-use Rattle.wit_graph_theory.specs.ListFacts.{found_at, place_of, same_at}
-use Rattle.wit_graph_theory.specs.OptionFacts.{some_parts}
+use Rattle.wit_graph_theory.specs.laws.IdTexts.{HasVersions, IdTextsDiffer}
+use Rattle.wit_graph_theory.specs.facts.ListFacts.{found_at, place_of, same_at}
+use Rattle.wit_graph_theory.specs.facts.OptionFacts.{some_parts}
 
 -- ---- options and tables
 

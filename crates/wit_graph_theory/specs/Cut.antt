@@ -14,10 +14,10 @@ use Rattle.wit_data.specs.declared.world.World.{World}
 use Rattle.wit_data.specs.declared.world.WorldItem.{WorldItem}
 use Rattle.wit_data.specs.declared.world.WorldItem.TheVariants as item
 use Rattle.wit_graph_data.specs.declared.graph.Graph.{Graph}
-use Rattle.wit_graph_theory.specs.Good.{IsGoodExport, IsGoodImport, IsGoodInterface, IsGoodType}
+use Rattle.wit_graph_theory.specs.facts.Good.{IsGoodExport, IsGoodImport, IsGoodInterface, IsGoodType}
 use Rattle.wit_graph_theory.specs.Image.{Maps, identity}
 use Rattle.wit_graph_theory.specs.Kept.{Kept}
-use Rattle.wit_graph_theory.specs.Sources.{Source}
+use Rattle.wit_graph_theory.specs.steps.Sources.{Source}
 
 abbrev pub cut_interface : Kept → Interface → Interface
 cut_interface kept interface = record interface {

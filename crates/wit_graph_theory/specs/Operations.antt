@@ -5,7 +5,7 @@ use Rattle.wit_graph_data.specs.declared.graph.Graph.{Graph}
 use Rattle.wit_graph_theory.specs.Cut.{cut_source, graph_source, mapped_source}
 use Rattle.wit_graph_theory.specs.Image.{Maps}
 use Rattle.wit_graph_theory.specs.Kept.{Kept}
-use Rattle.wit_graph_theory.specs.Sources.{Source}
+use Rattle.wit_graph_theory.specs.steps.Sources.{Source}
 
 -- adding a package: the graph, and what takes part of the package. Foreign interfaces and types take part
 -- (they go to those of the graph), foreign worlds don't: nothing is owned by them, and their package is

@@ -1,8 +1,8 @@
 //! Laws of the definitions: the contract of each function is what is proved.
-ghost use Rattle.wit_graph_theory.specs.IdTexts.{IdTextsDiffer};
-ghost use Rattle.wit_graph_theory.specs.LawsOfElaboration.{LawsOfElaboration};
-ghost use Rattle.wit_graph_theory.specs.PackageCycles.{PackagesStayAcyclic};
-ghost use Rattle.wit_graph_theory.specs.Theory.{CoveredGraphsAreValid};
+ghost use Rattle.wit_graph_theory.specs.laws.IdTexts.{IdTextsDiffer};
+ghost use Rattle.wit_graph_theory.specs.facts.LawsOfElaboration.{LawsOfElaboration};
+ghost use Rattle.wit_graph_theory.specs.laws.PackageCycles.{PackagesStayAcyclic};
+ghost use Rattle.wit_graph_theory.specs.laws.Theory.{CoveredGraphsAreValid};
 
 use wit_elaboration::laws::{
     conflicts_are_refused, elaborated_entries, elaborated_once, elaborates_once,

@@ -3,10 +3,10 @@ use Rattle.std.proofs.Common.{◌≡◌, ◌∙◌, ◌&&◌, ℕ, zero, suc, tr
 use Rattle.std.proofs.lemmas.Bool.{false≢true}
 use Rattle.std.specs.Map.{keys_of}
 use Rattle.std.specs.Prelude.{codes}
-use Rattle.wit_values.specs.Lists.{differ}
+use Rattle.wit_values.specs.facts.Lists.{differ}
 use Rattle.wit_data.specs.Entries.{Entry}
 use Rattle.wit_data.specs.declared.world.WorldKey.TheVariants as key
-use Rattle.wit_labels.specs.Examples.{ExamplesOfSetters, function_entry}
+use Rattle.wit_labels.specs.examples.Examples.{ExamplesOfSetters, function_entry}
 use Rattle.wit_labels.specs.Setters.{IsSetter, getter_label, is_function, is_setter_label}
 
 name_same : (a b : List ℕ) → key.Name a ≡ key.Name b → a ≡ b

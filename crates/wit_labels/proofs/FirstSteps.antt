@@ -7,8 +7,8 @@ use Rattle.std.specs.Map.{lookup}
 use Rattle.std.specs.Option.{option_or}
 use Rattle.std.specs.Str.{bytes_eq}
 use Rattle.wit_data.specs.declared.world.IncludeName.{IncludeName}
-use Rattle.wit_values.specs.Lists.{take-next_at}
-use Rattle.wit_labels.specs.FirstRenamings.{IsPlaceOf, is_of}
+use Rattle.wit_values.specs.facts.Lists.{take-next_at}
+use Rattle.wit_labels.specs.steps.FirstRenamings.{IsPlaceOf, is_of}
 
 -- what is found in a table with one entry more
 lookup-more : (test : List ℕ → Bool) (es : List (List ℕ × ℕ)) (k : List ℕ) (v : ℕ) → lookup test (es ++ (k, v) ∷ []) ≡ option_or (lookup test es) (cond (test k) (Some v) None)

@@ -8,7 +8,7 @@ use Rattle.std.specs.List.{concat, before_first, cons_option, filter_map, positi
 use Rattle.std.specs.Option.{option_map}
 use Rattle.std.specs.Str.{bytes_eq}
 use Rattle.wit_data.specs.declared.world.IncludeName.{IncludeName}
-use Rattle.wit_labels.specs.FirstRenamings.{is_of}
+use Rattle.wit_labels.specs.steps.FirstRenamings.{is_of}
 use Rattle.wit_labels.specs.Groups.{begins_group, groups_of, rest_of}
 use Rattle.wit_labels.specs.Rename.{behind, renamed, renamed_behind, renamed_by, renamed_rest}
 

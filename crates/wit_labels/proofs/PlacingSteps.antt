@@ -10,16 +10,16 @@ use Rattle.std.specs.Prelude.{filter, nat_lt, position}
 use Rattle.std.specs.List.{AllByRecursion, AllZip, IsDistinct, cons_option, enumerate_from, flat_map, range_with_len}
 use Rattle.std.specs.Map.{keys_of, lookup}
 use Rattle.std.specs.Option.{option_and_then, option_eq}
-use Rattle.wit_values.specs.Lists.{key_at, lookup-before, map-next}
-use Rattle.wit_digraph.specs.MemberFacts.{Contains-cons_cases, Contains-flat_map_cases, Contains-here, Contains-nil, Contains-there}
+use Rattle.wit_values.specs.facts.Lists.{key_at, lookup-before, map-next}
+use Rattle.wit_digraph.specs.facts.MemberFacts.{Contains-cons_cases, Contains-flat_map_cases, Contains-here, Contains-nil, Contains-there}
 use Rattle.wit_data.specs.Entries.{Entry}
-use Rattle.wit_data.specs.WorldKeyFacts.{key_laws}
+use Rattle.wit_data.specs.facts.WorldKeyFacts.{key_laws}
 use Rattle.wit_data.specs.contracts.world.WorldKeyPartialEq.TheImpl.{eq-value}
 use Rattle.wit_data.specs.declared.world.WorldItem.{WorldItem}
 use Rattle.wit_data.specs.declared.world.WorldItem.TheVariants as item
 use Rattle.wit_data.specs.declared.world.WorldKey.{WorldKey}
 use Rattle.wit_data.specs.declared.world.WorldKey.TheVariants as key
-use Rattle.wit_labels.specs.Placing.{getters_of, placed_order, stand_at, waiters, waits_for}
+use Rattle.wit_labels.specs.steps.Placing.{getters_of, placed_order, stand_at, waiters, waits_for}
 use Rattle.wit_labels.specs.Setters.{after, awaited, is_under, placed, places, waiting, wanted_getter}
 
 -- ---- numbers from one on

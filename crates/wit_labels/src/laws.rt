@@ -1,5 +1,5 @@
 //! Examples of the definitions: the contract of each function is what is proved.
-ghost use Rattle.wit_labels.specs.Examples.{
+ghost use Rattle.wit_labels.specs.examples.Examples.{
   ExamplesOfClashes,
   ExamplesOfRenaming,
   ExamplesOfSetters,

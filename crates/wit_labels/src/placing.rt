@@ -5,7 +5,7 @@ ghost use Rattle.std.specs.Map.{keys_of};
 ghost use Rattle.wit_data.specs.Each.{Each};
 ghost use Rattle.wit_data.specs.Entries.{Entry};
 ghost use Rattle.wit_data.specs.contracts.world.WorldKeyPartialEq.TheImpl.{eq-value};
-ghost use Rattle.wit_labels.specs.Placing.{getters_of, placed_order, waiters};
+ghost use Rattle.wit_labels.specs.steps.Placing.{getters_of, placed_order, waiters};
 ghost use Rattle.wit_labels.specs.Setters.{after, awaited, placed, wanted_getter};
 
 use crate::setters::{is_setter, wanted_getter};

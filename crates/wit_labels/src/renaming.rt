@@ -2,7 +2,7 @@
 ghost use Rattle.std.specs.Prelude.{◌≡◌, ◌==◌, ◌++◌, IfNone, IfOk, IfSome, drop, false, length, string_bytes, true};
 ghost use Rattle.std.specs.List.{before_first, concat, find};
 ghost use Rattle.std.specs.Option.{option_copied, option_map};
-ghost use Rattle.wit_labels.specs.FirstRenamings.{TellsFirsts, is_of};
+ghost use Rattle.wit_labels.specs.steps.FirstRenamings.{TellsFirsts, is_of};
 ghost use Rattle.wit_labels.specs.Groups.{begins_group, groups_of, rest_of};
 ghost use Rattle.wit_labels.specs.Rename.{renamed, renamed_by};
 
@@ -75,7 +75,7 @@ pub struct Renamings<'a> {
 impl<'a> Model for Renamings<'a> {
     ghost use Rattle.std.specs.Prelude.{List};
     ghost use Rattle.wit_data.specs.declared.world.IncludeName.{IncludeName};
-    ghost use Rattle.wit_labels.specs.FirstRenamings.{TellsFirsts};
+    ghost use Rattle.wit_labels.specs.steps.FirstRenamings.{TellsFirsts};
 
     ghost Value = { List IncludeName };
 

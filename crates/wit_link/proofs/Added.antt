@@ -12,25 +12,25 @@ use Rattle.wit_graph_data.specs.declared.graph.Graph.{Graph}
 use Rattle.wit_graph_data.specs.declared.error_kind.ResolveErrorKind.{ResolveErrorKind}
 use Rattle.wit_graph_data.specs.declared.error_kind.ResolveErrorKind.TheVariants.{OffsetOverflow, OutOfMemory}
 use Rattle.wit_graph_theory.specs.Image.{world_image}
-use Rattle.wit_graph_theory.specs.ListFacts.{contained_at, place_of}
+use Rattle.wit_graph_theory.specs.facts.ListFacts.{contained_at, place_of}
 use Rattle.wit_elaboration.proofs.Filters.{Contains-filter}
 use Rattle.wit_link_spec.specs.Addition.{Addition, active_includes, addition_maps, own_worlds, taken_world, world_place}
-use Rattle.wit_link_spec.specs.Adding.{places_of}
+use Rattle.wit_link_spec.specs.steps.Adding.{places_of}
 use Rattle.wit_link_spec.specs.Cause.{IsAccepted, IsCause, borrow_in_result_15, conflict_4, duplicate_5, excluded_11, excluded_owner_12, gate_unreleased_10, gate_without_version_9, interface_not_found_3, mismatch_8, no_getter_18, not_a_resource_14, not_strongly_unique_17, offset_overflow_27, package_not_found_1, rename_unmatched_16, shadowing_7, type_not_defined_13, world_not_found_2}
 use Rattle.wit_link_spec.specs.Gates.{include_is_active}
 use Rattle.wit_link_spec.specs.Pushed.{pushed}
 use Rattle.wit_link_spec.specs.WorldReasons.{WorldIsFine}
-use Rattle.wit_link_spec.specs.Passed.{has_image}
+use Rattle.wit_link_spec.specs.steps.Passed.{has_image}
 use Rattle.wit_link_spec.specs.Reasons.{HasImage, HasPackage}
-use Rattle.wit_link_spec.specs.OwnThingFacts.{own_world_from}
-use Rattle.wit_link_include.specs.AdditionFacts.{placed_include, placed_includes}
-use Rattle.wit_remap.specs.Added.{added_world}
-use Rattle.wit_remap.specs.Movers.{goes, id_or}
+use Rattle.wit_link_spec.specs.facts.OwnThingFacts.{own_world_from}
+use Rattle.wit_link_include.specs.facts.AdditionFacts.{placed_include, placed_includes}
+use Rattle.wit_remap.specs.steps.Added.{added_world}
+use Rattle.wit_remap.specs.steps.Movers.{goes, id_or}
 use Rattle.wit_remap.specs.declared.worlds.PlacedWorld.{PlacedWorld}
 use Rattle.wit_link.specs.Appending.{IsAdded}
-use Rattle.wit_link.specs.Checked.{IsChecked, IsNew}
-use Rattle.wit_link.specs.Fits.{IsNameTaken, PackageFits}
-use Rattle.wit_link.specs.Including.{include_at, ready_world, ready_worlds, world_with}
+use Rattle.wit_link.specs.facts.Checked.{IsChecked, IsNew}
+use Rattle.wit_link.specs.steps.Fits.{IsNameTaken, PackageFits}
+use Rattle.wit_link.specs.steps.Including.{include_at, ready_world, ready_worlds, world_with}
 use Rattle.wit_link.proofs.FitsIsExact.{fitting_passes_not, passes-of_not_fitting}
 
 module _ (a : Addition) (is_new : IsNew a) (checked : IsChecked a) (each_world : (k : ℕ) → WorldIsFine a k) where

@@ -3,12 +3,12 @@ use Rattle.std.proofs.Common.{◌⊎◌, inl, inr, ℕ, ◌+◌, ◌<◌, ◌≤
 use Rattle.wit_data.specs.declared.unresolved.UnresolvedPackage.{UnresolvedPackage}
 use Rattle.wit_link_spec.specs.Gates.{Place}
 use Rattle.wit_link_spec.specs.Spans.{package_spans}
-use Rattle.wit_graph_theory.specs.ListFacts.{Each-map, place_of}
+use Rattle.wit_graph_theory.specs.facts.ListFacts.{Each-map, place_of}
 use Rattle.wit_link_spec.specs.Addition.{Addition}
 use Rattle.wit_link_spec.specs.Reasons.{PassesTheEnd}
-use Rattle.wit_remap.specs.Fits.{Fits}
-use Rattle.wit_remap.specs.FittingFacts.{AllFit, Each-append, Each-cons, Each-head, Each-left, Each-right, Each-tail, Each-unmapped, SomePasses, all_parts, fit_or_pass, parts_fit, parts_spans}
-use Rattle.wit_link.specs.Fits.{PackageFits}
+use Rattle.wit_remap.specs.steps.Fits.{Fits}
+use Rattle.wit_remap.specs.facts.FittingFacts.{AllFit, Each-append, Each-cons, Each-head, Each-left, Each-right, Each-tail, Each-unmapped, SomePasses, all_parts, fit_or_pass, parts_fit, parts_spans}
+use Rattle.wit_link.specs.steps.Fits.{PackageFits}
 
 module _ (offset : ℕ) where
   -- ---- the spans of a package, from behind

@@ -3,7 +3,7 @@ use Rattle.std.proofs.Common.{◌≡◌, ◌∙◌, ◌⊎◌, inl, inr, ℕ, �
 use Rattle.std.proofs.lemmas.Bool.{cases_lt}
 use Rattle.std.proofs.lemmas.List.{length-map, length_push}
 use Rattle.std.proofs.lemmas.Option.{slice_get_within}
-use Rattle.wit_values.specs.Lists.{slice_get-behind}
+use Rattle.wit_values.specs.facts.Lists.{slice_get-behind}
 use Rattle.wit_data.specs.Shape.{IsShaped}
 use Rattle.wit_data.specs.declared.world.World.{World}
 use Rattle.wit_data.specs.declared.world.WorldInclude.{WorldInclude}
@@ -11,19 +11,19 @@ use Rattle.wit_elaboration.specs.Valid.{IsValid}
 use Rattle.wit_graph_data.specs.declared.error_kind.ResolveErrorKind.{ResolveErrorKind}
 use Rattle.wit_graph_data.specs.declared.error_kind.ResolveErrorKind.TheVariants.{OutOfMemory}
 use Rattle.wit_graph_data.specs.declared.graph.Graph.{Graph}
-use Rattle.wit_graph_theory.specs.ListFacts.{from_map}
+use Rattle.wit_graph_theory.specs.facts.ListFacts.{from_map}
 use Rattle.wit_link_spec.specs.Addition.{Addition, own_worlds}
 use Rattle.wit_link_spec.specs.Cause.{IsCause, IsReached}
 use Rattle.wit_link_spec.specs.Include.{Lists}
 use Rattle.wit_link_spec.specs.Pushed.{pushed, with_parts, with_world, with_worlds}
 use Rattle.wit_link_spec.specs.Reasons.{HasImage}
 use Rattle.wit_link_spec.specs.WorldReasons.{AtWorld, HaveLists, WorldIsFine, made, written}
-use Rattle.wit_link_laws.specs.StageFacts.{IncludedAreThere, IncludesCanBe, WorldsCanBe}
-use Rattle.wit_link_include.specs.AdditionFacts.{home, image_at, next_stage, placed_includes, reached_fine, world_cause}
-use Rattle.wit_link_include.specs.Included as local
-use Rattle.wit_link_include.specs.ReadyFacts.{can_be_added}
+use Rattle.wit_link_laws.specs.laws.StageFacts.{IncludedAreThere, IncludesCanBe, WorldsCanBe}
+use Rattle.wit_link_include.specs.facts.AdditionFacts.{home, image_at, next_stage, placed_includes, reached_fine, world_cause}
+use Rattle.wit_link_include.specs.steps.Included as local
+use Rattle.wit_link_include.specs.facts.ReadyFacts.{can_be_added}
 use Rattle.wit_remap.specs.declared.worlds.PlacedWorld.{PlacedWorld}
-use Rattle.wit_link.specs.Including.{ready_world, ready_worlds}
+use Rattle.wit_link.specs.steps.Including.{ready_world, ready_worlds}
 
 -- so many worlds are added, and nothing speaks against them
 pub record IsAdding (a : Addition) (done : List PlacedWorld) (g : Graph) : Type 0 where

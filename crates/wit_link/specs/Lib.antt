@@ -1,6 +1,5 @@
 pub mod Appending
-pub mod Checked
-pub mod Fits
 pub mod Groups
-pub mod Including
 pub mod Several
+pub mod facts
+pub mod steps

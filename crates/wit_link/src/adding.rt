@@ -1,6 +1,6 @@
 //! Adding a package to a graph.
 ghost use Rattle.std.specs.Prelude.{◌≡◌, ◌⊎◌, IfErr, IfOk, OnErr, OnOk};
-ghost use Rattle.wit_link_spec.specs.Adding.{activity_of, places_of, values_of};
+ghost use Rattle.wit_link_spec.specs.steps.Adding.{activity_of, places_of, values_of};
 ghost use Rattle.wit_link_spec.specs.Cause.{IsCause};
 ghost use Rattle.wit_elaboration.specs.Elaboration.{graph_uses};
 ghost use Rattle.wit_elaboration.specs.Valid.{IsValid};
@@ -8,10 +8,10 @@ ghost use Rattle.wit_graph_data.specs.declared.error_kind.ResolveErrorKind.{Reso
 ghost use Rattle.wit_graph_data.specs.declared.error_kind.ResolveErrorKind.TheVariants.{OutOfMemory};
 ghost use Rattle.wit_data.specs.Shape.{IsShaped};
 ghost use Rattle.wit_link.specs.Appending.{IsAdded, addition};
-ghost use Rattle.wit_link.specs.Checked.{IsChecked, IsNew};
-ghost use Rattle.wit_link.specs.Fits.{IsNameTaken};
+ghost use Rattle.wit_link.specs.facts.Checked.{IsChecked, IsNew};
+ghost use Rattle.wit_link.specs.steps.Fits.{IsNameTaken};
 ghost use Rattle.wit_link_spec.specs.Pushed.{with_parts};
-ghost use Rattle.wit_link.specs.Including.{ready_worlds};
+ghost use Rattle.wit_link.specs.steps.Including.{ready_worlds};
 ghost use Rattle.wit_remap.specs.Grown.{Begins, Grown};
 
 use crate::checking::{Checked, check};

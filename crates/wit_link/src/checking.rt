@@ -1,13 +1,13 @@
 //! What is looked at of a package before the graph is touched.
 ghost use Rattle.std.specs.Prelude.{◌≡◌, ◌⊎◌, IfErr, IfOk, OnOk};
-ghost use Rattle.wit_link_spec.specs.Adding.{activity_of, addition_of, places_of, values_of};
+ghost use Rattle.wit_link_spec.specs.steps.Adding.{activity_of, addition_of, places_of, values_of};
 ghost use Rattle.wit_link_spec.specs.Cause.{IsCause};
-ghost use Rattle.wit_link_spec.specs.Passed.{GatesAreMet, HasResources, IsAllFound, NeedsNothingExcluded, ReturnsNoBorrow};
+ghost use Rattle.wit_link_spec.specs.steps.Passed.{GatesAreMet, HasResources, IsAllFound, NeedsNothingExcluded, ReturnsNoBorrow};
 ghost use Rattle.wit_link_spec.specs.Reasons.{PassesTheEnd};
 ghost use Rattle.wit_elaboration.specs.Valid.{IsValid};
 ghost use Rattle.wit_graph_data.specs.declared.error_kind.ResolveErrorKind.TheVariants.{OutOfMemory};
 ghost use Rattle.wit_data.specs.Shape.{IsShaped};
-ghost use Rattle.wit_link.specs.Checked.{IsChecked};
+ghost use Rattle.wit_link.specs.facts.Checked.{IsChecked};
 
 use std::alloc::Global;
 use wit_graph_data::ResolveResult;

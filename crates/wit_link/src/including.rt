@@ -1,6 +1,6 @@
 //! The includes of a package's worlds, with the ids and spans that they have in the graph.
 ghost use Rattle.std.specs.Prelude.{◌≡◌, IfOk, map};
-ghost use Rattle.wit_link.specs.Including.{include_at, world_with};
+ghost use Rattle.wit_link.specs.steps.Including.{include_at, world_with};
 
 use std::alloc::{AllocError, Global};
 use wit_data::{Items, WorldInclude};

@@ -12,8 +12,8 @@ use Rattle.wit_data.specs.declared.interface.Interface.{Interface}
 use Rattle.wit_data.specs.declared.world.World.{World}
 use Rattle.wit_data.specs.declared.world.WorldItem.{WorldItem}
 use Rattle.wit_data.specs.declared.world.WorldItem.TheVariants as item
-use Rattle.wit_elaboration.specs.Examples.{empty_graph}
-use Rattle.wit_graph_theory.specs.TestFacts.{all_are, all_at, at_are, is_empty, not_passed, nothing_in}
+use Rattle.wit_elaboration.specs.examples.Examples.{empty_graph}
+use Rattle.wit_graph_theory.specs.examples.TestFacts.{all_are, all_at, at_are, is_empty, not_passed, nothing_in}
 use Rattle.wit_link_spec.specs.Addition.{Addition, own_worlds}
 use Rattle.wit_link_spec.specs.Cause.{IsAccepted}
 use Rattle.wit_link_spec.specs.Cause as reason

@@ -2,8 +2,8 @@
 use Rattle.std.proofs.Common.{◌≡◌, ◌∙◌, ◌⊎◌, ℕ, zero, suc, [], take, Some, None, slice_get, sym, ap, subst, inl, inr}
 use Rattle.wit_data.specs.declared.world.World.{World}
 use Rattle.wit_data.specs.declared.world.WorldInclude.{WorldInclude}
-use Rattle.wit_graph_theory.specs.OptionFacts.{some_same}
-use Rattle.wit_graph_theory.specs.TestFacts.{none_some}
+use Rattle.wit_graph_theory.specs.facts.OptionFacts.{some_same}
+use Rattle.wit_graph_theory.specs.examples.TestFacts.{none_some}
 use Rattle.wit_link_spec.specs.Addition.{Addition, active_includes, own_worlds, world_place}
 use Rattle.wit_link_spec.specs.Include.{Begun, Lists, lists_of}
 use Rattle.wit_link_spec.specs.Pushed.{begun, begun_with, with_worlds}

@@ -1,7 +1,7 @@
 -- The examples of reasons among exports, and of those that an include brings.
 use Rattle.std.proofs.Common.{◌≡◌, ◌∙◌, ℕ, zero, suc, List, [], ◌∷◌, None, refl, ap, sym, subst, inl, inr, lit<, Contains, arith}
 use Rattle.std.specs.Prelude.{codes}
-use Rattle.wit_values.specs.Lists.{differ}
+use Rattle.wit_values.specs.facts.Lists.{differ}
 use Rattle.wit_digraph.specs.Relation.{IsPath, direct}
 use Rattle.wit_data.specs.Entries.{Entry}
 use Rattle.wit_data.specs.Uses.{uses_of}
@@ -11,9 +11,9 @@ use Rattle.wit_data.specs.declared.world.World.{World}
 use Rattle.wit_data.specs.declared.world.WorldItem.TheVariants as item
 use Rattle.wit_data.specs.declared.world.WorldKey.TheVariants as key
 use Rattle.wit_elaboration.specs.Imported.{HasConflict}
-use Rattle.wit_graph_data.specs.Samples.{entry_of, no_docs, sample}
-use Rattle.wit_graph_theory.specs.TestFacts.{none_in, one_of_two, only_one}
-use Rattle.wit_labels.specs.Examples.{function_entry}
+use Rattle.wit_graph_data.specs.examples.Samples.{entry_of, no_docs, sample}
+use Rattle.wit_graph_theory.specs.examples.TestFacts.{none_in, one_of_two, only_one}
+use Rattle.wit_labels.specs.examples.Examples.{function_entry}
 use Rattle.wit_link_spec.specs.Addition.{Addition}
 use Rattle.wit_link_spec.specs.Cause as reason
 use Rattle.wit_link_spec.specs.Gates.{Place}

@@ -1,7 +1,7 @@
 -- The examples that compute.
 use Rattle.std.proofs.Common.{◌≡◌, ℕ, List, [], ◌∷◌, ◌++◌, length, map, flat_map, refl, ap, lit<, arith}
 use Rattle.std.specs.Prelude.{codes}
-use Rattle.wit_values.specs.Lists.{differ}
+use Rattle.wit_values.specs.facts.Lists.{differ}
 use Rattle.wit_digraph.specs.Walks.{walk, walk_within}
 use Rattle.wit_data.specs.declared.interface.Interface.{Interface}
 use Rattle.wit_data.specs.declared.package_name.PackageName.{PackageName}
@@ -13,7 +13,7 @@ use Rattle.wit_data.specs.declared.world.WorldKey.TheVariants as key
 use Rattle.wit_data.specs.Entries.{Entry}
 use Rattle.wit_elaboration.specs.Elaborated.{import_steps, import_steps_within}
 use Rattle.wit_graph_data.specs.declared.graph.Graph.{Graph}
-use Rattle.wit_graph_theory.specs.TestFacts.{only_one}
+use Rattle.wit_graph_theory.specs.examples.TestFacts.{only_one}
 use Rattle.wit_link_spec.specs.Addition.{function_positions}
 use Rattle.wit_link_spec.specs.Include.{Lists}
 use Rattle.wit_link_examples.proofs.Accepted.{accepted, including_accepted}

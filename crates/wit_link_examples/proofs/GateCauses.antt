@@ -12,10 +12,10 @@ use Rattle.wit_data.specs.declared.stability.Stability.TheVariants.{Unknown}
 use Rattle.wit_data.specs.declared.types.Handle.TheVariants as handle
 use Rattle.wit_data.specs.declared.types.TypeDefKind.TheVariants as kind
 use Rattle.wit_data.specs.declared.types.Type_.TheVariants as type
-use Rattle.wit_elaboration.specs.Examples.{empty_graph}
+use Rattle.wit_elaboration.specs.examples.Examples.{empty_graph}
 use Rattle.wit_graph_data.specs.Questions.{held_rows}
-use Rattle.wit_graph_data.specs.Samples.{foo_bar, function_of, no_docs}
-use Rattle.wit_graph_theory.specs.TestFacts.{none_in, none_some, only_one}
+use Rattle.wit_graph_data.specs.examples.Samples.{foo_bar, function_of, no_docs}
+use Rattle.wit_graph_theory.specs.examples.TestFacts.{none_in, none_some, only_one}
 use Rattle.wit_link_spec.specs.Addition.{Addition}
 use Rattle.wit_link_spec.specs.Cause as reason
 use Rattle.wit_link_spec.specs.Gates.{Place, function_is_active}

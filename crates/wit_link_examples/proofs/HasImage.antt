@@ -9,10 +9,10 @@ use Rattle.std.specs.Option.{option_map_or}
 use Rattle.std.specs.declared.cmp.Ordering.{Ordering}
 use Rattle.std.specs.declared.cmp.Ordering.TheVariants.{Less, Equal, Greater}
 use Rattle.wit_values.specs.Version.{Parts, version_cmp}
-use Rattle.wit_digraph.specs.MemberFacts.{Contains-here}
+use Rattle.wit_digraph.specs.facts.MemberFacts.{Contains-here}
 use Rattle.wit_data.specs.Entries.{Entry}
 use Rattle.wit_data.specs.Foreign.{ForeignItem}
-use Rattle.wit_data.specs.PackageNameFacts.{same_name}
+use Rattle.wit_data.specs.facts.PackageNameFacts.{same_name}
 use Rattle.wit_data.specs.PackageOrder.{same_package}
 use Rattle.wit_data.specs.Reference.{function_references}
 use Rattle.wit_data.specs.Stability.{IsStable}
@@ -30,8 +30,8 @@ use Rattle.wit_data.specs.declared.world.World.{World}
 use Rattle.wit_data.specs.declared.world.WorldInclude.{WorldInclude}
 use Rattle.wit_data.specs.declared.world.WorldItem.{WorldItem}
 use Rattle.wit_data.specs.declared.world.WorldItem.TheVariants as item
-use Rattle.wit_graph_theory.specs.ListFacts.{contained_at}
-use Rattle.wit_graph_theory.specs.TestFacts.{all_are, all_at, at_are, implied, implies, not_passed}
+use Rattle.wit_graph_theory.specs.facts.ListFacts.{contained_at}
+use Rattle.wit_graph_theory.specs.examples.TestFacts.{all_are, all_at, at_are, implied, implies, not_passed}
 use Rattle.wit_link_spec.specs.Addition.{Addition}
 use Rattle.wit_link_spec.specs.Gates.{HasEntry, HasNote, IsAsked, Place, asked_notes, function_is_active, include_is_active, interface_is_active, interface_notes, is_active, type_is_active, world_is_active, world_notes}
 use Rattle.wit_link_spec.specs.Gates as asked

@@ -1,15 +1,15 @@
 -- The examples of worlds one after another, and of packages without an image.
 use Rattle.std.proofs.Common.{◌≡◌, ℕ, ◌<◌, zero, suc, List, [], ◌∷◌, Some, None, slice_get, refl, subst, inl, lit<, arith}
 use Rattle.std.specs.Prelude.{codes}
-use Rattle.wit_values.specs.Lists.{differ}
+use Rattle.wit_values.specs.facts.Lists.{differ}
 use Rattle.wit_digraph.specs.Walks.{walk, walk_within}
 use Rattle.wit_data.specs.declared.world.World.{World}
 use Rattle.wit_data.specs.declared.world.WorldInclude.{WorldInclude}
 use Rattle.wit_data.specs.declared.world.WorldKey.TheVariants as key
 use Rattle.wit_elaboration.specs.Elaborated.{import_steps, import_steps_within}
-use Rattle.wit_graph_data.specs.Samples.{no_docs}
-use Rattle.wit_graph_theory.specs.TestFacts.{only_one}
-use Rattle.wit_labels.specs.Examples.{function_entry}
+use Rattle.wit_graph_data.specs.examples.Samples.{no_docs}
+use Rattle.wit_graph_theory.specs.examples.TestFacts.{only_one}
+use Rattle.wit_labels.specs.examples.Examples.{function_entry}
 use Rattle.wit_link_spec.specs.Addition.{Addition, active_includes, own_worlds}
 use Rattle.wit_link_spec.specs.Cause.{IsReached}
 use Rattle.wit_link_spec.specs.Cause as reason

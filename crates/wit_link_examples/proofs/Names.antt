@@ -2,13 +2,13 @@
 use Rattle.std.proofs.Common.{◌≡◌, ℕ, true, false, List, [], Some, refl, ap, sym, subst, inl, inr, lit<}
 use Rattle.std.proofs.lemmas.Bool.{false≢true}
 use Rattle.std.specs.Prelude.{codes}
-use Rattle.wit_values.specs.Lists.{differ}
+use Rattle.wit_values.specs.facts.Lists.{differ}
 use Rattle.wit_digraph.specs.Walks.{walk, walk_within}
 use Rattle.wit_data.specs.declared.package_name.PackageName.{PackageName}
-use Rattle.wit_elaboration.specs.Examples.{empty_graph}
-use Rattle.wit_graph_data.specs.Samples.{foo_bar, sample}
-use Rattle.wit_graph_theory.specs.OptionFacts.{some_same}
-use Rattle.wit_graph_theory.specs.TestFacts.{only_one}
+use Rattle.wit_elaboration.specs.examples.Examples.{empty_graph}
+use Rattle.wit_graph_data.specs.examples.Samples.{foo_bar, sample}
+use Rattle.wit_graph_theory.specs.facts.OptionFacts.{some_same}
+use Rattle.wit_graph_theory.specs.examples.TestFacts.{only_one}
 use Rattle.wit_link_spec.specs.Addition.{Addition}
 use Rattle.wit_link_spec.specs.Cause as reason
 use Rattle.wit_link_spec.specs.Gates.{Place}

@@ -11,10 +11,10 @@ use Rattle.wit_sources.specs.Span.{end_of, moved_by}
 use Rattle.wit_data.specs.Each.{SomeAt}
 use Rattle.wit_data.specs.declared.package_name.PackageName.{PackageName}
 use Rattle.wit_data.specs.declared.stability.Stability.TheVariants.{Unknown}
-use Rattle.wit_graph_data.specs.Samples.{foo_bar}
+use Rattle.wit_graph_data.specs.examples.Samples.{foo_bar}
 use Rattle.wit_graph_data.specs.declared.error_kind.ResolveErrorKind.{ResolveErrorKind}
 use Rattle.wit_graph_data.specs.declared.error_kind.ResolveErrorKind.TheVariants.{DuplicatePackage, OffsetOverflow, PackageCycle}
-use Rattle.wit_graph_theory.specs.TestFacts.{none_in, one_of_two, only_one}
+use Rattle.wit_graph_theory.specs.examples.TestFacts.{none_in, one_of_two, only_one}
 use Rattle.wit_link_spec.specs.Gates.{Place}
 use Rattle.wit_link_order.specs.Sorting.{AreSorted, Handed, IsGroupOrder, IsHandedTwice, IsSortCause, IsTooFar, TellsTooFar, handed_uses, names_of}
 use Rattle.wit_link_examples.specs.Orders.{ExamplesOfGroups, ExamplesOfOrders, dep_on_main, main_and_dep, one_alone, twice_at, two_alone}

@@ -2,7 +2,7 @@
 use Rattle.std.proofs.Common.{◌≡◌, ◌∙◌, ℕ, ◌++◌, zero, suc, true, List, [], ◌∷◌, Some, None, refl, ap, sym, subst, inl, inr, lit<, Contains, arith}
 use Rattle.std.proofs.lemmas.Bool.{false≢true}
 use Rattle.std.specs.Prelude.{codes, is_some}
-use Rattle.wit_values.specs.Lists.{differ}
+use Rattle.wit_values.specs.facts.Lists.{differ}
 use Rattle.wit_digraph.specs.Relation.{direct}
 use Rattle.wit_data.specs.Entries.{Entry}
 use Rattle.wit_data.specs.Uses.{uses_of}
@@ -15,9 +15,9 @@ use Rattle.wit_data.specs.declared.world.WorldItem.{WorldItem}
 use Rattle.wit_data.specs.declared.world.WorldItem.TheVariants as item
 use Rattle.wit_data.specs.declared.world.WorldKey.TheVariants as key
 use Rattle.wit_elaboration.specs.Imported.{HasConflict, IsInConflict}
-use Rattle.wit_graph_data.specs.Samples.{entry_of, no_docs, world_of}
-use Rattle.wit_graph_theory.specs.TestFacts.{feature_of, none_in, one_of_two, only_one}
-use Rattle.wit_labels.specs.Examples.{function_entry, named_as}
+use Rattle.wit_graph_data.specs.examples.Samples.{entry_of, no_docs, world_of}
+use Rattle.wit_graph_theory.specs.examples.TestFacts.{feature_of, none_in, one_of_two, only_one}
+use Rattle.wit_labels.specs.examples.Examples.{function_entry, named_as}
 use Rattle.wit_labels.specs.Rename.{renamed_by}
 use Rattle.wit_link_spec.specs.Addition.{Addition}
 use Rattle.wit_link_spec.specs.Cause.{IncludeIsReached, IsReached}

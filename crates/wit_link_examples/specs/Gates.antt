@@ -2,7 +2,7 @@
 use Rattle.std.specs.Prelude.{◌≡◌, true, false, [], ◌∷◌, None}
 use Rattle.wit_data.specs.declared.stability.Stability.TheVariants.{Unknown}
 use Rattle.wit_link_spec.specs.Gates.{asked_notes, interface_is_active, is_active, some_active}
-use Rattle.wit_graph_data.specs.Samples.{foo_bar}
+use Rattle.wit_graph_data.specs.examples.Samples.{foo_bar}
 use Rattle.wit_link_examples.specs.Packages.{all_features, feature_f, gate_f, gated, main_name, naming, no_features, since_one}
 
 -- notes that are active, and notes that are asked

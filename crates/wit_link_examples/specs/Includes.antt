@@ -10,9 +10,9 @@ use Rattle.wit_data.specs.declared.world.IncludeName.{IncludeName}
 use Rattle.wit_data.specs.declared.world.World.{World}
 use Rattle.wit_data.specs.declared.world.WorldItem.TheVariants as item
 use Rattle.wit_data.specs.declared.world.WorldKey.TheVariants as key
-use Rattle.wit_graph_data.specs.Samples.{entry_of, foo_bar, foo_bar_of, function_of, sample, type_of, unnamed, world_of}
+use Rattle.wit_graph_data.specs.examples.Samples.{entry_of, foo_bar, foo_bar_of, function_of, sample, type_of, unnamed, world_of}
 use Rattle.wit_graph_data.specs.declared.graph.Graph.{Graph}
-use Rattle.wit_labels.specs.Examples.{function_entry, named_as}
+use Rattle.wit_labels.specs.examples.Examples.{function_entry, named_as}
 use Rattle.wit_link_spec.specs.Include.{Begun, Lists, include_stability, included, is_copied, joined, joined_stability}
 use Rattle.wit_link_spec.specs.WorldReasons.{Disagree, IsRenamed, IsShadowed}
 use Rattle.wit_link_examples.specs.Packages.{gate_f, gate_g, gated_entry, since_one}

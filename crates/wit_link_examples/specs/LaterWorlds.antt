@@ -5,12 +5,12 @@ use Rattle.wit_data.specs.declared.interface.Interface.{Interface}
 use Rattle.wit_data.specs.declared.stability.Stability.TheVariants.{Unknown}
 use Rattle.wit_data.specs.declared.world.World.{World}
 use Rattle.wit_data.specs.declared.world.WorldInclude.{WorldInclude}
-use Rattle.wit_elaboration.specs.Examples.{empty_graph}
-use Rattle.wit_graph_data.specs.Samples.{sample}
+use Rattle.wit_elaboration.specs.examples.Examples.{empty_graph}
+use Rattle.wit_graph_data.specs.examples.Samples.{sample}
 use Rattle.wit_graph_data.specs.declared.cause.Cause.TheVariants as cause
 use Rattle.wit_graph_data.specs.declared.error_kind.ResolveErrorKind.{ResolveErrorKind}
 use Rattle.wit_graph_data.specs.declared.error_kind.ResolveErrorKind.TheVariants.{Semantic, StabilityMismatch}
-use Rattle.wit_labels.specs.Examples.{function_entry}
+use Rattle.wit_labels.specs.examples.Examples.{function_entry}
 use Rattle.wit_link_spec.specs.Addition.{Addition}
 use Rattle.wit_link_spec.specs.Cause.{IsCause}
 use Rattle.wit_link_spec.specs.Gates.{Place}

@@ -3,7 +3,7 @@
 use Rattle.std.specs.Prelude.{◌≡◌, ℕ, List, [], ◌∷◌, Some}
 use Rattle.wit_data.specs.declared.package_name.PackageName.{PackageName}
 use Rattle.wit_data.specs.declared.stability.Stability.TheVariants.{Unknown}
-use Rattle.wit_graph_data.specs.Samples.{foo_bar}
+use Rattle.wit_graph_data.specs.examples.Samples.{foo_bar}
 use Rattle.wit_graph_data.specs.declared.error_kind.ResolveErrorKind.{ResolveErrorKind}
 use Rattle.wit_link_order.specs.Sorting.{AreSorted, Handed, IsGroupOrder, IsHandedTwice, IsOnHandedCycle, IsSortCause, TellsTooFar, handed_uses}
 use Rattle.wit_link_examples.specs.Packages.{bare, dep_name, main_name, naming}

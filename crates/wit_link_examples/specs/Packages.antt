@@ -17,10 +17,10 @@ use Rattle.wit_data.specs.declared.world.World.{World}
 use Rattle.wit_data.specs.declared.world.WorldInclude.{WorldInclude}
 use Rattle.wit_data.specs.declared.world.WorldItem.TheVariants as item
 use Rattle.wit_data.specs.declared.world.WorldKey.TheVariants as key
-use Rattle.wit_graph_data.specs.Samples.{entry_of, foo_bar, foo_bar_of, function_of, interface_of, no_docs, sample, sample_types, type_in, unnamed, world_of}
+use Rattle.wit_graph_data.specs.examples.Samples.{entry_of, foo_bar, foo_bar_of, function_of, interface_of, no_docs, sample, sample_types, type_in, unnamed, world_of}
 use Rattle.wit_graph_data.specs.declared.features.Features.{Features}
 use Rattle.wit_graph_data.specs.declared.graph.Graph.{Graph}
-use Rattle.wit_labels.specs.Examples.{function_entry}
+use Rattle.wit_labels.specs.examples.Examples.{function_entry}
 use Rattle.wit_link_spec.specs.Addition.{Addition}
 
 -- ---- features and gates

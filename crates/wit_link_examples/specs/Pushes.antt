@@ -1,7 +1,7 @@
 -- What adding small packages makes of a graph.
 use Rattle.std.specs.Prelude.{◌≡◌, [], ◌∷◌, Some, None, codes}
-use Rattle.wit_elaboration.specs.Examples.{empty_graph}
-use Rattle.wit_graph_data.specs.Samples.{entry_of, foo_bar, interface_of, sample}
+use Rattle.wit_elaboration.specs.examples.Examples.{empty_graph}
+use Rattle.wit_graph_data.specs.examples.Samples.{entry_of, foo_bar, interface_of, sample}
 use Rattle.wit_link_spec.specs.Cause.{IsAccepted}
 use Rattle.wit_link_spec.specs.Pushed.{pushed}
 use Rattle.wit_link_spec.specs.Spans.{package_spans}

@@ -9,7 +9,7 @@ use Rattle.wit_data.specs.declared.types.Type_.{Type_}
 use Rattle.wit_data.specs.declared.types.Type_.TheVariants as type
 use Rattle.wit_data.specs.declared.unresolved.AstItem.TheVariants as named
 use Rattle.wit_data.specs.declared.unresolved.UnresolvedPackage.{UnresolvedPackage}
-use Rattle.wit_graph_data.specs.Samples.{foo_bar, function_of, interface_of, no_docs, sample, type_in, unnamed}
+use Rattle.wit_graph_data.specs.examples.Samples.{foo_bar, function_of, interface_of, no_docs, sample, type_in, unnamed}
 use Rattle.wit_graph_data.specs.declared.graph.Graph.{Graph}
 use Rattle.wit_graph_theory.specs.Image.{kind_image, value_image}
 use Rattle.wit_link_spec.specs.Addition.{Addition, addition_maps, needs_own, type_place, value_place}

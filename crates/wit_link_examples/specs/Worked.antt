@@ -14,11 +14,11 @@ use Rattle.wit_data.specs.declared.unresolved.UnresolvedPackage.{UnresolvedPacka
 use Rattle.wit_data.specs.declared.world.World.{World}
 use Rattle.wit_data.specs.declared.world.WorldItem.TheVariants as item
 use Rattle.wit_data.specs.declared.world.WorldKey.TheVariants as key
-use Rattle.wit_elaboration.specs.Examples.{empty_graph}
-use Rattle.wit_graph_data.specs.Samples.{entry_of, foo_bar, foo_bar_of, function_of, interface_of, type_in, type_of, unnamed, world_of}
+use Rattle.wit_elaboration.specs.examples.Examples.{empty_graph}
+use Rattle.wit_graph_data.specs.examples.Samples.{entry_of, foo_bar, foo_bar_of, function_of, interface_of, type_in, type_of, unnamed, world_of}
 use Rattle.wit_graph_data.specs.declared.features.Features.{Features}
 use Rattle.wit_graph_data.specs.declared.graph.Graph.{Graph}
-use Rattle.wit_labels.specs.Examples.{function_entry, named_as}
+use Rattle.wit_labels.specs.examples.Examples.{function_entry, named_as}
 use Rattle.wit_link_spec.specs.Pushed.{pushed}
 use Rattle.wit_link_examples.specs.IncludedWorlds.{type_entry}
 use Rattle.wit_link_examples.specs.Packages.{adding, adding_at, bare, feature_f, gate_f, gated_entry, include_with, loose_interface, loose_world, no_features}

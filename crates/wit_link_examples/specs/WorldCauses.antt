@@ -3,11 +3,11 @@
 use Rattle.std.specs.Prelude.{ℕ, List, [], ◌∷◌, Some, None, codes}
 use Rattle.wit_data.specs.Entries.{Entry}
 use Rattle.wit_data.specs.declared.stability.Stability.{Stability}
-use Rattle.wit_elaboration.specs.Examples.{empty_graph}
-use Rattle.wit_graph_data.specs.Samples.{sample}
+use Rattle.wit_elaboration.specs.examples.Examples.{empty_graph}
+use Rattle.wit_graph_data.specs.examples.Samples.{sample}
 use Rattle.wit_graph_data.specs.declared.cause.Cause.TheVariants as cause
 use Rattle.wit_graph_data.specs.declared.error_kind.ResolveErrorKind.TheVariants.{InvalidTransitiveDependency, ItemShadowing, Semantic, StabilityMismatch}
-use Rattle.wit_labels.specs.Examples.{function_entry, named_as}
+use Rattle.wit_labels.specs.examples.Examples.{function_entry, named_as}
 use Rattle.wit_link_spec.specs.Addition.{Addition}
 use Rattle.wit_link_spec.specs.Cause.{IsCause}
 use Rattle.wit_link_spec.specs.Gates.{Place}

@@ -4,12 +4,12 @@ use Rattle.std.proofs.lemmas.Bool.{cases_lt, false≢true}
 use Rattle.std.proofs.lemmas.List.Sums.{fails_before_first, passes_at_first}
 use Rattle.std.proofs.lemmas.Option.{get_or_from_slice_get, slice_get-get_or, slice_get_within}
 use Rattle.std.specs.List.{position_or_len}
-use Rattle.wit_digraph.specs.MemberFacts.{Contains-cons_cases, Contains-here, Contains-nil, Contains-there}
+use Rattle.wit_digraph.specs.facts.MemberFacts.{Contains-cons_cases, Contains-here, Contains-nil, Contains-there}
 use Rattle.wit_data.specs.Each.{Each}
-use Rattle.wit_data.specs.EachFacts.{EachBelow}
+use Rattle.wit_data.specs.facts.EachFacts.{EachBelow}
 use Rattle.wit_data.specs.declared.stability.Stability.{Stability}
 use Rattle.wit_graph_data.specs.declared.features.Features.{Features}
-use Rattle.wit_graph_theory.specs.ListFacts.{contained_at}
+use Rattle.wit_graph_theory.specs.facts.ListFacts.{contained_at}
 use Rattle.wit_link_spec.specs.Gates.{asked_notes, is_active}
 
 -- ---- beginnings of lists

@@ -8,9 +8,9 @@ use Rattle.std.proofs.lemmas.List.FromFn.{fill_by_all, length-map-range_with_len
 use Rattle.std.proofs.lemmas.Option.{get_or_from_slice_get, slice_get_within}
 use Rattle.std.specs.List.{flat_map, list_any, range_with_len}
 use Rattle.std.specs.Option.{option_map_or}
-use Rattle.wit_values.specs.Lists.{slice_get-set, take-next_at}
+use Rattle.wit_values.specs.facts.Lists.{slice_get-set, take-next_at}
 use Rattle.wit_data.specs.Each.{Each}
-use Rattle.wit_data.specs.EachFacts.{flat_map-next}
+use Rattle.wit_data.specs.facts.EachFacts.{flat_map-next}
 use Rattle.wit_data.specs.Foreign.{ForeignItem, ForeignItems, IsBare, IsBareInterface, IsBareWorld, interface_id, world_id}
 use Rattle.wit_data.specs.Shape.{IsShaped}
 use Rattle.wit_data.specs.declared.interface.Interface.{Interface}
@@ -21,11 +21,11 @@ use Rattle.wit_data.specs.declared.unresolved.AstItem.TheVariants as named
 use Rattle.wit_data.specs.declared.unresolved.UnresolvedPackage.{UnresolvedPackage}
 use Rattle.wit_data.specs.declared.world.World.{World}
 use Rattle.wit_graph_data.specs.declared.features.Features.{Features}
-use Rattle.wit_graph_theory.specs.ListFacts.{found_at, place_of}
+use Rattle.wit_graph_theory.specs.facts.ListFacts.{found_at, place_of}
 use Rattle.wit_link_spec.specs.Gates.{foreign_items, interface_is_active, is_active, is_foreign_interface, is_foreign_world, notes_of_foreign, some_active, type_is_active, world_is_active}
-use Rattle.wit_link_spec.specs.RangeFacts.{range-at, range-past}
+use Rattle.wit_link_spec.specs.facts.RangeFacts.{range-at, range-past}
 use Rattle.wit_link_spec.specs.declared.adding.Activity.{Activity}
-use Rattle.wit_link_features.specs.GateSteps.{AreMarked, HasFlag, IsMarked, is_marked, own_activity, own_interface_flag, own_world_flag, with_item}
+use Rattle.wit_link_features.specs.steps.GateSteps.{AreMarked, HasFlag, IsMarked, is_marked, own_activity, own_interface_flag, own_world_flag, with_item}
 use Rattle.wit_link_features.proofs.ForeignNotes.{named_ids, notes_none}
 
 -- ---- flags by their places

@@ -12,7 +12,7 @@ use Rattle.wit_data.specs.declared.world.World.{World}
 use Rattle.wit_graph_data.specs.declared.features.Features.{Features}
 use Rattle.wit_link_spec.specs.Gates.{interface_is_active, is_active, notes_of_foreign, some_active, type_is_active, world_is_active}
 use Rattle.wit_link_spec.specs.declared.adding.Activity.{Activity}
-use Rattle.wit_link_features.specs.GateSteps.{IsReady}
+use Rattle.wit_link_features.specs.steps.GateSteps.{IsReady}
 use Rattle.wit_link_features.specs.declared.checker.Checker.{Checker}
 use Rattle.wit_link_features.proofs.Flags.{flag_is}
 

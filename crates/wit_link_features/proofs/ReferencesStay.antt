@@ -1,6 +1,6 @@
 -- What is referred to, and isn't left out.
 use Rattle.std.proofs.Common.{◌≡◌, ◌≢◌, ℕ, true, false, List, [], ◌∷◌, inl, inr, map, Some, slice_get, refl, sym, subst, Contains}
-use Rattle.wit_digraph.specs.MemberFacts.{Contains-flat_map, Contains-flat_map_cases}
+use Rattle.wit_digraph.specs.facts.MemberFacts.{Contains-flat_map, Contains-flat_map_cases}
 use Rattle.wit_sources.specs.Span.{moved_by}
 use Rattle.wit_data.specs.Each.{Each, EachAt}
 use Rattle.wit_data.specs.Entries.{Entry}
@@ -17,15 +17,15 @@ use Rattle.wit_data.specs.declared.world.WorldKey.{WorldKey}
 use Rattle.wit_graph_data.specs.declared.cause.Cause.TheVariants as cause
 use Rattle.wit_graph_data.specs.declared.error_kind.ResolveErrorKind.{ResolveErrorKind}
 use Rattle.wit_graph_data.specs.declared.error_kind.ResolveErrorKind.TheVariants.{Semantic}
-use Rattle.wit_graph_theory.specs.ListFacts.{Contains-map, Contains-map_cases, contained_at, place_of}
+use Rattle.wit_graph_theory.specs.facts.ListFacts.{Contains-map, Contains-map_cases, contained_at, place_of}
 use Rattle.wit_link_spec.specs.Addition.{Addition}
 use Rattle.wit_link_spec.specs.Cause.{IsCause, excluded_11, excluded_owner_12}
 use Rattle.wit_link_spec.specs.CauseText.{excluded_owner_text, excluded_text}
 use Rattle.wit_link_spec.specs.Gates.{HasEntry, Place, world_is_active}
-use Rattle.wit_link_spec.specs.Passed.{NeedsNothingExcluded}
+use Rattle.wit_link_spec.specs.steps.Passed.{NeedsNothingExcluded}
 use Rattle.wit_link_spec.specs.Reasons.{AType, AWorld, AnInterface, IsActiveFunction, IsExcluded, Thing, kind_references, of_entry, of_foreign_type, of_function, of_include, of_interface, of_type, of_world, owner_thing, word_of}
-use Rattle.wit_link_features.specs.GateSteps.{MayRefuse, seen}
-use Rattle.wit_link_features.specs.ReferenceSteps.{FieldStays, FunctionsStay, IsReferred, IsTakenType, ItemStays, KindRefers, KindStays, PartsStay, RefersByItem, RefersInField, Stays, TypesStay, takes_part}
+use Rattle.wit_link_features.specs.steps.GateSteps.{MayRefuse, seen}
+use Rattle.wit_link_features.specs.steps.ReferenceSteps.{FieldStays, FunctionsStay, IsReferred, IsTakenType, ItemStays, KindRefers, KindStays, PartsStay, RefersByItem, RefersInField, Stays, TypesStay, takes_part}
 use Rattle.wit_link_features.specs.declared.checker.Checker.{Checker}
 
 -- ---- what takes part is not left out

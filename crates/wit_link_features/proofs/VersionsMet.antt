@@ -8,7 +8,7 @@ use Rattle.std.specs.Option.{option_map_or}
 use Rattle.std.specs.declared.cmp.Ordering.{Ordering}
 use Rattle.std.specs.declared.cmp.Ordering.TheVariants.{Less, Equal, Greater}
 use Rattle.wit_values.specs.Version.{Parts, version_cmp}
-use Rattle.wit_digraph.specs.MemberFacts.{Contains-cons_cases, Contains-flat_map, Contains-flat_map_cases, Contains-here, Contains-nil}
+use Rattle.wit_digraph.specs.facts.MemberFacts.{Contains-cons_cases, Contains-flat_map, Contains-flat_map_cases, Contains-here, Contains-nil}
 use Rattle.wit_sources.specs.Span.{moved_by}
 use Rattle.wit_data.specs.Each.{Each, EachAt}
 use Rattle.wit_data.specs.Entries.{Entry}
@@ -26,12 +26,12 @@ use Rattle.wit_graph_data.specs.declared.cause.Cause.TheVariants as cause
 use Rattle.wit_graph_data.specs.declared.error_kind.ResolveErrorKind.{ResolveErrorKind}
 use Rattle.wit_graph_data.specs.declared.error_kind.ResolveErrorKind.TheVariants.{Semantic}
 use Rattle.wit_graph_data.specs.declared.features.Features.{Features}
-use Rattle.wit_graph_theory.specs.ListFacts.{contained_at, found_at, place_of}
+use Rattle.wit_graph_theory.specs.facts.ListFacts.{contained_at, found_at, place_of}
 use Rattle.wit_link_spec.specs.Cause.{IsCause, gate_unreleased_10, gate_without_version_9}
 use Rattle.wit_link_spec.specs.CauseText.{gate_unreleased_text, gate_without_version_text}
 use Rattle.wit_link_spec.specs.Gates.{IsAsked, Place, asked_notes, foreign_items, interface_notes, is_active, notes_of_foreign, of_entry, of_function, of_include, of_interface, of_type, of_world, world_notes}
-use Rattle.wit_link_spec.specs.Passed.{GatesAreMet}
-use Rattle.wit_link_features.specs.GateSteps.{Asks, HasReached, IsAt, IsMet, IsReady, IsThere, MayRefuse, MeetsForeign, MeetsFunctions, MeetsItem, MeetsParts, seen}
+use Rattle.wit_link_spec.specs.steps.Passed.{GatesAreMet}
+use Rattle.wit_link_features.specs.steps.GateSteps.{Asks, HasReached, IsAt, IsMet, IsReady, IsThere, MayRefuse, MeetsForeign, MeetsFunctions, MeetsItem, MeetsParts, seen}
 use Rattle.wit_link_features.specs.declared.checker.Checker.{Checker}
 use Rattle.wit_link_features.proofs.AskedNotes.{take_member}
 use Rattle.wit_link_features.proofs.ForeignNotes.{named_ids, named_ids-items, note_from, notes_alone}

@@ -8,13 +8,13 @@ ghost use Rattle.wit_data.specs.declared.function.Function.{Function};
 ghost use Rattle.wit_data.specs.declared.types.TypeDefKind.TheVariants as kinds;
 ghost use Rattle.wit_graph_data.specs.declared.cause.Cause.TheVariants as cause;
 ghost use Rattle.wit_graph_data.specs.declared.error_kind.ResolveErrorKind.TheVariants.{OutOfMemory, Semantic};
-ghost use Rattle.wit_link_spec.specs.Adding.{activity_of, addition_of};
+ghost use Rattle.wit_link_spec.specs.steps.Adding.{activity_of, addition_of};
 ghost use Rattle.wit_link_spec.specs.Cause.{IsCause};
 ghost use Rattle.wit_link_spec.specs.CauseText.{excluded_owner_text, excluded_text};
-ghost use Rattle.wit_link_spec.specs.Passed.{NeedsNothingExcluded};
+ghost use Rattle.wit_link_spec.specs.steps.Passed.{NeedsNothingExcluded};
 ghost use Rattle.wit_link_spec.specs.Reasons.{AType, word_of};
-ghost use Rattle.wit_link_features.specs.GateSteps.{IsReady, MayRefuse, seen};
-ghost use Rattle.wit_link_features.specs.ReferenceSteps.{FieldStays, ForeignStays, FunctionStays, FunctionsStay, IncludeStays, IsReferred, IsTakenType, ItemStays, KindRefers, KindStays, MayTakePart, OwnerStays, PartsStay, RefersByInclude, RefersByItem, RefersInField, Stays, TypeStays, TypesStay, takes_part, thing_of};
+ghost use Rattle.wit_link_features.specs.steps.GateSteps.{IsReady, MayRefuse, seen};
+ghost use Rattle.wit_link_features.specs.steps.ReferenceSteps.{FieldStays, ForeignStays, FunctionStays, FunctionsStay, IncludeStays, IsReferred, IsTakenType, ItemStays, KindRefers, KindStays, MayTakePart, OwnerStays, PartsStay, RefersByInclude, RefersByItem, RefersInField, Stays, TypeStays, TypesStay, takes_part, thing_of};
 
 use crate::checker::Checker;
 use crate::needs::{Needed, flag_at};

@@ -14,12 +14,12 @@ ghost use Rattle.wit_data.specs.declared.world.World.{World};
 ghost use Rattle.wit_data.specs.declared.world.WorldInclude.{WorldInclude};
 ghost use Rattle.wit_graph_data.specs.declared.cause.Cause.TheVariants as cause;
 ghost use Rattle.wit_graph_data.specs.declared.error_kind.ResolveErrorKind.TheVariants.{OutOfMemory, Semantic};
-ghost use Rattle.wit_link_spec.specs.Adding.{activity_of, addition_of};
+ghost use Rattle.wit_link_spec.specs.steps.Adding.{activity_of, addition_of};
 ghost use Rattle.wit_link_spec.specs.Cause.{IsCause};
 ghost use Rattle.wit_link_spec.specs.CauseText.{gate_unreleased_text, gate_without_version_text};
 ghost use Rattle.wit_link_spec.specs.Gates.{asked_notes, foreign_items};
-ghost use Rattle.wit_link_spec.specs.Passed.{GatesAreMet};
-ghost use Rattle.wit_link_features.specs.GateSteps.{Asks, AsksItem, HasReached, IsAt, IsMet, IsReady, IsThere, MayRefuse, MeetsForeign, MeetsFunctions, MeetsItem, MeetsParts};
+ghost use Rattle.wit_link_spec.specs.steps.Passed.{GatesAreMet};
+ghost use Rattle.wit_link_features.specs.steps.GateSteps.{Asks, AsksItem, HasReached, IsAt, IsMet, IsReady, IsThere, MayRefuse, MeetsForeign, MeetsFunctions, MeetsItem, MeetsParts};
 
 use crate::checker::Checker;
 use crate::needs::flag_at;

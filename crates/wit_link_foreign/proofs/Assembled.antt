@@ -4,8 +4,8 @@ use Rattle.std.proofs.lemmas.Option.{slice_get_within}
 use Rattle.wit_data.specs.declared.unresolved.AstItem.TheVariants as item
 use Rattle.wit_link_spec.specs.Addition.{Addition}
 use Rattle.wit_link_spec.specs.Lookup.{named_items}
-use Rattle.wit_link_spec.specs.Passed.{IsAllFound}
-use Rattle.wit_link_foreign.specs.Finding.{ArePackagesThere, AreThere, AreTypesThere}
+use Rattle.wit_link_spec.specs.steps.Passed.{IsAllFound}
+use Rattle.wit_link_foreign.specs.steps.Finding.{ArePackagesThere, AreThere, AreTypesThere}
 
 pub all_found : (a : Addition) → AreThere a (named_items a.handed.foreign_deps) → ArePackagesThere a (length a.handed.foreign_deps) → AreTypesThere a (length a.handed.types) → IsAllFound a
 all_found a there packages types = record {

@@ -3,10 +3,10 @@ use Rattle.std.proofs.Common.{◌≡◌, ◌∙◌, ◌<◌, ◌+◌, ◌⊎◌,
 use Rattle.std.proofs.lemmas.Bool.{cases_lt, false≢true}
 use Rattle.std.specs.Map.{lookup}
 use Rattle.std.specs.Prelude.{◌≢◌}
-use Rattle.wit_digraph.specs.MemberFacts.{Contains-nil}
-use Rattle.wit_data.specs.EachFacts.{nil_from_length}
+use Rattle.wit_digraph.specs.facts.MemberFacts.{Contains-nil}
+use Rattle.wit_data.specs.facts.EachFacts.{nil_from_length}
 use Rattle.wit_data.specs.Foreign.{ForeignItem}
-use Rattle.wit_data.specs.PackageNameFacts.{own_name, same_name}
+use Rattle.wit_data.specs.facts.PackageNameFacts.{own_name, same_name}
 use Rattle.wit_data.specs.PackageOrder.{same_package}
 use Rattle.wit_data.specs.declared.interface.Interface.{Interface}
 use Rattle.wit_data.specs.declared.package_name.PackageName.{PackageName}
@@ -19,15 +19,15 @@ use Rattle.wit_data.specs.declared.world.World.{World}
 use Rattle.wit_sources.specs.Span.{moved_by}
 use Rattle.wit_graph_data.specs.declared.cause.Cause.TheVariants.{TypeNotDefined}
 use Rattle.wit_graph_data.specs.declared.error_kind.ResolveErrorKind.TheVariants.{InterfaceNotFound, PackageNotFound, Semantic, WorldNotFound}
-use Rattle.wit_graph_theory.specs.ListFacts.{contained_at, some_at}
+use Rattle.wit_graph_theory.specs.facts.ListFacts.{contained_at, some_at}
 use Rattle.wit_link_spec.specs.Addition.{Addition}
 use Rattle.wit_link_spec.specs.Cause.{IsCause, interface_not_found_3, package_not_found_1, type_not_defined_13, world_not_found_2}
 use Rattle.wit_link_spec.specs.CauseText.{type_not_defined_text}
-use Rattle.wit_link_spec.specs.Found.{named_into}
+use Rattle.wit_link_spec.specs.facts.Found.{named_into}
 use Rattle.wit_link_spec.specs.Gates.{Place, interface_is_active, type_is_active, world_is_active}
 use Rattle.wit_link_spec.specs.Lookup.{found_interface, is_foreign_type, listed_type, named_items}
 use Rattle.wit_link_spec.specs.Reasons.{known_packages}
-use Rattle.wit_link_foreign.specs.Finding.{ArePackagesThere, AreTypesThere, IsNamed, IsHome, IsTypeThere, interface_in, world_in}
+use Rattle.wit_link_foreign.specs.steps.Finding.{ArePackagesThere, AreTypesThere, IsNamed, IsHome, IsTypeThere, interface_in, world_in}
 
 not_there : {X : Type 0} (o : Option X) → o ≡ None → is_some o ≡ true → ⊥
 not_there None none some = cc

@@ -6,10 +6,10 @@ use Rattle.std.proofs.lemmas.Bool.{false≢true}
 use Rattle.std.proofs.lemmas.List.Elements.{Contains-append_right}
 use Rattle.std.proofs.lemmas.List.Folds.{find-append}
 use Rattle.std.proofs.lemmas.Map.Keys.{IsDistinct-head, IsDistinct-tail}
-use Rattle.wit_values.specs.Lists.{AllByRecursion-at}
-use Rattle.wit_digraph.specs.FreshFacts.{any_from_contains, contains_from_any, no_any_from}
-use Rattle.wit_digraph.specs.MemberFacts.{Contains-cons_cases, Contains-flat_map, Contains-here, Contains-nil}
-use Rattle.wit_graph_theory.specs.ListFacts.{place_of}
+use Rattle.wit_values.specs.facts.Lists.{AllByRecursion-at}
+use Rattle.wit_digraph.specs.facts.FreshFacts.{any_from_contains, contains_from_any, no_any_from}
+use Rattle.wit_digraph.specs.facts.MemberFacts.{Contains-cons_cases, Contains-flat_map, Contains-here, Contains-nil}
+use Rattle.wit_graph_theory.specs.facts.ListFacts.{place_of}
 
 -- what stands in one part of a list of different numbers stands in no other
 apart : (xs ys : List ℕ) (k : ℕ) → IsDistinct nat_eq (xs ++ ys) → Contains xs k → Contains ys k → ⊥

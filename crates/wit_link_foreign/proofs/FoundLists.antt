@@ -5,11 +5,11 @@ use Rattle.wit_data.specs.Foreign.{IsBareInterface, IsBareWorld}
 use Rattle.wit_data.specs.Shape.{IsShaped}
 use Rattle.wit_data.specs.declared.package_name.PackageName.{PackageName}
 use Rattle.wit_data.specs.declared.unresolved.AstItem.TheVariants as item
-use Rattle.wit_graph_theory.specs.ListFacts.{found_at, place_of}
+use Rattle.wit_graph_theory.specs.facts.ListFacts.{found_at, place_of}
 use Rattle.wit_link_spec.specs.Addition.{Addition}
-use Rattle.wit_link_spec.specs.Found.{named_at}
-use Rattle.wit_link_spec.specs.RangeFacts.{range-inside, range-read}
-use Rattle.wit_link_foreign.specs.Finding.{IsNamed, Named, found_among, interface_among, world_among}
+use Rattle.wit_link_spec.specs.facts.Found.{named_at}
+use Rattle.wit_link_spec.specs.facts.RangeFacts.{range-inside, range-read}
+use Rattle.wit_link_foreign.specs.steps.Finding.{IsNamed, Named, found_among, interface_among, world_among}
 use Rattle.wit_link_foreign.specs.declared.foreign.Found.{Found}
 
 module _ (a : Addition) (named : List Named) (found : Found) (is : found ≡ found_among a named) where

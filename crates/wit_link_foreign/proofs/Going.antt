@@ -3,22 +3,22 @@ use Rattle.std.proofs.Common.{◌≡◌, ◌∙◌, ◌+◌, ◌<◌, ◌&&◌, 
 use Rattle.std.specs.List.{flat_map, list_any}
 use Rattle.std.specs.Prelude.{option_and_then}
 use Rattle.std.proofs.lemmas.Bool.{false≢true, lt-ltb, ltb-true}
-use Rattle.wit_digraph.specs.FreshFacts.{any_from_contains, contains_from_any}
-use Rattle.wit_digraph.specs.MemberFacts.{Contains-cons_cases, Contains-flat_map, Contains-flat_map_cases, Contains-nil}
+use Rattle.wit_digraph.specs.facts.FreshFacts.{any_from_contains, contains_from_any}
+use Rattle.wit_digraph.specs.facts.MemberFacts.{Contains-cons_cases, Contains-flat_map, Contains-flat_map_cases, Contains-nil}
 use Rattle.wit_data.specs.Foreign.{AreFirst, ForeignItem, foreign_interfaces, foreign_worlds, interface_id, world_id}
 use Rattle.wit_data.specs.Shape.{IsShaped}
 use Rattle.wit_data.specs.declared.package_name.PackageName.{PackageName}
 use Rattle.wit_data.specs.declared.unresolved.AstItem.{AstItem}
 use Rattle.wit_data.specs.declared.unresolved.AstItem.TheVariants as item
-use Rattle.wit_graph_theory.specs.ListFacts.{place_of}
+use Rattle.wit_graph_theory.specs.facts.ListFacts.{place_of}
 use Rattle.wit_link_spec.specs.Addition.{Addition, own_interface, own_type, own_world, taken_interface, taken_type, taken_world}
-use Rattle.wit_link_spec.specs.Found.{find-passes, find-some, interface_of}
+use Rattle.wit_link_spec.specs.facts.Found.{find-passes, find-some, interface_of}
 use Rattle.wit_link_spec.specs.Gates.{interface_is_active, is_foreign_interface, is_foreign_world, type_is_active, world_is_active}
-use Rattle.wit_link_spec.specs.ClosedCut.{member_of_first}
+use Rattle.wit_link_spec.specs.facts.ClosedCut.{member_of_first}
 use Rattle.wit_link_spec.specs.Lookup.{find_interface, find_world, found_interface, found_type, found_world, is_foreign_type, named_items, naming}
-use Rattle.wit_link_spec.specs.RankFacts.{after, rank-suc}
+use Rattle.wit_link_spec.specs.facts.RankFacts.{after, rank-suc}
 use Rattle.wit_link_spec.specs.Ranks.{rank}
-use Rattle.wit_link_foreign.specs.Finding.{AreThere, Named, goes, takes_next}
+use Rattle.wit_link_foreign.specs.steps.Finding.{AreThere, Named, goes, takes_next}
 use Rattle.wit_link_foreign.proofs.NamedItems.{ids_named}
 
 -- where a thing goes, when what is of other packages and takes part is found, and nothing else is

@@ -8,7 +8,7 @@ use Rattle.wit_data.specs.declared.unresolved.AstItem.{AstItem}
 use Rattle.wit_data.specs.declared.unresolved.AstItem.TheVariants as item
 use Rattle.wit_link_spec.specs.Addition.{Addition}
 use Rattle.wit_link_spec.specs.Gates.{interface_is_active, world_is_active}
-use Rattle.wit_link_foreign.specs.Finding.{AreThere, IsHome, Named, found_among, interface_in, world_in}
+use Rattle.wit_link_foreign.specs.steps.Finding.{AreThere, IsHome, Named, found_among, interface_in, world_in}
 use Rattle.wit_link_foreign.specs.declared.foreign.Found.{Found}
 use Rattle.wit_link_foreign.proofs.Causes.{is_named}
 use Rattle.wit_link_foreign.proofs.FoundLists.{named_interface-inside, named_world-inside}

@@ -4,13 +4,13 @@ use Rattle.std.specs.List.{enumerate_from, flat_map}
 use Rattle.std.proofs.lemmas.Grind.{flat_map-append}
 use Rattle.std.proofs.lemmas.List.{take_all}
 use Rattle.std.proofs.lemmas.List.FromFn.{length-enumerate_from}
-use Rattle.wit_values.specs.Lists.{map-next}
-use Rattle.wit_data.specs.EachFacts.{flat_map-next}
+use Rattle.wit_values.specs.facts.Lists.{map-next}
+use Rattle.wit_data.specs.facts.EachFacts.{flat_map-next}
 use Rattle.wit_data.specs.Foreign.{ForeignItem, ForeignItems}
 use Rattle.wit_data.specs.declared.package_name.PackageName.{PackageName}
 use Rattle.wit_data.specs.declared.unresolved.AstItem.{AstItem}
 use Rattle.wit_link_spec.specs.Lookup.{named_items}
-use Rattle.wit_link_foreign.specs.Finding.{Named, named_before, named_of}
+use Rattle.wit_link_foreign.specs.steps.Finding.{Named, named_before, named_of}
 
 module _ {X : Type 0} where
   enumerated : (xs : List X) (n i m : ℕ) (x : X) → m ≡ n + i → slice_get xs i ≡ Some x → slice_get (enumerate_from n xs) i ≡ Some (m, x)

@@ -3,7 +3,7 @@ use Rattle.std.proofs.Common.{◌≡◌, ◌∙◌, ◌<◌, ℕ, true, List, []
 use Rattle.std.specs.List.{IsDistinct, find, flat_map, range_with_len}
 use Rattle.std.specs.Prelude.{option_and_then}
 use Rattle.std.proofs.lemmas.List.Elements.{Contains-append_cases}
-use Rattle.wit_digraph.specs.MemberFacts.{Contains-cons_cases, Contains-nil}
+use Rattle.wit_digraph.specs.facts.MemberFacts.{Contains-cons_cases, Contains-nil}
 use Rattle.wit_data.specs.Foreign.{interface_id, world_id}
 use Rattle.wit_data.specs.Shape.{IsShaped}
 use Rattle.wit_data.specs.declared.unresolved.AstItem.{AstItem}
@@ -11,8 +11,8 @@ use Rattle.wit_data.specs.declared.unresolved.AstItem.TheVariants as item
 use Rattle.wit_link_spec.specs.Addition.{Addition}
 use Rattle.wit_link_spec.specs.Gates.{interface_is_active, world_is_active}
 use Rattle.wit_link_spec.specs.Lookup.{find_interface, find_world, named_items}
-use Rattle.wit_link_spec.specs.RangeFacts.{range-same, range-set}
-use Rattle.wit_link_foreign.specs.Finding.{AreThere, Named, found_among, interface_among, world_among}
+use Rattle.wit_link_spec.specs.facts.RangeFacts.{range-same, range-set}
+use Rattle.wit_link_foreign.specs.steps.Finding.{AreThere, Named, found_among, interface_among, world_among}
 use Rattle.wit_link_foreign.specs.declared.foreign.Found.{Found}
 use Rattle.wit_link_foreign.proofs.Firsts.{first_as_before, first_at_end, names, none_before}
 use Rattle.wit_link_foreign.proofs.NamedItems.{ids_named}

@@ -9,7 +9,7 @@ use Rattle.wit_data.specs.declared.types.TypeOwner.TheVariants as owner
 use Rattle.wit_link_spec.specs.Addition.{Addition}
 use Rattle.wit_link_spec.specs.Gates.{interface_is_active}
 use Rattle.wit_link_spec.specs.Lookup.{found_interface, found_type, listed_type, owning_interface}
-use Rattle.wit_link_foreign.specs.Finding.{IsTypeThere}
+use Rattle.wit_link_foreign.specs.steps.Finding.{IsTypeThere}
 
 module _ (a : Addition) (t : ℕ) (def : TypeDef) (at : slice_get a.handed.types t ≡ Some def) (i : ℕ) (owned : def.owner ≡ owner.Interface i) where
   -- the interface of a type of another package is there

@@ -4,11 +4,11 @@ ghost use Rattle.std.specs.List.{range_with_len};
 ghost use Rattle.wit_graph_data.specs.declared.error_kind.ResolveErrorKind.TheVariants.{OutOfMemory};
 ghost use Rattle.wit_data.specs.Shape.{IsShaped};
 ghost use Rattle.wit_data.specs.declared.unresolved.AstItem.TheVariants as item;
-ghost use Rattle.wit_link_spec.specs.Adding.{activity_of, addition_of};
+ghost use Rattle.wit_link_spec.specs.steps.Adding.{activity_of, addition_of};
 ghost use Rattle.wit_link_spec.specs.Cause.{IsCause};
 ghost use Rattle.wit_link_spec.specs.Gates.{interface_is_active, world_is_active};
 ghost use Rattle.wit_link_spec.specs.Lookup.{named_items};
-ghost use Rattle.wit_link_foreign.specs.Finding.{ArePackagesThere, AreThere, IsNamed, found_among, interface_in, named_before, world_in};
+ghost use Rattle.wit_link_foreign.specs.steps.Finding.{ArePackagesThere, AreThere, IsNamed, found_among, interface_in, named_before, world_in};
 
 use crate::packages::{Home, find_home};
 use crate::refusal::{interface_not_found, world_not_found};

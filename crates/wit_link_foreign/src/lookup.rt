@@ -2,9 +2,9 @@
 ghost use Rattle.std.specs.Prelude.{◌≡◌, ◌⊎◌, IfErr, IfOk, OnOk};
 ghost use Rattle.wit_graph_data.specs.declared.error_kind.ResolveErrorKind.TheVariants.{OutOfMemory};
 ghost use Rattle.wit_data.specs.Shape.{IsShaped};
-ghost use Rattle.wit_link_spec.specs.Adding.{activity_of, addition_of, places_of};
+ghost use Rattle.wit_link_spec.specs.steps.Adding.{activity_of, addition_of, places_of};
 ghost use Rattle.wit_link_spec.specs.Cause.{IsCause};
-ghost use Rattle.wit_link_spec.specs.Passed.{IsAllFound};
+ghost use Rattle.wit_link_spec.specs.steps.Passed.{IsAllFound};
 
 use crate::foreign::find_foreign;
 use crate::next::{interface_places, world_places};

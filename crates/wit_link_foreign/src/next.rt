@@ -4,10 +4,10 @@ ghost use Rattle.std.specs.Prelude.{◌≡◌, IfOk, OnOk, length, map};
 ghost use Rattle.std.specs.List.{range_with_len};
 ghost use Rattle.wit_data.specs.Shape.{IsShaped};
 ghost use Rattle.wit_link_spec.specs.Addition.{taken_interface, taken_world};
-ghost use Rattle.wit_link_spec.specs.Adding.{activity_of, addition_of};
+ghost use Rattle.wit_link_spec.specs.steps.Adding.{activity_of, addition_of};
 ghost use Rattle.wit_link_spec.specs.Lookup.{named_items};
-ghost use Rattle.wit_link_spec.specs.RankFacts.{after};
-ghost use Rattle.wit_link_foreign.specs.Finding.{AreThere, found_among, goes, takes_next};
+ghost use Rattle.wit_link_spec.specs.facts.RankFacts.{after};
+ghost use Rattle.wit_link_foreign.specs.steps.Finding.{AreThere, found_among, goes, takes_next};
 
 use crate::foreign::Found;
 use std::alloc::{AllocError, Global};

@@ -2,9 +2,9 @@
 ghost use Rattle.std.specs.Prelude.{◌≡◌, ◌⊎◌, ◌<◌, IfErr, IfOk, length};
 ghost use Rattle.wit_graph_data.specs.declared.error_kind.ResolveErrorKind.TheVariants.{OutOfMemory};
 ghost use Rattle.wit_data.specs.Shape.{IsShaped};
-ghost use Rattle.wit_link_spec.specs.Adding.{addition_of};
+ghost use Rattle.wit_link_spec.specs.steps.Adding.{addition_of};
 ghost use Rattle.wit_link_spec.specs.Cause.{IsCause};
-ghost use Rattle.wit_link_foreign.specs.Finding.{IsHome};
+ghost use Rattle.wit_link_foreign.specs.steps.Finding.{IsHome};
 
 use crate::refusal::package_not_found;
 use std::alloc::Global;

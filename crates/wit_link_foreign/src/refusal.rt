@@ -4,7 +4,7 @@ ghost use Rattle.std.specs.Map.{keys_of};
 ghost use Rattle.wit_sources.specs.Span.{moved_by};
 ghost use Rattle.wit_graph_data.specs.declared.cause.Cause.TheVariants.{TypeNotDefined};
 ghost use Rattle.wit_graph_data.specs.declared.error_kind.ResolveErrorKind.TheVariants.{InterfaceNotFound, PackageNotFound, Semantic, WorldNotFound};
-ghost use Rattle.wit_link_spec.specs.Adding.{addition_of};
+ghost use Rattle.wit_link_spec.specs.steps.Adding.{addition_of};
 ghost use Rattle.wit_link_spec.specs.CauseText.{type_not_defined_text};
 ghost use Rattle.wit_link_spec.specs.Reasons.{known_packages};
 

@@ -4,12 +4,12 @@ ghost use Rattle.std.specs.List.{range_with_len};
 ghost use Rattle.wit_graph_data.specs.declared.error_kind.ResolveErrorKind.TheVariants.{OutOfMemory};
 ghost use Rattle.wit_data.specs.Shape.{IsShaped};
 ghost use Rattle.wit_link_spec.specs.Addition.{own_type, taken_type};
-ghost use Rattle.wit_link_spec.specs.Adding.{activity_of, addition_of};
+ghost use Rattle.wit_link_spec.specs.steps.Adding.{activity_of, addition_of};
 ghost use Rattle.wit_link_spec.specs.Cause.{IsCause};
 ghost use Rattle.wit_link_spec.specs.Gates.{type_is_active};
 ghost use Rattle.wit_link_spec.specs.Lookup.{found_type, listed_type, named_items};
 ghost use Rattle.wit_link_spec.specs.Ranks.{rank};
-ghost use Rattle.wit_link_foreign.specs.Finding.{AreTypesThere, IsTypeThere, found_among};
+ghost use Rattle.wit_link_foreign.specs.steps.Finding.{AreTypesThere, IsTypeThere, found_among};
 
 use crate::foreign::Found;
 use crate::next::next_place;

@@ -12,12 +12,12 @@ use Rattle.wit_graph_data.specs.declared.cause.Cause.TheVariants as cause
 use Rattle.wit_graph_data.specs.declared.error_kind.ResolveErrorKind.{ResolveErrorKind}
 use Rattle.wit_graph_data.specs.declared.error_kind.ResolveErrorKind.TheVariants.{PackageNotFound, WorldNotFound, InterfaceNotFound, InvalidTransitiveDependency, DuplicatePackage, PackageCycle, ItemShadowing, StabilityMismatch, Semantic, OffsetOverflow, OutOfMemory}
 use Rattle.wit_graph_data.specs.declared.graph.Graph.{Graph}
-use Rattle.wit_graph_theory.specs.ListFacts.{contained_at, same_at}
+use Rattle.wit_graph_theory.specs.facts.ListFacts.{contained_at, same_at}
 use Rattle.wit_labels.specs.Setters.{IsSetter, LacksGetterAt, getter_label, placed}
 use Rattle.wit_labels.specs.Strong.{Clashes}
 use Rattle.wit_link_spec.specs.CauseText.{clash_text, getter_text}
-use Rattle.wit_link_include.specs.Finished.{CanFinish, IsFinishCause, conflict_4, no_getter_18, not_strongly_unique_17}
-use Rattle.wit_link_include.specs.Labels.{IsLabelError, IsListError, LabelsAreFine, ListIsFine, alone, clash}
+use Rattle.wit_link_include.specs.steps.Finished.{CanFinish, IsFinishCause, conflict_4, no_getter_18, not_strongly_unique_17}
+use Rattle.wit_link_include.specs.steps.Labels.{IsLabelError, IsListError, LabelsAreFine, ListIsFine, alone, clash}
 
 -- ---- labels
 

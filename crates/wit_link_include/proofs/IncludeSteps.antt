@@ -4,7 +4,7 @@ use Rattle.std.specs.Cmp.{nat_eq_equiv}
 use Rattle.std.specs.List.{AllByRecursion, list_any}
 use Rattle.std.specs.Map.{keys_of}
 use Rattle.std.specs.Option.{option_map_or}
-use Rattle.wit_values.specs.Lists.{AllByRecursion-at, differ, slice_get-behind}
+use Rattle.wit_values.specs.facts.Lists.{AllByRecursion-at, differ, slice_get-behind}
 use Rattle.wit_values.specs.Table.{HasDistinctKeys}
 use Rattle.wit_sources.specs.Span.{moved_by}
 use Rattle.wit_data.specs.Entries.{Entry, IsExport, is_unnamed, placed_interfaces}
@@ -26,18 +26,18 @@ use Rattle.wit_graph_data.specs.declared.cause.Cause.TheVariants as cause
 use Rattle.wit_graph_data.specs.declared.error_kind.ResolveErrorKind.{ResolveErrorKind}
 use Rattle.wit_graph_data.specs.declared.error_kind.ResolveErrorKind.TheVariants.{OutOfMemory, Semantic}
 use Rattle.wit_graph_data.specs.declared.graph.Graph.{Graph}
-use Rattle.wit_graph_theory.specs.Good.{IsGoodWorld}
+use Rattle.wit_graph_theory.specs.facts.Good.{IsGoodWorld}
 use Rattle.wit_graph_theory.specs.Image.{Maps, entry_image, item_image, key_image}
-use Rattle.wit_graph_theory.specs.ListFacts.{Contains-map, Contains-map_cases, contained_at, found_at, from_map, place_of, same_at}
+use Rattle.wit_graph_theory.specs.facts.ListFacts.{Contains-map, Contains-map_cases, contained_at, found_at, from_map, place_of, same_at}
 use Rattle.wit_labels.specs.Rename.{renamed}
 use Rattle.wit_link_spec.specs.CauseText.{rename_text}
 use Rattle.wit_link_spec.specs.Include.{Begun, Lists, copy_maps, goes_with, include_stability, interface_copy, is_other_package, is_owned_with, joined, lists_of, with_copies, with_world_included}
 use Rattle.wit_link_spec.specs.WorldReasons.{Disagree, HasStability, IsListCalled, IsShadowed, renamed_key}
-use Rattle.wit_link_laws.specs.StageFacts.{CanInclude}
-use Rattle.wit_link_include.specs.Copied.{StayApart}
-use Rattle.wit_link_include.specs.Joined.{CanJoin, ComeOnce, IsJoinCause, StandsWith, item_shadowing_7, stability_mismatch_8}
-use Rattle.wit_link_include.specs.Renamed.{AreRenamed, IsFirstUnmatched}
-use Rattle.wit_link_include.specs.Included.{HaveOwnKeys, IncludeIsFine, IsIncludeCause, IsIncluded, before_includes, mismatch_8, rename_unmatched_16, shadowing_7, with_lists, with_one}
+use Rattle.wit_link_laws.specs.laws.StageFacts.{CanInclude}
+use Rattle.wit_link_include.specs.steps.Copied.{StayApart}
+use Rattle.wit_link_include.specs.steps.Joined.{CanJoin, ComeOnce, IsJoinCause, StandsWith, item_shadowing_7, stability_mismatch_8}
+use Rattle.wit_link_include.specs.steps.Renamed.{AreRenamed, IsFirstUnmatched}
+use Rattle.wit_link_include.specs.steps.Included.{HaveOwnKeys, IncludeIsFine, IsIncludeCause, IsIncluded, before_includes, mismatch_8, rename_unmatched_16, shadowing_7, with_lists, with_one}
 
 -- ---- a list of a good world
 

@@ -8,9 +8,9 @@ use Rattle.std.specs.List.{AllByRecursion, IsDistinct}
 use Rattle.std.specs.Map.{keys_of, lookup}
 use Rattle.std.specs.Option.{option_map_or}
 use Rattle.indexmap.specs.Layout.{set_value_at}
-use Rattle.wit_values.specs.Lists.{key_at, slice_get-append, slice_get-behind}
+use Rattle.wit_values.specs.facts.Lists.{key_at, slice_get-append, slice_get-behind}
 use Rattle.wit_data.specs.Entries.{Entry}
-use Rattle.wit_data.specs.WorldKeyFacts.{key_is, key_laws, same_key}
+use Rattle.wit_data.specs.facts.WorldKeyFacts.{key_is, key_laws, same_key}
 use Rattle.wit_data.specs.declared.stability.Docs.{Docs}
 use Rattle.wit_data.specs.declared.stability.Stability.{Stability}
 use Rattle.wit_data.specs.declared.world.WorldItem.{WorldItem}
@@ -20,11 +20,11 @@ use Rattle.wit_data.specs.declared.world.WorldKey.TheVariants as key
 use Rattle.wit_elaboration.specs.Entries as graph
 use Rattle.wit_graph_data.specs.declared.error_kind.ResolveErrorKind.{ResolveErrorKind}
 use Rattle.wit_graph_data.specs.declared.error_kind.ResolveErrorKind.TheVariants.{ItemShadowing}
-use Rattle.wit_graph_theory.specs.ListFacts.{Contains-map, contained_at, from_map, old_or_new, place_of}
+use Rattle.wit_graph_theory.specs.facts.ListFacts.{Contains-map, contained_at, from_map, old_or_new, place_of}
 use Rattle.wit_link_spec.specs.Gates.{Place}
 use Rattle.wit_link_spec.specs.Include.{has_key, include_stability, joined, joined_entry, joined_item, new_item}
 use Rattle.wit_link_spec.specs.WorldReasons.{Disagree, IsShadowed}
-use Rattle.wit_link_include.specs.Joined.{CanJoin, ComeOnce, IsItemError, IsJoinCause, ItemsAgree, StabilitiesDiffer, StandsWith, item_shadowing_7, stability_mismatch_8}
+use Rattle.wit_link_include.specs.steps.Joined.{CanJoin, ComeOnce, IsItemError, IsJoinCause, ItemsAgree, StabilitiesDiffer, StandsWith, item_shadowing_7, stability_mismatch_8}
 use Rattle.wit_link_include.proofs.Keys.{Lacks, has_key-has, has_key-lacks, key_there, lacks-head, lacks-tail, lookup-lacks, lookup-last, lookup-other, under_key}
 
 -- ---- what a joined list has

@@ -4,7 +4,7 @@ use Rattle.std.proofs.lemmas.List.Elements.{Contains-append_cases}
 use Rattle.std.proofs.lemmas.Option.{slice_get_within}
 use Rattle.std.specs.List.{flat_map}
 use Rattle.std.specs.Option.{option_map_or}
-use Rattle.wit_digraph.specs.MemberFacts.{Contains-cons_cases, Contains-flat_map_cases, Contains-nil}
+use Rattle.wit_digraph.specs.facts.MemberFacts.{Contains-cons_cases, Contains-flat_map_cases, Contains-nil}
 use Rattle.wit_data.specs.Entries.{IsExport, IsImport, ItemUsesOwn}
 use Rattle.wit_data.specs.Reference.{function_references}
 use Rattle.wit_data.specs.declared.function.Function.{Function}
@@ -17,10 +17,10 @@ use Rattle.wit_data.specs.declared.world.WorldItem.TheVariants as item
 use Rattle.wit_data.specs.declared.world.WorldKey.{WorldKey}
 use Rattle.wit_data.specs.declared.world.WorldKey.TheVariants as key
 use Rattle.wit_graph_data.specs.declared.graph.Graph.{Graph}
-use Rattle.wit_graph_theory.specs.ListFacts.{Contains-map_cases, found_at, place_of}
+use Rattle.wit_graph_theory.specs.facts.ListFacts.{Contains-map_cases, found_at, place_of}
 use Rattle.wit_link_spec.specs.Include.{entry_mentions, goes_with, interface_mentions}
-use Rattle.wit_link_laws.specs.StageFacts.{CanInclude}
-use Rattle.wit_link_include.specs.Copied.{NamesThere}
+use Rattle.wit_link_laws.specs.laws.StageFacts.{CanInclude}
+use Rattle.wit_link_include.specs.steps.Copied.{NamesThere}
 
 module _ (g : Graph) (from : ℕ) (old : World) (can : CanInclude g from old) where
   in_types : (i : ℕ) (interface : Interface) → slice_get g.interfaces i ≡ Some interface → (t : ℕ) → Contains (map (λ (e : List ℕ × ℕ). e.1) interface.types) t → t < length g.types

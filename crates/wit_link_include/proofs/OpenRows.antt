@@ -6,16 +6,16 @@ use Rattle.std.proofs.lemmas.List.{length-map}
 use Rattle.std.proofs.lemmas.List.Elements.{All-contains, Contains-get_or, Contains-append_cases}
 use Rattle.std.proofs.lemmas.Option.{get_or_from_slice_get, slice_get_within}
 use Rattle.std.proofs.lemmas.Bool.{false≢true}
-use Rattle.wit_digraph.specs.MemberFacts.{Contains-cons_cases, Contains-flat_map_cases, Contains-nil}
+use Rattle.wit_digraph.specs.facts.MemberFacts.{Contains-cons_cases, Contains-flat_map_cases, Contains-nil}
 use Rattle.wit_digraph.specs.Relation.{IsAcyclic, IsPath, Reaches, direct}
-use Rattle.wit_digraph.specs.WalkFacts.{Reaches-from_walk, walk-from_IsPath, walk_is}
+use Rattle.wit_digraph.specs.facts.WalkFacts.{Reaches-from_walk, walk-from_IsPath, walk_is}
 use Rattle.wit_digraph.specs.Walks.{walk}
 use Rattle.wit_data.specs.Reference.{referred, type_references}
 use Rattle.wit_data.specs.declared.types.TypeDef.{TypeDef}
-use Rattle.wit_graph_theory.specs.ListFacts.{at_map}
-use Rattle.wit_graph_theory.specs.RowFacts.{Reaches-join, Reaches-self, Reaches-use}
+use Rattle.wit_graph_theory.specs.facts.ListFacts.{at_map}
+use Rattle.wit_graph_theory.specs.facts.RowFacts.{Reaches-join, Reaches-self, Reaches-use}
 use Rattle.wit_link_spec.specs.Include.{is_owned_with, is_unnamed_type, owner_goes_with}
-use Rattle.wit_link_include.specs.Copied.{StayApart, def_leads_by, is_open_in, leads, leads_by, open_row, open_rows, said}
+use Rattle.wit_link_include.specs.steps.Copied.{StayApart, def_leads_by, is_open_in, leads, leads_by, open_row, open_rows, said}
 use Rattle.wit_link_include.specs.declared.origin.Origin.{Origin}
 use Rattle.wit_link_include.proofs.Members.{any_alike, any_in, any_out, same_truth}
 

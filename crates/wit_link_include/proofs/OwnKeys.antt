@@ -17,8 +17,8 @@ use Rattle.wit_elaboration.specs.Entries.{item_interface}
 use Rattle.wit_elaboration.specs.Sound.{IsUnderOwnKey}
 use Rattle.wit_graph_theory.specs.Image.{Maps, entry_image}
 use Rattle.wit_link_spec.specs.Include.{Begun, copy_maps, has_key, is_other_package, joined, joined_entry, joined_item, new_item}
-use Rattle.wit_link_include.specs.Included.{CanBeIncluded, HaveOwnKeys, with_one}
-use Rattle.wit_link_include.specs.SeveralFacts.{none_is, some_is}
+use Rattle.wit_link_include.specs.steps.Included.{CanBeIncluded, HaveOwnKeys, with_one}
+use Rattle.wit_link_include.specs.facts.SeveralFacts.{none_is, some_is}
 use Rattle.wit_link_include.proofs.IncludeSteps.{IsKeyed, exports_keyed, imports_keyed}
 
 -- each entry is under its own key

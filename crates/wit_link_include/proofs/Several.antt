@@ -2,7 +2,7 @@
 use Rattle.std.proofs.Common.{◌≡◌, ◌∙◌, ◌⊎◌, inl, inr, ℕ, ◌+◌, ◌<◌, ◌≤◌, zero, suc, List, [], ◌∷◌, fold, length, take, Some, slice_get, refl, sym, ap, subst, arith, below_more}
 use Rattle.std.proofs.lemmas.List.Sums.{fold-append}
 use Rattle.std.proofs.lemmas.Option.{slice_get_within}
-use Rattle.wit_values.specs.Lists.{take-next_at}
+use Rattle.wit_values.specs.facts.Lists.{take-next_at}
 use Rattle.wit_data.specs.declared.world.World.{World}
 use Rattle.wit_data.specs.declared.world.WorldInclude.{WorldInclude}
 use Rattle.wit_digraph.specs.Relation.{IsAcyclic}
@@ -12,13 +12,13 @@ use Rattle.wit_labels.specs.Setters.{placed}
 use Rattle.wit_graph_data.specs.declared.error_kind.ResolveErrorKind.{ResolveErrorKind}
 use Rattle.wit_graph_data.specs.declared.error_kind.ResolveErrorKind.TheVariants.{OutOfMemory}
 use Rattle.wit_graph_data.specs.declared.graph.Graph.{Graph}
-use Rattle.wit_graph_theory.specs.ListFacts.{same_at}
+use Rattle.wit_graph_theory.specs.facts.ListFacts.{same_at}
 use Rattle.wit_link_spec.specs.Include.{Begun, lists_of}
-use Rattle.wit_link_include.specs.Finished.{CanFinish, IsFinishCause, with_finished}
+use Rattle.wit_link_include.specs.steps.Finished.{CanFinish, IsFinishCause, with_finished}
 use Rattle.wit_remap.specs.Grown.{Grown}
-use Rattle.wit_remap.specs.GrownFacts.{Begins-more, Begins-same, Grown-same, Grown-then}
-use Rattle.wit_link_include.specs.Included.{CanBeAdded, CanBeBegun, CanBeIncluded, HaveOwnKeys, IncludeIsFine, IsFineAt, IsFineWorld, IsIncludeCause, IsIncluded, IsWorldCause, StopsAtInclude, as_finished, at_include, before_includes, with_including, with_lists, with_one, with_several}
-use Rattle.wit_link_include.specs.SeveralFacts.{several_worlds}
+use Rattle.wit_remap.specs.facts.GrownFacts.{Begins-more, Begins-same, Grown-same, Grown-then}
+use Rattle.wit_link_include.specs.steps.Included.{CanBeAdded, CanBeBegun, CanBeIncluded, HaveOwnKeys, IncludeIsFine, IsFineAt, IsFineWorld, IsIncludeCause, IsIncluded, IsWorldCause, StopsAtInclude, as_finished, at_include, before_includes, with_including, with_lists, with_one, with_several}
+use Rattle.wit_link_include.specs.facts.SeveralFacts.{several_worlds}
 use Rattle.wit_link_include.proofs.OwnKeys.{one_own}
 
 -- ---- the state of including

@@ -12,9 +12,9 @@ use Rattle.wit_data.specs.declared.interface.Interface.{Interface}
 use Rattle.wit_data.specs.declared.types.TypeDef.{TypeDef}
 use Rattle.wit_data.specs.declared.world.World.{World}
 use Rattle.wit_graph_data.specs.declared.graph.Graph.{Graph}
-use Rattle.wit_graph_theory.specs.ListFacts.{place_of}
+use Rattle.wit_graph_theory.specs.facts.ListFacts.{place_of}
 use Rattle.wit_link_spec.specs.Include.{goes_with, is_copied, is_owned_with, is_unnamed_type, mentioned, owner_goes_with}
-use Rattle.wit_link_include.specs.Copied.{numbered, places}
+use Rattle.wit_link_include.specs.steps.Copied.{numbered, places}
 use Rattle.wit_link_include.proofs.Members.{and_both}
 use Rattle.wit_link_include.proofs.RisingIds.{numbered-keys}
 use Rattle.wit_link_include.proofs.TakenPlaces.{place_from}

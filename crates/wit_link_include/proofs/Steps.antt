@@ -2,7 +2,7 @@
 use Rattle.std.proofs.Common.{◌≡◌, ◌∙◌, ℕ, ◌+◌, List, [], ◌∷◌, ◌++◌, map, slice_get, take, Some, sym, ap, append_assoc, Result, Ok, Err, IfOk}
 use Rattle.std.specs.List.{flat_map}
 use Rattle.std.proofs.lemmas.List.{append-nil}
-use Rattle.wit_values.specs.Lists.{map-next}
+use Rattle.wit_values.specs.facts.Lists.{map-next}
 
 -- a table that is gone through: what is there, with what is left, and one of it more
 module _ {X Y : Type 0} where

@@ -7,12 +7,12 @@ use Rattle.std.specs.Ordering.{nat_cmp}
 use Rattle.std.proofs.lemmas.Bool.{cases_lt, false≢true}
 use Rattle.std.proofs.lemmas.List.{length-map}
 use Rattle.std.proofs.lemmas.Option.{slice_get-map}
-use Rattle.wit_digraph.specs.FreshFacts.{any_from_contains, contains_from_any}
-use Rattle.wit_digraph.specs.MemberFacts.{Contains-cons_cases, Contains-here, Contains-nil, Contains-there}
-use Rattle.wit_graph_theory.specs.ListFacts.{contained_at, place_of}
-use Rattle.wit_link_spec.specs.RankFacts.{rank-monotone, taken_places-at, taken_places-from}
+use Rattle.wit_digraph.specs.facts.FreshFacts.{any_from_contains, contains_from_any}
+use Rattle.wit_digraph.specs.facts.MemberFacts.{Contains-cons_cases, Contains-here, Contains-nil, Contains-there}
+use Rattle.wit_graph_theory.specs.facts.ListFacts.{contained_at, place_of}
+use Rattle.wit_link_spec.specs.facts.RankFacts.{rank-monotone, taken_places-at, taken_places-from}
 use Rattle.wit_link_spec.specs.Ranks.{rank, taken, taken_places}
-use Rattle.wit_link_include.specs.Copied.{goes, numbered, places}
+use Rattle.wit_link_include.specs.steps.Copied.{goes, numbered, places}
 use Rattle.wit_link_include.proofs.RisingIds.{numbered-at, numbered-none, rises}
 
 abbrev Rise : List ℕ → Type 0

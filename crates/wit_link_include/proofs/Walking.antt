@@ -4,9 +4,9 @@ use Rattle.std.proofs.Common.{◌≡◌, ◌∙◌, ℕ, ◌+◌, ◌*◌, ◌<�
 use Rattle.std.specs.List.{flat_map}
 use Rattle.std.proofs.lemmas.List.{append-nil}
 use Rattle.std.proofs.lemmas.List.Elements.{All-contains, Contains-append_left, Contains-append_right, Contains-append_cases, Contains-get_or, Contains-push}
-use Rattle.wit_digraph.specs.MemberFacts.{Contains-cons_cases, Contains-flat_map, Contains-flat_map_cases, Contains-here, Contains-nil, Contains-there}
+use Rattle.wit_digraph.specs.facts.MemberFacts.{Contains-cons_cases, Contains-flat_map, Contains-flat_map_cases, Contains-here, Contains-nil, Contains-there}
 use Rattle.wit_digraph.specs.Relation.{IsAcyclic, IsPath, direct}
-use Rattle.wit_digraph.specs.WalkFacts.{Contains-walk_end, Reaches-from_walk, UsesFirst-append, UsesFirst-walk, UsesFirst-wider, walk_is}
+use Rattle.wit_digraph.specs.facts.WalkFacts.{Contains-walk_end, Reaches-from_walk, UsesFirst-append, UsesFirst-walk, UsesFirst-wider, walk_is}
 use Rattle.wit_digraph.specs.Walks.{UsesFirst, walk}
 use Rattle.wit_link_include.specs.declared.leading.Step.{Step}
 use Rattle.wit_link_include.specs.declared.leading.Step.TheVariants as step

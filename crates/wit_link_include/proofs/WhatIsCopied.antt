@@ -4,15 +4,15 @@ use Rattle.std.specs.List.{flat_map, list_any}
 use Rattle.std.specs.Map.{lookup}
 use Rattle.std.proofs.lemmas.Bool.{false≢true}
 use Rattle.std.proofs.lemmas.List.Elements.{All-contains}
-use Rattle.wit_digraph.specs.FreshFacts.{any_from_contains, contains_from_any}
-use Rattle.wit_digraph.specs.MemberFacts.{Contains-flat_map, Contains-flat_map_cases}
+use Rattle.wit_digraph.specs.facts.FreshFacts.{any_from_contains, contains_from_any}
+use Rattle.wit_digraph.specs.facts.MemberFacts.{Contains-flat_map, Contains-flat_map_cases}
 use Rattle.wit_digraph.specs.Relation.{IsAcyclic, IsPath, Reaches, direct}
-use Rattle.wit_digraph.specs.WalkFacts.{Reaches-from_walk, walk-from_IsPath}
+use Rattle.wit_digraph.specs.facts.WalkFacts.{Reaches-from_walk, walk-from_IsPath}
 use Rattle.wit_digraph.specs.Walks.{walk}
 use Rattle.wit_data.specs.declared.types.TypeDef.{TypeDef}
-use Rattle.wit_graph_theory.specs.RowFacts.{Reaches-join, Reaches-self}
+use Rattle.wit_graph_theory.specs.facts.RowFacts.{Reaches-join, Reaches-self}
 use Rattle.wit_link_spec.specs.Include.{is_copied, is_owned_with, is_unnamed_type, mentioned, owner_goes_with}
-use Rattle.wit_link_include.specs.Copied.{StayApart, is_open_in, known_of, leads, open_rows, roots_of, said}
+use Rattle.wit_link_include.specs.steps.Copied.{StayApart, is_open_in, known_of, leads, open_rows, roots_of, said}
 use Rattle.wit_link_include.specs.declared.origin.Origin.{Origin}
 use Rattle.wit_link_include.proofs.Members.{and_both, and_of, or_cases, or_left, or_right, same_truth}
 use Rattle.wit_link_include.proofs.OpenRows.{closed_leads, leads_from, leads_to, open_acyclic, open_edge, open_long, open_reaches, owned_at, rows, rows_long, there_at, unnamed_at}

@@ -9,17 +9,17 @@ use Rattle.std.specs.List.{before_first, concat, list_any}
 use Rattle.std.specs.Map.{keys_of}
 use Rattle.std.specs.Option.{option_map_or}
 use Rattle.std.specs.Str.{bytes_eq}
-use Rattle.wit_values.specs.Lists.{take-next_at}
+use Rattle.wit_values.specs.facts.Lists.{take-next_at}
 use Rattle.wit_data.specs.Entries.{Entry}
 use Rattle.wit_data.specs.declared.world.IncludeName.{IncludeName}
 use Rattle.wit_data.specs.declared.world.World.{World}
 use Rattle.wit_data.specs.declared.world.WorldKey.{WorldKey}
 use Rattle.wit_data.specs.declared.world.WorldKey.TheVariants as key
-use Rattle.wit_graph_theory.specs.ListFacts.{contained_at, place_of}
+use Rattle.wit_graph_theory.specs.facts.ListFacts.{contained_at, place_of}
 use Rattle.wit_labels.specs.Groups.{begins_group, groups_of, rest_of}
 use Rattle.wit_labels.specs.Rename.{behind, renamed_by, renamed_rest}
 use Rattle.wit_link_spec.specs.WorldReasons.{IsRenamed}
-use Rattle.wit_link_include.specs.Renamed.{AreRenamed, IsFirstUnmatched, has_word, word_of}
+use Rattle.wit_link_include.specs.steps.Renamed.{AreRenamed, IsFirstUnmatched, has_word, word_of}
 
 -- ---- a renaming is of a label exactly where it is of its word
 

@@ -1,10 +1,2 @@
-pub mod AdditionFacts
-pub mod Copied
-pub mod Finished
-pub mod Included
-pub mod Joined
-pub mod Labels
-pub mod ReadyFacts
-pub mod Renamed
-pub mod RowsFacts
-pub mod SeveralFacts
+pub mod facts
+pub mod steps

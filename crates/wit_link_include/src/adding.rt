@@ -2,7 +2,7 @@
 ghost use Rattle.std.specs.Prelude.{◌≡◌, ◌⊎◌, ℕ, IfErr, IfOk, OnOk};
 ghost use Rattle.wit_elaboration.specs.Elaboration.{graph_uses};
 ghost use Rattle.wit_graph_data.specs.declared.error_kind.ResolveErrorKind.TheVariants.{OutOfMemory};
-ghost use Rattle.wit_link_include.specs.Included.{CanBeAdded, CanBeBegun, IsFineAt, IsFineWorld, IsWorldCause, StopsAtInclude, with_including, with_lists, with_several};
+ghost use Rattle.wit_link_include.specs.steps.Included.{CanBeAdded, CanBeBegun, IsFineAt, IsFineWorld, IsWorldCause, StopsAtInclude, with_including, with_lists, with_several};
 ghost use Rattle.wit_remap.specs.Grown.{Begins, Grown};
 
 use crate::finishing::finish_world;

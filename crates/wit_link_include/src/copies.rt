@@ -3,7 +3,7 @@ ghost use Rattle.std.specs.Prelude.{◌≡◌, IfOk, map};
 ghost use Rattle.std.specs.Option.{option_map};
 ghost use Rattle.wit_graph_theory.specs.Image.{entry_image, interface_image, key_image, item_image, type_image};
 ghost use Rattle.wit_labels.specs.Rename.{renamed};
-ghost use Rattle.wit_link_include.specs.Copied.{maps_of};
+ghost use Rattle.wit_link_include.specs.steps.Copied.{maps_of};
 
 use std::alloc::{AllocError, Global};
 use wit_data::{

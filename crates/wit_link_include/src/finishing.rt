@@ -1,6 +1,6 @@
 //! A world is finished.
 ghost use Rattle.std.specs.Prelude.{◌≡◌, ◌⊎◌, IfErr, IfOk, OnOk, OnErr, length};
-ghost use Rattle.wit_link_include.specs.Finished.{CanFinish, IsFinishCause, with_finished};
+ghost use Rattle.wit_link_include.specs.steps.Finished.{CanFinish, IsFinishCause, with_finished};
 ghost use Rattle.wit_elaboration.specs.AllWorlds.{elaborated_world};
 ghost use Rattle.wit_elaboration.specs.Elaboration.{IsConflictError, graph_uses};
 ghost use Rattle.wit_elaboration.specs.Imported.{HasConflict};

@@ -10,7 +10,7 @@ ghost use Rattle.wit_link_spec.specs.Include.{copy_maps, goes_with, is_copied, w
 ghost use Rattle.wit_link_spec.specs.Ranks.{taken};
 ghost use Rattle.wit_graph_theory.specs.Image.{interface_image, type_image};
 ghost use Rattle.wit_remap.specs.Grown.{Grown};
-ghost use Rattle.wit_link_include.specs.Copied.{IsOrigin, NamesThere, StayApart, maps_of, numbered, places, with_images};
+ghost use Rattle.wit_link_include.specs.steps.Copied.{IsOrigin, NamesThere, StayApart, maps_of, numbered, places, with_images};
 
 use crate::copies::Copies;
 use crate::going::going;

@@ -6,8 +6,8 @@ ghost use Rattle.wit_link_spec.specs.Include.{joined, joined_item, new_item};
 ghost use Rattle.wit_graph_data.specs.declared.error_kind.ResolveErrorKind.TheVariants.{ItemShadowing, OutOfMemory};
 ghost use Rattle.wit_data.specs.declared.world.WorldItem.{WorldItem};
 ghost use Rattle.wit_data.specs.declared.world.WorldKey.{WorldKey};
-ghost use Rattle.wit_data.specs.WorldKeyFacts.{same_key};
-ghost use Rattle.wit_link_include.specs.Joined.{CanJoin, ComeOnce, IsItemError, IsJoinCause, ItemsAgree};
+ghost use Rattle.wit_data.specs.facts.WorldKeyFacts.{same_key};
+ghost use Rattle.wit_link_include.specs.steps.Joined.{CanJoin, ComeOnce, IsItemError, IsJoinCause, ItemsAgree};
 
 use crate::stabilities::join_stability;
 use indexmap::IndexMap;

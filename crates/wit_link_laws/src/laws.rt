@@ -1,6 +1,6 @@
 //! Laws of adding: the contract of each function is what is proved.
-ghost use Rattle.wit_link_laws.specs.IncludingLaws.{IncludesStand};
-ghost use Rattle.wit_link_laws.specs.StageFacts.{IncludedAreThere, IncludesCanBe, PushesStayValid, WorldsCanBe};
+ghost use Rattle.wit_link_laws.specs.laws.IncludingLaws.{IncludesStand};
+ghost use Rattle.wit_link_laws.specs.laws.StageFacts.{IncludedAreThere, IncludesCanBe, PushesStayValid, WorldsCanBe};
 
 use wit_graph_theory::laws::laws_of_elaboration;
 

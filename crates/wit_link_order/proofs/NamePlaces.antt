@@ -10,11 +10,11 @@ use Rattle.std.specs.List.{IsDistinct, enumerate_from, position_or_len, range_wi
 use Rattle.std.specs.Map.{keys_of, lookup, values_of}
 use Rattle.std.specs.Option.{option_cmp, option_map}
 use Rattle.std.specs.Ordering.{is_lt}
-use Rattle.wit_values.specs.Lists.{AllByRecursion-at}
+use Rattle.wit_values.specs.facts.Lists.{AllByRecursion-at}
 use Rattle.wit_data.specs.PackageOrder.{package_cmp, same_package}
 use Rattle.wit_data.specs.declared.package_name.PackageName.{PackageName}
-use Rattle.wit_link_order.specs.SortingSteps.{AreByName, places_of}
-use Rattle.wit_data.specs.PackageNameFacts.{own_name, same_name}
+use Rattle.wit_link_order.specs.steps.SortingSteps.{AreByName, places_of}
+use Rattle.wit_data.specs.facts.PackageNameFacts.{own_name, same_name}
 
 abbrev Named : Type 0
 Named = PackageName × ℕ

@@ -10,20 +10,20 @@ use Rattle.std.specs.Prelude.{position}
 use Rattle.std.specs.List.{IsDistinct, cons_option, filter_map, flat_map, range_with_len}
 use Rattle.std.specs.Map.{keys_of}
 use Rattle.wit_digraph.specs.Cycles.{IsOnCycle}
-use Rattle.wit_digraph.specs.FreshFacts.{IsDistinct-fresh, fresh_in}
-use Rattle.wit_digraph.specs.MemberFacts.{Contains-cons_cases, Contains-flat_map_cases, Contains-here, Contains-nil, Contains-there}
+use Rattle.wit_digraph.specs.facts.FreshFacts.{IsDistinct-fresh, fresh_in}
+use Rattle.wit_digraph.specs.facts.MemberFacts.{Contains-cons_cases, Contains-flat_map_cases, Contains-here, Contains-nil, Contains-there}
 use Rattle.wit_digraph.specs.Relation.{IsAcyclic, IsInRange, IsPath, direct}
-use Rattle.wit_digraph.specs.WalkFacts.{Reaches-from_walk}
+use Rattle.wit_digraph.specs.facts.WalkFacts.{Reaches-from_walk}
 use Rattle.wit_digraph.specs.Walks.{first_of_each, walk}
 use Rattle.wit_data.specs.Foreign.{ForeignItem}
 use Rattle.wit_data.specs.PackageOrder.{same_package}
 use Rattle.wit_data.specs.declared.package_name.PackageName.{PackageName}
 use Rattle.wit_data.specs.declared.unresolved.UnresolvedPackage.{UnresolvedPackage}
 use Rattle.wit_link_order.proofs.NamePlaces.{apart, keys-places, lookup-places, roots-all, roots-by_name}
-use Rattle.wit_data.specs.PackageNameFacts.{own_name, same_name}
-use Rattle.wit_link_order.specs.RangeFacts.{range-below}
+use Rattle.wit_data.specs.facts.PackageNameFacts.{own_name, same_name}
+use Rattle.wit_link_order.specs.facts.RangeFacts.{range-below}
 use Rattle.wit_link_order.specs.Sorting.{Handed, IsGroupOrder, handed_deps, handed_uses, names_of}
-use Rattle.wit_link_order.specs.SortingSteps.{AreByName, IsOrdered, found_deps, places_of}
+use Rattle.wit_link_order.specs.steps.SortingSteps.{AreByName, IsOrdered, found_deps, places_of}
 
 module _ {X Y : Type 0} where
   -- what stands at a place, mapped

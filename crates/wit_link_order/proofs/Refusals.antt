@@ -11,7 +11,7 @@ use Rattle.wit_graph_data.specs.declared.error_kind.ResolveErrorKind.{ResolveErr
 use Rattle.wit_graph_data.specs.declared.error_kind.ResolveErrorKind.TheVariants as kind
 use Rattle.wit_link_order.proofs.Orders.{depends, no_cycle, slice_get-map, within_at}
 use Rattle.wit_link_order.specs.Sorting.{Handed, IsHandedTwice, IsOnHandedCycle, IsSortCause, Place, handed_uses, names_of}
-use Rattle.wit_link_order.specs.SortingSteps.{IsOrdered, IsToldCycle, IsToldTwice, NamesAt}
+use Rattle.wit_link_order.specs.steps.SortingSteps.{IsOrdered, IsToldCycle, IsToldTwice, NamesAt}
 
 -- ---- what stands at a place
 

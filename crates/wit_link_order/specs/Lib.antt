@@ -1,3 +1,3 @@
-pub mod RangeFacts
 pub mod Sorting
-pub mod SortingSteps
+pub mod facts
+pub mod steps

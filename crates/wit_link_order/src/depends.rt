@@ -2,7 +2,7 @@
 ghost use Rattle.std.specs.Prelude.{◌≡◌, ◌++◌, IfOk, OnOk};
 ghost use Rattle.std.specs.Option.{option_to_list};
 ghost use Rattle.wit_link_order.specs.Sorting.{handed_uses, names_of};
-ghost use Rattle.wit_link_order.specs.SortingSteps.{found_deps, places_of};
+ghost use Rattle.wit_link_order.specs.steps.SortingSteps.{found_deps, places_of};
 
 use std::alloc::{AllocError, Global};
 use wit_data::{Items, PackageName, Table, UnresolvedPackage};

@@ -3,7 +3,7 @@ ghost use Rattle.std.specs.Prelude.{◌≡◌, ◌⊎◌, IfErr, IfOk};
 ghost use Rattle.std.specs.Map.{values_of};
 ghost use Rattle.wit_graph_data.specs.declared.error_kind.ResolveErrorKind.TheVariants.{OutOfMemory};
 ghost use Rattle.wit_link_order.specs.Sorting.{IsSortCause, names_of};
-ghost use Rattle.wit_link_order.specs.SortingSteps.{AreByName, places_of};
+ghost use Rattle.wit_link_order.specs.steps.SortingSteps.{AreByName, places_of};
 
 use crate::refusal::handed_twice;
 use std::alloc::{AllocError, Global};

@@ -4,7 +4,7 @@ ghost use Rattle.std.specs.Map.{keys_of};
 ghost use Rattle.wit_digraph.specs.Cycles.{IsOnCycle};
 ghost use Rattle.wit_graph_data.specs.declared.error_kind.ResolveErrorKind.TheVariants.{OutOfMemory};
 ghost use Rattle.wit_link_order.specs.Sorting.{HaveSpans, IsSortCause, handed_uses, names_of};
-ghost use Rattle.wit_link_order.specs.SortingSteps.{IsToldCycle, IsToldTwice, NamesAt};
+ghost use Rattle.wit_link_order.specs.steps.SortingSteps.{IsToldCycle, IsToldTwice, NamesAt};
 
 use std::alloc::AllocError;
 use wit_data::{Items, PackageName, Span, TryClone, UnresolvedPackage};

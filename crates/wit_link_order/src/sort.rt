@@ -3,7 +3,7 @@ ghost use Rattle.std.specs.Prelude.{◌≡◌, ◌⊎◌, ℕ, IfErr, IfOk, List
 ghost use Rattle.wit_graph_data.specs.declared.error_kind.ResolveErrorKind.{ResolveErrorKind};
 ghost use Rattle.wit_graph_data.specs.declared.error_kind.ResolveErrorKind.TheVariants.{OutOfMemory};
 ghost use Rattle.wit_link_order.specs.Sorting.{AreSorted, HaveSpans, IsSortCause};
-ghost use Rattle.wit_link_order.specs.SortingSteps.{IsOrdered};
+ghost use Rattle.wit_link_order.specs.steps.SortingSteps.{IsOrdered};
 
 use crate::depends::uses_of_handed;
 use crate::places::{places_by_name, roots_by_name};

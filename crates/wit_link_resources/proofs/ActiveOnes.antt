@@ -5,7 +5,7 @@ use Rattle.std.specs.Option.{option_map_or}
 use Rattle.std.proofs.lemmas.Bool.{cases_Bool}
 use Rattle.std.proofs.lemmas.List.Elements.{Contains-append_cases, Contains-append_left, Contains-append_right}
 use Rattle.std.proofs.lemmas.Option.{slice_get_within}
-use Rattle.wit_digraph.specs.MemberFacts.{Contains-cons_cases, Contains-flat_map, Contains-flat_map_cases, Contains-here, Contains-nil}
+use Rattle.wit_digraph.specs.facts.MemberFacts.{Contains-cons_cases, Contains-flat_map, Contains-flat_map_cases, Contains-here, Contains-nil}
 use Rattle.wit_data.specs.Entries.{Entry}
 use Rattle.wit_data.specs.declared.function.Function.{Function}
 use Rattle.wit_data.specs.declared.interface.Interface.{Interface}
@@ -14,12 +14,12 @@ use Rattle.wit_data.specs.declared.world.WorldItem.{WorldItem}
 use Rattle.wit_data.specs.declared.world.WorldItem.TheVariants as item
 use Rattle.wit_data.specs.declared.world.WorldKey.{WorldKey}
 use Rattle.wit_graph_data.specs.declared.features.Features.{Features}
-use Rattle.wit_graph_theory.specs.ListFacts.{get_at}
+use Rattle.wit_graph_theory.specs.facts.ListFacts.{get_at}
 use Rattle.wit_link_spec.specs.Addition.{Addition}
 use Rattle.wit_link_spec.specs.Gates.{function_is_active, interface_is_active, world_is_active}
-use Rattle.wit_link_spec.specs.RangeFacts.{in_range, range_below}
+use Rattle.wit_link_spec.specs.facts.RangeFacts.{in_range, range_below}
 use Rattle.wit_link_spec.specs.Reasons.{IsActiveFunction, of_interface, of_world}
-use Rattle.wit_link_resources.specs.Active.{active_entries, active_functions, active_item, active_named, active_one, interface_functions, world_functions}
+use Rattle.wit_link_resources.specs.steps.Active.{active_entries, active_functions, active_item, active_named, active_one, interface_functions, world_functions}
 
 one_in : (features : Features) (f : Function) → function_is_active features f ≡ true → Contains (active_one features f) f
 one_in features f takes = subst (λ (b : Bool). Contains (if b then f ∷ [] else []) f) (sym takes) (Contains-here f [])

@@ -1,7 +1,7 @@
 -- What is in a set once a number was put there.
 use Rattle.std.proofs.Common.{◌≡◌, ◌∙◌, ℕ, Bool, true, false, not, List, [], ◌∷◌, ◌++◌, nat_eq, refl, ap, Contains, if◌then◌else◌}
 use Rattle.std.specs.List.{list_any}
-use Rattle.wit_digraph.specs.FreshFacts.{contains_from_any}
+use Rattle.wit_digraph.specs.facts.FreshFacts.{contains_from_any}
 
 from_not : (b r : Bool) → r ≡ not b → r ≡ true → b ≡ false
 from_not true r is h = cc

@@ -7,18 +7,18 @@ use Rattle.std.proofs.lemmas.List.Folds.{list_any-append}
 use Rattle.std.proofs.lemmas.List.{append-nil}
 use Rattle.std.proofs.lemmas.List.Elements.{All-contains}
 use Rattle.std.proofs.lemmas.Option.{get_or_from_slice_get, slice_get_within}
-use Rattle.wit_values.specs.Lists.{slice_get-append}
-use Rattle.wit_digraph.specs.MemberFacts.{Contains-here}
+use Rattle.wit_values.specs.facts.Lists.{slice_get-append}
+use Rattle.wit_digraph.specs.facts.MemberFacts.{Contains-here}
 use Rattle.wit_digraph.specs.Relation.{IsAcyclic, direct}
-use Rattle.wit_digraph.specs.WalkFacts.{uses_ind, walk_is}
+use Rattle.wit_digraph.specs.facts.WalkFacts.{uses_ind, walk_is}
 use Rattle.wit_digraph.specs.Walks.{walk}
 use Rattle.wit_data.specs.Reference.{type_references}
 use Rattle.wit_data.specs.Uses.{alias_target}
 use Rattle.wit_data.specs.declared.types.TypeDef.{TypeDef}
 use Rattle.wit_data.specs.declared.types.TypeDefKind.{TypeDefKind}
 use Rattle.wit_data.specs.declared.types.TypeDefKind.TheVariants as kind
-use Rattle.wit_graph_theory.specs.ListFacts.{at_map, get_at}
-use Rattle.wit_graph_theory.specs.Sources.{alias_rows}
+use Rattle.wit_graph_theory.specs.facts.ListFacts.{at_map, get_at}
+use Rattle.wit_graph_theory.specs.steps.Sources.{alias_rows}
 use Rattle.wit_link_spec.specs.Resources.{is_resource, is_resource_kind, leads_to_resource}
 use Rattle.wit_link_resources.proofs.Rows.{alias_acyclic}
 

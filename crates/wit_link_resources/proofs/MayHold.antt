@@ -8,11 +8,11 @@ use Rattle.wit_data.specs.declared.types.TypeDef.{TypeDef}
 use Rattle.wit_data.specs.declared.types.TypeDefKind.{TypeDefKind}
 use Rattle.wit_data.specs.declared.types.TypeDefKind.TheVariants as kind
 use Rattle.wit_graph_data.specs.Questions.{held_rows}
-use Rattle.wit_graph_theory.specs.ListFacts.{found_at, same_at, some_at}
+use Rattle.wit_graph_theory.specs.facts.ListFacts.{found_at, same_at, some_at}
 use Rattle.wit_link_spec.specs.Addition.{Addition, taken_type}
 use Rattle.wit_link_spec.specs.Lookup.{is_foreign_type}
 use Rattle.wit_link_spec.specs.Reasons.{HoldsBorrow, IsBorrow, MayHoldBorrow}
-use Rattle.wit_link_resources.specs.Borrows.{IsBorrowThere}
+use Rattle.wit_link_resources.specs.steps.Borrows.{IsBorrowThere}
 use Rattle.wit_link_resources.proofs.Searching.{ReachesBad}
 use Rattle.wit_link_resources.proofs.Where.{foreign_back, found_is_foreign, found_on}
 

@@ -1,10 +1,10 @@
 -- What is noted of types that were met stays right.
 use Rattle.std.proofs.Common.{◌≡◌, ◌∙◌, ℕ, Bool, List, [], ◌∷◌, ◌++◌, ap, inl, inr, sym, subst, Contains}
 use Rattle.std.proofs.lemmas.List.Elements.{Contains-push_cases}
-use Rattle.wit_digraph.specs.MemberFacts.{Contains-nil}
+use Rattle.wit_digraph.specs.facts.MemberFacts.{Contains-nil}
 use Rattle.wit_data.specs.declared.types.TypeDef.{TypeDef}
 use Rattle.wit_link_spec.specs.Resources.{leads_to_resource}
-use Rattle.wit_link_resources.specs.Leading.{AreRight}
+use Rattle.wit_link_resources.specs.steps.Leading.{AreRight}
 
 -- where nothing was met
 pub right-begun : (types : List TypeDef) (met : List (ℕ × Bool)) → met ≡ [] → AreRight types met

@@ -6,13 +6,13 @@ use Rattle.std.proofs.lemmas.List.Elements.{filter-append}
 use Rattle.wit_data.specs.Shape.{IsShaped}
 use Rattle.wit_link_spec.specs.Addition.{Addition, needs_own, plain_types, type_place}
 use Rattle.wit_link_spec.specs.Gates.{type_is_active}
-use Rattle.wit_link_spec.specs.RangeFacts.{range-more}
-use Rattle.wit_link_spec.specs.RankFacts.{after, rank-kept, rank-left, rank-suc}
+use Rattle.wit_link_spec.specs.facts.RangeFacts.{range-more}
+use Rattle.wit_link_spec.specs.facts.RankFacts.{after, rank-kept, rank-left, rank-suc}
 use Rattle.wit_link_spec.specs.Ranks.{rank, taken, taken_places}
 use Rattle.wit_link_spec.specs.Reasons.{HasImage}
 use Rattle.wit_link_spec.specs.Resources.{leads_to_resource}
-use Rattle.wit_link_resources.specs.Asked.{is_asked}
-use Rattle.wit_link_resources.specs.Leading.{leads_there}
+use Rattle.wit_link_resources.specs.steps.Asked.{is_asked}
+use Rattle.wit_link_resources.specs.steps.Leading.{leads_there}
 use Rattle.wit_link_resources.proofs.Positions.{asked_active}
 use Rattle.wit_link_resources.proofs.Where.{conj}
 

@@ -5,8 +5,8 @@ use Rattle.std.specs.Option.{option_map_or}
 use Rattle.std.proofs.lemmas.Bool.{cases_Bool, false≢true, ltb-true}
 use Rattle.std.proofs.lemmas.List.Elements.{Contains-append_cases, Contains-append_left, Contains-append_right, Contains-get_or}
 use Rattle.std.proofs.lemmas.Option.{slice_get_within}
-use Rattle.wit_digraph.specs.FreshFacts.{any_from_contains, contains_from_any}
-use Rattle.wit_digraph.specs.MemberFacts.{Contains-cons_cases, Contains-flat_map, Contains-flat_map_cases, Contains-nil}
+use Rattle.wit_digraph.specs.facts.FreshFacts.{any_from_contains, contains_from_any}
+use Rattle.wit_digraph.specs.facts.MemberFacts.{Contains-cons_cases, Contains-flat_map, Contains-flat_map_cases, Contains-nil}
 use Rattle.wit_data.specs.Each.{SomeAt}
 use Rattle.wit_data.specs.Entries.{Entry}
 use Rattle.wit_data.specs.Foreign.{ForeignItem, IsBareInterface, IsBareWorld, IsForeign, foreign_interfaces, foreign_worlds, interface_id, world_id}
@@ -26,18 +26,18 @@ use Rattle.wit_data.specs.declared.world.WorldItem.TheVariants as item
 use Rattle.wit_data.specs.declared.world.WorldKey.{WorldKey}
 use Rattle.wit_elaboration.proofs.Filters.{Contains-filter, Contains-filtered}
 use Rattle.wit_graph_theory.specs.Cut.{cut_interface, cut_world}
-use Rattle.wit_graph_theory.specs.ListFacts.{Contains-map, Contains-map_cases, contained_at, found_at, get_at, place_of, same_at, some_at}
+use Rattle.wit_graph_theory.specs.facts.ListFacts.{Contains-map, Contains-map_cases, contained_at, found_at, get_at, place_of, same_at, some_at}
 use Rattle.wit_link_spec.specs.Addition.{Addition, active, function_positions, own_interface, own_interfaces, own_type, own_types, own_world, own_worlds, positions}
-use Rattle.wit_link_spec.specs.ClosedCut.{function_kept, member_of_first, references_kept, there_where}
+use Rattle.wit_link_spec.specs.facts.ClosedCut.{function_kept, member_of_first, references_kept, there_where}
 use Rattle.wit_link_spec.specs.Gates.{HasEntry, function_is_active, interface_is_active, is_active, is_foreign_interface, is_foreign_world, item_is_active, type_is_active, world_is_active}
 use Rattle.wit_link_spec.specs.Lookup.{is_foreign_type}
-use Rattle.wit_link_spec.specs.RangeFacts.{in_range, range_below}
-use Rattle.wit_link_spec.specs.RankFacts.{taken-at, taken_places-at, taken_places-from}
+use Rattle.wit_link_spec.specs.facts.RangeFacts.{in_range, range_below}
+use Rattle.wit_link_spec.specs.facts.RankFacts.{taken-at, taken_places-at, taken_places-from}
 use Rattle.wit_link_spec.specs.Ranks.{rank, taken, taken_places}
 use Rattle.wit_link_spec.specs.Reasons.{HasImage, IsActiveFunction, of_interface, of_world}
 use Rattle.wit_link_spec.specs.Resources.{signature_positions, value_positions}
-use Rattle.wit_link_resources.specs.Active.{active_functions}
-use Rattle.wit_link_resources.specs.Asked.{gathered_positions, is_asked, positions_of_type}
+use Rattle.wit_link_resources.specs.steps.Active.{active_functions}
+use Rattle.wit_link_resources.specs.steps.Asked.{gathered_positions, is_asked, positions_of_type}
 use Rattle.wit_link_resources.proofs.ActiveOnes.{active_back, active_in}
 use Rattle.wit_link_resources.proofs.Where.{both}
 

@@ -6,8 +6,8 @@ use Rattle.std.proofs.lemmas.Grind.{flat_map-append}
 use Rattle.std.proofs.lemmas.List.{append-nil, map-append, take_more}
 use Rattle.std.proofs.lemmas.List.Elements.{filter-append}
 use Rattle.wit_data.specs.declared.function.Function.{Function}
-use Rattle.wit_link_spec.specs.RangeFacts.{range-more}
-use Rattle.wit_link_resources.specs.Active.{seen}
+use Rattle.wit_link_spec.specs.facts.RangeFacts.{range-more}
+use Rattle.wit_link_resources.specs.steps.Active.{seen}
 
 module _ {X : Type 0} where
   -- one more is gathered

@@ -5,12 +5,12 @@ use Rattle.std.specs.List.{flat_map}
 use Rattle.std.proofs.lemmas.Grind.{flat_map-append}
 use Rattle.std.proofs.lemmas.List.{append-nil, length-append}
 use Rattle.std.proofs.lemmas.List.Elements.{All-contains, Contains-append_cases, Contains-append_left, Contains-append_right, Contains-push}
-use Rattle.wit_digraph.specs.MemberFacts.{Contains-cons_cases, Contains-here, Contains-nil}
+use Rattle.wit_digraph.specs.facts.MemberFacts.{Contains-cons_cases, Contains-here, Contains-nil}
 use Rattle.wit_digraph.specs.Relation.{IsAcyclic, IsPath, Reaches, direct}
-use Rattle.wit_digraph.specs.WalkFacts.{walk_is}
+use Rattle.wit_digraph.specs.facts.WalkFacts.{walk_is}
 use Rattle.wit_digraph.specs.Walks.{walk}
-use Rattle.wit_graph_theory.specs.RowFacts.{Reaches-join, Reaches-self, Reaches-use}
-use Rattle.wit_link_resources.specs.Borrows.{AreFree}
+use Rattle.wit_graph_theory.specs.facts.RowFacts.{Reaches-join, Reaches-self, Reaches-use}
+use Rattle.wit_link_resources.specs.steps.Borrows.{AreFree}
 
 -- something bad is reached
 abbrev pub ReachesBad : List (List ℕ) → (ℕ → Type 0) → ℕ → Type 0

@@ -2,7 +2,7 @@
 use Rattle.std.proofs.Common.{◌≡◌, inl, inr, ◌≤◌, ◌+◌, ◌^◌, ℕ, true, false, List, ◌++◌, map, Some, refl, sym, subst, Contains}
 use Rattle.std.specs.List.{flat_map}
 use Rattle.std.proofs.lemmas.List.Elements.{Contains-append_left, Contains-append_right}
-use Rattle.wit_digraph.specs.MemberFacts.{Contains-flat_map, Contains-here, Contains-there}
+use Rattle.wit_digraph.specs.facts.MemberFacts.{Contains-flat_map, Contains-here, Contains-there}
 use Rattle.wit_data.specs.Entries.{Entry}
 use Rattle.wit_data.specs.Reference.{named_option}
 use Rattle.wit_data.specs.declared.function.Function.{Function}
@@ -12,7 +12,7 @@ use Rattle.wit_data.specs.declared.world.WorldItem.TheVariants as item
 use Rattle.wit_graph_data.specs.declared.cause.Cause.TheVariants as cause
 use Rattle.wit_graph_data.specs.declared.error_kind.ResolveErrorKind.{ResolveErrorKind}
 use Rattle.wit_graph_data.specs.declared.error_kind.ResolveErrorKind.TheVariants.{OffsetOverflow}
-use Rattle.wit_graph_theory.specs.ListFacts.{Contains-map, contained_at}
+use Rattle.wit_graph_theory.specs.facts.ListFacts.{Contains-map, contained_at}
 use Rattle.wit_link_spec.specs.Addition.{Addition}
 use Rattle.wit_link_spec.specs.Cause.{IsCause, borrow_in_result_15, not_a_resource_14, offset_overflow_27}
 use Rattle.wit_link_spec.specs.CauseText.{borrow_text, not_a_resource_text}
@@ -21,7 +21,7 @@ use Rattle.wit_link_spec.specs.Lookup.{found_type}
 use Rattle.wit_link_spec.specs.Reasons.{IsActiveFunction, MayHoldBorrow, of_interface, of_world}
 use Rattle.wit_link_spec.specs.Resources.{leads_to_resource}
 use Rattle.wit_link_spec.specs.Spans.{function_spans, interface_spans, item_spans, package_spans, type_spans, world_spans}
-use Rattle.wit_link_resources.specs.Told.{IsToldAt}
+use Rattle.wit_link_resources.specs.steps.Told.{IsToldAt}
 
 module _ (a : Addition) where
   -- a place that would pass the end

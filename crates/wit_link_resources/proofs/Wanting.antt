@@ -3,11 +3,11 @@ use Rattle.std.proofs.Common.{◌≡◌, ◌∙◌, ◌+◌, ◌<◌, inl, inr, 
 use Rattle.std.proofs.lemmas.Bool.{cases_order}
 use Rattle.std.proofs.lemmas.List.{length-set}
 use Rattle.std.proofs.lemmas.Option.{slice_get_within}
-use Rattle.wit_values.specs.Lists.{kept-cases, set-cases, slice_get-set}
+use Rattle.wit_values.specs.facts.Lists.{kept-cases, set-cases, slice_get-set}
 use Rattle.wit_data.specs.Uses.{alias_target}
 use Rattle.wit_data.specs.declared.types.TypeDef.{TypeDef}
-use Rattle.wit_graph_theory.specs.ListFacts.{get_at}
-use Rattle.wit_link_resources.specs.Leading.{AreWanted}
+use Rattle.wit_graph_theory.specs.facts.ListFacts.{get_at}
+use Rattle.wit_link_resources.specs.steps.Leading.{AreWanted}
 
 module _ (types : List TypeDef) (asked : List Bool) where
   -- those themselves

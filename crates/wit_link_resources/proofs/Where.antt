@@ -6,9 +6,9 @@ use Rattle.std.proofs.lemmas.Bool.{cases_Bool, cases_lt, lt-ltb, ltb-true}
 use Rattle.std.proofs.lemmas.List.{length-append, length-map}
 use Rattle.std.proofs.lemmas.List.Elements.{All-contains, Contains-get_or}
 use Rattle.std.proofs.lemmas.Option.{slice_get_within}
-use Rattle.wit_values.specs.Lists.{slice_get-append}
-use Rattle.wit_digraph.specs.FreshFacts.{contains_from_any}
-use Rattle.wit_digraph.specs.MemberFacts.{Contains-cons_cases, Contains-flat_map, Contains-here, Contains-nil}
+use Rattle.wit_values.specs.facts.Lists.{slice_get-append}
+use Rattle.wit_digraph.specs.facts.FreshFacts.{contains_from_any}
+use Rattle.wit_digraph.specs.facts.MemberFacts.{Contains-cons_cases, Contains-flat_map, Contains-here, Contains-nil}
 use Rattle.wit_digraph.specs.Relation.{IsAcyclic, direct}
 use Rattle.wit_data.specs.Foreign.{ForeignItem, foreign_interfaces, interface_id}
 use Rattle.wit_data.specs.Ownership.{IsListed}
@@ -25,21 +25,21 @@ use Rattle.wit_data.specs.declared.types.TypeOwner.{TypeOwner}
 use Rattle.wit_data.specs.declared.types.TypeOwner.TheVariants as owner
 use Rattle.wit_elaboration.specs.Valid.{IsValid}
 use Rattle.wit_graph_theory.specs.Image.{kind_image, type_image}
-use Rattle.wit_graph_theory.specs.ListFacts.{at_map, at_new, contained_at, found_at, from_map, from_row, get_at, in_row, old_or_new, place_of, same_at}
-use Rattle.wit_graph_theory.specs.ReferredFacts.{alias_image}
-use Rattle.wit_graph_theory.specs.RowFacts.{IsAcyclic-grown}
-use Rattle.wit_graph_theory.specs.Sources.{alias_rows}
+use Rattle.wit_graph_theory.specs.facts.ListFacts.{at_map, at_new, contained_at, found_at, from_map, from_row, get_at, in_row, old_or_new, place_of, same_at}
+use Rattle.wit_graph_theory.specs.facts.ReferredFacts.{alias_image}
+use Rattle.wit_graph_theory.specs.facts.RowFacts.{IsAcyclic-grown}
+use Rattle.wit_graph_theory.specs.steps.Sources.{alias_rows}
 use Rattle.wit_link_spec.specs.Addition.{Addition, own_type, own_types, plain_maps, plain_types, taken_type, type_place}
-use Rattle.wit_link_spec.specs.ClosedCut.{references_kept, there_where}
-use Rattle.wit_link_spec.specs.Found.{find-passes, named_at}
+use Rattle.wit_link_spec.specs.facts.ClosedCut.{references_kept, there_where}
+use Rattle.wit_link_spec.specs.facts.Found.{find-passes, named_at}
 use Rattle.wit_link_spec.specs.Gates.{is_active, type_is_active}
 use Rattle.wit_link_spec.specs.Lookup.{find_interface, found_interface, found_type, is_foreign_type, listed_type, named_items, naming, owning_interface}
-use Rattle.wit_link_spec.specs.RankFacts.{rank-strict, taken-at, taken_places-from}
+use Rattle.wit_link_spec.specs.facts.RankFacts.{rank-strict, taken-at, taken_places-from}
 use Rattle.wit_link_spec.specs.Ranks.{rank, taken_places}
 use Rattle.wit_link_spec.specs.Reasons.{HasImage}
 use Rattle.wit_link_spec.specs.Resources.{is_resource_kind, leads_to_resource}
-use Rattle.wit_link_spec.specs.Standing.{foreign_interface_goes, foreign_type, listed_is, own_type_goes}
-use Rattle.wit_link_resources.specs.Leading.{leads_there}
+use Rattle.wit_link_spec.specs.facts.Standing.{foreign_interface_goes, foreign_type, listed_is, own_type_goes}
+use Rattle.wit_link_resources.specs.steps.Leading.{leads_there}
 use Rattle.wit_link_resources.proofs.Leads.{leads_here, leads_on, leads_stays}
 use Rattle.wit_link_resources.proofs.Rows.{alias_acyclic}
 

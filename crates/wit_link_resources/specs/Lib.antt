@@ -1,5 +1,1 @@
-pub mod Active
-pub mod Asked
-pub mod Borrows
-pub mod Leading
-pub mod Told
+pub mod steps

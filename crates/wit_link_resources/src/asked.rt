@@ -2,10 +2,10 @@
 ghost use Rattle.std.specs.Prelude.{◌≡◌, ◌++◌, ◌<◌, All, IfOk, OnOk, length, map, nat_eq};
 ghost use Rattle.std.specs.List.{flat_map, list_any, range_with_len};
 ghost use Rattle.wit_data.specs.Shape.{IsShaped};
-ghost use Rattle.wit_link_spec.specs.Adding.{activity_of, addition_of};
+ghost use Rattle.wit_link_spec.specs.steps.Adding.{activity_of, addition_of};
 ghost use Rattle.wit_link_spec.specs.Reasons.{HasImage};
 ghost use Rattle.wit_link_spec.specs.Resources.{signature_positions, value_positions};
-ghost use Rattle.wit_link_resources.specs.Asked.{gathered_positions, is_asked, positions_of_type};
+ghost use Rattle.wit_link_resources.specs.steps.Asked.{gathered_positions, is_asked, positions_of_type};
 
 use crate::functions::active_functions;
 use std::alloc::{AllocError, Global};

@@ -7,9 +7,9 @@ ghost use Rattle.wit_data.specs.declared.types.Handle.TheVariants as handle;
 ghost use Rattle.wit_data.specs.declared.types.TypeDefKind.TheVariants as kinds;
 ghost use Rattle.wit_graph_data.specs.Questions.{held_types};
 ghost use Rattle.wit_elaboration.specs.Valid.{IsValid};
-ghost use Rattle.wit_link_spec.specs.Adding.{addition_of, places_of};
+ghost use Rattle.wit_link_spec.specs.steps.Adding.{addition_of, places_of};
 ghost use Rattle.wit_link_spec.specs.Reasons.{HoldsBorrow, MayHoldBorrow};
-ghost use Rattle.wit_link_resources.specs.Borrows.{AreFreeHanded, AreFreeTypes, IsBorrowThere};
+ghost use Rattle.wit_link_resources.specs.steps.Borrows.{AreFreeHanded, AreFreeTypes, IsBorrowThere};
 
 use indexmap::IndexSet;
 use std::alloc::{AllocError, Global};

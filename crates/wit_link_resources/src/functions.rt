@@ -1,8 +1,8 @@
 //! The functions that take part of a package.
 ghost use Rattle.std.specs.Prelude.{◌≡◌, ◌++◌, IfOk, OnOk, length};
 ghost use Rattle.std.specs.List.{flat_map, range_with_len};
-ghost use Rattle.wit_link_spec.specs.Adding.{activity_of, addition_of};
-ghost use Rattle.wit_link_resources.specs.Active.{active_entries, active_functions, active_item, active_named, active_one, interface_functions, seen, world_functions};
+ghost use Rattle.wit_link_spec.specs.steps.Adding.{activity_of, addition_of};
+ghost use Rattle.wit_link_resources.specs.steps.Active.{active_entries, active_functions, active_item, active_named, active_one, interface_functions, seen, world_functions};
 
 use std::alloc::{AllocError, Global};
 use wit_data::{Function, Names, Table, WorldItem, WorldKey};

@@ -3,10 +3,10 @@ ghost use Rattle.std.specs.Prelude.{◌≡◌, ◌<◌, IfOk, OnOk, length, map}
 ghost use Rattle.std.specs.List.{range_with_len};
 ghost use Rattle.wit_data.specs.Shape.{IsShaped};
 ghost use Rattle.wit_elaboration.specs.Valid.{IsValid};
-ghost use Rattle.wit_link_spec.specs.Adding.{addition_of, places_of};
+ghost use Rattle.wit_link_spec.specs.steps.Adding.{addition_of, places_of};
 ghost use Rattle.wit_link_spec.specs.Reasons.{HasImage};
 ghost use Rattle.wit_link_spec.specs.Resources.{is_resource_kind};
-ghost use Rattle.wit_link_resources.specs.Leading.{AreRight, AreWanted, TargetIsKnown, WantsTargets, leads_if_wanted, leads_there};
+ghost use Rattle.wit_link_resources.specs.steps.Leading.{AreRight, AreWanted, TargetIsKnown, WantsTargets, leads_if_wanted, leads_there};
 
 use crate::met::leads_to_resource;
 use std::alloc::{AllocError, Global};

@@ -4,7 +4,7 @@ ghost use Rattle.std.specs.Map.{lookup};
 ghost use Rattle.wit_digraph.specs.Relation.{IsAcyclic};
 ghost use Rattle.wit_data.specs.Reference.{type_references};
 ghost use Rattle.wit_link_spec.specs.Resources.{leads_to_resource};
-ghost use Rattle.wit_link_resources.specs.Leading.{AreRight, EndsAt, LeadsOn};
+ghost use Rattle.wit_link_resources.specs.steps.Leading.{AreRight, EndsAt, LeadsOn};
 
 use crate::leading::is_resource;
 use std::alloc::AllocError;

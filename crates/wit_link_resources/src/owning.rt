@@ -3,7 +3,7 @@ ghost use Rattle.std.specs.Prelude.{◌≡◌, ◌+◌, ◌^◌, ◌≤◌, ◌<
 ghost use Rattle.std.specs.List.{range_with_len};
 ghost use Rattle.wit_data.specs.Shape.{IsShaped};
 ghost use Rattle.wit_elaboration.specs.Valid.{IsValid};
-ghost use Rattle.wit_link_spec.specs.Adding.{activity_of, addition_of, places_of, values_of};
+ghost use Rattle.wit_link_spec.specs.steps.Adding.{activity_of, addition_of, places_of, values_of};
 ghost use Rattle.wit_link_spec.specs.Addition.{needs_own, own_types};
 ghost use Rattle.wit_link_spec.specs.Reasons.{HasImage};
 ghost use Rattle.wit_link_spec.specs.Resources.{own_of};

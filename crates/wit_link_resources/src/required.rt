@@ -3,10 +3,10 @@ ghost use Rattle.std.specs.Prelude.{◌≡◌, ◌⊎◌, Contains, IfErr, OnOk}
 ghost use Rattle.wit_data.specs.Shape.{IsShaped};
 ghost use Rattle.wit_elaboration.specs.Valid.{IsValid};
 ghost use Rattle.wit_graph_data.specs.declared.error_kind.ResolveErrorKind.TheVariants.{OutOfMemory};
-ghost use Rattle.wit_link_spec.specs.Adding.{addition_of, places_of};
+ghost use Rattle.wit_link_spec.specs.steps.Adding.{addition_of, places_of};
 ghost use Rattle.wit_link_spec.specs.Cause.{IsCause};
-ghost use Rattle.wit_link_spec.specs.Passed.{HasResources};
-ghost use Rattle.wit_link_resources.specs.Leading.{AreRight, LeadsWhereFound};
+ghost use Rattle.wit_link_spec.specs.steps.Passed.{HasResources};
+ghost use Rattle.wit_link_resources.specs.steps.Leading.{AreRight, LeadsWhereFound};
 
 use crate::met::leads_to_resource;
 use crate::refusal::not_a_resource;

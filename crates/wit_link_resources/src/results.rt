@@ -5,11 +5,11 @@ ghost use Rattle.wit_data.specs.Reference.{named_option};
 ghost use Rattle.wit_data.specs.Shape.{IsShaped};
 ghost use Rattle.wit_elaboration.specs.Valid.{IsValid};
 ghost use Rattle.wit_graph_data.specs.declared.error_kind.ResolveErrorKind.TheVariants.{OutOfMemory};
-ghost use Rattle.wit_link_spec.specs.Adding.{activity_of, addition_of, places_of};
+ghost use Rattle.wit_link_spec.specs.steps.Adding.{activity_of, addition_of, places_of};
 ghost use Rattle.wit_link_spec.specs.Cause.{IsCause};
-ghost use Rattle.wit_link_spec.specs.Passed.{ReturnsNoBorrow};
+ghost use Rattle.wit_link_spec.specs.steps.Passed.{ReturnsNoBorrow};
 ghost use Rattle.wit_link_spec.specs.Reasons.{HasImage, IsActiveFunction};
-ghost use Rattle.wit_link_resources.specs.Borrows.{AreFreeHanded, AreFreeTypes, ReturnsNone};
+ghost use Rattle.wit_link_resources.specs.steps.Borrows.{AreFreeHanded, AreFreeTypes, ReturnsNone};
 
 use crate::borrows::{Free, may_hold_borrow};
 use crate::functions::active_functions;

@@ -14,7 +14,7 @@ use Rattle.wit_data.specs.declared.types.TypeDef.{TypeDef}
 use Rattle.wit_data.specs.declared.types.TypeDefKind.{TypeDefKind}
 use Rattle.wit_data.specs.declared.types.TypeDefKind.TheVariants as kind
 use Rattle.wit_data.specs.declared.types.TypeOwner.TheVariants as owner
-use Rattle.wit_graph_theory.specs.Sources.{alias_rows}
+use Rattle.wit_graph_theory.specs.steps.Sources.{alias_rows}
 
 abbrev pub is_resource_kind : TypeDefKind → Bool
 is_resource_kind kind.Resource = true

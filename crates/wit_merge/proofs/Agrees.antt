@@ -10,13 +10,13 @@ use Rattle.wit_data.specs.declared.world.WorldItem.TheVariants as item
 use Rattle.wit_data.specs.declared.world.WorldKey.{WorldKey}
 use Rattle.wit_data.specs.declared.world.WorldKey.TheVariants as key
 use Rattle.wit_graph_theory.specs.Image.{entry_image, function_image, interface_image, item_image, key_image, type_image}
-use Rattle.wit_link_spec.specs.RangeFacts.{range-at}
-use Rattle.wit_remap.specs.Movers.{goes, id_or, maps_of}
+use Rattle.wit_link_spec.specs.facts.RangeFacts.{range-at}
+use Rattle.wit_remap.specs.steps.Movers.{goes, id_or, maps_of}
 use Rattle.wit_remap.specs.declared.mover.Mover.{Mover}
 use Rattle.wit_merge_spec.specs.Matches.{Merging}
 use Rattle.wit_merge_spec.specs.Moved.{interface_place, merge_maps, package_place, type_place, value_place, world_place}
-use Rattle.wit_merge.specs.Joined.{EntryWithin, FunctionMoves, InterfaceMoves, TypeMoves}
-use Rattle.wit_merge.specs.Uniting.{IsReady, merging_of}
+use Rattle.wit_merge.specs.steps.Joined.{EntryWithin, FunctionMoves, InterfaceMoves, TypeMoves}
+use Rattle.wit_merge.specs.steps.Uniting.{IsReady, merging_of}
 use Rattle.wit_merge.specs.declared.uniting.Uniting.{Uniting}
 use Rattle.wit_merge.proofs.NamesStay.{name_stays}
 use Rattle.wit_merge.proofs.SameImages.{Agree, each_same, entries_same, function_same, interface_same, type_same}

@@ -5,7 +5,7 @@ use Rattle.std.proofs.lemmas.List.FromFn.{get_or-map-range_with_len}
 use Rattle.std.specs.Map.{lookup}
 use Rattle.std.specs.Option.{option_map, option_map_or}
 use Rattle.wit_data.specs.Entries.{Entry}
-use Rattle.wit_data.specs.WorldKeyFacts.{key_is, same_key}
+use Rattle.wit_data.specs.facts.WorldKeyFacts.{key_is, same_key}
 use Rattle.wit_data.specs.declared.world.WorldItem.{WorldItem}
 use Rattle.wit_data.specs.declared.world.WorldItem.TheVariants as item
 use Rattle.wit_data.specs.declared.world.WorldKey.{WorldKey}
@@ -16,13 +16,13 @@ use Rattle.wit_link_spec.specs.Include.{joined_entry, joined_item}
 use Rattle.wit_merge_spec.specs.Joined.{is_under_id}
 use Rattle.wit_merge_spec.specs.Matches.{Merging, found_interface}
 use Rattle.wit_merge_spec.specs.Moved.{interface_place, merge_maps, moves_interface}
-use Rattle.wit_merge_laws.specs.InterfacesStand.{moved_interface_goes}
-use Rattle.wit_merge_laws.specs.ListedStand.{interfaces_apart}
-use Rattle.wit_merge_laws.specs.MatchFacts.{goes_to}
-use Rattle.wit_merge_laws.specs.TypesStand.{matched_some}
-use Rattle.wit_merge.specs.Joined.{KeyWithin, entry_joined, stability_joined, stability_of, stability_under}
-use Rattle.wit_merge.specs.Partners.{first_from}
-use Rattle.wit_merge.specs.Uniting.{IsReady, merging_of}
+use Rattle.wit_merge_laws.specs.facts.InterfacesStand.{moved_interface_goes}
+use Rattle.wit_merge_laws.specs.facts.ListedStand.{interfaces_apart}
+use Rattle.wit_merge_laws.specs.facts.MatchFacts.{goes_to}
+use Rattle.wit_merge_laws.specs.facts.TypesStand.{matched_some}
+use Rattle.wit_merge.specs.steps.Joined.{KeyWithin, entry_joined, stability_joined, stability_of, stability_under}
+use Rattle.wit_merge.specs.steps.Partners.{first_from}
+use Rattle.wit_merge.specs.steps.Uniting.{IsReady, merging_of}
 use Rattle.wit_merge.specs.declared.uniting.Uniting.{Uniting}
 use Rattle.wit_merge.proofs.Partnered.{is_matched, none_matched}
 

@@ -5,9 +5,9 @@ use Rattle.std.proofs.lemmas.List.{append-nil}
 use Rattle.std.proofs.lemmas.Map.Views.{Contains-from_lookup}
 use Rattle.std.specs.List.{AllByRecursion, IsDistinct}
 use Rattle.std.specs.Map.{keys_of, lookup}
-use Rattle.wit_values.specs.Lists.{slice_get-append, slice_get-behind}
+use Rattle.wit_values.specs.facts.Lists.{slice_get-append, slice_get-behind}
 use Rattle.wit_values.specs.Table.{HasDistinctKeys}
-use Rattle.wit_graph_theory.specs.ListFacts.{from_map, place_of}
+use Rattle.wit_graph_theory.specs.facts.ListFacts.{from_map, place_of}
 use Rattle.std.proofs.lemmas.Option.{slice_get_within}
 
 module _ {X Y : Type 0} (f : X → Y) (test : X → Bool) where

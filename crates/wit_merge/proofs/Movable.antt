@@ -23,23 +23,23 @@ use Rattle.wit_elaboration.specs.Valid.{IsValid}
 use Rattle.wit_graph_data.specs.declared.graph.Graph.{Graph}
 use Rattle.wit_graph_data.specs.declared.graph.Package.{Package}
 use Rattle.wit_graph_theory.specs.Cut.{mapped_source}
-use Rattle.wit_graph_theory.specs.Good.{IsGoodInterface, IsGoodPackage}
-use Rattle.wit_graph_theory.specs.GoodIsValid.{good_things}
-use Rattle.wit_graph_theory.specs.GraphSource.{mapped_is_good}
+use Rattle.wit_graph_theory.specs.facts.Good.{IsGoodInterface, IsGoodPackage}
+use Rattle.wit_graph_theory.specs.facts.GoodIsValid.{good_things}
+use Rattle.wit_graph_theory.specs.facts.GraphSource.{mapped_is_good}
 use Rattle.wit_graph_theory.specs.Image.{identity}
-use Rattle.wit_graph_theory.specs.ListFacts.{found_at, place_of}
-use Rattle.wit_graph_theory.specs.Sources.{IsGoodSource, OwnerTakesPart, Source}
+use Rattle.wit_graph_theory.specs.facts.ListFacts.{found_at, place_of}
+use Rattle.wit_graph_theory.specs.steps.Sources.{IsGoodSource, OwnerTakesPart, Source}
 use Rattle.wit_merge_spec.specs.Joined.{joined_package, with_interface, with_package}
 use Rattle.wit_merge_spec.specs.Matches.{Merging, found_as, found_in, found_interface, found_package, found_world}
 use Rattle.wit_merge_spec.specs.Moved.{moves_package}
 use Rattle.wit_merge_spec.specs.United.{joined_graph, united}
-use Rattle.wit_merge_laws.specs.InterfacesStand.{old_interface_at, partner_is, with_partner}
-use Rattle.wit_merge_laws.specs.JoinedGood.{joined_good}
-use Rattle.wit_merge_laws.specs.ListedStand.{moved_comes}
-use Rattle.wit_merge_laws.specs.MatchedOnce.{package_once}
-use Rattle.wit_merge_laws.specs.PackagesStand.{old_package_at, packages_good}
-use Rattle.wit_merge.specs.Joined.{EntryWithin, FunctionsMove, InterfaceJoins, InterfaceMoves, OwnerWithin, PackageJoins, PackageMoves, TypeMoves, Within, WorldJoins, WorldMoves}
-use Rattle.wit_merge.specs.Uniting.{IsReady, merging_of}
+use Rattle.wit_merge_laws.specs.facts.InterfacesStand.{old_interface_at, partner_is, with_partner}
+use Rattle.wit_merge_laws.specs.facts.JoinedGood.{joined_good}
+use Rattle.wit_merge_laws.specs.facts.ListedStand.{moved_comes}
+use Rattle.wit_merge_laws.specs.facts.MatchedOnce.{package_once}
+use Rattle.wit_merge_laws.specs.facts.PackagesStand.{old_package_at, packages_good}
+use Rattle.wit_merge.specs.steps.Joined.{EntryWithin, FunctionsMove, InterfaceJoins, InterfaceMoves, OwnerWithin, PackageJoins, PackageMoves, TypeMoves, Within, WorldJoins, WorldMoves}
+use Rattle.wit_merge.specs.steps.Uniting.{IsReady, merging_of}
 use Rattle.wit_merge.specs.declared.uniting.Uniting.{Uniting}
 use Rattle.wit_merge.proofs.Agrees.{of_any}
 

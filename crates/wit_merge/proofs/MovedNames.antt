@@ -1,13 +1,13 @@
 -- The entries of tables whose things move, with where these go, by lists of what is found and of places.
 use Rattle.std.proofs.Common.{◌≡◌, ◌∙◌, ℕ, ◌<◌, Bool, true, cond, List, [], ◌∷◌, Option, filter, length, map, refl, ap, Contains}
-use Rattle.wit_digraph.specs.MemberFacts.{Contains-here, Contains-there}
+use Rattle.wit_digraph.specs.facts.MemberFacts.{Contains-here, Contains-there}
 use Rattle.wit_elaboration.proofs.Filters.{Contains-filter}
-use Rattle.wit_merge_match.specs.Going.{moves}
-use Rattle.wit_remap.specs.Movers.{goes}
+use Rattle.wit_merge_match.specs.steps.Going.{moves}
+use Rattle.wit_remap.specs.steps.Movers.{goes}
 use Rattle.wit_merge_spec.specs.Matches.{Merging, found_interface, found_type, found_world}
 use Rattle.wit_merge_spec.specs.Moved.{interface_place, moves_interface, moves_type, moves_world, type_place, world_place}
-use Rattle.wit_merge.specs.Joined.{moved_names}
-use Rattle.wit_merge.specs.Uniting.{IsReady, merging_of}
+use Rattle.wit_merge.specs.steps.Joined.{moved_names}
+use Rattle.wit_merge.specs.steps.Uniting.{IsReady, merging_of}
 use Rattle.wit_merge.specs.declared.uniting.Uniting.{Uniting}
 use Rattle.wit_merge.proofs.Agrees.{interfaces_go, types_go, worlds_go}
 use Rattle.wit_merge.proofs.SameImages.{each_same}

@@ -1,7 +1,7 @@
 -- What is handed to the last steps of a merge, and what its refusals and its end tell.
 use Rattle.std.proofs.Common.{◌≡◌, ◌∙◌, ◌⊎◌, inl, inr, ℕ, ◌<◌, ◌^◌, List, sym, ap, subst}
-use Rattle.wit_remap.specs.Fitting.{PartsFit}
-use Rattle.wit_remap.specs.FittingFacts.{fit_or_pass, parts_fit}
+use Rattle.wit_remap.specs.facts.Fitting.{PartsFit}
+use Rattle.wit_remap.specs.facts.FittingFacts.{fit_or_pass, parts_fit}
 use Rattle.wit_elaboration.specs.Valid.{IsValid}
 use Rattle.wit_graph_data.specs.declared.error_kind.ResolveErrorKind.{ResolveErrorKind}
 use Rattle.wit_graph_data.specs.declared.error_kind.ResolveErrorKind.TheVariants.{OutOfMemory}
@@ -11,10 +11,10 @@ use Rattle.wit_merge_spec.specs.Cause.{CanMerge, IsMergeCause, borrow_in_result_
 use Rattle.wit_merge_spec.specs.Matches.{Merging}
 use Rattle.wit_merge_spec.specs.Reasons.{AreOne, PassesTheEnd, ReturnsBorrow, graph_spans}
 use Rattle.wit_merge_spec.specs.United.{joined_graph, united}
-use Rattle.wit_unite_common.specs.Asked.{CanSettle}
-use Rattle.wit_unite_common.specs.Reasons.{SettleCause}
-use Rattle.wit_merge.specs.Agreeing.{DoAgree}
-use Rattle.wit_merge.specs.Returned.{TellsBorrow}
+use Rattle.wit_unite_common.specs.steps.Asked.{CanSettle}
+use Rattle.wit_unite_common.specs.facts.Reasons.{SettleCause}
+use Rattle.wit_merge.specs.facts.Agreeing.{DoAgree}
+use Rattle.wit_merge.specs.facts.Returned.{TellsBorrow}
 use Rattle.wit_merge.proofs.Settles.{can_merge, can_settle, cause_from}
 
 -- where no span passes the end all fit

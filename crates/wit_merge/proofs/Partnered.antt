@@ -6,11 +6,11 @@ use Rattle.std.proofs.lemmas.Option.{none-some, slice_get-get_or, slice_get_past
 use Rattle.std.proofs.lemmas.List.FromFn.{fill_by_all, get_or-map-range_with_len, length-map-range_with_len}
 use Rattle.std.specs.List.{enumerate_from, range_with_len}
 use Rattle.std.specs.Option.{option_eq, option_map}
-use Rattle.wit_link_spec.specs.RangeFacts.{range-same, range-set}
+use Rattle.wit_link_spec.specs.facts.RangeFacts.{range-same, range-set}
 use Rattle.wit_merge_spec.specs.Matches.{partner}
-use Rattle.wit_merge_laws.specs.InterfacesStand.{option_so}
+use Rattle.wit_merge_laws.specs.facts.InterfacesStand.{option_so}
 use Rattle.wit_merge.proofs.Numbered.{some_there}
-use Rattle.wit_merge.specs.Partners.{first_from, firsts_from, placed_at}
+use Rattle.wit_merge.specs.steps.Partners.{first_from, firsts_from, placed_at}
 
 drop_at : {X : Type 0} (xs : List X) (k : ℕ) (x : X) → slice_get xs k ≡ Some x → drop k xs ≡ x ∷ drop (suc k) xs
 drop_at [] k x at = cc

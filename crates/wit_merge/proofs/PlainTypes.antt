@@ -6,7 +6,7 @@ use Rattle.std.proofs.lemmas.Bool.{cases_Bool}
 use Rattle.std.proofs.lemmas.List.{length-append, length-map}
 use Rattle.std.proofs.lemmas.List.Elements.{Contains-get_or}
 use Rattle.std.proofs.lemmas.Option.{get_or_from_slice_get, slice_get_within}
-use Rattle.wit_digraph.specs.MemberFacts.{Contains-cons_cases, Contains-nil}
+use Rattle.wit_digraph.specs.facts.MemberFacts.{Contains-cons_cases, Contains-nil}
 use Rattle.wit_digraph.specs.Relation.{IsAcyclic, direct}
 use Rattle.wit_digraph.specs.Walks.{walk}
 use Rattle.wit_data.specs.Reference.{type_references}
@@ -16,21 +16,21 @@ use Rattle.wit_data.specs.declared.types.TypeDefKind.{TypeDefKind}
 use Rattle.wit_data.specs.declared.types.TypeDefKind.TheVariants as kind
 use Rattle.wit_elaboration.specs.Valid.{IsValid}
 use Rattle.wit_graph_theory.specs.Image.{Maps, kind_image, type_image}
-use Rattle.wit_graph_theory.specs.ListFacts.{at_below, at_map, at_new, from_map, from_row, get_at, in_row, old_or_new}
-use Rattle.wit_graph_theory.specs.OptionFacts.{some_parts}
-use Rattle.wit_graph_theory.specs.ReferredFacts.{alias_image}
-use Rattle.wit_graph_theory.specs.RowFacts.{IsAcyclic-grown}
-use Rattle.wit_graph_theory.specs.Sources.{alias_rows}
-use Rattle.wit_link_spec.specs.RangeFacts.{range-at, range-read}
-use Rattle.wit_link_spec.specs.RankFacts.{taken-at, taken_places-from}
+use Rattle.wit_graph_theory.specs.facts.ListFacts.{at_below, at_map, at_new, from_map, from_row, get_at, in_row, old_or_new}
+use Rattle.wit_graph_theory.specs.facts.OptionFacts.{some_parts}
+use Rattle.wit_graph_theory.specs.facts.ReferredFacts.{alias_image}
+use Rattle.wit_graph_theory.specs.facts.RowFacts.{IsAcyclic-grown}
+use Rattle.wit_graph_theory.specs.steps.Sources.{alias_rows}
+use Rattle.wit_link_spec.specs.facts.RangeFacts.{range-at, range-read}
+use Rattle.wit_link_spec.specs.facts.RankFacts.{taken-at, taken_places-from}
 use Rattle.wit_link_spec.specs.Ranks.{rank, taken_places}
 use Rattle.wit_link_spec.specs.Resources.{is_resource_kind, leads_to_resource}
 use Rattle.wit_merge_spec.specs.Matches.{Merging, found_type}
 use Rattle.wit_merge_spec.specs.Moved.{moved_types, moves_type, plain_maps, plain_types, type_place}
-use Rattle.wit_merge_laws.specs.MatchFacts.{goes_to, type_is}
-use Rattle.wit_merge_laws.specs.TypesStand.{matched_some, moved_type_goes}
-use Rattle.wit_merge_match.specs.Found.{AreFound}
-use Rattle.wit_merge.specs.Leading.{TellsLeads}
+use Rattle.wit_merge_laws.specs.facts.MatchFacts.{goes_to, type_is}
+use Rattle.wit_merge_laws.specs.facts.TypesStand.{matched_some, moved_type_goes}
+use Rattle.wit_merge_match.specs.steps.Found.{AreFound}
+use Rattle.wit_merge.specs.facts.Leading.{TellsLeads}
 use Rattle.wit_link_resources.proofs.Leads.{leads_here, leads_on, leads_stays, target_there, walk_falls}
 use Rattle.wit_link_resources.proofs.Rows.{alias_acyclic}
 

@@ -3,7 +3,7 @@ use Rattle.std.proofs.Common.{◌≡◌, ◌∙◌, inl, inr, ℕ, ◌<◌, leng
 use Rattle.std.specs.List.{flat_map}
 use Rattle.std.proofs.lemmas.List.{length-map}
 use Rattle.std.proofs.lemmas.List.Elements.{All-contains, Contains-append_cases, Contains-append_right, Contains-get_or}
-use Rattle.wit_digraph.specs.MemberFacts.{Contains-flat_map_cases, Contains-nil}
+use Rattle.wit_digraph.specs.facts.MemberFacts.{Contains-flat_map_cases, Contains-nil}
 use Rattle.wit_digraph.specs.Relation.{direct}
 use Rattle.wit_data.specs.Function.{resource_of}
 use Rattle.wit_data.specs.Reference.{function_references, referred, type_references}
@@ -13,13 +13,13 @@ use Rattle.wit_data.specs.declared.types.TypeDefKind.{TypeDefKind}
 use Rattle.wit_data.specs.declared.types.TypeDefKind.TheVariants as kind
 use Rattle.wit_elaboration.specs.Valid.{IsValid}
 use Rattle.wit_graph_data.specs.declared.graph.Graph.{Graph}
-use Rattle.wit_graph_theory.specs.ListFacts.{from_map, in_row, place_of}
-use Rattle.wit_link_spec.specs.RankFacts.{taken_places-from}
+use Rattle.wit_graph_theory.specs.facts.ListFacts.{from_map, in_row, place_of}
+use Rattle.wit_link_spec.specs.facts.RankFacts.{taken_places-from}
 use Rattle.wit_link_spec.specs.Ranks.{taken_places}
 use Rattle.wit_link_spec.specs.Resources.{signature_positions, value_positions}
 use Rattle.wit_merge_spec.specs.Matches.{Merging}
 use Rattle.wit_merge_spec.specs.Moved.{moved_functions, moved_types, moves_type, positions}
-use Rattle.wit_merge_laws.specs.FunctionsThere.{moved_refers}
+use Rattle.wit_merge_laws.specs.facts.FunctionsThere.{moved_refers}
 
 -- a value position of a kind is a reference of it
 position_referred : (k : TypeDefKind) (t : ℕ) → Contains (value_positions k) t → Contains (referred k) t

@@ -3,7 +3,7 @@ use Rattle.std.proofs.Common.{◌≡◌, ◌∙◌, ◌<◌, inl, inr, ℕ, List
 use Rattle.std.specs.List.{flat_map}
 use Rattle.std.proofs.lemmas.List.Elements.{Contains-append_right}
 use Rattle.std.proofs.lemmas.Option.{slice_get_within}
-use Rattle.wit_digraph.specs.MemberFacts.{Contains-cons_cases, Contains-here, Contains-nil}
+use Rattle.wit_digraph.specs.facts.MemberFacts.{Contains-cons_cases, Contains-here, Contains-nil}
 use Rattle.wit_data.specs.Function.{resource_of}
 use Rattle.wit_data.specs.Reference.{named_option, named_type}
 use Rattle.wit_data.specs.declared.function.Function.{Function}
@@ -16,8 +16,8 @@ use Rattle.wit_data.specs.declared.types.Type_.{Type_}
 use Rattle.wit_data.specs.declared.types.Type_.TheVariants as type
 use Rattle.wit_elaboration.specs.Valid.{IsValid}
 use Rattle.wit_graph_theory.specs.Image.{Maps, function_image, value_image}
-use Rattle.wit_graph_theory.specs.ListFacts.{found_at, get_at}
-use Rattle.wit_graph_theory.specs.Sources.{Stands}
+use Rattle.wit_graph_theory.specs.facts.ListFacts.{found_at, get_at}
+use Rattle.wit_graph_theory.specs.steps.Sources.{Stands}
 use Rattle.wit_link_spec.specs.CauseText.{borrow_text}
 use Rattle.wit_link_spec.specs.Reasons.{HoldsBorrow}
 use Rattle.wit_link_spec.specs.Resources.{signature_positions}
@@ -25,9 +25,9 @@ use Rattle.wit_merge_spec.specs.Matches.{Merging}
 use Rattle.wit_merge_spec.specs.Moved.{merge_maps, moved_functions, type_place, value_place}
 use Rattle.wit_merge_spec.specs.Reasons.{ReturnsBorrow}
 use Rattle.wit_merge_spec.specs.United.{joined_graph}
-use Rattle.wit_merge_laws.specs.TypesStand.{type_stands, values_stand}
-use Rattle.wit_merge.specs.Returned.{ReturnsFree}
-use Rattle.wit_merge_laws.specs.FunctionsThere.{moved_refers}
+use Rattle.wit_merge_laws.specs.facts.TypesStand.{type_stands, values_stand}
+use Rattle.wit_merge.specs.facts.Returned.{ReturnsFree}
+use Rattle.wit_merge_laws.specs.facts.FunctionsThere.{moved_refers}
 
 one_of : (x y : ℕ) → Contains (x ∷ []) y → x ≡ y
 one_of x y has = elim (Contains-cons_cases x y [] has) [ inl same ↦ same | inr none ↦ absurd (Contains-nil none) ]

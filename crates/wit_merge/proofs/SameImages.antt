@@ -2,7 +2,7 @@
 use Rattle.std.proofs.Common.{◌≡◌, ℕ, ◌<◌, List, [], ◌∷◌, ◌++◌, map, Option, None, Some, option_map, option_to_list, refl, ap, Contains}
 use Rattle.std.proofs.lemmas.List.Elements.{Contains-append_left, Contains-append_right}
 use Rattle.std.specs.List.{flat_map}
-use Rattle.wit_digraph.specs.MemberFacts.{Contains-here, Contains-there}
+use Rattle.wit_digraph.specs.facts.MemberFacts.{Contains-here, Contains-there}
 use Rattle.wit_data.specs.Entries.{Entry}
 use Rattle.wit_data.specs.Function.{resource_of}
 use Rattle.wit_data.specs.Reference.{function_references, named_option, named_type, referred}
@@ -28,7 +28,7 @@ use Rattle.wit_data.specs.declared.world.WorldItem.TheVariants as item
 use Rattle.wit_data.specs.declared.world.WorldKey.{WorldKey}
 use Rattle.wit_data.specs.declared.world.WorldKey.TheVariants as key
 use Rattle.wit_sources.specs.Span.{moved_by}
-use Rattle.wit_merge.specs.Joined.{EntryWithin, ItemWithin, KeyWithin, OwnerWithin, Within}
+use Rattle.wit_merge.specs.steps.Joined.{EntryWithin, ItemWithin, KeyWithin, OwnerWithin, Within}
 use Rattle.wit_graph_theory.specs.Image.{Maps, case_image, entry_image, enum_case_image, field_image, flag_image, function_image, function_kind_image, interface_image, item_image, key_image, kind_image, name_image, owner_image, param_image, target_image, type_image, value_image}
 
 -- maps that send the first so many types, interfaces and worlds to the same places

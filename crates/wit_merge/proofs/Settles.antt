@@ -7,24 +7,24 @@ use Rattle.wit_data.specs.Ownership.{IsNamed}
 use Rattle.wit_data.specs.Uses.{interface_uses}
 use Rattle.wit_elaboration.specs.Elaboration.{graph_uses}
 use Rattle.wit_elaboration.specs.Sound.{HasSoundEntries}
-use Rattle.wit_elaboration.specs.SoundFacts.{named_within}
+use Rattle.wit_elaboration.specs.facts.SoundFacts.{named_within}
 use Rattle.wit_elaboration.specs.Valid.{IsValid}
 use Rattle.wit_graph_data.specs.declared.error_kind.ResolveErrorKind.{ResolveErrorKind}
 use Rattle.wit_graph_data.specs.declared.graph.Graph.{Graph}
 use Rattle.wit_graph_theory.specs.AllElaborated.{graph_package_uses}
-use Rattle.wit_graph_theory.specs.NamedUses.{used_is_named}
-use Rattle.wit_graph_theory.specs.PackageCycleFacts.{used_package}
+use Rattle.wit_graph_theory.specs.facts.NamedUses.{used_is_named}
+use Rattle.wit_graph_theory.specs.facts.PackageCycleFacts.{used_package}
 use Rattle.wit_merge_spec.specs.Cause.{CanMerge, IsMergeCause, borrow_in_result_15, conflict_4, interface_cycle_22, merge_mismatch_24, mismatch_8, offset_overflow_27, package_cycle_6}
 use Rattle.wit_merge_spec.specs.Matches.{Merging}
 use Rattle.wit_merge_spec.specs.Reasons.{AreOne, ReturnsBorrow}
 use Rattle.wit_merge_spec.specs.United.{joined_graph}
-use Rattle.wit_merge_laws.specs.JoinedGood.{aliases, in_order}
-use Rattle.wit_merge_laws.specs.NoCycles.{joined_types_acyclic}
-use Rattle.wit_merge_laws.specs.PackagesStand.{interfaces_in_tables}
-use Rattle.wit_unite_common.specs.Asked.{CanSettle}
-use Rattle.wit_unite_common.specs.Reasons.{SettleCause}
-use Rattle.wit_unite_common.specs.Reasons as settles
-use Rattle.wit_merge.specs.Agreeing.{DoAgree}
+use Rattle.wit_merge_laws.specs.facts.JoinedGood.{aliases, in_order}
+use Rattle.wit_merge_laws.specs.facts.NoCycles.{joined_types_acyclic}
+use Rattle.wit_merge_laws.specs.facts.PackagesStand.{interfaces_in_tables}
+use Rattle.wit_unite_common.specs.steps.Asked.{CanSettle}
+use Rattle.wit_unite_common.specs.facts.Reasons.{SettleCause}
+use Rattle.wit_unite_common.specs.facts.Reasons as settles
+use Rattle.wit_merge.specs.facts.Agreeing.{DoAgree}
 use Rattle.wit_merge.proofs.IdTexts.{id_of_named}
 
 module _ (m : Merging) (valid : IsValid m.graph) (valid_other : IsValid m.other) (one : AreOne m) where

@@ -3,8 +3,8 @@ use Rattle.std.proofs.Common.{◌≡◌, ℕ, Bool, List, [], ◌∷◌, ◌++�
 use Rattle.std.specs.List.{enumerate_from}
 use Rattle.std.specs.Option.{option_map_or}
 use Rattle.wit_link_spec.specs.Ranks.{taken_places}
-use Rattle.wit_merge_match.specs.Found.{AreFound}
-use Rattle.wit_merge_match.specs.Going.{moves}
+use Rattle.wit_merge_match.specs.steps.Found.{AreFound}
+use Rattle.wit_merge_match.specs.steps.Going.{moves}
 use Rattle.wit_merge_spec.specs.Matches.{partner}
 
 -- without places

@@ -1,13 +1,13 @@
 -- The way of a type along aliases: what is told of it, and what is noted.
 use Rattle.std.proofs.Common.{◌≡◌, ◌∙◌, ◌<◌, inl, inr, ℕ, Bool, List, Option, None, Some, length, slice_get, slice_set, sym, ap}
-use Rattle.wit_values.specs.Lists.{set-cases}
+use Rattle.wit_values.specs.facts.Lists.{set-cases}
 use Rattle.wit_digraph.specs.Relation.{IsAcyclic}
 use Rattle.wit_digraph.specs.Walks.{walk}
 use Rattle.wit_data.specs.Reference.{type_references}
 use Rattle.wit_data.specs.Uses.{alias_target}
 use Rattle.wit_data.specs.declared.types.TypeDef.{TypeDef}
-use Rattle.wit_graph_theory.specs.Sources.{alias_rows}
-use Rattle.wit_merge.specs.Leading.{TellsLeads}
+use Rattle.wit_graph_theory.specs.steps.Sources.{alias_rows}
+use Rattle.wit_merge.specs.facts.Leading.{TellsLeads}
 use Rattle.wit_link_resources.proofs.Leads.{target_there, walk_falls}
 use Rattle.wit_link_resources.proofs.Rows.{alias_acyclic}
 

@@ -1,7 +1,3 @@
-pub mod Agreeing
-pub mod Joined
-pub mod Leading
-pub mod Partners
 pub mod Remapped
-pub mod Returned
-pub mod Uniting
+pub mod facts
+pub mod steps

@@ -3,9 +3,9 @@ ghost use Rattle.std.specs.Prelude.{◌≡◌, ◌⊎◌, IfErr, OnOk};
 ghost use Rattle.wit_elaboration.specs.Valid.{IsValid};
 ghost use Rattle.wit_graph_data.specs.declared.error_kind.ResolveErrorKind.TheVariants.{OutOfMemory};
 ghost use Rattle.wit_merge_match.specs.Differing.{merging_by};
-ghost use Rattle.wit_merge_match.specs.Found.{AreMatches};
+ghost use Rattle.wit_merge_match.specs.steps.Found.{AreMatches};
 ghost use Rattle.wit_merge_spec.specs.Cause.{IsMergeCause};
-ghost use Rattle.wit_merge.specs.Agreeing.{DoAgree};
+ghost use Rattle.wit_merge.specs.facts.Agreeing.{DoAgree};
 
 use std::alloc::Global;
 use wit_data::{Span, Text};

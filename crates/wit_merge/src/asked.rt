@@ -6,8 +6,8 @@ ghost use Rattle.wit_elaboration.specs.Valid.{IsValid};
 ghost use Rattle.wit_link_spec.specs.Ranks.{taken};
 ghost use Rattle.wit_link_spec.specs.Resources.{value_positions};
 ghost use Rattle.wit_merge_spec.specs.Moved.{positions};
-ghost use Rattle.wit_merge_match.specs.Found.{AreMatches, merging};
-ghost use Rattle.wit_merge_match.specs.Going.{moves};
+ghost use Rattle.wit_merge_match.specs.steps.Found.{AreMatches, merging};
+ghost use Rattle.wit_merge_match.specs.steps.Going.{moves};
 
 use crate::functions::moved_functions;
 use crate::names::moves;

@@ -10,9 +10,9 @@ ghost use Rattle.wit_data.specs.declared.interface.Interface.{Interface};
 ghost use Rattle.wit_data.specs.declared.world.World.{World};
 ghost use Rattle.wit_link_spec.specs.Ranks.{taken_places};
 ghost use Rattle.wit_merge_spec.specs.Moved.{brought_functions, interface_functions, item_function, moved_functions, world_functions};
-ghost use Rattle.wit_link_resources.specs.Active.{seen};
-ghost use Rattle.wit_merge_match.specs.Found.{AreMatches, merging};
-ghost use Rattle.wit_merge_match.specs.Going.{moves};
+ghost use Rattle.wit_link_resources.specs.steps.Active.{seen};
+ghost use Rattle.wit_merge_match.specs.steps.Found.{AreMatches, merging};
+ghost use Rattle.wit_merge_match.specs.steps.Going.{moves};
 
 use crate::names::moves;
 use std::alloc::{AllocError, Global};

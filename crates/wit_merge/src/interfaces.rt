@@ -3,9 +3,9 @@ ghost use Rattle.std.specs.Prelude.{◌≡◌, ◌++◌, IfOk, OnOk};
 ghost use Rattle.wit_graph_theory.specs.Image.{function_image};
 ghost use Rattle.wit_merge_spec.specs.Moved.{merge_maps};
 ghost use Rattle.wit_merge_spec.specs.United.{joined_graph};
-ghost use Rattle.wit_merge.specs.Joined.{FunctionMoves, FunctionsMove, brought_beside, functions_image};
+ghost use Rattle.wit_merge.specs.steps.Joined.{FunctionMoves, FunctionsMove, brought_beside, functions_image};
 ghost use Rattle.wit_values.specs.Table.{HasDistinctKeys};
-ghost use Rattle.wit_merge.specs.Uniting.{IsReady, merging_of};
+ghost use Rattle.wit_merge.specs.steps.Uniting.{IsReady, merging_of};
 
 use crate::names::push_moved;
 use crate::parts::{Part, joined_list};
@@ -20,7 +20,7 @@ use wit_remap::Place;
 impl Part for Interface {
     ghost use Rattle.wit_graph_theory.specs.Image.{interface_image};
     ghost use Rattle.wit_merge_spec.specs.Joined.{with_interface};
-    ghost use Rattle.wit_merge.specs.Joined.{InterfaceJoins, InterfaceMoves};
+    ghost use Rattle.wit_merge.specs.steps.Joined.{InterfaceJoins, InterfaceMoves};
 
     ghost can_move = { λ m e. InterfaceMoves m e.1 };
 

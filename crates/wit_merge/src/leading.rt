@@ -9,8 +9,8 @@ ghost use Rattle.wit_elaboration.specs.Valid.{IsValid};
 ghost use Rattle.wit_link_spec.specs.Resources.{leads_to_resource};
 ghost use Rattle.wit_merge_spec.specs.Moved.{plain_types, type_place};
 ghost use Rattle.wit_merge_match.specs.Differing.{merging_by};
-ghost use Rattle.wit_merge_match.specs.Found.{AreMatches};
-ghost use Rattle.wit_merge.specs.Leading.{TellsLeads};
+ghost use Rattle.wit_merge_match.specs.steps.Found.{AreMatches};
+ghost use Rattle.wit_merge.specs.facts.Leading.{TellsLeads};
 
 use std::alloc::{AllocError, Global};
 use wit_data::{Items, TypeDef, TypeId, alias_target};

@@ -1,9 +1,9 @@
 //! Tables that take the names of what moves.
 ghost use Rattle.std.specs.Prelude.{◌≡◌, ◌++◌, IfOk, OnOk};
 ghost use Rattle.wit_values.specs.Table.{HasDistinctKeys};
-ghost use Rattle.wit_merge_match.specs.Going.{moves};
-ghost use Rattle.wit_remap.specs.Movers.{goes};
-ghost use Rattle.wit_merge.specs.Joined.{moved_names};
+ghost use Rattle.wit_merge_match.specs.steps.Going.{moves};
+ghost use Rattle.wit_remap.specs.steps.Movers.{goes};
+ghost use Rattle.wit_merge.specs.steps.Joined.{moved_names};
 
 use std::alloc::AllocError;
 use wit_data::{Id, Items, Names, TryClone};

@@ -5,9 +5,9 @@ ghost use Rattle.wit_elaboration.specs.Valid.{IsValid};
 ghost use Rattle.wit_link_spec.specs.Ranks.{rank};
 ghost use Rattle.wit_merge_spec.specs.Moved.{added_owns, needs_own};
 ghost use Rattle.wit_merge_match.specs.Differing.{merging_by};
-ghost use Rattle.wit_merge_match.specs.Found.{AreMatches};
-ghost use Rattle.wit_merge_match.specs.Going.{going_of, moves};
-ghost use Rattle.wit_merge.specs.Uniting.{value_places};
+ghost use Rattle.wit_merge_match.specs.steps.Found.{AreMatches};
+ghost use Rattle.wit_merge_match.specs.steps.Going.{going_of, moves};
+ghost use Rattle.wit_merge.specs.steps.Uniting.{value_places};
 
 use crate::asked::asked;
 use crate::leading::leading_types;

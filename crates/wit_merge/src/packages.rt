@@ -2,8 +2,8 @@
 ghost use Rattle.std.specs.Prelude.{◌≡◌, ◌++◌, IfOk, OnOk};
 ghost use Rattle.wit_values.specs.Table.{HasDistinctKeys};
 ghost use Rattle.wit_merge_spec.specs.United.{joined_graph};
-ghost use Rattle.wit_merge.specs.Joined.{moved_names};
-ghost use Rattle.wit_merge.specs.Uniting.{IsReady, merging_of};
+ghost use Rattle.wit_merge.specs.steps.Joined.{moved_names};
+ghost use Rattle.wit_merge.specs.steps.Uniting.{IsReady, merging_of};
 
 use crate::names::{moves, push_moved};
 use crate::parts::{Part, joined_list};
@@ -16,7 +16,7 @@ use wit_graph_data::Package;
 impl Part for Package {
     ghost use Rattle.wit_merge_spec.specs.Joined.{with_package};
     ghost use Rattle.wit_merge_spec.specs.United.{package_image};
-    ghost use Rattle.wit_merge.specs.Joined.{PackageJoins, PackageMoves};
+    ghost use Rattle.wit_merge.specs.steps.Joined.{PackageJoins, PackageMoves};
 
     ghost can_move = { λ m e. PackageMoves m e.1 };
 

@@ -3,10 +3,10 @@ ghost use Rattle.std.specs.Prelude.{◌≡◌, ◌++◌, ℕ, IfOk, None, Some, 
 ghost use Rattle.std.specs.List.{enumerate_from};
 ghost use Rattle.std.specs.Option.{option_map_or};
 ghost use Rattle.wit_link_spec.specs.Ranks.{taken_places};
-ghost use Rattle.wit_merge_match.specs.Going.{moves};
+ghost use Rattle.wit_merge_match.specs.steps.Going.{moves};
 ghost use Rattle.wit_merge_spec.specs.Matches.{Merging, partner};
-ghost use Rattle.wit_merge.specs.Partners.{placed_at};
-ghost use Rattle.wit_merge.specs.Uniting.{IsReady, merging_of};
+ghost use Rattle.wit_merge.specs.steps.Partners.{placed_at};
+ghost use Rattle.wit_merge.specs.steps.Uniting.{IsReady, merging_of};
 
 use crate::names::moves;
 use crate::partners::partners;

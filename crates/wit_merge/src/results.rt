@@ -6,9 +6,9 @@ ghost use Rattle.wit_link_spec.specs.CauseText.{borrow_text};
 ghost use Rattle.wit_merge_spec.specs.Moved.{moved_functions};
 ghost use Rattle.wit_merge_spec.specs.Reasons.{ReturnsBorrow};
 ghost use Rattle.wit_merge_spec.specs.United.{joined_graph};
-ghost use Rattle.wit_link_resources.specs.Borrows.{AreFreeTypes};
-ghost use Rattle.wit_merge.specs.Returned.{ReturnsFree, TellsBorrow};
-ghost use Rattle.wit_merge.specs.Uniting.{IsReady, merging_of};
+ghost use Rattle.wit_link_resources.specs.steps.Borrows.{AreFreeTypes};
+ghost use Rattle.wit_merge.specs.facts.Returned.{ReturnsFree, TellsBorrow};
+ghost use Rattle.wit_merge.specs.steps.Uniting.{IsReady, merging_of};
 
 use crate::functions::moved_functions;
 use crate::uniting::Uniting;

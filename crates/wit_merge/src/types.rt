@@ -2,7 +2,7 @@
 ghost use Rattle.std.specs.Prelude.{◌≡◌, IfOk};
 ghost use Rattle.wit_merge_spec.specs.Moved.{added_owns};
 ghost use Rattle.wit_merge_spec.specs.United.{joined_graph};
-ghost use Rattle.wit_merge.specs.Uniting.{IsReady, merging_of};
+ghost use Rattle.wit_merge.specs.steps.Uniting.{IsReady, merging_of};
 
 use crate::parts::{Part, joined_list};
 use crate::stabilities::join_stability;
@@ -16,7 +16,7 @@ impl Part for TypeDef {
     ghost use Rattle.wit_graph_theory.specs.Image.{type_image};
     ghost use Rattle.wit_merge_spec.specs.Joined.{with_type};
     ghost use Rattle.wit_merge_spec.specs.Moved.{merge_maps};
-    ghost use Rattle.wit_merge.specs.Joined.{TypeMoves};
+    ghost use Rattle.wit_merge.specs.steps.Joined.{TypeMoves};
 
     ghost can_move = { λ m e. TypeMoves m e.1 };
 

@@ -1,7 +1,7 @@
 //! Two graphs that become one.
 ghost use Rattle.std.specs.Prelude.{◌≡◌, ◌<◌, Some, length, ℕ};
 ghost use Rattle.wit_merge_spec.specs.Moved.{package_place};
-ghost use Rattle.wit_merge.specs.Uniting.{IsReady, merging_of};
+ghost use Rattle.wit_merge.specs.steps.Uniting.{IsReady, merging_of};
 
 use wit_data::{Items, PackageId, TypeId};
 use wit_graph_data::Graph;

@@ -4,13 +4,13 @@ ghost use Rattle.wit_elaboration.specs.Valid.{IsValid};
 ghost use Rattle.wit_graph_data.specs.declared.error_kind.ResolveErrorKind.{ResolveErrorKind};
 ghost use Rattle.wit_graph_data.specs.declared.error_kind.ResolveErrorKind.TheVariants.{OutOfMemory};
 ghost use Rattle.wit_merge_match.specs.Differing.{merging_by};
-ghost use Rattle.wit_merge_match.specs.Found.{AreMatches};
-ghost use Rattle.wit_merge_match.specs.Going.{going_of};
+ghost use Rattle.wit_merge_match.specs.steps.Found.{AreMatches};
+ghost use Rattle.wit_merge_match.specs.steps.Going.{going_of};
 ghost use Rattle.wit_merge_spec.specs.Moved.{going as ids_of};
 ghost use Rattle.wit_merge_spec.specs.Cause.{IsMergeCause};
 ghost use Rattle.wit_merge_spec.specs.Reasons.{ReturnsBorrow};
 ghost use Rattle.wit_merge_spec.specs.United.{joined_graph, united};
-ghost use Rattle.wit_merge.specs.Agreeing.{DoAgree};
+ghost use Rattle.wit_merge.specs.facts.Agreeing.{DoAgree};
 ghost use Rattle.wit_merge.specs.Remapped.{remap_of};
 
 use crate::agreement::check_agreement;

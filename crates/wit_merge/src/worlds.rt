@@ -3,8 +3,8 @@ ghost use Rattle.std.specs.Prelude.{◌≡◌, IfOk, None, get_or, map};
 ghost use Rattle.std.specs.Option.{option_copied};
 ghost use Rattle.wit_values.specs.Table.{HasDistinctKeys};
 ghost use Rattle.wit_merge_spec.specs.United.{joined_graph};
-ghost use Rattle.wit_merge.specs.Joined.{entry_joined, stability_joined, stability_of, stability_under};
-ghost use Rattle.wit_merge.specs.Uniting.{IsReady, merging_of};
+ghost use Rattle.wit_merge.specs.steps.Joined.{entry_joined, stability_joined, stability_of, stability_under};
+ghost use Rattle.wit_merge.specs.steps.Uniting.{IsReady, merging_of};
 
 use crate::parts::{Part, joined_list};
 use crate::stabilities::join_stability;
@@ -20,7 +20,7 @@ impl Part for World {
     ghost use Rattle.wit_graph_theory.specs.Image.{world_image};
     ghost use Rattle.wit_merge_spec.specs.Joined.{with_world};
     ghost use Rattle.wit_merge_spec.specs.Moved.{merge_maps};
-    ghost use Rattle.wit_merge.specs.Joined.{WorldJoins, WorldMoves};
+    ghost use Rattle.wit_merge.specs.steps.Joined.{WorldJoins, WorldMoves};
 
     ghost can_move = { λ m e. WorldMoves m e.1 };
 

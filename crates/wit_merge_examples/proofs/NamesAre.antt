@@ -1,16 +1,16 @@
 -- The names of small graphs.
 use Rattle.std.proofs.Common.{◌≡◌, ℕ, zero, suc, true, [], ◌∷◌, List, None, Some, codes, refl, ap}
-use Rattle.wit_values.specs.Lists.{differ}
-use Rattle.wit_digraph.specs.MemberFacts.{Contains-here, Contains-nil, Contains-there}
+use Rattle.wit_values.specs.facts.Lists.{differ}
+use Rattle.wit_digraph.specs.facts.MemberFacts.{Contains-here, Contains-nil, Contains-there}
 use Rattle.wit_data.specs.declared.package_name.PackageName.{PackageName}
 use Rattle.wit_data.specs.declared.types.Type_.TheVariants as type
 use Rattle.wit_data.specs.declared.world.WorldItem.{WorldItem}
 use Rattle.wit_data.specs.declared.world.WorldKey.{WorldKey}
 use Rattle.wit_data.specs.declared.world.WorldKey.TheVariants as key
-use Rattle.wit_graph_data.specs.Samples.{entry_of, foo_bar, function_of, instance}
-use Rattle.wit_graph_theory.specs.OptionFacts.{some_same}
-use Rattle.wit_graph_theory.specs.TestFacts.{only_one}
-use Rattle.wit_merge_laws.specs.Names.{HasLabel, HasName, IsPackage, IsUnnamedAt, IsWorld, at_label, in_package, of_export, of_interface, of_label, of_package, of_type, of_world}
+use Rattle.wit_graph_data.specs.examples.Samples.{entry_of, foo_bar, function_of, instance}
+use Rattle.wit_graph_theory.specs.facts.OptionFacts.{some_same}
+use Rattle.wit_graph_theory.specs.examples.TestFacts.{only_one}
+use Rattle.wit_merge_laws.specs.laws.Names.{HasLabel, HasName, IsPackage, IsUnnamedAt, IsWorld, at_label, in_package, of_export, of_interface, of_label, of_package, of_type, of_world}
 use Rattle.wit_merge_examples.specs.Graphs.{b_uses_a, foo_named, three, world_of_i}
 use Rattle.wit_merge_examples.specs.NamesHeld.{ExamplesOfNames, at_x, inner_t}
 

@@ -1,10 +1,10 @@
 -- The examples of pairs of types compute; which of them is told first.
 use Rattle.std.proofs.Common.{◌≡◌, ◌∙◌, ℕ, List, [], ◌∷◌, ◌++◌, length, refl, sym, ap, arith, Contains}
 use Rattle.std.specs.Prelude.{codes}
-use Rattle.wit_values.specs.Lists.{differ}
-use Rattle.wit_digraph.specs.MemberFacts.{Contains-here}
+use Rattle.wit_values.specs.facts.Lists.{differ}
+use Rattle.wit_digraph.specs.facts.MemberFacts.{Contains-here}
 use Rattle.wit_digraph.specs.Walks.{walk, walk_within}
-use Rattle.wit_graph_theory.specs.TestFacts.{none_in, only_one}
+use Rattle.wit_graph_theory.specs.examples.TestFacts.{none_in, only_one}
 use Rattle.wit_merge_spec.specs.MismatchText.{linked}
 use Rattle.wit_merge_spec.specs.TypePairs.{FirstDiffers, TypePair}
 use Rattle.wit_merge_examples.specs.Pairs.{AllDiffer, ExamplesOfPairs, in_i, mismatch_t, pair}

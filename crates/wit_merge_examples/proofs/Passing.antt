@@ -6,7 +6,7 @@ use Rattle.std.proofs.lemmas.Slice.Eq.{bytes_eq-Decides}
 use Rattle.std.specs.List.{list_all}
 use Rattle.std.specs.Option.{option_eq, option_map_or}
 use Rattle.std.specs.Str.{bytes_eq}
-use Rattle.wit_digraph.specs.MemberFacts.{Contains-cons_cases, Contains-here, Contains-nil}
+use Rattle.wit_digraph.specs.facts.MemberFacts.{Contains-cons_cases, Contains-here, Contains-nil}
 use Rattle.wit_digraph.specs.Relation.{direct}
 use Rattle.wit_data.specs.Entries.{Entry, item_interface}
 use Rattle.wit_data.specs.Reference.{named_option}
@@ -27,13 +27,13 @@ use Rattle.wit_elaboration.specs.Imported.{exported_interfaces}
 use Rattle.wit_graph_data.specs.Questions.{held_rows}
 use Rattle.wit_graph_data.specs.declared.cause.Cause.TheVariants as cause
 use Rattle.wit_graph_data.specs.declared.error_kind.ResolveErrorKind.TheVariants.{Semantic}
-use Rattle.wit_graph_theory.specs.AgreementFacts.{functions_pass, interfaces_fine}
+use Rattle.wit_graph_theory.specs.examples.AgreementFacts.{functions_pass, interfaces_fine}
 use Rattle.wit_graph_theory.specs.AllElaborated.{IsInConflict, graph_package_uses}
 use Rattle.wit_graph_theory.specs.FunctionMismatch.{HaveFunctionMismatch}
 use Rattle.wit_graph_theory.specs.Image.{function_image}
-use Rattle.wit_graph_theory.specs.ListFacts.{contained_at, found_at}
-use Rattle.wit_graph_theory.specs.OnePlace.{entries_of}
-use Rattle.wit_graph_theory.specs.TestFacts.{all_are, all_at, all_uses, at_are, falls, implied, implies, is_empty, no_cycle, none_some, nothing_in, some_passes}
+use Rattle.wit_graph_theory.specs.facts.ListFacts.{contained_at, found_at}
+use Rattle.wit_graph_theory.specs.steps.OnePlace.{entries_of}
+use Rattle.wit_graph_theory.specs.examples.TestFacts.{all_are, all_at, all_uses, at_are, falls, implied, implies, is_empty, no_cycle, none_some, nothing_in, some_passes}
 use Rattle.wit_link_spec.specs.Gates.{Place}
 use Rattle.wit_link_spec.specs.Reasons.{HoldsBorrow}
 use Rattle.wit_link_spec.specs.WorldReasons.{Disagree, HasStability}
@@ -48,9 +48,9 @@ use Rattle.wit_merge_spec.specs.Reasons.{AreJoined, AreOne, Mismatches, PassesTh
 use Rattle.wit_merge_spec.specs.Reasons as joins
 use Rattle.wit_merge_spec.specs.TypePairs.{FirstDiffers, TypePair, type_pairs}
 use Rattle.wit_merge_spec.specs.United.{joined_graph}
-use Rattle.wit_merge_structure.specs.DifferenceFacts.{same_no_first}
+use Rattle.wit_merge_structure.specs.facts.DifferenceFacts.{same_no_first}
 use Rattle.wit_merge_structure.specs.Structure.{Feature, structure}
-use Rattle.wit_merge_laws.specs.InterfacesStand.{option_is, option_so}
+use Rattle.wit_merge_laws.specs.facts.InterfacesStand.{option_is, option_so}
 
 -- ---- interfaces
 

@@ -10,11 +10,11 @@ use Rattle.wit_data.specs.declared.world.WorldKey.TheVariants as key
 use Rattle.wit_elaboration.specs.Elaboration.{graph_uses}
 use Rattle.wit_elaboration.specs.Entries.{item_interface}
 use Rattle.wit_elaboration.specs.Imported.{IsInConflict as IsEntryInConflict}
-use Rattle.wit_graph_data.specs.Samples.{entry_of}
+use Rattle.wit_graph_data.specs.examples.Samples.{entry_of}
 use Rattle.wit_graph_data.specs.declared.cause.Cause.TheVariants as cause
 use Rattle.wit_graph_data.specs.declared.error_kind.ResolveErrorKind.TheVariants.{InvalidTransitiveDependency, OffsetOverflow, OutOfMemory, PackageCycle, Semantic}
 use Rattle.wit_graph_theory.specs.AllElaborated.{DependsOnItself, IsInConflict, UsesItself}
-use Rattle.wit_graph_theory.specs.TestFacts.{no_cycle, none_in, only_one}
+use Rattle.wit_graph_theory.specs.examples.TestFacts.{no_cycle, none_in, only_one}
 use Rattle.wit_link_spec.specs.Gates.{Place}
 use Rattle.wit_merge_spec.specs.Cause.{IsMergeCause}
 use Rattle.wit_merge_spec.specs.Cause as reason

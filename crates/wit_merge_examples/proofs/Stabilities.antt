@@ -1,13 +1,13 @@
 -- The examples of stabilities.
 use Rattle.std.proofs.Common.{◌≡◌, false, true, refl, ap, lit<}
 use Rattle.std.specs.Prelude.{codes}
-use Rattle.wit_values.specs.Lists.{differ}
+use Rattle.wit_values.specs.facts.Lists.{differ}
 use Rattle.wit_digraph.specs.Walks.{walk, walk_within}
 use Rattle.wit_data.specs.declared.stability.Stability.{Stability}
 use Rattle.wit_elaboration.specs.Elaborated.{import_steps, import_steps_within}
 use Rattle.wit_graph_data.specs.declared.error_kind.ResolveErrorKind.TheVariants.{StabilityMismatch}
 use Rattle.wit_graph_data.specs.declared.graph.Graph.{Graph}
-use Rattle.wit_graph_theory.specs.TestFacts.{feature_of}
+use Rattle.wit_graph_theory.specs.examples.TestFacts.{feature_of}
 use Rattle.wit_link_spec.specs.Gates.{Place}
 use Rattle.wit_link_spec.specs.WorldReasons.{Disagree}
 use Rattle.wit_merge_spec.specs.Cause.{IsMergeCause}

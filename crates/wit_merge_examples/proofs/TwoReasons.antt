@@ -1,7 +1,7 @@
 -- Of two reasons at once, which are told.
 use Rattle.std.proofs.Common.{◌≡◌, inl, inr, ℕ, List, [], ◌∷◌, None, refl, sym, subst, lit<, lit≤, arith, Contains}
 use Rattle.std.specs.Prelude.{codes}
-use Rattle.wit_values.specs.Lists.{differ}
+use Rattle.wit_values.specs.facts.Lists.{differ}
 use Rattle.wit_digraph.specs.Relation.{direct}
 use Rattle.wit_digraph.specs.Walks.{walk, walk_within}
 use Rattle.wit_data.specs.Reference.{type_references}
@@ -11,12 +11,12 @@ use Rattle.wit_elaboration.specs.Elaboration.{graph_uses}
 use Rattle.wit_elaboration.specs.Entries.{Entry}
 use Rattle.wit_elaboration.specs.Imported.{HasConflict}
 use Rattle.wit_elaboration.specs.Imported.{IsInConflict as IsEntryInConflict}
-use Rattle.wit_graph_data.specs.Samples.{entry_of}
+use Rattle.wit_graph_data.specs.examples.Samples.{entry_of}
 use Rattle.wit_graph_data.specs.declared.cause.Cause.TheVariants as cause
 use Rattle.wit_graph_data.specs.declared.error_kind.ResolveErrorKind.TheVariants.{InvalidTransitiveDependency, PackageCycle, Semantic}
 use Rattle.wit_graph_theory.specs.AllElaborated.{IsInConflict, UsesItself}
 use Rattle.wit_graph_theory.specs.FunctionMismatch.{FunctionMismatch, parameter_names_differ}
-use Rattle.wit_graph_theory.specs.TestFacts.{no_cycle, none_in, one_of_two, only_one}
+use Rattle.wit_graph_theory.specs.examples.TestFacts.{no_cycle, none_in, one_of_two, only_one}
 use Rattle.wit_link_spec.specs.Gates.{Place}
 use Rattle.wit_merge_spec.specs.Agreement.{GraphsDiffer}
 use Rattle.wit_merge_spec.specs.Agreement as mismatch

@@ -1,9 +1,9 @@
 -- The names of small graphs.
 use Rattle.std.specs.Prelude.{[], ◌∷◌, false, true, None, codes}
 use Rattle.wit_data.specs.declared.types.Type_.TheVariants as type
-use Rattle.wit_graph_data.specs.Samples.{foo_bar, function_of}
+use Rattle.wit_graph_data.specs.examples.Samples.{foo_bar, function_of}
 use Rattle.wit_graph_data.specs.declared.graph.Graph.{Graph}
-use Rattle.wit_merge_laws.specs.Names.{HasImport, HasName, Label, at_label, in_package, of_export, of_function, of_interface, of_label, of_package, of_type, of_world}
+use Rattle.wit_merge_laws.specs.laws.Names.{HasImport, HasName, Label, at_label, in_package, of_export, of_function, of_interface, of_label, of_package, of_type, of_world}
 use Rattle.wit_merge_examples.specs.Graphs.{b_uses_a, foo_named, inner, number_in, three, world_of_i}
 
 -- label x of the imports of world w of foo:bar

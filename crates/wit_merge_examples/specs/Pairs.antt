@@ -6,7 +6,7 @@ use Rattle.wit_data.specs.declared.types.TypeOwner.TheVariants as owner
 use Rattle.wit_data.specs.declared.types.Type_.TheVariants as type
 use Rattle.wit_data.specs.declared.world.WorldItem.TheVariants as item
 use Rattle.wit_data.specs.declared.world.WorldKey.TheVariants as key
-use Rattle.wit_graph_data.specs.Samples.{instance, interface_of, type_of, world_of}
+use Rattle.wit_graph_data.specs.examples.Samples.{instance, interface_of, type_of, world_of}
 use Rattle.wit_graph_data.specs.declared.graph.Graph.{Graph}
 use Rattle.wit_merge_spec.specs.TypePairs.{FirstDiffers, TypePair, type_pairs}
 use Rattle.wit_merge_examples.specs.Graphs.{alias_in, b_uses_a, foo_bar_alone, foo_named, inner, interface_in, merging, more, number_in, one_number, package_named}

@@ -12,8 +12,8 @@ use Rattle.wit_data.specs.declared.types.Type_.{Type_}
 use Rattle.wit_data.specs.declared.types.Type_.TheVariants as type
 use Rattle.wit_data.specs.declared.world.WorldItem.TheVariants as item
 use Rattle.wit_data.specs.declared.world.WorldKey.TheVariants as key
-use Rattle.wit_elaboration.specs.Examples.{empty_graph}
-use Rattle.wit_graph_data.specs.Samples.{entry_of, foo_bar_of, function_of, instance, interface_of, type_in, world_of}
+use Rattle.wit_elaboration.specs.examples.Examples.{empty_graph}
+use Rattle.wit_graph_data.specs.examples.Samples.{entry_of, foo_bar_of, function_of, instance, interface_of, type_in, world_of}
 use Rattle.wit_graph_data.specs.declared.cause.Cause.TheVariants as cause
 use Rattle.wit_graph_data.specs.declared.error_kind.ResolveErrorKind.TheVariants.{InvalidTransitiveDependency, OffsetOverflow, OutOfMemory, PackageCycle, Semantic, StabilityMismatch}
 use Rattle.wit_graph_data.specs.declared.graph.Graph.{Graph}

@@ -1,7 +1,7 @@
 //! Laws of merging: the contract of each function is what is proved.
-ghost use Rattle.wit_merge_laws.specs.BorrowLaws.{MergesMakeNoBorrow};
-ghost use Rattle.wit_merge_laws.specs.MergingLaws.{NothingComes, SharedWorldsKeepImports, UnionsHaveBothNames, UnionsStayValid};
-ghost use Rattle.wit_merge_laws.specs.OrderLaws.{AgreementIsSymmetric, MergingIsOrderFree, ResourcesStay};
+ghost use Rattle.wit_merge_laws.specs.laws.BorrowLaws.{MergesMakeNoBorrow};
+ghost use Rattle.wit_merge_laws.specs.laws.MergingLaws.{NothingComes, SharedWorldsKeepImports, UnionsHaveBothNames, UnionsStayValid};
+ghost use Rattle.wit_merge_laws.specs.laws.OrderLaws.{AgreementIsSymmetric, MergingIsOrderFree, ResourcesStay};
 
 use wit_graph_theory::laws::laws_of_elaboration;
 

@@ -8,7 +8,7 @@ use Rattle.std.proofs.lemmas.Bool.Decides.{Decides-eqb}
 use Rattle.std.proofs.lemmas.Map.Views.{Contains-from_lookup, lookup-from_Contains}
 use Rattle.std.proofs.lemmas.Option.{cond_some, slice_get_within}
 use Rattle.wit_data.specs.Entries.{Entry}
-use Rattle.wit_data.specs.WorldKeyFacts.{key_is, key_laws}
+use Rattle.wit_data.specs.facts.WorldKeyFacts.{key_is, key_laws}
 use Rattle.wit_data.specs.declared.interface.Interface.{Interface}
 use Rattle.wit_data.specs.declared.stability.Docs.{Docs}
 use Rattle.wit_data.specs.declared.stability.Stability.{Stability}
@@ -19,16 +19,16 @@ use Rattle.wit_data.specs.declared.world.WorldItem.TheVariants as item
 use Rattle.wit_data.specs.declared.world.WorldKey.{WorldKey}
 use Rattle.wit_data.specs.declared.world.WorldKey.TheVariants as key
 use Rattle.wit_elaboration.specs.Entries.{same_key}
-use Rattle.wit_graph_theory.specs.ListFacts.{contained_at, place_of}
-use Rattle.wit_graph_theory.specs.OnePlace.{entries_of}
-use Rattle.wit_graph_theory.specs.OptionFacts.{some_parts, some_same, some_whole}
+use Rattle.wit_graph_theory.specs.facts.ListFacts.{contained_at, place_of}
+use Rattle.wit_graph_theory.specs.steps.OnePlace.{entries_of}
+use Rattle.wit_graph_theory.specs.facts.OptionFacts.{some_parts, some_same, some_whole}
 use Rattle.wit_link_spec.specs.Gates.{Place}
 use Rattle.wit_link_spec.specs.WorldReasons.{Disagree, HasStability}
 use Rattle.wit_merge_spec.specs.Matches.{Merging, Pair, found_interface, found_type, found_world}
 use Rattle.wit_merge_spec.specs.Reasons as reasons
 use Rattle.wit_merge_spec.specs.Reasons.{AreJoined, Mismatches}
-use Rattle.wit_merge_match.specs.Stabilities as stabilities
-use Rattle.wit_merge_match.specs.Stabilities.{AreApart, EntriesApart, EntryApart, InterfacesApartAt, TypesApartAt, WorldsApart, WorldsApartAt, own_stability, stability_beside}
+use Rattle.wit_merge_match.specs.steps.Stabilities as stabilities
+use Rattle.wit_merge_match.specs.steps.Stabilities.{AreApart, EntriesApart, EntryApart, InterfacesApartAt, TypesApartAt, WorldsApart, WorldsApartAt, own_stability, stability_beside}
 use Rattle.wit_merge_match.proofs.Steps.{NoneBelow, from_pair, to_pair}
 
 -- ---- entries

@@ -15,7 +15,7 @@ use Rattle.wit_graph_data.specs.declared.graph.Graph.{Graph}
 use Rattle.wit_graph_data.specs.declared.graph.Package.{Package}
 use Rattle.wit_link_spec.specs.Lookup.{listed_type}
 use Rattle.wit_merge_spec.specs.Matches.{Merging, found_as, found_at_spot, found_by, found_in, found_interface, found_package, found_type, found_world, spots}
-use Rattle.wit_merge_match.specs.Found.{AreFound, AreSpotted, interface_under, merging, owned_under, type_under, under, world_under}
+use Rattle.wit_merge_match.specs.steps.Found.{AreFound, AreSpotted, interface_under, merging, owned_under, type_under, under, world_under}
 use Rattle.wit_merge_match.proofs.Mapped.{found_mapped, get_or-map, same_of}
 
 module _ (g other : Graph) where

@@ -1,11 +1,11 @@
 -- One thing more of those that find their places.
 use Rattle.std.proofs.Common.{◌≡◌, ◌∙◌, ◌+◌, ℕ, zero, suc, Bool, true, false, not, List, Option, None, Some, get_or, is_some, length, map, unwrap_or, add-one, ap, arith, refl, sym}
 use Rattle.std.specs.List.{range_with_len}
-use Rattle.wit_link_spec.specs.RankFacts.{after, rank-suc}
-use Rattle.wit_link_spec.specs.RangeFacts.{range-same}
+use Rattle.wit_link_spec.specs.facts.RankFacts.{after, rank-suc}
+use Rattle.wit_link_spec.specs.facts.RangeFacts.{range-same}
 use Rattle.wit_link_spec.specs.Ranks.{rank}
-use Rattle.wit_merge_match.specs.Found.{AreFound}
-use Rattle.wit_merge_match.specs.Going.{moves, place_from}
+use Rattle.wit_merge_match.specs.steps.Found.{AreFound}
+use Rattle.wit_merge_match.specs.steps.Going.{moves, place_from}
 
 module _ (found : List (Option ℕ)) (first i : ℕ) where
   -- where it goes

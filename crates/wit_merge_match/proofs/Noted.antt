@@ -6,9 +6,9 @@ use Rattle.wit_data.specs.Entries.{is_unnamed}
 use Rattle.wit_data.specs.declared.world.World.{World}
 use Rattle.wit_elaboration.specs.Entries.{Entry}
 use Rattle.wit_graph_data.specs.declared.graph.Graph.{Graph}
-use Rattle.wit_graph_theory.specs.PackagesAcyclic.{length-numbered, numbered_into}
+use Rattle.wit_graph_theory.specs.facts.PackagesAcyclic.{length-numbered, numbered_into}
 use Rattle.wit_merge_spec.specs.Matches.{Spot, spotted, world_spots}
-use Rattle.wit_merge_match.specs.Found.{AreSpotted}
+use Rattle.wit_merge_match.specs.steps.Found.{AreSpotted}
 
 drop_at : {X : Type 0} (xs : List X) (k : ℕ) (x : X) → slice_get xs k ≡ Some x → drop k xs ≡ x ∷ drop (suc k) xs
 drop_at [] k x at = cc

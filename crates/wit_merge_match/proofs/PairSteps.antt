@@ -7,7 +7,7 @@ use Rattle.std.specs.Str.{bytes_eq}
 use Rattle.std.proofs.lemmas.List.{append-nil, map-append, take_all}
 use Rattle.std.proofs.lemmas.List.Concat.{flat_map-append}
 use Rattle.std.proofs.lemmas.List.Elements.{Contains-append_cases}
-use Rattle.wit_values.specs.Lists.{take-next_at}
+use Rattle.wit_values.specs.facts.Lists.{take-next_at}
 use Rattle.wit_data.specs.Entries.{Entry, is_unnamed}
 use Rattle.wit_link_spec.specs.Gates.{Place}
 use Rattle.wit_data.specs.declared.interface.Interface.{Interface}
@@ -18,12 +18,12 @@ use Rattle.wit_data.specs.declared.world.WorldKey.{WorldKey}
 use Rattle.wit_data.specs.declared.world.WorldKey.TheVariants as key
 use Rattle.wit_graph_data.specs.Questions.{topological_packages}
 use Rattle.wit_graph_data.specs.declared.graph.Package.{Package}
-use Rattle.wit_digraph.specs.MemberFacts.{Contains-cons_cases, Contains-nil}
+use Rattle.wit_digraph.specs.facts.MemberFacts.{Contains-cons_cases, Contains-nil}
 use Rattle.wit_merge_spec.specs.Agreement.{StructuresDiffer}
 use Rattle.wit_merge_spec.specs.Matches.{Merging, found_item, interface_beside, world_beside}
 use Rattle.wit_merge_spec.specs.MismatchText.{entry_link, linked, type_link}
 use Rattle.wit_merge_spec.specs.TypePairs.{TypePair, common_entries, common_types, entry_pairs, in_package_order, interface_pairs, item_pairs, paired, type_pairs, world_pairs}
-use Rattle.wit_merge_match.specs.Structures.{FirstTold, NoneDiffer, common_pair, interface_part, of_package, package_interface_pairs, package_world_pairs, side_pairs, unnamed_pairs, world_part}
+use Rattle.wit_merge_match.specs.steps.Structures.{FirstTold, NoneDiffer, common_pair, interface_part, of_package, package_interface_pairs, package_world_pairs, side_pairs, unnamed_pairs, world_part}
 
 module _ (m : Merging) where
   -- ---- end to end

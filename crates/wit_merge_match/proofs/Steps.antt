@@ -8,11 +8,11 @@ use Rattle.wit_data.specs.PackageName.{package_name_text}
 use Rattle.wit_data.specs.declared.interface.Interface.{Interface}
 use Rattle.wit_data.specs.declared.package_name.PackageName.{PackageName}
 use Rattle.wit_data.specs.declared.world.WorldItem.{WorldItem}
-use Rattle.wit_digraph.specs.MemberFacts.{Contains-here}
+use Rattle.wit_digraph.specs.facts.MemberFacts.{Contains-here}
 use Rattle.wit_graph_data.specs.declared.graph.Package.{Package}
 use Rattle.wit_graph_theory.specs.FunctionMismatch.{HaveFunctionMismatch}
-use Rattle.wit_graph_theory.specs.ListFacts.{contained_at, place_of}
-use Rattle.wit_graph_theory.specs.OptionFacts.{some_parts, some_same, some_whole}
+use Rattle.wit_graph_theory.specs.facts.ListFacts.{contained_at, place_of}
+use Rattle.wit_graph_theory.specs.facts.OptionFacts.{some_parts, some_same, some_whole}
 use Rattle.wit_merge_spec.specs.Agreement as agreement
 use Rattle.wit_merge_spec.specs.Agreement.{EntriesDiffer, GraphsDiffer, ItemsDiffer, same_sort}
 use Rattle.wit_merge_spec.specs.Matches.{Merging, Pair, found_interface, found_world}
@@ -21,7 +21,7 @@ use Rattle.wit_merge_spec.specs.Reasons.{AreOne}
 use Rattle.wit_merge_spec.specs.TypePairs.{TypePair, type_pairs}
 use Rattle.wit_merge_match.specs.Differing as differing
 use Rattle.wit_merge_match.specs.Differing.{DifferAt, EntryDiffers, HeldDiffer, InterfaceDiffersAt, InterfacesDiffer, PartDiffers, WorldDiffersAt, WorldsDiffer}
-use Rattle.wit_merge_match.specs.Structures.{FirstTold, NoneDiffer}
+use Rattle.wit_merge_match.specs.steps.Structures.{FirstTold, NoneDiffer}
 
 -- what follows where there is nothing
 pub if_none : {X P Q : Type 0} → (P → Q) → (o : Option X) → IfNone o P → IfNone o Q

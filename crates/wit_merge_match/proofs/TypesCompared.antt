@@ -14,24 +14,24 @@ use Rattle.wit_data.specs.declared.world.WorldItem.{WorldItem}
 use Rattle.wit_data.specs.declared.world.WorldItem.TheVariants as item
 use Rattle.wit_data.specs.declared.world.WorldKey.{WorldKey}
 use Rattle.wit_data.specs.declared.world.WorldKey.TheVariants as key
-use Rattle.wit_digraph.specs.MemberFacts.{Contains-cons_cases, Contains-nil}
+use Rattle.wit_digraph.specs.facts.MemberFacts.{Contains-cons_cases, Contains-nil}
 use Rattle.wit_elaboration.specs.Valid.{IsValid}
 use Rattle.wit_graph_data.specs.declared.graph.Graph.{Graph}
 use Rattle.wit_elaboration.proofs.FreshEntries.{same_key-true}
 use Rattle.wit_elaboration.specs.Entries.{same_key}
-use Rattle.wit_graph_theory.specs.ListFacts.{found_at, place_of}
-use Rattle.wit_graph_theory.specs.OptionFacts.{some_parts}
+use Rattle.wit_graph_theory.specs.facts.ListFacts.{found_at, place_of}
+use Rattle.wit_graph_theory.specs.facts.OptionFacts.{some_parts}
 use Rattle.wit_merge_spec.specs.Agreement.{StructuresDiffer}
 use Rattle.wit_merge_spec.specs.Matches.{Merging, found_interface, found_item, found_key, found_type, found_world, interface_beside, world_beside}
 use Rattle.wit_merge_spec.specs.MismatchText.{linked, type_link}
 use Rattle.wit_merge_spec.specs.TypePairs.{TypePair, paired}
-use Rattle.wit_merge_structure.specs.Comparing.{IsSound, from_structure, into_structure, matched_by}
-use Rattle.wit_merge_structure.specs.DifferenceFacts.{same_no_first}
+use Rattle.wit_merge_structure.specs.steps.Comparing.{IsSound, from_structure, into_structure, matched_by}
+use Rattle.wit_merge_structure.specs.facts.DifferenceFacts.{same_no_first}
 use Rattle.wit_merge_structure.specs.Structure.{DifferInStructure}
 use Rattle.wit_merge_structure.specs.declared.comparison.Comparison.{Comparison}
 use Rattle.wit_merge_structure.specs.declared.comparison.Sides.{Sides}
 use Rattle.wit_merge_match.specs.Differing.{merging_of}
-use Rattle.wit_merge_match.specs.Structures.{AreComparable, FirstTold, IsOf, IsThere, ListsThere, NoneDiffer, TypesThere}
+use Rattle.wit_merge_match.specs.steps.Structures.{AreComparable, FirstTold, IsOf, IsThere, ListsThere, NoneDiffer, TypesThere}
 use Rattle.wit_merge_match.specs.declared.comparing.Comparing.{Comparing}
 
 -- ---- what a comparison tells of two types

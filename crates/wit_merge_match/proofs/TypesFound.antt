@@ -18,7 +18,7 @@ use Rattle.wit_elaboration.specs.Entries.{same_key}
 use Rattle.wit_elaboration.specs.Valid.{IsValid}
 use Rattle.wit_graph_data.specs.declared.graph.Graph.{Graph}
 use Rattle.wit_transform.proofs.Distinct.{tail_distinct}
-use Rattle.wit_merge_match.specs.Found.{type_item}
+use Rattle.wit_merge_match.specs.steps.Found.{type_item}
 
 abbrev types_in : List Entry → List (List ℕ × ℕ)
 types_in es = flat_map (λ (e : Entry). listed_type e.0 e.1) es

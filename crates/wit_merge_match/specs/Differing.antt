@@ -9,11 +9,11 @@ use Rattle.wit_graph_data.specs.IdText.{key_text}
 use Rattle.wit_graph_data.specs.declared.graph.Graph.{Graph}
 use Rattle.wit_graph_data.specs.declared.graph.Package.{Package}
 use Rattle.wit_graph_theory.specs.FunctionMismatch.{HaveFunctionMismatch}
-use Rattle.wit_graph_theory.specs.OnePlace.{entries_of}
+use Rattle.wit_graph_theory.specs.steps.OnePlace.{entries_of}
 use Rattle.wit_merge_spec.specs.Agreement.{EntriesDiffer, ItemsDiffer}
 use Rattle.wit_merge_spec.specs.Matches.{Merging, found_interface, found_item, found_world}
 use Rattle.wit_merge_spec.specs.MismatchText.{absent_text, entry_link, linked, other_interface_text, part_links, side_word}
-use Rattle.wit_merge_match.specs.Found.{AreMatches, merging}
+use Rattle.wit_merge_match.specs.steps.Found.{AreMatches, merging}
 use Rattle.wit_merge_match.specs.declared.comparing.Comparing.{Comparing}
 
 -- the other graph goes into the graph, and its spans move by this offset

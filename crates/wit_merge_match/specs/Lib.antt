@@ -1,6 +1,3 @@
 pub mod Differing
-pub mod Found
-pub mod Going
-pub mod OffsetFacts
-pub mod Stabilities
-pub mod Structures
+pub mod facts
+pub mod steps

@@ -1,9 +1,9 @@
 //! Where all things of another graph go.
 ghost use Rattle.std.specs.Prelude.{◌≡◌, IfOk, OnOk, Some, is_some, length, map, not, unwrap_or};
 ghost use Rattle.std.specs.List.{range_with_len};
-ghost use Rattle.wit_link_spec.specs.RankFacts.{after};
-ghost use Rattle.wit_merge_match.specs.Found.{AreMatches, merging};
-ghost use Rattle.wit_merge_match.specs.Going.{going_of, place_from};
+ghost use Rattle.wit_link_spec.specs.facts.RankFacts.{after};
+ghost use Rattle.wit_merge_match.specs.steps.Found.{AreMatches, merging};
+ghost use Rattle.wit_merge_match.specs.steps.Going.{going_of, place_from};
 
 use crate::matches::Matches;
 use std::alloc::{AllocError, Global};

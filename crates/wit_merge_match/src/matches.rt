@@ -1,7 +1,7 @@
 //! All matches of two graphs.
 ghost use Rattle.std.specs.Prelude.{IfOk};
 ghost use Rattle.wit_elaboration.specs.Valid.{IsValid};
-ghost use Rattle.wit_merge_match.specs.Found.{AreMatches};
+ghost use Rattle.wit_merge_match.specs.steps.Found.{AreMatches};
 
 use crate::spots::Spotting;
 use crate::tables::{named_interfaces, package_matches, world_matches};

@@ -3,7 +3,7 @@ ghost use Rattle.std.specs.Prelude.{ℕ, IfNone, IfOk, IfSome, List, string_byte
 ghost use Rattle.wit_elaboration.specs.Valid.{IsValid};
 ghost use Rattle.wit_merge_spec.specs.Agreement.{GraphsDiffer};
 ghost use Rattle.wit_merge_spec.specs.Reasons.{AreOne};
-ghost use Rattle.wit_merge_match.specs.Found.{AreMatches, merging};
+ghost use Rattle.wit_merge_match.specs.steps.Found.{AreMatches, merging};
 ghost use Rattle.wit_merge_match.specs.Differing.{AreKnown, InterfaceDiffersAt, WorldDiffersAt, merging_of};
 
 use crate::comparing::{Comparing, package_at};

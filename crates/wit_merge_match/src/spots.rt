@@ -3,7 +3,7 @@ ghost use Rattle.std.specs.Prelude.{◌≡◌, ◌++◌, ℕ, List, Option, None
 ghost use Rattle.std.specs.List.{flat_map};
 ghost use Rattle.wit_elaboration.specs.Entries.{Entry};
 ghost use Rattle.wit_data.specs.Entries.{is_unnamed};
-ghost use Rattle.wit_merge_match.specs.Found.{AreSpotted, KnowsWorlds, unnamed_at};
+ghost use Rattle.wit_merge_match.specs.steps.Found.{AreSpotted, KnowsWorlds, unnamed_at};
 ghost use Rattle.wit_merge_spec.specs.Matches.{Spot, spots, spotted, unnamed_item};
 
 use crate::tables::match_at;

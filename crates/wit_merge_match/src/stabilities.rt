@@ -3,9 +3,9 @@ ghost use Rattle.std.specs.Prelude.{◌≡◌, ℕ, IfNone, IfOk, IfSome};
 ghost use Rattle.std.specs.Option.{option_copied};
 ghost use Rattle.wit_data.specs.declared.stability.Stability.{Stability};
 ghost use Rattle.wit_merge_spec.specs.Reasons.{Mismatches};
-ghost use Rattle.wit_merge_match.specs.Found.{AreMatches, merging};
+ghost use Rattle.wit_merge_match.specs.steps.Found.{AreMatches, merging};
 ghost use Rattle.wit_merge_match.specs.Differing.{AreKnown, merging_of};
-ghost use Rattle.wit_merge_match.specs.Stabilities.{AreApart, EntriesApart, EntryApart, InterfacesApartAt, TypesApartAt, WorldsApart, WorldsApartAt, own_stability, stability_beside};
+ghost use Rattle.wit_merge_match.specs.steps.Stabilities.{AreApart, EntriesApart, EntryApart, InterfacesApartAt, TypesApartAt, WorldsApart, WorldsApartAt, own_stability, stability_beside};
 
 use crate::comparing::Comparing;
 use crate::matches::Matches;

@@ -6,7 +6,7 @@ ghost use Rattle.wit_digraph.specs.Relation.{IsAcyclic};
 ghost use Rattle.wit_graph_data.specs.Relations.{package_uses};
 ghost use Rattle.wit_merge_spec.specs.TypePairs.{entry_pairs, interface_pairs, item_pairs, paired, type_pairs, world_pairs};
 ghost use Rattle.wit_merge_match.specs.Differing.{merging_of};
-ghost use Rattle.wit_merge_match.specs.Structures.{AreComparable, FirstTold, IsOf, IsThere, ListsThere, NoneDiffer, TypesThere, common_pair, package_interface_pairs, package_world_pairs, side_pairs, unnamed_pairs};
+ghost use Rattle.wit_merge_match.specs.steps.Structures.{AreComparable, FirstTold, IsOf, IsThere, ListsThere, NoneDiffer, TypesThere, common_pair, package_interface_pairs, package_world_pairs, side_pairs, unnamed_pairs};
 
 use crate::comparing::Comparing;
 use crate::messages::{in_entry, in_part, in_type};

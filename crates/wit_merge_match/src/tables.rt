@@ -4,7 +4,7 @@ ghost use Rattle.std.specs.Map.{lookup};
 ghost use Rattle.std.specs.Str.{bytes_eq};
 ghost use Rattle.wit_data.specs.PackageOrder.{same_package};
 ghost use Rattle.wit_graph_data.specs.declared.graph.Package.{Package};
-ghost use Rattle.wit_merge_match.specs.Found.{interface_under, world_under};
+ghost use Rattle.wit_merge_match.specs.steps.Found.{interface_under, world_under};
 
 use std::alloc::{AllocError, Global};
 use wit_data::{Interface, InterfaceId, Items, PackageId, WorldId};

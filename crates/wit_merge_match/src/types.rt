@@ -6,7 +6,7 @@ ghost use Rattle.wit_elaboration.specs.Valid.{IsValid};
 ghost use Rattle.wit_data.specs.Ownership.{world_types};
 ghost use Rattle.wit_data.specs.declared.world.World.{World};
 ghost use Rattle.wit_link_spec.specs.Lookup.{listed_type};
-ghost use Rattle.wit_merge_match.specs.Found.{type_item, type_under};
+ghost use Rattle.wit_merge_match.specs.steps.Found.{type_item, type_under};
 
 use crate::tables::match_at;
 use std::alloc::{AllocError, Global};

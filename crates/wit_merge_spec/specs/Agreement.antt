@@ -9,7 +9,7 @@ use Rattle.wit_data.specs.declared.world.WorldItem.TheVariants as item
 use Rattle.wit_graph_data.specs.IdText.{key_text}
 use Rattle.wit_graph_data.specs.declared.graph.Package.{Package}
 use Rattle.wit_graph_theory.specs.FunctionMismatch.{HaveFunctionMismatch}
-use Rattle.wit_graph_theory.specs.OnePlace.{entries_of}
+use Rattle.wit_graph_theory.specs.steps.OnePlace.{entries_of}
 use Rattle.wit_merge_spec.specs.Matches.{Merging, Pair, found_interface, found_item, found_type, found_world}
 use Rattle.wit_merge_spec.specs.MismatchText.{absent_text, entry_count_text, entry_link, linked, other_interface_text, other_sort_text, part_links, side_word}
 use Rattle.wit_merge_spec.specs.TypePairs.{FirstDiffers, type_pairs}

@@ -5,6 +5,6 @@ pub mod Matches
 pub mod MismatchText
 pub mod Moved
 pub mod Reasons
-pub mod Staying
 pub mod TypePairs
 pub mod United
+pub mod facts

@@ -22,7 +22,7 @@ use Rattle.wit_data.specs.declared.world.WorldKey.TheVariants as key
 use Rattle.wit_elaboration.specs.Entries.{same_key}
 use Rattle.wit_graph_data.specs.declared.graph.Graph.{Graph}
 use Rattle.wit_graph_data.specs.declared.graph.Package.{Package}
-use Rattle.wit_graph_theory.specs.OnePlace.{entries_of}
+use Rattle.wit_graph_theory.specs.steps.OnePlace.{entries_of}
 use Rattle.wit_link_spec.specs.Lookup.{listed_type}
 
 -- a graph, another one that goes into it, and an offset by which the spans of that move

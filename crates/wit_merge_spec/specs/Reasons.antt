@@ -8,7 +8,7 @@ use Rattle.wit_data.specs.declared.function.Function.{Function}
 use Rattle.wit_data.specs.declared.stability.Stability.{Stability}
 use Rattle.wit_graph_data.specs.declared.graph.Graph.{Graph}
 use Rattle.wit_graph_theory.specs.Image.{function_image}
-use Rattle.wit_graph_theory.specs.OnePlace.{entries_of}
+use Rattle.wit_graph_theory.specs.steps.OnePlace.{entries_of}
 use Rattle.wit_link_spec.specs.CauseText.{borrow_text}
 use Rattle.wit_link_spec.specs.Gates.{Place}
 use Rattle.wit_link_spec.specs.Reasons.{HoldsBorrow}

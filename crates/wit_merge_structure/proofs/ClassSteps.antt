@@ -1,8 +1,8 @@
 -- Classes: the steps to the leader of one, and two that are made one.
 use Rattle.std.proofs.Common.{◌≡◌, ◌∙◌, ℕ, ◌<◌, ◌≤◌, zero, suc, List, [], ◌∷◌, ◌++◌, inl, inr, length, Some, None, slice_get, slice_set, refl, sym, ap, subst, arith}
 use Rattle.std.proofs.lemmas.Option.{slice_get_within}
-use Rattle.wit_values.specs.Lists.{push-cases, set-cases}
-use Rattle.wit_merge_structure.specs.Classes.{AreSame, IsDescending}
+use Rattle.wit_values.specs.facts.Lists.{push-cases, set-cases}
+use Rattle.wit_merge_structure.specs.steps.Classes.{AreSame, IsDescending}
 use Rattle.wit_merge_structure.specs.Structure.{Feature}
 
 -- each thing has itself so far

@@ -8,8 +8,8 @@ use Rattle.wit_data.specs.declared.types.Handle.TheVariants as handle
 use Rattle.wit_data.specs.declared.types.TypeDefKind.{TypeDefKind}
 use Rattle.wit_data.specs.declared.types.TypeDefKind.TheVariants as kind
 use Rattle.wit_data.specs.declared.types.Type_.{Type_}
-use Rattle.wit_merge_structure.specs.DifferenceFacts.{first_behind, first_here}
-use Rattle.wit_merge_structure.specs.Kinds.{HeadsDiffer, has_names, name_at, plain_step, step_at, steps_of}
+use Rattle.wit_merge_structure.specs.facts.DifferenceFacts.{first_behind, first_here}
+use Rattle.wit_merge_structure.specs.steps.Kinds.{HeadsDiffer, has_names, name_at, plain_step, step_at, steps_of}
 use Rattle.wit_merge_structure.specs.Structure.{Content, Feature, FirstDifference, Part, fixed, fixed_length, head_features, here, names, part, parts_of, variant, variant_of}
 use Rattle.wit_merge_structure.specs.declared.heads.Ending.TheVariants.{Kinds, Lengths, Names}
 use Rattle.wit_merge_structure.specs.declared.kinds.Variant.{Variant}

@@ -11,7 +11,7 @@ use Rattle.wit_data.specs.declared.types.Flag.{Flag}
 use Rattle.wit_data.specs.declared.types.TypeDefKind.{TypeDefKind}
 use Rattle.wit_data.specs.declared.types.TypeDefKind.TheVariants as kind
 use Rattle.wit_data.specs.declared.types.Type_.{Type_}
-use Rattle.wit_merge_structure.specs.Kinds.{name_at}
+use Rattle.wit_merge_structure.specs.steps.Kinds.{name_at}
 use Rattle.wit_merge_structure.specs.Structure.{Part, part, parts_of}
 
 -- ---- names

@@ -1,8 +1,8 @@
 -- The text of a path, step by step.
 use Rattle.std.proofs.Common.{◌≡◌, ◌∙◌, ℕ, ◌<◌, ◌+◌, zero, suc, List, [], ◌∷◌, ◌++◌, length, map, take, codes, Some, slice_get, refl, sym, ap, arith, append_assoc}
 use Rattle.std.proofs.lemmas.List.{append-nil, length-map, map-append, take_all}
-use Rattle.wit_values.specs.Lists.{take-next_at}
-use Rattle.wit_merge_structure.specs.Comparing.{frame_step, path_of}
+use Rattle.wit_values.specs.facts.Lists.{take-next_at}
+use Rattle.wit_merge_structure.specs.steps.Comparing.{frame_step, path_of}
 use Rattle.wit_merge_structure.specs.Structure.{dotted, path_text}
 use Rattle.wit_merge_structure.specs.declared.comparison.Sides.{Sides}
 use Rattle.wit_merge_structure.specs.declared.frames.Frame.{Frame}

@@ -6,20 +6,20 @@ use Rattle.std.proofs.lemmas.List.{length-map, map-append, take_all}
 use Rattle.std.proofs.lemmas.List.Concat.{flat_map-append}
 use Rattle.std.proofs.lemmas.List.Elements.{All-contains}
 use Rattle.std.proofs.lemmas.Option.{get_or_from_slice_get, slice_get-map, slice_get_within}
-use Rattle.wit_values.specs.Lists.{push-cases, take-next_at}
+use Rattle.wit_values.specs.facts.Lists.{push-cases, take-next_at}
 use Rattle.wit_digraph.specs.Relation.{IsAcyclic, direct}
 use Rattle.wit_data.specs.Reference.{named_option, referred, type_references}
-use Rattle.wit_data.specs.ReferenceFacts.{length-references, references_at}
+use Rattle.wit_data.specs.facts.ReferenceFacts.{length-references, references_at}
 use Rattle.wit_data.specs.declared.types.TypeDef.{TypeDef}
 use Rattle.wit_data.specs.declared.types.TypeDefKind.{TypeDefKind}
 use Rattle.wit_data.specs.declared.types.TypeDefKind.TheVariants as kind
 use Rattle.wit_data.specs.declared.types.Type_.{Type_}
 use Rattle.wit_data.specs.declared.types.Type_.TheVariants as type
-use Rattle.wit_merge_structure.specs.Comparing.{AreAtParts, AreSides, AreThere, IsAtPart, frame_step, from_held, from_structure, into_held, into_structure, kind_at, matched_by, path_of}
-use Rattle.wit_merge_structure.specs.DifferenceFacts.{first_behind, first_front, first_within}
-use Rattle.wit_merge_structure.specs.Kinds.{step_at, steps_of}
+use Rattle.wit_merge_structure.specs.steps.Comparing.{AreAtParts, AreSides, AreThere, IsAtPart, frame_step, from_held, from_structure, into_held, into_structure, kind_at, matched_by, path_of}
+use Rattle.wit_merge_structure.specs.facts.DifferenceFacts.{first_behind, first_front, first_within}
+use Rattle.wit_merge_structure.specs.steps.Kinds.{step_at, steps_of}
 use Rattle.wit_merge_structure.specs.Structure.{Content, Feature, FirstDifference, Part, absent, head_features, held_features, here, is_named, kind_features, named, names, part_features, parts_of, structure, within}
-use Rattle.wit_merge_structure.specs.StructureFacts.{part_refers, structure_at}
+use Rattle.wit_merge_structure.specs.facts.StructureFacts.{part_refers, structure_at}
 use Rattle.wit_merge_structure.specs.declared.comparison.Sides.{Sides}
 use Rattle.wit_merge_structure.specs.declared.frames.Frame.{Frame}
 

@@ -3,9 +3,9 @@ use Rattle.std.proofs.Common.{◌≡◌, ◌∙◌, ℕ, ◌<◌, ◌≤◌, ◌
 use Rattle.wit_data.specs.declared.types.TypeDef.{TypeDef}
 use Rattle.wit_data.specs.declared.types.TypeDefKind.{TypeDefKind}
 use Rattle.wit_data.specs.declared.types.Type_.{Type_}
-use Rattle.wit_merge_structure.specs.Comparing.{AreAtParts, AreSides, AreThere, Compares, DifferHere, from_held, from_structure, into_held, into_structure, kind_at, matched_by, path_of, structure_of}
-use Rattle.wit_merge_structure.specs.DifferenceFacts.{first_front}
-use Rattle.wit_merge_structure.specs.Kinds.{HeadsDiffer, ending_text}
+use Rattle.wit_merge_structure.specs.steps.Comparing.{AreAtParts, AreSides, AreThere, Compares, DifferHere, from_held, from_structure, into_held, into_structure, kind_at, matched_by, path_of, structure_of}
+use Rattle.wit_merge_structure.specs.facts.DifferenceFacts.{first_front}
+use Rattle.wit_merge_structure.specs.steps.Kinds.{HeadsDiffer, ending_text}
 use Rattle.wit_merge_structure.specs.Structure.{Content, DifferInStructure, Feature, FirstDifference, Part, head_features, here, kind_features, parts_of, path_text}
 use Rattle.wit_merge_structure.specs.declared.comparison.Held.TheVariants as held
 use Rattle.wit_merge_structure.specs.declared.comparison.Sides.{Sides}

@@ -1,6 +1,6 @@
 //! Classes of things that are the same.
 ghost use Rattle.std.specs.Prelude.{◌≡◌, ◌<◌, ◌≤◌, ◌^◌, ℕ, IfOk, List, length};
-ghost use Rattle.wit_merge_structure.specs.Classes.{AreSame, IsDescending};
+ghost use Rattle.wit_merge_structure.specs.steps.Classes.{AreSame, IsDescending};
 ghost use Rattle.wit_merge_structure.specs.Structure.{Feature};
 
 use std::alloc::{AllocError, Global};

@@ -1,6 +1,6 @@
 //! How two kinds differ, but for their parts.
 ghost use Rattle.std.specs.Prelude.{◌≡◌, IfNone, IfSome};
-ghost use Rattle.wit_merge_structure.specs.Kinds.{HeadsDiffer, ending_text};
+ghost use Rattle.wit_merge_structure.specs.steps.Kinds.{HeadsDiffer, ending_text};
 ghost use Rattle.wit_merge_structure.specs.Structure.{head_features};
 
 use crate::kinds::{fixed_length, have_same_parts, variant_of};

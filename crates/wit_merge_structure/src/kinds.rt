@@ -2,7 +2,7 @@
 ghost use Rattle.std.specs.Prelude.{◌≡◌, ◌≢◌, ◌↔◌, ◌<◌, ◌∷◌, [], IfOk, IsTrue, Option, length, option_and_then, slice_get, string_bytes};
 ghost use Rattle.std.specs.Option.{option_copied};
 ghost use Rattle.wit_data.specs.declared.types.Type_.{Type_};
-ghost use Rattle.wit_merge_structure.specs.Kinds.{name_at, plain_step, step_at, steps_of};
+ghost use Rattle.wit_merge_structure.specs.steps.Kinds.{name_at, plain_step, step_at, steps_of};
 ghost use Rattle.wit_merge_structure.specs.Structure.{Part, fixed_length, parts_of, variant_of};
 ghost use Rattle.wit_merge_structure.specs.declared.kinds.Variant.TheVariants.{Tuple};
 

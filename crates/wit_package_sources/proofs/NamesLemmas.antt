@@ -9,7 +9,7 @@ use Rattle.std.specs.List.{list_any}
 use Rattle.std.specs.Map.{lookup}
 use Rattle.std.specs.Str.{bytes_eq}
 use Rattle.wit_package_sources.specs.Names.{ArePlaced, each_once}
-use Rattle.wit_package_sources.specs.Seen.{with_all, with_name}
+use Rattle.wit_package_sources.specs.steps.Seen.{with_all, with_name}
 
 -- what is looked up is the place of a source map that is there
 pub placed_at : (places : List (ℕ × ℕ)) (count : ℕ) (test : ℕ → Bool) (place : ℕ) → ArePlaced places count → lookup test places ≡ Some place → place < count

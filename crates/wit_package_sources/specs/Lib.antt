@@ -1,3 +1,3 @@
 pub mod Names
-pub mod NamesExamples
-pub mod Seen
+pub mod examples
+pub mod steps

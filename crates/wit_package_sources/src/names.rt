@@ -1,7 +1,7 @@
 //! Names of sources, copied and told once.
 ghost use Rattle.std.specs.Prelude.{◌≡◌, IfOk, OnOk, map};
 ghost use Rattle.wit_package_sources.specs.Names.{names_of};
-ghost use Rattle.wit_package_sources.specs.Seen.{with_all};
+ghost use Rattle.wit_package_sources.specs.steps.Seen.{with_all};
 ghost use Rattle.wit_sources.specs.SourceMap.{paths_of};
 
 use std::alloc::{AllocError, Global};

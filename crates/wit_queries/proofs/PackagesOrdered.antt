@@ -3,11 +3,11 @@ use Rattle.std.proofs.Common.{◌≡◌, ℕ, ◌+◌, ◌<◌, List, [], ◌∷
 use Rattle.std.specs.List.{flat_map, range_with_len}
 use Rattle.std.proofs.lemmas.List.FromFn.{get_or-range_with_len, length-range_with_len}
 use Rattle.std.proofs.lemmas.List.Elements.{All-contains}
-use Rattle.wit_digraph.specs.Laws.{FirstsAreOnce, WalksKeepOrder, WalksReach}
+use Rattle.wit_digraph.specs.laws.Laws.{FirstsAreOnce, WalksKeepOrder, WalksReach}
 use Rattle.wit_digraph.specs.Relation.{IsAcyclic, IsPath, direct}
 use Rattle.wit_digraph.specs.Walks.{first_of_each, walk}
 use Rattle.wit_graph_data.specs.Relations.{package_uses}
-use Rattle.wit_queries.specs.PackageOrder.{IsOrder, PackagesAreInOrder}
+use Rattle.wit_queries.specs.laws.PackageOrder.{IsOrder, PackagesAreInOrder}
 use Rattle.wit_queries.proofs.PackageRows.{length-rows, range-below}
 
 -- the number is among those from 0 on

@@ -7,14 +7,14 @@ use Rattle.std.proofs.lemmas.List.{append-nil, get_or_past, length-append, rever
 use Rattle.std.proofs.lemmas.Option.{slice_get_past}
 use Rattle.std.specs.Option.{option_map_or}
 use Rattle.std.proofs.lemmas.List.Elements.{All-contains, Contains-append_cases, Contains-append_left, Contains-get_or, Contains-push, Contains-push_cases, filter-append, filter_more}
-use Rattle.wit_digraph.specs.FreshFacts.{any_from_contains, contains_from_any, fresh_all, fresh_in, no_any_from, UsesFirst-fresh}
-use Rattle.wit_digraph.specs.MemberFacts.{Contains-nil, Contains-here, Contains-there, Contains-cons_cases, Contains-flat_map, Contains-flat_map_cases}
+use Rattle.wit_digraph.specs.facts.FreshFacts.{any_from_contains, contains_from_any, fresh_all, fresh_in, no_any_from, UsesFirst-fresh}
+use Rattle.wit_digraph.specs.facts.MemberFacts.{Contains-nil, Contains-here, Contains-there, Contains-cons_cases, Contains-flat_map, Contains-flat_map_cases}
 use Rattle.wit_digraph.specs.Relation.{direct, IsAcyclic, IsPath}
 use Rattle.wit_digraph.specs.Walks.{first_of_each, walk, walk_within, UsesFirst}
-use Rattle.wit_digraph.specs.WalkFacts.{walk_is, Contains-walk_end, Reaches-from_walk, UsesFirst-flat_map, UsesFirst-use, UsesFirst-walk}
+use Rattle.wit_digraph.specs.facts.WalkFacts.{walk_is, Contains-walk_end, Reaches-from_walk, UsesFirst-flat_map, UsesFirst-use, UsesFirst-walk}
 use Rattle.wit_data.specs.declared.types.TypeDef.{TypeDef}
 use Rattle.wit_graph_data.specs.Questions.{is_future, is_future_kind}
-use Rattle.wit_queries.specs.Unfolding.{futures_of, IsUnfolding, KeepsOthers, OthersHoldNone, places_within}
+use Rattle.wit_queries.specs.steps.Unfolding.{futures_of, IsUnfolding, KeepsOthers, OthersHoldNone, places_within}
 
 -- ---- the order of what roots reach
 

@@ -5,14 +5,14 @@ use Rattle.std.proofs.lemmas.Bool.{cases_lt, false≢true}
 use Rattle.std.proofs.lemmas.List.{length-set}
 use Rattle.std.proofs.lemmas.Option.{slice_get_within}
 use Rattle.wit_digraph.specs.Relation.{IsPath, direct}
-use Rattle.wit_values.specs.Lists.{set-cases}
+use Rattle.wit_values.specs.facts.Lists.{set-cases}
 use Rattle.wit_data.specs.Each.{SomeAt}
 use Rattle.wit_data.specs.declared.types.TypeDef.{TypeDef}
 use Rattle.wit_data.specs.declared.types.Type_.TheVariants as type
-use Rattle.wit_graph_data.specs.HeldFacts.{held_row}
+use Rattle.wit_graph_data.specs.facts.HeldFacts.{held_row}
 use Rattle.wit_graph_data.specs.Questions.{HasAllBitsValid, has_fixed_parts, held_rows}
 use Rattle.wit_queries.specs.ValidBits.{Agrees, AreRightBelow, AreRightOff, AreValidBits, TellValidBits, has_valid_parts, on_count}
-use Rattle.wit_queries.specs.ValidBitsFacts.{no_flag, no_type}
+use Rattle.wit_queries.specs.facts.ValidBitsFacts.{no_flag, no_type}
 use Rattle.wit_queries.proofs.ValidParts.{is_on, parts_fixed, parts_off, parts_on}
 
 -- a flag isn't on and off

@@ -1,5 +1,5 @@
 pub mod Left
-pub mod PackageOrder
-pub mod Unfolding
 pub mod ValidBits
-pub mod ValidBitsFacts
+pub mod facts
+pub mod laws
+pub mod steps

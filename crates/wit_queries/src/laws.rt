@@ -1,5 +1,5 @@
 //! A law of what is asked of a graph: the contract of the function is what is proved.
-ghost use Rattle.wit_queries.specs.PackageOrder.{PackagesAreInOrder};
+ghost use Rattle.wit_queries.specs.laws.PackageOrder.{PackagesAreInOrder};
 
 use wit_digraph::laws::{firsts_are_once, walks_keep_order, walks_reach};
 

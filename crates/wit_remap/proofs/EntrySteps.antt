@@ -3,16 +3,16 @@ use Rattle.std.proofs.Common.{◌≡◌, ◌∙◌, ℕ, zero, suc, List, [], �
 use Rattle.std.proofs.lemmas.List.{append-nil}
 use Rattle.std.specs.List.{IsDistinct}
 use Rattle.std.specs.Map.{keys_of, lookup}
-use Rattle.wit_values.specs.Lists.{lookup-before}
+use Rattle.wit_values.specs.facts.Lists.{lookup-before}
 use Rattle.wit_data.specs.Entries.{Entry}
-use Rattle.wit_data.specs.WorldKeyFacts.{key_laws, same_key}
+use Rattle.wit_data.specs.facts.WorldKeyFacts.{key_laws, same_key}
 use Rattle.wit_data.specs.declared.world.WorldItem.{WorldItem}
 use Rattle.wit_data.specs.declared.world.WorldItem.TheVariants as item
 use Rattle.wit_data.specs.declared.world.WorldKey.{WorldKey}
 use Rattle.wit_data.specs.declared.world.WorldKey.TheVariants as key
 use Rattle.wit_graph_theory.specs.Image.{entry_image, item_image, key_image}
-use Rattle.wit_remap.specs.Fits.{EntriesFit, Fits, ItemFits}
-use Rattle.wit_remap.specs.Movers.{maps_of}
+use Rattle.wit_remap.specs.steps.Fits.{EntriesFit, Fits, ItemFits}
+use Rattle.wit_remap.specs.steps.Movers.{maps_of}
 use Rattle.wit_remap.specs.declared.mover.Mover.{Mover}
 
 -- the spans of the first entry fit, and those of the others

@@ -6,7 +6,7 @@ use Rattle.std.proofs.lemmas.Bool.{false_from_ne_true}
 use Rattle.std.proofs.lemmas.Map.Keys.{IsDistinct-cons}
 use Rattle.wit_data.specs.Entries.{Entry, IsExport, IsImport}
 use Rattle.wit_data.specs.Shape.{IsShaped}
-use Rattle.wit_data.specs.WorldKeyFacts.{key_is, same_key}
+use Rattle.wit_data.specs.facts.WorldKeyFacts.{key_is, same_key}
 use Rattle.wit_data.specs.declared.world.World.{World}
 use Rattle.wit_data.specs.declared.world.WorldItem.{WorldItem}
 use Rattle.wit_data.specs.declared.world.WorldItem.TheVariants as item
@@ -16,10 +16,10 @@ use Rattle.wit_elaboration.specs.Valid.{IsValid}
 use Rattle.wit_graph_theory.specs.Cut.{ItemIsKept}
 use Rattle.wit_graph_theory.specs.Image.{entry_image}
 use Rattle.wit_link_spec.specs.Addition.{Addition, active, addition_maps, own_world, part}
-use Rattle.wit_link_spec.specs.ApartFacts.{KeyTakesPart, keys_apart}
-use Rattle.wit_link_spec.specs.ClosedCut.{closed_part}
+use Rattle.wit_link_spec.specs.facts.ApartFacts.{KeyTakesPart, keys_apart}
+use Rattle.wit_link_spec.specs.facts.ClosedCut.{closed_part}
 use Rattle.wit_link_spec.specs.Reasons.{HasImage}
-use Rattle.wit_remap.specs.Worlds.{HasKeysApart}
+use Rattle.wit_remap.specs.steps.Worlds.{HasKeysApart}
 
 module _ (f : Entry → Entry) (kept : Entry → Bool) where
   -- a key that no other has

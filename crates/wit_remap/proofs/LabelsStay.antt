@@ -4,7 +4,7 @@ use Rattle.wit_data.specs.declared.types.TypeDef.{TypeDef}
 use Rattle.wit_data.specs.declared.types.TypeOwner.{TypeOwner}
 use Rattle.wit_data.specs.declared.types.TypeOwner.TheVariants as owner
 use Rattle.wit_graph_theory.specs.Image.{name_image, type_image}
-use Rattle.wit_remap.specs.Movers.{maps_of}
+use Rattle.wit_remap.specs.steps.Movers.{maps_of}
 use Rattle.wit_remap.specs.declared.mover.Mover.{Mover}
 
 same_name : (m : Mover) (o : TypeOwner) (name : Option (List ℕ)) → option_map (name_image (maps_of m) o) name ≡ name

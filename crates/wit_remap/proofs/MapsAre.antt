@@ -4,14 +4,14 @@ use Rattle.std.proofs.lemmas.Bool.{false_from_ne_true, false≢true}
 use Rattle.wit_data.specs.Shape.{IsShaped}
 use Rattle.wit_data.specs.declared.world.WorldItem.{WorldItem}
 use Rattle.wit_data.specs.declared.world.WorldItem.TheVariants as item
-use Rattle.wit_link_spec.specs.Adding.{activity_of, places_of, values_of}
+use Rattle.wit_link_spec.specs.steps.Adding.{activity_of, places_of, values_of}
 use Rattle.wit_link_spec.specs.Addition.{Addition, active, addition_maps, interface_place, needs_own, own_types, taken_interface, taken_type, taken_world, type_place, value_place, world_place}
 use Rattle.wit_link_spec.specs.Gates.{function_is_active, interface_is_active, item_is_active, type_is_active, world_is_active}
-use Rattle.wit_link_spec.specs.PositionFacts.{needs_active}
+use Rattle.wit_link_spec.specs.facts.PositionFacts.{needs_active}
 use Rattle.wit_link_spec.specs.Ranks.{rank}
 use Rattle.wit_link_spec.specs.Reasons.{HasImage}
-use Rattle.wit_remap.specs.Movers.{goes, maps_with}
-use Rattle.wit_remap.specs.Parts.{flag, has_item, kept_with}
+use Rattle.wit_remap.specs.steps.Movers.{goes, maps_with}
+use Rattle.wit_remap.specs.steps.Parts.{flag, has_item, kept_with}
 use Rattle.wit_remap.proofs.Places.{flag-is, goes-is, values-are}
 use Rattle.wit_remap.proofs.WhereNew.{interface_past, type_past, world_past}
 

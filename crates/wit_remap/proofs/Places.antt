@@ -2,9 +2,9 @@
 use Rattle.std.proofs.Common.{◌≡◌, ◌∙◌, ℕ, ◌<◌, ◌≤◌, Bool, false, inl, inr, map, Option, None, Some, unwrap_or, slice_get, refl, sym, ap, arith}
 use Rattle.std.specs.List.{range_with_len}
 use Rattle.std.proofs.lemmas.Bool.{cases_lt}
-use Rattle.wit_link_spec.specs.RangeFacts.{range-at, range-past}
-use Rattle.wit_remap.specs.Movers.{goes, id_or}
-use Rattle.wit_remap.specs.Parts.{flag, is_from, is_new}
+use Rattle.wit_link_spec.specs.facts.RangeFacts.{range-at, range-past}
+use Rattle.wit_remap.specs.steps.Movers.{goes, id_or}
+use Rattle.wit_remap.specs.steps.Parts.{flag, is_from, is_new}
 
 module _ {X : Type 0} (f : ℕ → X) where
   -- a place is one of so many or past them

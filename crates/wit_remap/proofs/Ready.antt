@@ -17,19 +17,19 @@ use Rattle.wit_graph_data.specs.declared.graph.Graph.{Graph}
 use Rattle.wit_graph_theory.specs.Cut.{cut_interface, cut_world}
 use Rattle.wit_graph_theory.specs.Image.{Maps, interface_image, type_image, world_image}
 use Rattle.wit_graph_theory.specs.Kept.{Kept}
-use Rattle.wit_link_spec.specs.Adding.{places_of}
+use Rattle.wit_link_spec.specs.steps.Adding.{places_of}
 use Rattle.wit_link_spec.specs.Addition.{Addition, active, added_owns, addition_maps, own_interface, own_type, own_world}
 use Rattle.wit_link_spec.specs.Gates.{include_is_active, interface_is_active, world_is_active}
 use Rattle.wit_link_spec.specs.Pushed.{with_parts}
-use Rattle.wit_link_spec.specs.RankFacts.{taken_places-from}
+use Rattle.wit_link_spec.specs.facts.RankFacts.{taken_places-from}
 use Rattle.wit_link_spec.specs.Ranks.{taken, taken_places}
 use Rattle.wit_link_spec.specs.Reasons.{HasImage, PassesTheEnd}
 use Rattle.wit_link_spec.specs.declared.adding.Places.{Places}
-use Rattle.wit_remap.specs.Added.{IsReady, added_world, added_worlds, moved_package, moved_parts}
-use Rattle.wit_remap.specs.Movers.{maps_with}
-use Rattle.wit_remap.specs.Parts.{is_new, kept_of}
-use Rattle.wit_remap.specs.Tables.{interfaces_at, worlds_at}
-use Rattle.wit_remap.specs.Worlds.{placed_world}
+use Rattle.wit_remap.specs.steps.Added.{IsReady, added_world, added_worlds, moved_package, moved_parts}
+use Rattle.wit_remap.specs.steps.Movers.{maps_with}
+use Rattle.wit_remap.specs.steps.Parts.{is_new, kept_of}
+use Rattle.wit_remap.specs.steps.Tables.{interfaces_at, worlds_at}
+use Rattle.wit_remap.specs.steps.Worlds.{placed_world}
 use Rattle.wit_remap.specs.declared.part.Part.{Part}
 use Rattle.wit_remap.specs.declared.worlds.PlacedWorld.{PlacedWorld}
 use Rattle.wit_remap.proofs.KeysApart.{world_keys_apart}

@@ -4,7 +4,7 @@ use Rattle.std.specs.Cmp.Lexicographic.{nat_list_eq_equiv}
 use Rattle.std.specs.List.{IsDistinct, cons_option}
 use Rattle.std.specs.Map.{keys_of, lookup}
 use Rattle.std.specs.Str.{bytes_eq}
-use Rattle.wit_values.specs.Lists.{lookup-before}
+use Rattle.wit_values.specs.facts.Lists.{lookup-before}
 
 module _ {X Y : Type 0} where
   -- what comes of the elements before one, it, and those after it

@@ -3,7 +3,7 @@ use Rattle.std.proofs.Common.{ℕ, ◌+◌, ◌<◌, ◌^◌, List, [], ◌++◌
 use Rattle.std.specs.List.{flat_map}
 use Rattle.std.proofs.lemmas.Bool.{cases_lt}
 use Rattle.std.proofs.lemmas.List.Elements.{Contains-append_left, Contains-append_right}
-use Rattle.wit_digraph.specs.MemberFacts.{Contains-flat_map, Contains-here, Contains-there}
+use Rattle.wit_digraph.specs.facts.MemberFacts.{Contains-flat_map, Contains-here, Contains-there}
 use Rattle.wit_data.specs.Each.{Each}
 use Rattle.wit_data.specs.Entries.{Entry}
 use Rattle.wit_data.specs.declared.function.Function.{Function}
@@ -21,12 +21,12 @@ use Rattle.wit_data.specs.declared.world.World.{World}
 use Rattle.wit_data.specs.declared.world.WorldInclude.{WorldInclude}
 use Rattle.wit_data.specs.declared.world.WorldItem.{WorldItem}
 use Rattle.wit_data.specs.declared.world.WorldItem.TheVariants as item
-use Rattle.wit_graph_theory.specs.ListFacts.{Contains-map, contained_at}
+use Rattle.wit_graph_theory.specs.facts.ListFacts.{Contains-map, contained_at}
 use Rattle.wit_link_spec.specs.Addition.{Addition}
 use Rattle.wit_link_spec.specs.Gates.{Place}
 use Rattle.wit_link_spec.specs.Reasons.{PassesTheEnd}
 use Rattle.wit_link_spec.specs.Spans.{function_spans, interface_spans, item_spans, kind_spans, package_spans, type_spans, world_spans}
-use Rattle.wit_remap.specs.Fits.{Fits, FunctionFits, InterfaceFits, ItemFits, KindFits, TypeFits, WorldFits}
+use Rattle.wit_remap.specs.steps.Fits.{Fits, FunctionFits, InterfaceFits, ItemFits, KindFits, TypeFits, WorldFits}
 
 -- all places of a list fit
 abbrev pub AllFit : ℕ → List Place → Type 0

@@ -17,16 +17,16 @@ use Rattle.wit_data.specs.declared.types.TypeOwner.TheVariants as owner
 use Rattle.wit_data.specs.declared.world.World.{World}
 use Rattle.wit_elaboration.specs.Valid.{IsValid}
 use Rattle.wit_graph_data.specs.declared.graph.Package.{Package}
-use Rattle.wit_graph_theory.specs.ListFacts.{found_at, place_of}
-use Rattle.wit_link_spec.specs.Adding.{places_of}
+use Rattle.wit_graph_theory.specs.facts.ListFacts.{found_at, place_of}
+use Rattle.wit_link_spec.specs.steps.Adding.{places_of}
 use Rattle.wit_link_spec.specs.Addition.{Addition, own_interface, own_type, own_world, taken_interface, taken_type, taken_world}
-use Rattle.wit_link_spec.specs.ClosedCut.{closed_part}
+use Rattle.wit_link_spec.specs.facts.ClosedCut.{closed_part}
 use Rattle.wit_link_spec.specs.Gates.{interface_is_active, is_active, is_foreign_interface, is_foreign_world, notes_of_foreign, some_active, type_is_active, world_is_active}
 use Rattle.wit_link_spec.specs.Lookup.{find_interface, find_package, find_world, found_interface, found_type, found_world, is_foreign_type, listed_type, naming, owning_interface}
 use Rattle.wit_link_spec.specs.Ranks.{rank}
 use Rattle.wit_link_spec.specs.Reasons.{HasImage}
-use Rattle.wit_link_spec.specs.Standing.{find_is, listed_is}
-use Rattle.wit_remap.specs.Parts.{is_from, is_new}
+use Rattle.wit_link_spec.specs.facts.Standing.{find_is, listed_is}
+use Rattle.wit_remap.specs.steps.Parts.{is_from, is_new}
 use Rattle.wit_remap.proofs.Places.{new-is}
 
 -- ---- what is found is in the graph

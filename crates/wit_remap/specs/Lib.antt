@@ -1,10 +1,3 @@
-pub mod Added
-pub mod Fits
-pub mod Fitting
-pub mod FittingFacts
 pub mod Grown
-pub mod GrownFacts
-pub mod Movers
-pub mod Parts
-pub mod Tables
-pub mod Worlds
+pub mod facts
+pub mod steps

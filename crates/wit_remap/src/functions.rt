@@ -44,7 +44,7 @@ impl Place for FunctionKind {
 
 impl Place for Function {
     ghost use Rattle.wit_graph_theory.specs.Image.{function_image};
-    ghost use Rattle.wit_remap.specs.Fits.{FunctionFits};
+    ghost use Rattle.wit_remap.specs.steps.Fits.{FunctionFits};
 
     ghost fits = { FunctionFits };
 
@@ -60,7 +60,7 @@ impl Place for Function {
 
 impl Place for Interface {
     ghost use Rattle.wit_graph_theory.specs.Image.{interface_image};
-    ghost use Rattle.wit_remap.specs.Fits.{InterfaceFits};
+    ghost use Rattle.wit_remap.specs.steps.Fits.{InterfaceFits};
 
     ghost fits = { InterfaceFits };
 

@@ -18,8 +18,8 @@ pub struct Mover<'a> {
 }
 
 impl<'a> Moves for Mover<'a> {
-    ghost use Rattle.wit_remap.specs.Fits.{Fits};
-    ghost use Rattle.wit_remap.specs.Movers.{maps_of};
+    ghost use Rattle.wit_remap.specs.steps.Fits.{Fits};
+    ghost use Rattle.wit_remap.specs.steps.Movers.{maps_of};
 
     ghost maps = { maps_of };
 

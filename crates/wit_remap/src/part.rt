@@ -5,7 +5,7 @@ ghost use Rattle.std.specs.Slice.Iter.{iter_rest};
 ghost use Rattle.wit_link_spec.specs.Gates.{include_is_active, is_active};
 ghost use Rattle.wit_link_spec.specs.Ranks.{taken, taken_places};
 ghost use Rattle.wit_graph_theory.specs.Cut.{cut_interface};
-ghost use Rattle.wit_remap.specs.Parts.{is_from, is_new, kept_of};
+ghost use Rattle.wit_remap.specs.steps.Parts.{is_from, is_new, kept_of};
 
 use std::alloc::{AllocError, Global};
 use std::mem;

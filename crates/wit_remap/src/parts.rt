@@ -3,7 +3,7 @@ ghost use Rattle.std.specs.Prelude.{◌≡◌, ◌++◌, ◌∷◌, [], IfOk, No
 ghost use Rattle.std.specs.List.{IsDistinct};
 ghost use Rattle.std.specs.Map.{keys_of, lookup};
 ghost use Rattle.std.specs.Str.{bytes_eq};
-ghost use Rattle.wit_link_spec.specs.Adding.{activity_of, places_of, values_of};
+ghost use Rattle.wit_link_spec.specs.steps.Adding.{activity_of, places_of, values_of};
 ghost use Rattle.wit_link_spec.specs.Pushed.{with_parts};
 ghost use Rattle.wit_link_spec.specs.Ranks.{taken, taken_places};
 ghost use Rattle.wit_link_spec.specs.Reasons.{HasImage, PassesTheEnd};
@@ -13,13 +13,13 @@ ghost use Rattle.wit_graph_theory.specs.Image.{interface_image, type_image};
 ghost use Rattle.wit_data.specs.Each.{Each};
 ghost use Rattle.wit_data.specs.PackageOrder.{same_package};
 ghost use Rattle.wit_data.specs.Shape.{IsShaped};
-ghost use Rattle.wit_remap.specs.Added.{IsReady, added_worlds, addition, moved_parts, with_interfaces};
-ghost use Rattle.wit_remap.specs.Fits.{Fits, InterfaceFits, TypeFits};
+ghost use Rattle.wit_remap.specs.steps.Added.{IsReady, added_worlds, addition, moved_parts, with_interfaces};
+ghost use Rattle.wit_remap.specs.steps.Fits.{Fits, InterfaceFits, TypeFits};
 ghost use Rattle.wit_remap.specs.Grown.{Grown};
-ghost use Rattle.wit_remap.specs.Movers.{maps_of};
-ghost use Rattle.wit_remap.specs.Parts.{is_new, kept_of};
-ghost use Rattle.wit_remap.specs.Tables.{interfaces_at};
-ghost use Rattle.wit_remap.specs.Worlds.{placed_world};
+ghost use Rattle.wit_remap.specs.steps.Movers.{maps_of};
+ghost use Rattle.wit_remap.specs.steps.Parts.{is_new, kept_of};
+ghost use Rattle.wit_remap.specs.steps.Tables.{interfaces_at};
+ghost use Rattle.wit_remap.specs.steps.Worlds.{placed_world};
 
 use crate::mover::Mover;
 use crate::part::{Part, taken, taken_places};

@@ -3,8 +3,8 @@ ghost use Rattle.std.specs.Prelude.{◌≡◌, IfOk};
 ghost use Rattle.std.specs.List.{IsDistinct};
 ghost use Rattle.std.specs.Map.{keys_of};
 ghost use Rattle.std.specs.Str.{bytes_eq};
-ghost use Rattle.wit_remap.specs.Movers.{maps_of};
-ghost use Rattle.wit_remap.specs.Tables.{interfaces_at, worlds_at};
+ghost use Rattle.wit_remap.specs.steps.Movers.{maps_of};
+ghost use Rattle.wit_remap.specs.steps.Tables.{interfaces_at, worlds_at};
 
 use crate::mover::Mover;
 use crate::moves::Moves;

@@ -113,7 +113,7 @@ impl Place for TypeOwner {
 
 impl Place for TypeDefKind {
     ghost use Rattle.wit_graph_theory.specs.Image.{kind_image};
-    ghost use Rattle.wit_remap.specs.Fits.{KindFits};
+    ghost use Rattle.wit_remap.specs.steps.Fits.{KindFits};
 
     ghost fits = { KindFits };
 
@@ -149,7 +149,7 @@ impl Place for TypeDefKind {
 /// Its name stays, whatever a label becomes.
 impl Place for TypeDef {
     ghost use Rattle.wit_graph_theory.specs.Image.{type_image};
-    ghost use Rattle.wit_remap.specs.Fits.{TypeFits};
+    ghost use Rattle.wit_remap.specs.steps.Fits.{TypeFits};
 
     ghost fits = { TypeFits };
 

@@ -4,11 +4,11 @@ ghost use Rattle.std.specs.List.{IsDistinct};
 ghost use Rattle.std.specs.Map.{keys_of};
 ghost use Rattle.wit_graph_theory.specs.Image.{entry_image, item_image, key_image};
 ghost use Rattle.wit_data.specs.Each.{Each};
-ghost use Rattle.wit_data.specs.WorldKeyFacts.{same_key};
-ghost use Rattle.wit_remap.specs.Fits.{EntriesFit, Fits, ItemFits, WorldFits};
-ghost use Rattle.wit_remap.specs.Movers.{maps_of};
-ghost use Rattle.wit_remap.specs.Parts.{kept_of};
-ghost use Rattle.wit_remap.specs.Worlds.{HasKeysApart, placed_world};
+ghost use Rattle.wit_data.specs.facts.WorldKeyFacts.{same_key};
+ghost use Rattle.wit_remap.specs.steps.Fits.{EntriesFit, Fits, ItemFits, WorldFits};
+ghost use Rattle.wit_remap.specs.steps.Movers.{maps_of};
+ghost use Rattle.wit_remap.specs.steps.Parts.{kept_of};
+ghost use Rattle.wit_remap.specs.steps.Worlds.{HasKeysApart, placed_world};
 
 use crate::mover::Mover;
 use crate::moves::Moves;

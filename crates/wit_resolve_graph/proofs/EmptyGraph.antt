@@ -4,7 +4,7 @@ use Rattle.std.proofs.lemmas.List.Elements.{All-nil}
 use Rattle.std.specs.List.{IsDistinct}
 use Rattle.wit_digraph.specs.Relation.{IsAcyclic}
 use Rattle.wit_data.specs.Each.{EachAt}
-use Rattle.wit_elaboration.specs.Examples.{empty_graph}
+use Rattle.wit_elaboration.specs.examples.Examples.{empty_graph}
 use Rattle.wit_values.specs.Table.{HasDistinctKeys}
 use Rattle.wit_elaboration.specs.Valid.{IsValid}
 use Rattle.wit_graph_data.specs.declared.graph.Graph.{Graph}

@@ -6,15 +6,15 @@ use Rattle.std.proofs.lemmas.List.Sorted.{Contains-permutation}
 use Rattle.std.specs.List.{AllByRecursion, AllZip, flat_map, range_with_len}
 use Rattle.std.specs.Map.{lookup}
 use Rattle.std.specs.Prelude.{is_some}
-use Rattle.wit_values.specs.Lists.{AllByRecursion-at, lookup-append, lookup-push, slice_get-push}
-use Rattle.wit_digraph.specs.FreshFacts.{fresh_all}
-use Rattle.wit_digraph.specs.MemberFacts.{Contains-cons_cases, Contains-flat_map, Contains-nil}
+use Rattle.wit_values.specs.facts.Lists.{AllByRecursion-at, lookup-append, lookup-push, slice_get-push}
+use Rattle.wit_digraph.specs.facts.FreshFacts.{fresh_all}
+use Rattle.wit_digraph.specs.facts.MemberFacts.{Contains-cons_cases, Contains-flat_map, Contains-nil}
 use Rattle.wit_digraph.specs.Relation.{direct}
 use Rattle.wit_digraph.specs.Walks.{walk, walk_within}
 use Rattle.wit_sources.specs.SourceMap.{AreLaidOut, Sources, moved_file, with_sources}
 use Rattle.wit_sources.specs.Span.{moved_by}
 use Rattle.wit_data.specs.Each.{Each}
-use Rattle.wit_data.specs.PackageNameFacts.{own_name}
+use Rattle.wit_data.specs.facts.PackageNameFacts.{own_name}
 use Rattle.wit_data.specs.PackageOrder.{same_package}
 use Rattle.wit_data.specs.Shape.{IsGroupShaped, IsShaped}
 use Rattle.wit_data.specs.declared.package_name.PackageName.{PackageName}
@@ -24,7 +24,7 @@ use Rattle.wit_graph_data.specs.declared.error_kind.ResolveErrorKind.{ResolveErr
 use Rattle.wit_graph_data.specs.declared.error_kind.ResolveErrorKind.TheVariants.{DuplicatePackage, OffsetOverflow, OutOfMemory}
 use Rattle.wit_graph_data.specs.declared.features.Features.{Features}
 use Rattle.wit_graph_data.specs.declared.graph.Graph.{Graph}
-use Rattle.wit_graph_theory.specs.ListFacts.{at_map, contained_at, from_map, place_of, some_at}
+use Rattle.wit_graph_theory.specs.facts.ListFacts.{at_map, contained_at, from_map, place_of, some_at}
 use Rattle.wit_link_order.specs.Sorting.{AreSorted, Handed, IsGroupOrder, IsSortCause, handed_deps, handed_uses, names_of}
 use Rattle.wit_link_spec.specs.Addition.{own_worlds}
 use Rattle.wit_link_spec.specs.Cause.{IsAccepted, duplicate_5}
@@ -33,8 +33,8 @@ use Rattle.wit_link.specs.Appending.{IsAdded, addition}
 use Rattle.wit_link.specs.Groups.{FilesPassTheEnd, IsGroupsCause, IsPushCause, files_end, packages_of}
 use Rattle.wit_link.specs.Several.{ArePushed, CanAppend, IsOneRefused}
 use Rattle.wit_remap.specs.Grown.{Begins}
-use Rattle.wit_remap.specs.GrownFacts.{Begins-then}
-use Rattle.wit_resolve_graph.specs.Grouping.{AreAdded}
+use Rattle.wit_remap.specs.facts.GrownFacts.{Begins-then}
+use Rattle.wit_resolve_graph.specs.facts.Grouping.{AreAdded}
 use Rattle.wit_resolve_graph.specs.State.{State}
 use Rattle.wit_resolve_graph.specs.Step.{PushesGroups, RefusesGroups, with_files}
 use Rattle.wit_resolve_graph.proofs.OneOrder.{Differ, one_place, one_sorted}

@@ -7,10 +7,10 @@ use Rattle.wit_elaboration.specs.Elaboration.{graph_uses}
 use Rattle.wit_elaboration.specs.Valid.{IsValid}
 use Rattle.wit_graph_data.specs.declared.graph.Graph.{Graph}
 use Rattle.wit_remap.specs.Grown.{Begins, Grown, cut_at, mark_of}
-use Rattle.wit_remap.specs.GrownFacts.{cut_back}
+use Rattle.wit_remap.specs.facts.GrownFacts.{cut_back}
 use Rattle.wit_remap.specs.declared.mark.Mark.{Mark}
 use Rattle.wit_queries.specs.ValidBits.{AreValidBits, TellValidBits}
-use Rattle.wit_queries.specs.ValidBitsFacts.{flags_stay}
+use Rattle.wit_queries.specs.facts.ValidBitsFacts.{flags_stay}
 use Rattle.wit_transform.specs.Turned.{Turn, turned, turned_at}
 use Rattle.wit_resolve_graph.specs.Kept.{AreKept}
 use Rattle.wit_resolve_graph.specs.declared.kept.Kept.{Kept}

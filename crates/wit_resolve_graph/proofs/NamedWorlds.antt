@@ -6,15 +6,15 @@ use Rattle.std.specs.Str.{bytes_eq}
 use Rattle.std.proofs.lemmas.Map.Views.{Contains-from_lookup, IsSome-lookup_from_Contains}
 use Rattle.std.proofs.lemmas.Option.{slice_get_within}
 use Rattle.std.proofs.lemmas.Slice.Eq.{bytes_eq-Decides}
-use Rattle.wit_digraph.specs.MemberFacts.{Contains-cons_cases, Contains-nil}
-use Rattle.wit_data.specs.PackageNameFacts.{own_name, same_name}
+use Rattle.wit_digraph.specs.facts.MemberFacts.{Contains-cons_cases, Contains-nil}
+use Rattle.wit_data.specs.facts.PackageNameFacts.{own_name, same_name}
 use Rattle.wit_data.specs.PackageOrder.{same_package}
 use Rattle.wit_data.specs.declared.package_name.PackageName.{PackageName}
 use Rattle.wit_data.specs.declared.world.World.{World}
 use Rattle.wit_elaboration.specs.Valid.{IsValid}
 use Rattle.wit_graph_data.specs.declared.graph.Graph.{Graph}
 use Rattle.wit_graph_data.specs.declared.graph.Package.{Package}
-use Rattle.wit_graph_theory.specs.ListFacts.{found_at, place_of, same_at, some_at}
+use Rattle.wit_graph_theory.specs.facts.ListFacts.{found_at, place_of, same_at, some_at}
 use Rattle.wit_resolve_graph.specs.Named.{HasWorld}
 use Rattle.wit_transform.proofs.Distinct.{key_of_entry, same_entry}
 

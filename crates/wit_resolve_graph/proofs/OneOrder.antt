@@ -17,9 +17,9 @@ use Rattle.std.specs.Prelude.{IsSortedByKey}
 use Rattle.std.specs.declared.cmp.Ordering.{Ordering}
 use Rattle.std.specs.declared.cmp.Ordering.TheVariants.{Less, Equal, Greater}
 use Rattle.wit_values.specs.Version.{Parts, version_cmp, version_cmp_total, version_eq, version_ties}
-use Rattle.wit_digraph.specs.MemberFacts.{Contains-cons_cases, Contains-here, Contains-nil, Contains-there}
+use Rattle.wit_digraph.specs.facts.MemberFacts.{Contains-cons_cases, Contains-here, Contains-nil, Contains-there}
 use Rattle.wit_digraph.specs.Walks.{first_of_each, walk}
-use Rattle.wit_data.specs.PackageNameFacts.{same_name}
+use Rattle.wit_data.specs.facts.PackageNameFacts.{same_name}
 use Rattle.wit_data.specs.PackageOrder.{package_cmp, same_package}
 use Rattle.wit_data.specs.declared.package_name.PackageName.{PackageName}
 use Rattle.wit_link_order.specs.Sorting.{AreSorted, Handed, IsGroupOrder, handed_uses, names_of}

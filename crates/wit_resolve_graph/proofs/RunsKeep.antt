@@ -2,7 +2,7 @@
 use Rattle.std.proofs.Common.{◌≡◌, ◌∙◌, inl, inr, ℕ, List, [], ◌∷◌, ◌++◌, Option, None, Some, fold, length, slice_get, slice_set, append_assoc, refl, ap, subst, sym}
 use Rattle.std.specs.Option.{option_map_or}
 use Rattle.std.proofs.lemmas.List.{append-nil}
-use Rattle.wit_values.specs.Lists.{kept-cases, slice_get-append, slice_get-set}
+use Rattle.wit_values.specs.facts.Lists.{kept-cases, slice_get-append, slice_get-set}
 use Rattle.wit_data.specs.Each.{EachAt, SomeAt}
 use Rattle.wit_graph_data.specs.declared.features.Features.{Features}
 use Rattle.wit_data.specs.declared.interface.Interface.{Interface}
@@ -13,7 +13,7 @@ use Rattle.wit_data.specs.declared.world.World.{World}
 use Rattle.wit_data.specs.declared.world.WorldInclude.{WorldInclude}
 use Rattle.wit_graph_data.specs.declared.graph.Graph.{Graph}
 use Rattle.wit_graph_data.specs.declared.graph.Package.{Package}
-use Rattle.wit_graph_theory.specs.ListFacts.{found_at, same_at, some_at}
+use Rattle.wit_graph_theory.specs.facts.ListFacts.{found_at, same_at, some_at}
 use Rattle.wit_link_order.specs.Sorting.{Handed}
 use Rattle.wit_link_spec.specs.Addition.{Addition, active_includes, addition_maps, own_worlds, world_place}
 use Rattle.wit_link_spec.specs.Include.{Begun, lists_of, with_copies, with_world_included}
@@ -22,14 +22,14 @@ use Rattle.wit_graph_theory.specs.Image.{Maps, world_image}
 use Rattle.wit_link.specs.Appending.{addition}
 use Rattle.wit_link.specs.Several.{ArePushed}
 use Rattle.wit_merge_spec.specs.Matches.{Merging}
-use Rattle.wit_merge_spec.specs.Staying.{SameHome, SameInterface, SamePackage, SameType}
+use Rattle.wit_merge_spec.specs.facts.Staying.{SameHome, SameInterface, SamePackage, SameType}
 use Rattle.wit_merge_spec.specs.United.{united}
-use Rattle.wit_merge_laws.specs.KeptFacts.{interfaces_stay, names_stay, packages_stay, types_stay, worlds_stay}
+use Rattle.wit_merge_laws.specs.facts.KeptFacts.{interfaces_stay, names_stay, packages_stay, types_stay, worlds_stay}
 use Rattle.wit_semver_spec.specs.Rewritten.{rewritten}
-use Rattle.wit_semver_spec.specs.Staying.{IsAlias, SameButLists, SameButTarget, SameKind}
-use Rattle.wit_semver_laws.specs.TrackLaws.{KeepsThings, RewrittenKeep}
+use Rattle.wit_semver_spec.specs.laws.Staying.{IsAlias, SameButLists, SameButTarget, SameKind}
+use Rattle.wit_semver_laws.specs.laws.TrackLaws.{KeepsThings, RewrittenKeep}
 use Rattle.wit_resolve_graph.specs.Merging.{merging}
-use Rattle.wit_resolve_graph.specs.RunLaws.{Keeps, KeepsType, RunsKeep}
+use Rattle.wit_resolve_graph.specs.laws.RunLaws.{Keeps, KeepsType, RunsKeep}
 use Rattle.wit_resolve_graph.specs.State.{State}
 use Rattle.wit_resolve_graph.specs.Step.{Step, answers_at}
 use Rattle.wit_transform.specs.Turned.{Turn, exportized, importized, put_last, turned, turned_at, turned_world, with_renamed}

@@ -1,12 +1,10 @@
 pub mod CommandShape
-pub mod Examples
-pub mod FilesExamples
-pub mod Grouping
 pub mod Kept
 pub mod Merging
 pub mod Named
-pub mod RunLaws
 pub mod Sources
-pub mod SourcesExamples
 pub mod State
 pub mod Step
+pub mod examples
+pub mod facts
+pub mod laws

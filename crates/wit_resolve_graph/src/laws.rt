@@ -1,8 +1,8 @@
 //! A law of runs, and examples of the definitions: the contract of each function is what is proved.
-ghost use Rattle.wit_resolve_graph.specs.Examples.{ExamplesOfRuns, ExamplesOfSelection};
-ghost use Rattle.wit_resolve_graph.specs.FilesExamples.{ExamplesOfFiles};
-ghost use Rattle.wit_resolve_graph.specs.SourcesExamples.{ExamplesOfSources};
-ghost use Rattle.wit_resolve_graph.specs.RunLaws.{AdditionsKeep, GroupsKeep, MergesKeep, RunsKeep, SemverMergesKeep, SourcesKeep, TransformationsKeep};
+ghost use Rattle.wit_resolve_graph.specs.examples.Examples.{ExamplesOfRuns, ExamplesOfSelection};
+ghost use Rattle.wit_resolve_graph.specs.examples.FilesExamples.{ExamplesOfFiles};
+ghost use Rattle.wit_resolve_graph.specs.examples.SourcesExamples.{ExamplesOfSources};
+ghost use Rattle.wit_resolve_graph.specs.laws.RunLaws.{AdditionsKeep, GroupsKeep, MergesKeep, RunsKeep, SemverMergesKeep, SourcesKeep, TransformationsKeep};
 
 use wit_semver_laws::laws::rewritten_keep;
 

@@ -1,7 +1,7 @@
 -- What a `push` makes, and commands that aren't ready.
 use Rattle.std.proofs.Common.{◌≡◌, suc, List, [], ◌∷◌, ◌++◌, Bool, true, false, Option, None, Some, IsTrue, ◌↔◌, refl}
 use Rattle.std.specs.Option.{option_and_then, option_map}
-use Rattle.wit_values.specs.Lists.{AllByRecursion-at}
+use Rattle.wit_values.specs.facts.Lists.{AllByRecursion-at}
 use Rattle.wit_data.specs.Each.{Each}
 use Rattle.wit_data.specs.Shape.{IsGroupShaped}
 use Rattle.wit_data.specs.declared.unresolved.UnresolvedPackageGroup.{UnresolvedPackageGroup}

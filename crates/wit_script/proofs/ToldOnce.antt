@@ -6,7 +6,7 @@ use Rattle.wit_script.proofs.Scripts.{before-whole}
 use Rattle.wit_script.proofs.Stays.{goes-on, no-reading, one-bad-line}
 use Rattle.wit_script.specs.Ready.{AreReady}
 use Rattle.wit_script.specs.Script.{IsBadLine, IsLeftOpen, IsUnderstood, reading_of}
-use Rattle.wit_script.specs.Told.{IsToldOnce}
+use Rattle.wit_script.specs.laws.Told.{IsToldOnce}
 use Rattle.wit_script.specs.declared.reader.Reading.{Reading}
 use Rattle.wit_script.specs.declared.ready.ScriptCommand.{ScriptCommand}
 

@@ -3,6 +3,6 @@ pub mod World
 pub mod Ready
 pub mod Ahead
 pub mod Script
-pub mod Told
 pub mod Answer
 pub mod Prints
+pub mod laws

@@ -1,5 +1,5 @@
 //! Laws of the definition of scripts: the functions have no body, and their contracts are what is proved.
-ghost use Rattle.wit_script.specs.Told.{AreToldOnce};
+ghost use Rattle.wit_script.specs.laws.Told.{AreToldOnce};
 
 /// Of any script exactly one thing can be said: that it is understood, that one line is the first that isn't,
 /// or that it is left open after one line.

@@ -1,7 +1,7 @@
 //! From the text of a script to its commands.
 ghost use Rattle.std.specs.Prelude.{◌≡◌, ◌↔◌, ◌||◌, [], ◌∷◌, is_some, map, None, Some, IfOk, IfErr, IfSome, IsTrue, OnOk, not};
 ghost use Rattle.wit_script_package.specs.Draft.{grouped};
-ghost use Rattle.wit_script_lines.specs.IsRead.{IsRead};
+ghost use Rattle.wit_script_lines.specs.steps.IsRead.{IsRead};
 ghost use Rattle.wit_script_lines.specs.Signature.{each_of};
 ghost use Rattle.wit_data.specs.Each.{Each};
 ghost use Rattle.wit_data.specs.Shape.{IsGroupShaped};

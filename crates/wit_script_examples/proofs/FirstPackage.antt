@@ -4,7 +4,7 @@ use Rattle.std.proofs.lemmas.List.Sorted.{Contains-permutation, length_permutati
 use Rattle.std.specs.List.{AllZip}
 use Rattle.std.specs.Map.{lookup}
 use Rattle.std.specs.Prelude.{is_some}
-use Rattle.wit_digraph.specs.MemberFacts.{Contains-nil}
+use Rattle.wit_digraph.specs.facts.MemberFacts.{Contains-nil}
 use Rattle.wit_digraph.specs.Relation.{direct}
 use Rattle.wit_digraph.specs.Walks.{first_of_each, walk, walk_within}
 use Rattle.wit_sources.specs.SourceMap.{Sources}
@@ -17,13 +17,13 @@ use Rattle.wit_data.specs.declared.stability.Stability.{Stability}
 use Rattle.wit_data.specs.declared.stability.Stability.TheVariants.{Stable}
 use Rattle.wit_data.specs.declared.unresolved.UnresolvedPackageGroup.{UnresolvedPackageGroup}
 use Rattle.wit_data.specs.declared.world.World.{World}
-use Rattle.wit_graph_data.specs.Samples.{foo_bar}
+use Rattle.wit_graph_data.specs.examples.Samples.{foo_bar}
 use Rattle.wit_graph_data.specs.declared.error_kind.ResolveErrorKind.{ResolveErrorKind}
 use Rattle.wit_graph_data.specs.declared.error_kind.ResolveErrorKind.TheVariants.{DuplicatePackage, OffsetOverflow, PackageCycle}
 use Rattle.wit_graph_data.specs.declared.features.Features.{Features}
 use Rattle.wit_graph_data.specs.declared.graph.Graph.{Graph}
-use Rattle.wit_graph_theory.specs.OptionFacts.{some_same}
-use Rattle.wit_graph_theory.specs.TestFacts.{none_in, none_some, not_passed, only_one}
+use Rattle.wit_graph_theory.specs.facts.OptionFacts.{some_same}
+use Rattle.wit_graph_theory.specs.examples.TestFacts.{none_in, none_some, not_passed, only_one}
 use Rattle.wit_link_order.specs.Sorting.{AreSorted, Handed, IsGroupOrder, IsHandedTwice, IsSortCause, handed_uses}
 use Rattle.wit_link_spec.specs.Addition.{Addition}
 use Rattle.wit_link_spec.specs.Cause.{IsAccepted, IsCause}
@@ -39,7 +39,7 @@ use Rattle.wit_link_spec.specs.WorldReasons as reached
 use Rattle.wit_link.specs.Appending.{addition}
 use Rattle.wit_link.specs.Groups.{FilesPassTheEnd, IsGroupsCause, files_end}
 use Rattle.wit_link.specs.Several.{ArePushed}
-use Rattle.wit_resolve_graph.specs.Examples.{first_package}
+use Rattle.wit_resolve_graph.specs.examples.Examples.{first_package}
 use Rattle.wit_script_examples.specs.SourceExamples.{made_of}
 
 nowhere : {X : Type 0} (k : ℕ) (x : X) → slice_get [] k ≡ Some x → ⊥

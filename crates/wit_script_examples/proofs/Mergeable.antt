@@ -1,6 +1,6 @@
 -- Small merges against which nothing speaks, and one that is refused for what its interfaces are under.
 use Rattle.std.proofs.Common.{◌≡◌, ◌∙◌, ℕ, zero, suc, true, List, [], ◌∷◌, ◌++◌, Option, Some, None, slice_get, refl, sym, ap, subst, Contains}
-use Rattle.wit_digraph.specs.MemberFacts.{Contains-nil}
+use Rattle.wit_digraph.specs.facts.MemberFacts.{Contains-nil}
 use Rattle.wit_sources.specs.Span.{Place}
 use Rattle.wit_data.specs.declared.interface.Interface.{Interface}
 use Rattle.wit_data.specs.declared.package_name.PackageName.{PackageName}
@@ -10,7 +10,7 @@ use Rattle.wit_graph_data.specs.declared.error_kind.ResolveErrorKind.TheVariants
 use Rattle.wit_graph_data.specs.declared.graph.Package.{Package}
 use Rattle.wit_graph_theory.specs.AllElaborated.{graph_package_uses}
 use Rattle.wit_graph_theory.specs.FunctionMismatch.{HaveFunctionMismatch}
-use Rattle.wit_graph_theory.specs.TestFacts.{all_uses, falls, no_cycle, none_some, only_one}
+use Rattle.wit_graph_theory.specs.examples.TestFacts.{all_uses, falls, no_cycle, none_some, only_one}
 use Rattle.wit_merge_spec.specs.Agreement.{GraphsDiffer}
 use Rattle.wit_merge_spec.specs.Agreement as differ
 use Rattle.wit_merge_spec.specs.Cause.{CanMerge, IsMergeCause}

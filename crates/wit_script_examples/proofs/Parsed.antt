@@ -6,7 +6,7 @@ use Rattle.wit_sources.specs.SourceMap.{Sources}
 use Rattle.wit_sources.specs.Span.{Place, start_of}
 use Rattle.wit_data.specs.PackageOrder.{same_package}
 use Rattle.wit_data.specs.declared.unresolved.UnresolvedPackageGroup.{UnresolvedPackageGroup}
-use Rattle.wit_graph_data.specs.Samples.{foo_bar}
+use Rattle.wit_graph_data.specs.examples.Samples.{foo_bar}
 use Rattle.wit_graph_data.specs.declared.error_kind.ResolveErrorKind.{ResolveErrorKind}
 use Rattle.wit_graph_data.specs.declared.error_kind.ResolveErrorKind.TheVariants.{DuplicatePackage, OffsetOverflow, OutOfMemory}
 use Rattle.wit_graph_data.specs.declared.graph.Graph.{Graph}
@@ -14,11 +14,11 @@ use Rattle.wit_link_order.specs.Sorting.{Handed}
 use Rattle.wit_link_spec.specs.Pushed.{pushed}
 use Rattle.wit_link.specs.Groups.{IsGroupsCause, files_end}
 use Rattle.wit_link.specs.Several.{ArePushed}
-use Rattle.wit_resolve_graph.specs.Examples.{first_package}
-use Rattle.wit_resolve_graph.specs.FilesExamples.{ending}
+use Rattle.wit_resolve_graph.specs.examples.Examples.{first_package}
+use Rattle.wit_resolve_graph.specs.examples.FilesExamples.{ending}
 use Rattle.wit_resolve_graph.specs.Merging.{HasSourcesAfter}
 use Rattle.wit_resolve_graph.specs.Sources.{IsNoSource, IsNotPlaced, PassesTheEnd, PushesAnswer, RefusesAnswer, TellsAnswer}
-use Rattle.wit_resolve_graph.specs.SourcesExamples.{bad_at, once, source, twice}
+use Rattle.wit_resolve_graph.specs.examples.SourcesExamples.{bad_at, once, source, twice}
 use Rattle.wit_resolve_graph.specs.State.{State}
 use Rattle.wit_resolve_graph.specs.Step.{PushesGroups}
 use Rattle.wit_resolve_graph.specs.declared.sources.ParseFault.{ParseFault}

@@ -3,12 +3,12 @@ use Rattle.std.specs.Prelude.{◌≡◌, ℕ, List, [], ◌∷◌, Some, None, c
 use Rattle.wit_sources.specs.Span.{Place}
 use Rattle.wit_data.specs.declared.stability.Stability.{Stability}
 use Rattle.wit_data.specs.declared.track.TrackRule.TheVariants.{WithPrereleases}
-use Rattle.wit_graph_data.specs.Samples.{foo_bar}
+use Rattle.wit_graph_data.specs.examples.Samples.{foo_bar}
 use Rattle.wit_graph_data.specs.declared.error_kind.ResolveErrorKind.{ResolveErrorKind}
 use Rattle.wit_graph_data.specs.declared.error_kind.ResolveErrorKind.TheVariants.{OffsetOverflow, OutOfMemory, StabilityMismatch}
 use Rattle.wit_graph_data.specs.declared.graph.Graph.{Graph}
 use Rattle.wit_remap.specs.declared.remap.Remap.{Remap}
-use Rattle.wit_resolve_graph.specs.FilesExamples.{ending}
+use Rattle.wit_resolve_graph.specs.examples.FilesExamples.{ending}
 use Rattle.wit_resolve_graph.specs.State.{State, new_state}
 use Rattle.wit_resolve_graph.specs.Step.{Run}
 use Rattle.wit_resolve_graph.specs.declared.command.Command.TheVariants.{Merge, SetTrackRule}

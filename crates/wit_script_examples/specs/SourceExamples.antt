@@ -4,13 +4,13 @@ use Rattle.std.specs.Fn.{Once}
 use Rattle.wit_sources.specs.SourceMap.{Sources, with_sources}
 use Rattle.wit_sources.specs.Span.{Place}
 use Rattle.wit_data.specs.declared.unresolved.UnresolvedPackageGroup.{UnresolvedPackageGroup}
-use Rattle.wit_graph_data.specs.Samples.{foo_bar}
+use Rattle.wit_graph_data.specs.examples.Samples.{foo_bar}
 use Rattle.wit_graph_data.specs.declared.error_kind.ResolveErrorKind.TheVariants.{DuplicatePackage, OffsetOverflow, OutOfMemory}
 use Rattle.wit_graph_data.specs.declared.graph.Graph.{Graph}
-use Rattle.wit_resolve_graph.specs.Examples.{first_package}
-use Rattle.wit_resolve_graph.specs.FilesExamples.{ending}
+use Rattle.wit_resolve_graph.specs.examples.Examples.{first_package}
+use Rattle.wit_resolve_graph.specs.examples.FilesExamples.{ending}
 use Rattle.wit_resolve_graph.specs.Sources.{IsNoSource, PushesAnswer, PushesSource, RefusesAnswer, RefusesSource, TellsAnswer, only_file}
-use Rattle.wit_resolve_graph.specs.SourcesExamples.{bad_at, full, once, source, twice}
+use Rattle.wit_resolve_graph.specs.examples.SourcesExamples.{bad_at, full, once, source, twice}
 use Rattle.wit_resolve_graph.specs.State.{State}
 use Rattle.wit_resolve_graph.specs.declared.sources.ParseFault.{ParseFault}
 use Rattle.wit_resolve_graph.specs.declared.sources.ParseFault.TheVariants as parse

@@ -1,4 +1,3 @@
-pub mod IsRead
 pub mod Line
 pub mod Token
 pub mod Gate
@@ -7,3 +6,4 @@ pub mod TypeText
 pub mod PackageLine
 pub mod Request
 pub mod Statement
+pub mod steps

@@ -1,6 +1,6 @@
 //! What a command of a script that hands in no package says by its tokens alone.
 ghost use Rattle.std.specs.Prelude.{◌≡◌, map, IfOk};
-ghost use Rattle.wit_script_lines.specs.IsRead.{IsRead};
+ghost use Rattle.wit_script_lines.specs.steps.IsRead.{IsRead};
 ghost use Rattle.wit_script_lines.specs.Request.{alone_of, exportize_in, exportize_of, exportize_to, exportize_world, feature_of, importize_as, importize_in, importize_of, importize_to, importize_world, is_request, keys_of, new_name_of, request_by, select_of, select_text, select_with, track_rule_of, tracks_of, world_in, world_of, world_only};
 
 use crate::fault::LineFault;

@@ -1,6 +1,6 @@
 //! What a line of a script says by its tokens alone.
 ghost use Rattle.std.specs.Prelude.{map};
-ghost use Rattle.wit_script_lines.specs.IsRead.{IsRead};
+ghost use Rattle.wit_script_lines.specs.steps.IsRead.{IsRead};
 ghost use Rattle.wit_script_lines.specs.Statement.{gated_line_by, package_statement_of, push_statement_of, said_of, statement_by};
 
 use crate::fault::LineFault;

@@ -6,7 +6,7 @@ use Rattle.std.specs.Map.{keys_of, lookup}
 use Rattle.std.specs.Str.{bytes_eq}
 use Rattle.indexmap.specs.IndexMap.{set_value_at}
 use Rattle.wit_values.specs.Names.{named}
-use Rattle.wit_script_package.specs.Mentioning.{changed_at, with_key, with_value}
+use Rattle.wit_script_package.specs.steps.Mentioning.{changed_at, with_key, with_value}
 
 -- an index is the place
 index-place : {K : Type 0} (test : K → Bool) (ks : List K) (i : ℕ) → position test ks ≡ Some i → position_or_len test ks ≡ i

@@ -7,7 +7,7 @@ use Rattle.wit_data.specs.declared.world.WorldKey.TheVariants as key
 use Rattle.wit_script_lines.specs.declared.fault.LineFault.{LineFault}
 use Rattle.wit_script_lines.specs.declared.signature.Signature.{Signature}
 use Rattle.wit_script_package.specs.Adding.{with_export, with_import}
-use Rattle.wit_script_package.specs.Leads.{Leads}
+use Rattle.wit_script_package.specs.steps.Leads.{Leads}
 use Rattle.wit_script_package.specs.Lines.{with_exported_function, with_imported_function}
 use Rattle.wit_script_package.specs.Making.{function_made}
 use Rattle.wit_script_package.specs.declared.draft.Draft.{Draft}

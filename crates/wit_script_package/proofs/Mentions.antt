@@ -19,7 +19,7 @@ use Rattle.wit_data.specs.declared.unresolved.AstItem.TheVariants as item
 use Rattle.wit_script_package.specs.Adding.{empty_interface, empty_world, type_with, with_interface_type, with_type, with_type_name_in}
 use Rattle.wit_script_package.specs.Draft.{begun_at, with_newline}
 use Rattle.wit_script_package.specs.Mention.{first_interfaces, first_role, keeps_role, known, first_packages, first_types, first_worlds, firsts, foreign_type, foreign_world, interface_id_of, is_world, mentioned_at, same_item, same_name, same_parent, same_type, type_id_of, used_name, used_type_name, uses_type, world_id_of}
-use Rattle.wit_script_package.specs.Mentioning.{fits, is_world_item, with_counted, with_dep_span, with_foreign, with_foreign_as, with_foreign_type, with_gate, with_item_note, with_mention, with_mention_of, with_note, with_package_note, with_type_span, with_use_as}
+use Rattle.wit_script_package.specs.steps.Mentioning.{fits, is_world_item, with_counted, with_dep_span, with_foreign, with_foreign_as, with_foreign_type, with_gate, with_item_note, with_mention, with_mention_of, with_note, with_package_note, with_type_span, with_use_as}
 use Rattle.wit_script_package.specs.Naming.{Place, foreign_named}
 use Rattle.wit_script_package.specs.declared.draft.Draft.{Draft}
 use Rattle.wit_script_package.specs.declared.draft.Scope.TheVariants as scope

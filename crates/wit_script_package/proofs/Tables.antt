@@ -3,7 +3,7 @@ use Rattle.std.proofs.Common.{◌≡◌, ◌+◌, one-add, Bool, true, false, co
 use Rattle.std.specs.List.{AllByRecursion, position_or_len}
 use Rattle.std.specs.Map.{lookup}
 use Rattle.std.specs.Option.{option_map}
-use Rattle.wit_script_package.specs.Mentioning.{with_value}
+use Rattle.wit_script_package.specs.steps.Mentioning.{with_value}
 use Rattle.wit_script_package.proofs.Firsts.{AreApart, find-same}
 
 -- what stands at the place of one that is there

@@ -1,9 +1,8 @@
-pub mod Leads
 pub mod Naming
 pub mod Adding
 pub mod Mention
-pub mod Mentioning
 pub mod Draft
 pub mod Role
 pub mod Making
 pub mod Lines
+pub mod steps

@@ -17,7 +17,7 @@ use Rattle.wit_data.specs.declared.world.World.{World}
 use Rattle.wit_data.specs.declared.world.WorldItem.{WorldItem}
 use Rattle.wit_data.specs.declared.world.WorldItem.TheVariants as item
 use Rattle.wit_data.specs.declared.world.WorldKey.TheVariants as key
-pub use Rattle.wit_data.specs.WorldKeyFacts.{same_key}
+pub use Rattle.wit_data.specs.facts.WorldKeyFacts.{same_key}
 pub use Rattle.wit_sources.specs.Span.{Place}
 use Rattle.wit_script_lines.specs.Token.{primitive_of}
 use Rattle.wit_script_package.specs.declared.draft.Draft.{Draft}

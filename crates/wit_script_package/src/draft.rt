@@ -3,7 +3,7 @@ ghost use Rattle.std.specs.Option.{option_map};
 ghost use Rattle.std.specs.Prelude.{◌≡◌, ◌++◌, [], length, IfOk};
 ghost use Rattle.wit_script_package.specs.Draft.{begun, begun_at, file_of, grouped, span_after, with_newline, with_text};
 ghost use Rattle.wit_script_package.specs.Lines.{with_line};
-ghost use Rattle.wit_script_lines.specs.IsRead.{IsRead};
+ghost use Rattle.wit_script_lines.specs.steps.IsRead.{IsRead};
 
 use crate::mention::Mention;
 use std::alloc::{AllocError, Global};

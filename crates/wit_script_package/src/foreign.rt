@@ -3,7 +3,7 @@ ghost use Rattle.std.specs.Prelude.{◌≡◌, [], OnOk, IfOk, Some};
 ghost use Rattle.std.specs.List.{fold};
 ghost use Rattle.std.specs.Str.{bytes_eq};
 ghost use Rattle.wit_data.specs.PackageOrder.{same_package};
-ghost use Rattle.wit_script_package.specs.Mentioning.{changed_at, with_counted, with_foreign, with_foreign_type, with_gate, with_item_note, with_key, with_mention, with_mention_of, with_note, with_package_note, with_use_as};
+ghost use Rattle.wit_script_package.specs.steps.Mentioning.{changed_at, with_counted, with_foreign, with_foreign_type, with_gate, with_item_note, with_key, with_mention, with_mention_of, with_note, with_package_note, with_use_as};
 
 use crate::adding::{new_interface, new_type, new_world};
 use crate::draft::{Draft, Standing};

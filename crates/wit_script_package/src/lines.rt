@@ -1,6 +1,6 @@
 //! What each line makes of a package.
 ghost use Rattle.std.specs.Prelude.{◌≡◌, IfOk};
-ghost use Rattle.wit_script_package.specs.Leads.{Leads};
+ghost use Rattle.wit_script_package.specs.steps.Leads.{Leads};
 ghost use Rattle.wit_script_package.specs.Lines.{entry_of, included, key_of, with_export_line, with_exported_function, with_function_line, with_import_line, with_imported_function, with_include_line, with_record, with_said, with_type_line, with_use};
 
 use crate::draft::{Draft, Standing};

@@ -1,6 +1,6 @@
 //! What the texts of types make, and functions with them.
 ghost use Rattle.std.specs.Prelude.{◌≡◌, Some, IfOk};
-ghost use Rattle.wit_script_package.specs.Leads.{Leads, Makes};
+ghost use Rattle.wit_script_package.specs.steps.Leads.{Leads, Makes};
 ghost use Rattle.wit_script_package.specs.Making.{answer_made, around, each_made, field_made, forms_made, function_by, function_made, function_with, handled, kind_made, param_made, type_made, type_of, with_resource, with_root_at, written_made};
 
 use crate::adding::new_type;

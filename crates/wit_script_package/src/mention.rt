@@ -2,7 +2,7 @@
 ghost use Rattle.std.specs.Option.{option_to_list};
 ghost use Rattle.std.specs.Prelude.{◌≡◌};
 ghost use Rattle.wit_script_package.specs.Mention.{mentioned, mentions_of};
-ghost use Rattle.wit_script_package.specs.Mentioning.{fits};
+ghost use Rattle.wit_script_package.specs.steps.Mentioning.{fits};
 
 use wit_data::{AstItem, PackageName, ParsedUsePath, Span, Stability, Text};
 use wit_script_lines::PackageLine;

@@ -1,7 +1,7 @@
 //! What the groups that lead a function's name make of it.
 ghost use Rattle.std.specs.Prelude.{◌≡◌};
 ghost use Rattle.wit_script_package.specs.Role.{is_plain, loose, loose_role, member_of, method_role, resource_of, role_of, static_role};
-ghost use Rattle.wit_script_lines.specs.IsRead.{IsRead};
+ghost use Rattle.wit_script_lines.specs.steps.IsRead.{IsRead};
 
 use crate::draft::Draft;
 use std::alloc::Global;

@@ -4,7 +4,7 @@ use Rattle.std.specs.List.{list_any}
 use Rattle.std.proofs.lemmas.Bool.{cases_order, ne_eqb, eq-eqb}
 use Rattle.std.proofs.lemmas.List.{get_or-set_other, get_or-set_same, length-set}
 use Rattle.std.proofs.lemmas.List.Folds.{list_any-append}
-use Rattle.wit_semver.specs.Replacing.{IsFilled}
+use Rattle.wit_semver.specs.steps.Replacing.{IsFilled}
 
 module _ (f : ℕ → Option ℕ) (n : ℕ) where
   abbrev value : Bool → ℕ → Option ℕ

@@ -1,13 +1,13 @@
 -- Interfaces that stand among entries under their own keys.
 use Rattle.std.proofs.Common.{◌≡◌, ◌∙◌, ◌++◌, ◌+◌, ◌∷◌, [], ℕ, List, Some, Contains, slice_get, take, sym, ap, subst}
 use Rattle.std.proofs.lemmas.List.{append-nil}
-use Rattle.wit_values.specs.Lists.{take-next_at}
-use Rattle.wit_digraph.specs.MemberFacts.{Contains-flat_map, Contains-here}
+use Rattle.wit_values.specs.facts.Lists.{take-next_at}
+use Rattle.wit_digraph.specs.facts.MemberFacts.{Contains-flat_map, Contains-here}
 use Rattle.wit_data.specs.declared.world.WorldKey.{WorldKey}
 use Rattle.wit_data.specs.declared.world.WorldKey.TheVariants as key
 use Rattle.wit_elaboration.proofs.FreshEntries.{keyed_interfaces-append}
 use Rattle.wit_elaboration.specs.Entries.{Entry, key_interface, keyed_interfaces}
-use Rattle.wit_graph_theory.specs.ListFacts.{contained_at}
+use Rattle.wit_graph_theory.specs.facts.ListFacts.{contained_at}
 
 -- those of the first entries and one more
 pub keyed-next : (entries : List Entry) (i : ℕ) (e : Entry) → slice_get entries i ≡ Some e → keyed_interfaces (take (i + 1) entries) ≡ keyed_interfaces (take i entries) ++ key_interface e.0

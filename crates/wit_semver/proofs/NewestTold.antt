@@ -12,9 +12,9 @@ use Rattle.std.proofs.lemmas.Bool.{and_parts, false_from_ne_true, false≢true}
 use Rattle.std.proofs.lemmas.List.Elements.{Contains-append_cases, Contains-append_left, Contains-append_right}
 use Rattle.std.proofs.lemmas.Slice.Eq.{bytes_eq-Decides}
 use Rattle.wit_values.specs.Version.{version_cmp, version_cmp_total}
-use Rattle.wit_digraph.specs.FreshFacts.{any_from_contains}
-use Rattle.wit_digraph.specs.MemberFacts.{Contains-cons_cases, Contains-here, Contains-nil}
-use Rattle.wit_data.specs.PackageNameFacts.{same_package-Decides}
+use Rattle.wit_digraph.specs.facts.FreshFacts.{any_from_contains}
+use Rattle.wit_digraph.specs.facts.MemberFacts.{Contains-cons_cases, Contains-here, Contains-nil}
+use Rattle.wit_data.specs.facts.PackageNameFacts.{same_package-Decides}
 use Rattle.wit_data.specs.PackageOrder.{same_package}
 use Rattle.wit_data.specs.declared.track.TrackRule.{TrackRule}
 use Rattle.wit_elaboration.specs.Valid.{IsValid}
@@ -23,7 +23,7 @@ use Rattle.wit_semver_spec.specs.Tracks.{Versioned, both, have_one_track, is_bel
 use Rattle.wit_semver_spec.specs.Upgrade.{Upgrade, imported, is_replaced, newest}
 use Rattle.wit_semver_laws.proofs.Greatest.{any_of, any_with, below_itself, below_trans, both_from, both_into, both_true, inside, newest_stays, stays_from, track_into}
 use Rattle.wit_semver_laws.proofs.Merged.{equal_versions, one_track}
-use Rattle.wit_semver.specs.Replacing.{TellsNewest, is_newer, is_smaller, key_at, key_of, replacement, same_track}
+use Rattle.wit_semver.specs.steps.Replacing.{TellsNewest, is_newer, is_smaller, key_at, key_of, replacement, same_track}
 use Rattle.wit_semver.specs.declared.tracks.TrackKey.{TrackKey}
 
 -- ---- keys of tracks

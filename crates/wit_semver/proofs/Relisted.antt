@@ -5,7 +5,7 @@ use Rattle.std.proofs.lemmas.List.Elements.{Contains-append_cases}
 use Rattle.std.proofs.lemmas.Option.{slice_get_within}
 use Rattle.std.specs.List.{enumerate_from, flat_map, list_any}
 use Rattle.std.specs.Option.{option_map_or}
-use Rattle.wit_digraph.specs.MemberFacts.{Contains-cons_cases, Contains-flat_map_cases, Contains-here, Contains-nil, Contains-there}
+use Rattle.wit_digraph.specs.facts.MemberFacts.{Contains-cons_cases, Contains-flat_map_cases, Contains-here, Contains-nil, Contains-there}
 use Rattle.wit_data.specs.Entries.{IsExport, IsImport}
 use Rattle.wit_data.specs.Ownership.{IsNamed}
 use Rattle.wit_data.specs.declared.interface.Interface.{Interface}
@@ -20,13 +20,13 @@ use Rattle.wit_elaboration.proofs.Filters.{Contains-filter}
 use Rattle.wit_elaboration.specs.Entries.{Entry, keyed_interfaces}
 use Rattle.wit_elaboration.specs.Valid.{IsValid}
 use Rattle.wit_graph_data.specs.declared.graph.Graph.{Graph}
-use Rattle.wit_graph_theory.specs.EntryFacts.{key_entry}
-use Rattle.wit_graph_theory.specs.ListFacts.{found_at, place_of}
-use Rattle.wit_graph_theory.specs.PackagesAcyclic.{numbered_from}
+use Rattle.wit_graph_theory.specs.facts.EntryFacts.{key_entry}
+use Rattle.wit_graph_theory.specs.facts.ListFacts.{found_at, place_of}
+use Rattle.wit_graph_theory.specs.facts.PackagesAcyclic.{numbered_from}
 use Rattle.wit_semver_spec.specs.Rewritten.{entry_types, following, new_target, relisted_at, replaced_use, retargeted, rewritten_types, staying, target_name, type_named, types_of}
 use Rattle.wit_semver_spec.specs.TrackCause.{LacksType}
 use Rattle.wit_semver_spec.specs.Upgrade.{Upgrade, newest}
-use Rattle.wit_semver.specs.Replacing.{IsFilled, LackTypes, upgrade, used_target, with_lists, with_targets}
+use Rattle.wit_semver.specs.steps.Replacing.{IsFilled, LackTypes, upgrade, used_target, with_lists, with_targets}
 
 -- ---- what is named is there
 

@@ -2,7 +2,7 @@
 use Rattle.std.proofs.Common.{◌≡◌, ◌∙◌, ◌⊎◌, inl, inr, ℕ, List, [], ◌∷◌, Option, None, Some, IsSome, Contains, get_or, length, slice_get, refl, sym, ap, subst, arith}
 use Rattle.std.proofs.lemmas.List.{length-map}
 use Rattle.std.proofs.lemmas.List.Elements.{Contains-get_or}
-use Rattle.wit_digraph.specs.MemberFacts.{Contains-here, Contains-there}
+use Rattle.wit_digraph.specs.facts.MemberFacts.{Contains-here, Contains-there}
 use Rattle.wit_digraph.specs.Relation.{IsPath, direct}
 use Rattle.wit_data.specs.Ownership.{IsPlain}
 use Rattle.wit_data.specs.Reference.{referred, type_references}
@@ -12,26 +12,26 @@ use Rattle.wit_data.specs.declared.types.TypeDef.{TypeDef}
 use Rattle.wit_data.specs.declared.world.World.{World}
 use Rattle.wit_elaboration.specs.Elaboration.{graph_uses}
 use Rattle.wit_elaboration.specs.Sound.{HasSoundEntries}
-use Rattle.wit_elaboration.specs.SoundFacts.{named_within}
+use Rattle.wit_elaboration.specs.facts.SoundFacts.{named_within}
 use Rattle.wit_elaboration.specs.Valid.{IsValid}
 use Rattle.wit_graph_data.specs.declared.error_kind.ResolveErrorKind.{ResolveErrorKind}
 use Rattle.wit_graph_data.specs.declared.graph.Graph.{Graph}
 use Rattle.wit_graph_theory.specs.AllElaborated.{all_elaborated, graph_package_uses}
-use Rattle.wit_graph_theory.specs.GoodIsValid.{good_things}
-use Rattle.wit_graph_theory.specs.ListFacts.{from_row, in_row}
-use Rattle.wit_graph_theory.specs.NamedUses.{used_is_named}
-use Rattle.wit_graph_theory.specs.OptionFacts.{option_cases}
-use Rattle.wit_graph_theory.specs.PackageCycleFacts.{used_package}
+use Rattle.wit_graph_theory.specs.facts.GoodIsValid.{good_things}
+use Rattle.wit_graph_theory.specs.facts.ListFacts.{from_row, in_row}
+use Rattle.wit_graph_theory.specs.facts.NamedUses.{used_is_named}
+use Rattle.wit_graph_theory.specs.facts.OptionFacts.{option_cases}
+use Rattle.wit_graph_theory.specs.facts.PackageCycleFacts.{used_package}
 use Rattle.wit_semver_spec.specs.Rewritten.{new_target, relisted_at, retargeted, rewritten, rewritten_types}
 use Rattle.wit_semver_spec.specs.TrackCause.{Disagrees, IsAccepted, IsComplete, UpgradeCause, conflict_4, functions_disagree_25, interface_cycle_22, package_cycle_6, type_cycle_23, type_missing_25}
 use Rattle.wit_semver_spec.specs.Upgrade.{Upgrade}
 use Rattle.wit_semver_laws.proofs.Accepting.{id_of_named, in_order, new_aliases, relisted_worlds, rewritten_is}
 use Rattle.wit_semver_laws.proofs.TypesAfter.{type_after}
 use Rattle.wit_semver_laws.proofs.TypesGood.{refers_in_range, unnamed_plain}
-use Rattle.wit_unite_common.specs.Asked.{CanSettle, IsSomeNamed}
-use Rattle.wit_unite_common.specs.Reasons.{SettleCause}
-use Rattle.wit_unite_common.specs.Reasons as settles
-use Rattle.wit_semver.specs.Replacing.{upgrade}
+use Rattle.wit_unite_common.specs.steps.Asked.{CanSettle, IsSomeNamed}
+use Rattle.wit_unite_common.specs.facts.Reasons.{SettleCause}
+use Rattle.wit_unite_common.specs.facts.Reasons as settles
+use Rattle.wit_semver.specs.steps.Replacing.{upgrade}
 
 module _ (u : Upgrade) (valid : IsValid u.graph) (w : ℕ) (there : slice_get u.graph.worlds w ≡ Some u.world) where
   abbrev types : List TypeDef

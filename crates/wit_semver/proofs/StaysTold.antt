@@ -4,8 +4,8 @@ use Rattle.std.proofs.lemmas.List.{append-nil}
 use Rattle.std.proofs.lemmas.List.Concat.{flat_map-append}
 use Rattle.std.specs.List.{IsDistinct, flat_map, list_any}
 use Rattle.std.specs.Map.{keys_of, lookup}
-use Rattle.wit_values.specs.Lists.{take-next_at}
-use Rattle.wit_data.specs.WorldKeyFacts.{key_is, key_laws}
+use Rattle.wit_values.specs.facts.Lists.{take-next_at}
+use Rattle.wit_data.specs.facts.WorldKeyFacts.{key_is, key_laws}
 use Rattle.wit_data.specs.contracts.world.WorldKeyPartialEq.TheImpl.{eq-value}
 use Rattle.wit_data.specs.declared.world.WorldKey.{WorldKey}
 use Rattle.wit_elaboration.proofs.Filters.{Contains-filter}
@@ -13,7 +13,7 @@ use Rattle.wit_elaboration.specs.Entries.{Entry, key_interface}
 use Rattle.wit_semver_spec.specs.Rewritten.{is_replaced_entry}
 use Rattle.wit_semver_spec.specs.Upgrade.{Upgrade, is_replaced, newest}
 use Rattle.wit_transform.proofs.Looked.{new_at}
-use Rattle.wit_semver.specs.Replacing.{AreReplacements}
+use Rattle.wit_semver.specs.steps.Replacing.{AreReplacements}
 
 -- the tests of two that agree
 any_same : (p q : ℕ → Bool) → ((i : ℕ) → p i ≡ q i) → (ids : List ℕ) → list_any p ids ≡ list_any q ids

@@ -1,14 +1,14 @@
 -- Types that follow and lack what they use, one after another; interfaces that disagree with what replaces them.
 use Rattle.std.proofs.Common.{◌≡◌, ◌∙◌, ◌++◌, ◌∷◌, [], ℕ, Bool, true, false, List, Option, None, Some, get_or, slice_get, inl, inr, refl, sym, ap, subst, if◌then◌else◌}
 use Rattle.std.proofs.lemmas.List.Elements.{Contains-append_cases}
-use Rattle.wit_digraph.specs.MemberFacts.{Contains-cons_cases, Contains-nil}
+use Rattle.wit_digraph.specs.facts.MemberFacts.{Contains-cons_cases, Contains-nil}
 use Rattle.wit_data.specs.declared.interface.Interface.{Interface}
 use Rattle.wit_data.specs.declared.world.WorldKey.TheVariants as key
 use Rattle.wit_graph_data.specs.IdText.{key_text}
 use Rattle.wit_graph_theory.specs.FunctionMismatch.{HaveFunctionMismatch}
 use Rattle.wit_semver_spec.specs.TrackCause.{Disagrees, disagreement_text, upgrade_text}
 use Rattle.wit_semver_spec.specs.Upgrade.{Upgrade, is_replaced, newest}
-use Rattle.wit_semver.specs.Replacing.{AreReplacements, DisagreesAt, LackTypes, LacksTypeAt}
+use Rattle.wit_semver.specs.steps.Replacing.{AreReplacements, DisagreesAt, LackTypes, LacksTypeAt}
 
 -- one type more, which lacks nothing
 pub none_lacks-next : (u : Upgrade) (ids : List ℕ) (t : ℕ) (message : List ℕ) → ((message : List ℕ) → LackTypes u ids message → ⊥) → ((message : List ℕ) → LacksTypeAt u t message → ⊥) → LackTypes u (ids ++ t ∷ []) message → ⊥

@@ -1,1 +1,1 @@
-pub mod Replacing
+pub mod steps

@@ -5,7 +5,7 @@ ghost use Rattle.wit_graph_data.specs.declared.error_kind.ResolveErrorKind.{Reso
 ghost use Rattle.wit_graph_data.specs.declared.error_kind.ResolveErrorKind.TheVariants.{OutOfMemory};
 ghost use Rattle.wit_semver_spec.specs.Rewritten.{rewritten};
 ghost use Rattle.wit_semver_spec.specs.TrackCause.{IsTrackCause};
-ghost use Rattle.wit_semver.specs.Replacing.{IsRelisted};
+ghost use Rattle.wit_semver.specs.steps.Replacing.{IsRelisted};
 
 use crate::relisting::relisted;
 use crate::staying::types_of_entries;

@@ -2,7 +2,7 @@
 ghost use Rattle.std.specs.Prelude.{◌≡◌, ◌++◌, ◌∷◌, [], ℕ, List, IfOk, OnOk};
 ghost use Rattle.std.specs.Option.{option_copied};
 ghost use Rattle.wit_elaboration.specs.Entries.{keyed_interfaces};
-ghost use Rattle.wit_semver.specs.Replacing.{TellsNewest, is_newer, told};
+ghost use Rattle.wit_semver.specs.steps.Replacing.{TellsNewest, is_newer, told};
 
 use crate::tracks::{TrackKey, VersionedInterface, versioned};
 use indexmap::IndexMap;

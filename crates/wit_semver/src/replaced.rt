@@ -5,7 +5,7 @@ ghost use Rattle.wit_elaboration.specs.Valid.{IsValid};
 ghost use Rattle.wit_elaboration.specs.Entries.{keyed_interfaces};
 ghost use Rattle.wit_data.specs.declared.world.World.{World};
 ghost use Rattle.wit_semver_spec.specs.Tracks.{is_below, versioned};
-ghost use Rattle.wit_semver.specs.Replacing.{AreReplacements, TellsNewest, replacement, told, upgrade};
+ghost use Rattle.wit_semver.specs.steps.Replacing.{AreReplacements, TellsNewest, replacement, told, upgrade};
 
 use crate::newest::newest_by_track;
 use crate::tracks::{TrackKey, VersionedInterface, versioned};

@@ -6,7 +6,7 @@ ghost use Rattle.wit_data.specs.contracts.world.WorldKeyPartialEq.TheImpl.{eq-va
 ghost use Rattle.wit_data.specs.declared.world.WorldKey.{WorldKey};
 ghost use Rattle.wit_elaboration.specs.Entries.{key_interface};
 ghost use Rattle.wit_semver_spec.specs.Rewritten.{entry_types, staying};
-ghost use Rattle.wit_semver.specs.Replacing.{IsReady, upgrade_of};
+ghost use Rattle.wit_semver.specs.steps.Replacing.{IsReady, upgrade_of};
 
 use crate::upgrading::{Upgrading, replacement_of};
 use std::alloc::{AllocError, Global};

@@ -4,7 +4,7 @@ ghost use Rattle.std.specs.Option.{option_copied};
 ghost use Rattle.wit_graph_data.specs.declared.cause.Cause.TheVariants as cause;
 ghost use Rattle.wit_graph_data.specs.declared.error_kind.ResolveErrorKind.TheVariants.{OutOfMemory, Semantic};
 ghost use Rattle.wit_semver_spec.specs.Rewritten.{type_named};
-ghost use Rattle.wit_semver.specs.Replacing.{IsFilled, IsReady, LackTypes, LacksTypeAt, name_used, upgrade_of, used_target};
+ghost use Rattle.wit_semver.specs.steps.Replacing.{IsFilled, IsReady, LackTypes, LacksTypeAt, name_used, upgrade_of, used_target};
 
 use crate::refusal::type_missing;
 use crate::upgrading::{Upgrading, replacement_of};

@@ -2,7 +2,7 @@
 ghost use Rattle.std.specs.Prelude.{◌≡◌, IfOk};
 ghost use Rattle.std.specs.Option.{option_map};
 ghost use Rattle.wit_semver_spec.specs.Tracks.{is_below, versioned};
-ghost use Rattle.wit_semver.specs.Replacing.{key_of, told};
+ghost use Rattle.wit_semver.specs.steps.Replacing.{key_of, told};
 
 use std::alloc::{AllocError, Global};
 use wit_data::{InterfaceId, PackageName, Text, TrackRule, Version};

@@ -1,7 +1,7 @@
 -- Nothing speaks against the merges that are worked.
 use Rattle.std.proofs.Common.{refl}
 use Rattle.semver.specs.Order.{strip_zeros}
-use Rattle.wit_graph_theory.specs.TestFacts.{none_some}
+use Rattle.wit_graph_theory.specs.examples.TestFacts.{none_some}
 use Rattle.wit_semver_examples.proofs.Fine.{passing}
 use Rattle.wit_semver_examples.specs.AcceptedExamples.{ExamplesOfAccepted}
 

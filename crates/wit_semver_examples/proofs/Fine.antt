@@ -15,9 +15,9 @@ use Rattle.wit_elaboration.specs.Imported.{HasConflict, exported_interfaces, exp
 use Rattle.wit_graph_data.specs.declared.error_kind.ResolveErrorKind.{ResolveErrorKind}
 use Rattle.wit_graph_data.specs.declared.graph.Graph.{Graph}
 use Rattle.wit_graph_theory.specs.AllElaborated.{graph_package_uses}
-use Rattle.wit_graph_theory.specs.ListFacts.{contained_at}
-use Rattle.wit_graph_theory.specs.OptionFacts.{some_same}
-use Rattle.wit_graph_theory.specs.TestFacts.{all_are, all_uses, falls, is_empty, no_cycle, nothing_in}
+use Rattle.wit_graph_theory.specs.facts.ListFacts.{contained_at}
+use Rattle.wit_graph_theory.specs.facts.OptionFacts.{some_same}
+use Rattle.wit_graph_theory.specs.examples.TestFacts.{all_are, all_uses, falls, is_empty, no_cycle, nothing_in}
 use Rattle.wit_semver_spec.specs.Rewritten.{following, relisted_at, replaced_use, target_name, type_named}
 use Rattle.wit_semver_spec.specs.TrackCause.{Disagrees, IsComplete, IsTrackCause, UpgradeCause, conflict_4, functions_disagree_25, interface_cycle_22, package_cycle_6, type_cycle_23, type_missing_25}
 use Rattle.wit_semver_spec.specs.Upgrade.{Upgrade, newest}

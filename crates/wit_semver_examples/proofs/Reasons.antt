@@ -5,7 +5,7 @@ use Rattle.std.specs.Fmt.{digits}
 use Rattle.std.specs.List.{list_all}
 use Rattle.semver.specs.Order.{strip_zeros}
 use Rattle.wit_digraph.specs.Cycles.{IsOnCycle}
-use Rattle.wit_digraph.specs.MemberFacts.{Contains-cons_cases, Contains-here, Contains-nil, Contains-there}
+use Rattle.wit_digraph.specs.facts.MemberFacts.{Contains-cons_cases, Contains-here, Contains-nil, Contains-there}
 use Rattle.wit_digraph.specs.Relation.{Reaches, direct}
 use Rattle.wit_data.specs.Reference.{referred, type_references}
 use Rattle.wit_data.specs.declared.function.Function.{Function}
@@ -17,21 +17,21 @@ use Rattle.wit_elaboration.specs.Elaboration.{graph_uses}
 use Rattle.wit_elaboration.specs.Entries.{Entry}
 use Rattle.wit_elaboration.specs.Imported.{HasConflict, exported_interfaces, exported_keys}
 use Rattle.wit_elaboration.specs.Imported.{IsInConflict as IsEntryInConflict}
-use Rattle.wit_graph_data.specs.Samples.{entry_of}
+use Rattle.wit_graph_data.specs.examples.Samples.{entry_of}
 use Rattle.wit_graph_data.specs.declared.cause.Cause.TheVariants.{InterfaceCycle, TypeCycle}
 use Rattle.wit_graph_data.specs.declared.error_kind.ResolveErrorKind.{ResolveErrorKind}
 use Rattle.wit_graph_data.specs.declared.error_kind.ResolveErrorKind.TheVariants.{InvalidTransitiveDependency, PackageCycle, Semantic}
 use Rattle.wit_data.specs.declared.package_name.PackageName.{PackageName}
 use Rattle.wit_data.specs.declared.types.TypeDef.{TypeDef}
 use Rattle.wit_data.specs.declared.world.WorldKey.TheVariants as key
-use Rattle.wit_graph_theory.specs.ListFacts.{in_row}
+use Rattle.wit_graph_theory.specs.facts.ListFacts.{in_row}
 use Rattle.wit_graph_data.specs.declared.graph.Graph.{Graph}
 use Rattle.wit_graph_data.specs.declared.graph.Package.{Package}
-use Rattle.wit_graph_theory.specs.AgreementFacts.{functions_fine}
+use Rattle.wit_graph_theory.specs.examples.AgreementFacts.{functions_fine}
 use Rattle.wit_graph_theory.specs.AllElaborated.{DependsOnItself, RefersToItself, graph_package_uses}
 use Rattle.wit_graph_theory.specs.FunctionMismatch.{FunctionMismatch, parameter_names_differ}
-use Rattle.wit_graph_theory.specs.OptionFacts.{some_same}
-use Rattle.wit_graph_theory.specs.TestFacts.{all_are, all_uses, falls, is_empty, no_cycle, not_on_cycle, only_one}
+use Rattle.wit_graph_theory.specs.facts.OptionFacts.{some_same}
+use Rattle.wit_graph_theory.specs.examples.TestFacts.{all_are, all_uses, falls, is_empty, no_cycle, not_on_cycle, only_one}
 use Rattle.wit_semver_spec.specs.Rewritten.{following, listed_world, relisted_at}
 use Rattle.wit_semver_spec.specs.TrackCause.{Disagrees, IsComplete, IsTrackCause, LacksType, UpgradeCause, conflict_4, functions_disagree_25, interface_cycle_22, package_cycle_6, type_cycle_23, type_missing_25}
 use Rattle.wit_semver_spec.specs.Upgrade.{Upgrade, is_replaced, newest}

@@ -13,11 +13,11 @@ use Rattle.wit_elaboration.specs.Elaboration.{graph_uses}
 use Rattle.wit_elaboration.specs.Entries.{Entry}
 use Rattle.wit_elaboration.specs.Imported.{HasConflict}
 use Rattle.wit_elaboration.specs.Imported.{IsInConflict as IsEntryInConflict}
-use Rattle.wit_graph_data.specs.Samples.{entry_of}
+use Rattle.wit_graph_data.specs.examples.Samples.{entry_of}
 use Rattle.wit_graph_data.specs.declared.cause.Cause.TheVariants.{InterfaceCycle}
 use Rattle.wit_graph_data.specs.declared.error_kind.ResolveErrorKind.TheVariants.{InvalidTransitiveDependency, PackageCycle, Semantic}
 use Rattle.wit_graph_theory.specs.AllElaborated.{DependsOnItself, IsInConflict, RefersToItself, UsesItself}
-use Rattle.wit_graph_theory.specs.TestFacts.{no_cycle, none_in, one_of_two, only_one}
+use Rattle.wit_graph_theory.specs.examples.TestFacts.{no_cycle, none_in, one_of_two, only_one}
 use Rattle.wit_semver_spec.specs.Rewritten.{relisted_at}
 use Rattle.wit_semver_spec.specs.TrackCause.{IsComplete, LacksType, UpgradeCause, conflict_4, interface_cycle_22, package_cycle_6, type_cycle_23, type_missing_25}
 use Rattle.wit_semver_spec.specs.Upgrade.{Upgrade}

@@ -10,7 +10,7 @@ use Rattle.wit_data.specs.declared.track.TrackRule.TheVariants.{Published, WithP
 use Rattle.wit_data.specs.declared.types.TypeDef.{TypeDef}
 use Rattle.wit_data.specs.declared.types.Type_.{Type_}
 use Rattle.wit_data.specs.declared.types.Type_.TheVariants as type
-use Rattle.wit_graph_data.specs.Samples.{function_of}
+use Rattle.wit_graph_data.specs.examples.Samples.{function_of}
 use Rattle.wit_graph_data.specs.declared.cause.Cause.TheVariants.{InterfaceCycle, TypeCycle, UpgradeMismatch}
 use Rattle.wit_graph_data.specs.declared.error_kind.ResolveErrorKind.{ResolveErrorKind}
 use Rattle.wit_graph_data.specs.declared.error_kind.ResolveErrorKind.TheVariants.{InvalidTransitiveDependency, PackageCycle, Semantic}

@@ -10,7 +10,7 @@ use Rattle.wit_data.specs.declared.types.TypeDefKind.TheVariants as kind
 use Rattle.wit_data.specs.declared.types.Type_.TheVariants as type
 use Rattle.wit_data.specs.declared.world.World.{World}
 use Rattle.wit_elaboration.specs.Entries.{Entry}
-use Rattle.wit_graph_data.specs.Samples.{entry_of, foo_bar_of, interface_of, type_in, world_of}
+use Rattle.wit_graph_data.specs.examples.Samples.{entry_of, foo_bar_of, interface_of, type_in, world_of}
 use Rattle.wit_graph_data.specs.declared.graph.Graph.{Graph}
 use Rattle.wit_graph_data.specs.declared.graph.Package.{Package}
 

@@ -3,7 +3,7 @@ use Rattle.std.specs.Prelude.{ℕ, ◌≡◌, List, [], ◌∷◌, ◌++◌, cod
 use Rattle.wit_values.specs.Version.{Parts}
 use Rattle.wit_data.specs.declared.track.TrackRule.TheVariants.{Published, WithPrereleases}
 use Rattle.wit_elaboration.specs.Entries.{Entry}
-use Rattle.wit_graph_data.specs.Samples.{labelled_entry}
+use Rattle.wit_graph_data.specs.examples.Samples.{labelled_entry}
 use Rattle.wit_graph_data.specs.declared.graph.Graph.{Graph}
 use Rattle.wit_semver_spec.specs.Rewritten.{rewritten}
 use Rattle.wit_semver_examples.specs.Releases.{alias_in, called, graph_of, importing, interface_in, keyed, number_in, prerelease, release, two, world_in}

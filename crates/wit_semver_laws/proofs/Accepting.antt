@@ -3,7 +3,7 @@ use Rattle.std.proofs.Common.{◌≡◌, ◌∙◌, ◌⊎◌, inl, inr, ℕ, tr
 use Rattle.std.specs.Option.{option_map_or}
 use Rattle.std.proofs.lemmas.List.{length-map}
 use Rattle.std.proofs.lemmas.List.Elements.{Contains-get_or}
-use Rattle.wit_values.specs.Lists.{slice_get-set}
+use Rattle.wit_values.specs.facts.Lists.{slice_get-set}
 use Rattle.wit_digraph.specs.Relation.{IsAcyclic, IsPath, direct}
 use Rattle.wit_data.specs.Each.{Each, SomeAt}
 use Rattle.wit_data.specs.Entries.{HasExports, HasImports, IsImport}
@@ -22,22 +22,22 @@ use Rattle.wit_data.specs.declared.world.WorldKey.{WorldKey}
 use Rattle.wit_data.specs.declared.world.WorldKey.TheVariants as key
 use Rattle.wit_elaboration.proofs.Filters.{Contains-filter}
 use Rattle.wit_elaboration.specs.Elaborated.{Elaborated}
-use Rattle.wit_elaboration.specs.ElaborationLaws.{ConflictsAreRefused}
+use Rattle.wit_elaboration.specs.laws.ElaborationLaws.{ConflictsAreRefused}
 use Rattle.wit_elaboration.specs.Entries.{Entry}
 use Rattle.wit_graph_data.specs.IdText.{id_text, interface_id_at, interface_id_text, key_text}
 use Rattle.wit_elaboration.specs.Imported.{HasConflict}
 use Rattle.wit_elaboration.specs.Sound.{HasSoundEntries}
-use Rattle.wit_elaboration.specs.SoundFacts.{lists_in_order, named_within}
+use Rattle.wit_elaboration.specs.facts.SoundFacts.{lists_in_order, named_within}
 use Rattle.wit_elaboration.specs.Valid.{IsValid}
 use Rattle.wit_graph_data.specs.declared.cause.Cause.TheVariants as cause
 use Rattle.wit_graph_data.specs.declared.error_kind.ResolveErrorKind.TheVariants.{InvalidTransitiveDependency, PackageCycle, Semantic}
 use Rattle.wit_graph_data.specs.declared.graph.Graph.{Graph}
-use Rattle.wit_graph_theory.specs.EntryFacts.{key_entry}
-use Rattle.wit_graph_theory.specs.ListFacts.{at_map, contained_at, found_at, place_of, some_at}
-use Rattle.wit_graph_theory.specs.NamedUses.{used_is_named}
+use Rattle.wit_graph_theory.specs.facts.EntryFacts.{key_entry}
+use Rattle.wit_graph_theory.specs.facts.ListFacts.{at_map, contained_at, found_at, place_of, some_at}
+use Rattle.wit_graph_theory.specs.facts.NamedUses.{used_is_named}
 use Rattle.wit_transform.proofs.OnePlaceTurned.{set_split}
 use Rattle.wit_graph_theory.specs.AllElaborated.{DependsOnItself, RefersToItself, UsesItself, all_elaborated, elaborated_world, interface_cycle_text}
-use Rattle.wit_graph_theory.specs.OptionFacts.{some_same, some_there}
+use Rattle.wit_graph_theory.specs.facts.OptionFacts.{some_same, some_there}
 use Rattle.wit_semver_spec.specs.Rewritten.{listed_world, new_target, relisted_at, retargeted, rewritten, rewritten_types}
 use Rattle.wit_semver_spec.specs.TrackCause.{IsAccepted, IsComplete, conflict_4, interface_cycle_22, package_cycle_6, type_cycle_23, type_missing_25}
 use Rattle.wit_semver_spec.specs.Upgrade.{Upgrade, is_replaced, newest}

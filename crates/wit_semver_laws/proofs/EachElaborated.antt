@@ -5,10 +5,10 @@ use Rattle.wit_data.specs.declared.track.TrackRule.{TrackRule}
 use Rattle.wit_data.specs.declared.world.World.{World}
 use Rattle.wit_elaboration.specs.Elaborated.{Elaborated}
 use Rattle.wit_elaboration.specs.Elaboration.{graph_uses}
-use Rattle.wit_elaboration.specs.ElaborationLaws.{ConflictsAreRefused}
+use Rattle.wit_elaboration.specs.laws.ElaborationLaws.{ConflictsAreRefused}
 use Rattle.wit_elaboration.specs.Valid.{IsValid}
 use Rattle.wit_graph_data.specs.declared.graph.Graph.{Graph}
-use Rattle.wit_graph_theory.specs.ListFacts.{at_map}
+use Rattle.wit_graph_theory.specs.facts.ListFacts.{at_map}
 use Rattle.wit_graph_theory.specs.AllElaborated.{all_elaborated, elaborated_world}
 use Rattle.wit_semver_spec.specs.Rewritten.{relisted, relisted_at, rewritten}
 use Rattle.wit_semver_spec.specs.TrackCause.{IsAccepted}

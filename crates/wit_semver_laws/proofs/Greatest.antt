@@ -8,15 +8,15 @@ use Rattle.std.specs.declared.cmp.Ordering.TheVariants.{Less, Equal, Greater}
 use Rattle.std.proofs.lemmas.Bool.{and_parts, cases_Bool, false_from_ne_true, false≢true, not-true, not_from_false}
 use Rattle.std.proofs.lemmas.Slice.Eq.{bytes_eq-Decides}
 use Rattle.wit_values.specs.Version.{version_cmp, version_cmp_total}
-use Rattle.wit_digraph.specs.FreshFacts.{any_from_contains, contains_from_any}
-use Rattle.wit_digraph.specs.MemberFacts.{Contains-cons_cases, Contains-here, Contains-nil, Contains-there}
-use Rattle.wit_data.specs.PackageNameFacts.{same_package-Decides}
+use Rattle.wit_digraph.specs.facts.FreshFacts.{any_from_contains, contains_from_any}
+use Rattle.wit_digraph.specs.facts.MemberFacts.{Contains-cons_cases, Contains-here, Contains-nil, Contains-there}
+use Rattle.wit_data.specs.facts.PackageNameFacts.{same_package-Decides}
 use Rattle.wit_data.specs.PackageOrder.{same_package}
 use Rattle.wit_data.specs.declared.track.TrackRule.{TrackRule}
 use Rattle.wit_elaboration.proofs.Filters.{Contains-filter, Contains-filtered}
 use Rattle.wit_semver_spec.specs.Tracks.{Versioned, are_on_one_track, both, have_one_track, is_below, is_outdone_by, track_key, versioned}
 use Rattle.wit_semver_spec.specs.Upgrade.{Upgrade, first_or, imported, is_replaced, newest, staying_on_track}
-use Rattle.wit_semver_laws.specs.TrackLaws.{IsGreatest}
+use Rattle.wit_semver_laws.specs.laws.TrackLaws.{IsGreatest}
 
 -- ---- tests
 

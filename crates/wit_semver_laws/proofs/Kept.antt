@@ -9,13 +9,13 @@ use Rattle.wit_data.specs.declared.track.TrackRule.{TrackRule}
 use Rattle.wit_data.specs.declared.world.World.{World}
 use Rattle.wit_elaboration.specs.Valid.{IsValid}
 use Rattle.wit_graph_data.specs.declared.graph.Graph.{Graph}
-use Rattle.wit_graph_theory.specs.ListFacts.{at_map, found_at, same_at, some_at}
+use Rattle.wit_graph_theory.specs.facts.ListFacts.{at_map, found_at, same_at, some_at}
 use Rattle.wit_graph_theory.specs.AllElaborated.{all_elaborated, elaborated_world}
-use Rattle.wit_values.specs.Lists.{kept-cases, slice_get-set}
+use Rattle.wit_values.specs.facts.Lists.{kept-cases, slice_get-set}
 use Rattle.wit_semver_spec.specs.Rewritten.{listed_world, name_of, new_target, relisted_at, retargeted, rewritten_types, target_name}
-use Rattle.wit_semver_spec.specs.Staying.{SameButLists, SameButTarget}
+use Rattle.wit_semver_spec.specs.laws.Staying.{SameButLists, SameButTarget}
 use Rattle.wit_semver_spec.specs.Upgrade.{Upgrade, newest}
-use Rattle.wit_semver_laws.specs.TrackLaws.{AliasesKeepNames, KeepsThings, RewrittenKeep}
+use Rattle.wit_semver_laws.specs.laws.TrackLaws.{AliasesKeepNames, KeepsThings, RewrittenKeep}
 use Rattle.wit_semver_laws.proofs.TypesAfter.{after, retargeted_name, turned_from, turned_type, type_after, type_into}
 
 some_of : {X Y : Type 0} (f : X → Option Y) (o : Option X) (y : Y) → option_and_then f o ≡ Some y → IsSome o

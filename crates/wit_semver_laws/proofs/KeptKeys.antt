@@ -4,8 +4,8 @@ use Rattle.std.proofs.Common.{◌≡◌, ◌∙◌, inl, inr, ℕ, Bool, true, f
 use Rattle.std.specs.List.{flat_map, list_any}
 use Rattle.std.proofs.lemmas.Bool.{and_parts, cases_Bool, not-true, not_from_false}
 use Rattle.std.proofs.lemmas.List.Elements.{Contains-append_left, Contains-append_right}
-use Rattle.wit_digraph.specs.FreshFacts.{any_from_contains, contains_from_any}
-use Rattle.wit_digraph.specs.MemberFacts.{Contains-flat_map, Contains-flat_map_cases, Contains-here, Contains-nil}
+use Rattle.wit_digraph.specs.facts.FreshFacts.{any_from_contains, contains_from_any}
+use Rattle.wit_digraph.specs.facts.MemberFacts.{Contains-flat_map, Contains-flat_map_cases, Contains-here, Contains-nil}
 use Rattle.wit_digraph.specs.Relation.{IsPath, direct}
 use Rattle.wit_data.specs.Entries.{IsImport}
 use Rattle.wit_data.specs.Function.{resource_of}
@@ -20,14 +20,14 @@ use Rattle.wit_data.specs.declared.world.WorldKey.TheVariants as key
 use Rattle.wit_elaboration.proofs.Filters.{Contains-filter, Contains-filtered}
 use Rattle.wit_elaboration.specs.Entries.{Entry, key_interface, keyed_interfaces, item_interface, role_of, type_role}
 use Rattle.wit_elaboration.specs.Imported.{Needed, exported_keys, roots_of}
-use Rattle.wit_elaboration.specs.KeptByElaboration.{HoldsImports, ImportsAreLeast}
+use Rattle.wit_elaboration.specs.laws.KeptByElaboration.{HoldsImports, ImportsAreLeast}
 use Rattle.wit_elaboration.specs.Valid.{IsValid}
-use Rattle.wit_graph_theory.specs.DependencyFacts.{filter_map_from, filter_map_into}
-use Rattle.wit_graph_theory.specs.EntryFacts.{holds as old_holds, import_uses as import_uses_imported, instance_interface, key_entry, no_function_root, one_of, type_root}
-use Rattle.wit_graph_theory.specs.ListFacts.{Contains-map, from_row, in_row, place_of}
-use Rattle.wit_graph_theory.specs.OptionFacts.{some_same}
-use Rattle.wit_graph_theory.specs.PackageCycles.{ListsKey, ListsUses}
-use Rattle.wit_graph_theory.specs.PackagesAcyclic.{is_there}
+use Rattle.wit_graph_theory.specs.facts.DependencyFacts.{filter_map_from, filter_map_into}
+use Rattle.wit_graph_theory.specs.facts.EntryFacts.{holds as old_holds, import_uses as import_uses_imported, instance_interface, key_entry, no_function_root, one_of, type_root}
+use Rattle.wit_graph_theory.specs.facts.ListFacts.{Contains-map, from_row, in_row, place_of}
+use Rattle.wit_graph_theory.specs.facts.OptionFacts.{some_same}
+use Rattle.wit_graph_theory.specs.laws.PackageCycles.{ListsKey, ListsUses}
+use Rattle.wit_graph_theory.specs.facts.PackagesAcyclic.{is_there}
 use Rattle.wit_semver_spec.specs.Rewritten.{entry_types, following, is_replaced_entry, listed_world, rewritten_types, staying, types_of}
 use Rattle.wit_semver_spec.specs.TrackCause.{IsComplete}
 use Rattle.wit_semver_spec.specs.Upgrade.{Upgrade, imported, is_replaced, newest}

@@ -1,7 +1,7 @@
 -- The imports under labels stay as they were.
 use Rattle.std.proofs.Common.{◌≡◌, ◌∙◌, inl, inr, ℕ, Bool, true, not, List, [], ◌∷◌, Option, None, Some, filter, map, slice_get, refl, sym, ap, Contains, nat_eq}
 use Rattle.std.proofs.lemmas.Bool.{cases_Bool}
-use Rattle.wit_digraph.specs.MemberFacts.{flat_map-same}
+use Rattle.wit_digraph.specs.facts.MemberFacts.{flat_map-same}
 use Rattle.wit_data.specs.Each.{SomeAt}
 use Rattle.wit_data.specs.Entries.{IsImport}
 use Rattle.wit_data.specs.Uses.{alias_target, other_owner, type_interface_dep, uses_of}
@@ -15,23 +15,23 @@ use Rattle.wit_data.specs.declared.world.WorldKey.{WorldKey}
 use Rattle.wit_data.specs.declared.world.WorldKey.TheVariants as key
 use Rattle.wit_elaboration.proofs.Filters.{Contains-filter, filter-all, filter-fail, filter-flat_map, filter-pass, filter-same}
 use Rattle.wit_elaboration.specs.Entries.{Entry, by_class, class_of, of_class, role_of, type_role}
-use Rattle.wit_elaboration.specs.KeptByElaboration.{is_label, labelled, settled}
-use Rattle.wit_elaboration.specs.SoundFacts.{lists_in_order}
+use Rattle.wit_elaboration.specs.laws.KeptByElaboration.{is_label, labelled, settled}
+use Rattle.wit_elaboration.specs.facts.SoundFacts.{lists_in_order}
 use Rattle.wit_elaboration.specs.Valid.{IsValid}
 use Rattle.wit_graph_data.specs.declared.graph.Graph.{Graph}
-use Rattle.wit_graph_theory.specs.CutIsGood.{distinct_kept}
-use Rattle.wit_graph_theory.specs.DependencyFacts.{needs_from, needs_into}
-use Rattle.wit_graph_theory.specs.ListFacts.{found_at, place_of, same_at}
+use Rattle.wit_graph_theory.specs.facts.CutIsGood.{distinct_kept}
+use Rattle.wit_graph_theory.specs.facts.DependencyFacts.{needs_from, needs_into}
+use Rattle.wit_graph_theory.specs.facts.ListFacts.{found_at, place_of, same_at}
 use Rattle.wit_graph_theory.specs.AllElaborated.{elaborated_world}
-use Rattle.wit_graph_theory.specs.LawsOfElaboration.{LawsOfElaboration}
-use Rattle.wit_graph_theory.specs.OptionFacts.{option_cases}
+use Rattle.wit_graph_theory.specs.facts.LawsOfElaboration.{LawsOfElaboration}
+use Rattle.wit_graph_theory.specs.facts.OptionFacts.{option_cases}
 use Rattle.wit_semver_spec.specs.Rewritten.{is_replaced_entry, listed_world, new_target, relisted_at, retargeted, rewritten_types, staying}
 use Rattle.wit_semver_spec.specs.TrackCause.{IsComplete}
 use Rattle.wit_semver_spec.specs.Upgrade.{Upgrade, newest}
 use Rattle.wit_semver_laws.proofs.Accepting.{complete, elaborates, in_order, listed_there, new_types, new_uses, uses_acyclic}
 use Rattle.wit_semver_laws.proofs.Merged.{is_done}
 use Rattle.wit_semver_laws.proofs.TypesAfter.{after, needs_after, retargeted_owner, turned_from, turned_type, type_into}
-use Rattle.wit_semver_laws.specs.TrackLaws.{IsMerged}
+use Rattle.wit_semver_laws.specs.laws.TrackLaws.{IsMerged}
 
 -- ---- lists
 

@@ -2,8 +2,8 @@
 -- closed; each other as before, since an interface without a name stands in one world, so its types don't follow.
 use Rattle.std.proofs.Common.{◌≡◌, ◌∙◌, inl, inr, ℕ, Bool, true, false, not, List, [], ◌∷◌, ◌++◌, Some, slice_get, refl, sym, ap, subst, Contains}
 use Rattle.std.proofs.lemmas.List.Elements.{Contains-append_cases}
-use Rattle.wit_digraph.specs.FreshFacts.{contains_from_any}
-use Rattle.wit_digraph.specs.MemberFacts.{Contains-flat_map_cases, Contains-nil}
+use Rattle.wit_digraph.specs.facts.FreshFacts.{contains_from_any}
+use Rattle.wit_digraph.specs.facts.MemberFacts.{Contains-flat_map_cases, Contains-nil}
 use Rattle.wit_digraph.specs.Relation.{direct}
 use Rattle.wit_data.specs.Entries.{IsImport, is_unnamed, item_interface}
 use Rattle.wit_data.specs.Uses.{interface_uses, type_interface_dep, uses_of}
@@ -18,18 +18,18 @@ use Rattle.wit_data.specs.declared.world.WorldKey.{WorldKey}
 use Rattle.wit_data.specs.declared.world.WorldKey.TheVariants as key
 use Rattle.wit_elaboration.proofs.Filters.{Contains-filter}
 use Rattle.wit_elaboration.specs.Entries.{Entry}
-use Rattle.wit_elaboration.specs.KeptByElaboration.{ImportsAreLeast}
+use Rattle.wit_elaboration.specs.laws.KeptByElaboration.{ImportsAreLeast}
 use Rattle.wit_elaboration.specs.Valid.{IsValid}
-use Rattle.wit_graph_theory.specs.DependencyFacts.{filter_map_from, filter_map_into}
-use Rattle.wit_graph_theory.specs.EntryFacts.{canonical_lists_uses, one_of}
-use Rattle.wit_graph_theory.specs.Good.{HasGoodThings}
-use Rattle.wit_graph_theory.specs.GoodIsValid.{good_things}
-use Rattle.wit_graph_theory.specs.GoodWorlds.{import_from_export}
-use Rattle.wit_graph_theory.specs.ListFacts.{Contains-map_cases, found_at, from_row, in_row, place_of, same_at}
-use Rattle.wit_graph_theory.specs.OnePlace.{HasOnePlace, Holds, entries_of}
-use Rattle.wit_graph_theory.specs.OnePlaceFrom.{HasOnePlace-from_once}
-use Rattle.wit_graph_theory.specs.PackageCycles.{ListsUses}
-use Rattle.wit_graph_theory.specs.PackagesAcyclic.{there_is}
+use Rattle.wit_graph_theory.specs.facts.DependencyFacts.{filter_map_from, filter_map_into}
+use Rattle.wit_graph_theory.specs.facts.EntryFacts.{canonical_lists_uses, one_of}
+use Rattle.wit_graph_theory.specs.facts.Good.{HasGoodThings}
+use Rattle.wit_graph_theory.specs.facts.GoodIsValid.{good_things}
+use Rattle.wit_graph_theory.specs.facts.GoodWorlds.{import_from_export}
+use Rattle.wit_graph_theory.specs.facts.ListFacts.{Contains-map_cases, found_at, from_row, in_row, place_of, same_at}
+use Rattle.wit_graph_theory.specs.steps.OnePlace.{HasOnePlace, Holds, entries_of}
+use Rattle.wit_graph_theory.specs.facts.OnePlaceFrom.{HasOnePlace-from_once}
+use Rattle.wit_graph_theory.specs.laws.PackageCycles.{ListsUses}
+use Rattle.wit_graph_theory.specs.facts.PackagesAcyclic.{there_is}
 use Rattle.wit_transform.proofs.OnePlaceTurned.{set_split}
 use Rattle.wit_semver_spec.specs.Rewritten.{entry_types, following, is_replaced_entry, listed_world, rewritten_types, staying, types_of}
 use Rattle.wit_semver_spec.specs.TrackCause.{IsComplete}

@@ -7,7 +7,7 @@ use Rattle.std.specs.declared.cmp.Ordering.{Ordering}
 use Rattle.std.specs.declared.cmp.Ordering.TheVariants.{Less, Equal, Greater}
 use Rattle.wit_values.specs.Version.{Parts, version_cmp, version_cmp_total, version_ties}
 use Rattle.wit_data.specs.Each.{SomeAt}
-use Rattle.wit_data.specs.PackageNameFacts.{same_name}
+use Rattle.wit_data.specs.facts.PackageNameFacts.{same_name}
 use Rattle.wit_data.specs.Track.{track_by}
 use Rattle.wit_data.specs.declared.interface.Interface.{Interface}
 use Rattle.wit_data.specs.declared.package_name.PackageName.{PackageName}
@@ -21,17 +21,17 @@ use Rattle.wit_elaboration.specs.Valid.{IsValid}
 use Rattle.wit_digraph.specs.Relation.{IsAcyclic}
 use Rattle.wit_graph_data.specs.declared.graph.Graph.{Graph}
 use Rattle.wit_graph_data.specs.declared.graph.Package.{Package}
-use Rattle.wit_graph_theory.specs.ListFacts.{found_at, place_of, same_at}
+use Rattle.wit_graph_theory.specs.facts.ListFacts.{found_at, place_of, same_at}
 use Rattle.wit_graph_theory.specs.AllElaborated.{elaborated_world}
-use Rattle.wit_graph_theory.specs.LawsOfElaboration.{LawsOfElaboration}
-use Rattle.wit_graph_theory.specs.OptionFacts.{some_parts}
+use Rattle.wit_graph_theory.specs.facts.LawsOfElaboration.{LawsOfElaboration}
+use Rattle.wit_graph_theory.specs.facts.OptionFacts.{some_parts}
 use Rattle.wit_semver_spec.specs.Rewritten.{listed_world, relisted_at, rewritten}
 use Rattle.wit_semver_spec.specs.Tracks.{Versioned, are_on_one_track, have_one_track, is_below, versioned, versioned_in, versioned_of}
 use Rattle.wit_semver_spec.specs.Upgrade.{Upgrade, is_replaced}
 use Rattle.wit_semver_laws.proofs.Accepting.{complete, elaborates, in_order, listed_there, merged_is, new_types, new_uses, rewritten_is, uses_acyclic}
 use Rattle.wit_semver_laws.proofs.Greatest.{both_from, both_into, both_true, stays_from, track_from, track_into}
 use Rattle.wit_semver_laws.proofs.KeptKeys.{IsKept, kept_holds, kept_root, kept_test, passed}
-use Rattle.wit_semver_laws.specs.TrackLaws.{IsMerged}
+use Rattle.wit_semver_laws.specs.laws.TrackLaws.{IsMerged}
 
 module _ (laws : LawsOfElaboration) (rule : TrackRule) (g : Graph) (w : ℕ) (old new : World) (merged : IsMerged rule g w old new) where
   abbrev pub u : Upgrade

@@ -1,7 +1,7 @@
 -- What an alias names after semver merging: the newest's type of the name of what it named.
 use Rattle.std.proofs.Common.{◌≡◌, ◌∙◌, inl, inr, ℕ, List, Option, None, Some, refl, sym, ap, subst}
 use Rattle.std.specs.Option.{option_map_or}
-use Rattle.wit_digraph.specs.FreshFacts.{any_from_contains}
+use Rattle.wit_digraph.specs.facts.FreshFacts.{any_from_contains}
 use Rattle.wit_data.specs.Each.{SomeAt}
 use Rattle.wit_data.specs.Uses.{alias_target}
 use Rattle.wit_data.specs.declared.types.TypeDef.{TypeDef}
@@ -9,14 +9,14 @@ use Rattle.wit_data.specs.declared.world.World.{World}
 use Rattle.wit_graph_data.specs.declared.cause.Cause.TheVariants as cause
 use Rattle.wit_graph_data.specs.declared.error_kind.ResolveErrorKind.TheVariants.{Semantic}
 use Rattle.wit_graph_theory.specs.AllElaborated.{all_elaborated}
-use Rattle.wit_graph_theory.specs.DependencyFacts.{needs_from}
-use Rattle.wit_graph_theory.specs.ListFacts.{same_at, some_at}
-use Rattle.wit_graph_theory.specs.OptionFacts.{option_cases}
+use Rattle.wit_graph_theory.specs.facts.DependencyFacts.{needs_from}
+use Rattle.wit_graph_theory.specs.facts.ListFacts.{same_at, some_at}
+use Rattle.wit_graph_theory.specs.facts.OptionFacts.{option_cases}
 use Rattle.wit_semver_spec.specs.Rewritten.{following, new_target, relisted_at, retargeted, rewritten, rewritten_types, target_name, type_named}
 use Rattle.wit_semver_spec.specs.TrackCause.{IsComplete, missing_text, type_missing_25, upgrade_message}
 use Rattle.wit_semver_spec.specs.Upgrade.{newest}
 use Rattle.wit_semver_laws.proofs.TypesAfter.{replaced_use_from, target_named, turned_into, type_into}
-use Rattle.wit_semver_laws.specs.TrackLaws.{AliasesNameNewest}
+use Rattle.wit_semver_laws.specs.laws.TrackLaws.{AliasesNameNewest}
 
 pub aliases_name_newest : AliasesNameNewest
 aliases_name_newest u w t f def valid there accepted follows uses at =

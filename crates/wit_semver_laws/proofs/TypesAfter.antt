@@ -6,7 +6,7 @@ use Rattle.std.specs.Map.{lookup}
 use Rattle.std.specs.Str.{bytes_eq}
 use Rattle.std.proofs.lemmas.Map.Views.{Contains-from_lookup}
 use Rattle.std.proofs.lemmas.Slice.Eq.{bytes_eq-Decides}
-use Rattle.wit_digraph.specs.FreshFacts.{contains_from_any}
+use Rattle.wit_digraph.specs.facts.FreshFacts.{contains_from_any}
 use Rattle.wit_data.specs.Each.{SomeAt}
 use Rattle.wit_data.specs.Ownership.{IsNamedInterface}
 use Rattle.wit_data.specs.Uses.{alias_target, other_owner, type_interface_dep}
@@ -15,12 +15,12 @@ use Rattle.wit_data.specs.declared.types.TypeDef.{TypeDef}
 use Rattle.wit_data.specs.declared.types.TypeOwner.{TypeOwner}
 use Rattle.wit_data.specs.declared.types.TypeOwner.TheVariants as owner
 use Rattle.wit_elaboration.specs.Valid.{IsValid}
-use Rattle.wit_graph_theory.specs.DependencyFacts.{Needs, needs_from, needs_into}
-use Rattle.wit_graph_theory.specs.Good.{HasGoodThings}
-use Rattle.wit_graph_theory.specs.GoodIsValid.{good_things}
-use Rattle.wit_graph_theory.specs.ListFacts.{at_map, found_at, from_map, place_of, same_at}
-use Rattle.wit_graph_theory.specs.OptionFacts.{option_cases, some_by, some_parts, some_same, some_there}
-use Rattle.wit_graph_theory.specs.PackagesAcyclic.{numbered_from, numbered_into}
+use Rattle.wit_graph_theory.specs.facts.DependencyFacts.{Needs, needs_from, needs_into}
+use Rattle.wit_graph_theory.specs.facts.Good.{HasGoodThings}
+use Rattle.wit_graph_theory.specs.facts.GoodIsValid.{good_things}
+use Rattle.wit_graph_theory.specs.facts.ListFacts.{at_map, found_at, from_map, place_of, same_at}
+use Rattle.wit_graph_theory.specs.facts.OptionFacts.{option_cases, some_by, some_parts, some_same, some_there}
+use Rattle.wit_graph_theory.specs.facts.PackagesAcyclic.{numbered_from, numbered_into}
 use Rattle.wit_semver_spec.specs.Rewritten.{following, name_of, new_target, replaced_use, retargeted, rewritten_types, target_name, type_named}
 use Rattle.wit_semver_spec.specs.TrackCause.{IsComplete, missing_text, upgrade_message}
 use Rattle.wit_semver_spec.specs.Upgrade.{Upgrade, is_replaced, newest}

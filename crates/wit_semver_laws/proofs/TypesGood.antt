@@ -4,7 +4,7 @@ use Rattle.std.specs.List.{enumerate_from}
 use Rattle.std.proofs.lemmas.List.{length-map}
 use Rattle.std.proofs.lemmas.List.Elements.{All-contains}
 use Rattle.std.proofs.lemmas.Option.{slice_get_within}
-use Rattle.wit_digraph.specs.MemberFacts.{Contains-cons_cases, Contains-nil}
+use Rattle.wit_digraph.specs.facts.MemberFacts.{Contains-cons_cases, Contains-nil}
 use Rattle.wit_digraph.specs.Relation.{IsPath, direct, Reaches}
 use Rattle.wit_data.specs.Entries.{ItemUsesOwn}
 use Rattle.wit_data.specs.Ownership.{IsOwn, IsPlain, RefersToOwn, Shows, UsesOwn, through_unnamed}
@@ -20,12 +20,12 @@ use Rattle.wit_data.specs.declared.types.TypeOwner.TheVariants as owner
 use Rattle.wit_data.specs.declared.world.WorldItem.{WorldItem}
 use Rattle.wit_data.specs.declared.world.WorldItem.TheVariants as item
 use Rattle.wit_elaboration.specs.Valid.{IsValid}
-use Rattle.wit_graph_theory.specs.Good.{HasGoodThings, IsGoodInterface}
-use Rattle.wit_graph_theory.specs.GoodIsValid.{good_things}
-use Rattle.wit_graph_theory.specs.ListFacts.{found_at, from_row, in_row, some_at}
-use Rattle.wit_graph_theory.specs.OptionFacts.{option_cases, some_parts}
-use Rattle.wit_graph_theory.specs.OwnedFacts.{row, row_from, row_into}
-use Rattle.wit_graph_theory.specs.PackagesAcyclic.{length-numbered}
+use Rattle.wit_graph_theory.specs.facts.Good.{HasGoodThings, IsGoodInterface}
+use Rattle.wit_graph_theory.specs.facts.GoodIsValid.{good_things}
+use Rattle.wit_graph_theory.specs.facts.ListFacts.{found_at, from_row, in_row, some_at}
+use Rattle.wit_graph_theory.specs.facts.OptionFacts.{option_cases, some_parts}
+use Rattle.wit_graph_theory.specs.facts.OwnedFacts.{row, row_from, row_into}
+use Rattle.wit_graph_theory.specs.facts.PackagesAcyclic.{length-numbered}
 use Rattle.wit_semver_spec.specs.Rewritten.{new_target, retargeted, rewritten_types}
 use Rattle.wit_semver_spec.specs.Upgrade.{Upgrade, newest}
 use Rattle.wit_semver_laws.proofs.Accepting.{stays_so}

@@ -1,13 +1,13 @@
 -- A rewritten graph is valid.
 use Rattle.std.proofs.Common.{◌≡◌, ◌∙◌, inl, inr, ℕ, List, Option, None, Some, IsSomeAnd, get_or, slice_get, refl, sym, ap, subst, Contains, ◌∷◌}
-use Rattle.wit_values.specs.Lists.{kept-cases}
+use Rattle.wit_values.specs.facts.Lists.{kept-cases}
 use Rattle.wit_data.specs.Each.{SomeAt}
 use Rattle.wit_data.specs.Ownership.{IsListed, world_types}
 use Rattle.wit_data.specs.Reference.{type_references}
 use Rattle.wit_data.specs.Uses.{uses_of}
 use Rattle.wit_digraph.specs.Relation.{IsAcyclic, direct}
 use Rattle.std.proofs.lemmas.List.Elements.{Contains-get_or}
-use Rattle.wit_graph_theory.specs.RowFacts.{Reaches-join}
+use Rattle.wit_graph_theory.specs.facts.RowFacts.{Reaches-join}
 use Rattle.wit_data.specs.declared.track.TrackRule.{TrackRule}
 use Rattle.wit_data.specs.declared.types.TypeDef.{TypeDef}
 use Rattle.wit_data.specs.declared.types.TypeOwner.{TypeOwner}
@@ -17,13 +17,13 @@ use Rattle.wit_elaboration.specs.Elaborated.{Elaborated}
 use Rattle.wit_elaboration.specs.Valid.{IsValid, IsWorldInTable, IsWorldOf}
 use Rattle.wit_graph_data.specs.declared.graph.Graph.{Graph}
 use Rattle.wit_graph_data.specs.declared.graph.Package.{Package}
-use Rattle.wit_graph_theory.specs.Good.{HasGoodThings, IsGoodAsAWhole, IsGoodWorld}
-use Rattle.wit_graph_theory.specs.GoodIsValid.{IsValid-from_good, good_things}
-use Rattle.wit_graph_theory.specs.ListFacts.{at_map, found_at, same_at, some_at}
-use Rattle.wit_graph_theory.specs.OnePlaceFacts.{StandOnce-from_places}
-use Rattle.wit_graph_theory.specs.PackageCycleFacts.{acyclic_packages, packages_stay_acyclic}
+use Rattle.wit_graph_theory.specs.facts.Good.{HasGoodThings, IsGoodAsAWhole, IsGoodWorld}
+use Rattle.wit_graph_theory.specs.facts.GoodIsValid.{IsValid-from_good, good_things}
+use Rattle.wit_graph_theory.specs.facts.ListFacts.{at_map, found_at, same_at, some_at}
+use Rattle.wit_graph_theory.specs.facts.OnePlaceFacts.{StandOnce-from_places}
+use Rattle.wit_graph_theory.specs.facts.PackageCycleFacts.{acyclic_packages, packages_stay_acyclic}
 use Rattle.wit_graph_theory.specs.AllElaborated.{elaborated_world, graph_package_uses, type_cycle_text}
-use Rattle.wit_graph_theory.specs.LawsOfElaboration.{LawsOfElaboration}
+use Rattle.wit_graph_theory.specs.facts.LawsOfElaboration.{LawsOfElaboration}
 use Rattle.wit_semver_spec.specs.Rewritten.{listed_world, new_target, relisted_at, rewritten}
 use Rattle.wit_semver_spec.specs.TrackCause.{IsAccepted}
 use Rattle.wit_semver_spec.specs.Upgrade.{Upgrade}

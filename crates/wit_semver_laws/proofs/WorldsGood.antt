@@ -2,7 +2,7 @@
 use Rattle.std.proofs.Common.{◌≡◌, ◌∙◌, ◌⊎◌, inl, inr, ℕ, Bool, true, false, not, List, [], ◌∷◌, Option, Some, length, slice_get, refl, sym, ap, subst, Contains}
 use Rattle.std.specs.List.{list_any}
 use Rattle.wit_values.specs.Table.{HasDistinctKeys}
-use Rattle.wit_digraph.specs.MemberFacts.{Contains-flat_map, Contains-flat_map_cases, Contains-nil}
+use Rattle.wit_digraph.specs.facts.MemberFacts.{Contains-flat_map, Contains-flat_map_cases, Contains-nil}
 use Rattle.wit_digraph.specs.Relation.{IsAcyclic}
 use Rattle.wit_data.specs.Entries.{is_unnamed, item_interface}
 use Rattle.wit_data.specs.Ownership.{listed_type, world_types}
@@ -17,24 +17,24 @@ use Rattle.wit_elaboration.proofs.Classes.{in_by_class}
 use Rattle.wit_elaboration.proofs.Filters.{Contains-filter, Contains-filtered}
 use Rattle.wit_elaboration.specs.Elaborated.{Elaborated, settled_item}
 use Rattle.wit_elaboration.specs.Entries.{Entry, by_class, key_interface}
-use Rattle.wit_elaboration.specs.KeptByElaboration.{IsSettled, is_label, labelled, settled}
+use Rattle.wit_elaboration.specs.laws.KeptByElaboration.{IsSettled, is_label, labelled, settled}
 use Rattle.wit_elaboration.specs.Sound.{HasSoundEntries}
 use Rattle.wit_elaboration.specs.Valid.{IsOfPackage, IsValid}
 use Rattle.wit_graph_data.specs.declared.graph.Graph.{Graph}
-use Rattle.wit_graph_theory.specs.Covered.{IsDependency}
-use Rattle.wit_graph_theory.specs.CutIsGood.{distinct_kept}
-use Rattle.wit_graph_theory.specs.EntryFacts.{key_entry, named_export}
-use Rattle.wit_graph_theory.specs.Good.{HasGoodThings, IsGoodExport, IsGoodImport, IsGoodWorld}
-use Rattle.wit_graph_theory.specs.GoodIsValid.{good_things}
-use Rattle.wit_graph_theory.specs.GoodWorlds.{dependency_export, dependency_import, same_one, settled_is_good}
-use Rattle.wit_graph_theory.specs.ListFacts.{Contains-map, contained_at, from_map, place_of, same_at}
-use Rattle.wit_graph_theory.specs.NamedUses.{IsUsed_named}
-use Rattle.wit_graph_theory.specs.OnePlace.{HasOnePlace, entries_of}
-use Rattle.wit_graph_theory.specs.OnePlaceCarried.{named_not}
-use Rattle.wit_graph_theory.specs.OnePlaceFrom.{HasOnePlace-from_once}
+use Rattle.wit_graph_theory.specs.facts.Covered.{IsDependency}
+use Rattle.wit_graph_theory.specs.facts.CutIsGood.{distinct_kept}
+use Rattle.wit_graph_theory.specs.facts.EntryFacts.{key_entry, named_export}
+use Rattle.wit_graph_theory.specs.facts.Good.{HasGoodThings, IsGoodExport, IsGoodImport, IsGoodWorld}
+use Rattle.wit_graph_theory.specs.facts.GoodIsValid.{good_things}
+use Rattle.wit_graph_theory.specs.facts.GoodWorlds.{dependency_export, dependency_import, same_one, settled_is_good}
+use Rattle.wit_graph_theory.specs.facts.ListFacts.{Contains-map, contained_at, from_map, place_of, same_at}
+use Rattle.wit_graph_theory.specs.facts.NamedUses.{IsUsed_named}
+use Rattle.wit_graph_theory.specs.steps.OnePlace.{HasOnePlace, entries_of}
+use Rattle.wit_graph_theory.specs.facts.OnePlaceCarried.{named_not}
+use Rattle.wit_graph_theory.specs.facts.OnePlaceFrom.{HasOnePlace-from_once}
 use Rattle.wit_graph_theory.specs.AllElaborated.{all_elaborated, elaborated_world}
-use Rattle.wit_graph_theory.specs.ElaboratedCome.{settled_interface}
-use Rattle.wit_graph_theory.specs.LawsOfElaboration.{LawsOfElaboration}
+use Rattle.wit_graph_theory.specs.facts.ElaboratedCome.{settled_interface}
+use Rattle.wit_graph_theory.specs.facts.LawsOfElaboration.{LawsOfElaboration}
 use Rattle.wit_semver_spec.specs.Rewritten.{is_replaced_entry, relisted_at}
 use Rattle.wit_semver_spec.specs.TrackCause.{IsAccepted}
 use Rattle.wit_semver_spec.specs.Upgrade.{Upgrade, is_replaced}

@@ -1,1 +1,1 @@
-pub mod TrackLaws
+pub mod laws

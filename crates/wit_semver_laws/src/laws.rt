@@ -1,5 +1,5 @@
 //! Laws of semver merging: the contract of each function is what is proved.
-ghost use Rattle.wit_semver_laws.specs.TrackLaws.{AliasesKeepNames, AliasesNameNewest, ExportsAreKept, KeysAreExact, LabelsAreKept, NewestIsGreatest, OneOnEachTrack, RewrittenKeep, RewrittenStayValid, WorldsAreElaborated};
+ghost use Rattle.wit_semver_laws.specs.laws.TrackLaws.{AliasesKeepNames, AliasesNameNewest, ExportsAreKept, KeysAreExact, LabelsAreKept, NewestIsGreatest, OneOnEachTrack, RewrittenKeep, RewrittenStayValid, WorldsAreElaborated};
 
 use wit_graph_theory::laws::laws_of_elaboration;
 

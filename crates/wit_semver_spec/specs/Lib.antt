@@ -1,5 +1,5 @@
 pub mod Rewritten
-pub mod Staying
 pub mod TrackCause
 pub mod Tracks
 pub mod Upgrade
+pub mod laws

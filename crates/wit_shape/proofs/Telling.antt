@@ -6,12 +6,12 @@ use Rattle.std.specs.Option.{IsSomeAnd, option_map}
 use Rattle.std.proofs.lemmas.Bool.Decides.{Decides-like, Decides-eqb}
 use Rattle.std.proofs.lemmas.List.Elements.{Contains-append_cases, Contains-append_left, Contains-append_right}
 use Rattle.std.proofs.lemmas.Option.{slice_get-map, get_or_from_slice_get}
-use Rattle.wit_digraph.specs.MemberFacts.{Contains-nil, Contains-here, Contains-cons_cases}
+use Rattle.wit_digraph.specs.facts.MemberFacts.{Contains-nil, Contains-here, Contains-cons_cases}
 use Rattle.wit_digraph.specs.Relation.{IsPath, direct}
 use Rattle.wit_data.specs.Each.{SomeAt}
 use Rattle.wit_data.specs.Ownership.{Shows, through_unnamed}
 use Rattle.wit_data.specs.Reference.{referred}
-use Rattle.wit_shape.specs.Shown.{IsOnly, Tells, joined, same_owner}
+use Rattle.wit_shape.specs.steps.Shown.{IsOnly, Tells, joined, same_owner}
 use Rattle.wit_shape.specs.declared.shown.Shown.{Shown}
 use Rattle.wit_shape.specs.declared.shown.Shown.TheVariants.{Nothing, One, Several}
 use Rattle.wit_data.specs.declared.types.TypeDef.{TypeDef}

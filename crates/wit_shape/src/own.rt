@@ -5,7 +5,7 @@ ghost use Rattle.wit_data.specs.Entries.{EntriesUseOwn, ItemUsesOwn};
 ghost use Rattle.wit_data.specs.Ownership.{FunctionsUseOwn, IsOwn, RefersToOwn, UsesOwn, parts};
 ghost use Rattle.wit_data.specs.Reference.{type_references};
 ghost use Rattle.wit_data.specs.Shape.{KeepsToOwn};
-ghost use Rattle.wit_shape.specs.Shown.{TellsEach};
+ghost use Rattle.wit_shape.specs.steps.Shown.{TellsEach};
 ghost use Rattle.wit_data.specs.declared.types.TypeOwner.TheVariants as owner;
 ghost use Rattle.wit_data.specs.declared.world.World.{World};
 ghost use Rattle.wit_digraph.specs.Relation.{IsAcyclic};

@@ -5,7 +5,7 @@
 ghost use Rattle.std.specs.Prelude.{◌≡◌, ◌↔◌, ◌<◌, ℕ, [], length, Contains, IfOk, IsTrue};
 ghost use Rattle.wit_data.specs.Ownership.{IsOwn, Shows};
 ghost use Rattle.wit_data.specs.Reference.{type_references};
-ghost use Rattle.wit_shape.specs.Shown.{IsOnly, IsTold, Tells, TellsEach, joined};
+ghost use Rattle.wit_shape.specs.steps.Shown.{IsOnly, IsTold, Tells, TellsEach, joined};
 ghost use Rattle.wit_digraph.specs.Relation.{IsAcyclic};
 ghost use Rattle.wit_digraph.specs.Walks.{UsesFirst};
 

@@ -3,8 +3,8 @@ use Rattle.std.proofs.Common.{◌≡◌, ℕ, ◌<◌, ◌∷◌, [], inr, Some,
 use Rattle.std.specs.List.{IsDistinct}
 use Rattle.std.specs.Prelude.{List, codes}
 use Rattle.wit_digraph.specs.Relation.{IsAcyclic}
-use Rattle.wit_digraph.specs.EarlierFacts.{IsAcyclic-earlier}
-use Rattle.wit_data.specs.EachFacts.{EachAt-nil, EachAt-one, EachAt-three, EachAt-two}
+use Rattle.wit_digraph.specs.facts.EarlierFacts.{IsAcyclic-earlier}
+use Rattle.wit_data.specs.facts.EachFacts.{EachAt-nil, EachAt-one, EachAt-three, EachAt-two}
 use Rattle.wit_data.specs.Ownership.{IsOwn}
 use Rattle.wit_data.specs.Shape.{HasForeign, HasNames, HasOwners, HasReferences, HasUnknown, HasWorlds, IsShaped, IsUnplaced, KeepsToOwn, KeysDiffer}
 use Rattle.wit_data.specs.UsePath.{is_kebab_name}
@@ -14,7 +14,7 @@ use Rattle.wit_data.specs.declared.types.TypeOwner.TheVariants as owner
 use Rattle.wit_data.specs.declared.types.Type_.TheVariants as type
 use Rattle.wit_data.specs.declared.unresolved.AstItem.TheVariants as ast
 use Rattle.wit_shape.proofs.Telling.{tells_named}
-use Rattle.wit_values.specs.Lists.{HasDistinctKeys-nil, HasDistinctKeys-one, HasDistinctKeys-two, differ}
+use Rattle.wit_values.specs.facts.Lists.{HasDistinctKeys-nil, HasDistinctKeys-one, HasDistinctKeys-two, differ}
 use Rattle.wit_shape_examples.specs.Shape.{entry_of, function_of, named, shaped_package}
 
 keys : KeysDiffer shaped_package

@@ -3,7 +3,7 @@ use Rattle.std.proofs.Common.{length}
 use Rattle.wit_data.specs.Each.{Each}
 use Rattle.wit_data.specs.declared.world.World.{World}
 use Rattle.wit_elaboration.specs.Sound.{HasSoundEntries}
-use Rattle.wit_elaboration.specs.SoundFacts.{HasSoundEntries-of_world}
+use Rattle.wit_elaboration.specs.facts.SoundFacts.{HasSoundEntries-of_world}
 use Rattle.wit_elaboration.specs.Valid.{IsValid}
 use Rattle.wit_graph_data.specs.declared.graph.Graph.{Graph}
 

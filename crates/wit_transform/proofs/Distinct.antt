@@ -2,9 +2,9 @@
 use Rattle.std.proofs.Common.{◌≡◌, ◌∙◌, inl, inr, zero, suc, List, [], ◌∷◌, ◌++◌, refl, sym, ap, subst, arith, Contains}
 use Rattle.std.specs.Map.{keys_of}
 use Rattle.std.proofs.lemmas.List.Elements.{Contains-append_cases}
-use Rattle.wit_digraph.specs.MemberFacts.{Contains-cons_cases, Contains-here, Contains-nil, Contains-there}
+use Rattle.wit_digraph.specs.facts.MemberFacts.{Contains-cons_cases, Contains-here, Contains-nil, Contains-there}
 use Rattle.wit_values.specs.Table.{HasDistinctKeys}
-use Rattle.wit_graph_theory.specs.ListFacts.{contained_at, place_of, same_at}
+use Rattle.wit_graph_theory.specs.facts.ListFacts.{contained_at, place_of, same_at}
 
 module _ {K V : Type 0} where
   -- the key of an entry is there, and a key that is there is that of an entry

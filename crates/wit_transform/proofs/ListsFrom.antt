@@ -6,14 +6,14 @@ use Rattle.wit_data.specs.declared.world.World.{World}
 use Rattle.wit_data.specs.declared.world.WorldItem.{WorldItem}
 use Rattle.wit_data.specs.declared.world.WorldItem.TheVariants as item
 use Rattle.wit_data.specs.declared.world.WorldKey.TheVariants as key
-use Rattle.wit_digraph.specs.MemberFacts.{Contains-cons_cases, Contains-here, Contains-nil, Contains-there}
+use Rattle.wit_digraph.specs.facts.MemberFacts.{Contains-cons_cases, Contains-here, Contains-nil, Contains-there}
 use Rattle.wit_elaboration.proofs.Filters.{Contains-filter, Contains-filtered}
 use Rattle.wit_elaboration.specs.Entries.{Entry}
-use Rattle.wit_values.specs.Lists.{HasDistinctKeys-nil}
+use Rattle.wit_values.specs.facts.Lists.{HasDistinctKeys-nil}
 use Rattle.wit_values.specs.Table.{HasDistinctKeys}
-use Rattle.wit_graph_theory.specs.Covered.{IsNoType}
-use Rattle.wit_graph_theory.specs.CutIsGood.{distinct_kept}
-use Rattle.wit_graph_theory.specs.ListFacts.{contained_at, place_of}
+use Rattle.wit_graph_theory.specs.facts.Covered.{IsNoType}
+use Rattle.wit_graph_theory.specs.facts.CutIsGood.{distinct_kept}
+use Rattle.wit_graph_theory.specs.facts.ListFacts.{contained_at, place_of}
 use Rattle.wit_transform.proofs.Distinct.{head_apart, joined_distinct, key_of_entry, more_distinct, tail_distinct}
 use Rattle.wit_transform.specs.TurnCause.{HasClash, HasTypeAt}
 use Rattle.wit_transform.specs.Turned.{AreUnderLabels, Turn, answered, exportized, importized, is_type, type_entries}

@@ -11,18 +11,18 @@ use Rattle.std.proofs.lemmas.List.{append-nil}
 use Rattle.std.proofs.lemmas.List.Elements.{Contains-append_cases, filter-append}
 use Rattle.std.proofs.lemmas.Map.Views.{Contains-from_lookup, Contains-keys_from_lookup, lookup-from_Contains}
 use Rattle.std.proofs.lemmas.Slice.Eq.{bytes_eq-Decides}
-use Rattle.wit_values.specs.Lists.{HasDistinctKeys-from_test, take-next_at}
-use Rattle.wit_data.specs.WorldKeyFacts.{key_is, key_laws}
+use Rattle.wit_values.specs.facts.Lists.{HasDistinctKeys-from_test, take-next_at}
+use Rattle.wit_data.specs.facts.WorldKeyFacts.{key_is, key_laws}
 use Rattle.wit_data.specs.contracts.world.WorldKeyPartialEq.TheImpl.{eq-value}
 use Rattle.wit_data.specs.declared.world.WorldItem.{WorldItem}
 use Rattle.wit_data.specs.declared.world.WorldItem.TheVariants as item
 use Rattle.wit_data.specs.declared.world.WorldKey.{WorldKey}
 use Rattle.wit_data.specs.declared.world.WorldKey.TheVariants as key
-use Rattle.wit_digraph.specs.MemberFacts.{Contains-cons_cases, Contains-nil}
+use Rattle.wit_digraph.specs.facts.MemberFacts.{Contains-cons_cases, Contains-nil}
 use Rattle.wit_elaboration.proofs.Filters.{Contains-filter}
 use Rattle.wit_elaboration.specs.Entries.{Entry}
 use Rattle.wit_values.specs.Table.{HasDistinctKeys}
-use Rattle.wit_graph_theory.specs.ListFacts.{contained_at}
+use Rattle.wit_graph_theory.specs.facts.ListFacts.{contained_at}
 use Rattle.wit_transform.proofs.Distinct.{entry_of_key, key_of_entry}
 use Rattle.wit_transform.proofs.ListsFrom.{answered_in, type_item}
 use Rattle.wit_transform.specs.TurnCause.{HasTypeAt}

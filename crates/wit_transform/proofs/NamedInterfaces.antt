@@ -1,7 +1,7 @@
 -- What a turned world names, the old one named: so packages depend on no more than they did.
 use Rattle.std.proofs.Common.{◌≡◌, ◌∙◌, inl, inr, ℕ, ◌<◌, List, [], ◌∷◌, ◌++◌, Some, get_or, length, slice_get, sym, ap, subst, Contains}
 use Rattle.std.proofs.lemmas.List.Elements.{All-contains, Contains-append_cases, Contains-get_or}
-use Rattle.wit_digraph.specs.MemberFacts.{Contains-flat_map_cases, Contains-here}
+use Rattle.wit_digraph.specs.facts.MemberFacts.{Contains-flat_map_cases, Contains-here}
 use Rattle.wit_digraph.specs.Relation.{IsAcyclic, IsPath, direct}
 use Rattle.wit_data.specs.Entries.{HasExports, HasImports, IsExport}
 use Rattle.wit_data.specs.Uses.{uses_of}
@@ -16,11 +16,11 @@ use Rattle.wit_elaboration.specs.Imported.{HasConflict, IsImported, Needed, root
 use Rattle.wit_graph_data.specs.Relations.{entry_interface, entry_interfaces, world_interfaces}
 use Rattle.wit_elaboration.specs.Valid.{IsValid}
 use Rattle.wit_graph_data.specs.declared.graph.Graph.{Graph}
-use Rattle.wit_graph_theory.specs.DependencyFacts.{filter_map_from}
-use Rattle.wit_graph_theory.specs.EntryFacts.{export_named, export_uses, import_interface, import_named, import_uses as canonical_import_uses, instance_interface, key_entry, key_named, root_interface, settled_interface}
-use Rattle.wit_graph_theory.specs.ListFacts.{place_of}
-use Rattle.wit_graph_theory.specs.PackageCycles.{ListsKey}
-use Rattle.wit_graph_theory.specs.LawsOfElaboration.{LawsOfElaboration}
+use Rattle.wit_graph_theory.specs.facts.DependencyFacts.{filter_map_from}
+use Rattle.wit_graph_theory.specs.facts.EntryFacts.{export_named, export_uses, import_interface, import_named, import_uses as canonical_import_uses, instance_interface, key_entry, key_named, root_interface, settled_interface}
+use Rattle.wit_graph_theory.specs.facts.ListFacts.{place_of}
+use Rattle.wit_graph_theory.specs.laws.PackageCycles.{ListsKey}
+use Rattle.wit_graph_theory.specs.facts.LawsOfElaboration.{LawsOfElaboration}
 use Rattle.wit_transform.proofs.ListsFrom.{ComesFrom}
 use Rattle.wit_transform.proofs.TurnedWorlds.{done, in_order, is_elaborated, listed, old_entry}
 use Rattle.wit_transform.specs.Turned.{Turn}

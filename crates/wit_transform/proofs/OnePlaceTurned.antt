@@ -12,11 +12,11 @@ use Rattle.wit_elaboration.specs.Imported.{HasConflict}
 use Rattle.wit_values.specs.Table.{HasDistinctKeys}
 use Rattle.wit_elaboration.specs.Valid.{IsValid}
 use Rattle.wit_graph_data.specs.declared.graph.Graph.{Graph}
-use Rattle.wit_graph_theory.specs.GoodWorlds.{same_one}
-use Rattle.wit_graph_theory.specs.ListFacts.{contained_at, place_of, same_at}
-use Rattle.wit_graph_theory.specs.OnePlace.{HasOnePlace, Holds, entries_of}
-use Rattle.wit_graph_theory.specs.OnePlaceCarried.{named_not}
-use Rattle.wit_graph_theory.specs.LawsOfElaboration.{LawsOfElaboration}
+use Rattle.wit_graph_theory.specs.facts.GoodWorlds.{same_one}
+use Rattle.wit_graph_theory.specs.facts.ListFacts.{contained_at, place_of, same_at}
+use Rattle.wit_graph_theory.specs.steps.OnePlace.{HasOnePlace, Holds, entries_of}
+use Rattle.wit_graph_theory.specs.facts.OnePlaceCarried.{named_not}
+use Rattle.wit_graph_theory.specs.facts.LawsOfElaboration.{LawsOfElaboration}
 use Rattle.wit_transform.proofs.ListsFrom.{ComesFrom}
 use Rattle.wit_transform.proofs.TurnedWorlds.{done, done_is_good, export_from, import_from}
 use Rattle.wit_transform.specs.Turned.{Turn}

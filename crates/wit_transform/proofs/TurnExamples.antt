@@ -1,7 +1,7 @@
 -- The worked turns.
 use Rattle.std.proofs.Common.{◌≡◌, ◌∙◌, ◌⊎◌, inl, inr, ℕ, false, List, [], ◌∷◌, None, Some, codes, eqb, slice_get, refl, sym, ap, subst, arith, Contains}
 use Rattle.std.proofs.lemmas.Bool.{eqb-false}
-use Rattle.wit_digraph.specs.MemberFacts.{Contains-cons_cases, Contains-here, Contains-nil, Contains-there}
+use Rattle.wit_digraph.specs.facts.MemberFacts.{Contains-cons_cases, Contains-here, Contains-nil, Contains-there}
 use Rattle.wit_digraph.specs.Relation.{direct}
 use Rattle.wit_digraph.specs.Walks.{walk, walk_within}
 use Rattle.wit_data.specs.declared.world.World.{World}
@@ -15,9 +15,9 @@ use Rattle.wit_elaboration.specs.Elaborated.{import_steps, import_steps_within}
 use Rattle.wit_elaboration.specs.Elaboration.{graph_uses}
 use Rattle.wit_elaboration.specs.Entries.{Entry}
 use Rattle.wit_elaboration.specs.Imported.{HasConflict, IsInConflict, exported_keys}
-use Rattle.wit_graph_data.specs.Samples.{entry_of, foo_bar_of, world_of}
+use Rattle.wit_graph_data.specs.examples.Samples.{entry_of, foo_bar_of, world_of}
 use Rattle.wit_transform.specs.TurnCause.{ExportizeCause, HasTypeAt, ImportizeCause, IsTaken, IsTakenIn, export_conflict, exportized_taken, importized_taken, label_clash, type_exported}
-use Rattle.wit_transform.specs.TurnExamples.{ExamplesOfRefusedTurns, ExamplesOfTurns, a, b, chain, clashing, first_and_last, function_t, two, type_t}
+use Rattle.wit_transform.specs.examples.TurnExamples.{ExamplesOfRefusedTurns, ExamplesOfTurns, a, b, chain, clashing, first_and_last, function_t, two, type_t}
 use Rattle.wit_transform.specs.Turned.{exportized, importized}
 
 first_table : List Package → List (List ℕ × ℕ)

@@ -5,7 +5,7 @@ use Rattle.std.specs.Map.{keys_of}
 use Rattle.std.specs.Option.{option_map_or}
 use Rattle.std.specs.Prelude.{◌↔◌}
 use Rattle.std.proofs.lemmas.Option.{slice_get_within}
-use Rattle.wit_values.specs.Lists.{slice_get-set}
+use Rattle.wit_values.specs.facts.Lists.{slice_get-set}
 use Rattle.wit_data.specs.Each.{Each}
 use Rattle.wit_data.specs.Entries.{IsExport}
 use Rattle.wit_data.specs.declared.world.World.{World}
@@ -13,27 +13,27 @@ use Rattle.wit_data.specs.declared.world.WorldItem.{WorldItem}
 use Rattle.wit_data.specs.declared.world.WorldItem.TheVariants as item
 use Rattle.wit_data.specs.declared.world.WorldKey.{WorldKey}
 use Rattle.wit_data.specs.declared.world.WorldKey.TheVariants as key
-use Rattle.wit_digraph.specs.MemberFacts.{Contains-flat_map, Contains-flat_map_cases, Contains-here, Contains-nil}
+use Rattle.wit_digraph.specs.facts.MemberFacts.{Contains-flat_map, Contains-flat_map_cases, Contains-here, Contains-nil}
 use Rattle.wit_digraph.specs.Relation.{IsPath, direct}
 use Rattle.wit_elaboration.proofs.Classes.{by_class_in, in_by_class}
 use Rattle.wit_elaboration.proofs.Filters.{Contains-filter, Contains-filtered}
 use Rattle.wit_elaboration.specs.Elaboration.{graph_uses}
 use Rattle.wit_elaboration.specs.Entries.{Entry, by_class, key_interface, keyed_interfaces, item_interface, role_of}
 use Rattle.wit_elaboration.specs.Imported.{exported_interfaces, roots_of}
-use Rattle.wit_elaboration.specs.KeptByElaboration.{IsSettled, is_label, labelled, settled}
+use Rattle.wit_elaboration.specs.laws.KeptByElaboration.{IsSettled, is_label, labelled, settled}
 use Rattle.wit_elaboration.specs.Valid.{IsValid}
 use Rattle.wit_graph_data.specs.declared.error_kind.ResolveErrorKind.{ResolveErrorKind}
 use Rattle.wit_graph_data.specs.declared.graph.Graph.{Graph}
-use Rattle.wit_graph_theory.specs.EntryFacts.{instance_interface, key_entry, one_of, root_interface}
-use Rattle.wit_graph_theory.specs.ListFacts.{Contains-map, Contains-map_cases, contained_at, get_at, place_of, same_at}
-use Rattle.wit_graph_theory.specs.LawsOfElaboration.{LawsOfElaboration}
+use Rattle.wit_graph_theory.specs.facts.EntryFacts.{instance_interface, key_entry, one_of, root_interface}
+use Rattle.wit_graph_theory.specs.facts.ListFacts.{Contains-map, Contains-map_cases, contained_at, get_at, place_of, same_at}
+use Rattle.wit_graph_theory.specs.facts.LawsOfElaboration.{LawsOfElaboration}
 use Rattle.wit_transform.proofs.Accepted.{IsAcceptedTurn, exportized_accepted, importized_accepted, importized_valid}
 use Rattle.wit_transform.proofs.Distinct.{entry_of_key, key_of_entry}
 use Rattle.wit_transform.proofs.ListsFrom.{answered_from, answered_into}
 use Rattle.wit_transform.proofs.NamedInterfaces.{import_uses}
 use Rattle.wit_transform.proofs.TurnedWorlds.{in_order, is_elaborated, listed}
 use Rattle.wit_transform.specs.TurnCause.{IsExportizeCause, imports_at}
-use Rattle.wit_transform.specs.TurnLaws.{AreFormerExports, ExportizedImportsNothing, ImportizedExportsNothing, IsBehind, TurnedTwice}
+use Rattle.wit_transform.specs.laws.TurnLaws.{AreFormerExports, ExportizedImportsNothing, ImportizedExportsNothing, IsBehind, TurnedTwice}
 use Rattle.wit_transform.specs.Turned.{Turn, answered, exportized, importized, turned, turned_at, turned_world, type_entries}
 
 inside : {X : Type 0} (x y : X) → Some x ≡ Some y → x ≡ y

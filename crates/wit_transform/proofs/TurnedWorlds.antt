@@ -9,26 +9,26 @@ use Rattle.wit_data.specs.declared.world.WorldItem.{WorldItem}
 use Rattle.wit_data.specs.declared.world.WorldItem.TheVariants as item
 use Rattle.wit_data.specs.declared.world.WorldKey.{WorldKey}
 use Rattle.wit_data.specs.declared.world.WorldKey.TheVariants as key
-use Rattle.wit_digraph.specs.MemberFacts.{Contains-flat_map, Contains-flat_map_cases, Contains-nil}
+use Rattle.wit_digraph.specs.facts.MemberFacts.{Contains-flat_map, Contains-flat_map_cases, Contains-nil}
 use Rattle.wit_elaboration.proofs.Classes.{in_by_class}
 use Rattle.wit_elaboration.proofs.Filters.{Contains-filter, Contains-filtered}
 use Rattle.wit_elaboration.specs.Elaborated.{Elaborated, settled_item}
 use Rattle.wit_elaboration.specs.Elaboration.{graph_uses}
 use Rattle.wit_elaboration.specs.Entries.{Entry, by_class}
 use Rattle.wit_elaboration.specs.Imported.{HasConflict}
-use Rattle.wit_elaboration.specs.KeptByElaboration.{IsSettled, is_label, labelled, settled}
+use Rattle.wit_elaboration.specs.laws.KeptByElaboration.{IsSettled, is_label, labelled, settled}
 use Rattle.wit_elaboration.specs.Sound.{HasSoundEntries}
-use Rattle.wit_elaboration.specs.SoundFacts.{HasSoundEntries-of_world}
+use Rattle.wit_elaboration.specs.facts.SoundFacts.{HasSoundEntries-of_world}
 use Rattle.wit_elaboration.specs.Valid.{IsValid}
 use Rattle.wit_graph_data.specs.declared.graph.Graph.{Graph}
-use Rattle.wit_graph_theory.specs.Covered.{IsDependency}
-use Rattle.wit_graph_theory.specs.EntryFacts.{key_entry, named_export}
-use Rattle.wit_graph_theory.specs.Good.{HasGoodThings, IsGoodExport, IsGoodImport, IsGoodWorld}
-use Rattle.wit_graph_theory.specs.GoodIsValid.{good_things}
-use Rattle.wit_graph_theory.specs.GoodWorlds.{dependency_export, dependency_import, export_from_import, import_from_export, settled_is_good}
-use Rattle.wit_graph_theory.specs.ListFacts.{Contains-map, contained_at, place_of}
-use Rattle.wit_graph_theory.specs.NamedUses.{IsUsed_named}
-use Rattle.wit_graph_theory.specs.LawsOfElaboration.{LawsOfElaboration}
+use Rattle.wit_graph_theory.specs.facts.Covered.{IsDependency}
+use Rattle.wit_graph_theory.specs.facts.EntryFacts.{key_entry, named_export}
+use Rattle.wit_graph_theory.specs.facts.Good.{HasGoodThings, IsGoodExport, IsGoodImport, IsGoodWorld}
+use Rattle.wit_graph_theory.specs.facts.GoodIsValid.{good_things}
+use Rattle.wit_graph_theory.specs.facts.GoodWorlds.{dependency_export, dependency_import, export_from_import, import_from_export, settled_is_good}
+use Rattle.wit_graph_theory.specs.facts.ListFacts.{Contains-map, contained_at, place_of}
+use Rattle.wit_graph_theory.specs.facts.NamedUses.{IsUsed_named}
+use Rattle.wit_graph_theory.specs.facts.LawsOfElaboration.{LawsOfElaboration}
 use Rattle.wit_transform.proofs.ListsFrom.{ComesFrom}
 use Rattle.wit_transform.specs.Turned.{Turn, is_type, listed_world, turned_world}
 

@@ -5,8 +5,8 @@ use Rattle.std.specs.Option.{option_map_or}
 use Rattle.std.specs.Prelude.{nat_eq}
 use Rattle.std.proofs.lemmas.List.{length-map, length-set}
 use Rattle.std.proofs.lemmas.List.Elements.{Contains-append_cases, Contains-append_left, Contains-append_right}
-use Rattle.wit_values.specs.Lists.{kept-cases, slice_get-set}
-use Rattle.wit_digraph.specs.MemberFacts.{Contains-cons_cases, Contains-flat_map, Contains-flat_map_cases, Contains-here, Contains-nil}
+use Rattle.wit_values.specs.facts.Lists.{kept-cases, slice_get-set}
+use Rattle.wit_digraph.specs.facts.MemberFacts.{Contains-cons_cases, Contains-flat_map, Contains-flat_map_cases, Contains-here, Contains-nil}
 use Rattle.wit_digraph.specs.Relation.{IsAcyclic, direct}
 use Rattle.wit_data.specs.Each.{SomeAt}
 use Rattle.wit_data.specs.Ownership.{IsListed, world_types}
@@ -23,15 +23,15 @@ use Rattle.wit_values.specs.Table.{HasDistinctKeys}
 use Rattle.wit_elaboration.specs.Valid.{HasPackageNames, IsValid, IsWorldInTable, IsWorldOf}
 use Rattle.wit_graph_data.specs.declared.graph.Graph.{Graph}
 use Rattle.wit_graph_data.specs.declared.graph.Package.{Package}
-use Rattle.wit_graph_theory.specs.CutIsGood.{distinct_kept}
-use Rattle.wit_graph_theory.specs.DependencyFacts.{filter_map_from, filter_map_into}
-use Rattle.wit_graph_theory.specs.Good.{HasGoodThings, IsGoodAsAWhole, IsGoodPackage, IsGoodWorld}
-use Rattle.wit_graph_theory.specs.GoodIsValid.{IsValid-from_good, good_things}
-use Rattle.wit_graph_theory.specs.ListFacts.{contained_at, found_at, from_row, in_row, place_of, same_at, some_at}
-use Rattle.wit_graph_theory.specs.OnePlaceFrom.{HasOnePlace-from_once}
-use Rattle.wit_graph_theory.specs.OnePlaceFacts.{StandOnce-from_places}
-use Rattle.wit_graph_theory.specs.PackagesAcyclic.{is_there, length-numbered, numbered_from, numbered_into, there_is}
-use Rattle.wit_graph_theory.specs.LawsOfElaboration.{LawsOfElaboration}
+use Rattle.wit_graph_theory.specs.facts.CutIsGood.{distinct_kept}
+use Rattle.wit_graph_theory.specs.facts.DependencyFacts.{filter_map_from, filter_map_into}
+use Rattle.wit_graph_theory.specs.facts.Good.{HasGoodThings, IsGoodAsAWhole, IsGoodPackage, IsGoodWorld}
+use Rattle.wit_graph_theory.specs.facts.GoodIsValid.{IsValid-from_good, good_things}
+use Rattle.wit_graph_theory.specs.facts.ListFacts.{contained_at, found_at, from_row, in_row, place_of, same_at, some_at}
+use Rattle.wit_graph_theory.specs.facts.OnePlaceFrom.{HasOnePlace-from_once}
+use Rattle.wit_graph_theory.specs.facts.OnePlaceFacts.{StandOnce-from_places}
+use Rattle.wit_graph_theory.specs.facts.PackagesAcyclic.{is_there, length-numbered, numbered_from, numbered_into, there_is}
+use Rattle.wit_graph_theory.specs.facts.LawsOfElaboration.{LawsOfElaboration}
 use Rattle.wit_transform.proofs.Distinct.{entry_of_key, joined_distinct, more_distinct}
 use Rattle.wit_transform.proofs.ListsFrom.{ComesFrom}
 use Rattle.wit_transform.proofs.Looked.{differs, is_other}

@@ -1,4 +1,4 @@
 pub mod TurnCause
-pub mod TurnExamples
-pub mod TurnLaws
 pub mod Turned
+pub mod examples
+pub mod laws

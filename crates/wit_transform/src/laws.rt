@@ -1,6 +1,6 @@
 //! Laws of turned worlds: the contract of each function is what is proved.
-ghost use Rattle.wit_transform.specs.TurnExamples.{ExamplesOfRefusedTurns, ExamplesOfTurns};
-ghost use Rattle.wit_transform.specs.TurnLaws.{ExportizedImportsNothing, ExportizedStayValid, ImportizedExportsNothing, ImportizedStayValid, TurnedTwice};
+ghost use Rattle.wit_transform.specs.examples.TurnExamples.{ExamplesOfRefusedTurns, ExamplesOfTurns};
+ghost use Rattle.wit_transform.specs.laws.TurnLaws.{ExportizedImportsNothing, ExportizedStayValid, ImportizedExportsNothing, ImportizedStayValid, TurnedTwice};
 
 use wit_graph_theory::laws::laws_of_elaboration;
 

@@ -6,7 +6,7 @@ use Rattle.std.proofs.lemmas.List.{get_or_default, get_or_past, length-map}
 use Rattle.std.proofs.lemmas.List.FromFn.{length-enumerate_from}
 use Rattle.std.proofs.lemmas.List.Elements.{All-from_get_or, Contains-append_cases, Contains-append_left, Contains-get_or, Contains-push}
 use Rattle.wit_digraph.specs.Cycles.{IsOnCycle}
-use Rattle.wit_digraph.specs.MemberFacts.{Contains-nil, Contains-here, Contains-cons_cases}
+use Rattle.wit_digraph.specs.facts.MemberFacts.{Contains-nil, Contains-here, Contains-cons_cases}
 use Rattle.wit_digraph.specs.Relation.{direct, IsInRange, IsPath}
 use Rattle.wit_data.specs.declared.types.TypeDef.{TypeDef}
 use Rattle.wit_data.specs.Reference.{referred, type_references}
@@ -17,10 +17,10 @@ use Rattle.wit_graph_data.specs.declared.error_kind.ResolveErrorKind.TheVariants
 use Rattle.wit_graph_data.specs.declared.graph.Graph.{Graph}
 use Rattle.wit_graph_data.specs.declared.graph.Package.{Package}
 use Rattle.wit_graph_theory.specs.AllElaborated.{graph_package_uses, interface_cycle_text, type_cycle_text}
-use Rattle.wit_unite_common.specs.Asked.{CyclesHaveNames, IsSomeNamed}
-use Rattle.wit_unite_common.specs.Reasons.{SettleCause, interface_cycle_22, package_cycle_6, type_cycle_23}
-use Rattle.wit_unite_common.specs.Rounds.{IsRound}
-use Rattle.wit_unite_common.specs.Told.{TellsInterface, TellsTypeOf}
+use Rattle.wit_unite_common.specs.steps.Asked.{CyclesHaveNames, IsSomeNamed}
+use Rattle.wit_unite_common.specs.facts.Reasons.{SettleCause, interface_cycle_22, package_cycle_6, type_cycle_23}
+use Rattle.wit_unite_common.specs.facts.Rounds.{IsRound}
+use Rattle.wit_unite_common.specs.facts.Told.{TellsInterface, TellsTypeOf}
 
 -- ---- on a cycle
 

@@ -5,9 +5,9 @@ use Rattle.std.proofs.lemmas.Bool.{cases_eq, cases_lt}
 use Rattle.std.proofs.lemmas.List.{get_or-set_same, get_or-set_other, get_or_default, length-set}
 use Rattle.std.proofs.lemmas.List.Elements.{All-nil, All-pop, All-push, Contains-append_cases, Contains-append_left, Contains-get_or, Contains-push}
 use Rattle.wit_digraph.specs.Cycles.{IsOnCycle}
-use Rattle.wit_digraph.specs.MemberFacts.{Contains-nil, Contains-here, Contains-cons_cases}
+use Rattle.wit_digraph.specs.facts.MemberFacts.{Contains-nil, Contains-here, Contains-cons_cases}
 use Rattle.wit_digraph.specs.Relation.{direct, IsInRange, IsPath}
-use Rattle.wit_unite_common.specs.Rounds.{IsRound}
+use Rattle.wit_unite_common.specs.facts.Rounds.{IsRound}
 use Rattle.wit_unite_common.specs.declared.round.Frame.{Frame}
 
 abbrev node_of : Frame → ℕ

@@ -11,8 +11,8 @@ use Rattle.wit_data.specs.declared.function.Function.{Function}
 use Rattle.wit_data.specs.declared.function.Param.{Param}
 use Rattle.wit_data.specs.declared.interface.Interface.{Interface}
 use Rattle.wit_graph_theory.specs.FunctionMismatch.{AreOfOneKind, FunctionMismatch, HaveFunctionMismatch, function_mismatch_text, kinds_differ, parameter_counts_differ, parameter_names_differ, parameter_types_differ, result_counts_differ, results_differ}
-use Rattle.wit_graph_theory.specs.ListFacts.{contained_at, place_of}
-use Rattle.wit_unite_common.specs.Agreeing.{AgreesIn, DisagreesIn, ParamAgrees, ParamMismatch, ParamsAgree, ResultsAgree, names_differ, types_differ}
+use Rattle.wit_graph_theory.specs.facts.ListFacts.{contained_at, place_of}
+use Rattle.wit_unite_common.specs.steps.Agreeing.{AgreesIn, DisagreesIn, ParamAgrees, ParamMismatch, ParamsAgree, ResultsAgree, names_differ, types_differ}
 
 -- what follows where there is nothing
 pub none-weaker : {X P Q : Type 0} → (P → Q) → (o : Option X) → IfNone o P → IfNone o Q

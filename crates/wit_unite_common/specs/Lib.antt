@@ -1,5 +1,2 @@
-pub mod Agreeing
-pub mod Asked
-pub mod Reasons
-pub mod Rounds
-pub mod Told
+pub mod facts
+pub mod steps

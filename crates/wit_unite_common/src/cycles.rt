@@ -7,9 +7,9 @@ ghost use Rattle.wit_graph_data.specs.declared.error_kind.ResolveErrorKind.TheVa
 ghost use Rattle.wit_graph_theory.specs.AllElaborated.{graph_package_uses, type_cycle_text};
 ghost use Rattle.wit_data.specs.Reference.{type_references};
 ghost use Rattle.wit_digraph.specs.Relation.{IsAcyclic, IsInRange};
-ghost use Rattle.wit_unite_common.specs.Asked.{CyclesHaveNames, IsSomeNamed, UsedHaveNames};
-ghost use Rattle.wit_unite_common.specs.Reasons.{SettleCause};
-ghost use Rattle.wit_unite_common.specs.Told.{TellsInterface, TellsTypeOf};
+ghost use Rattle.wit_unite_common.specs.steps.Asked.{CyclesHaveNames, IsSomeNamed, UsedHaveNames};
+ghost use Rattle.wit_unite_common.specs.facts.Reasons.{SettleCause};
+ghost use Rattle.wit_unite_common.specs.facts.Told.{TellsInterface, TellsTypeOf};
 
 use crate::round::find_round;
 use std::alloc::{AllocError, Global};

@@ -2,7 +2,7 @@
 ghost use Rattle.std.specs.Prelude.{◌≡◌, ◌↔◌, IfNone, IfOk, IfSome, IsTrue, List, ℕ, length, string_bytes};
 ghost use Rattle.wit_graph_theory.specs.FunctionMismatch.{AreOfOneKind, AreOfOneSort, FunctionMismatch, one_place};
 ghost use Rattle.wit_graph_theory.specs.Image.{function_kind_image, value_image};
-ghost use Rattle.wit_unite_common.specs.Agreeing.{ParamAgrees, ParamMismatch, ParamsAgree, ResultsAgree};
+ghost use Rattle.wit_unite_common.specs.steps.Agreeing.{ParamAgrees, ParamMismatch, ParamsAgree, ResultsAgree};
 
 use std::alloc::{AllocError, Global};
 use wit_data::{Function, FunctionKind, Param, Type_, TypeId};

@@ -3,8 +3,8 @@ ghost use Rattle.std.specs.Prelude.{◌≡◌, ◌⊎◌, IfErr, OnErr, OnOk};
 ghost use Rattle.wit_graph_data.specs.declared.error_kind.ResolveErrorKind.{ResolveErrorKind};
 ghost use Rattle.wit_graph_data.specs.declared.error_kind.ResolveErrorKind.TheVariants.{OutOfMemory};
 ghost use Rattle.wit_graph_theory.specs.AllElaborated.{all_elaborated};
-ghost use Rattle.wit_unite_common.specs.Asked.{CanSettle};
-ghost use Rattle.wit_unite_common.specs.Reasons.{SettleCause};
+ghost use Rattle.wit_unite_common.specs.steps.Asked.{CanSettle};
+ghost use Rattle.wit_unite_common.specs.facts.Reasons.{SettleCause};
 
 use crate::cycles::{check_interfaces, check_packages, check_types};
 use std::alloc::Global;

@@ -2,9 +2,9 @@
 ghost use Rattle.std.specs.Prelude.{◌↔◌, IfOk, IsTrue};
 ghost use Rattle.wit_elaboration.specs.Valid.{HasOwners, HasReferences, HasWorlds};
 ghost use Rattle.wit_data.specs.Reference.{type_references};
-ghost use Rattle.wit_shape.specs.Shown.{TellsEach};
+ghost use Rattle.wit_shape.specs.steps.Shown.{TellsEach};
 ghost use Rattle.wit_digraph.specs.Relation.{IsAcyclic};
-ghost use Rattle.wit_validity.specs.Parts.{IsOwned};
+ghost use Rattle.wit_validity.specs.facts.Parts.{IsOwned};
 
 use crate::world_homes::{export_own, import_own, include_nothing};
 use std::alloc::{AllocError, Global};

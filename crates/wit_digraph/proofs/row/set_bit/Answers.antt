@@ -1,5 +1,5 @@
 use Rattle.std.proofs.Common.{arith}
-use Rattle.wit_digraph.specs.BitFacts.{bit_of-set_same, bit_of-set_other}
+use Rattle.wit_digraph.specs.facts.BitFacts.{bit_of-set_same, bit_of-set_other}
 use Rattle.wit_digraph.proofs.row.set_bit.Goals as goal
 
 pub returns-clause-set : goal.returns-clause-set

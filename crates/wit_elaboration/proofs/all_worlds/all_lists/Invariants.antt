@@ -1,7 +1,7 @@
 use Rattle.std.proofs.Common.{◌≡◌, take}
 use Rattle.wit_elaboration.specs.Elaboration.{graph_uses}
 use Rattle.wit_elaboration.specs.Imported.{HasConflict}
-use Rattle.wit_data.specs.EachFacts.{EachBelow}
+use Rattle.wit_data.specs.facts.EachFacts.{EachBelow}
 use Rattle.wit_data.specs.declared.world.World.{World}
 use Rattle.wit_elaboration.specs.AllWorlds.{AreListsOf}
 use Rattle.wit_elaboration.proofs.all_worlds.all_lists.Given as goal

@@ -4,7 +4,7 @@ use Rattle.std.proofs.lemmas.List.Elements.{Contains-get_or, All-contains}
 use Rattle.wit_digraph.specs.Relation.{direct}
 use Rattle.wit_elaboration.proofs.Closing.{IsClosing, IsClosing-told, IsClosing-more, IsClosing-end}
 use Rattle.wit_elaboration.proofs.Counting.{counted, counted-none, counted-more, counted-all}
-use Rattle.wit_digraph.specs.MemberFacts.{not_before}
+use Rattle.wit_digraph.specs.facts.MemberFacts.{not_before}
 use Rattle.wit_elaboration.proofs.closure_rows.add_rows.Goals as goal
 
 pub loop-index-init : goal.loop-index-init

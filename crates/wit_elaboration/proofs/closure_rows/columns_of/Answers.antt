@@ -1,8 +1,8 @@
 use Rattle.std.proofs.Common.{rules, ◌≡◌, ◌≢◌, ℕ, List, length, get_or, drop, replicate, ap, subst, ◌∙◌, arith}
 use Rattle.std.proofs.lemmas.List.{take_at, take_all}
-use Rattle.wit_digraph.specs.Rows.{HasBit, bit_of}
-use Rattle.wit_elaboration.specs.Closures.{HasColumnsOf, column}
-use Rattle.wit_digraph.specs.BitFacts.{no_bits}
+use Rattle.wit_digraph.specs.steps.Rows.{HasBit, bit_of}
+use Rattle.wit_elaboration.specs.steps.Closures.{HasColumnsOf, column}
+use Rattle.wit_digraph.specs.facts.BitFacts.{no_bits}
 use Rattle.wit_elaboration.proofs.ColumnFacts.{no_columns, columns_more}
 use Rattle.wit_elaboration.proofs.closure_rows.columns_of.Goals as goal
 

@@ -1,5 +1,5 @@
 use Rattle.std.proofs.Common.{◌≡◌, length, take}
-use Rattle.wit_elaboration.specs.Closures.{HasColumnsOf}
+use Rattle.wit_elaboration.specs.steps.Closures.{HasColumnsOf}
 use Rattle.wit_elaboration.proofs.closure_rows.columns_of.Given as goal
 
 abbrev pub invariant-loop-index : goal.invariant-loop-index

@@ -2,7 +2,7 @@ use Rattle.std.proofs.Common.{◌≡◌, ◌∙◌, bit_or, sym, ap, subst, arit
 use Rattle.std.specs.Prelude.{EachIndex, slice_index}
 use Rattle.std.proofs.lemmas.List.{take_at, take_more, take_all}
 use Rattle.wit_digraph.specs.Relation.{direct}
-use Rattle.wit_elaboration.specs.Closures.{RowTells}
+use Rattle.wit_elaboration.specs.steps.Closures.{RowTells}
 use Rattle.wit_elaboration.proofs.ReachedColumns.{HasReached-more, HasReached-end}
 use Rattle.wit_elaboration.proofs.closure_rows.row_of.Goals as goal
 

@@ -1,7 +1,7 @@
 use Rattle.std.proofs.Common.{ap, not}
 use Rattle.std.proofs.lemmas.Map.Iter.{rest_all, rest_more}
 use Rattle.std.specs.Map.Iter.{deref_pair}
-use Rattle.wit_data.specs.YieldedFacts.{left_fails, left_more, left_none}
+use Rattle.wit_data.specs.facts.YieldedFacts.{left_fails, left_more, left_none}
 use Rattle.wit_elaboration.proofs.CompleteWorlds.{holds_none}
 use Rattle.wit_elaboration.proofs.complete.exports_no_interface.Goals as goal
 

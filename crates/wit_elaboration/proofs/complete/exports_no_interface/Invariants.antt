@@ -1,4 +1,4 @@
-use Rattle.wit_data.specs.YieldedFacts.{LeftDecide}
+use Rattle.wit_data.specs.facts.YieldedFacts.{LeftDecide}
 use Rattle.wit_elaboration.proofs.CompleteWorlds.{HoldsNone}
 use Rattle.wit_elaboration.proofs.complete.exports_no_interface.Given as goal
 

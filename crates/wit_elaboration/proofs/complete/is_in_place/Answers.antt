@@ -1,5 +1,5 @@
 use Rattle.std.proofs.Common.{All, Contains, subst, sym}
-use Rattle.wit_elaboration.specs.ElaborationLaws.{stands_on}
+use Rattle.wit_elaboration.specs.laws.ElaborationLaws.{stands_on}
 use Rattle.wit_elaboration.specs.Entries.{Role}
 use Rattle.wit_elaboration.proofs.complete.is_in_place.Goals as goal
 

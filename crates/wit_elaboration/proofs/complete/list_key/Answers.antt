@@ -1,5 +1,5 @@
 use Rattle.std.proofs.Common.{[]}
-use Rattle.wit_digraph.specs.MemberFacts.{Contains-here}
+use Rattle.wit_digraph.specs.facts.MemberFacts.{Contains-here}
 use Rattle.wit_elaboration.proofs.complete.list_key.Goals as goal
 
 pub push-requires-clause-new : goal.push-requires-clause-new

@@ -1,5 +1,5 @@
 use Rattle.std.proofs.Common.{◌++◌, [], List, ℕ, ap, ◌∙◌, sym}
-use Rattle.wit_digraph.specs.FreshFacts.{fresh-absent}
+use Rattle.wit_digraph.specs.facts.FreshFacts.{fresh-absent}
 use Rattle.wit_digraph.specs.Walks.{Listed}
 use Rattle.wit_elaboration.proofs.conflict.add_node.Goals as goal
 

@@ -1,5 +1,5 @@
 use Rattle.std.proofs.Common.{List, ℕ, subst}
-use Rattle.wit_elaboration.specs.Elaborating.{AreMarked, AreOutside}
+use Rattle.wit_elaboration.specs.steps.Elaborating.{AreMarked, AreOutside}
 use Rattle.wit_elaboration.proofs.ConflictIs.{marks_tell}
 use Rattle.wit_elaboration.proofs.conflict.find_conflict.Goals as goal
 

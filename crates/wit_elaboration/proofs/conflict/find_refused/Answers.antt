@@ -1,6 +1,6 @@
 use Rattle.std.proofs.Common.{List, ℕ, ap, sym, subst}
 use Rattle.wit_digraph.specs.Walks.{Listed}
-use Rattle.wit_elaboration.specs.Elaborating.{TellsExported}
+use Rattle.wit_elaboration.specs.steps.Elaborating.{TellsExported}
 use Rattle.wit_elaboration.proofs.ConflictIs.{tells_keys, conflict_from}
 use Rattle.wit_elaboration.proofs.Refusing.{always_ok}
 use Rattle.wit_elaboration.proofs.conflict.find_refused.Goals as goal

@@ -1,5 +1,5 @@
 use Rattle.std.proofs.Common.{◌≡◌, take}
-use Rattle.wit_elaboration.specs.Elaborating.{AreOutside}
+use Rattle.wit_elaboration.specs.steps.Elaborating.{AreOutside}
 use Rattle.wit_elaboration.proofs.conflict.list_outside.Given as goal
 
 abbrev pub invariant-loop-node : goal.invariant-loop-node

@@ -1,5 +1,5 @@
 use Rattle.std.proofs.Common.{◌≡◌, take}
-use Rattle.wit_elaboration.specs.Elaborating.{AreMarked}
+use Rattle.wit_elaboration.specs.steps.Elaborating.{AreMarked}
 use Rattle.wit_elaboration.proofs.conflict.mark_reaching.Given as goal
 
 abbrev pub invariant-loop-node : goal.invariant-loop-node

@@ -1,5 +1,5 @@
 use Rattle.std.proofs.Common.{◌≡◌, ◌++◌}
-use Rattle.wit_elaboration.specs.Elaborating.{IsWalk}
+use Rattle.wit_elaboration.specs.steps.Elaborating.{IsWalk}
 use Rattle.wit_digraph.specs.Walks.{first_of_each, fresh}
 use Rattle.wit_elaboration.proofs.ExportSteps.{all_needs}
 use Rattle.wit_elaboration.proofs.conflict.walk_exports.Given as goal

@@ -1,7 +1,7 @@
 use Rattle.std.proofs.Common.{◌++◌, List, ℕ, Bool, not, length, filter, ap, ◌∙◌}
 use Rattle.std.specs.List.{flat_map}
 use Rattle.std.specs.Map.{keys_of}
-use Rattle.wit_elaboration.specs.Elaborating.{walked_exports, walked_imports}
+use Rattle.wit_elaboration.specs.steps.Elaborating.{walked_exports, walked_imports}
 use Rattle.wit_elaboration.specs.Entries.{Entry, fresh_entries, is_interface}
 use Rattle.wit_elaboration.proofs.ElaboratedIs.{interfaces_below, imports_are, exports_are, listed_is}
 use Rattle.wit_elaboration.proofs.Roles.{in_order}

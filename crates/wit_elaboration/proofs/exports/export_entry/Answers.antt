@@ -2,7 +2,7 @@ use Rattle.std.proofs.Common.{◌≡◌, ◌++◌, ◌<◌, List, ℕ, All, drop
 use Rattle.std.proofs.lemmas.Result.{on_ok_weaker}
 use Rattle.wit_digraph.specs.Walks.{Listed, fresh}
 use Rattle.wit_elaboration.specs.Elaborated.{export_carries, needs}
-use Rattle.wit_elaboration.specs.Elaborating.{is_listed}
+use Rattle.wit_elaboration.specs.steps.Elaborating.{is_listed}
 use Rattle.wit_elaboration.specs.Entries.{Entry, Instance}
 use Rattle.wit_elaboration.proofs.Exporting.{imports_added, entry_exported_after, exporting_entry}
 use Rattle.wit_elaboration.proofs.Importing.{grown}

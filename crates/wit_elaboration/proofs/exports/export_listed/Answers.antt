@@ -4,7 +4,7 @@ use Rattle.std.specs.Map.{keys_of}
 use Rattle.std.specs.Map.Iter.{deref_pair}
 use Rattle.std.proofs.lemmas.List.Elements.{All-contains}
 use Rattle.std.proofs.lemmas.Map.Iter.{iter_turn, rest_more}
-use Rattle.wit_elaboration.specs.Elaborating.{is_listed, walked_exports, walked_imports}
+use Rattle.wit_elaboration.specs.steps.Elaborating.{is_listed, walked_exports, walked_imports}
 use Rattle.wit_elaboration.specs.Entries.{Entry, fresh_entries, is_interface, item_interface}
 use Rattle.wit_elaboration.specs.Imported.{exported_interfaces}
 use Rattle.wit_elaboration.proofs.ExportSteps.{given_at}

@@ -1,7 +1,7 @@
 use Rattle.std.proofs.Common.{◌≡◌, ◌++◌, filter}
 use Rattle.std.specs.List.{flat_map}
 use Rattle.std.specs.Map.{keys_of}
-use Rattle.wit_elaboration.specs.Elaborating.{IsExporting, is_listed, walked_exports, walked_imports}
+use Rattle.wit_elaboration.specs.steps.Elaborating.{IsExporting, is_listed, walked_exports, walked_imports}
 use Rattle.wit_elaboration.specs.Entries.{fresh_entries, is_interface}
 use Rattle.wit_elaboration.proofs.exports.export_listed.Given as goal
 

@@ -1,5 +1,5 @@
 use Rattle.std.proofs.Common.{◌≡◌, not, filter, take}
-use Rattle.wit_elaboration.specs.Elaborating.{is_listed}
+use Rattle.wit_elaboration.specs.steps.Elaborating.{is_listed}
 use Rattle.wit_elaboration.proofs.exports.part_by_export.Given as goal
 
 abbrev pub invariant-loop-interface : goal.invariant-loop-interface

@@ -2,7 +2,7 @@ use Rattle.std.proofs.Common.{◌≡◌, ◌++◌}
 use Rattle.std.specs.List.{flat_map}
 use Rattle.std.specs.Map.{keys_of}
 use Rattle.wit_elaboration.specs.Elaborated.{import_walk}
-use Rattle.wit_elaboration.specs.Elaborating.{IsImporting}
+use Rattle.wit_elaboration.specs.steps.Elaborating.{IsImporting}
 use Rattle.wit_elaboration.specs.Entries.{fresh_entries, of_class}
 use Rattle.wit_elaboration.proofs.imports.import_class.Given as goal
 

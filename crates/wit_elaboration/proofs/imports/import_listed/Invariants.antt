@@ -1,7 +1,7 @@
 use Rattle.std.proofs.Common.{◌≡◌, []}
 use Rattle.std.specs.List.{flat_map}
 use Rattle.wit_elaboration.specs.Elaborated.{import_walk}
-use Rattle.wit_elaboration.specs.Elaborating.{IsImporting}
+use Rattle.wit_elaboration.specs.steps.Elaborating.{IsImporting}
 use Rattle.wit_elaboration.specs.Entries.{fresh_entries}
 use Rattle.wit_elaboration.proofs.FirstClasses.{first_classes}
 use Rattle.wit_elaboration.proofs.imports.import_listed.Given as goal

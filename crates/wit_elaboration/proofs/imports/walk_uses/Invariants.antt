@@ -1,6 +1,6 @@
 use Rattle.std.proofs.Common.{◌≡◌, ◌++◌, take}
 use Rattle.std.specs.List.{flat_map}
-use Rattle.wit_elaboration.specs.Elaborating.{IsWalk}
+use Rattle.wit_elaboration.specs.steps.Elaborating.{IsWalk}
 use Rattle.wit_digraph.specs.Relation.{direct}
 use Rattle.wit_digraph.specs.Walks.{fresh, walk}
 use Rattle.wit_elaboration.proofs.imports.walk_uses.Given as goal

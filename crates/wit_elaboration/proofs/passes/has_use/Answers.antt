@@ -2,7 +2,7 @@ use Rattle.std.proofs.Common.{ℕ, List, get_or, refl, subst, sym, arith, Contai
 use Rattle.std.proofs.lemmas.Bool.{false≢true}
 use Rattle.std.proofs.lemmas.List.Elements.{Contains-get_or}
 use Rattle.wit_digraph.specs.Relation.{direct}
-use Rattle.wit_digraph.specs.Rows.{HasBit}
+use Rattle.wit_digraph.specs.steps.Rows.{HasBit}
 use Rattle.wit_elaboration.proofs.Marking.{none_more, none_all}
 use Rattle.wit_elaboration.proofs.passes.has_use.Goals as goal
 

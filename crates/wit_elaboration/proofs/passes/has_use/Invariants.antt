@@ -1,5 +1,5 @@
 use Rattle.std.proofs.Common.{ℕ, Contains, take}
-use Rattle.wit_digraph.specs.Rows.{HasBit}
+use Rattle.wit_digraph.specs.steps.Rows.{HasBit}
 use Rattle.wit_elaboration.proofs.passes.has_use.Given as goal
 
 -- none so far

@@ -1,6 +1,6 @@
 use Rattle.std.proofs.Common.{◌≡◌, ◌⊎◌, ℕ, inl, inr, ap, length, get_or, arith}
-use Rattle.wit_digraph.specs.Rows.{HasBit}
-use Rattle.wit_elaboration.specs.Closures.{HasUse}
+use Rattle.wit_digraph.specs.steps.Rows.{HasBit}
+use Rattle.wit_elaboration.specs.steps.Closures.{HasUse}
 use Rattle.wit_elaboration.proofs.PassMarks.{marked_more, marked_same}
 use Rattle.wit_elaboration.proofs.passes.mark_leading.Goals.{then-node-to, then-node-to-via-then-node-to, then-node-to-via-else-node-to+then-has_use, else-node-to+else-has_use}
 use Rattle.wit_elaboration.proofs.passes.mark_leading.Goals as goal

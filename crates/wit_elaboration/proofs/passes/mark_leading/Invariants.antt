@@ -1,5 +1,5 @@
 use Rattle.std.proofs.Common.{◌≡◌, take, length}
-use Rattle.wit_elaboration.specs.Closures.{IsMarkRow}
+use Rattle.wit_elaboration.specs.steps.Closures.{IsMarkRow}
 use Rattle.wit_elaboration.proofs.passes.mark_leading.Given as goal
 
 abbrev pub invariant-loop-index : goal.invariant-loop-index

@@ -1,6 +1,6 @@
 use Rattle.std.proofs.Common.{refl}
 use Rattle.std.specs.Fmt.{digits}
-use Rattle.wit_values.specs.Lists.{differ}
+use Rattle.wit_values.specs.facts.Lists.{differ}
 use Rattle.wit_graph_examples.proofs.Apart.{not_there, some_differ}
 use Rattle.wit_graph_examples.proofs.names.examples_of_canonical_names.Goals as goal
 

@@ -1,6 +1,6 @@
 use Rattle.std.proofs.Common.{refl}
 use Rattle.std.specs.Fmt.{digits}
-use Rattle.wit_values.specs.Lists.{differ}
+use Rattle.wit_values.specs.facts.Lists.{differ}
 use Rattle.wit_graph_examples.proofs.Apart.{not_there, some_differ, there}
 use Rattle.wit_graph_examples.proofs.names.near_misses_of_track_texts.Goals as goal
 

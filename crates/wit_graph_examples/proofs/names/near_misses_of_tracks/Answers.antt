@@ -1,5 +1,5 @@
 use Rattle.std.proofs.Common.{◌≡◌, [], codes, refl, ap, arith}
-use Rattle.wit_values.specs.Lists.{differ}
+use Rattle.wit_values.specs.facts.Lists.{differ}
 use Rattle.wit_values.specs.Version.{Parts}
 use Rattle.wit_graph_examples.proofs.names.near_misses_of_tracks.Goals as goal
 

@@ -1,6 +1,6 @@
 use Rattle.std.proofs.Common.{refl}
 use Rattle.wit_digraph.specs.Walks.{walk, walk_within}
-use Rattle.wit_values.specs.Lists.{differ}
+use Rattle.wit_values.specs.facts.Lists.{differ}
 use Rattle.wit_graph_examples.proofs.orders.examples_of_package_order.Goals as goal
 
 pub returns : goal.returns

@@ -1,4 +1,4 @@
-use Rattle.wit_graph_theory.specs.CoveredIsValid.{IsValid-of_covered}
+use Rattle.wit_graph_theory.specs.facts.CoveredIsValid.{IsValid-of_covered}
 use Rattle.wit_graph_theory.proofs.laws.covered_graphs_are_valid.Goals as goal
 
 pub returns : goal.returns

@@ -2,7 +2,7 @@ use Rattle.std.proofs.Common.{ap}
 use Rattle.std.proofs.lemmas.Map.Iter.{rest_all, rest_more}
 use Rattle.std.specs.Map.Iter.{deref_pair}
 use Rattle.std.specs.Prelude.{not}
-use Rattle.wit_data.specs.YieldedFacts.{left_fails, left_more, left_none}
+use Rattle.wit_data.specs.facts.YieldedFacts.{left_fails, left_more, left_none}
 use Rattle.wit_labels.proofs.UnplacedSetters.{asks_none}
 use Rattle.wit_labels.proofs.placing.has_no_setter.Goals as goal
 

@@ -1,5 +1,5 @@
 use Rattle.wit_data.specs.Entries.{Entry}
-use Rattle.wit_data.specs.YieldedFacts.{LeftDecide}
+use Rattle.wit_data.specs.facts.YieldedFacts.{LeftDecide}
 use Rattle.wit_labels.proofs.UnplacedSetters.{AsksNone}
 use Rattle.wit_labels.proofs.placing.has_no_setter.Given as goal
 

@@ -1,21 +1,21 @@
 use Rattle.std.proofs.Common.{rules, arith, ◌≡◌, ◌∙◌, ◌⊎◌, ◌++◌, ◌∷◌, [], ℕ, List, length, take, ap, subst, sym}
 use Rattle.std.proofs.lemmas.List.{append_assoc, append-nil}
 use Rattle.std.specs.Vec.Iter.{into_iter_items}
-use Rattle.wit_data.specs.EachFacts.{nil_from_length}
+use Rattle.wit_data.specs.facts.EachFacts.{nil_from_length}
 use Rattle.wit_data.specs.Uses.{uses_of}
 use Rattle.wit_data.specs.declared.interface.Interface.{Interface}
 use Rattle.wit_data.specs.declared.types.TypeDef.{TypeDef}
-use Rattle.wit_graph_data.specs.AnswerFacts.{told_err}
+use Rattle.wit_graph_data.specs.facts.AnswerFacts.{told_err}
 use Rattle.wit_elaboration.specs.Valid.{IsValid}
 use Rattle.wit_graph_data.specs.declared.error_kind.ResolveErrorKind.{ResolveErrorKind}
 use Rattle.wit_graph_data.specs.declared.error_kind.ResolveErrorKind.TheVariants.{OutOfMemory}
 use Rattle.wit_link_spec.specs.Cause.{IsCause}
-use Rattle.wit_link_include.specs.Included as local
-use Rattle.wit_link_include.specs.RowsFacts.{rows_of_valid}
-use Rattle.wit_remap.specs.GrownFacts.{Begins-same, Begins-then, Grown-then}
+use Rattle.wit_link_include.specs.steps.Included as local
+use Rattle.wit_link_include.specs.facts.RowsFacts.{rows_of_valid}
+use Rattle.wit_remap.specs.facts.GrownFacts.{Begins-same, Begins-then, Grown-then}
 use Rattle.wit_remap.specs.declared.worlds.PlacedWorld.{PlacedWorld}
 use Rattle.wit_link.specs.Appending.{IsAdded, addition}
-use Rattle.wit_link.specs.Including.{ready_worlds}
+use Rattle.wit_link.specs.steps.Including.{ready_worlds}
 use Rattle.wit_link.proofs.Added.{checked_image, is_added}
 use Rattle.wit_link.proofs.WorldStages.{adding-next, adding-none, all_pushed, all_reached, each_fine, is_ready, refused_here}
 use Rattle.wit_link.proofs.adding.add_checked.Goals as goal

@@ -3,7 +3,7 @@ use Rattle.std.specs.Vec.Iter.{into_iter_items}
 use Rattle.wit_elaboration.specs.Elaboration.{graph_uses}
 use Rattle.wit_remap.specs.Grown.{Begins, Grown}
 use Rattle.wit_link.specs.Appending.{addition}
-use Rattle.wit_link.specs.Including.{ready_worlds}
+use Rattle.wit_link.specs.steps.Including.{ready_worlds}
 use Rattle.wit_link.proofs.WorldStages.{IsAdding}
 use Rattle.wit_link.proofs.adding.add_checked.Given as goal
 

@@ -1,9 +1,9 @@
 use Rattle.std.proofs.Common.{◌≡◌, ◌∙◌, IfOk, List, Ok, Err, Result, ap, map}
-use Rattle.wit_link_spec.specs.Adding.{places_of}
+use Rattle.wit_link_spec.specs.steps.Adding.{places_of}
 use Rattle.wit_link_spec.specs.declared.adding.Places.{Places}
 use Rattle.wit_remap.specs.declared.worlds.PlacedWorld.{PlacedWorld}
 use Rattle.wit_link.specs.Appending.{addition}
-use Rattle.wit_link.specs.Including.{world_with}
+use Rattle.wit_link.specs.steps.Including.{world_with}
 use Rattle.wit_link.proofs.Added.{worlds_ready}
 use Rattle.wit_link.proofs.adding.add_placed.Goals as goal
 

@@ -6,9 +6,9 @@ use Rattle.wit_link_spec.specs.Addition.{Addition}
 use Rattle.wit_graph_data.specs.declared.graph.Graph.{Graph}
 use Rattle.wit_elaboration.specs.Valid.{IsValid}
 use Rattle.wit_remap.specs.Grown.{Grown}
-use Rattle.wit_remap.specs.GrownFacts.{Begins-as, Begins-same, Grown-same}
+use Rattle.wit_remap.specs.facts.GrownFacts.{Begins-as, Begins-same, Grown-same}
 use Rattle.wit_link.specs.Appending.{IsAdded, addition}
-use Rattle.wit_link.specs.Fits.{PackageFits}
+use Rattle.wit_link.specs.steps.Fits.{PackageFits}
 use Rattle.wit_link.proofs.Added.{is_new, taken, too_far}
 use Rattle.wit_link.proofs.adding.append_with.Goals as goal
 

@@ -1,10 +1,10 @@
 use Rattle.std.proofs.Common.{rules, ◌≡◌, ◌∙◌, ◌⊎◌, ◌++◌, ◌∷◌, [], ℕ, List, subst, sym}
 use Rattle.std.proofs.lemmas.List.{append_assoc}
 use Rattle.std.specs.Vec.Iter.{into_iter_items}
-use Rattle.wit_graph_data.specs.AnswerFacts.{told_err}
+use Rattle.wit_graph_data.specs.facts.AnswerFacts.{told_err}
 use Rattle.wit_graph_data.specs.declared.error_kind.ResolveErrorKind.{ResolveErrorKind}
 use Rattle.wit_graph_data.specs.declared.error_kind.ResolveErrorKind.TheVariants.{OutOfMemory}
-use Rattle.wit_remap.specs.GrownFacts.{Begins-then, Grown-then}
+use Rattle.wit_remap.specs.facts.GrownFacts.{Begins-then, Grown-then}
 use Rattle.wit_link.specs.Several.{ArePushed, IsOneRefused}
 use Rattle.wit_link.proofs.OneAfterAnother.{pushed_more, refused_here}
 use Rattle.wit_link.proofs.several.append_each.Goals as goal

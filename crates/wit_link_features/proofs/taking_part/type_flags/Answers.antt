@@ -2,7 +2,7 @@ use Rattle.std.proofs.Common.{◌∙◌, ap, sym, Option, false}
 use Rattle.std.specs.Option.{option_map_or}
 use Rattle.wit_data.specs.declared.types.TypeDef.{TypeDef}
 use Rattle.wit_link_spec.specs.Gates.{is_active, type_is_active}
-use Rattle.wit_link_spec.specs.RangeFacts.{range-pushed}
+use Rattle.wit_link_spec.specs.facts.RangeFacts.{range-pushed}
 use Rattle.wit_link_features.proofs.taking_part.type_flags.Goals as goal
 
 pub loop-index-preserved : goal.loop-index-preserved

@@ -1,7 +1,7 @@
 use Rattle.std.proofs.Common.{◌∙◌, None, Option, ℕ, ap, arith, map, refl, subst}
 use Rattle.std.specs.List.{range_with_len}
-use Rattle.wit_link_spec.specs.Adding.{addition_of}
-use Rattle.wit_link_foreign.specs.Finding.{AreThere, found_among}
+use Rattle.wit_link_spec.specs.steps.Adding.{addition_of}
+use Rattle.wit_link_foreign.specs.steps.Finding.{AreThere, found_among}
 use Rattle.wit_link_foreign.proofs.NamedItems.{before-all}
 use Rattle.wit_link_foreign.proofs.Steps.{nothing-found, nothing-there}
 use Rattle.wit_link_foreign.proofs.foreign.find_foreign.Goals as goal

@@ -1,6 +1,6 @@
 use Rattle.std.proofs.Common.{◌≡◌}
-use Rattle.wit_link_spec.specs.Adding.{addition_of}
-use Rattle.wit_link_foreign.specs.Finding.{ArePackagesThere, AreThere, found_among, named_before}
+use Rattle.wit_link_spec.specs.steps.Adding.{addition_of}
+use Rattle.wit_link_foreign.specs.steps.Finding.{ArePackagesThere, AreThere, found_among, named_before}
 use Rattle.wit_link_foreign.proofs.foreign.find_foreign.Given as goal
 
 -- what the packages so far tell

@@ -1,7 +1,7 @@
 use Rattle.std.proofs.Common.{◌≡◌, ◌∙◌, ap, inr, slice_get, sym, true}
 use Rattle.std.proofs.lemmas.Bool.{false≢true}
-use Rattle.wit_link_spec.specs.Adding.{addition_of}
-use Rattle.wit_link_spec.specs.FlagFacts.{interface-flag, interface-inside}
+use Rattle.wit_link_spec.specs.steps.Adding.{addition_of}
+use Rattle.wit_link_spec.specs.facts.FlagFacts.{interface-flag, interface-inside}
 use Rattle.wit_link_spec.specs.Gates.{interface_is_active}
 use Rattle.wit_link_foreign.proofs.Causes.{interface_missing}
 use Rattle.wit_link_foreign.proofs.FoundLists.{named_interface-inside, none_from_test, some_from_test}

@@ -1,6 +1,6 @@
 use Rattle.std.proofs.Common.{◌∙◌, ap, arith, subst}
-use Rattle.wit_link_spec.specs.Adding.{addition_of}
-use Rattle.wit_link_foreign.specs.Finding.{AreThere, found_among}
+use Rattle.wit_link_spec.specs.steps.Adding.{addition_of}
+use Rattle.wit_link_foreign.specs.steps.Finding.{AreThere, found_among}
 use Rattle.wit_link_foreign.specs.declared.foreign.Found.{Found}
 use Rattle.wit_link_foreign.proofs.Causes.{is_named, packages-next}
 use Rattle.wit_link_foreign.proofs.FoundLists.{found_interface-inside, found_world-inside, named_interface-inside, named_world-inside}

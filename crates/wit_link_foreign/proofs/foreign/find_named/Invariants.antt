@@ -1,6 +1,6 @@
 use Rattle.std.proofs.Common.{◌≡◌}
-use Rattle.wit_link_spec.specs.Adding.{addition_of}
-use Rattle.wit_link_foreign.specs.Finding.{AreThere, found_among}
+use Rattle.wit_link_spec.specs.steps.Adding.{addition_of}
+use Rattle.wit_link_foreign.specs.steps.Finding.{AreThere, found_among}
 use Rattle.wit_link_foreign.proofs.NamedItems.{named_until}
 use Rattle.wit_link_foreign.proofs.foreign.find_named.Given as goal
 

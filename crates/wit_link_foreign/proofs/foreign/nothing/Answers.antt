@@ -1,5 +1,5 @@
 use Rattle.std.proofs.Common.{◌∙◌, ◌++◌, ◌∷◌, [], None, ap, sym}
-use Rattle.wit_link_spec.specs.RangeFacts.{range-next}
+use Rattle.wit_link_spec.specs.facts.RangeFacts.{range-next}
 use Rattle.wit_link_foreign.proofs.foreign.nothing.Goals as goal
 
 pub loop-index-preserved : goal.loop-index-preserved

@@ -1,10 +1,10 @@
 use Rattle.std.proofs.Common.{◌∙◌, ◌++◌, ◌∷◌, [], List, Option, ℕ, ap, arith, map, sym}
 use Rattle.std.specs.List.{range_with_len}
 use Rattle.wit_link_spec.specs.Addition.{taken_interface}
-use Rattle.wit_link_spec.specs.Adding.{addition_of}
-use Rattle.wit_link_spec.specs.FlagFacts.{interface-flag, interface-inside}
+use Rattle.wit_link_spec.specs.steps.Adding.{addition_of}
+use Rattle.wit_link_spec.specs.facts.FlagFacts.{interface-flag, interface-inside}
 use Rattle.wit_link_spec.specs.Lookup.{named_items}
-use Rattle.wit_link_spec.specs.RangeFacts.{range-next}
+use Rattle.wit_link_spec.specs.facts.RangeFacts.{range-next}
 use Rattle.wit_link_foreign.proofs.FoundLists.{found_interface-at, found_interface-inside}
 use Rattle.wit_link_foreign.proofs.Going.{interface_step}
 use Rattle.wit_link_foreign.proofs.next.interface_places.Goals as goal

@@ -1,7 +1,7 @@
 use Rattle.std.proofs.Common.{◌≡◌, ◌+◌, length, map}
 use Rattle.std.specs.List.{range_with_len}
 use Rattle.wit_link_spec.specs.Addition.{own_world, taken_world}
-use Rattle.wit_link_spec.specs.Adding.{addition_of}
+use Rattle.wit_link_spec.specs.steps.Adding.{addition_of}
 use Rattle.wit_link_spec.specs.Ranks.{rank}
 use Rattle.wit_link_foreign.proofs.next.world_places.Given as goal
 

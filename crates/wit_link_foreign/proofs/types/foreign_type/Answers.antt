@@ -1,7 +1,7 @@
 use Rattle.std.proofs.Common.{◌≡◌, ◌∙◌, ℕ, None, Some, ap, inr, sym, true}
 use Rattle.std.proofs.lemmas.Bool.{false≢true, lt-ltb}
-use Rattle.wit_link_spec.specs.Adding.{addition_of}
-use Rattle.wit_link_spec.specs.FlagFacts.{interface-flag, interface-inside}
+use Rattle.wit_link_spec.specs.steps.Adding.{addition_of}
+use Rattle.wit_link_spec.specs.facts.FlagFacts.{interface-flag, interface-inside}
 use Rattle.wit_link_spec.specs.Gates.{interface_is_active}
 use Rattle.wit_link_spec.specs.Lookup.{found_interface, listed_type, named_items}
 use Rattle.wit_link_foreign.proofs.Causes.{type_missing}

@@ -1,8 +1,8 @@
 use Rattle.std.proofs.Common.{◌≡◌, ◌∙◌, Option, ℕ, ap, arith, length, subst, sym, true}
 use Rattle.std.proofs.lemmas.Bool.{false≢true, lt-ltb, ltb-true}
 use Rattle.std.specs.Prelude.{IfOk}
-use Rattle.wit_link_spec.specs.Adding.{addition_of}
-use Rattle.wit_link_spec.specs.FlagFacts.{type-flag, type-inside}
+use Rattle.wit_link_spec.specs.steps.Adding.{addition_of}
+use Rattle.wit_link_spec.specs.facts.FlagFacts.{type-flag, type-inside}
 use Rattle.wit_link_spec.specs.Gates.{type_is_active}
 use Rattle.wit_link_spec.specs.Lookup.{is_foreign_type}
 use Rattle.wit_link_foreign.proofs.Going.{foreign_type_goes, own_type_step}

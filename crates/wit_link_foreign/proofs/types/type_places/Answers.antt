@@ -1,8 +1,8 @@
 use Rattle.std.proofs.Common.{◌∙◌, ◌++◌, ◌∷◌, [], List, Option, ℕ, ap, arith, map, sym}
 use Rattle.std.specs.List.{range_with_len}
 use Rattle.wit_link_spec.specs.Addition.{taken_type}
-use Rattle.wit_link_spec.specs.Adding.{addition_of}
-use Rattle.wit_link_spec.specs.RangeFacts.{range-next}
+use Rattle.wit_link_spec.specs.steps.Adding.{addition_of}
+use Rattle.wit_link_spec.specs.facts.RangeFacts.{range-next}
 use Rattle.wit_link_foreign.proofs.Causes.{types-next}
 use Rattle.wit_link_foreign.proofs.types.type_places.Goals as goal
 

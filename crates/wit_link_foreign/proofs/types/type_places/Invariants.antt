@@ -1,9 +1,9 @@
 use Rattle.std.proofs.Common.{◌≡◌, ◌+◌, length, map}
 use Rattle.std.specs.List.{range_with_len}
 use Rattle.wit_link_spec.specs.Addition.{own_type, taken_type}
-use Rattle.wit_link_spec.specs.Adding.{addition_of}
+use Rattle.wit_link_spec.specs.steps.Adding.{addition_of}
 use Rattle.wit_link_spec.specs.Ranks.{rank}
-use Rattle.wit_link_foreign.specs.Finding.{AreTypesThere}
+use Rattle.wit_link_foreign.specs.steps.Finding.{AreTypesThere}
 use Rattle.wit_link_foreign.proofs.types.type_places.Given as goal
 
 -- the places so far, and the next id

@@ -2,13 +2,13 @@ use Rattle.std.proofs.Common.{rules, ◌≡◌, ◌∙◌, ◌⊎◌, List, ap, 
 use Rattle.wit_data.specs.Uses.{uses_of}
 use Rattle.wit_data.specs.declared.interface.Interface.{Interface}
 use Rattle.wit_data.specs.declared.types.TypeDef.{TypeDef}
-use Rattle.wit_graph_data.specs.AnswerFacts.{told_err}
+use Rattle.wit_graph_data.specs.facts.AnswerFacts.{told_err}
 use Rattle.wit_graph_data.specs.declared.error_kind.ResolveErrorKind.{ResolveErrorKind}
 use Rattle.wit_graph_data.specs.declared.error_kind.ResolveErrorKind.TheVariants.{OutOfMemory}
 use Rattle.wit_remap.specs.Grown.{Grown}
-use Rattle.wit_remap.specs.GrownFacts.{Begins-same, Grown-then}
-use Rattle.wit_link_include.specs.Included.{IsWorldCause}
-use Rattle.wit_link_include.specs.RowsFacts.{rows_on_its_way}
+use Rattle.wit_remap.specs.facts.GrownFacts.{Begins-same, Grown-then}
+use Rattle.wit_link_include.specs.steps.Included.{IsWorldCause}
+use Rattle.wit_link_include.specs.facts.RowsFacts.{rows_on_its_way}
 use Rattle.wit_link_include.proofs.Several.{begun_acyclic, begun_listed, finished_grown, finishing_stops, include_stops, world_added, world_fine}
 use Rattle.wit_link_include.proofs.adding.add_world.Goals as goal
 

@@ -1,9 +1,9 @@
 use Rattle.std.proofs.Common.{◌≡◌, ◌⊎◌, ℕ, arith, sym, subst}
-use Rattle.wit_graph_data.specs.AnswerFacts.{told_err}
+use Rattle.wit_graph_data.specs.facts.AnswerFacts.{told_err}
 use Rattle.wit_graph_data.specs.declared.error_kind.ResolveErrorKind.{ResolveErrorKind}
 use Rattle.wit_graph_data.specs.declared.error_kind.ResolveErrorKind.TheVariants.{OutOfMemory}
-use Rattle.wit_remap.specs.GrownFacts.{Grown-then}
-use Rattle.wit_link_include.specs.Included.{StopsAtInclude}
+use Rattle.wit_remap.specs.facts.GrownFacts.{Grown-then}
+use Rattle.wit_link_include.specs.steps.Included.{StopsAtInclude}
 use Rattle.wit_link_include.proofs.Several.{all_fine, all_graph, all_world, beginning-next, beginning-none, include_can, include_own, include_there, stops_here}
 use Rattle.wit_link_include.proofs.adding.include_each.Goals as goal
 

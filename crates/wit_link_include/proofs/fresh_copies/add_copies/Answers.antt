@@ -8,8 +8,8 @@ use Rattle.wit_graph_theory.specs.Operations.{include_maps}
 use Rattle.wit_labels.specs.Rename.{renamed}
 use Rattle.wit_link_spec.specs.Include.{copy_maps, goes_with, interface_copy, is_copied, type_copy}
 use Rattle.wit_remap.specs.Grown.{Grown}
-use Rattle.wit_remap.specs.GrownFacts.{Grown-same}
-use Rattle.wit_link_include.specs.Copied.{NamesThere, goes, numbered, places, with_images}
+use Rattle.wit_remap.specs.facts.GrownFacts.{Grown-same}
+use Rattle.wit_link_include.specs.steps.Copied.{NamesThere, goes, numbered, places, with_images}
 use Rattle.wit_link_include.proofs.RisingIds.{numbered-keys}
 use Rattle.wit_link_include.proofs.Standing.{copied_there, goes_there, keys_there, some_there}
 use Rattle.wit_link_include.proofs.TakenPlaces.{goes_where, told_where}

@@ -2,7 +2,7 @@ use Rattle.std.proofs.Common.{◌∙◌, ◌++◌, List, ap}
 use Rattle.wit_data.specs.declared.interface.Interface.{Interface}
 use Rattle.wit_data.specs.declared.types.TypeDef.{TypeDef}
 use Rattle.wit_graph_data.specs.declared.graph.Graph.{Graph}
-use Rattle.wit_remap.specs.GrownFacts.{Begins-as, Begins-by, Grown-same, Grown-then, interfaces_grow, types_grow}
+use Rattle.wit_remap.specs.facts.GrownFacts.{Begins-as, Begins-by, Grown-same, Grown-then, interfaces_grow, types_grow}
 use Rattle.wit_link_include.proofs.fresh_copies.append_copies.Goals as goal
 
 pub returns-in_err-types-clause-grown : goal.returns-in_err-types-clause-grown

@@ -1,12 +1,12 @@
 use Rattle.std.proofs.Common.{◌≡◌, ◌∙◌, ◌⊎◌, slice_get, refl, ap, sym, subst, IfErr, IfOk, OnOk, Ok, Err, Result}
-use Rattle.wit_graph_data.specs.AnswerFacts.{told_err}
+use Rattle.wit_graph_data.specs.facts.AnswerFacts.{told_err}
 use Rattle.wit_graph_data.specs.declared.error_kind.ResolveErrorKind.{ResolveErrorKind}
 use Rattle.wit_graph_data.specs.declared.error_kind.ResolveErrorKind.TheVariants.{OutOfMemory}
 use Rattle.wit_data.specs.declared.world.World.{World}
 use Rattle.wit_link_spec.specs.Include.{is_other_package}
-use Rattle.wit_link_include.specs.Copied.{maps_of}
-use Rattle.wit_remap.specs.GrownFacts.{Grown-same}
-use Rattle.wit_link_include.specs.Included.{IsIncludeCause, IsIncluded, before_includes, copied_entries}
+use Rattle.wit_link_include.specs.steps.Copied.{maps_of}
+use Rattle.wit_remap.specs.facts.GrownFacts.{Grown-same}
+use Rattle.wit_link_include.specs.steps.Included.{IsIncludeCause, IsIncluded, before_includes, copied_entries}
 use Rattle.wit_link_include.proofs.IncludeSteps.{answered, names_cause, stay_apart, step_cause, step_exports_once, step_fine, step_graph, step_imports_once, step_world}
 use Rattle.wit_link_include.proofs.NamesThere.{names_there}
 use Rattle.wit_link_include.proofs.including.include.Goals as goal

@@ -2,12 +2,12 @@ use Rattle.std.proofs.Common.{rules, ◌≡◌, ◌∙◌, inr, ◌++◌, ◌∷
 use Rattle.std.proofs.lemmas.List.{append_assoc}
 use Rattle.std.specs.Map.{keys_of, lookup}
 use Rattle.std.specs.Vec.Iter.{into_iter_items}
-use Rattle.wit_graph_data.specs.AnswerFacts.{told_err}
+use Rattle.wit_graph_data.specs.facts.AnswerFacts.{told_err}
 use Rattle.wit_graph_data.specs.declared.error_kind.ResolveErrorKind.TheVariants.{ItemShadowing}
-use Rattle.wit_data.specs.WorldKeyFacts.{same_key}
+use Rattle.wit_data.specs.facts.WorldKeyFacts.{same_key}
 use Rattle.wit_data.specs.declared.world.WorldKey.{WorldKey}
 use Rattle.wit_data.specs.declared.world.WorldKey.TheVariants as key
-use Rattle.wit_link_include.specs.Joined.{IsJoinCause}
+use Rattle.wit_link_include.specs.steps.Joined.{IsJoinCause}
 use Rattle.wit_link_include.proofs.JoinSteps.{IsJoining, differ-cause, joining-new, joining-none, joining-there, not-done, shadow-cause}
 use Rattle.wit_link_include.proofs.Keys.{found_key, lacks_from}
 use Rattle.wit_link_include.proofs.joining.join.Goals as goal

@@ -1,6 +1,6 @@
 use Rattle.std.proofs.Common.{◌∙◌, ◌++◌, ◌∷◌, [], ap}
 use Rattle.indexmap.proofs.CallerLemmas.{insert_entry-new}
-use Rattle.wit_data.specs.WorldKeyFacts.{same_key}
+use Rattle.wit_data.specs.facts.WorldKeyFacts.{same_key}
 use Rattle.wit_data.specs.declared.world.WorldItem.{WorldItem}
 use Rattle.wit_link_include.proofs.joining.push_new.Goals as goal
 

@@ -1,11 +1,11 @@
 use Rattle.std.proofs.Common.{◌≡◌, ◌∙◌, ◌++◌, ◌∷◌, ◌<◌, [], ℕ, Bool, false, List, Option, None, Some, Contains, map, nat_eq, unwrap_or, refl, sym, ap, subst, inl, inr, arith, if◌then◌else◌}
 use Rattle.std.specs.List.{flat_map}
 use Rattle.std.specs.Map.{keys_of, lookup}
-use Rattle.wit_digraph.specs.FreshFacts.{any_from_contains, no_any_from}
+use Rattle.wit_digraph.specs.facts.FreshFacts.{any_from_contains, no_any_from}
 use Rattle.wit_digraph.specs.Relation.{IsAcyclic, direct}
 use Rattle.wit_digraph.specs.Walks.{walk}
 use Rattle.wit_data.specs.Reference.{type_references}
-use Rattle.wit_link_include.specs.Copied.{known_of, leads, open_rows, said}
+use Rattle.wit_link_include.specs.steps.Copied.{known_of, leads, open_rows, said}
 use Rattle.wit_link_include.specs.declared.leading.Step.{Step}
 use Rattle.wit_link_include.specs.declared.leading.Step.TheVariants as step
 use Rattle.wit_link_include.specs.declared.origin.Origin.{Origin}

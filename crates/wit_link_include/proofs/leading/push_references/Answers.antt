@@ -4,7 +4,7 @@ use Rattle.std.proofs.lemmas.List.{append-nil}
 use Rattle.wit_data.specs.Reference.{referred}
 use Rattle.wit_link_include.specs.declared.leading.Step.{Step}
 use Rattle.wit_link_include.specs.declared.leading.Step.TheVariants as step
-use Rattle.wit_link_include.specs.Copied.{is_open_in, open_rows}
+use Rattle.wit_link_include.specs.steps.Copied.{is_open_in, open_rows}
 use Rattle.wit_digraph.specs.Relation.{direct}
 use Rattle.wit_link_include.proofs.OpenRows.{open_row_at, open_row_past}
 use Rattle.wit_link_include.proofs.leading.push_references.Goals as goal

@@ -1,4 +1,4 @@
-use Rattle.wit_link_laws.specs.IncludedThere.{included_are_there}
+use Rattle.wit_link_laws.specs.facts.IncludedThere.{included_are_there}
 use Rattle.wit_link_laws.proofs.laws.included_are_there.Goals as goal
 
 pub returns : goal.returns

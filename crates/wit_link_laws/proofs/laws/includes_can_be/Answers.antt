@@ -1,4 +1,4 @@
-use Rattle.wit_link_laws.specs.StageLaws.{includes_can_be}
+use Rattle.wit_link_laws.specs.laws.StageLaws.{includes_can_be}
 use Rattle.wit_link_laws.proofs.laws.includes_can_be.Goals as goal
 
 pub returns : goal.returns

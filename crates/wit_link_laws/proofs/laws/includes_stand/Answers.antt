@@ -1,4 +1,4 @@
-use Rattle.wit_link_laws.specs.IncludedOnce.{included_stands}
+use Rattle.wit_link_laws.specs.facts.IncludedOnce.{included_stands}
 use Rattle.wit_link_laws.proofs.laws.includes_stand.Goals as goal
 
 pub returns : goal.returns

@@ -1,4 +1,4 @@
-use Rattle.wit_link_laws.specs.ValidFacts.{valid_pushes}
+use Rattle.wit_link_laws.specs.facts.ValidFacts.{valid_pushes}
 use Rattle.wit_link_laws.proofs.laws.pushes_stay_valid.Goals as goal
 
 pub returns : goal.returns

@@ -1,8 +1,8 @@
 use Rattle.std.proofs.Common.{◌≡◌, ◌∙◌, ◌++◌, ◌∷◌, [], List, ℕ, ap, sym, map, take, arith}
 use Rattle.std.proofs.lemmas.List.{take_all}
-use Rattle.wit_values.specs.Lists.{map-next}
+use Rattle.wit_values.specs.facts.Lists.{map-next}
 use Rattle.wit_link_order.specs.Sorting.{Handed, handed_deps, names_of}
-use Rattle.wit_link_order.specs.SortingSteps.{found_deps}
+use Rattle.wit_link_order.specs.steps.SortingSteps.{found_deps}
 use Rattle.wit_link_order.proofs.Orders.{found_deps-are}
 use Rattle.wit_link_order.proofs.depends.uses_of_handed.Goals as goal
 

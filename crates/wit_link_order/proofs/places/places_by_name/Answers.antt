@@ -1,10 +1,10 @@
 use Rattle.std.proofs.Common.{◌≡◌, ◌∙◌, ap, sym, length, arith}
 use Rattle.std.proofs.lemmas.List.{length-map, take_all}
 use Rattle.std.specs.Map.{lookup}
-use Rattle.wit_values.specs.Lists.{take-next_at}
+use Rattle.wit_values.specs.facts.Lists.{take-next_at}
 use Rattle.wit_data.specs.PackageOrder.{same_package}
 use Rattle.wit_link_order.specs.Sorting.{Handed, names_of}
-use Rattle.wit_link_order.specs.SortingSteps.{places_of}
+use Rattle.wit_link_order.specs.steps.SortingSteps.{places_of}
 use Rattle.wit_link_order.proofs.NamePlaces.{found_before, length-places, places-at}
 use Rattle.wit_link_order.proofs.Orders.{slice_get-map}
 use Rattle.wit_link_order.proofs.places.places_by_name.Goals as goal

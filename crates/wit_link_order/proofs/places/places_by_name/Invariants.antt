@@ -1,6 +1,6 @@
 use Rattle.std.proofs.Common.{◌≡◌, take}
 use Rattle.wit_link_order.specs.Sorting.{names_of}
-use Rattle.wit_link_order.specs.SortingSteps.{places_of}
+use Rattle.wit_link_order.specs.steps.SortingSteps.{places_of}
 use Rattle.wit_link_order.proofs.places.places_by_name.Given as goal
 
 -- the places so far

@@ -1,5 +1,5 @@
 use Rattle.std.proofs.Common.{◌≡◌, ◌∙◌, ap, sym, Some, arith}
-use Rattle.wit_data.specs.PackageNameFacts.{same_name}
+use Rattle.wit_data.specs.facts.PackageNameFacts.{same_name}
 use Rattle.wit_data.specs.declared.package_name.PackageName.{PackageName}
 use Rattle.wit_link_order.proofs.Orders.{unnamed-next}
 use Rattle.wit_link_order.proofs.Refusals.{none-named}

@@ -6,7 +6,7 @@ use Rattle.wit_digraph.specs.Relation.{IsAcyclic}
 use Rattle.wit_data.specs.PackageOrder.{same_package}
 use Rattle.wit_data.specs.declared.package_name.PackageName.{PackageName}
 use Rattle.wit_link_order.specs.Sorting.{handed_uses, names_of}
-use Rattle.wit_link_order.specs.SortingSteps.{AreByName, places_of}
+use Rattle.wit_link_order.specs.steps.SortingSteps.{AreByName, places_of}
 use Rattle.wit_link_order.proofs.Orders.{found-below, found-order, uses-in_range}
 use Rattle.wit_link_order.proofs.Refusals.{cycle-inside}
 use Rattle.wit_link_order.proofs.sort.group_order.Goals as goal

@@ -3,11 +3,11 @@ use Rattle.std.specs.Borrow.{Bor}
 use Rattle.std.specs.List.{flat_map, range_with_len}
 use Rattle.std.proofs.lemmas.List.{take_all}
 use Rattle.wit_data.specs.declared.function.Function.{Function}
-use Rattle.wit_link_spec.specs.Adding.{addition_of}
+use Rattle.wit_link_spec.specs.steps.Adding.{addition_of}
 use Rattle.wit_link_spec.specs.Addition.{Addition}
 use Rattle.wit_link_spec.specs.Resources.{signature_positions}
-use Rattle.wit_link_resources.specs.Active.{seen}
-use Rattle.wit_link_resources.specs.Asked.{positions_of_type}
+use Rattle.wit_link_resources.specs.steps.Active.{seen}
+use Rattle.wit_link_resources.specs.steps.Asked.{positions_of_type}
 use Rattle.wit_link_resources.proofs.Ranges.{seen-next}
 use Rattle.wit_link_resources.proofs.asked.positions.Goals as goal
 

@@ -1,8 +1,8 @@
 use Rattle.std.proofs.Common.{◌∙◌, sym, arith}
-use Rattle.wit_link_spec.specs.Adding.{addition_of}
+use Rattle.wit_link_spec.specs.steps.Adding.{addition_of}
 use Rattle.wit_link_spec.specs.Addition.{Addition}
-use Rattle.wit_link_spec.specs.FlagFacts.{type-flag, type-inside}
-use Rattle.wit_link_resources.specs.Asked.{positions_of_type}
+use Rattle.wit_link_spec.specs.facts.FlagFacts.{type-flag, type-inside}
+use Rattle.wit_link_resources.specs.steps.Asked.{positions_of_type}
 use Rattle.wit_link_resources.proofs.Ranges.{ranged-next, ranged-same}
 use Rattle.wit_link_resources.proofs.Positions.{positions_off, positions_on}
 use Rattle.wit_link_resources.proofs.asked.push_types.Goals.{then-at+in_ok-value_positions+in_ok-append, else-at}

@@ -5,7 +5,7 @@ use Rattle.std.proofs.lemmas.Option.{slice_get-get_or}
 use Rattle.wit_digraph.specs.Relation.{IsAcyclic, direct}
 use Rattle.wit_digraph.specs.Walks.{walk}
 use Rattle.wit_data.specs.declared.types.TypeDef.{TypeDef}
-use Rattle.wit_graph_data.specs.HeldFacts.{held_acyclic, held_long, held_row}
+use Rattle.wit_graph_data.specs.facts.HeldFacts.{held_acyclic, held_long, held_row}
 use Rattle.wit_graph_data.specs.Questions.{held_rows}
 use Rattle.wit_link_spec.specs.Reasons.{IsBorrow}
 use Rattle.wit_link_resources.proofs.Inserting.{insert-known, insert-new, insert-same}

@@ -2,12 +2,12 @@ use Rattle.std.proofs.Common.{◌≡◌, ◌∙◌, ◌<◌, inl, Bool, true, fa
 use Rattle.std.proofs.lemmas.Bool.{false≢true, le-ltb, lt-ltb}
 use Rattle.std.proofs.lemmas.Result.{IfOk-weaker}
 use Rattle.wit_data.specs.declared.types.TypeDef.{TypeDef}
-use Rattle.wit_link_spec.specs.Adding.{addition_of}
+use Rattle.wit_link_spec.specs.steps.Adding.{addition_of}
 use Rattle.wit_link_spec.specs.Addition.{Addition, taken_type}
-use Rattle.wit_link_spec.specs.FlagFacts.{place-inside, place-is}
+use Rattle.wit_link_spec.specs.facts.FlagFacts.{place-inside, place-is}
 use Rattle.wit_link_spec.specs.Lookup.{is_foreign_type}
 use Rattle.wit_link_spec.specs.Reasons.{HoldsBorrow}
-use Rattle.wit_link_resources.specs.Borrows.{IsBorrowThere}
+use Rattle.wit_link_resources.specs.steps.Borrows.{IsBorrowThere}
 use Rattle.wit_link_resources.proofs.MayHold.{borrow_here, found_there, nowhere_none, own_back, there_found}
 use Rattle.wit_link_resources.proofs.Where.{foreign_back, found_there as found_in_graph}
 use Rattle.wit_link_resources.proofs.borrows.is_borrow_there.Goals as goal

@@ -3,13 +3,13 @@ use Rattle.std.specs.List.{flat_map}
 use Rattle.std.proofs.lemmas.Bool.{false≢true}
 use Rattle.wit_digraph.specs.Relation.{IsAcyclic, direct}
 use Rattle.wit_digraph.specs.Walks.{walk}
-use Rattle.wit_data.specs.ReferenceFacts.{IsAcyclic-references}
+use Rattle.wit_data.specs.facts.ReferenceFacts.{IsAcyclic-references}
 use Rattle.wit_data.specs.Shape.{IsShaped}
-use Rattle.wit_graph_data.specs.HeldFacts.{held_acyclic, held_long, held_row}
+use Rattle.wit_graph_data.specs.facts.HeldFacts.{held_acyclic, held_long, held_row}
 use Rattle.wit_graph_data.specs.Questions.{held_rows}
-use Rattle.wit_link_spec.specs.Adding.{addition_of}
+use Rattle.wit_link_spec.specs.steps.Adding.{addition_of}
 use Rattle.wit_link_spec.specs.Addition.{Addition}
-use Rattle.wit_link_resources.specs.Borrows.{IsBorrowThere}
+use Rattle.wit_link_resources.specs.steps.Borrows.{IsBorrowThere}
 use Rattle.wit_link_resources.proofs.Inserting.{insert-known, insert-new, insert-same}
 use Rattle.wit_link_resources.proofs.MayHold.{may_hold, may_hold_back}
 use Rattle.wit_link_resources.proofs.Searching.{IsSearching, search-bad, search-begun, search-free, search-known, search-more, search-none, shorter-known, shorter-more, top_there}

@@ -2,8 +2,8 @@ use Rattle.std.proofs.Common.{length}
 use Rattle.std.specs.List.{flat_map}
 use Rattle.wit_digraph.specs.Walks.{walk}
 use Rattle.wit_graph_data.specs.Questions.{held_rows}
-use Rattle.wit_link_spec.specs.Adding.{addition_of}
-use Rattle.wit_link_resources.specs.Borrows.{AreFreeTypes, IsBorrowThere}
+use Rattle.wit_link_spec.specs.steps.Adding.{addition_of}
+use Rattle.wit_link_resources.specs.steps.Borrows.{AreFreeTypes, IsBorrowThere}
 use Rattle.wit_link_resources.proofs.Searching.{IsSearching}
 use Rattle.wit_link_resources.proofs.borrows.may_hold_borrow.Given as goal
 

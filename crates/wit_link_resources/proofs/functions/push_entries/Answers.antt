@@ -1,7 +1,7 @@
 use Rattle.std.specs.Map.Iter.{deref_pair}
 use Rattle.std.proofs.lemmas.Map.Iter.{rest_more, rest_all}
 use Rattle.wit_data.specs.Entries.{Entry}
-use Rattle.wit_link_resources.specs.Active.{active_item, seen}
+use Rattle.wit_link_resources.specs.steps.Active.{active_item, seen}
 use Rattle.wit_link_resources.proofs.Ranges.{left-next, left-none}
 use Rattle.wit_link_resources.proofs.functions.push_entries.Goals as goal
 

@@ -1,5 +1,5 @@
 use Rattle.std.proofs.Common.{◌≡◌, ◌++◌}
-use Rattle.wit_link_resources.specs.Active.{active_entries, seen}
+use Rattle.wit_link_resources.specs.steps.Active.{active_entries, seen}
 use Rattle.wit_link_resources.proofs.functions.push_entries.Given as goal
 
 -- what has been added, and what those will add that are left

@@ -1,8 +1,8 @@
 use Rattle.std.proofs.Common.{◌∙◌, ap, sym, arith}
-use Rattle.wit_link_spec.specs.Adding.{addition_of}
+use Rattle.wit_link_spec.specs.steps.Adding.{addition_of}
 use Rattle.wit_link_spec.specs.Addition.{Addition}
-use Rattle.wit_link_spec.specs.FlagFacts.{interface-flag, interface-inside}
-use Rattle.wit_link_resources.specs.Active.{active_named, interface_functions, seen}
+use Rattle.wit_link_spec.specs.facts.FlagFacts.{interface-flag, interface-inside}
+use Rattle.wit_link_resources.specs.steps.Active.{active_named, interface_functions, seen}
 use Rattle.wit_link_resources.proofs.ActiveOnes.{interface_off, interface_on}
 use Rattle.wit_link_resources.proofs.Ranges.{ranged-next, ranged-same}
 use Rattle.wit_link_resources.proofs.functions.push_interfaces.Goals.{then-at+in_ok-push_named, else-at}

@@ -2,7 +2,7 @@ use Rattle.std.proofs.Common.{ℕ, List}
 use Rattle.std.proofs.lemmas.Map.Iter.{rest_more, rest_all}
 use Rattle.wit_values.specs.Names.{deref_named}
 use Rattle.wit_data.specs.declared.function.Function.{Function}
-use Rattle.wit_link_resources.specs.Active.{active_one, seen}
+use Rattle.wit_link_resources.specs.steps.Active.{active_one, seen}
 use Rattle.wit_link_resources.proofs.Ranges.{left-next, left-none}
 use Rattle.wit_link_resources.proofs.functions.push_named.Goals as goal
 

@@ -1,5 +1,5 @@
 use Rattle.std.proofs.Common.{◌≡◌, ◌++◌}
-use Rattle.wit_link_resources.specs.Active.{active_named, seen}
+use Rattle.wit_link_resources.specs.steps.Active.{active_named, seen}
 use Rattle.wit_link_resources.proofs.functions.push_named.Given as goal
 
 -- what has been added, and what those will add that are left

@@ -1,9 +1,9 @@
 use Rattle.std.proofs.Common.{◌∙◌, ◌++◌, ap, sym, arith, List, append_assoc}
 use Rattle.wit_data.specs.declared.function.Function.{Function}
-use Rattle.wit_link_spec.specs.Adding.{addition_of}
+use Rattle.wit_link_spec.specs.steps.Adding.{addition_of}
 use Rattle.wit_link_spec.specs.Addition.{Addition}
-use Rattle.wit_link_spec.specs.FlagFacts.{world-flag, world-inside}
-use Rattle.wit_link_resources.specs.Active.{active_entries, seen, world_functions}
+use Rattle.wit_link_spec.specs.facts.FlagFacts.{world-flag, world-inside}
+use Rattle.wit_link_resources.specs.steps.Active.{active_entries, seen, world_functions}
 use Rattle.wit_link_resources.proofs.ActiveOnes.{world_off, world_on}
 use Rattle.wit_link_resources.proofs.Ranges.{ranged-next, ranged-same}
 use Rattle.wit_link_resources.proofs.functions.push_worlds.Goals.{then-at+in_ok-push_entries+in_ok-push_entries-2, else-at}

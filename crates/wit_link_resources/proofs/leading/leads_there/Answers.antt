@@ -4,13 +4,13 @@ use Rattle.std.proofs.lemmas.Option.{slice_get_within}
 use Rattle.std.proofs.lemmas.Result.{IfOk-weaker, on_ok_weaker}
 use Rattle.wit_data.specs.Uses.{alias_target}
 use Rattle.wit_data.specs.declared.types.TypeDef.{TypeDef}
-use Rattle.wit_graph_theory.specs.ListFacts.{same_at}
-use Rattle.wit_link_spec.specs.Adding.{addition_of}
+use Rattle.wit_graph_theory.specs.facts.ListFacts.{same_at}
+use Rattle.wit_link_spec.specs.steps.Adding.{addition_of}
 use Rattle.wit_link_spec.specs.Addition.{Addition, taken_type}
-use Rattle.wit_link_spec.specs.FlagFacts.{place-inside, place-is}
+use Rattle.wit_link_spec.specs.facts.FlagFacts.{place-inside, place-is}
 use Rattle.wit_link_spec.specs.Lookup.{is_foreign_type}
 use Rattle.wit_link_spec.specs.Resources.{leads_to_resource}
-use Rattle.wit_link_resources.specs.Leading.{AreRight, leads_there}
+use Rattle.wit_link_resources.specs.steps.Leading.{AreRight, leads_there}
 use Rattle.wit_link_resources.proofs.Where.{foreign_back, found_there, leads_alias, leads_foreign, leads_left, leads_own}
 use Rattle.wit_link_resources.proofs.leading.leads_there.Goals as goal
 

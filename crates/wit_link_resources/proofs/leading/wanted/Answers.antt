@@ -3,9 +3,9 @@ use Rattle.std.proofs.lemmas.Bool.{false≢true}
 use Rattle.std.proofs.lemmas.Option.{slice_get_within}
 use Rattle.wit_data.specs.Uses.{alias_target}
 use Rattle.wit_data.specs.declared.types.TypeDef.{TypeDef}
-use Rattle.wit_graph_theory.specs.ListFacts.{same_at}
-use Rattle.wit_link_spec.specs.Adding.{addition_of}
-use Rattle.wit_link_resources.specs.Leading.{AreWanted}
+use Rattle.wit_graph_theory.specs.facts.ListFacts.{same_at}
+use Rattle.wit_link_spec.specs.steps.Adding.{addition_of}
+use Rattle.wit_link_resources.specs.steps.Leading.{AreWanted}
 use Rattle.wit_link_resources.proofs.Wanting.{wanted-begun, wanted-next, wanted-set}
 use Rattle.wit_link_resources.proofs.Where.{target_earlier}
 use Rattle.wit_link_resources.proofs.leading.wanted.Goals as goal

@@ -1,4 +1,4 @@
-use Rattle.wit_link_resources.specs.Leading.{AreWanted}
+use Rattle.wit_link_resources.specs.steps.Leading.{AreWanted}
 use Rattle.wit_link_resources.proofs.leading.wanted.Given as goal
 
 -- all is seen to from some type on

@@ -1,5 +1,5 @@
 use Rattle.std.proofs.Common.{◌≡◌, ◌∙◌, ◌++◌, ◌∷◌, [], ◌<◌, ℕ, length, ap, refl, sym, subst}
-use Rattle.wit_graph_theory.specs.Sources.{alias_rows}
+use Rattle.wit_graph_theory.specs.steps.Sources.{alias_rows}
 use Rattle.wit_digraph.specs.Walks.{walk}
 use Rattle.wit_link_spec.specs.Resources.{leads_to_resource}
 use Rattle.wit_link_resources.proofs.Leads.{leads_on, target_there, walk_falls}

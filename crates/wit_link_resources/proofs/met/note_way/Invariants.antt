@@ -1,8 +1,8 @@
 use Rattle.std.proofs.Common.{◌≡◌, ◌<◌, length}
 use Rattle.wit_digraph.specs.Walks.{walk}
-use Rattle.wit_graph_theory.specs.Sources.{alias_rows}
+use Rattle.wit_graph_theory.specs.steps.Sources.{alias_rows}
 use Rattle.wit_link_spec.specs.Resources.{leads_to_resource}
-use Rattle.wit_link_resources.specs.Leading.{AreRight}
+use Rattle.wit_link_resources.specs.steps.Leading.{AreRight}
 use Rattle.wit_link_resources.proofs.met.note_way.Given as goal
 
 -- what is noted is right, and the same is right of the place that has been reached

@@ -1,8 +1,8 @@
 use Rattle.std.proofs.Common.{◌≡◌, ◌∙◌, ◌+◌, ◌≤◌, ◌<◌, ◌&&◌, ℕ, Bool, true, false, not, length, ap, refl, rules, sym, arith}
 use Rattle.std.proofs.lemmas.Bool.{le-ltb, lt-ltb}
-use Rattle.wit_link_spec.specs.Adding.{addition_of}
+use Rattle.wit_link_spec.specs.steps.Adding.{addition_of}
 use Rattle.wit_link_spec.specs.Addition.{Addition, own_type}
-use Rattle.wit_link_spec.specs.FlagFacts.{type-flag, type-inside}
+use Rattle.wit_link_spec.specs.facts.FlagFacts.{type-flag, type-inside}
 use Rattle.wit_link_spec.specs.Gates.{type_is_active}
 use Rattle.wit_link_spec.specs.Lookup.{is_foreign_type}
 use Rattle.wit_link_spec.specs.Ranks.{rank}

@@ -1,11 +1,11 @@
 use Rattle.std.proofs.Common.{◌≡◌, ◌∙◌, ◌&&◌, ℕ, Bool, true, false, List, Option, Some, length, map, slice_get, unwrap_or, ap, refl, sym, arith}
 use Rattle.std.specs.List.{range_with_len}
 use Rattle.std.proofs.lemmas.List.FromFn.{length-map-range_with_len}
-use Rattle.wit_link_spec.specs.Adding.{addition_of}
+use Rattle.wit_link_spec.specs.steps.Adding.{addition_of}
 use Rattle.wit_link_spec.specs.Addition.{Addition, needs_own}
-use Rattle.wit_link_spec.specs.RangeFacts.{range-pushed, range-read}
-use Rattle.wit_link_resources.specs.Asked.{is_asked}
-use Rattle.wit_link_resources.specs.Leading.{leads_if_wanted, leads_there}
+use Rattle.wit_link_spec.specs.facts.RangeFacts.{range-pushed, range-read}
+use Rattle.wit_link_resources.specs.steps.Asked.{is_asked}
+use Rattle.wit_link_resources.specs.steps.Leading.{leads_if_wanted, leads_there}
 use Rattle.wit_link_resources.proofs.Needing.{needs_is}
 use Rattle.wit_link_resources.proofs.Where.{conj}
 use Rattle.wit_link_resources.proofs.owning.needed.Goals.{then-at, else-at}

@@ -3,9 +3,9 @@ use Rattle.std.specs.List.{range_with_len}
 use Rattle.std.proofs.lemmas.List.{length-map}
 use Rattle.std.proofs.lemmas.List.FromFn.{length-map-range_with_len}
 use Rattle.wit_data.specs.declared.types.TypeDef.{TypeDef}
-use Rattle.wit_link_spec.specs.Adding.{addition_of, places_of}
+use Rattle.wit_link_spec.specs.steps.Adding.{addition_of, places_of}
 use Rattle.wit_link_spec.specs.Addition.{Addition, needs_own, own_types, taken_type, type_place, value_place}
-use Rattle.wit_link_spec.specs.RangeFacts.{range-at, range-pushed, range-read}
+use Rattle.wit_link_spec.specs.facts.RangeFacts.{range-at, range-pushed, range-read}
 use Rattle.wit_link_spec.specs.Ranks.{rank}
 use Rattle.wit_link_spec.specs.Resources.{own_of}
 use Rattle.wit_link_spec.specs.declared.adding.Places.{Places}

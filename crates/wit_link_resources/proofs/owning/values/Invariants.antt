@@ -1,6 +1,6 @@
 use Rattle.std.proofs.Common.{◌≡◌, map, filter}
 use Rattle.std.specs.List.{range_with_len}
-use Rattle.wit_link_spec.specs.Adding.{addition_of}
+use Rattle.wit_link_spec.specs.steps.Adding.{addition_of}
 use Rattle.wit_link_spec.specs.Addition.{needs_own, type_place, value_place}
 use Rattle.wit_link_spec.specs.Resources.{own_of}
 use Rattle.wit_link_resources.proofs.owning.values.Given as goal

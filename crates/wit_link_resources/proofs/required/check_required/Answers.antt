@@ -1,10 +1,10 @@
 use Rattle.std.proofs.Common.{◌≡◌, ◌∙◌, ◌<◌, true, false, ℕ, None, Some, List, length, slice_get, ap, sym, subst, inr}
 use Rattle.wit_data.specs.declared.types.TypeDef.{TypeDef}
-use Rattle.wit_link_spec.specs.Adding.{addition_of}
+use Rattle.wit_link_spec.specs.steps.Adding.{addition_of}
 use Rattle.wit_link_spec.specs.Addition.{Addition, taken_type}
-use Rattle.wit_link_spec.specs.FlagFacts.{place-inside, place-is}
+use Rattle.wit_link_spec.specs.facts.FlagFacts.{place-inside, place-is}
 use Rattle.wit_link_spec.specs.Resources.{leads_to_resource}
-use Rattle.wit_link_resources.specs.Leading.{AreRight}
+use Rattle.wit_link_resources.specs.steps.Leading.{AreRight}
 use Rattle.wit_link_resources.proofs.Tells.{resource_cause}
 use Rattle.wit_link_resources.proofs.Where.{foreign_back, found_on, found_there, required_is_foreign}
 use Rattle.wit_link_resources.proofs.required.check_required.Goals as goal

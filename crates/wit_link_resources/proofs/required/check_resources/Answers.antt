@@ -1,10 +1,10 @@
 use Rattle.std.proofs.Common.{◌∙◌, ◌<◌, ℕ, length, refl, sym, subst, arith, below_more, below_none}
 use Rattle.std.proofs.lemmas.Bool.{false≢true}
 use Rattle.std.proofs.lemmas.Option.{slice_get_within}
-use Rattle.wit_graph_theory.specs.ListFacts.{place_of, same_at}
-use Rattle.wit_link_spec.specs.Adding.{addition_of}
+use Rattle.wit_graph_theory.specs.facts.ListFacts.{place_of, same_at}
+use Rattle.wit_link_spec.specs.steps.Adding.{addition_of}
 use Rattle.wit_link_spec.specs.Gates.{Place}
-use Rattle.wit_link_resources.specs.Leading.{LeadsWhereFound}
+use Rattle.wit_link_resources.specs.steps.Leading.{LeadsWhereFound}
 use Rattle.wit_link_resources.proofs.MetTypes.{right-begun}
 use Rattle.wit_link_resources.proofs.required.check_resources.Goals as goal
 

@@ -1,7 +1,7 @@
 use Rattle.std.proofs.Common.{◌≡◌, ◌<◌, ℕ, Some, slice_get}
-use Rattle.wit_link_spec.specs.Adding.{addition_of}
+use Rattle.wit_link_spec.specs.steps.Adding.{addition_of}
 use Rattle.wit_link_spec.specs.Gates.{Place}
-use Rattle.wit_link_resources.specs.Leading.{AreRight, LeadsWhereFound}
+use Rattle.wit_link_resources.specs.steps.Leading.{AreRight, LeadsWhereFound}
 use Rattle.wit_link_resources.proofs.required.check_resources.Given as goal
 
 -- the first ones are fine, and what is noted is right

@@ -2,17 +2,17 @@ use Rattle.std.proofs.Common.{◌≡◌, ◌∙◌, ◌∷◌, ◌<◌, [], inr,
 use Rattle.std.proofs.lemmas.Option.{slice_get_within}
 use Rattle.std.proofs.lemmas.List.Elements.{Contains-append_right}
 use Rattle.std.specs.List.{flat_map}
-use Rattle.wit_digraph.specs.MemberFacts.{Contains-here}
+use Rattle.wit_digraph.specs.facts.MemberFacts.{Contains-here}
 use Rattle.wit_data.specs.Function.{resource_of}
 use Rattle.wit_data.specs.Reference.{function_references, named_option, named_type}
 use Rattle.wit_data.specs.Shape.{IsShaped}
 use Rattle.wit_data.specs.declared.function.Function.{Function}
 use Rattle.wit_data.specs.declared.function.Param.{Param}
 use Rattle.wit_data.specs.declared.types.TypeDef.{TypeDef}
-use Rattle.wit_graph_theory.specs.ListFacts.{place_of}
-use Rattle.wit_link_spec.specs.Adding.{addition_of}
+use Rattle.wit_graph_theory.specs.facts.ListFacts.{place_of}
+use Rattle.wit_link_spec.specs.steps.Adding.{addition_of}
 use Rattle.wit_link_spec.specs.Addition.{Addition}
-use Rattle.wit_link_spec.specs.ClosedCut.{function_kept, there_where}
+use Rattle.wit_link_spec.specs.facts.ClosedCut.{function_kept, there_where}
 use Rattle.wit_link_spec.specs.Gates.{is_active}
 use Rattle.wit_link_spec.specs.Reasons.{HasImage, IsActiveFunction}
 use Rattle.wit_link_spec.specs.Resources.{signature_positions}

@@ -2,11 +2,11 @@ use Rattle.std.proofs.Common.{◌≡◌, ◌∙◌, ◌<◌, ℕ, List, Some, le
 use Rattle.std.specs.Borrow.{Bor}
 use Rattle.std.proofs.lemmas.Option.{slice_get-get_or, slice_get_within}
 use Rattle.wit_data.specs.declared.function.Function.{Function}
-use Rattle.wit_graph_theory.specs.ListFacts.{Contains-map, Contains-map_cases, contained_at, place_of, same_at}
-use Rattle.wit_link_spec.specs.Adding.{addition_of}
+use Rattle.wit_graph_theory.specs.facts.ListFacts.{Contains-map, Contains-map_cases, contained_at, place_of, same_at}
+use Rattle.wit_link_spec.specs.steps.Adding.{addition_of}
 use Rattle.wit_link_spec.specs.Addition.{Addition}
-use Rattle.wit_link_resources.specs.Active.{active_functions, seen}
-use Rattle.wit_link_resources.specs.Borrows.{ReturnsNone}
+use Rattle.wit_link_resources.specs.steps.Active.{active_functions, seen}
+use Rattle.wit_link_resources.specs.steps.Borrows.{ReturnsNone}
 use Rattle.wit_link_resources.proofs.ActiveOnes.{active_back, active_in}
 use Rattle.wit_link_resources.proofs.results.check_results.Goals as goal
 

@@ -1,8 +1,8 @@
 use Rattle.std.proofs.Common.{◌≡◌, ◌<◌, ℕ, Some, slice_get}
 use Rattle.std.specs.Borrow.{Bor}
 use Rattle.wit_data.specs.declared.function.Function.{Function}
-use Rattle.wit_link_spec.specs.Adding.{addition_of}
-use Rattle.wit_link_resources.specs.Borrows.{AreFreeHanded, AreFreeTypes, ReturnsNone}
+use Rattle.wit_link_spec.specs.steps.Adding.{addition_of}
+use Rattle.wit_link_resources.specs.steps.Borrows.{AreFreeHanded, AreFreeTypes, ReturnsNone}
 use Rattle.wit_link_resources.proofs.results.check_results.Given as goal
 
 abbrev pub invariant-loop-function : goal.invariant-loop-function

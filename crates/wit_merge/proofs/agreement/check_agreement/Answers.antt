@@ -2,7 +2,7 @@ use Rattle.std.proofs.Common.{rules, ◌≡◌, inr, None, string_bytes, subst, 
 use Rattle.wit_graph_data.specs.declared.cause.Cause.TheVariants as cause
 use Rattle.wit_graph_data.specs.declared.error_kind.ResolveErrorKind.TheVariants.{OffsetOverflow, Semantic, StabilityMismatch}
 use Rattle.wit_merge_match.specs.Differing.{merging_by}
-use Rattle.wit_merge_match.specs.OffsetFacts.{differ_by, mismatches_by, one_by}
+use Rattle.wit_merge_match.specs.facts.OffsetFacts.{differ_by, mismatches_by, one_by}
 use Rattle.wit_merge_spec.specs.Cause.{IsMergeCause, merge_mismatch_24, mismatch_8, offset_overflow_27}
 use Rattle.wit_merge.proofs.agreement.check_agreement.Goals as goal
 

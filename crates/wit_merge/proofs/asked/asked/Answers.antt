@@ -1,6 +1,6 @@
 use Rattle.std.proofs.Common.{◌∙◌, ◌<◌, ℕ, List, All, subst, sym}
 use Rattle.wit_merge_spec.specs.Moved.{positions}
-use Rattle.wit_merge_match.specs.Found.{merging}
+use Rattle.wit_merge_match.specs.steps.Found.{merging}
 use Rattle.wit_merge.proofs.Positions.{positions_there}
 use Rattle.wit_merge.proofs.asked.asked.Goals as goal
 

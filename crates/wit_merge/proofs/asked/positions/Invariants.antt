@@ -3,8 +3,8 @@ use Rattle.std.specs.List.{flat_map}
 use Rattle.wit_data.specs.declared.types.TypeDef.{TypeDef}
 use Rattle.wit_link_spec.specs.Resources.{signature_positions, value_positions}
 use Rattle.wit_merge_spec.specs.Moved.{moved_types}
-use Rattle.wit_link_resources.specs.Active.{seen}
-use Rattle.wit_merge_match.specs.Found.{merging}
+use Rattle.wit_link_resources.specs.steps.Active.{seen}
+use Rattle.wit_merge_match.specs.steps.Found.{merging}
 use Rattle.wit_merge.proofs.asked.positions.Given as goal
 
 -- those of types, and of the first functions

@@ -3,7 +3,7 @@ use Rattle.std.specs.List.{enumerate_from, flat_map}
 use Rattle.wit_data.specs.declared.types.TypeDef.{TypeDef}
 use Rattle.wit_link_spec.specs.Ranks.{taken}
 use Rattle.wit_link_spec.specs.Resources.{value_positions}
-use Rattle.wit_merge_match.specs.Going.{moves}
+use Rattle.wit_merge_match.specs.steps.Going.{moves}
 use Rattle.wit_merge.proofs.asked.push_types.Given as goal
 
 -- what has been added, and what those will add that are left

@@ -1,6 +1,6 @@
 use Rattle.std.proofs.Common.{◌≡◌, ◌++◌, ℕ, List, map}
 use Rattle.wit_data.specs.declared.function.Function.{Function}
-use Rattle.wit_link_resources.specs.Active.{seen}
+use Rattle.wit_link_resources.specs.steps.Active.{seen}
 use Rattle.wit_merge.proofs.functions.push_all.Given as goal
 
 -- what has been added, and what those will add that are left

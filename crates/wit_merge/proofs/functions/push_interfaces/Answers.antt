@@ -5,8 +5,8 @@ use Rattle.wit_data.specs.declared.function.Function.{Function}
 use Rattle.wit_data.specs.declared.interface.Interface.{Interface}
 use Rattle.wit_merge_spec.specs.Matches.{Merging}
 use Rattle.wit_merge_spec.specs.Moved.{brought_functions, interface_functions}
-use Rattle.wit_link_resources.specs.Active.{seen}
-use Rattle.wit_merge_match.specs.Found.{merging}
+use Rattle.wit_link_resources.specs.steps.Active.{seen}
+use Rattle.wit_merge_match.specs.steps.Found.{merging}
 use Rattle.wit_merge.proofs.Left.{left-more}
 use Rattle.wit_merge.proofs.Numbered.{first_behind}
 use Rattle.wit_merge.proofs.functions.push_interfaces.Goals as goal

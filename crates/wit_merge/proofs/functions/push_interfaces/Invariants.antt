@@ -2,8 +2,8 @@ use Rattle.std.proofs.Common.{◌≡◌, ◌++◌, ℕ, drop}
 use Rattle.std.specs.List.{enumerate_from, flat_map}
 use Rattle.wit_data.specs.declared.interface.Interface.{Interface}
 use Rattle.wit_merge_spec.specs.Moved.{interface_functions}
-use Rattle.wit_link_resources.specs.Active.{seen}
-use Rattle.wit_merge_match.specs.Found.{merging}
+use Rattle.wit_link_resources.specs.steps.Active.{seen}
+use Rattle.wit_merge_match.specs.steps.Found.{merging}
 use Rattle.wit_merge.proofs.functions.push_interfaces.Given as goal
 
 -- what has been added, and what those will add that are left

@@ -2,7 +2,7 @@ use Rattle.std.proofs.Common.{◌≡◌, ◌++◌, ℕ, List, filter, is_some, m
 use Rattle.std.specs.Map.{lookup}
 use Rattle.std.specs.Str.{bytes_eq}
 use Rattle.wit_data.specs.declared.function.Function.{Function}
-use Rattle.wit_link_resources.specs.Active.{seen}
+use Rattle.wit_link_resources.specs.steps.Active.{seen}
 use Rattle.wit_merge.proofs.functions.push_missing.Given as goal
 
 -- what has been added, and what those will add that are left

@@ -3,8 +3,8 @@ use Rattle.std.specs.List.{enumerate_from, flat_map}
 use Rattle.wit_data.specs.declared.world.World.{World}
 use Rattle.wit_link_spec.specs.Ranks.{taken_places}
 use Rattle.wit_merge_spec.specs.Moved.{world_functions}
-use Rattle.wit_link_resources.specs.Active.{seen}
-use Rattle.wit_merge_match.specs.Going.{moves}
+use Rattle.wit_link_resources.specs.steps.Active.{seen}
+use Rattle.wit_merge_match.specs.steps.Going.{moves}
 use Rattle.wit_merge.proofs.functions.push_worlds.Given as goal
 
 -- what has been added, and what those will add that are left

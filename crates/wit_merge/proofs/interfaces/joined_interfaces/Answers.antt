@@ -7,7 +7,7 @@ use Rattle.wit_link_spec.specs.Ranks.{taken_places}
 use Rattle.wit_merge_spec.specs.Joined.{joined_interface, with_interface}
 use Rattle.wit_merge_spec.specs.Matches.{found_interface}
 use Rattle.wit_merge_spec.specs.Moved.{merge_maps, moves_interface}
-use Rattle.wit_merge.specs.Uniting.{merging_of}
+use Rattle.wit_merge.specs.steps.Uniting.{merging_of}
 use Rattle.wit_merge.proofs.Movable.{interfaces_join, interfaces_move}
 use Rattle.wit_merge.proofs.UnitedIs.{united_is, without_places}
 use Rattle.wit_merge.proofs.interfaces.joined_interfaces.Goals as goal

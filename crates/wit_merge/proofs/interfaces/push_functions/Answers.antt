@@ -2,12 +2,12 @@ use Rattle.std.proofs.Common.{◌≡◌, ◌∙◌, ◌++◌, ℕ, List, None, a
 use Rattle.std.proofs.lemmas.Slice.Eq.{bytes_eq-Decides}
 use Rattle.std.specs.Map.{lookup}
 use Rattle.std.specs.Str.{bytes_eq}
-use Rattle.wit_digraph.specs.MemberFacts.{Contains-here, Contains-there}
+use Rattle.wit_digraph.specs.facts.MemberFacts.{Contains-here, Contains-there}
 use Rattle.wit_data.specs.declared.function.Function.{Function}
 use Rattle.wit_graph_theory.specs.Image.{function_image}
 use Rattle.wit_merge_spec.specs.Moved.{merge_maps}
-use Rattle.wit_merge.specs.Joined.{brought_beside, functions_image}
-use Rattle.wit_merge.specs.Uniting.{merging_of}
+use Rattle.wit_merge.specs.steps.Joined.{brought_beside, functions_image}
+use Rattle.wit_merge.specs.steps.Uniting.{merging_of}
 use Rattle.wit_merge.proofs.Chosen.{key_is_new, none_left, one_more, passed_over, split}
 use Rattle.wit_merge.proofs.interfaces.push_functions.Goals as goal
 

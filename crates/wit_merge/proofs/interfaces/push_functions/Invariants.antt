@@ -1,6 +1,6 @@
 use Rattle.std.proofs.Common.{◌≡◌, ◌++◌}
-use Rattle.wit_merge.specs.Joined.{FunctionsMove, brought_beside, functions_image}
-use Rattle.wit_merge.specs.Uniting.{merging_of}
+use Rattle.wit_merge.specs.steps.Joined.{FunctionsMove, brought_beside, functions_image}
+use Rattle.wit_merge.specs.steps.Uniting.{merging_of}
 use Rattle.wit_merge.proofs.interfaces.push_functions.Given as goal
 
 -- what has been added, and what those will add that are left, which can move

@@ -1,5 +1,5 @@
 use Rattle.std.proofs.Common.{sym, ℕ, Option, option_and_then, slice_get}
-use Rattle.wit_values.specs.Lists.{map-next}
+use Rattle.wit_values.specs.facts.Lists.{map-next}
 use Rattle.wit_merge.proofs.leading.known_there.Goals as goal
 
 pub loop-place-preserved : goal.loop-place-preserved

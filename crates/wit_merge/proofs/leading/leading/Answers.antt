@@ -1,5 +1,5 @@
 use Rattle.std.proofs.Common.{sym}
-use Rattle.wit_link_spec.specs.RangeFacts.{range-pushed}
+use Rattle.wit_link_spec.specs.facts.RangeFacts.{range-pushed}
 use Rattle.wit_merge.proofs.leading.leading.Goals as goal
 
 pub loop-place-preserved : goal.loop-place-preserved

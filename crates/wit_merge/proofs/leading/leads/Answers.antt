@@ -2,7 +2,7 @@ use Rattle.std.proofs.Common.{◌≡◌, ◌∙◌, ◌<◌, ℕ, None, Some, le
 use Rattle.std.proofs.lemmas.Option.{slice_get-get_or}
 use Rattle.wit_digraph.specs.Walks.{walk}
 use Rattle.wit_data.specs.declared.types.TypeDef.{TypeDef}
-use Rattle.wit_graph_theory.specs.Sources.{alias_rows}
+use Rattle.wit_graph_theory.specs.steps.Sources.{alias_rows}
 use Rattle.wit_merge.proofs.Ways.{next_same, next_shorter, next_there}
 use Rattle.wit_merge.proofs.leading.leads.Goals as goal
 

@@ -1,7 +1,7 @@
 use Rattle.std.proofs.Common.{◌∙◌, ◌<◌, ℕ, Some, length, ap, refl, sym, subst}
 use Rattle.std.proofs.lemmas.List.{length-set}
 use Rattle.wit_digraph.specs.Walks.{walk}
-use Rattle.wit_graph_theory.specs.Sources.{alias_rows}
+use Rattle.wit_graph_theory.specs.steps.Sources.{alias_rows}
 use Rattle.wit_merge.proofs.Ways.{next_same, next_shorter, next_there, noted}
 use Rattle.wit_merge.proofs.leading.note_way.Goals as goal
 

@@ -1,7 +1,7 @@
 use Rattle.std.proofs.Common.{◌≡◌, ◌∙◌, ◌&&◌, ℕ, Bool, true, false, length, map, nat_eq, ap, refl, sym, arith}
 use Rattle.std.specs.List.{list_any, range_with_len}
 use Rattle.std.proofs.lemmas.List.FromFn.{length-map-range_with_len}
-use Rattle.wit_link_spec.specs.RangeFacts.{range-inside, range-pushed, range-read}
+use Rattle.wit_link_spec.specs.facts.RangeFacts.{range-inside, range-pushed, range-read}
 use Rattle.wit_link_spec.specs.Resources.{leads_to_resource}
 use Rattle.wit_merge_spec.specs.Moved.{needs_own, plain_types, positions, type_place}
 use Rattle.wit_merge_match.specs.Differing.{merging_by}

@@ -3,14 +3,14 @@ use Rattle.std.specs.List.{range_with_len}
 use Rattle.std.proofs.lemmas.List.{length-map}
 use Rattle.std.proofs.lemmas.List.FromFn.{length-map-range_with_len}
 use Rattle.wit_data.specs.declared.types.TypeDef.{TypeDef}
-use Rattle.wit_link_spec.specs.RangeFacts.{range-at, range-inside, range-pushed, range-read}
+use Rattle.wit_link_spec.specs.facts.RangeFacts.{range-at, range-inside, range-pushed, range-read}
 use Rattle.wit_link_spec.specs.Ranks.{rank}
 use Rattle.wit_link_spec.specs.Resources.{own_of}
 use Rattle.wit_merge_spec.specs.Matches.{Merging, found_type}
 use Rattle.wit_merge_spec.specs.Moved.{moved_types, moves_type, needs_own, type_place, value_place}
 use Rattle.wit_merge_match.specs.Differing.{merging_by}
-use Rattle.wit_merge_match.specs.Found.{AreFound}
-use Rattle.wit_merge_match.specs.Going.{moves}
+use Rattle.wit_merge_match.specs.steps.Found.{AreFound}
+use Rattle.wit_merge_match.specs.steps.Going.{moves}
 use Rattle.wit_link_resources.proofs.Needing.{length-filtered, length-taken, rank-most}
 use Rattle.wit_link_resources.proofs.Ranges.{passed-next, picked-next}
 use Rattle.wit_merge.proofs.owning.values.Goals.{then-at+in_ok-push+in_ok-push-2, else-at+in_ok-push-3}

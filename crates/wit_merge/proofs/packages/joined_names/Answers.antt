@@ -1,17 +1,17 @@
 use Rattle.std.proofs.Common.{◌≡◌, ◌∙◌, ◌++◌, ℕ, List, Option, None, ap, is_some, not, subst, sym, Contains}
-use Rattle.wit_digraph.specs.MemberFacts.{Contains-here, Contains-there}
-use Rattle.wit_data.specs.PackageNameFacts.{same_package-Decides}
+use Rattle.wit_digraph.specs.facts.MemberFacts.{Contains-here, Contains-there}
+use Rattle.wit_data.specs.facts.PackageNameFacts.{same_package-Decides}
 use Rattle.wit_data.specs.declared.package_name.PackageName.{PackageName}
 use Rattle.wit_graph_data.specs.declared.graph.Package.{Package}
-use Rattle.wit_graph_theory.specs.ListFacts.{found_at, place_of}
+use Rattle.wit_graph_theory.specs.facts.ListFacts.{found_at, place_of}
 use Rattle.std.proofs.lemmas.Option.{slice_get_within}
 use Rattle.std.specs.Map.{lookup}
 use Rattle.wit_data.specs.PackageOrder.{same_package}
-use Rattle.wit_merge_match.specs.Going.{moves}
+use Rattle.wit_merge_match.specs.steps.Going.{moves}
 use Rattle.wit_merge_spec.specs.Moved.{moves_package, package_place}
-use Rattle.wit_merge_laws.specs.PackagesStand.{good_names}
-use Rattle.wit_merge.specs.Joined.{brought_names}
-use Rattle.wit_merge.specs.Uniting.{merging_of}
+use Rattle.wit_merge_laws.specs.facts.PackagesStand.{good_names}
+use Rattle.wit_merge.specs.steps.Joined.{brought_names}
+use Rattle.wit_merge.specs.steps.Uniting.{merging_of}
 use Rattle.wit_merge.proofs.Chosen.{key_is_new, none_left, one_more, passed_over, split}
 use Rattle.wit_merge.proofs.packages.joined_names.Goals as goal
 

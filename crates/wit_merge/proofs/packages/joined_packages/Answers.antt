@@ -7,7 +7,7 @@ use Rattle.wit_merge_spec.specs.Joined.{joined_package, with_package}
 use Rattle.wit_merge_spec.specs.Matches.{found_package}
 use Rattle.wit_merge_spec.specs.Moved.{moves_package}
 use Rattle.wit_merge_spec.specs.United.{package_image}
-use Rattle.wit_merge.specs.Uniting.{merging_of}
+use Rattle.wit_merge.specs.steps.Uniting.{merging_of}
 use Rattle.wit_merge.proofs.Movable.{packages_join, packages_move}
 use Rattle.wit_merge.proofs.UnitedIs.{moves_is, united_is, without_places}
 use Rattle.wit_merge.proofs.packages.joined_packages.Goals as goal

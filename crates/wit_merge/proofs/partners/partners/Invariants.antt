@@ -1,5 +1,5 @@
 use Rattle.std.proofs.Common.{◌≡◌, drop}
-use Rattle.wit_merge.specs.Partners.{firsts_from}
+use Rattle.wit_merge.specs.steps.Partners.{firsts_from}
 use Rattle.wit_merge.proofs.partners.partners.Given as goal
 
 -- the partners among those behind

@@ -1,10 +1,10 @@
 use Rattle.std.proofs.Common.{◌≡◌, ◌∙◌, ◌++◌, ◌≤◌, ◌<◌, ◌+◌, ℕ, None, get_or, length, map, refl, sym, ap, arith}
 use Rattle.std.specs.List.{enumerate_from}
 use Rattle.std.specs.Option.{option_map_or}
-use Rattle.wit_link_spec.specs.RangeFacts.{range-inside, range-read}
+use Rattle.wit_link_spec.specs.facts.RangeFacts.{range-inside, range-read}
 use Rattle.wit_merge_spec.specs.Matches.{partner}
-use Rattle.wit_merge.specs.Partners.{first_from, placed_at}
-use Rattle.wit_merge.specs.Uniting.{merging_of}
+use Rattle.wit_merge.specs.steps.Partners.{first_from, placed_at}
+use Rattle.wit_merge.specs.steps.Uniting.{merging_of}
 use Rattle.wit_merge.proofs.Numbered.{all_behind, behind, made_all, made_next}
 use Rattle.wit_merge.proofs.Partnered.{is_matched, partner_is}
 use Rattle.wit_merge.proofs.parts.join_all.Goals as goal

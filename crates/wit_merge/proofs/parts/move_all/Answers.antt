@@ -1,7 +1,7 @@
 use Rattle.std.proofs.Common.{◌∙◌, ◌++◌, ◌≤◌, ◌<◌, ◌+◌, ℕ, filter, length, map, refl, sym, ap, arith}
 use Rattle.wit_link_spec.specs.Ranks.{taken_places}
-use Rattle.wit_merge_match.specs.Going.{moves}
-use Rattle.wit_merge.specs.Uniting.{merging_of}
+use Rattle.wit_merge_match.specs.steps.Going.{moves}
+use Rattle.wit_merge.specs.steps.Uniting.{merging_of}
 use Rattle.wit_merge.proofs.Numbered.{all_behind, kept_all, kept_behind, kept_next, left_next}
 use Rattle.wit_merge.proofs.parts.move_all.Goals as goal
 use Rattle.wit_merge.proofs.parts.move_all.Goals.{then-moves+in_ok-moved+in_ok-push, else-moves}

@@ -1,7 +1,7 @@
 use Rattle.std.proofs.Common.{◌≡◌, ◌++◌, map}
 use Rattle.wit_link_spec.specs.Ranks.{taken_places}
-use Rattle.wit_merge_match.specs.Going.{moves}
-use Rattle.wit_merge.specs.Uniting.{merging_of}
+use Rattle.wit_merge_match.specs.steps.Going.{moves}
+use Rattle.wit_merge.specs.steps.Uniting.{merging_of}
 use Rattle.wit_merge.proofs.Numbered.{kept_behind}
 use Rattle.wit_merge.proofs.parts.move_all.Given as goal
 

@@ -4,11 +4,11 @@ use Rattle.wit_digraph.specs.Relation.{IsAcyclic}
 use Rattle.wit_data.specs.Reference.{type_references}
 use Rattle.wit_data.specs.declared.types.TypeDef.{TypeDef}
 use Rattle.wit_link_spec.specs.CauseText.{borrow_text}
-use Rattle.wit_link_spec.specs.RangeFacts.{range-inside, range-read}
+use Rattle.wit_link_spec.specs.facts.RangeFacts.{range-inside, range-read}
 use Rattle.wit_merge_spec.specs.Matches.{Merging}
 use Rattle.wit_merge_spec.specs.Moved.{value_place}
-use Rattle.wit_merge_laws.specs.NoCycles.{joined_types_acyclic}
-use Rattle.wit_merge.specs.Uniting.{merging_of}
+use Rattle.wit_merge_laws.specs.facts.NoCycles.{joined_types_acyclic}
+use Rattle.wit_merge.specs.steps.Uniting.{merging_of}
 use Rattle.wit_merge.proofs.Returning.{returned_there, returns_borrow, returns_free, value_there}
 use Rattle.wit_merge.proofs.results.check_result.Goals as goal
 

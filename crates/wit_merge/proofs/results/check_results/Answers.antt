@@ -2,12 +2,12 @@ use Rattle.std.proofs.Common.{◌≡◌, ◌∙◌, ◌<◌, ℕ, List, Some, le
 use Rattle.std.specs.Borrow.{Bor}
 use Rattle.std.proofs.lemmas.Option.{slice_get-get_or, slice_get_within}
 use Rattle.wit_data.specs.declared.function.Function.{Function}
-use Rattle.wit_graph_theory.specs.ListFacts.{Contains-map, Contains-map_cases, contained_at, place_of, same_at}
+use Rattle.wit_graph_theory.specs.facts.ListFacts.{Contains-map, Contains-map_cases, contained_at, place_of, same_at}
 use Rattle.wit_merge_spec.specs.Matches.{Merging}
 use Rattle.wit_merge_spec.specs.Moved.{moved_functions}
-use Rattle.wit_link_resources.specs.Active.{seen}
-use Rattle.wit_merge.specs.Returned.{ReturnsFree}
-use Rattle.wit_merge.specs.Uniting.{merging_of}
+use Rattle.wit_link_resources.specs.steps.Active.{seen}
+use Rattle.wit_merge.specs.facts.Returned.{ReturnsFree}
+use Rattle.wit_merge.specs.steps.Uniting.{merging_of}
 use Rattle.wit_merge.proofs.results.check_results.Goals as goal
 
 pub check_result-requires-clause-moved : goal.check_result-requires-clause-moved

@@ -6,7 +6,7 @@ use Rattle.wit_link_spec.specs.Ranks.{taken_places}
 use Rattle.wit_merge_spec.specs.Joined.{joined_type, with_type}
 use Rattle.wit_merge_spec.specs.Matches.{found_type}
 use Rattle.wit_merge_spec.specs.Moved.{added_owns, merge_maps, moved_types, moves_type}
-use Rattle.wit_merge.specs.Uniting.{merging_of}
+use Rattle.wit_merge.specs.steps.Uniting.{merging_of}
 use Rattle.wit_merge.proofs.Movable.{types_move}
 use Rattle.wit_merge.proofs.UnitedIs.{united_is, without_places}
 use Rattle.wit_merge.proofs.types.joined_types.Goals as goal

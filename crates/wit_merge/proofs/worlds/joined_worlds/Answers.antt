@@ -5,7 +5,7 @@ use Rattle.wit_graph_theory.specs.Image.{world_image}
 use Rattle.wit_merge_spec.specs.Joined.{with_world}
 use Rattle.wit_merge_spec.specs.Matches.{found_world}
 use Rattle.wit_merge_spec.specs.Moved.{merge_maps}
-use Rattle.wit_merge.specs.Uniting.{merging_of}
+use Rattle.wit_merge.specs.steps.Uniting.{merging_of}
 use Rattle.wit_merge.proofs.Movable.{worlds_join, worlds_move}
 use Rattle.wit_merge.proofs.UnitedIs.{united_is}
 use Rattle.wit_merge.proofs.worlds.joined_worlds.Goals as goal

@@ -1,4 +1,4 @@
-use Rattle.wit_merge_laws.specs.AgreementBack.{agreement_is_symmetric}
+use Rattle.wit_merge_laws.specs.facts.AgreementBack.{agreement_is_symmetric}
 use Rattle.wit_merge_laws.proofs.laws.agreement_is_symmetric.Goals as goal
 
 pub returns : goal.returns

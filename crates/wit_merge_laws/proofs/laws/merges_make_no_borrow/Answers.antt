@@ -1,4 +1,4 @@
-use Rattle.wit_merge_laws.specs.BorrowsBack.{borrows_back}
+use Rattle.wit_merge_laws.specs.facts.BorrowsBack.{borrows_back}
 use Rattle.wit_merge_laws.proofs.laws.merges_make_no_borrow.Goals as goal
 
 pub returns : goal.returns

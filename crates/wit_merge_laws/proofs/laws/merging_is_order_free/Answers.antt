@@ -1,4 +1,4 @@
-use Rattle.wit_merge_laws.specs.OrderFree.{merging_is_order_free}
+use Rattle.wit_merge_laws.specs.facts.OrderFree.{merging_is_order_free}
 use Rattle.wit_merge_laws.proofs.laws.merging_is_order_free.Goals as goal
 
 pub returns : goal.returns

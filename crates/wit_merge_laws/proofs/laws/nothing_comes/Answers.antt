@@ -1,4 +1,4 @@
-use Rattle.wit_merge_laws.specs.NothingFacts.{nothing}
+use Rattle.wit_merge_laws.specs.facts.NothingFacts.{nothing}
 use Rattle.wit_merge_laws.proofs.laws.nothing_comes.Goals as goal
 
 pub returns : goal.returns

@@ -1,4 +1,4 @@
-use Rattle.wit_merge_laws.specs.LeadsStay.{leads_stay}
+use Rattle.wit_merge_laws.specs.facts.LeadsStay.{leads_stay}
 use Rattle.wit_merge_laws.proofs.laws.resources_stay.Goals as goal
 
 pub returns : goal.returns

@@ -1,4 +1,4 @@
-use Rattle.wit_merge_laws.specs.SharedImports.{shared_imports}
+use Rattle.wit_merge_laws.specs.facts.SharedImports.{shared_imports}
 use Rattle.wit_merge_laws.proofs.laws.shared_worlds_keep_imports.Goals as goal
 
 pub returns : goal.returns

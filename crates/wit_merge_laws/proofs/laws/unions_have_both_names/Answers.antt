@@ -1,4 +1,4 @@
-use Rattle.wit_merge_laws.specs.BothNames.{both_names}
+use Rattle.wit_merge_laws.specs.facts.BothNames.{both_names}
 use Rattle.wit_merge_laws.proofs.laws.unions_have_both_names.Goals as goal
 
 pub returns : goal.returns

@@ -1,8 +1,8 @@
 use Rattle.std.proofs.Common.{◌∙◌, Some, ap, length, map, refl, ℕ}
 use Rattle.std.specs.List.{range_with_len}
-use Rattle.wit_merge_match.specs.Found.{merging}
+use Rattle.wit_merge_match.specs.steps.Found.{merging}
 use Rattle.wit_merge_spec.specs.Matches.{found_interface, found_package, found_type, found_world}
-use Rattle.wit_merge_match.specs.Going.{place_from}
+use Rattle.wit_merge_match.specs.steps.Going.{place_from}
 use Rattle.wit_merge_match.proofs.Next.{all_same, counted_same}
 use Rattle.wit_merge_match.proofs.going.find_places.Goals as goal
 

@@ -1,7 +1,7 @@
 use Rattle.std.proofs.Common.{string_bytes}
 use Rattle.std.proofs.lemmas.Option.{IfSome_then}
 use Rattle.std.proofs.lemmas.Result.{IfOk-weaker}
-use Rattle.wit_merge_match.specs.Found.{merging}
+use Rattle.wit_merge_match.specs.steps.Found.{merging}
 use Rattle.wit_merge_match.proofs.Steps.{are_one, if_none, interface_differs, types_differ, world_differs}
 use Rattle.wit_merge_match.proofs.mismatch.find_mismatch.Goals as goal
 

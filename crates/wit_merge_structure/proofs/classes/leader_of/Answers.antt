@@ -1,5 +1,5 @@
 use Rattle.std.proofs.Common.{◌≡◌, ◌∙◌, ◌≤◌, ℕ, List, ap, arith, length, subst, sym}
-use Rattle.wit_merge_structure.specs.Classes.{AreSame, IsDescending}
+use Rattle.wit_merge_structure.specs.steps.Classes.{AreSame, IsDescending}
 use Rattle.wit_merge_structure.proofs.ClassSteps.{set_descending, set_long, set_same}
 use Rattle.wit_merge_structure.proofs.classes.leader_of.Goals as goal
 

@@ -1,5 +1,5 @@
 use Rattle.std.proofs.Common.{◌≡◌, ◌<◌, ℕ, List, length}
-use Rattle.wit_merge_structure.specs.Classes.{AreSame, IsDescending}
+use Rattle.wit_merge_structure.specs.steps.Classes.{AreSame, IsDescending}
 use Rattle.wit_merge_structure.specs.Structure.{Feature}
 use Rattle.wit_merge_structure.proofs.classes.leader_of.Given as goal
 

@@ -1,5 +1,5 @@
 use Rattle.std.proofs.Common.{◌∙◌, arith, subst, sym}
-use Rattle.wit_merge_structure.specs.Classes.{AreSame, IsDescending}
+use Rattle.wit_merge_structure.specs.steps.Classes.{AreSame, IsDescending}
 use Rattle.wit_merge_structure.proofs.ClassSteps.{set_descending, set_same}
 use Rattle.wit_merge_structure.proofs.classes.unite.Goals as goal
 

@@ -1,5 +1,5 @@
 use Rattle.std.proofs.Common.{◌≡◌, ◌∙◌, rules, sym}
-use Rattle.wit_merge_structure.specs.Kinds.{steps_of}
+use Rattle.wit_merge_structure.specs.steps.Kinds.{steps_of}
 use Rattle.wit_merge_structure.specs.Structure.{variant_of}
 use Rattle.wit_merge_structure.proofs.KindParts.{lengths_differ, names_differ, variants_differ}
 use Rattle.wit_merge_structure.proofs.heads.head_difference.Goals as goal

@@ -1,5 +1,5 @@
 use Rattle.std.proofs.Common.{◌≡◌, ◌<◌, ℕ}
-use Rattle.wit_merge_structure.specs.Kinds.{name_at}
+use Rattle.wit_merge_structure.specs.steps.Kinds.{name_at}
 use Rattle.wit_merge_structure.proofs.kinds.have_same_parts.Given as goal
 
 -- the first parts have the same names

@@ -1,6 +1,6 @@
 use Rattle.std.proofs.Common.{◌≡◌, ◌∙◌, None, ap, rules, sym}
 use Rattle.std.proofs.lemmas.Result.{IfOk-weaker}
-use Rattle.wit_merge_structure.specs.Kinds.{name_at, plain_step, step_at}
+use Rattle.wit_merge_structure.specs.steps.Kinds.{name_at, plain_step, step_at}
 use Rattle.wit_merge_structure.specs.Structure.{variant_of}
 use Rattle.wit_merge_structure.specs.declared.kinds.Variant.{Variant}
 use Rattle.wit_merge_structure.specs.declared.kinds.Variant.TheVariants.{Tuple}

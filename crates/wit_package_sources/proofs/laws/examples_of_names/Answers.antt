@@ -1,6 +1,6 @@
 use Rattle.std.proofs.Common.{List, ℕ, Option, [], ◌∷◌, ap, refl}
 use Rattle.std.specs.Prelude.{slice_get, unwrap_or}
-use Rattle.wit_values.specs.Lists.{differ}
+use Rattle.wit_values.specs.facts.Lists.{differ}
 use Rattle.wit_package_sources.proofs.laws.examples_of_names.Goals as goal
 
 -- the first name

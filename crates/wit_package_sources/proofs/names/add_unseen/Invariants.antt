@@ -1,5 +1,5 @@
 use Rattle.std.proofs.Common.{◌≡◌, ℕ, Bor, List, map, take}
-use Rattle.wit_package_sources.specs.Seen.{with_all}
+use Rattle.wit_package_sources.specs.steps.Seen.{with_all}
 use Rattle.wit_package_sources.proofs.names.add_unseen.Given as goal
 
 abbrev pub invariant-loop-name : goal.invariant-loop-name

@@ -2,9 +2,9 @@ use Rattle.std.proofs.Common.{◌∙◌, ◌≡◌, ◌<◌, List, [], ℕ, All,
 use Rattle.std.specs.List.{flat_map}
 use Rattle.wit_digraph.specs.Relation.{IsAcyclic}
 use Rattle.wit_data.specs.declared.types.TypeDef.{TypeDef}
-use Rattle.wit_graph_data.specs.HeldFacts.{held_acyclic, held_long}
+use Rattle.wit_graph_data.specs.facts.HeldFacts.{held_acyclic, held_long}
 use Rattle.wit_graph_data.specs.Questions.{held_rows, signature_types}
-use Rattle.wit_queries.specs.Unfolding.{futures_of, places_within}
+use Rattle.wit_queries.specs.steps.Unfolding.{futures_of, places_within}
 use Rattle.wit_queries.proofs.Unfolds.{told_within, within_below}
 use Rattle.wit_queries.proofs.futures.find_futures_and_streams.Goals as goal
 

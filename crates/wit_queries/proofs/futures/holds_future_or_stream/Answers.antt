@@ -3,9 +3,9 @@ use Rattle.std.specs.List.{flat_map, list_any}
 use Rattle.wit_digraph.specs.Relation.{IsAcyclic}
 use Rattle.wit_digraph.specs.Walks.{first_of_each, walk}
 use Rattle.wit_data.specs.declared.types.TypeDef.{TypeDef}
-use Rattle.wit_graph_data.specs.HeldFacts.{held_acyclic, held_long}
+use Rattle.wit_graph_data.specs.facts.HeldFacts.{held_acyclic, held_long}
 use Rattle.wit_graph_data.specs.Questions.{held_rows, is_future, signature_types}
-use Rattle.wit_queries.specs.Unfolding.{places_within}
+use Rattle.wit_queries.specs.steps.Unfolding.{places_within}
 use Rattle.wit_queries.proofs.Unfolds.{filter-walks, none_picked, picked_once, told_within, within_below}
 use Rattle.wit_queries.proofs.futures.holds_future_or_stream.Goals as goal
 

@@ -3,8 +3,8 @@ use Rattle.std.proofs.lemmas.List.{take_all, take_more}
 use Rattle.std.proofs.lemmas.List.Elements.{Contains-get_or}
 use Rattle.std.proofs.lemmas.Option.{slice_get-get_or}
 use Rattle.wit_digraph.specs.Relation.{direct}
-use Rattle.wit_digraph.specs.WalkFacts.{UsesFirst-at}
-use Rattle.wit_queries.specs.Unfolding.{OthersHoldNone}
+use Rattle.wit_digraph.specs.facts.WalkFacts.{UsesFirst-at}
+use Rattle.wit_queries.specs.steps.Unfolding.{OthersHoldNone}
 use Rattle.wit_queries.proofs.futures.mark_holding.Goals as goal
 
 pub loop-place-preserved : goal.loop-place-preserved

@@ -1,5 +1,5 @@
 use Rattle.std.proofs.Common.{◌≡◌, length, take}
-use Rattle.wit_queries.specs.Unfolding.{OthersHoldNone}
+use Rattle.wit_queries.specs.steps.Unfolding.{OthersHoldNone}
 use Rattle.wit_queries.proofs.futures.mark_holding.Given as goal
 
 -- the first ones are marked where they hold some

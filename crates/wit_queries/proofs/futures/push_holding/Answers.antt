@@ -1,7 +1,7 @@
 use Rattle.std.proofs.Common.{◌∙◌, ◌<◌, ℕ, length, get_or, nat_eq, sym, arith}
 use Rattle.std.specs.List.{list_any}
 use Rattle.std.proofs.lemmas.Bool.{false≢true}
-use Rattle.wit_digraph.specs.FreshFacts.{any_from_contains, no_any_from}
+use Rattle.wit_digraph.specs.facts.FreshFacts.{any_from_contains, no_any_from}
 use Rattle.wit_queries.proofs.Unfolds.{passed_over, picked}
 use Rattle.wit_queries.proofs.futures.push_holding.Goals.{then-has+in_ok-push, else-has}
 use Rattle.wit_queries.proofs.futures.push_holding.Goals as goal

@@ -1,6 +1,6 @@
-use Rattle.wit_data.specs.EachFacts.{EachBelow}
+use Rattle.wit_data.specs.facts.EachFacts.{EachBelow}
 use Rattle.wit_data.specs.Entries.{Entry}
-use Rattle.wit_remap.specs.Fits.{Fits, ItemFits}
+use Rattle.wit_remap.specs.steps.Fits.{Fits, ItemFits}
 use Rattle.wit_remap.proofs.fitting.entries_fit.Given as goal
 
 -- the first ones fit

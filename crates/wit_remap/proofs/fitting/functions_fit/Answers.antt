@@ -1,5 +1,5 @@
 use Rattle.std.proofs.Common.{arith}
-use Rattle.wit_data.specs.EachFacts.{more, all, fails}
+use Rattle.wit_data.specs.facts.EachFacts.{more, all, fails}
 use Rattle.wit_remap.proofs.fitting.functions_fit.Goals as goal
 
 pub returns-then-not-function_fits : goal.returns-then-not-function_fits

@@ -1,7 +1,7 @@
 use Rattle.std.proofs.Common.{ℕ, List}
-use Rattle.wit_data.specs.EachFacts.{EachBelow}
+use Rattle.wit_data.specs.facts.EachFacts.{EachBelow}
 use Rattle.wit_data.specs.declared.function.Function.{Function}
-use Rattle.wit_remap.specs.Fits.{Fits, FunctionFits}
+use Rattle.wit_remap.specs.steps.Fits.{Fits, FunctionFits}
 use Rattle.wit_remap.proofs.fitting.functions_fit.Given as goal
 
 -- the first ones fit

@@ -2,7 +2,7 @@ use Rattle.std.proofs.Common.{◌≡◌, ◌++◌, filter}
 use Rattle.std.specs.List.{enumerate_from}
 use Rattle.std.specs.Vec.Iter.{into_iter_items}
 use Rattle.wit_link_spec.specs.Ranks.{taken_places}
-use Rattle.wit_remap.specs.Parts.{is_new}
+use Rattle.wit_remap.specs.steps.Parts.{is_new}
 use Rattle.wit_remap.proofs.part.taken_places.Given as goal
 
 -- those so far, and those to come

@@ -5,10 +5,10 @@ use Rattle.wit_data.specs.declared.interface.Interface.{Interface}
 use Rattle.wit_graph_theory.specs.Cut.{cut_interface}
 use Rattle.wit_graph_theory.specs.Image.{interface_image}
 use Rattle.wit_link_spec.specs.Ranks.{taken_places}
-use Rattle.wit_remap.specs.Fits.{Fits, InterfaceFits}
-use Rattle.wit_remap.specs.GrownFacts.{Begins-as, Begins-by, Grown-same, interfaces_grow}
-use Rattle.wit_remap.specs.Movers.{maps_of}
-use Rattle.wit_remap.specs.Parts.{is_new, kept_of}
+use Rattle.wit_remap.specs.steps.Fits.{Fits, InterfaceFits}
+use Rattle.wit_remap.specs.facts.GrownFacts.{Begins-as, Begins-by, Grown-same, interfaces_grow}
+use Rattle.wit_remap.specs.steps.Movers.{maps_of}
+use Rattle.wit_remap.specs.steps.Parts.{is_new, kept_of}
 use Rattle.wit_remap.proofs.Kept.{Each-enumerated, Each-filter, map-pairs}
 use Rattle.wit_remap.proofs.parts.add_interfaces.Goals as goal
 

@@ -1,4 +1,4 @@
-use Rattle.wit_remap.specs.GrownFacts.{Begins-as, Begins-by, Begins-same, Grown-same, packages_grow}
+use Rattle.wit_remap.specs.facts.GrownFacts.{Begins-as, Begins-by, Begins-same, Grown-same, packages_grow}
 use Rattle.wit_remap.proofs.parts.add_package.Goals as goal
 
 pub returns-in_err-try_clone-clause-grown : goal.returns-in_err-try_clone-clause-grown

@@ -1,7 +1,7 @@
 use Rattle.std.proofs.Common.{◌∙◌, sym, refl, subst}
 use Rattle.wit_data.specs.Each.{Each}
-use Rattle.wit_remap.specs.Fits.{Fits, TypeFits}
-use Rattle.wit_remap.specs.GrownFacts.{Begins-as, Begins-by, Grown-same, types_grow}
+use Rattle.wit_remap.specs.steps.Fits.{Fits, TypeFits}
+use Rattle.wit_remap.specs.facts.GrownFacts.{Begins-as, Begins-by, Grown-same, types_grow}
 use Rattle.wit_remap.proofs.Kept.{Each-taken}
 use Rattle.wit_remap.proofs.LabelsStay.{names_stay}
 use Rattle.wit_remap.proofs.parts.add_types.Goals as goal

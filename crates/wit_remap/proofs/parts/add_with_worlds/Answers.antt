@@ -1,8 +1,8 @@
 use Rattle.std.proofs.Common.{List, sym, subst}
 use Rattle.wit_data.specs.Each.{Each}
 use Rattle.wit_data.specs.declared.interface.Interface.{Interface}
-use Rattle.wit_remap.specs.Fits.{Fits, InterfaceFits}
-use Rattle.wit_remap.specs.GrownFacts.{Grown-then}
+use Rattle.wit_remap.specs.steps.Fits.{Fits, InterfaceFits}
+use Rattle.wit_remap.specs.facts.GrownFacts.{Grown-then}
 use Rattle.wit_remap.proofs.parts.add_with_worlds.Goals as goal
 
 pub add_interfaces-requires-clause-fits : goal.add_interfaces-requires-clause-fits

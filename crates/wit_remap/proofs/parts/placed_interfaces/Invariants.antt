@@ -4,9 +4,9 @@ use Rattle.wit_data.specs.Each.{Each}
 use Rattle.wit_data.specs.declared.interface.Interface.{Interface}
 use Rattle.wit_graph_theory.specs.Cut.{cut_interface}
 use Rattle.wit_graph_theory.specs.Image.{interface_image}
-use Rattle.wit_remap.specs.Fits.{Fits, InterfaceFits}
-use Rattle.wit_remap.specs.Movers.{maps_of}
-use Rattle.wit_remap.specs.Parts.{kept_of}
+use Rattle.wit_remap.specs.steps.Fits.{Fits, InterfaceFits}
+use Rattle.wit_remap.specs.steps.Movers.{maps_of}
+use Rattle.wit_remap.specs.steps.Parts.{kept_of}
 use Rattle.wit_remap.proofs.parts.placed_interfaces.Given as goal
 
 -- those so far, and those to come

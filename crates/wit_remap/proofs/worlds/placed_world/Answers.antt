@@ -2,12 +2,12 @@ use Rattle.std.proofs.Common.{◌∙◌, List, filter, map, ap, sym, subst, refl
 use Rattle.std.specs.List.{IsDistinct}
 use Rattle.std.specs.Map.{keys_of}
 use Rattle.wit_data.specs.Entries.{Entry}
-use Rattle.wit_data.specs.WorldKeyFacts.{same_key}
+use Rattle.wit_data.specs.facts.WorldKeyFacts.{same_key}
 use Rattle.wit_graph_theory.specs.Image.{entry_image}
 use Rattle.wit_link_spec.specs.Gates.{include_is_active}
-use Rattle.wit_remap.specs.Fits.{EntriesFit, Fits, ItemFits}
-use Rattle.wit_remap.specs.Movers.{maps_of}
-use Rattle.wit_remap.specs.Parts.{kept_of}
+use Rattle.wit_remap.specs.steps.Fits.{EntriesFit, Fits, ItemFits}
+use Rattle.wit_remap.specs.steps.Movers.{maps_of}
+use Rattle.wit_remap.specs.steps.Parts.{kept_of}
 use Rattle.wit_remap.proofs.Kept.{Each-filter}
 use Rattle.wit_remap.proofs.worlds.placed_world.Goals as goal
 

@@ -1,6 +1,6 @@
 use Rattle.std.proofs.Common.{subst, sym}
 use Rattle.wit_semver_spec.specs.Rewritten.{rewritten}
-use Rattle.wit_resolve_graph.specs.RunLaws.{Keeps}
+use Rattle.wit_resolve_graph.specs.laws.RunLaws.{Keeps}
 use Rattle.wit_resolve_graph.proofs.RunsKeep.{keeps_pushed, keeps_pushes, keeps_things, keeps_turned, keeps_united}
 use Rattle.wit_resolve_graph.proofs.laws.calls_keep.Goals as goal
 

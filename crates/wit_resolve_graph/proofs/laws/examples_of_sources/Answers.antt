@@ -1,7 +1,7 @@
 use Rattle.std.proofs.Common.{ℕ, ◌≡◌, Some, inl, inr, ap, refl, length, lit≤, arith}
 use Rattle.std.specs.Fmt.{digits}
 use Rattle.wit_resolve_graph.specs.Sources.{PassesTheEnd}
-use Rattle.wit_resolve_graph.specs.SourcesExamples.{once, source}
+use Rattle.wit_resolve_graph.specs.examples.SourcesExamples.{once, source}
 use Rattle.wit_resolve_graph.specs.State.{State}
 use Rattle.wit_resolve_graph.specs.declared.sources.SourceFault.{SourceFault}
 use Rattle.wit_resolve_graph.specs.declared.sources.SourceFault.TheVariants as fault

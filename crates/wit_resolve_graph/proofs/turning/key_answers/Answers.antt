@@ -1,5 +1,5 @@
 use Rattle.std.proofs.Common.{sym}
-use Rattle.wit_values.specs.Lists.{map-next}
+use Rattle.wit_values.specs.facts.Lists.{map-next}
 use Rattle.wit_elaboration.specs.Entries.{Entry}
 use Rattle.wit_resolve_graph.specs.Step.{is_listed_key}
 use Rattle.wit_resolve_graph.proofs.turning.key_answers.Goals as goal

@@ -1,4 +1,4 @@
-use Rattle.wit_data.specs.EachFacts.{EachBelow}
+use Rattle.wit_data.specs.facts.EachFacts.{EachBelow}
 use Rattle.wit_data.specs.Shape.{IsGroupShaped}
 use Rattle.wit_script.proofs.reader.are_shaped.Given as goal
 

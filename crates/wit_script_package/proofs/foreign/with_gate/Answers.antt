@@ -1,6 +1,6 @@
 use Rattle.std.proofs.Common.{List, ap, sym, ◌∙◌}
 use Rattle.wit_data.specs.declared.stability.Stability.{Stability}
-use Rattle.wit_script_package.specs.Mentioning.{with_gate}
+use Rattle.wit_script_package.specs.steps.Mentioning.{with_gate}
 use Rattle.wit_script_package.proofs.Changing.{changed-text, nothing, unchanged-text}
 use Rattle.wit_script_package.proofs.foreign.with_gate.Goals as goal
 

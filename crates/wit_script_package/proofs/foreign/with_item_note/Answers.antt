@@ -1,7 +1,7 @@
 use Rattle.std.proofs.Common.{◌≡◌, List, [], ap, sym, ◌∙◌, bytes_eq}
 use Rattle.wit_data.specs.Foreign.{ForeignItem}
 use Rattle.wit_data.specs.declared.stability.Stability.{Stability}
-use Rattle.wit_script_package.specs.Mentioning.{changed_at, with_gate, with_item_note}
+use Rattle.wit_script_package.specs.steps.Mentioning.{changed_at, with_gate, with_item_note}
 use Rattle.wit_script_package.proofs.Changing.{ok-same, value-there}
 use Rattle.wit_script_package.proofs.Same.{own-text}
 use Rattle.wit_script_package.proofs.foreign.with_item_note.Goals as goal

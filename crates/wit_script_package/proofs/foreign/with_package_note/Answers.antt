@@ -1,8 +1,8 @@
 use Rattle.std.proofs.Common.{◌≡◌, List, [], ap, sym, ◌∙◌}
 use Rattle.wit_data.specs.Foreign.{ForeignItem, ForeignItems}
-use Rattle.wit_data.specs.PackageNameFacts.{own_name}
+use Rattle.wit_data.specs.facts.PackageNameFacts.{own_name}
 use Rattle.wit_data.specs.PackageOrder.{same_package}
-use Rattle.wit_script_package.specs.Mentioning.{changed_at, with_item_note, with_package_note}
+use Rattle.wit_script_package.specs.steps.Mentioning.{changed_at, with_item_note, with_package_note}
 use Rattle.wit_script_package.proofs.Changing.{ok-same, value-there}
 use Rattle.wit_script_package.proofs.foreign.with_package_note.Goals as goal
 

@@ -1,14 +1,14 @@
 use Rattle.std.proofs.Common.{◌≡◌, ◌∙◌, ◌⊎◌, inl, inr, ℕ, sym, subst}
 use Rattle.wit_data.specs.declared.track.TrackRule.{TrackRule}
-use Rattle.wit_graph_data.specs.AnswerFacts.{told_err}
+use Rattle.wit_graph_data.specs.facts.AnswerFacts.{told_err}
 use Rattle.wit_elaboration.specs.Valid.{IsValid}
 use Rattle.wit_graph_data.specs.declared.error_kind.ResolveErrorKind.{ResolveErrorKind}
 use Rattle.wit_graph_data.specs.declared.error_kind.ResolveErrorKind.TheVariants.{OutOfMemory}
 use Rattle.wit_graph_data.specs.declared.graph.Graph.{Graph}
 use Rattle.wit_semver_spec.specs.TrackCause.{IsAccepted, IsTrackCause}
-use Rattle.wit_unite_common.specs.Asked.{CanSettle}
-use Rattle.wit_unite_common.specs.Reasons.{SettleCause}
-use Rattle.wit_semver.specs.Replacing.{IsRelisted, upgrade}
+use Rattle.wit_unite_common.specs.steps.Asked.{CanSettle}
+use Rattle.wit_unite_common.specs.facts.Reasons.{SettleCause}
+use Rattle.wit_semver.specs.steps.Replacing.{IsRelisted, upgrade}
 use Rattle.wit_semver.proofs.Settles.{accepted_from, can_settle, cause_from, rewritten_from}
 use Rattle.wit_semver.proofs.merging.merged_by_track.Goals as goal
 

@@ -2,7 +2,7 @@ use Rattle.std.proofs.Common.{◌≡◌, ◌∙◌, ◌⊎◌, ◌<◌, ◌++◌
 use Rattle.std.specs.List.{flat_map}
 use Rattle.wit_data.specs.declared.track.TrackRule.{TrackRule}
 use Rattle.wit_data.specs.declared.world.World.{World}
-use Rattle.wit_graph_data.specs.AnswerFacts.{told_err}
+use Rattle.wit_graph_data.specs.facts.AnswerFacts.{told_err}
 use Rattle.wit_elaboration.specs.Entries.{Entry}
 use Rattle.wit_graph_data.specs.declared.cause.Cause.TheVariants as cause
 use Rattle.wit_graph_data.specs.declared.error_kind.ResolveErrorKind.{ResolveErrorKind}
@@ -11,7 +11,7 @@ use Rattle.wit_graph_data.specs.declared.graph.Graph.{Graph}
 use Rattle.wit_semver_spec.specs.Rewritten.{entry_types, following, staying}
 use Rattle.wit_semver_spec.specs.TrackCause.{Disagrees, IsTrackCause, UpgradeCause, functions_disagree_25, type_missing_25}
 use Rattle.wit_semver_spec.specs.Upgrade.{Upgrade}
-use Rattle.wit_semver.specs.Replacing.{IsFilled, LackTypes, upgrade, upgrade_of, used_target, with_lists}
+use Rattle.wit_semver.specs.steps.Replacing.{IsFilled, LackTypes, upgrade, upgrade_of, used_target, with_lists}
 use Rattle.wit_semver.proofs.Relisted.{following_is, following_within, imports_within, lacks_from, lacks_into, relisted_is}
 use Rattle.wit_semver.proofs.merging.relisted_world.Goals as goal
 

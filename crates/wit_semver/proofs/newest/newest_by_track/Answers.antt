@@ -2,7 +2,7 @@ use Rattle.std.proofs.Common.{◌∙◌, ◌++◌, ◌∷◌, [], ℕ, List, tak
 use Rattle.std.proofs.lemmas.List.{append-nil}
 use Rattle.wit_data.specs.declared.world.WorldKey.{WorldKey}
 use Rattle.wit_elaboration.specs.Entries.{key_interface, keyed_interfaces}
-use Rattle.wit_semver.specs.Replacing.{TellsNewest}
+use Rattle.wit_semver.specs.steps.Replacing.{TellsNewest}
 use Rattle.wit_semver.proofs.Keyed.{keyed-next}
 use Rattle.wit_semver.proofs.newest.newest_by_track.Goals as goal
 use Rattle.wit_semver.proofs.newest.newest_by_track.Goals.{in-Interface+in_ok-note-in-Interface, in-Name}

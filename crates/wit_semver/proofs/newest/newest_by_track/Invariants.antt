@@ -1,6 +1,6 @@
 use Rattle.std.proofs.Common.{take}
 use Rattle.wit_elaboration.specs.Entries.{keyed_interfaces}
-use Rattle.wit_semver.specs.Replacing.{TellsNewest}
+use Rattle.wit_semver.specs.steps.Replacing.{TellsNewest}
 use Rattle.wit_semver.proofs.newest.newest_by_track.Given as goal
 
 -- it tells of the first entries

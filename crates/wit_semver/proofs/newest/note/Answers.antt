@@ -1,6 +1,6 @@
 use Rattle.std.proofs.Common.{◌∙◌, cond, Option, Some, sym, ap}
 use Rattle.std.specs.Map.{lookup}
-use Rattle.wit_semver.specs.Replacing.{is_newer, same_track, told}
+use Rattle.wit_semver.specs.steps.Replacing.{is_newer, same_track, told}
 use Rattle.wit_semver.specs.declared.tracks.TrackKey.{TrackKey}
 use Rattle.wit_semver.proofs.NewestTold.{tells_newer, tells_smaller, tells_unversioned}
 use Rattle.wit_semver.proofs.newest.note.Goals as goal

@@ -7,7 +7,7 @@ use Rattle.wit_elaboration.specs.Entries.{keyed_interfaces}
 use Rattle.wit_elaboration.specs.Valid.{IsValid}
 use Rattle.wit_graph_data.specs.declared.graph.Graph.{Graph}
 use Rattle.wit_semver_spec.specs.Tracks.{Versioned, is_below, versioned}
-use Rattle.wit_semver.specs.Replacing.{TellsNewest, key_of, replacement, same_track, told, upgrade}
+use Rattle.wit_semver.specs.steps.Replacing.{TellsNewest, key_of, replacement, same_track, told, upgrade}
 use Rattle.wit_semver.specs.declared.tracks.TrackKey.{TrackKey}
 use Rattle.wit_semver.proofs.NewestTold.{greater_replaces, is_known, level_stays, n_at, unversioned_stays}
 use Rattle.wit_semver.proofs.replaced.replacement.Goals as goal

@@ -5,7 +5,7 @@ use Rattle.wit_data.specs.declared.world.WorldKey.{WorldKey}
 use Rattle.wit_elaboration.specs.Entries.{Entry, key_interface, keyed_interfaces}
 use Rattle.wit_semver_spec.specs.Tracks.{is_outdone_by}
 use Rattle.wit_semver_spec.specs.Upgrade.{Upgrade, imported, newest}
-use Rattle.wit_semver.specs.Replacing.{IsFilled, replacement, upgrade}
+use Rattle.wit_semver.specs.steps.Replacing.{IsFilled, replacement, upgrade}
 use Rattle.wit_semver.proofs.Filled.{filled-next}
 use Rattle.wit_semver.proofs.Keyed.{keyed-at, keyed-next}
 use Rattle.wit_semver.proofs.replaced.replacements.Goals as goal

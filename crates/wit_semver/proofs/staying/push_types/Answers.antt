@@ -1,5 +1,5 @@
 use Rattle.std.proofs.Common.{◌∙◌, ◌++◌, ◌∷◌, [], ℕ, List, map, take, append_assoc, sym, ap}
-use Rattle.wit_values.specs.Lists.{map-next}
+use Rattle.wit_values.specs.facts.Lists.{map-next}
 use Rattle.wit_semver.proofs.staying.push_types.Goals as goal
 
 pub loop-index-preserved : goal.loop-index-preserved

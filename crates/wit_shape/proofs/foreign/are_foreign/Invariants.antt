@@ -1,4 +1,4 @@
-use Rattle.wit_data.specs.YieldedFacts.{LeftDecide}
+use Rattle.wit_data.specs.facts.YieldedFacts.{LeftDecide}
 use Rattle.wit_data.specs.Foreign.{IsForeign}
 use Rattle.wit_shape.proofs.foreign.are_foreign.Given as goal
 

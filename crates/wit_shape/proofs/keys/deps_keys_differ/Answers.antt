@@ -3,7 +3,7 @@ use Rattle.std.proofs.lemmas.Map.Iter.{rest_more, rest_all}
 use Rattle.std.specs.Map.Iter.{deref_pair}
 use Rattle.wit_values.specs.Table.{HasDistinctKeys}
 use Rattle.wit_data.specs.Each.{Each}
-use Rattle.wit_data.specs.EachFacts.{EachAt-cons}
+use Rattle.wit_data.specs.facts.EachFacts.{EachAt-cons}
 use Rattle.wit_data.specs.Foreign.{ForeignItem}
 use Rattle.wit_data.specs.declared.package_name.PackageName.{PackageName}
 use Rattle.wit_shape.proofs.keys.deps_keys_differ.Goals as goal

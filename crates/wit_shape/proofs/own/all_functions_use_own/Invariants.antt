@@ -1,4 +1,4 @@
-use Rattle.wit_data.specs.EachFacts.{EachBelow}
+use Rattle.wit_data.specs.facts.EachFacts.{EachBelow}
 use Rattle.wit_data.specs.Ownership.{FunctionsUseOwn}
 use Rattle.wit_shape.proofs.own.all_functions_use_own.Given as goal
 

@@ -1,4 +1,4 @@
-use Rattle.wit_data.specs.EachFacts.{EachBelow}
+use Rattle.wit_data.specs.facts.EachFacts.{EachBelow}
 use Rattle.wit_data.specs.Entries.{EntriesUseOwn}
 use Rattle.wit_data.specs.declared.world.World.{World}
 use Rattle.wit_shape.proofs.own.all_imports_use_own.Given as goal

@@ -1,4 +1,4 @@
-use Rattle.wit_data.specs.EachFacts.{EachBelow}
+use Rattle.wit_data.specs.facts.EachFacts.{EachBelow}
 use Rattle.wit_data.specs.Ownership.{RefersToOwn}
 use Rattle.wit_shape.proofs.own.all_refer_to_own.Given as goal
 

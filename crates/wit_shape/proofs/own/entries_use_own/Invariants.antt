@@ -1,4 +1,4 @@
-use Rattle.wit_data.specs.YieldedFacts.{LeftDecide}
+use Rattle.wit_data.specs.facts.YieldedFacts.{LeftDecide}
 use Rattle.wit_data.specs.Entries.{Entry, ItemUsesOwn}
 use Rattle.wit_shape.proofs.own.entries_use_own.Given as goal
 

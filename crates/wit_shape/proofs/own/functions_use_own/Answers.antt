@@ -1,7 +1,7 @@
 use Rattle.std.proofs.Common.{◌∙◌}
 use Rattle.std.proofs.lemmas.Map.Iter.{rest_all, rest_more}
 use Rattle.wit_values.specs.Names.{deref_named}
-use Rattle.wit_data.specs.YieldedFacts.{left_fails, left_more, left_none, left_start}
+use Rattle.wit_data.specs.facts.YieldedFacts.{left_fails, left_more, left_none, left_start}
 use Rattle.wit_shape.proofs.own.functions_use_own.Goals as goal
 
 pub loop-function-init : goal.loop-function-init

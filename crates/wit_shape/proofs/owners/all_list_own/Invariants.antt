@@ -1,4 +1,4 @@
-use Rattle.wit_data.specs.EachFacts.{EachBelow}
+use Rattle.wit_data.specs.facts.EachFacts.{EachBelow}
 use Rattle.wit_data.specs.Ownership.{ListsOwn}
 use Rattle.wit_shape.proofs.owners.all_list_own.Given as goal
 

@@ -1,4 +1,4 @@
-use Rattle.wit_data.specs.EachFacts.{EachBelow}
+use Rattle.wit_data.specs.facts.EachFacts.{EachBelow}
 use Rattle.wit_data.specs.Shape.{IsShaped}
 use Rattle.wit_shape.proofs.package.are_shaped.Given as goal
 

@@ -1,4 +1,4 @@
-use Rattle.wit_data.specs.ReferenceFacts.{IsAcyclic-references}
+use Rattle.wit_data.specs.facts.ReferenceFacts.{IsAcyclic-references}
 use Rattle.wit_shape.proofs.package.is_shaped.Goals as goal
 
 pub keeps_to_own-requires : goal.keeps_to_own-requires

@@ -2,11 +2,11 @@ use Rattle.std.proofs.Common.{◌≡◌, ℕ, ◌+◌, ◌<◌, List, length, ta
 use Rattle.std.specs.Prelude.{is_some}
 use Rattle.std.proofs.lemmas.Option.{slice_get_read, slice_get_within}
 use Rattle.std.proofs.lemmas.Grind.{common_steps}
-use Rattle.wit_values.specs.Lists.{take-next_at}
-use Rattle.wit_data.specs.EachFacts.{SomeAt-is}
+use Rattle.wit_values.specs.facts.Lists.{take-next_at}
+use Rattle.wit_data.specs.facts.EachFacts.{SomeAt-is}
 use Rattle.wit_data.specs.Ownership.{Shows}
 use Rattle.wit_data.specs.Reference.{referred}
-use Rattle.wit_shape.specs.Shown.{IsTold, Tells, joined}
+use Rattle.wit_shape.specs.steps.Shown.{IsTold, Tells, joined}
 use Rattle.wit_shape.specs.declared.shown.Shown.{Shown}
 use Rattle.wit_data.specs.declared.types.TypeDef.{TypeDef}
 use Rattle.wit_shape.proofs.Telling.{ShowsAny, tells_more, tells_named, tells_none, tells_unnamed}

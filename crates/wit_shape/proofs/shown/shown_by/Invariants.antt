@@ -1,5 +1,5 @@
 use Rattle.std.proofs.Common.{take}
-use Rattle.wit_shape.specs.Shown.{Tells}
+use Rattle.wit_shape.specs.steps.Shown.{Tells}
 use Rattle.wit_shape.proofs.Telling.{ShowsAny}
 use Rattle.wit_shape.proofs.shown.shown_by.Given as goal
 

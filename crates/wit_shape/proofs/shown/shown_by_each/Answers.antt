@@ -4,16 +4,16 @@ use Rattle.std.proofs.Math.ListN.{length-set}
 use Rattle.std.proofs.lemmas.List.Elements.{Contains-append_cases, Contains-get_or}
 use Rattle.std.proofs.lemmas.Option.{slice_get_within, slice_get-get_or}
 use Rattle.std.proofs.lemmas.Grind.{common_steps}
-use Rattle.wit_values.specs.Lists.{kept-cases, slice_get-set, take-next_at}
-use Rattle.wit_digraph.specs.MemberFacts.{Contains-nil, Contains-cons_cases}
-use Rattle.wit_digraph.specs.WalkFacts.{UsesFirst-at}
+use Rattle.wit_values.specs.facts.Lists.{kept-cases, slice_get-set, take-next_at}
+use Rattle.wit_digraph.specs.facts.MemberFacts.{Contains-nil, Contains-cons_cases}
+use Rattle.wit_digraph.specs.facts.WalkFacts.{UsesFirst-at}
 use Rattle.wit_digraph.specs.Walks.{Listed, UsesFirst}
 use Rattle.wit_data.specs.Each.{SomeAt}
-use Rattle.wit_data.specs.EachFacts.{SomeAt-is, SomeAt-of}
+use Rattle.wit_data.specs.facts.EachFacts.{SomeAt-is, SomeAt-of}
 use Rattle.wit_data.specs.Ownership.{Shows}
 use Rattle.wit_data.specs.Reference.{referred, type_references}
-use Rattle.wit_data.specs.ReferenceFacts.{references_at}
-use Rattle.wit_shape.specs.Shown.{IsTold, Tells, TellsEach}
+use Rattle.wit_data.specs.facts.ReferenceFacts.{references_at}
+use Rattle.wit_shape.specs.steps.Shown.{IsTold, Tells, TellsEach}
 use Rattle.wit_shape.specs.declared.shown.Shown.{Shown}
 use Rattle.wit_data.specs.declared.types.TypeDef.{TypeDef}
 use Rattle.wit_shape.proofs.shown.shown_by_each.Goals as goal

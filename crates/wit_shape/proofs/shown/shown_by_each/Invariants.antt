@@ -2,7 +2,7 @@ use Rattle.std.proofs.Common.{◌≡◌, ℕ, length, take}
 use Rattle.std.specs.Prelude.{Contains}
 use Rattle.wit_data.specs.Each.{SomeAt}
 use Rattle.wit_data.specs.Ownership.{Shows}
-use Rattle.wit_shape.specs.Shown.{Tells}
+use Rattle.wit_shape.specs.steps.Shown.{Tells}
 use Rattle.wit_shape.proofs.shown.shown_by_each.Given as goal
 
 -- it is told of the first ones of the order

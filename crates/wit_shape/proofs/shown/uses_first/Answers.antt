@@ -2,7 +2,7 @@ use Rattle.std.proofs.Common.{◌≡◌, ◌∙◌, ℕ, ◌<◌, [], List, leng
 use Rattle.std.specs.Prelude.{Contains, IfOk}
 use Rattle.wit_digraph.specs.Walks.{Listed, UsesFirst}
 use Rattle.wit_data.specs.Reference.{type_references}
-use Rattle.wit_data.specs.ReferenceFacts.{length-references}
+use Rattle.wit_data.specs.facts.ReferenceFacts.{length-references}
 use Rattle.wit_shape.proofs.shown.uses_first.Goals as goal
 
 pub returns-clause-nodes : goal.returns-clause-nodes

@@ -1,6 +1,6 @@
 use Rattle.std.proofs.lemmas.Map.Iter.{rest_all, rest_more}
 use Rattle.wit_values.specs.Names.{deref_named}
-use Rattle.wit_data.specs.YieldedFacts.{left_fails, left_more, left_none}
+use Rattle.wit_data.specs.facts.YieldedFacts.{left_fails, left_more, left_none}
 use Rattle.wit_shape.proofs.unknown.lists_unknown_alone.Goals as goal
 
 pub returns-then-not-is_below : goal.returns-then-not-is_below

@@ -1,5 +1,5 @@
 use Rattle.std.proofs.Common.{ℕ, List, ◌<◌}
-use Rattle.wit_data.specs.YieldedFacts.{LeftDecide}
+use Rattle.wit_data.specs.facts.YieldedFacts.{LeftDecide}
 use Rattle.wit_shape.proofs.unknown.lists_unknown_alone.Given as goal
 
 -- those that are left decide

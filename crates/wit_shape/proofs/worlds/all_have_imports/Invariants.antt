@@ -1,4 +1,4 @@
-use Rattle.wit_data.specs.EachFacts.{EachBelow}
+use Rattle.wit_data.specs.facts.EachFacts.{EachBelow}
 use Rattle.wit_data.specs.Entries.{HasImports}
 use Rattle.wit_shape.proofs.worlds.all_have_imports.Given as goal
 

@@ -1,6 +1,6 @@
 use Rattle.std.proofs.lemmas.Map.Iter.{rest_all, rest_more}
 use Rattle.std.specs.Map.Iter.{deref_pair}
-use Rattle.wit_data.specs.YieldedFacts.{left_fails, left_more, left_none}
+use Rattle.wit_data.specs.facts.YieldedFacts.{left_fails, left_more, left_none}
 use Rattle.wit_shape.proofs.worlds.has_imports.Goals as goal
 
 pub returns-then-not-is_import : goal.returns-then-not-is_import

@@ -1,4 +1,4 @@
-use Rattle.wit_data.specs.YieldedFacts.{LeftDecide}
+use Rattle.wit_data.specs.facts.YieldedFacts.{LeftDecide}
 use Rattle.wit_data.specs.Entries.{Entry, IsImport}
 use Rattle.wit_shape.proofs.worlds.has_imports.Given as goal
 

@@ -2,7 +2,7 @@ use Rattle.std.proofs.Common.{◌∙◌, ◌≤◌, List, Contains, length, sym,
 use Rattle.std.specs.Map.{keys_of}
 use Rattle.wit_data.specs.declared.world.WorldKey.TheVariants as key
 use Rattle.wit_elaboration.specs.Entries.{Entry}
-use Rattle.wit_graph_theory.specs.ListFacts.{contained_at}
+use Rattle.wit_graph_theory.specs.facts.ListFacts.{contained_at}
 use Rattle.wit_transform.proofs.Distinct.{key_of_entry}
 use Rattle.wit_transform.proofs.Looked.{key_found, key_not_found, no_label-next, take_whole}
 use Rattle.wit_transform.proofs.turned_lists.common_label.Goals as goal

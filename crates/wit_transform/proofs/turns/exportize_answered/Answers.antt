@@ -1,7 +1,7 @@
 use Rattle.std.proofs.Common.{◌≡◌, ◌∙◌, ◌⊎◌, inl, inr, ℕ, true, List, [], Option, Some, length, slice_get, string_bytes, refl, sym, ap, subst}
 use Rattle.std.specs.Option.{option_map, option_map_or}
 use Rattle.wit_data.specs.declared.world.World.{World}
-use Rattle.wit_graph_data.specs.AnswerFacts.{told_err}
+use Rattle.wit_graph_data.specs.facts.AnswerFacts.{told_err}
 use Rattle.wit_elaboration.specs.Elaboration.{graph_uses}
 use Rattle.wit_elaboration.specs.Entries.{Entry}
 use Rattle.wit_elaboration.specs.Imported.{HasConflict}
@@ -9,7 +9,7 @@ use Rattle.wit_elaboration.specs.Sound.{HasSoundEntries}
 use Rattle.wit_elaboration.specs.Valid.{IsValid}
 use Rattle.wit_graph_data.specs.declared.error_kind.ResolveErrorKind.{ResolveErrorKind}
 use Rattle.wit_graph_data.specs.declared.error_kind.ResolveErrorKind.TheVariants.{OutOfMemory}
-use Rattle.wit_graph_theory.specs.ListFacts.{same_at}
+use Rattle.wit_graph_theory.specs.facts.ListFacts.{same_at}
 use Rattle.wit_transform.proofs.TurnSteps.{exportize_clear, exportize_conflict, exportized_in_order, has_home, turned_same}
 use Rattle.wit_transform.specs.TurnCause.{IsExportizeCause, IsFreeAt, exportized_taken, type_exported}
 use Rattle.wit_transform.specs.Turned.{Turn, answered, exportized, turned}

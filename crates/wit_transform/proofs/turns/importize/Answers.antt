@@ -1,13 +1,13 @@
 use Rattle.std.proofs.Common.{◌≡◌, ◌∙◌, ◌⊎◌, inl, inr, ℕ, List, [], Some, length, slice_get, string_bytes, refl, sym, ap, subst}
 use Rattle.std.specs.Option.{option_map}
 use Rattle.wit_data.specs.declared.world.World.{World}
-use Rattle.wit_graph_data.specs.AnswerFacts.{told_err}
+use Rattle.wit_graph_data.specs.facts.AnswerFacts.{told_err}
 use Rattle.wit_elaboration.specs.Entries.{Entry}
 use Rattle.wit_elaboration.specs.Sound.{HasSoundEntries}
 use Rattle.wit_elaboration.specs.Valid.{IsValid}
 use Rattle.wit_graph_data.specs.declared.error_kind.ResolveErrorKind.{ResolveErrorKind}
 use Rattle.wit_graph_data.specs.declared.error_kind.ResolveErrorKind.TheVariants.{OutOfMemory}
-use Rattle.wit_graph_theory.specs.ListFacts.{same_at}
+use Rattle.wit_graph_theory.specs.facts.ListFacts.{same_at}
 use Rattle.wit_transform.proofs.Accepted.{under_labels}
 use Rattle.wit_transform.proofs.TurnSteps.{has_home, importize_clear, importized_in_order, turned_same}
 use Rattle.wit_transform.specs.TurnCause.{IsFreeAt, IsImportizeCause, importized_taken, label_clash}

@@ -1,6 +1,6 @@
 use Rattle.std.proofs.Common.{◌≡◌, ◌∙◌, ℕ, ◌<◌, List, length, get_or, Some, slice_get, refl, subst, ap, arith}
 use Rattle.std.proofs.lemmas.Option.{slice_get_read}
-use Rattle.wit_data.specs.EachFacts.{more, all, fails}
+use Rattle.wit_data.specs.facts.EachFacts.{more, all, fails}
 use Rattle.wit_data.specs.declared.world.World.{World}
 use Rattle.wit_validity.proofs.canonical.are_canonical.Goals as goal
 

@@ -1,5 +1,5 @@
 use Rattle.std.proofs.Common.{arith}
-use Rattle.wit_data.specs.EachFacts.{more, all, fails}
+use Rattle.wit_data.specs.facts.EachFacts.{more, all, fails}
 use Rattle.wit_validity.proofs.package_names.name_their_own.Goals as goal
 
 pub returns-then-not-has_this_name : goal.returns-then-not-has_this_name

@@ -1,5 +1,5 @@
 use Rattle.std.proofs.Common.{arith}
-use Rattle.wit_data.specs.EachFacts.{more, all, fails}
+use Rattle.wit_data.specs.facts.EachFacts.{more, all, fails}
 use Rattle.wit_validity.proofs.tables.has_interfaces.Goals as goal
 
 pub returns-then-not-is_interface_of : goal.returns-then-not-is_interface_of

@@ -1,6 +1,6 @@
 use Rattle.std.proofs.Common.{ℕ, List}
 use Rattle.wit_elaboration.specs.Valid.{IsInterfaceOf}
-use Rattle.wit_data.specs.EachFacts.{EachBelow}
+use Rattle.wit_data.specs.facts.EachFacts.{EachBelow}
 use Rattle.wit_validity.proofs.tables.has_interfaces.Given as goal
 
 -- the first ones are

@@ -1,6 +1,6 @@
 use Rattle.std.proofs.Common.{refl, arith}
 use Rattle.std.proofs.lemmas.Option.{slice_get_read}
-use Rattle.wit_data.specs.EachFacts.{more, all, fails}
+use Rattle.wit_data.specs.facts.EachFacts.{more, all, fails}
 use Rattle.wit_validity.proofs.tables.have_worlds.Goals as goal
 
 pub returns-then-not-has_worlds : goal.returns-then-not-has_worlds

@@ -2,7 +2,7 @@ use Rattle.std.proofs.Common.{ℕ, List}
 use Rattle.wit_elaboration.specs.Valid.{IsWorldOf}
 use Rattle.wit_graph_data.specs.declared.graph.Package.{Package}
 use Rattle.wit_data.specs.Each.{Each}
-use Rattle.wit_data.specs.EachFacts.{EachBelow}
+use Rattle.wit_data.specs.facts.EachFacts.{EachBelow}
 use Rattle.wit_validity.proofs.tables.have_worlds.Given as goal
 
 -- the first ones have

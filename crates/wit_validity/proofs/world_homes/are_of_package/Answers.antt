@@ -1,5 +1,5 @@
 use Rattle.std.proofs.Common.{arith}
-use Rattle.wit_data.specs.EachFacts.{more, all, fails}
+use Rattle.wit_data.specs.facts.EachFacts.{more, all, fails}
 use Rattle.wit_validity.proofs.world_homes.are_of_package.Goals as goal
 
 pub returns-then-not-is_of_package : goal.returns-then-not-is_of_package

@@ -1,6 +1,6 @@
 use Rattle.wit_elaboration.specs.Valid.{IsOfPackage}
 use Rattle.wit_data.specs.Entries.{Entry}
-use Rattle.wit_data.specs.EachFacts.{EachBelow}
+use Rattle.wit_data.specs.facts.EachFacts.{EachBelow}
 use Rattle.wit_validity.proofs.world_homes.are_of_package.Given as goal
 
 -- the first ones are

@@ -1,6 +1,6 @@
 use Rattle.std.proofs.Common.{◌≡◌, List, ℕ, ap, subst}
 use Rattle.std.specs.Prelude.{Contains}
-use Rattle.wit_digraph.specs.Rows.{HasBit}
+use Rattle.wit_digraph.specs.steps.Rows.{HasBit}
 use Rattle.wit_digraph.specs.Walks.{Listed}
 use Rattle.wit_digraph.proofs.walk.Listing.has.Goals as goal
 

@@ -1,8 +1,8 @@
 use Rattle.std.proofs.Common.{◌≡◌, ℕ, ◌<◌, ◌+◌, ◌++◌, ◌⊎◌, inl, inr, List, ap, subst, sym, arith}
 use Rattle.std.specs.Prelude.{Contains}
 use Rattle.std.proofs.lemmas.List.Elements.{Contains-append_left}
-use Rattle.wit_digraph.specs.FreshFacts.{fresh_all}
-use Rattle.wit_digraph.specs.WalkFacts.{Contains-walk_end}
+use Rattle.wit_digraph.specs.facts.FreshFacts.{fresh_all}
+use Rattle.wit_digraph.specs.facts.WalkFacts.{Contains-walk_end}
 use Rattle.wit_digraph.specs.Walks.{Listed, fresh, walk}
 use Rattle.wit_digraph.proofs.walk.Listing.of_all.Goals as goal
 

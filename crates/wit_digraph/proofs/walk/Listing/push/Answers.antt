@@ -1,6 +1,6 @@
 use Rattle.std.proofs.Common.{◌≡◌, ◌≢◌, ◌∙◌, List, ℕ, ap, arith, drop, length}
 use Rattle.std.proofs.lemmas.List.{take_at}
-use Rattle.wit_digraph.specs.Rows.{bit_of}
+use Rattle.wit_digraph.specs.steps.Rows.{bit_of}
 use Rattle.wit_digraph.specs.Walks.{Listed}
 use Rattle.wit_digraph.proofs.Marks.{MarksTell-listed}
 use Rattle.wit_digraph.proofs.walk.Listing.push.Goals as goal

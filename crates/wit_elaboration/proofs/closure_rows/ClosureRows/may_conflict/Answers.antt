@@ -1,7 +1,7 @@
 use Rattle.std.proofs.Common.{◌<◌, ℕ, List, length, arith, sym, subst}
 use Rattle.std.proofs.lemmas.List.Elements.{All-contains}
 use Rattle.wit_elaboration.specs.Entries.{Entry, item_interface}
-use Rattle.wit_elaboration.specs.Closures.{HasColumnsOf, MayNeed}
+use Rattle.wit_elaboration.specs.steps.Closures.{HasColumnsOf, MayNeed}
 use Rattle.wit_elaboration.specs.Imported.{exported_interfaces}
 use Rattle.wit_elaboration.proofs.ExportSteps.{given_at, nothing_given}
 use Rattle.wit_elaboration.proofs.MayConflict.{EntryMayNeed, need_passed, need_none, none_needed}

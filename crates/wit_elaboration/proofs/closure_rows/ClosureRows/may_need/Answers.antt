@@ -2,7 +2,7 @@ use Rattle.std.proofs.Common.{ℕ, List, get_or, refl, subst, sym, arith, Contai
 use Rattle.std.proofs.lemmas.Bool.{false≢true}
 use Rattle.std.proofs.lemmas.List.Elements.{Contains-get_or}
 use Rattle.wit_digraph.specs.Relation.{direct}
-use Rattle.wit_elaboration.specs.Closures.{HaveCommonBit}
+use Rattle.wit_elaboration.specs.steps.Closures.{HaveCommonBit}
 use Rattle.wit_elaboration.proofs.Marking.{none_more, none_all}
 use Rattle.wit_elaboration.proofs.closure_rows.ClosureRows.may_need.Goals as goal
 

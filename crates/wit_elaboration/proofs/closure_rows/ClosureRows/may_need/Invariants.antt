@@ -1,6 +1,6 @@
 use Rattle.std.proofs.Common.{ℕ, Contains, take}
 use Rattle.wit_digraph.specs.Relation.{direct}
-use Rattle.wit_elaboration.specs.Closures.{HaveCommonBit}
+use Rattle.wit_elaboration.specs.steps.Closures.{HaveCommonBit}
 use Rattle.wit_elaboration.proofs.closure_rows.ClosureRows.may_need.Given as goal
 
 -- none so far

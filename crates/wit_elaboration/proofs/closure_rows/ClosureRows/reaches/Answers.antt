@@ -1,8 +1,8 @@
 use Rattle.std.proofs.Common.{◌≡◌, ◌∙◌, ℕ, List, length, drop, refl, ap, arith, subst, sym}
 use Rattle.std.proofs.lemmas.List.{take_at}
 use Rattle.wit_digraph.specs.Relation.{direct, Reaches}
-use Rattle.wit_digraph.specs.Rows.{HasBit}
-use Rattle.wit_elaboration.specs.Closures.{IsMarkRow, column}
+use Rattle.wit_digraph.specs.steps.Rows.{HasBit}
+use Rattle.wit_elaboration.specs.steps.Closures.{IsMarkRow, column}
 use Rattle.wit_elaboration.proofs.ReachedColumns.{has_column}
 use Rattle.wit_elaboration.proofs.Closing.{IsPath-below}
 use Rattle.wit_elaboration.proofs.closure_rows.ClosureRows.reaches.Goals as goal

@@ -1,6 +1,6 @@
 use Rattle.std.proofs.Common.{◌≡◌, ◌∙◌, sym, subst, ℕ, List, length}
 use Rattle.wit_digraph.specs.Relation.{IsAcyclic}
-use Rattle.wit_elaboration.specs.Elaborating.{IsFirstConflict}
+use Rattle.wit_elaboration.specs.steps.Elaborating.{IsFirstConflict}
 use Rattle.wit_elaboration.specs.Elaboration.{graph_uses}
 use Rattle.wit_elaboration.specs.Imported.{HasConflict}
 use Rattle.wit_elaboration.proofs.Refusing.{below_from_get, conflict_cause, interfaces_in_range, keys_in_range, listed_over, none_found}

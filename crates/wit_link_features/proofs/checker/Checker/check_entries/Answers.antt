@@ -1,6 +1,6 @@
 use Rattle.std.proofs.Common.{◌∙◌}
 use Rattle.std.specs.Map.Iter.{deref_pair}
-use Rattle.wit_data.specs.YieldedFacts.{all_yielded, of_next, one_yielded}
+use Rattle.wit_data.specs.facts.YieldedFacts.{all_yielded, of_next, one_yielded}
 use Rattle.wit_link_features.proofs.checker.Checker.check_entries.Goals as goal
 
 pub check_item-requires : goal.check_item-requires

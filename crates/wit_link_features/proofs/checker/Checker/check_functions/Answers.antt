@@ -1,6 +1,6 @@
 use Rattle.std.proofs.Common.{◌∙◌}
 use Rattle.wit_values.specs.Names.{deref_named}
-use Rattle.wit_data.specs.YieldedFacts.{all_yielded, of_next, one_yielded}
+use Rattle.wit_data.specs.facts.YieldedFacts.{all_yielded, of_next, one_yielded}
 use Rattle.wit_link_features.proofs.checker.Checker.check_functions.Goals as goal
 
 pub check_note-requires : goal.check_note-requires

@@ -1,5 +1,5 @@
 use Rattle.std.proofs.Common.{arith}
-use Rattle.wit_data.specs.EachFacts.{all_of, one_more}
+use Rattle.wit_data.specs.facts.EachFacts.{all_of, one_more}
 use Rattle.wit_link_features.proofs.checker.Checker.check_includes.Goals as goal
 
 pub loop-index-preserved : goal.loop-index-preserved

@@ -1,6 +1,6 @@
 use Rattle.std.proofs.Common.{◌≡◌, ◌∙◌, ap, length, arith}
 use Rattle.wit_data.specs.Foreign.{foreign_interfaces}
-use Rattle.wit_data.specs.EachFacts.{all_of, one_more}
+use Rattle.wit_data.specs.facts.EachFacts.{all_of, one_more}
 use Rattle.wit_link_features.proofs.VersionsMet.{own-interface-asked}
 use Rattle.wit_link_features.proofs.checker.Checker.check_interfaces.Goals as goal
 

@@ -1,9 +1,9 @@
 use Rattle.std.proofs.Common.{◌∙◌, sym, arith}
-use Rattle.wit_graph_theory.specs.ListFacts.{place_of}
+use Rattle.wit_graph_theory.specs.facts.ListFacts.{place_of}
 use Rattle.wit_link_spec.specs.Gates.{asked_notes}
-use Rattle.wit_link_features.specs.GateSteps.{IsMet}
+use Rattle.wit_link_features.specs.steps.GateSteps.{IsMet}
 use Rattle.wit_link_features.proofs.AskedNotes.{asked_all, asked_up_to, asks_next}
-use Rattle.wit_data.specs.EachFacts.{one_more}
+use Rattle.wit_data.specs.facts.EachFacts.{one_more}
 use Rattle.wit_link_features.proofs.checker.Checker.check_notes.Goals as goal
 
 pub check_note-requires : goal.check_note-requires

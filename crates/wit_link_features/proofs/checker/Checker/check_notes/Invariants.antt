@@ -1,5 +1,5 @@
-use Rattle.wit_data.specs.EachFacts.{EachBelow}
-use Rattle.wit_link_features.specs.GateSteps.{IsMet}
+use Rattle.wit_data.specs.facts.EachFacts.{EachBelow}
+use Rattle.wit_link_features.specs.steps.GateSteps.{IsMet}
 use Rattle.wit_link_features.proofs.AskedNotes.{NoneActive}
 use Rattle.wit_link_features.proofs.checker.Checker.check_notes.Given as goal
 

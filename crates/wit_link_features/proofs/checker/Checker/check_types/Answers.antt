@@ -1,6 +1,6 @@
 use Rattle.std.proofs.Common.{arith}
 use Rattle.wit_link_spec.specs.Gates.{of_type}
-use Rattle.wit_data.specs.EachFacts.{all_of, one_more}
+use Rattle.wit_data.specs.facts.EachFacts.{all_of, one_more}
 use Rattle.wit_link_features.proofs.checker.Checker.check_types.Goals as goal
 
 pub check_note-requires : goal.check_note-requires

@@ -1,6 +1,6 @@
 use Rattle.std.proofs.Common.{◌∙◌}
 use Rattle.std.specs.Map.Iter.{deref_pair}
-use Rattle.wit_data.specs.YieldedFacts.{all_yielded, of_next, one_yielded}
+use Rattle.wit_data.specs.facts.YieldedFacts.{all_yielded, of_next, one_yielded}
 use Rattle.wit_link_features.proofs.checker.Checker.look_at_entries.Goals as goal
 
 pub look_at_item-requires-clause-refers : goal.look_at_item-requires-clause-refers

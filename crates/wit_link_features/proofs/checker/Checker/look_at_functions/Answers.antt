@@ -1,6 +1,6 @@
 use Rattle.std.proofs.Common.{◌∙◌}
 use Rattle.wit_values.specs.Names.{deref_named}
-use Rattle.wit_data.specs.YieldedFacts.{all_yielded, of_next, one_yielded}
+use Rattle.wit_data.specs.facts.YieldedFacts.{all_yielded, of_next, one_yielded}
 use Rattle.wit_link_features.proofs.checker.Checker.look_at_functions.Goals as goal
 
 pub look_at_function-requires-clause-may : goal.look_at_function-requires-clause-may

@@ -1,9 +1,9 @@
 use Rattle.std.proofs.Common.{◌∙◌, sym, arith}
 use Rattle.std.proofs.lemmas.Bool.{false≢true}
-use Rattle.wit_graph_theory.specs.ListFacts.{contained_at}
+use Rattle.wit_graph_theory.specs.facts.ListFacts.{contained_at}
 use Rattle.wit_link_spec.specs.Reasons.{of_interface}
 use Rattle.wit_link_features.proofs.Ready.{interface-flag}
-use Rattle.wit_data.specs.EachFacts.{all_of, one_more, one_skip}
+use Rattle.wit_data.specs.facts.EachFacts.{all_of, one_more, one_skip}
 use Rattle.wit_link_features.proofs.checker.Checker.look_at_interfaces.Goals as goal
 
 pub loop-index-preserved-then-not-flag_at : goal.loop-index-preserved-then-not-flag_at

@@ -1,7 +1,7 @@
 use Rattle.std.proofs.Common.{◌∙◌, sym, arith}
 use Rattle.std.proofs.lemmas.Bool.{false≢true}
 use Rattle.wit_link_features.proofs.Ready.{type-flag}
-use Rattle.wit_data.specs.EachFacts.{all_of, one_more, one_skip}
+use Rattle.wit_data.specs.facts.EachFacts.{all_of, one_more, one_skip}
 use Rattle.wit_link_features.proofs.checker.Checker.look_at_types.Goals as goal
 
 pub loop-index-preserved-then-not-flag_at : goal.loop-index-preserved-then-not-flag_at

@@ -1,7 +1,7 @@
 use Rattle.std.proofs.Common.{◌∙◌, ℕ, false, slice_get, ap, sym}
 use Rattle.std.specs.Prelude.{unwrap_or}
-use Rattle.wit_link_features.specs.GateSteps.{seen}
-use Rattle.wit_link_features.specs.ReferenceSteps.{takes_part, thing_of}
+use Rattle.wit_link_features.specs.steps.GateSteps.{seen}
+use Rattle.wit_link_features.specs.steps.ReferenceSteps.{takes_part, thing_of}
 use Rattle.wit_link_features.specs.declared.needs.Needed.{Needed}
 use Rattle.wit_link_features.proofs.Ready.{interface-flag, type-flag, world-flag}
 use Rattle.wit_link_features.proofs.checker.Checker.takes_part.Goals as goal

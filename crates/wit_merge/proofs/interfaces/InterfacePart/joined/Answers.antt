@@ -3,8 +3,8 @@ use Rattle.wit_values.specs.Table.{HasDistinctKeys}
 use Rattle.wit_data.specs.declared.function.Function.{Function}
 use Rattle.wit_link_spec.specs.Include.{joined_stability}
 use Rattle.wit_merge_spec.specs.Joined.{with_interface}
-use Rattle.wit_merge.specs.Joined.{brought_beside, functions_image, moved_names}
-use Rattle.wit_merge.specs.Uniting.{merging_of}
+use Rattle.wit_merge.specs.steps.Joined.{brought_beside, functions_image, moved_names}
+use Rattle.wit_merge.specs.steps.Uniting.{merging_of}
 use Rattle.wit_merge.proofs.MovedNames.{Table, types_moved}
 use Rattle.wit_merge.proofs.interfaces.InterfacePart.joined.Goals as goal
 

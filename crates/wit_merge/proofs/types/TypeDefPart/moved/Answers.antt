@@ -1,7 +1,7 @@
 use Rattle.std.proofs.Common.{◌∙◌, ap}
 use Rattle.wit_data.specs.declared.types.TypeDef.{TypeDef}
 use Rattle.wit_graph_theory.specs.Image.{type_image}
-use Rattle.wit_remap.specs.Movers.{maps_of}
+use Rattle.wit_remap.specs.steps.Movers.{maps_of}
 use Rattle.wit_merge.proofs.Agrees.{type_is}
 use Rattle.wit_merge.proofs.types.TypeDefPart.moved.Goals as goal
 

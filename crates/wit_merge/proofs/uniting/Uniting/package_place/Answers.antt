@@ -1,8 +1,8 @@
 use Rattle.std.proofs.Common.{◌∙◌, ℕ, List, length, slice_get, sym, ap}
 use Rattle.std.proofs.lemmas.Option.{none-some}
-use Rattle.wit_link_spec.specs.RangeFacts.{range-at, range-read}
+use Rattle.wit_link_spec.specs.facts.RangeFacts.{range-at, range-read}
 use Rattle.wit_merge_spec.specs.Moved.{package_place}
-use Rattle.wit_merge.specs.Uniting.{merging_of}
+use Rattle.wit_merge.specs.steps.Uniting.{merging_of}
 use Rattle.wit_merge.proofs.uniting.Uniting.package_place.Goals as goal
 
 pub returns-in-Some : goal.returns-in-Some

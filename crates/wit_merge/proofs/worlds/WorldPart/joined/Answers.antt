@@ -1,8 +1,8 @@
 use Rattle.std.proofs.Common.{◌≡◌, ◌∙◌, map, sym}
 use Rattle.wit_link_spec.specs.Include.{joined_stability}
 use Rattle.wit_merge_spec.specs.Joined.{with_entries}
-use Rattle.wit_merge.specs.Joined.{entry_joined}
-use Rattle.wit_merge.specs.Uniting.{merging_of}
+use Rattle.wit_merge.specs.steps.Joined.{entry_joined}
+use Rattle.wit_merge.specs.steps.Uniting.{merging_of}
 use Rattle.wit_merge.proofs.Beside.{entry_is}
 use Rattle.wit_merge.proofs.SameImages.{each_same}
 use Rattle.wit_merge.proofs.worlds.WorldPart.joined.Goals as goal

@@ -2,14 +2,14 @@ use Rattle.std.proofs.Common.{◌≡◌, ◌∙◌, ℕ, List, ap, map, option_m
 use Rattle.std.specs.List.{IsDistinct}
 use Rattle.std.specs.Map.{keys_of}
 use Rattle.wit_data.specs.Entries.{Entry}
-use Rattle.wit_data.specs.WorldKeyFacts.{key_is, same_key}
+use Rattle.wit_data.specs.facts.WorldKeyFacts.{key_is, same_key}
 use Rattle.wit_data.specs.declared.world.World.{World}
 use Rattle.wit_sources.specs.Span.{moved_by}
 use Rattle.wit_graph_theory.specs.Image.{entry_image}
-use Rattle.wit_remap.specs.Fits.{EntriesFit, Fits}
-use Rattle.wit_remap.specs.Movers.{maps_of}
+use Rattle.wit_remap.specs.steps.Fits.{EntriesFit, Fits}
+use Rattle.wit_remap.specs.steps.Movers.{maps_of}
 use Rattle.wit_merge_spec.specs.Moved.{package_place}
-use Rattle.wit_merge.specs.Uniting.{merging_of}
+use Rattle.wit_merge.specs.steps.Uniting.{merging_of}
 use Rattle.wit_merge.proofs.Agrees.{entries_are}
 use Rattle.wit_merge.proofs.Chosen.{told_apart}
 use Rattle.wit_merge.proofs.worlds.WorldPart.moved.Goals as goal

@@ -1,8 +1,8 @@
 use Rattle.std.proofs.Common.{◌≡◌, None, Some, arith, rules, slice_get, sym}
 use Rattle.wit_merge_match.specs.Differing.{merging_of}
-use Rattle.wit_graph_theory.specs.ListFacts.{contained_at}
+use Rattle.wit_graph_theory.specs.facts.ListFacts.{contained_at}
 use Rattle.wit_merge_spec.specs.Matches.{interface_beside}
-use Rattle.wit_merge_match.specs.Structures.{common_pair}
+use Rattle.wit_merge_match.specs.steps.Structures.{common_pair}
 use Rattle.wit_merge_match.proofs.PairSteps.{first_is, first_next, interface_absent, interface_alone, interface_is, none_all, none_is, none_next, none_of_none, none_same}
 use Rattle.wit_merge_match.proofs.TypesCompared.{beside_lists, listed_there}
 use Rattle.wit_merge_match.proofs.comparing.Comparing.interface_differs.Goals as goal

@@ -1,7 +1,7 @@
 use Rattle.std.proofs.Common.{take}
 use Rattle.std.specs.List.{flat_map}
 use Rattle.wit_merge_match.specs.Differing.{merging_of}
-use Rattle.wit_merge_match.specs.Structures.{IsOf, NoneDiffer, common_pair}
+use Rattle.wit_merge_match.specs.steps.Structures.{IsOf, NoneDiffer, common_pair}
 use Rattle.wit_merge_match.proofs.comparing.Comparing.interface_differs.Given as goal
 
 -- none of the first ones differ

@@ -1,6 +1,6 @@
 use Rattle.std.proofs.Common.{arith}
 use Rattle.wit_merge_match.specs.Differing.{merging_of}
-use Rattle.wit_merge_match.specs.Structures.{package_interface_pairs}
+use Rattle.wit_merge_match.specs.steps.Structures.{package_interface_pairs}
 use Rattle.wit_merge_match.proofs.PairSteps.{first_next, none_all, none_next, none_of_none}
 use Rattle.wit_merge_match.proofs.comparing.Comparing.interfaces_differ.Goals as goal
 

@@ -3,7 +3,7 @@ use Rattle.std.specs.List.{flat_map}
 use Rattle.std.proofs.lemmas.Option.{IfSome_then}
 use Rattle.std.proofs.lemmas.Result.{IfOk-weaker}
 use Rattle.wit_merge_match.specs.Differing.{merging_of}
-use Rattle.wit_merge_match.specs.Structures.{package_interface_pairs, package_world_pairs}
+use Rattle.wit_merge_match.specs.steps.Structures.{package_interface_pairs, package_world_pairs}
 use Rattle.wit_merge_match.proofs.PairSteps.{first_back, first_front, first_is, none_append, none_same, pairs_by_package}
 use Rattle.wit_merge_match.proofs.Steps.{if_none}
 use Rattle.wit_merge_match.proofs.comparing.Comparing.structures_mismatch.Goals as goal

@@ -1,6 +1,6 @@
 use Rattle.wit_data.specs.declared.types.TypeDef.{TypeDef}
 use Rattle.wit_merge_match.specs.Differing.{merging_of}
-use Rattle.wit_merge_match.specs.Stabilities.{AreApart}
+use Rattle.wit_merge_match.specs.steps.Stabilities.{AreApart}
 use Rattle.wit_merge_match.proofs.Steps.{alike, if_none}
 use Rattle.wit_merge_spec.specs.Matches.{found_type}
 use Rattle.wit_merge_match.proofs.comparing.Comparing.type_apart.Goals as goal

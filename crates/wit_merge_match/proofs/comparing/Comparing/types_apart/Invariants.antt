@@ -1,5 +1,5 @@
 use Rattle.wit_merge_match.specs.Differing.{merging_of}
-use Rattle.wit_merge_match.specs.Stabilities.{TypesApartAt}
+use Rattle.wit_merge_match.specs.steps.Stabilities.{TypesApartAt}
 use Rattle.wit_merge_match.proofs.Steps.{NoneBelow}
 use Rattle.wit_merge_match.proofs.comparing.Comparing.types_apart.Given as goal
 

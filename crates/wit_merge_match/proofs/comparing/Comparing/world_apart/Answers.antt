@@ -1,5 +1,5 @@
 use Rattle.wit_merge_match.specs.Differing.{merging_of}
-use Rattle.wit_merge_match.specs.Stabilities.{WorldsApart}
+use Rattle.wit_merge_match.specs.steps.Stabilities.{WorldsApart}
 use Rattle.wit_merge_match.proofs.Steps.{alike, if_none}
 use Rattle.wit_merge_spec.specs.Matches.{found_world}
 use Rattle.wit_merge_match.proofs.comparing.Comparing.world_apart.Goals as goal

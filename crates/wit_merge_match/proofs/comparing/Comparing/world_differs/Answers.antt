@@ -3,7 +3,7 @@ use Rattle.std.proofs.lemmas.Option.{IfSome_then}
 use Rattle.std.proofs.lemmas.Result.{IfOk-weaker}
 use Rattle.wit_merge_match.specs.Differing.{merging_of}
 use Rattle.wit_merge_spec.specs.Matches.{world_beside}
-use Rattle.wit_merge_match.specs.Structures.{side_pairs}
+use Rattle.wit_merge_match.specs.steps.Structures.{side_pairs}
 use Rattle.wit_merge_match.proofs.PairSteps.{first_back, first_front, first_is, none_append, none_is, none_same, world_absent, world_alone, world_is}
 use Rattle.wit_merge_match.proofs.Steps.{if_none}
 use Rattle.wit_merge_match.proofs.TypesCompared.{beside_exports, beside_imports, exports_there, imports_there}

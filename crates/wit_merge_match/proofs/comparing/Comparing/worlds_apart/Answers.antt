@@ -1,7 +1,7 @@
 use Rattle.std.proofs.Common.{arith}
 use Rattle.wit_merge_spec.specs.Matches.{found_world}
 use Rattle.wit_merge_match.specs.Differing.{merging_of}
-use Rattle.wit_merge_match.specs.Stabilities.{WorldsApart, WorldsApartAt}
+use Rattle.wit_merge_match.specs.steps.Stabilities.{WorldsApart, WorldsApartAt}
 use Rattle.wit_merge_match.proofs.Steps.{none_anywhere, none_next}
 use Rattle.wit_merge_match.proofs.comparing.Comparing.worlds_apart.Goals as goal
 

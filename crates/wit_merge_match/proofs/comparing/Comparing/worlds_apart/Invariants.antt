@@ -1,5 +1,5 @@
 use Rattle.wit_merge_match.specs.Differing.{merging_of}
-use Rattle.wit_merge_match.specs.Stabilities.{WorldsApartAt}
+use Rattle.wit_merge_match.specs.steps.Stabilities.{WorldsApartAt}
 use Rattle.wit_merge_match.proofs.Steps.{NoneBelow}
 use Rattle.wit_merge_match.proofs.comparing.Comparing.worlds_apart.Given as goal
 

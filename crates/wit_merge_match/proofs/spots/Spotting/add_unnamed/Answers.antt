@@ -1,5 +1,5 @@
 use Rattle.std.proofs.Common.{◌≡◌, ◌-◌, ℕ, suc, List, sym, subst, arith}
-use Rattle.wit_merge_match.specs.Found.{AreSpotted}
+use Rattle.wit_merge_match.specs.steps.Found.{AreSpotted}
 use Rattle.wit_merge_spec.specs.Matches.{Spot}
 use Rattle.wit_merge_match.proofs.Noted.{none_left, noted-none, worlds_from}
 use Rattle.wit_merge_match.proofs.spots.Spotting.add_unnamed.Goals as goal

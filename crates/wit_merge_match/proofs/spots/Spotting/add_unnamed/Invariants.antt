@@ -1,7 +1,7 @@
 use Rattle.std.proofs.Common.{ℕ, drop}
 use Rattle.std.specs.List.{enumerate_from, flat_map}
 use Rattle.wit_data.specs.declared.world.World.{World}
-use Rattle.wit_merge_match.specs.Found.{AreSpotted}
+use Rattle.wit_merge_match.specs.steps.Found.{AreSpotted}
 use Rattle.wit_merge_spec.specs.Matches.{world_spots}
 use Rattle.wit_merge_match.proofs.spots.Spotting.add_unnamed.Given as goal
 

@@ -1,7 +1,7 @@
 use Rattle.std.proofs.Common.{◌≡◌, ◌++◌, ◌-◌, ℕ, suc, List, drop, sym, subst, arith}
 use Rattle.std.specs.List.{flat_map}
 use Rattle.wit_elaboration.specs.Entries.{Entry}
-use Rattle.wit_merge_match.specs.Found.{AreSpotted}
+use Rattle.wit_merge_match.specs.steps.Found.{AreSpotted}
 use Rattle.wit_merge_spec.specs.Matches.{Spot, spotted}
 use Rattle.wit_merge_match.proofs.Noted.{side_from}
 use Rattle.wit_merge_match.proofs.spots.Spotting.note_side.Goals as goal

@@ -1,6 +1,6 @@
 use Rattle.std.proofs.Common.{◌∙◌, ◌<◌, ◌≤◌, ◌++◌, List, length, ap, arith, subst, sym}
-use Rattle.wit_merge_structure.specs.Comparing.{AreAtParts, path_of, structure_of}
-use Rattle.wit_merge_structure.specs.Kinds.{ending_text}
+use Rattle.wit_merge_structure.specs.steps.Comparing.{AreAtParts, path_of, structure_of}
+use Rattle.wit_merge_structure.specs.steps.Kinds.{ending_text}
 use Rattle.wit_merge_structure.specs.Structure.{parts_of, path_text}
 use Rattle.wit_merge_structure.specs.declared.frames.Frame.{Frame}
 use Rattle.wit_merge_structure.proofs.WalkTurns.{one_there, other_there, smaller_done, smaller_enter, smaller_same, turn_alike, turn_apart, turn_done, turn_enter, turn_parts, turn_same}

@@ -3,8 +3,8 @@ use Rattle.std.proofs.lemmas.Option.{slice_get-get_or}
 use Rattle.wit_data.specs.declared.types.TypeDefKind.{TypeDefKind}
 use Rattle.wit_merge_structure.specs.Structure.{parts_of}
 use Rattle.wit_merge_structure.specs.declared.frames.Frame.{Frame}
-use Rattle.wit_merge_structure.specs.Comparing.{frame_step}
-use Rattle.wit_merge_structure.specs.Kinds.{step_at}
+use Rattle.wit_merge_structure.specs.steps.Comparing.{frame_step}
+use Rattle.wit_merge_structure.specs.steps.Kinds.{step_at}
 use Rattle.wit_merge_structure.proofs.PathText.{told_behind, told_first}
 use Rattle.wit_merge_structure.proofs.WalkSteps.{kind_is}
 use Rattle.wit_merge_structure.proofs.comparison.Sides.told.Goals as goal

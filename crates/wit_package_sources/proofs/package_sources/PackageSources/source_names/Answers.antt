@@ -2,7 +2,7 @@ use Rattle.std.proofs.Common.{◌≡◌, ◌∙◌, ℕ, List, [], ap, take, ari
 use Rattle.std.proofs.lemmas.Grind.{common_steps}
 use Rattle.std.specs.List.{flat_map}
 use Rattle.wit_package_sources.specs.Names.{NamesOf, all_names}
-use Rattle.wit_package_sources.specs.Seen.{with_all}
+use Rattle.wit_package_sources.specs.steps.Seen.{with_all}
 use Rattle.wit_package_sources.proofs.NamesLemmas.{with_all_once}
 use Rattle.wit_package_sources.proofs.package_sources.PackageSources.source_names.Goals as goal
 

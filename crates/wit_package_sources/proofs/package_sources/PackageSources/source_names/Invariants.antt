@@ -1,6 +1,6 @@
 use Rattle.std.proofs.Common.{◌≡◌, ℕ, Bor, List, [], map, take}
 use Rattle.std.specs.List.{flat_map}
-use Rattle.wit_package_sources.specs.Seen.{with_all}
+use Rattle.wit_package_sources.specs.steps.Seen.{with_all}
 use Rattle.wit_package_sources.proofs.package_sources.PackageSources.source_names.Given as goal
 
 abbrev pub invariant-loop-names : goal.invariant-loop-names

@@ -1,7 +1,7 @@
 use Rattle.std.proofs.Common.{rules, ◌∙◌, ap, filter}
 use Rattle.indexmap.proofs.CallerLemmas.{filter-RetainsPairs}
 use Rattle.wit_data.specs.Entries.{Entry}
-use Rattle.wit_remap.specs.Parts.{kept_of}
+use Rattle.wit_remap.specs.steps.Parts.{kept_of}
 use Rattle.wit_remap.proofs.part.Part.cut_entries.Goals as goal
 
 pub returns : goal.returns

@@ -3,7 +3,7 @@ use Rattle.std.specs.declared.alloc.Global.{Global}
 use Rattle.indexmap.proofs.CallerLemmas.{filter-RetainsPairs}
 use Rattle.wit_values.specs.Names.{named}
 use Rattle.wit_data.specs.declared.function.Function.{Function}
-use Rattle.wit_remap.specs.Parts.{kept_of}
+use Rattle.wit_remap.specs.steps.Parts.{kept_of}
 use Rattle.wit_remap.proofs.NamedFilter.{named-filter}
 use Rattle.wit_remap.proofs.part.Part.cut_functions.Goals as goal
 

@@ -2,7 +2,7 @@ use Rattle.std.proofs.Common.{rules, ◌∙◌, ap, filter, ℕ, List, String}
 use Rattle.std.specs.declared.alloc.Global.{Global}
 use Rattle.indexmap.proofs.CallerLemmas.{filter-RetainsPairs}
 use Rattle.wit_values.specs.Names.{named}
-use Rattle.wit_remap.specs.Parts.{kept_of}
+use Rattle.wit_remap.specs.steps.Parts.{kept_of}
 use Rattle.wit_remap.proofs.NamedFilter.{named-filter}
 use Rattle.wit_remap.proofs.part.Part.cut_types.Goals as goal
 

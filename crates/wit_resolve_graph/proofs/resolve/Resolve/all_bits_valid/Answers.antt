@@ -1,4 +1,4 @@
-use Rattle.wit_queries.specs.ValidBitsFacts.{valid_by_flags}
+use Rattle.wit_queries.specs.facts.ValidBitsFacts.{valid_by_flags}
 use Rattle.wit_resolve_graph.proofs.resolve.Resolve.all_bits_valid.Goals as goal
 
 pub returns : goal.returns

@@ -1,6 +1,6 @@
 use Rattle.std.proofs.Common.{◌≡◌, ◌++◌, fold}
 use Rattle.std.specs.Vec.Iter.{into_iter_items}
-use Rattle.wit_script_package.specs.Mentioning.{with_mention}
+use Rattle.wit_script_package.specs.steps.Mentioning.{with_mention}
 use Rattle.wit_script_package.proofs.draft.Draft.add_mentions.Given as goal
 
 -- the mentions so far are added, and the others are left

@@ -1,7 +1,7 @@
 use Rattle.std.proofs.Common.{Some, ap, fold, option_map, sym, ◌∙◌}
 use Rattle.wit_script_package.specs.Draft.{begun_at}
 use Rattle.wit_script_package.specs.Mention.{known}
-use Rattle.wit_script_package.specs.Mentioning.{with_mention}
+use Rattle.wit_script_package.specs.steps.Mentioning.{with_mention}
 use Rattle.wit_script_package.specs.declared.draft.Draft.{Draft}
 use Rattle.wit_script_package.proofs.Mentions.{all-mentions}
 use Rattle.wit_script_package.proofs.draft.Draft.begin.Goals as goal

@@ -1,13 +1,13 @@
 use Rattle.std.proofs.Common.{◌≡◌, ◌∙◌, ◌+◌, ◌<◌, ◌⊎◌, inl, inr, ℕ, List, None, subst, sym, arith}
 use Rattle.std.proofs.lemmas.Bool.{cases_order}
 use Rattle.std.proofs.lemmas.Option.{slice_get_within}
-use Rattle.wit_graph_data.specs.AnswerFacts.{told_err}
+use Rattle.wit_graph_data.specs.facts.AnswerFacts.{told_err}
 use Rattle.wit_graph_data.specs.declared.cause.Cause.TheVariants as cause
 use Rattle.wit_graph_data.specs.declared.error_kind.ResolveErrorKind.{ResolveErrorKind}
 use Rattle.wit_graph_data.specs.declared.error_kind.ResolveErrorKind.TheVariants.{OutOfMemory, Semantic}
 use Rattle.wit_semver_spec.specs.TrackCause.{Disagrees}
 use Rattle.wit_semver_spec.specs.Upgrade.{Upgrade}
-use Rattle.wit_semver.specs.Replacing.{DisagreesAt, upgrade_of}
+use Rattle.wit_semver.specs.steps.Replacing.{DisagreesAt, upgrade_of}
 use Rattle.wit_semver.proofs.Used.{disagrees_from, disagrees_into}
 use Rattle.wit_semver.proofs.upgrading.Upgrading.check_functions.Goals as goal
 

@@ -1,5 +1,5 @@
 use Rattle.std.proofs.Common.{◌<◌, ℕ, List}
-use Rattle.wit_semver.specs.Replacing.{DisagreesAt, upgrade_of}
+use Rattle.wit_semver.specs.steps.Replacing.{DisagreesAt, upgrade_of}
 use Rattle.wit_semver.proofs.upgrading.Upgrading.check_functions.Given as goal
 
 -- the first ones agree

@@ -1,6 +1,6 @@
 use Rattle.std.proofs.Common.{◌∙◌, inr, slice_get, sym, ap, subst}
 use Rattle.wit_graph_theory.specs.FunctionMismatch.{HaveFunctionMismatch}
-use Rattle.wit_semver.specs.Replacing.{upgrade_of}
+use Rattle.wit_semver.specs.steps.Replacing.{upgrade_of}
 use Rattle.wit_semver.proofs.Used.{they_agree, they_disagree}
 use Rattle.wit_semver.proofs.upgrading.Upgrading.check_interface.Goals as goal
 

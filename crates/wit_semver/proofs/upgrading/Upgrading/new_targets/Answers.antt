@@ -1,9 +1,9 @@
 use Rattle.std.proofs.Common.{◌≡◌, ◌∙◌, ◌<◌, ◌≤◌, ℕ, List, Some, get_or, length, slice_get, slice_set, take, refl, sym, ap, subst, arith}
 use Rattle.std.proofs.lemmas.List.{take_all}
 use Rattle.std.proofs.lemmas.Option.{slice_get_read}
-use Rattle.wit_values.specs.Lists.{take-next_at}
-use Rattle.wit_graph_theory.specs.ListFacts.{contained_at}
-use Rattle.wit_semver.specs.Replacing.{IsFilled, LackTypes, upgrade_of, used_target}
+use Rattle.wit_values.specs.facts.Lists.{take-next_at}
+use Rattle.wit_graph_theory.specs.facts.ListFacts.{contained_at}
+use Rattle.wit_semver.specs.steps.Replacing.{IsFilled, LackTypes, upgrade_of, used_target}
 use Rattle.wit_semver.proofs.Filled.{filled-next}
 use Rattle.wit_semver.proofs.Used.{none_lacks-next}
 use Rattle.wit_semver.proofs.upgrading.Upgrading.new_targets.Goals as goal

@@ -1,5 +1,5 @@
 use Rattle.std.proofs.Common.{ℕ, List, length, take}
-use Rattle.wit_semver.specs.Replacing.{IsFilled, LackTypes, upgrade_of, used_target}
+use Rattle.wit_semver.specs.steps.Replacing.{IsFilled, LackTypes, upgrade_of, used_target}
 use Rattle.wit_semver.proofs.upgrading.Upgrading.new_targets.Given as goal
 
 -- what the first ones name is in its place, and none of them lacks a type

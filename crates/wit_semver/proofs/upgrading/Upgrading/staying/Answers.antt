@@ -4,7 +4,7 @@ use Rattle.wit_data.specs.contracts.world.WorldKeyPartialEq.TheImpl.{eq-value}
 use Rattle.wit_elaboration.specs.Entries.{Entry}
 use Rattle.wit_semver_spec.specs.Rewritten.{is_replaced_entry}
 use Rattle.wit_transform.proofs.Looked.{filter-next_kept, filter-next_left}
-use Rattle.wit_semver.specs.Replacing.{upgrade_of}
+use Rattle.wit_semver.specs.steps.Replacing.{upgrade_of}
 use Rattle.wit_semver.proofs.StaysTold.{staying_is_new, stays_is}
 use Rattle.wit_semver.proofs.upgrading.Upgrading.staying.Goals as goal
 use Rattle.wit_semver.proofs.upgrading.Upgrading.staying.Goals.{then-not-is_replaced+in_ok-push_copy, else-not-is_replaced}

@@ -1,7 +1,7 @@
 use Rattle.std.proofs.Common.{◌≡◌, filter, not, take}
 use Rattle.wit_elaboration.specs.Entries.{Entry}
 use Rattle.wit_semver_spec.specs.Rewritten.{is_replaced_entry}
-use Rattle.wit_semver.specs.Replacing.{upgrade_of}
+use Rattle.wit_semver.specs.steps.Replacing.{upgrade_of}
 use Rattle.wit_semver.proofs.upgrading.Upgrading.staying.Given as goal
 
 -- those of the first imports that stay

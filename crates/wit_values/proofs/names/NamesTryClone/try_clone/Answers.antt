@@ -6,7 +6,7 @@ use Rattle.std.specs.List.{IsDistinct}
 use Rattle.std.specs.Str.{bytes_eq}
 use Rattle.std.specs.Map.{keys_of}
 use Rattle.wit_values.specs.Names.{deref_named}
-use Rattle.wit_values.specs.Lists.{lookup-before}
+use Rattle.wit_values.specs.facts.Lists.{lookup-before}
 use Rattle.wit_values.proofs.names.NamesTryClone.try_clone.Goals as goal
 
 pub push-requires : goal.push-requires

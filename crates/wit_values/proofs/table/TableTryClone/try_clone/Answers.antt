@@ -4,7 +4,7 @@ use Rattle.std.proofs.lemmas.Map.Iter.{rest_more, rest_all}
 use Rattle.std.specs.List.{IsDistinct}
 use Rattle.std.specs.Map.{keys_of}
 use Rattle.std.specs.Map.Iter.{deref_pair}
-use Rattle.wit_values.specs.Lists.{lookup-before}
+use Rattle.wit_values.specs.facts.Lists.{lookup-before}
 use Rattle.wit_values.proofs.table.TableTryClone.try_clone.Goals as goal
 
 pub push-requires : goal.push-requires

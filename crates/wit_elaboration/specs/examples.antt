@@ -1,0 +1,2 @@
+pub mod ElaborationExamples
+pub mod Examples

@@ -1,0 +1,2 @@
+pub mod ElaborationLaws
+pub mod KeptByElaboration

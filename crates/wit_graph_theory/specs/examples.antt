@@ -1,0 +1,2 @@
+pub mod AgreementFacts
+pub mod TestFacts

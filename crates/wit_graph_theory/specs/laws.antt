@@ -1,0 +1,3 @@
+pub mod IdTexts
+pub mod PackageCycles
+pub mod Theory

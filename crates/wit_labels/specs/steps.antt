@@ -1,0 +1,2 @@
+pub mod FirstRenamings
+pub mod Placing

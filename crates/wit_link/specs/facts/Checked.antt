@@ -1,0 +1,17 @@
+-- What is known of an addition before the graph is touched.
+use Rattle.wit_link_spec.specs.Addition.{Addition}
+use Rattle.wit_link_spec.specs.steps.Passed.{GatesAreMet, HasResources, IsAllFound, NeedsNothingExcluded, ReturnsNoBorrow}
+use Rattle.wit_link_spec.specs.Reasons.{HasPackage, PassesTheEnd}
+
+-- the package isn't there yet, and its spans stay within the last position
+pub record IsNew (a : Addition) : Type 0 where
+  pub absent : HasPackage a.graph a.handed.name → ⊥
+  pub fits : PassesTheEnd a → ⊥
+
+-- no reason speaks against it that the graph and the package tell alone
+pub record IsChecked (a : Addition) : Type 0 where
+  pub met : GatesAreMet a
+  pub needs : NeedsNothingExcluded a
+  pub found : IsAllFound a
+  pub resources : HasResources a
+  pub no_borrow : ReturnsNoBorrow a

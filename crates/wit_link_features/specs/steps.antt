@@ -1,0 +1,2 @@
+pub mod GateSteps
+pub mod ReferenceSteps

@@ -1,0 +1,4 @@
+pub mod AdditionFacts
+pub mod ReadyFacts
+pub mod RowsFacts
+pub mod SeveralFacts

@@ -1,9 +1,0 @@
--- The law of including, so that a contract can say it.
-use Rattle.wit_graph_data.specs.declared.graph.Graph.{Graph}
-use Rattle.wit_link_laws.specs.CopiesCarried.{IsUnshadowed}
-use Rattle.wit_link_laws.specs.IncludedWorld.{Including, IsIncluded}
-use Rattle.wit_link_laws.specs.OnItsWay.{StandsSoFar}
-
--- a graph on its way into which a world is included stays on its way, where the include shadows nothing
-abbrev pub IncludesStand : Type 0
-IncludesStand = (g : Graph) (i : Including g) (new : Graph) → StandsSoFar g → IsUnshadowed g i → IsIncluded g i new → StandsSoFar new

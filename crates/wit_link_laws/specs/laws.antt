@@ -1,0 +1,3 @@
+pub mod IncludingLaws
+pub mod StageFacts
+pub mod StageLaws

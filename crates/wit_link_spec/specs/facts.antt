@@ -1,0 +1,9 @@
+pub mod ApartFacts
+pub mod ClosedCut
+pub mod FlagFacts
+pub mod Found
+pub mod OwnThingFacts
+pub mod PositionFacts
+pub mod RangeFacts
+pub mod RankFacts
+pub mod Standing

@@ -1,0 +1,288 @@
+-- Merging in either order gives the same: the same names, things of one sort under each label, and each world the same
+-- labels and keys by text. What a world imports corresponds where one graph alone has it, and is what both import
+-- where both have it.
+use Rattle.std.specs.Prelude.{◌⊎◌}
+use Rattle.std.proofs.Common.{◌≡◌, ◌∙◌, inl, inr, ℕ, Bool, true, false, List, [], Option, Some, IfSome, IsSome, option_and_then, option_map, unwrap_or, slice_get, refl, sym, ap, subst, Contains}
+use Rattle.std.specs.Option.{option_map_or}
+use Rattle.std.proofs.lemmas.Bool.{cases_Bool}
+use Rattle.wit_data.specs.Each.{SomeAt}
+use Rattle.wit_data.specs.Ownership.{IsNamed}
+use Rattle.wit_data.specs.declared.interface.Interface.{Interface}
+use Rattle.wit_data.specs.declared.package_name.PackageName.{PackageName}
+use Rattle.wit_data.specs.declared.world.World.{World}
+use Rattle.wit_data.specs.declared.world.WorldItem.{WorldItem}
+use Rattle.wit_data.specs.declared.world.WorldKey.{WorldKey}
+use Rattle.wit_data.specs.declared.world.WorldKey.TheVariants as key
+use Rattle.wit_digraph.specs.facts.MemberFacts.{Contains-here}
+use Rattle.wit_elaboration.specs.Entries.{keyed_interfaces}
+use Rattle.wit_elaboration.specs.Valid.{IsValid}
+use Rattle.wit_graph_data.specs.IdText.{id_text, id_text_in, interface_id_text, key_text}
+use Rattle.wit_graph_data.specs.declared.graph.Graph.{Graph}
+use Rattle.wit_graph_data.specs.declared.graph.Package.{Package}
+use Rattle.wit_graph_theory.specs.AllElaborated.{elaborated_world}
+use Rattle.wit_graph_theory.specs.facts.CoveredIsValid.{IsGoodWhere-of_covered}
+use Rattle.wit_graph_theory.specs.Cut.{IsGoodWhere}
+use Rattle.wit_graph_theory.specs.Image.{world_image}
+use Rattle.wit_graph_theory.specs.Kept.{everything}
+use Rattle.wit_graph_theory.specs.facts.LawsOfElaboration.{LawsOfElaboration}
+use Rattle.wit_graph_theory.specs.facts.ListFacts.{at_map, found_at, from_map, get_at, place_of, same_at, some_at}
+use Rattle.wit_graph_theory.specs.steps.OnePlace.{entries_of}
+use Rattle.wit_graph_theory.specs.Operations.{merge_sources}
+use Rattle.wit_graph_theory.specs.facts.OptionFacts.{some_there}
+use Rattle.wit_merge_spec.specs.Agreement.{same_sort}
+use Rattle.wit_merge_spec.specs.Matches.{Merging, found_world}
+use Rattle.wit_merge_spec.specs.Moved.{merge_maps, moves_world, world_place}
+use Rattle.wit_merge_spec.specs.Reasons.{AreOne}
+use Rattle.wit_merge_spec.specs.United.{joined_graph, united}
+use Rattle.wit_merge_laws.specs.facts.AgreementBack.{agreement_is_symmetric}
+use Rattle.wit_merge_laws.specs.facts.BothNames.{names_of_both}
+use Rattle.wit_merge_laws.specs.facts.BothOrders.{Corresponds, InBothOrders, flip, of_graph, of_other, other_way}
+use Rattle.wit_merge_laws.specs.facts.FoundBack.{interface_back as interface_back_to, world_back as world_back_to}
+use Rattle.wit_merge_laws.specs.facts.JoinedGood.{CanElaborate}
+use Rattle.wit_merge_laws.specs.facts.LabelSorts.{SortFrom, is_same_sort, matched_sort, sort_from, sort_of, sort_of_graph, sort_of_other}
+use Rattle.wit_merge_laws.specs.facts.ListedStand.{WorldFrom, world_at_from}
+use Rattle.wit_merge_laws.specs.facts.ListedStand as worlds
+use Rattle.wit_merge_laws.specs.facts.LoneWorlds.{imports_back, imports_like, listed_here, listed_there, stays_so, unmatched_moves}
+use Rattle.wit_merge_laws.specs.facts.MatchFacts.{goes_to, world_is}
+use Rattle.wit_merge_laws.specs.facts.MatchedOnce.{lists_distinct, one_under}
+use Rattle.wit_merge_laws.specs.facts.MatchedTypes.{alias_matched}
+use Rattle.wit_merge_laws.specs.laws.MergingLaws.{merging}
+use Rattle.wit_merge_laws.specs.laws.Names.{HasImport, HasName, IsInterface, IsWorld, Label, Name, of_export, of_label}
+use Rattle.wit_merge_laws.specs.facts.NamesGo.{Part, home_is, interface_back, interface_goes, world_back, world_goes}
+use Rattle.wit_merge_laws.specs.facts.NamesParts.{going_to, graph_part, other_part, staying}
+use Rattle.wit_merge_laws.specs.laws.OrderLaws.{AreAlike, HasKey, MergingIsOrderFree, StandsUnder}
+use Rattle.wit_merge_laws.specs.facts.PackagesStand.{interfaces_in_tables}
+use Rattle.wit_merge_laws.specs.facts.SharedImports.{imports_it, imports_of_both, matched, world_unique}
+use Rattle.wit_merge_laws.specs.facts.TypesStand.{matched_some}
+use Rattle.wit_merge_laws.specs.facts.UnitedWorlds.{named_key, united_covered, united_stands}
+use Rattle.wit_merge_laws.specs.facts.UsesListed.{key_in}
+use Rattle.wit_merge_laws.specs.facts.WorldsStand.{entry, sources_good}
+
+other_first : {A B : Type 0} → A ⊎ B → B ⊎ A
+other_first (inl a) = inr a
+other_first (inr b) = inl b
+
+-- the text of the key of an interface is made of its names
+named_text : (g : Graph) (of : PackageName) (name : List ℕ) (i : ℕ) → IsInterface g of name i → key_text g.packages g.interfaces (key.Interface i) ≡ id_text_in of name
+named_text g of name i is =
+    let found = found_at (λ (interface : Interface). (interface.name ≡ Some name) × (interface.package ≡ Some is.p)) g.interfaces i is.is in
+    let home = found_at (λ (there : Package). there.name ≡ of) g.packages is.p is.of in
+    ap (λ (o : Option Interface). unwrap_or (option_and_then (interface_id_text g.packages) o) []) found.1
+    ∙ (ap (λ (o : Option (List ℕ)). unwrap_or (option_and_then (λ (n : List ℕ). option_map (λ (q : ℕ). id_text g.packages q n) found.0.package) o) []) found.2.0
+    ∙ (ap (λ (o : Option ℕ). unwrap_or (option_map (λ (q : ℕ). id_text g.packages q name) o) []) found.2.1
+    ∙ (ap (λ (o : Option Package). option_map_or (λ (p : Package). id_text_in p.name name) o []) home.1 ∙ ap (λ (n : PackageName). id_text_in n name) home.2)))
+
+module _ (laws : LawsOfElaboration) (g h : Graph) (offset back : ℕ) (both : InBothOrders g h offset back) (elaborates : CanElaborate (merging g h offset)) (elaborates_back : CanElaborate (merging h g back)) where
+  abbrev m : Merging
+  m = merging g h offset
+
+  abbrev n : Merging
+  n = merging h g back
+
+  abbrev there : Graph
+  there = united m
+
+  abbrev here : Graph
+  here = united n
+
+  abbrev graph_there : Part g there staying
+  graph_there = graph_part laws m both.valid both.valid_other both.one elaborates
+
+  abbrev other_there : Part h there (going_to m)
+  other_there = other_part laws m both.valid both.valid_other both.one elaborates
+
+  abbrev other_here : Part h here staying
+  other_here = graph_part laws n both.valid_other both.valid both.one_back elaborates_back
+
+  abbrev graph_here : Part g here (going_to n)
+  graph_here = other_part laws n both.valid_other both.valid both.one_back elaborates_back
+
+  -- ---- names
+
+  names_go : (name : Name) → HasName there name → HasName here name
+  names_go name has =
+      (names_of_both laws n name both.valid_other both.valid both.one_back elaborates_back).1 (other_first ((names_of_both laws m name both.valid both.valid_other both.one elaborates).0 has))
+
+  -- interfaces that correspond have the same name
+  like_named : (i j : ℕ) → Corresponds g h offset back i j → (of : PackageName) (name : List ℕ) → IsInterface there of name i → IsInterface here of name j
+  like_named i j (of_graph within place) of name is =
+      let old = get_at g.interfaces i within in
+      subst (IsInterface here of name) (sym place) (interface_goes g here (going_to n) graph_here of name i (interface_back g there staying graph_there both.valid of name i old.0 old.1 is))
+  like_named i j (of_other within place) of name is =
+      let old = get_at h.interfaces j within in
+      interface_goes h here staying other_here of name j (interface_back h there (going_to m) other_there both.valid_other of name j old.0 old.1 (subst (IsInterface there of name) place is))
+
+  -- ---- imports
+
+  module _ (home of : PackageName) (world name : List ℕ) where
+    -- a world that both have
+    shared : (w v : ℕ) → IsWorld g home world w → IsWorld h home world v → HasImport there home world of name → HasImport here home world of name
+    shared w v is_mine is_theirs has =
+        let first = imports_of_both laws m both.valid both.valid_other both.one elaborates home of world name (w, is_mine) (v, is_theirs) in
+        let second = imports_of_both laws n both.valid_other both.valid both.one_back elaborates_back home of world name (v, is_theirs) (w, is_mine) in
+        second.0.1 (first.1.1 (first.0.0 has))
+
+    -- and one that one of them has
+    import_goes : (w' i : ℕ) (listed : World) → IsWorld there home world w' → IsInterface there of name i → HasImport there home world of name → Contains (keyed_interfaces (elaborated_world (joined_graph m) listed).imports) i → WorldFrom m w' listed
+        → HasImport here home world of name
+    import_goes w' i listed is_world is_interface has imported (worlds.of_graph old at same) =
+        let is_mine = world_back g there staying graph_there both.valid home world w' old at is_world in
+        elim (cases_Bool (moves_world n w')) [
+          | inl moves ↦
+              let now : listed ≡ old = sym same ∙ stays_so laws g h offset back both elaborates elaborates_back w' old at moves in
+              let like = imports_like laws g h offset back both elaborates elaborates_back w' old at moves i (subst (λ (x : World). Contains (keyed_interfaces (elaborated_world (joined_graph m) x).imports) i) now imported) in
+              let image = world_image (merge_maps n) w' old in
+              let by = imports_it here (world_place n w') (elaborated_world (joined_graph n) image) like.0
+              (at_map (elaborated_world (joined_graph n)) (joined_graph n).worlds (world_place n w') image (listed_here laws g h offset back both elaborates elaborates_back w' old at moves)) like.2 in
+              (world_place n w', like.0, by.held, world_goes g here (going_to n) graph_here home world w' is_mine, like_named i like.0 like.1 of name is_interface, by.has)
+          | inr stays ↦
+              let some = matched_some (found_world n w') stays in
+              let is = world_is n both.valid_other w' some.0 some.1 in
+              let place : world_place n w' ≡ some.0 = goes_to (found_world n w') _ some.0 some.1 in
+              let goes = subst (IsWorld here home world) place (world_goes g here (going_to n) graph_here home world w' is_mine) in
+              shared w' some.0 is_mine (world_back h here staying other_here both.valid_other home world some.0 is.into is.into_is goes) has
+        ]
+    import_goes w' i listed is_world is_interface has imported (worlds.of_other v old at moves place same) =
+        let is_theirs = world_back h there (going_to m) other_there both.valid_other home world v old at (subst (IsWorld there home world) place is_world) in
+        let back_so = other_way g h offset back both in
+        let like = imports_back laws h g back offset back_so elaborates_back elaborates v old at moves i (subst (λ (x : World). Contains (keyed_interfaces (elaborated_world (joined_graph m) x).imports) i) (sym same) imported) in
+        let by = imports_it here v (elaborated_world (joined_graph n) old) like.0
+        (at_map (elaborated_world (joined_graph n)) (joined_graph n).worlds v old (listed_there laws h g back offset back_so elaborates_back elaborates v old at moves)) like.2 in
+        (v, like.0, by.held, world_goes h here staying other_here home world v is_theirs, like_named i like.0 (flip h g back offset like.0 i like.1) of name is_interface, by.has)
+
+    imports_go : HasImport there home world of name → HasImport here home world of name
+    imports_go has =
+        let w' = has.0 in
+        let i = has.1 in
+        let held = has.2 in
+        let done = found_at (λ (x : World). Contains x.imports (entry (key.Interface i) held)) there.worlds w' has.5 in
+        let listed = from_map (elaborated_world (joined_graph m)) (joined_graph m).worlds w' done.0 done.1 in
+        let imported = key_in (elaborated_world (joined_graph m) listed.0).imports i held (subst (λ (x : World). Contains x.imports (entry (key.Interface i) held)) (sym listed.2) done.2) in
+        import_goes w' i listed.0 has.3 has.4 has imported (world_at_from m w' listed.0 listed.1)
+
+  -- ---- keys
+
+  united_good : IsGoodWhere everything there.types there.interfaces there.worlds
+  united_good =
+      IsGoodWhere-of_covered (merge_sources g h (merge_maps m)) there (sources_good m both.valid both.valid_other both.one) (united_stands laws m both.valid both.valid_other both.one elaborates) everything
+      (united_covered laws m both.valid both.valid_other both.one elaborates)
+
+  key_named : (w : ℕ) (exported : Bool) (world : World) (i : ℕ) (held : WorldItem) → slice_get there.worlds w ≡ Some world → Contains (entries_of exported world) (entry (key.Interface i) held) → IsNamed there.interfaces i
+  key_named w false world i held at has =
+      let place = place_of world.imports (entry (key.Interface i) held) has in
+      named_key there.interfaces (key.Interface i) held i (Contains-here i []) (united_good.imports_are w world at refl place.0 (entry (key.Interface i) held) place.1).is
+  key_named w true world i held at has =
+      let place = place_of world.exports (entry (key.Interface i) held) has in
+      named_key there.interfaces (key.Interface i) held i (Contains-here i []) (united_good.exports_are w world at refl place.0 (entry (key.Interface i) held) place.1).is
+
+  interface_named : (i : ℕ) → IsNamed there.interfaces i → (of : PackageName) × (name : List ℕ) × IsInterface there of name i
+  interface_named i named =
+      let found = found_at (λ (interface : Interface). IsSome interface.name) there.interfaces i named in
+      let called = some_there found.0.name found.2 in
+      let home = home_is _ found.0.package (interfaces_in_tables m both.valid both.valid_other i found.0 found.1) in
+      let at = found_at (λ (home : Package). IfSome found.0.name (λ (n : List ℕ). Contains home.interfaces (n, i))) there.packages home.0 home.2 in (
+        at.0.name,
+        called.0,
+        record {
+          p = home.0;
+          of = some_at (λ (x : Package). x.name ≡ at.0.name) there.packages home.0 at.0 at.1 refl;
+          is = some_at (λ (interface : Interface). (interface.name ≡ Some called.0) × (interface.package ≡ Some home.0)) there.interfaces i found.0 found.1 (called.1, home.1);
+        },
+      )
+
+  key_goes : (home : PackageName) (world : List ℕ) (exported : Bool) (text : List ℕ) (w : ℕ) → IsWorld there home world w → (k : WorldKey) (held : WorldItem) → SomeAt there.worlds w (λ (x : World). Contains (entries_of exported x) (entry k held))
+      → key_text there.packages there.interfaces k ≡ text → HasKey here home world exported text
+  key_goes home world exported text w is (key.Name label) held stands text_is =
+      let l : Label = record { home = home; world = world; exported = exported; label = label } in
+      let goes = names_go (of_label l) (w, held, is, stands) in
+      record { w = goes.0; of = goes.2; entry = entry (key.Name label) goes.1; listed = goes.3; text_is = text_is }
+  key_goes home world true text w is (key.Interface i) held stands text_is =
+      let at = found_at (λ (x : World). Contains x.exports (entry (key.Interface i) held)) there.worlds w stands in
+      let named = interface_named i (key_named w true at.0 i held at.1 at.2) in
+      let goes = names_go (of_export home world named.0 named.1) (w, i, held, is, named.2, stands) in
+      record { w = goes.0; of = goes.3; entry = entry (key.Interface goes.1) goes.2; listed = goes.5; text_is = named_text here named.0 named.1 goes.1 goes.4 ∙ (sym (named_text there named.0 named.1 i named.2) ∙ text_is) }
+  key_goes home world false text w is (key.Interface i) held stands text_is =
+      let at = found_at (λ (x : World). Contains x.imports (entry (key.Interface i) held)) there.worlds w stands in
+      let named = interface_named i (key_named w false at.0 i held at.1 at.2) in
+      let goes = imports_go home named.0 world named.1 (w, i, held, is, named.2, stands) in
+      record { w = goes.0; of = goes.3; entry = entry (key.Interface goes.1) goes.2; listed = goes.5; text_is = named_text here named.0 named.1 goes.1 goes.4 ∙ (sym (named_text there named.0 named.1 i named.2) ∙ text_is) }
+
+  keys_go : (home : PackageName) (world : List ℕ) (exported : Bool) (text : List ℕ) → HasKey there home world exported text → HasKey here home world exported text
+  keys_go home world exported text has = key_goes home world exported text has.w has.of has.entry.0 has.entry.1 has.listed has.text_is
+
+  -- ---- sorts
+
+  -- two worlds of one graph with one name have one thing under a label
+  one_label : (x : Graph) → IsValid x → (home : PackageName) (world : List ℕ) (w v : ℕ) → IsWorld x home world w → IsWorld x home world v → (old new : World) → slice_get x.worlds w ≡ Some old → slice_get x.worlds v ≡ Some new
+      → (exported : Bool) (label : List ℕ) (d e : WorldItem) → Contains (entries_of exported old) (entry (key.Name label) d) → Contains (entries_of exported new) (entry (key.Name label) e) → d ≡ e
+  one_label x valid home world w v is is_so old new at at_so exported label d e has has_so =
+      let same = same_at x.worlds w v old new (world_unique x valid home world w v is is_so) at at_so in
+      one_under (entries_of exported new) (lists_distinct x valid v exported new at_so) (key.Name label) d e (subst (λ (y : World). Contains (entries_of exported y) (entry (key.Name label) d)) same has) has_so
+
+  module _ (l : Label) (held held' : WorldItem) (w v : ℕ) (is : IsWorld there l.home l.world w) (is_so : IsWorld here l.home l.world v) where
+    from_g : (old : World) → slice_get g.worlds w ≡ Some old → IsWorld g l.home l.world w
+    from_g old at = world_back g there staying graph_there both.valid l.home l.world w old at is
+
+    from_h : (x : ℕ) (old : World) → slice_get h.worlds x ≡ Some old → w ≡ world_place m x → IsWorld h l.home l.world x
+    from_h x old at place = world_back h there (going_to m) other_there both.valid_other l.home l.world x old at (subst (IsWorld there l.home l.world) place is)
+
+    back_h : (old : World) → slice_get h.worlds v ≡ Some old → IsWorld h l.home l.world v
+    back_h old at = world_back h here staying other_here both.valid_other l.home l.world v old at is_so
+
+    back_g : (x : ℕ) (old : World) → slice_get g.worlds x ≡ Some old → v ≡ world_place n x → IsWorld g l.home l.world x
+    back_g x old at place = world_back g here (going_to n) graph_here both.valid l.home l.world x old at (subst (IsWorld here l.home l.world) place is_so)
+
+    found_so : (x y : ℕ) → IsWorld g l.home l.world x → IsWorld h l.home l.world y → (old : World) → slice_get g.worlds x ≡ Some old → found_world m y ≡ Some x
+    found_so x y mine theirs old at = matched laws m both.valid both.valid_other both.one elaborates l.home l.home l.world l.world y x mine theirs old at
+
+    one_sort : SortFrom laws m both.valid both.valid_other both.one elaborates w l.exported l.label held → SortFrom laws n both.valid_other both.valid both.one_back elaborates_back v l.exported l.label held' → sort_of held ≡ sort_of held'
+    one_sort (sort_of_graph old d at has sort) (sort_of_graph old' d' at' has' sort') =
+        let found = found_so w v (from_g old at) (back_h old' at') old at in
+        sym sort ∙ (sym (matched_sort laws m both.valid both.valid_other both.one elaborates v w old' old at' found at l.exported l.label d' d has' has) ∙ sort')
+    one_sort (sort_of_graph old d at has sort) (sort_of_other x old' d' at' moves place has' sort') =
+        sym sort ∙ (ap sort_of (one_label g both.valid l.home l.world w x (from_g old at) (back_g x old' at' place) old old' at at' l.exported l.label d d' has has') ∙ sort')
+    one_sort (sort_of_other x old d at moves place has sort) (sort_of_graph old' d' at' has' sort') =
+        sym sort ∙ (ap sort_of (one_label h both.valid_other l.home l.world x v (from_h x old at place) (back_h old' at') old old' at at' l.exported l.label d d' has has') ∙ sort')
+    one_sort (sort_of_other x old d at moves place has sort) (sort_of_other y old' d' at' moves' place' has' sort') =
+        absurd (unmatched_moves (found_world m x) y moves (found_so y x (back_g y old' at' place') (from_h x old at place) old' at'))
+
+  sorts_same : (l : Label) (held held' : WorldItem) → StandsUnder there l held → StandsUnder here l held' → same_sort held held' ≡ true
+  sorts_same l held held' first second =
+      is_same_sort held held' (one_sort l held held' first.w second.w first.of second.of (sort_from laws m both.valid both.valid_other both.one elaborates first.w l.exported l.label held first.stands)
+      (sort_from laws n both.valid_other both.valid both.one_back elaborates_back second.w l.exported l.label held' second.stands))
+
+-- ---- the two unions are alike
+
+alike : LawsOfElaboration → (g h : Graph) (offset back : ℕ) → InBothOrders g h offset back → CanElaborate (merging g h offset) → CanElaborate (merging h g back) → AreAlike (united (merging g h offset)) (united (merging h g back))
+alike laws g h offset back both elaborates elaborates_back =
+    let other_way_so = other_way g h offset back both in
+    record {
+      names = λ name. (names_go laws g h offset back both elaborates elaborates_back name, names_go laws h g back offset other_way_so elaborates_back elaborates name);
+      sorts = sorts_same laws g h offset back both elaborates elaborates_back;
+      keys = λ home world exported text. (
+        keys_go laws g h offset back both elaborates elaborates_back home world exported text,
+        keys_go laws h g back offset other_way_so elaborates_back elaborates home world exported text,
+      );
+    }
+
+-- ---- where they agree one way
+
+in_both_orders : (g h : Graph) (offset back : ℕ) → IsValid g → IsValid h → AreOne (merging g h offset) → InBothOrders g h offset back
+in_both_orders g h offset back valid valid_other one =
+    let one_back = agreement_is_symmetric g h offset back valid valid_other one in
+    record {
+      valid = valid;
+      valid_other = valid_other;
+      one = one;
+      one_back = one_back;
+      interface_back = interface_back_to g h offset back valid valid_other;
+      interface_there = interface_back_to h g back offset valid_other valid;
+      world_back = world_back_to g h offset back valid valid_other;
+      world_there = world_back_to h g back offset valid_other valid;
+      aliases = alias_matched (merging g h offset) valid valid_other one;
+      aliases_back = alias_matched (merging h g back) valid_other valid one_back;
+    }
+
+pub merging_is_order_free : LawsOfElaboration → MergingIsOrderFree
+merging_is_order_free laws g h offset back valid valid_other one elaborates elaborates_back =
+    alike laws g h offset back (in_both_orders g h offset back valid valid_other one) elaborates elaborates_back

@@ -1,0 +1,251 @@
+-- The types of two graphs that are one: those of the graph stay but for their stability, those of the other stand at
+-- their places, and there are no others but the `own`s that values ask for.
+use Rattle.std.proofs.Common.{◌≡◌, ◌∙◌, ℕ, ◌+◌, ◌<◌, Bool, true, false, not, List, ◌++◌, ◌⊎◌, inl, inr, map, filter, length, is_some, nat_eq, Option, None, Some, option_map, unwrap_or, IsSome, slice_get, refl, sym, ap, subst, arith, if◌then◌else◌}
+use Rattle.std.specs.List.{enumerate_from, list_any, range_with_len}
+use Rattle.std.specs.Option.{option_map_or}
+use Rattle.std.proofs.lemmas.Bool.{and_parts, cases_Bool, false≢true, lt-ltb}
+use Rattle.std.proofs.lemmas.List.{length-map}
+use Rattle.std.proofs.lemmas.Option.{slice_get_within}
+use Rattle.wit_values.specs.facts.Lists.{slice_get-append}
+use Rattle.wit_data.specs.Each.{SomeAt}
+use Rattle.wit_data.specs.Ownership.{IsPlain, parts}
+use Rattle.wit_data.specs.Uses.{alias_target}
+use Rattle.wit_data.specs.declared.types.Handle.TheVariants.{Own}
+use Rattle.wit_data.specs.declared.types.TypeDef.{TypeDef}
+use Rattle.wit_data.specs.declared.types.TypeDefKind.{TypeDefKind}
+use Rattle.wit_data.specs.declared.types.TypeDefKind.TheVariants as kind
+use Rattle.wit_data.specs.declared.types.TypeOwner.{TypeOwner}
+use Rattle.wit_data.specs.declared.types.TypeOwner.TheVariants as owner
+use Rattle.wit_elaboration.specs.Valid.{IsValid}
+use Rattle.wit_graph_data.specs.declared.graph.Graph.{Graph}
+use Rattle.wit_graph_theory.specs.facts.CarriedImages.{image_carried, image_stands, itself_carried}
+use Rattle.wit_graph_theory.specs.facts.Covered.{IsOwnMade, TypeComes}
+use Rattle.wit_graph_theory.specs.Cut.{graph_source}
+use Rattle.wit_graph_theory.specs.Image.{name_image, owner_image, type_image}
+use Rattle.wit_graph_theory.specs.facts.ListFacts.{at_map, at_new, from_map, old_or_new, some_at}
+use Rattle.wit_graph_theory.specs.Operations.{merge_sources}
+use Rattle.wit_graph_theory.specs.facts.PackagesAcyclic.{length-numbered, numbered_from, numbered_into}
+use Rattle.wit_graph_theory.specs.facts.Referred.{RefersUnder}
+use Rattle.wit_graph_theory.specs.steps.Sources.{IsCarriedType, IsOwnOf, Source, Stands}
+use Rattle.wit_link_spec.specs.facts.RankFacts.{taken-at, taken_places-at, taken_places-from}
+use Rattle.wit_link_spec.specs.Ranks.{rank, taken_places}
+use Rattle.wit_link_spec.specs.Resources.{leads_to_resource, own_of}
+use Rattle.wit_link_laws.specs.facts.LeadFacts.{filtered_range, leads_nowhere}
+use Rattle.wit_graph_theory.specs.facts.ReferredFacts.{plain_image}
+use Rattle.wit_merge_spec.specs.Joined.{joined_type, with_type}
+use Rattle.wit_merge_spec.specs.Matches.{Merging, found_type, partner}
+use Rattle.wit_merge_spec.specs.Moved.{added_owns, merge_maps, moved_types, moves_type, needs_own, plain_maps, plain_types, positions, type_place, value_place}
+use Rattle.wit_merge_spec.specs.United.{joined_graph}
+use Rattle.wit_merge_laws.specs.facts.MatchFacts.{goes_to, type_is}
+
+-- ---- what moves, and what is matched
+
+-- what moves goes to the next id
+pub moved_next : (o : Option ℕ) (next : ℕ) → not (is_some o) ≡ true → unwrap_or o next ≡ next
+moved_next None next moves = refl
+moved_next (Some x) next moves = cc
+
+-- what doesn't move is matched
+pub matched_some : (o : Option ℕ) → not (is_some o) ≡ false → (x : ℕ) × (o ≡ Some x)
+matched_some None stays = cc
+matched_some (Some x) stays = (x, refl)
+
+-- ---- a type with a stability joined to it
+
+-- a type that differs in nothing but what isn't asked
+pub record KeepsType (def new : TypeDef) : Type 0 where
+  pub name : new.name ≡ def.name
+  pub kind : new.kind ≡ def.kind
+  pub owner : new.owner ≡ def.owner
+
+pub joined_keeps : (m : Merging) (e : ℕ × TypeDef) → KeepsType e.1 (joined_type m e)
+joined_keeps m e = by (partner (found_type m) m.other.types e.0)
+  where
+    by : (o : Option (ℕ × TypeDef)) → KeepsType e.1 (option_map_or (λ (p : ℕ × TypeDef). with_type p.1 e.1) o e.1)
+    by None = record { name = refl; kind = refl; owner = refl }
+    by (Some p) = record { name = refl; kind = refl; owner = refl }
+
+-- what is carried is carried so
+carried_so : (s : Source) (g : Graph) (old def new : TypeDef) → KeepsType def new → IsCarriedType s g old def → IsCarriedType s g old new
+carried_so s g old def new keeps carried = record {
+  name = keeps.name ∙ carried.name;
+  owner = keeps.owner ∙ carried.owner;
+  parts = subst (λ (k : TypeDefKind). RefersUnder s.maps (parts old.kind) (parts k)) (sym keeps.kind) carried.parts;
+  alias = λ t' target. carried.alias t' (sym (ap alias_target keeps.kind) ∙ target);
+  plain = subst (λ (k : TypeDefKind). IsPlain old.kind → IsPlain k) (sym keeps.kind) carried.plain;
+  known = subst (λ (k : TypeDefKind). k ≡ kind.Unknown → ⊥) (sym keeps.kind) carried.known;
+}
+
+-- ---- where types stand
+
+module _ (m : Merging) where
+  abbrev pub old_types : List TypeDef
+  old_types = map (joined_type m) (enumerate_from 0 m.graph.types)
+
+  abbrev pub images : List TypeDef
+  images = map (type_image (merge_maps m)) (moved_types m)
+
+  pub long_old : length old_types ≡ length m.graph.types
+  long_old = length-map (enumerate_from 0 m.graph.types) (joined_type m) ∙ length-numbered 0 m.graph.types
+
+  -- a type of the graph stays at its place
+  pub old_type_at : (t : ℕ) (def : TypeDef) → slice_get m.graph.types t ≡ Some def → slice_get (joined_graph m).types t ≡ Some (joined_type m (t, def))
+  old_type_at t def at =
+      let place : 0 + t ≡ t = omega arith in
+      slice_get-append old_types (images ++ added_owns m) t (joined_type m (t, def))
+      (at_map (joined_type m) (enumerate_from 0 m.graph.types) t (t, def) (numbered_into 0 m.graph.types t def at ∙ ap (λ (n : ℕ). Some (n, def)) place))
+
+  pub moved_type_goes : (t : ℕ) → moves_type m t ≡ true → type_place m t ≡ length m.graph.types + rank (moves_type m) t
+  moved_type_goes t moves = moved_next (found_type m t) _ moves
+
+  -- one that moves stands at the next place, as its image
+  pub new_type_at : (t : ℕ) (def : TypeDef) → slice_get m.other.types t ≡ Some def → moves_type m t ≡ true → slice_get (joined_graph m).types (type_place m t) ≡ Some (type_image (merge_maps m) def)
+  new_type_at t def at moves =
+      let goes = moved_type_goes t moves in
+      let long = long_old in
+      at_new old_types (images ++ added_owns m) (rank (moves_type m) t) (type_place m t) (type_image (merge_maps m) def) (omega (arith, goes, long))
+      (slice_get-append images (added_owns m) (rank (moves_type m) t) (type_image (merge_maps m) def)
+      (at_map (type_image (merge_maps m)) (moved_types m) (rank (moves_type m) t) def (taken-at (moves_type m) m.other.types t def at moves)))
+
+  -- the `own` of a type that needs one stands behind those
+  pub own_at : (t : ℕ) (def : TypeDef) → slice_get m.other.types t ≡ Some def → needs_own m t ≡ true → slice_get (joined_graph m).types (value_place m t) ≡ Some (own_of (type_place m t))
+  own_at t def at needs =
+      let goes : value_place m t ≡ length m.graph.types + length (moved_types m) + rank (needs_own m) t =
+      ap (λ (b : Bool). if b then length m.graph.types + length (moved_types m) + rank (needs_own m) t else type_place m t) needs in
+      let long = long_old in
+      let many : length images ≡ length (moved_types m) = length-map (moved_types m) (type_image (merge_maps m)) in
+      let listed : slice_get (filter (needs_own m) (range_with_len 0 (length m.other.types))) (rank (needs_own m) t) ≡ Some t =
+      ap (λ (l : List ℕ). slice_get l (rank (needs_own m) t)) (filtered_range (needs_own m) m.other.types 0)
+      ∙ at_map (λ (e : ℕ × TypeDef). e.0) (taken_places (needs_own m) m.other.types) (rank (needs_own m) t) (t, def) (taken_places-at (needs_own m) m.other.types t def at needs) in
+      at_new old_types (images ++ added_owns m) (length (moved_types m) + rank (needs_own m) t) (value_place m t) (own_of (type_place m t)) (omega (arith, goes, long))
+      (at_new images (added_owns m) (rank (needs_own m) t) (length (moved_types m) + rank (needs_own m) t) (own_of (type_place m t)) (omega (arith, many))
+      (at_map (λ (t : ℕ). own_of (type_place m t)) (filter (needs_own m) (range_with_len 0 (length m.other.types))) (rank (needs_own m) t) t listed))
+
+  -- what stands there is one of these
+  pub data TypeFrom (t' : ℕ) (new : TypeDef) : Type 0 where
+    of_graph : (old : TypeDef) → slice_get m.graph.types t' ≡ Some old → joined_type m (t', old) ≡ new → TypeFrom t' new
+    of_other : (t : ℕ) (old : TypeDef) → slice_get m.other.types t ≡ Some old → moves_type m t ≡ true → t' ≡ type_place m t → type_image (merge_maps m) old ≡ new → TypeFrom t' new
+    an_own : (t : ℕ) → t < length m.other.types → own_of (type_place m t) ≡ new → TypeFrom t' new
+
+  own_from : (t' k : ℕ) (new : TypeDef) → slice_get (added_owns m) k ≡ Some new → TypeFrom t' new
+  own_from t' k new at =
+      let from = from_map (λ (t : ℕ). own_of (type_place m t)) (filter (needs_own m) (range_with_len 0 (length m.other.types))) k new at in
+      let listed : slice_get (map (λ (e : ℕ × TypeDef). e.0) (taken_places (needs_own m) m.other.types)) k ≡ Some from.0 = ap (λ (l : List ℕ). slice_get l k) (sym (filtered_range (needs_own m) m.other.types 0)) ∙ from.1 in
+      let e = from_map (λ (e : ℕ × TypeDef). e.0) (taken_places (needs_own m) m.other.types) k from.0 listed in
+      let is = taken_places-from (needs_own m) m.other.types k e.0 e.1 in
+      an_own from.0 (slice_get_within m.other.types from.0 e.0.1 (ap (slice_get m.other.types) (sym e.2) ∙ is.0)) from.2
+
+  pub type_at_from : (t' : ℕ) (new : TypeDef) → slice_get (joined_graph m).types t' ≡ Some new → TypeFrom t' new
+  type_at_from t' new at =
+      elim (old_or_new old_types (images ++ added_owns m) t' new at) [
+        | inl old ↦
+            let from = from_map (joined_type m) (enumerate_from 0 m.graph.types) t' new old in
+            let is = numbered_from 0 m.graph.types t' from.0 from.1 in
+            let place : from.0.0 ≡ t' = let n = is.0 in omega (arith, n) in
+            of_graph from.0.1 is.1 (ap (λ (k : ℕ). joined_type m (k, from.0.1)) (sym place) ∙ from.2)
+        | inr behind ↦ elim (old_or_new images (added_owns m) behind.0 new behind.2) [
+          | inl image ↦
+              let from = from_map (type_image (merge_maps m)) (moved_types m) behind.0 new image in
+              let taken_from = from_map (λ (e : ℕ × TypeDef). e.1) (taken_places (moves_type m) m.other.types) behind.0 from.0 from.1 in
+              let is = taken_places-from (moves_type m) m.other.types behind.0 taken_from.0 taken_from.1 in
+              let goes = moved_type_goes taken_from.0.0 is.1 in
+              let long = long_old in
+              let n = behind.1 in
+              let r = is.2 in
+              of_other taken_from.0.0 from.0 (is.0 ∙ ap (λ (d : TypeDef). Some d) taken_from.2) is.1 (omega (arith, goes, long, n, r)) from.2
+          | inr own ↦ own_from t' own.0 new own.2
+        ]
+      ]
+
+-- ---- they stand, and come of the two
+
+module _ (m : Merging) (valid : IsValid m.graph) (valid_other : IsValid m.other) where
+  -- each type of the other graph stands at its place
+  pub type_stands : (t : ℕ) (def : TypeDef) → slice_get m.other.types t ≡ Some def → SomeAt (joined_graph m).types (type_place m t) (Stands (merge_maps m) def)
+  type_stands t def at = elim (cases_Bool (moves_type m t)) [
+    | inl moves ↦ some_at (Stands (merge_maps m) def) (joined_graph m).types (type_place m t) (type_image (merge_maps m) def) (new_type_at m t def at moves) (image_stands (merge_maps m) def)
+    | inr stays ↦ matched (matched_some (found_type m t) stays)
+  ]
+    where
+      called : (by : TypeOwner) (name : Option (List ℕ)) → option_map (name_image (merge_maps m) by) name ≡ name
+      called by None = refl
+      called (owner.World w) (Some n) = refl
+      called (owner.Interface i) (Some n) = refl
+      called owner.None (Some n) = refl
+
+      matched : (t' : ℕ) × (found_type m t ≡ Some t') → SomeAt (joined_graph m).types (type_place m t) (Stands (merge_maps m) def)
+      matched (t', found) =
+          let is = type_is m valid t t' found in
+          let same : is.from ≡ def = let first = is.from_is in cc in
+          let keeps = joined_keeps m (t', is.into) in
+          let there : slice_get (joined_graph m).types (type_place m t) ≡ Some (joined_type m (t', is.into)) = ap (slice_get (joined_graph m).types) (goes_to (found_type m t) _ t' found) ∙ old_type_at m t' is.into is.into_is in
+          some_at (Stands (merge_maps m) def) (joined_graph m).types (type_place m t) (joined_type m (t', is.into)) there (record {
+            name = keeps.name ∙ (is.called_so ∙ (sym is.called ∙ (ap (λ (d : TypeDef). d.name) same ∙ sym (called def.owner def.name))));
+            owner = keeps.owner ∙ (is.owner_is ∙ ap (λ (d : TypeDef). owner_image (merge_maps m) d.owner) same);
+            through = λ none. let named = is.called in let here = ap (λ (d : TypeDef). d.name) same in cc;
+          })
+
+  -- a type that leads to a resource has a name
+  leads_named : (t : ℕ) (def : TypeDef) → slice_get m.other.types t ≡ Some def → leads_to_resource (plain_types m) (type_place m t) ≡ true → IsSome def.name
+  leads_named t def at leads = elim (cases_Bool (moves_type m t)) [
+    | inr stays ↦
+        let found = matched_some (found_type m t) stays in
+        let is = type_is m valid t found.0 found.1 in
+        let same : is.from ≡ def = let first = is.from_is in cc in
+        subst (λ (o : Option (List ℕ)). IsSome o) (sym (sym (ap (λ (d : TypeDef). d.name) same) ∙ is.called)) refl
+    | inl moves ↦ by def.name refl moves
+  ]
+    where
+      by : (o : Option (List ℕ)) → def.name ≡ o → moves_type m t ≡ true → IsSome def.name
+      by (Some n) called moves = subst (λ (o : Option (List ℕ)). IsSome o) (sym called) refl
+      by None called moves =
+          let there : slice_get (plain_types m) (type_place m t) ≡ Some (type_image (plain_maps m) def) =
+          at_new m.graph.types (map (type_image (plain_maps m)) (moved_types m)) (rank (moves_type m) t) (type_place m t) (type_image (plain_maps m) def) (moved_type_goes m t moves)
+          (at_map (type_image (plain_maps m)) (moved_types m) (rank (moves_type m) t) def (taken-at (moves_type m) m.other.types t def at moves)) in
+          absurd
+          (false≢true
+          (sym (leads_nowhere (plain_types m) (type_place m t) (type_image (plain_maps m) def) there (plain_image (plain_maps m) def.kind (valid_other.well_formed.references.unnamed t def at called))) ∙ leads))
+
+  -- and where a value of it goes is that place or, of a named type, an `own` of it
+  pub values_stand : (t : ℕ) (def : TypeDef) → slice_get m.other.types t ≡ Some def → (value_place m t ≡ type_place m t) ⊎ (IsSome def.name × IsOwnOf (joined_graph m).types (value_place m t) (type_place m t))
+  values_stand t def at = elim (cases_Bool (needs_own m t)) [
+    | inl needs ↦
+        inr (
+          leads_named t def at (and_parts (list_any (nat_eq t) (positions m)) (leads_to_resource (plain_types m) (type_place m t)) needs).1,
+          some_at (λ (there : TypeDef). (there.name ≡ None) × (there.owner ≡ owner.None) × (there.kind ≡ kind.Handle (Own (type_place m t)))) (joined_graph m).types (value_place m t) (own_of (type_place m t)) (own_at m t def at needs) (refl, refl, refl),
+        )
+    | inr plain ↦ inl (ap (λ (b : Bool). if b then length m.graph.types + length (moved_types m) + rank (needs_own m) t else type_place m t) plain)
+  ]
+
+  -- each type of the two graphs as one comes of a type of one of them, or is an `own`
+  pub types_come : (g : Graph) (t' : ℕ) (new : TypeDef) → slice_get (joined_graph m).types t' ≡ Some new
+      → TypeComes (merge_sources m.graph m.other (merge_maps m)) g t' new ⊎ IsOwnMade (merge_sources m.graph m.other (merge_maps m)) new
+  types_come g t' new at = by (type_at_from m t' new at)
+    where
+      by : TypeFrom m t' new → TypeComes (merge_sources m.graph m.other (merge_maps m)) g t' new ⊎ IsOwnMade (merge_sources m.graph m.other (merge_maps m)) new
+      by (of_graph old is same) = inl (record {
+        source = 0;
+        t = t';
+        old = old;
+        there = is;
+        takes = lt-ltb t' (length m.graph.types) (slice_get_within m.graph.types t' old is);
+        place = refl;
+        carried = carried_so (graph_source m.graph) g old old new (subst (λ (d : TypeDef). KeepsType old d) same (joined_keeps m (t', old))) (itself_carried (graph_source m.graph) g old refl (valid.known t' old is));
+      })
+      by (of_other t old is moves place same) = inl (record {
+        source = 1;
+        t = t;
+        old = old;
+        there = is;
+        takes = lt-ltb t (length m.other.types) (slice_get_within m.other.types t old is);
+        place = place;
+        carried = subst (λ (d : TypeDef). IsCarriedType (merge_sources m.graph m.other (merge_maps m) 1) g old d) same (image_carried (merge_sources m.graph m.other (merge_maps m) 1) g old (valid_other.known t old is));
+      })
+      by (an_own t within same) = inr (record {
+        source = 1;
+        t = t;
+        takes = lt-ltb t (length m.other.types) within;
+        name = ap (λ (d : TypeDef). d.name) (sym same);
+        owner = ap (λ (d : TypeDef). d.owner) (sym same);
+        kind = ap (λ (d : TypeDef). d.kind) (sym same);
+      })

@@ -1,0 +1,4 @@
+pub mod BorrowLaws
+pub mod MergingLaws
+pub mod Names
+pub mod OrderLaws

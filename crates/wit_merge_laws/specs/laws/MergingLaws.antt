@@ -1,0 +1,31 @@
+-- Laws of merging.
+use Rattle.std.specs.Prelude.{◌≡◌, ◌⊎◌, ◌↔◌, ℕ, List}
+use Rattle.wit_data.specs.declared.package_name.PackageName.{PackageName}
+use Rattle.wit_elaboration.specs.examples.Examples.{empty_graph}
+use Rattle.wit_elaboration.specs.Valid.{IsValid}
+use Rattle.wit_graph_data.specs.declared.graph.Graph.{Graph}
+use Rattle.wit_merge_spec.specs.Cause.{CanMerge}
+use Rattle.wit_merge_spec.specs.Matches.{Merging}
+use Rattle.wit_merge_spec.specs.United.{united}
+use Rattle.wit_merge_laws.specs.laws.Names.{HasImport, HasName, Name, of_world}
+
+-- one graph goes into another
+abbrev pub merging : Graph → Graph → ℕ → Merging
+merging g other offset = record { graph = g; other = other; offset = offset }
+
+-- where an empty graph goes into a valid one, nothing speaks against it and nothing changes
+abbrev pub NothingComes : Type 0
+NothingComes = (g : Graph) (offset : ℕ) → IsValid g → CanMerge (merging g empty_graph offset) × (united (merging g empty_graph offset) ≡ g)
+
+-- what is united of two valid graphs is valid, where nothing speaks against the merge
+abbrev pub UnionsStayValid : Type 0
+UnionsStayValid = (m : Merging) → IsValid m.graph → IsValid m.other → CanMerge m → IsValid (united m)
+
+-- it has the names of both graphs, and no others
+abbrev pub UnionsHaveBothNames : Type 0
+UnionsHaveBothNames = (m : Merging) (name : Name) → IsValid m.graph → IsValid m.other → CanMerge m → HasName (united m) name ↔ (HasName m.graph name ⊎ HasName m.other name)
+
+-- and a world that both graphs have imports the same interfaces under their own keys in both, and in what is made of them
+abbrev pub SharedWorldsKeepImports : Type 0
+SharedWorldsKeepImports = (m : Merging) (home of : PackageName) (world name : List ℕ) → IsValid m.graph → IsValid m.other → CanMerge m → HasName m.graph (of_world home world) → HasName m.other (of_world home world)
+    → (HasImport (united m) home world of name ↔ HasImport m.graph home world of name) × (HasImport m.other home world of name ↔ HasImport m.graph home world of name)

@@ -1,0 +1,62 @@
+-- Laws of merging graphs that agree in all that a merge demands: agreement has no direction, merging in either order
+-- gives the same names, labels and keys, and what leads to a resource still does.
+use Rattle.std.specs.Prelude.{◌≡◌, ◌↔◌, ℕ, Bool, true, List, Contains}
+use Rattle.wit_data.specs.Each.{SomeAt}
+use Rattle.wit_data.specs.Entries.{Entry}
+use Rattle.wit_data.specs.declared.package_name.PackageName.{PackageName}
+use Rattle.wit_data.specs.declared.world.World.{World}
+use Rattle.wit_data.specs.declared.world.WorldItem.{WorldItem}
+use Rattle.wit_elaboration.specs.Valid.{IsValid}
+use Rattle.wit_graph_data.specs.IdText.{key_text}
+use Rattle.wit_graph_data.specs.declared.graph.Graph.{Graph}
+use Rattle.wit_graph_theory.specs.steps.OnePlace.{entries_of}
+use Rattle.wit_link_spec.specs.Resources.{leads_to_resource}
+use Rattle.wit_merge_spec.specs.Agreement.{same_sort}
+use Rattle.wit_merge_spec.specs.Matches.{Merging}
+use Rattle.wit_merge_spec.specs.Moved.{type_place}
+use Rattle.wit_merge_spec.specs.Reasons.{AreOne}
+use Rattle.wit_merge_spec.specs.United.{united}
+use Rattle.wit_merge_laws.specs.facts.JoinedGood.{CanElaborate}
+use Rattle.wit_merge_laws.specs.laws.MergingLaws.{merging}
+use Rattle.wit_merge_laws.specs.laws.Names.{HasLabel, HaveSameNames, IsWorld, Label}
+
+-- if nothing differs between two graphs one way, nothing differs the other way
+abbrev pub AgreementIsSymmetric : Type 0
+AgreementIsSymmetric = (g h : Graph) (offset back : ℕ) → IsValid g → IsValid h → AreOne (merging g h offset) → AreOne (merging h g back)
+
+-- ---- the order of a merge
+
+-- an item stands under a label of a world
+pub record StandsUnder (g : Graph) (l : Label) (held : WorldItem) : Type 0 where
+  pub w : ℕ
+  pub of : IsWorld g l.home l.world w
+  pub stands : HasLabel g w l.exported l.label held
+
+-- a world has an entry with this text of its key, a label or the id text of an interface, among its exports or its imports
+pub record HasKey (g : Graph) (home : PackageName) (world : List ℕ) (exported : Bool) (text : List ℕ) : Type 0 where
+  pub w : ℕ
+  pub of : IsWorld g home world w
+  pub entry : Entry
+  pub listed : SomeAt g.worlds w (λ (there : World). Contains (entries_of exported there) entry)
+  pub text_is : key_text g.packages g.interfaces entry.0 ≡ text
+
+-- two graphs are alike but for ids, order and what their things carry: the same names; under each label things of one
+-- sort; each world with the same labels and keys
+pub record AreAlike (g h : Graph) : Type 0 where
+  pub names : HaveSameNames g h
+  pub sorts : (l : Label) (held held' : WorldItem) → StandsUnder g l held → StandsUnder h l held' → same_sort held held' ≡ true
+  pub keys : (home : PackageName) (world : List ℕ) (exported : Bool) (text : List ℕ) → HasKey g home world exported text ↔ HasKey h home world exported text
+
+-- merging in either order gives the same, where two graphs agree, and in neither order an interface would use itself or
+-- a world is in conflict
+abbrev pub MergingIsOrderFree : Type 0
+MergingIsOrderFree = (g h : Graph) (offset back : ℕ) → IsValid g → IsValid h → AreOne (merging g h offset) → CanElaborate (merging g h offset) → CanElaborate (merging h g back)
+    → AreAlike (united (merging g h offset)) (united (merging h g back))
+
+-- ---- resources
+
+-- a type of either graph that is a resource, or leads to one by aliases, still does where it is in the united graph; so
+-- does each that is the argument of an `own` or a `borrow`
+abbrev pub ResourcesStay : Type 0
+ResourcesStay = (m : Merging) (t : ℕ) → IsValid m.graph → IsValid m.other → AreOne m
+    → (leads_to_resource m.graph.types t ≡ true → leads_to_resource (united m).types t ≡ true) × (leads_to_resource m.other.types t ≡ true → leads_to_resource (united m).types (type_place m t) ≡ true)

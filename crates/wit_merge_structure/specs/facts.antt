@@ -1,0 +1,2 @@
+pub mod DifferenceFacts
+pub mod StructureFacts

@@ -1,0 +1,3 @@
+pub mod Classes
+pub mod Comparing
+pub mod Kinds

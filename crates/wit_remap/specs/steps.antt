@@ -1,0 +1,6 @@
+pub mod Added
+pub mod Fits
+pub mod Movers
+pub mod Parts
+pub mod Tables
+pub mod Worlds

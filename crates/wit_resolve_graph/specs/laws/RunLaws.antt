@@ -1,0 +1,65 @@
+-- What every run keeps.
+use Rattle.std.specs.Prelude.{◌≡◌, ℕ, List, ◌++◌}
+use Rattle.wit_data.specs.Each.{EachAt, SomeAt}
+use Rattle.wit_data.specs.declared.interface.Interface.{Interface}
+use Rattle.wit_data.specs.declared.package_name.PackageName.{PackageName}
+use Rattle.wit_data.specs.declared.types.TypeDef.{TypeDef}
+use Rattle.wit_data.specs.declared.world.World.{World}
+use Rattle.wit_graph_data.specs.declared.graph.Graph.{Graph}
+use Rattle.wit_graph_data.specs.declared.graph.Package.{Package}
+use Rattle.wit_merge_spec.specs.facts.Staying.{SameHome, SameInterface, SamePackage}
+use Rattle.wit_semver_spec.specs.laws.Staying.{SameKind}
+use Rattle.wit_semver_spec.specs.Rewritten.{rewritten}
+use Rattle.wit_data.specs.declared.track.TrackRule.{TrackRule}
+use Rattle.wit_data.specs.declared.unresolved.UnresolvedPackageGroup.{UnresolvedPackageGroup}
+use Rattle.wit_link_spec.specs.Addition.{Addition}
+use Rattle.wit_link.specs.Appending.{IsAdded}
+use Rattle.wit_merge_spec.specs.Matches.{Merging}
+use Rattle.wit_merge_spec.specs.United.{united}
+use Rattle.wit_transform.specs.Turned.{Turn, turned}
+use Rattle.wit_resolve_graph.specs.Sources.{PushesAnswer}
+use Rattle.wit_resolve_graph.specs.State.{State}
+use Rattle.wit_resolve_graph.specs.Step.{PushesGroups, Run}
+use Rattle.wit_resolve_graph.specs.declared.command.Command.{Command}
+use Rattle.wit_resolve_graph.specs.declared.command.Reply.{Reply}
+
+-- all of a type but its stability, which a merge joins, and what it names as an alias, which semver merging changes
+pub record KeepsType (old new : TypeDef) : Type 0 where
+  pub rest : new ≡ record old { kind = new.kind; stability = new.stability }
+  pub kind : SameKind old.kind new.kind
+
+-- everything of a graph is in another at its id: types as they were but for these, interfaces with what they had, worlds
+-- of their packages (a turned world has another name and other lists), packages under their names with their interfaces
+pub record Keeps (old new : Graph) : Type 0 where
+  pub types : EachAt (λ t (def : TypeDef). SomeAt new.types t (KeepsType def)) old.types
+  pub interfaces : EachAt (λ i (interface : Interface). SomeAt new.interfaces i (SameInterface interface)) old.interfaces
+  pub worlds : EachAt (λ w (world : World). SomeAt new.worlds w (SameHome world)) old.worlds
+  pub packages : EachAt (λ p (home : Package). SomeAt new.packages p (SamePackage home)) old.packages
+  pub names : (more : List (PackageName × ℕ)) × (new.package_names ≡ old.package_names ++ more)
+
+-- what was there before a run is there after it, with the same ids
+abbrev pub RunsKeep : Type 0
+RunsKeep = (old new : State) (commands : List Command) (replies : List Reply) → Run old commands replies new → Keeps old.graph new.graph
+
+-- ---- what single calls keep: what was there before is there after it, with the same ids
+
+-- a package, or groups of packages, are added, or a source is parsed and its packages are added
+abbrev pub AdditionsKeep : Type 0
+AdditionsKeep = (a : Addition) (new : Graph) (id : ℕ) → IsAdded a new id → Keeps a.graph new
+
+abbrev pub GroupsKeep : Type 0
+GroupsKeep = (old new : State) (main : UnresolvedPackageGroup) (deps : List UnresolvedPackageGroup) (id : ℕ) → PushesGroups old main deps id new → Keeps old.graph new.graph
+
+abbrev pub SourcesKeep : Type 0
+SourcesKeep = (old new : State) (group : UnresolvedPackageGroup) (id : ℕ) → PushesAnswer old group id new → Keeps old.graph new.graph
+
+-- a world is transformed, whatever a filter answers
+abbrev pub TransformationsKeep : Type 0
+TransformationsKeep = (g : Graph) (w : ℕ) (change : World → Turn) → Keeps g (turned g w change)
+
+-- another graph is merged into it, or the imports of a world are merged by a rule of tracks
+abbrev pub MergesKeep : Type 0
+MergesKeep = (m : Merging) → Keeps m.graph (united m)
+
+abbrev pub SemverMergesKeep : Type 0
+SemverMergesKeep = (rule : TrackRule) (g : Graph) (w : ℕ) → Keeps g (rewritten rule g w)
