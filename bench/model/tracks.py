@@ -69,7 +69,7 @@ def merge_by_track(graph, package_name, world_name, rule):
                 else:
                     causes.add((25, f"{begin}type `{target.name}` is missing"))
                     is_whole = False
-    # (all aliases are turned at once)
+    # (all aliases are transformed at once)
     for it in all_types(graph):
         if id(it) in targets:
             it.kind = "alias", targets[id(it)]

@@ -5,11 +5,11 @@ use Rattle.std.specs.Fmt.{digits}
 use Rattle.wit_data.specs.declared.function.Function.{Function}
 use Rattle.wit_data.specs.declared.world.WorldKey.{WorldKey}
 use Rattle.wit_data.specs.declared.world.WorldKey.TheVariants as key
-use Rattle.wit_digraph.specs.Walks.{walk, walk_within}
+use Rattle.wit_digraph.specs.PostOrder.{post_order, post_order_within}
 use Rattle.wit_core_names.specs.examples.Examples.{ExamplesOfNames, ExamplesOfImports, ExamplesOfExports, ExamplesOfConditions, of_futures}
 
 import_examples : (x : Bor WorldKey) (f : Bor Function) → x.now ≡ key.Interface 0 → f.now ≡ of_futures → ExamplesOfImports x f
-unfolding walk walk_within digits
+unfolding post_order post_order_within digits
 import_examples x f x_is f_is = record {
   standard = rw (x_is, f_is) refl;
   legacy = rw (x_is, f_is) refl;
@@ -19,7 +19,7 @@ import_examples x f x_is f_is = record {
   own_drop = refl;
   second_read = rw f_is refl;
   unit_drop = rw f_is refl;
-  not_turned = λ turned. let one : 5 ≡ 1 = ap (λ (p : List ℕ × List ℕ). length p.0) turned in absurd (omega (arith, one));
+  not_transformed = λ transformed. let one : 5 ≡ 1 = ap (λ (p : List ℕ × List ℕ). length p.0) transformed in absurd (omega (arith, one));
 }
 
 export_examples : (x : Bor WorldKey) (f : Bor Function) → x.now ≡ key.Interface 0 → f.now ≡ of_futures → ExamplesOfExports x f
@@ -34,7 +34,7 @@ export_examples x f x_is f_is = record {
 }
 
 condition_examples : (x unnamed : Bor WorldKey) (f : Bor Function) → x.now ≡ key.Interface 0 → unnamed.now ≡ key.Interface 1 → f.now ≡ of_futures → ExamplesOfConditions x unnamed f
-unfolding walk walk_within
+unfolding post_order post_order_within
 condition_examples x unnamed f x_is unnamed_is f_is = record {
   func = rw x_is refl;
   no_name = rw unnamed_is refl;

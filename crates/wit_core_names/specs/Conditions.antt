@@ -12,7 +12,7 @@ use Rattle.wit_data.specs.declared.interface.Interface.{Interface}
 use Rattle.wit_data.specs.declared.types.TypeDef.{TypeDef}
 use Rattle.wit_data.specs.declared.world.WorldKey.{WorldKey}
 use Rattle.wit_data.specs.declared.world.WorldKey.TheVariants as key
-use Rattle.wit_graph_data.specs.Questions.{futures_and_streams, named_interface}
+use Rattle.wit_graph_data.specs.Queries.{futures_and_streams, named_interface}
 use Rattle.wit_graph_data.specs.declared.graph.Graph.{Graph}
 use Rattle.wit_core_names.specs.declared.export.WasmExport.{WasmExport}
 use Rattle.wit_core_names.specs.declared.export.WasmExport.TheVariants as exports
@@ -53,27 +53,27 @@ abbrev pub is_of_function : List TypeDef → Function → Option ℕ → Bool
 is_of_function types f None = true
 is_of_function types f (Some t) = list_any (nat_eq t) (futures_and_streams types f)
 
--- reading, writing and ending these can go on after the call
-abbrev pub future_may_go_on : FutureIntrinsic → Bool
-future_may_go_on future.New = false
-future_may_go_on future.Read = true
-future_may_go_on future.Write = true
-future_may_go_on future.Forward = false
-future_may_go_on future.CancelRead = true
-future_may_go_on future.CancelWrite = true
-future_may_go_on future.DropReadable = false
-future_may_go_on future.DropWritable = false
+-- what may be asked `async` of a future: reading, writing, and cancelling either
+abbrev pub future_can_be_async : FutureIntrinsic → Bool
+future_can_be_async future.New = false
+future_can_be_async future.Read = true
+future_can_be_async future.Write = true
+future_can_be_async future.Forward = false
+future_can_be_async future.CancelRead = true
+future_can_be_async future.CancelWrite = true
+future_can_be_async future.DropReadable = false
+future_can_be_async future.DropWritable = false
 
--- the same of streams
-abbrev pub stream_may_go_on : StreamIntrinsic → Bool
-stream_may_go_on stream.New = false
-stream_may_go_on stream.Read = true
-stream_may_go_on stream.Write = true
-stream_may_go_on stream.Forward = false
-stream_may_go_on stream.CancelRead = true
-stream_may_go_on stream.CancelWrite = true
-stream_may_go_on stream.DropReadable = false
-stream_may_go_on stream.DropWritable = false
+-- what may be asked `async` of a stream: reading, writing, and cancelling either
+abbrev pub stream_can_be_async : StreamIntrinsic → Bool
+stream_can_be_async stream.New = false
+stream_can_be_async stream.Read = true
+stream_can_be_async stream.Write = true
+stream_can_be_async stream.Forward = false
+stream_can_be_async stream.CancelRead = true
+stream_can_be_async stream.CancelWrite = true
+stream_can_be_async stream.DropReadable = false
+stream_can_be_async stream.DropWritable = false
 
 -- what is done with a future or a stream has names under the older ones alone
 abbrev pub can_name_value : Graph → ManglingAndAbi → Option WorldKey → Function → Option ℕ → Bool → Bool
@@ -86,22 +86,22 @@ can_name_import g mangling (imports.Func interface func) = interface_has_name g.
 can_name_import g mangling (imports.ResourceIntrinsic interface r intrinsic) =
     interface_has_name g.interfaces (option_copied interface) && (type_has_name g.types r && is_within (option_copied interface) intrinsic)
 can_name_import g mangling (imports.FutureIntrinsic interface func ty intrinsic exported async) =
-    can_name_value g mangling (option_copied interface) func.now ty (not async || future_may_go_on intrinsic)
+    can_name_value g mangling (option_copied interface) func.now ty (not async || future_can_be_async intrinsic)
 can_name_import g mangling (imports.StreamIntrinsic interface func ty intrinsic exported async) =
-    can_name_value g mangling (option_copied interface) func.now ty (not async || stream_may_go_on intrinsic)
+    can_name_value g mangling (option_copied interface) func.now ty (not async || stream_can_be_async intrinsic)
 
--- a callback is there under the older names with callbacks alone
-abbrev pub is_called : ManglingAndAbi → WasmExportKind → Bool
-is_called mangling Normal = true
-is_called mangling PostReturn = true
-is_called Standard32 Callback = false
-is_called (Legacy Sync) Callback = false
-is_called (Legacy AsyncCallback) Callback = true
-is_called (Legacy AsyncStackful) Callback = false
+-- a callback is exported under Legacy(AsyncCallback) alone
+abbrev pub has_callback : ManglingAndAbi → WasmExportKind → Bool
+has_callback mangling Normal = true
+has_callback mangling PostReturn = true
+has_callback Standard32 Callback = false
+has_callback (Legacy Sync) Callback = false
+has_callback (Legacy AsyncCallback) Callback = true
+has_callback (Legacy AsyncStackful) Callback = false
 
 -- an export that has a name
 abbrev pub can_name_export : Graph → ManglingAndAbi → WasmExport → Bool
-can_name_export g mangling (exports.Func interface func kind) = is_called mangling kind && interface_has_name g.interfaces (option_copied interface)
+can_name_export g mangling (exports.Func interface func kind) = has_callback mangling kind && interface_has_name g.interfaces (option_copied interface)
 can_name_export g mangling (exports.ResourceDtor interface r) = key_has_name g.interfaces interface.now && type_has_name g.types r
 can_name_export g mangling exports.Memory = true
 can_name_export g mangling exports.Initialize = true

@@ -12,7 +12,7 @@ use Rattle.wit_data.specs.declared.function.Function.{Function}
 use Rattle.wit_data.specs.declared.types.TypeDef.{TypeDef}
 use Rattle.wit_data.specs.declared.world.WorldKey.{WorldKey}
 use Rattle.wit_graph_data.specs.IdText.{key_text}
-use Rattle.wit_graph_data.specs.Questions.{canonical_key_text, futures_and_streams}
+use Rattle.wit_graph_data.specs.Queries.{canonical_key_text, futures_and_streams}
 use Rattle.wit_graph_data.specs.declared.graph.Graph.{Graph}
 use Rattle.wit_core_names.specs.declared.export.WasmExport.{WasmExport}
 use Rattle.wit_core_names.specs.declared.export.WasmExport.TheVariants as exports
@@ -34,7 +34,7 @@ import_prefix Sync = []
 import_prefix AsyncCallback = codes "[async-lower]"
 import_prefix AsyncStackful = codes "[async-lower]"
 
--- and before that of what is exported
+-- what stands before the name of what is exported, by the ABI
 abbrev pub export_prefix : LiftLowerAbi → List ℕ
 export_prefix Sync = []
 export_prefix AsyncCallback = codes "[async-lift]"
@@ -79,20 +79,20 @@ resource_mark ExportedDrop = codes "[resource-drop]"
 resource_mark ExportedNew = codes "[resource-new]"
 resource_mark ExportedRep = codes "[resource-rep]"
 
-abbrev pub is_exported : ResourceIntrinsic → Bool
-is_exported ImportedDrop = false
-is_exported ExportedDrop = true
-is_exported ExportedNew = true
-is_exported ExportedRep = true
+abbrev pub is_export_intrinsic : ResourceIntrinsic → Bool
+is_export_intrinsic ImportedDrop = false
+is_export_intrinsic ExportedDrop = true
+is_export_intrinsic ExportedNew = true
+is_export_intrinsic ExportedRep = true
 
 -- the name of a resource
 abbrev pub resource_name : List TypeDef → ℕ → List ℕ
 resource_name types r = option_map_or (λ (def : TypeDef). unwrap_or def.name []) (slice_get types r) []
 
 -- the first place of a type among the futures and streams of a function; `unit` without a type
-abbrev pub place_text : List TypeDef → Function → Option ℕ → List ℕ
-place_text types f None = codes "unit"
-place_text types f (Some t) = option_map_or decimal (position (nat_eq t) (futures_and_streams types f)) []
+abbrev pub future_index_text : List TypeDef → Function → Option ℕ → List ℕ
+future_index_text types f None = codes "unit"
+future_index_text types f (Some t) = option_map_or decimal (position (nat_eq t) (futures_and_streams types f)) []
 
 -- ---- modules
 
@@ -130,14 +130,14 @@ import_names g Standard32 (imports.FutureIntrinsic interface func ty intrinsic e
 import_names g Standard32 (imports.StreamIntrinsic interface func ty intrinsic exported async) = ([], [])
 import_names g (Legacy abi) (imports.Func interface func) = (legacy_module g (option_copied interface), import_prefix abi ++ func.now.name)
 import_names g (Legacy abi) (imports.ResourceIntrinsic interface r intrinsic) =
-    (exported_prefix (is_exported intrinsic) ++ legacy_module g (option_copied interface), import_prefix abi ++ (resource_mark intrinsic ++ resource_name g.types r))
+    (exported_prefix (is_export_intrinsic intrinsic) ++ legacy_module g (option_copied interface), import_prefix abi ++ (resource_mark intrinsic ++ resource_name g.types r))
 import_names g (Legacy abi) (imports.FutureIntrinsic interface func ty intrinsic exported async) = (
   exported_prefix exported ++ legacy_module g (option_copied interface),
-  async_prefix async ++ (codes "[future-" ++ (future_word intrinsic ++ (codes "-" ++ (place_text g.types func.now ty ++ (codes "]" ++ func.now.name))))),
+  async_prefix async ++ (codes "[future-" ++ (future_word intrinsic ++ (codes "-" ++ (future_index_text g.types func.now ty ++ (codes "]" ++ func.now.name))))),
 )
 import_names g (Legacy abi) (imports.StreamIntrinsic interface func ty intrinsic exported async) = (
   exported_prefix exported ++ legacy_module g (option_copied interface),
-  async_prefix async ++ (codes "[stream-" ++ (stream_word intrinsic ++ (codes "-" ++ (place_text g.types func.now ty ++ (codes "]" ++ func.now.name))))),
+  async_prefix async ++ (codes "[stream-" ++ (stream_word intrinsic ++ (codes "-" ++ (future_index_text g.types func.now ty ++ (codes "]" ++ func.now.name))))),
 )
 
 -- ---- exports

@@ -1,7 +1,7 @@
 //! What has a name in core wasm.
 ghost use Rattle.std.specs.Prelude.{◌≡◌, IfErr, IfOk};
 ghost use Rattle.std.specs.Option.{option_copied};
-ghost use Rattle.wit_core_names.specs.Conditions.{can_name_export, can_name_import, can_name_value, future_may_go_on, interface_has_name, is_called, is_of_function, is_within, key_has_name, stream_may_go_on, type_has_name};
+ghost use Rattle.wit_core_names.specs.Conditions.{can_name_export, can_name_import, can_name_value, future_can_be_async, has_callback, interface_has_name, is_of_function, is_within, key_has_name, stream_can_be_async, type_has_name};
 ghost use Rattle.wit_graph_data.specs.declared.error_kind.ResolveErrorKind.TheVariants.{OutOfMemory};
 ghost use Rattle.wit_data.specs.Reference.{type_references};
 ghost use Rattle.wit_digraph.specs.Relation.{IsAcyclic};
@@ -52,8 +52,8 @@ fn is_within(interface: &Option<&WorldKey>, intrinsic: ResourceIntrinsic) -> boo
     }
 }
 
-fn future_may_go_on(intrinsic: FutureIntrinsic) -> bool
-    ensures { result ≡ future_may_go_on intrinsic }
+fn future_can_be_async(intrinsic: FutureIntrinsic) -> bool
+    ensures { result ≡ future_can_be_async intrinsic }
 {
     match intrinsic {
         FutureIntrinsic::Read
@@ -67,8 +67,8 @@ fn future_may_go_on(intrinsic: FutureIntrinsic) -> bool
     }
 }
 
-fn stream_may_go_on(intrinsic: StreamIntrinsic) -> bool
-    ensures { result ≡ stream_may_go_on intrinsic }
+fn stream_can_be_async(intrinsic: StreamIntrinsic) -> bool
+    ensures { result ≡ stream_can_be_async intrinsic }
 {
     match intrinsic {
         StreamIntrinsic::Read
@@ -133,7 +133,7 @@ pub fn can_name_import(
             async_,
             ..
         } => {
-            let goes_on = !*async_ || future_may_go_on(*intrinsic);
+            let goes_on = !*async_ || future_can_be_async(*intrinsic);
             can_name_value(alloc, graph, mangling, interface, func, *ty, goes_on)
         }
         WasmImport::StreamIntrinsic {
@@ -144,7 +144,7 @@ pub fn can_name_import(
             async_,
             ..
         } => {
-            let goes_on = !*async_ || stream_may_go_on(*intrinsic);
+            let goes_on = !*async_ || stream_can_be_async(*intrinsic);
             can_name_value(alloc, graph, mangling, interface, func, *ty, goes_on)
         }
     }
@@ -186,7 +186,7 @@ pub fn can_name_export(graph: &Graph, mangling: ManglingAndAbi, export: &WasmExp
             interface,
             kind,
             ..
-        } => is_called(mangling, *kind) && interface_has_name(graph, interface),
+        } => has_callback(mangling, *kind) && interface_has_name(graph, interface),
         WasmExport::ResourceDtor {
             interface,
             resource,
@@ -196,8 +196,8 @@ pub fn can_name_export(graph: &Graph, mangling: ManglingAndAbi, export: &WasmExp
 }
 
 /// Whether there is such a core function under these names.
-fn is_called(mangling: ManglingAndAbi, kind: WasmExportKind) -> bool
-    ensures { result ≡ is_called mangling kind }
+fn has_callback(mangling: ManglingAndAbi, kind: WasmExportKind) -> bool
+    ensures { result ≡ has_callback mangling kind }
 {
     match kind {
         WasmExportKind::Normal | WasmExportKind::PostReturn => true,

@@ -1,7 +1,7 @@
 //! The names before those of the build targets.
 ghost use Rattle.std.specs.Prelude.{◌≡◌, ◌∷◌, ◌++◌, IfErr, IfOk, string_bytes};
 ghost use Rattle.std.specs.Option.{option_copied};
-ghost use Rattle.wit_core_names.specs.Names.{async_prefix, export_name, exported_prefix, import_names, legacy_key, legacy_module, place_text};
+ghost use Rattle.wit_core_names.specs.Names.{async_prefix, export_name, exported_prefix, future_index_text, import_names, legacy_key, legacy_module};
 ghost use Rattle.wit_graph_data.specs.declared.error_kind.ResolveErrorKind.TheVariants.{OutOfMemory};
 ghost use Rattle.wit_data.specs.Reference.{type_references};
 ghost use Rattle.wit_data.specs.declared.abi.ManglingAndAbi.TheVariants.{Legacy};
@@ -10,8 +10,8 @@ ghost use Rattle.wit_digraph.specs.Relation.{IsAcyclic};
 use crate::export::{WasmExport, WasmExportKind};
 use crate::import::WasmImport;
 use crate::parts::{
-    async_prefix, export_prefix, exported_prefix, future_word, import_prefix, is_exported,
-    place_text, resource_mark, resource_name, stream_word,
+    async_prefix, export_prefix, exported_prefix, future_word, import_prefix, is_export_intrinsic,
+    future_index_text, resource_mark, resource_name, stream_word,
 };
 use std::alloc::Global;
 use wit_data::{Function, LiftLowerAbi, TypeId, WorldKey};
@@ -68,7 +68,7 @@ pub(crate) fn legacy_import(
             resource,
             intrinsic,
         } => {
-            let module = module_of(alloc, graph, interface, is_exported(*intrinsic))?;
+            let module = module_of(alloc, graph, interface, is_export_intrinsic(*intrinsic))?;
             let (prefix, mark) = (import_prefix(abi), resource_mark(*intrinsic));
             let name = resource_name(graph, *resource);
             Ok((module, format!(in alloc; "{prefix}{mark}{name}")?))
@@ -113,10 +113,10 @@ fn value_field(
     word: &str,
 ) -> ResolveResult<String>
     requires { IsAcyclic (type_references graph.now.types) }
-    ensures text { IfOk result (λ text. string_bytes text ≡ async_prefix async_ ++ (91 ∷ (noun.now ++ (45 ∷ (word.now ++ (45 ∷ (place_text graph.now.types function.now ty ++ (93 ∷ function.now.name)))))))) }
+    ensures text { IfOk result (λ text. string_bytes text ≡ async_prefix async_ ++ (91 ∷ (noun.now ++ (45 ∷ (word.now ++ (45 ∷ (future_index_text graph.now.types function.now ty ++ (93 ∷ function.now.name)))))))) }
     ensures err { IfErr result (λ e. e ≡ OutOfMemory) }
 {
-    let place = place_text(alloc, graph, function, ty)?;
+    let place = future_index_text(alloc, graph, function, ty)?;
     let (lowered, name) = (async_prefix(async_), &function.name);
     Ok(format!(in alloc; "{lowered}[{noun}-{word}-{place}]{name}")?)
 }

@@ -1,6 +1,6 @@
 //! Parts of names.
 ghost use Rattle.std.specs.Prelude.{◌≡◌, IfErr, IfOk, nat_eq, position, string_bytes};
-ghost use Rattle.wit_core_names.specs.Names.{async_prefix, export_prefix, exported_prefix, future_word, import_prefix, is_exported, place_text, resource_mark, resource_name, stream_word};
+ghost use Rattle.wit_core_names.specs.Names.{async_prefix, export_prefix, exported_prefix, future_index_text, future_word, import_prefix, is_export_intrinsic, resource_mark, resource_name, stream_word};
 ghost use Rattle.wit_graph_data.specs.declared.error_kind.ResolveErrorKind.TheVariants.{OutOfMemory};
 ghost use Rattle.wit_data.specs.Reference.{type_references};
 ghost use Rattle.wit_digraph.specs.Relation.{IsAcyclic};
@@ -79,8 +79,8 @@ pub(crate) fn stream_word(intrinsic: StreamIntrinsic) -> &'static str
 }
 
 /// Whether what is done with a resource serves an export.
-pub(crate) fn is_exported(intrinsic: ResourceIntrinsic) -> bool
-    ensures { result ≡ is_exported intrinsic }
+pub(crate) fn is_export_intrinsic(intrinsic: ResourceIntrinsic) -> bool
+    ensures { result ≡ is_export_intrinsic intrinsic }
 {
     match intrinsic {
         ResourceIntrinsic::ImportedDrop => false,
@@ -116,28 +116,28 @@ pub(crate) fn resource_name(graph: &Graph, resource: TypeId) -> &str
 
 /// The first place of a type among the futures and streams of a function, as a text, and `unit`
 /// without a type.
-pub(crate) fn place_text(
+pub(crate) fn future_index_text(
     alloc: Global,
     graph: &Graph,
     function: &Function,
     ty: Option<TypeId>,
 ) -> ResolveResult<String>
     requires { IsAcyclic (type_references graph.now.types) }
-    ensures text { IfOk result (λ text. string_bytes text ≡ place_text graph.now.types function.now ty) }
+    ensures text { IfOk result (λ text. string_bytes text ≡ future_index_text graph.now.types function.now ty) }
     ensures err { IfErr result (λ e. e ≡ OutOfMemory) }
 {
     let Some(ty) = ty else {
         return Ok(String::from_str(alloc, "unit")?);
     };
     let found = find_futures_and_streams(alloc, graph, function)?;
-    match place_of(found.as_slice(), ty) {
+    match future_index(found.as_slice(), ty) {
         Some(place) => Ok(format!(in alloc; "{place}")?),
         None => Ok(String::new(alloc)),
     }
 }
 
 /// The first place of a type.
-fn place_of(found: &[TypeId], ty: TypeId) -> Option<usize>
+fn future_index(found: &[TypeId], ty: TypeId) -> Option<usize>
     ensures { result ≡ position (nat_eq ty) found.now }
 {
     found.iter().position(|candidate| ty == *candidate)

@@ -39,12 +39,13 @@ ItemUsesOwn types w (item.Interface id stability docs span external_id) = Unit {
 ItemUsesOwn types w (item.Function function) = UsesOwn types (owner.World w) function
 ItemUsesOwn types w (item.Type_ id span) = Unit {0}
 
--- the entries of a world are imports and exports
-abbrev pub HasImports : List Interface → List TypeDef → ℕ → World → Type 0
-HasImports interfaces types w world = Each (λ (e : Entry). IsImport interfaces types w e.0 e.1) world.imports
+-- each import of a world may stand under its key
+abbrev pub ImportsAreAllowed : List Interface → List TypeDef → ℕ → World → Type 0
+ImportsAreAllowed interfaces types w world = Each (λ (e : Entry). IsImport interfaces types w e.0 e.1) world.imports
 
-abbrev pub HasExports : List Interface → World → Type 0
-HasExports interfaces world = Each (λ (e : Entry). IsExport interfaces e.0 e.1) world.exports
+-- each export of a world may stand under its key
+abbrev pub ExportsAreAllowed : List Interface → World → Type 0
+ExportsAreAllowed interfaces world = Each (λ (e : Entry). IsExport interfaces e.0 e.1) world.exports
 
 -- the functions among entries refer to types of world w alone
 abbrev pub EntriesUseOwn : List TypeDef → ℕ → List Entry → Type 0
@@ -61,12 +62,12 @@ item_interface (item.Function function) = []
 item_interface (item.Type_ id span) = []
 
 -- the interfaces that entries hold
-abbrev pub held_interfaces : List Entry → List ℕ
-held_interfaces entries = flat_map (λ (e : Entry). item_interface e.1) entries
+abbrev pub interfaces_of_entries : List Entry → List ℕ
+interfaces_of_entries entries = flat_map (λ (e : Entry). item_interface e.1) entries
 
 -- the interfaces in all places of all worlds
-abbrev pub placed_interfaces : List World → List ℕ
-placed_interfaces worlds = flat_map (λ (world : World). held_interfaces world.imports ++ held_interfaces world.exports) worlds
+abbrev pub interfaces_in_worlds : List World → List ℕ
+interfaces_in_worlds worlds = flat_map (λ (world : World). interfaces_of_entries world.imports ++ interfaces_of_entries world.exports) worlds
 
 -- the interface has no name
 abbrev pub is_unnamed : List Interface → ℕ → Bool
@@ -74,4 +75,4 @@ is_unnamed interfaces f = option_map_or (λ (interface : Interface). not (is_som
 
 -- no interface without a name stands in two places
 abbrev pub StandOnce : List Interface → List World → Type 0
-StandOnce interfaces worlds = IsDistinct nat_eq (filter (is_unnamed interfaces) (placed_interfaces worlds))
+StandOnce interfaces worlds = IsDistinct nat_eq (filter (is_unnamed interfaces) (interfaces_in_worlds worlds))

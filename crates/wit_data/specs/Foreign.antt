@@ -47,21 +47,21 @@ pub record AreFirst (ids : List ℕ) (count : ℕ) : Type 0 where
   pub there : length ids ≤ count
 
 -- a foreign interface has the name under which it is named, and no functions
-abbrev pub IsBareInterface : List ℕ → Interface → Type 0
-IsBareInterface name interface = (interface.name ≡ Some name) × (interface.functions ≡ [])
+abbrev pub IsNameOnlyInterface : List ℕ → Interface → Type 0
+IsNameOnlyInterface name interface = (interface.name ≡ Some name) × (interface.functions ≡ [])
 
 -- a foreign world has the name under which it is named, no items and no includes
-abbrev pub IsBareWorld : List ℕ → World → Type 0
-IsBareWorld name world = (world.name ≡ name) × (world.imports ≡ []) × (world.exports ≡ []) × (world.includes ≡ [])
+abbrev pub IsNameOnlyWorld : List ℕ → World → Type 0
+IsNameOnlyWorld name world = (world.name ≡ name) × (world.imports ≡ []) × (world.exports ≡ []) × (world.includes ≡ [])
 
 -- the item is there and bare
-abbrev pub IsBare : List Interface → List World → List ℕ → AstItem → Type 0
-IsBare interfaces worlds name (item.Interface id) = SomeAt interfaces id (IsBareInterface name)
-IsBare interfaces worlds name (item.World id) = SomeAt worlds id (IsBareWorld name)
+abbrev pub IsNameOnly : List Interface → List World → List ℕ → AstItem → Type 0
+IsNameOnly interfaces worlds name (item.Interface id) = SomeAt interfaces id (IsNameOnlyInterface name)
+IsNameOnly interfaces worlds name (item.World id) = SomeAt worlds id (IsNameOnlyWorld name)
 
 -- the item is there and bare, and some gate says under which it is named
 abbrev pub IsForeign : List Interface → List World → ForeignItem → Type 0
-IsForeign interfaces worlds named = IsBare interfaces worlds named.0 named.1.0 × (named.1.1 ≢ [])
+IsForeign interfaces worlds named = IsNameOnly interfaces worlds named.0 named.1.0 × (named.1.1 ≢ [])
 
 -- a type of a foreign interface, that is of one of the first `foreign` interfaces, has a name
 abbrev pub IsForeignType : ℕ → TypeDef → Type 0

@@ -21,13 +21,13 @@ use Rattle.wit_data.specs.declared.world.WorldKey.TheVariants as key
 -- ---- lists of types
 
 -- the type that an entry of a world's imports lists, under its name
-abbrev pub listed_type : WorldKey → WorldItem → List (List ℕ × ℕ)
-listed_type (key.Name name) (item.Type_ id span) = (name, id) ∷ []
-listed_type _ _ = []
+abbrev pub entry_type : WorldKey → WorldItem → List (List ℕ × ℕ)
+entry_type (key.Name name) (item.Type_ id span) = (name, id) ∷ []
+entry_type _ _ = []
 
 -- the types that a world lists, each under its name
 abbrev pub world_types : World → List (List ℕ × ℕ)
-world_types world = flat_map (λ (e : WorldKey × WorldItem). listed_type e.0 e.1) world.imports
+world_types world = flat_map (λ (e : WorldKey × WorldItem). entry_type e.0 e.1) world.imports
 
 -- the item is there, and is type id
 abbrev pub IsTypeItem : Option WorldItem → ℕ → Type 0
@@ -76,18 +76,18 @@ IsPlain (kind.Type_ ty) = ⊥
 IsPlain kind.Resource = ⊥
 IsPlain _ = Unit {0}
 
--- through unnamed types, as rows: row i has what type i refers to if it has no name, and nothing if it has one
+-- through unnamed types, as adjacency lists: list i has what type i refers to if it has no name, and nothing if it has one
 abbrev pub through_unnamed : List TypeDef → List (List ℕ)
 through_unnamed types = map (λ (def : TypeDef). if is_some def.name then [] else referred def.kind) types
 
 -- type id is, or refers through unnamed types to, a named type of this owner
-abbrev pub Shows : List TypeDef → ℕ → TypeOwner → Type 0
-Shows types id by = (named : ℕ) × Reaches (through_unnamed types) id named × SomeAt types named (λ (def : TypeDef). IsSome def.name × (def.owner ≡ by))
+abbrev pub NamesThroughUnnamed : List TypeDef → ℕ → TypeOwner → Type 0
+NamesThroughUnnamed types id by = (named : ℕ) × Reaches (through_unnamed types) id named × SomeAt types named (λ (def : TypeDef). IsSome def.name × (def.owner ≡ by))
 
 -- it is there, and no named type that it is or refers to through unnamed types is of another owner
 pub record IsOwn (types : List TypeDef) (by : TypeOwner) (id : ℕ) : Type 0 where
   pub there : id < length types
-  pub only : (other : TypeOwner) → Shows types id other → other ≡ by
+  pub only : (other : TypeOwner) → NamesThroughUnnamed types id other → other ≡ by
 
 -- what a kind refers to, other than as an alias
 abbrev pub parts : TypeDefKind → List ℕ

@@ -15,6 +15,6 @@ package_cmp =
     then_cmp (on (λ (p : PackageName). p.namespace) (slice_cmp nat_cmp))
     (then_cmp (on (λ (p : PackageName). p.name) (slice_cmp nat_cmp)) (on (λ (p : PackageName). p.version) (option_cmp version_cmp)))
 
--- the same name
+-- two package names are the same
 abbrev pub same_package : PackageName → PackageName → Bool
 same_package a b = bytes_eq a.namespace b.namespace && (bytes_eq a.name b.name && option_eq version_eq a.version b.version)

@@ -21,21 +21,21 @@ abbrev pub named_type : Type_ → List ℕ
 named_type (type.Id id) = id ∷ []
 named_type _ = []
 
--- the same of a type that may be left out
+-- the type of the list that a type names which may be left out: none where it is left out or a primitive
 abbrev pub named_option : Option Type_ → List ℕ
 named_option None = []
 named_option (Some ty) = named_type ty
 
--- the resource that a handle is of
-abbrev pub handled : Handle → ℕ
-handled (Own id) = id
-handled (Borrow id) = id
+-- the resource of which a handle is one
+abbrev pub handle_resource : Handle → ℕ
+handle_resource (Own id) = id
+handle_resource (Borrow id) = id
 
 -- the types that a kind refers to
 abbrev pub referred : TypeDefKind → List ℕ
 referred (kind.Record fields) = flat_map (λ (f : Field). named_type f.ty) fields
 referred kind.Resource = []
-referred (kind.Handle handle) = handled handle ∷ []
+referred (kind.Handle handle) = handle_resource handle ∷ []
 referred (kind.Flags flags) = []
 referred (kind.Tuple types) = flat_map named_type types
 referred (kind.Variant cases) = flat_map (λ (c : Case). named_option c.ty) cases
@@ -50,7 +50,7 @@ referred (kind.Stream ty) = named_option ty
 referred (kind.Type_ ty) = named_type ty
 referred kind.Unknown = []
 
--- which type refers to which, as rows: row i has what type i refers to
+-- which type refers to which, as adjacency lists: list i has what type i refers to
 abbrev pub type_references : List TypeDef → List (List ℕ)
 type_references types = map (λ (def : TypeDef). referred def.kind) types
 

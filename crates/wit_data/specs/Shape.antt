@@ -1,4 +1,4 @@
--- The shape of an unresolved package: what a reader of WIT hands in, whatever the text says.
+-- The shape of an unresolved package: what a reader of WIT brings, whatever the text says.
 --
 -- Ids are places in the package's own lists, and a fact that speaks of an id says that it is there, so
 -- that all ids of a shaped package are in range. The foreign interfaces and worlds, those that the
@@ -13,7 +13,7 @@ use Rattle.std.specs.Str.{bytes_eq}
 use Rattle.wit_values.specs.Table.{HasDistinctKeys}
 use Rattle.wit_digraph.specs.Relation.{IsAcyclic}
 use Rattle.wit_data.specs.Each.{Each, EachAt, SomeAt}
-use Rattle.wit_data.specs.Entries.{EntriesUseOwn, HasExports, HasImports, IncludesEarlier, StandOnce}
+use Rattle.wit_data.specs.Entries.{EntriesUseOwn, ExportsAreAllowed, ImportsAreAllowed, IncludesEarlier, StandOnce}
 use Rattle.wit_data.specs.Foreign.{ForeignItem, AreFirst, AreForeignTypes, AreUnknownFirst, IsForeign, ListUnknownAlone, foreign_interfaces, foreign_worlds}
 use Rattle.wit_data.specs.Ownership.{AliasesNamed, FunctionsUseOwn, IsListed, IsPlain, ListsOwn, NamesFunctions, RefersToOwn}
 use Rattle.wit_data.specs.Reference.{referred}
@@ -80,7 +80,7 @@ pub record HasNames (p : UnresolvedPackage) : Type 0 where
   pub worlds_differ : IsDistinct bytes_eq (world_names (length (foreign_worlds p.foreign_deps)) p.worlds)
 
 -- which types belong to which interface or world
-pub record HasOwners (p : UnresolvedPackage) : Type 0 where
+pub record HasUnresolvedOwners (p : UnresolvedPackage) : Type 0 where
   -- a type with an owner has a name and is listed by its owner under it, one without has none
   pub listed : EachAt (λ i (def : TypeDef). IsListed p.interfaces p.worlds i def.name def.owner) p.types
   -- an interface lists types of its own, each under its name, and each function stands under its name
@@ -88,7 +88,7 @@ pub record HasOwners (p : UnresolvedPackage) : Type 0 where
   pub functions : Each NamesFunctions p.interfaces
 
 -- what types refer to
-pub record HasReferences (p : UnresolvedPackage) : Type 0 where
+pub record HasUnresolvedReferences (p : UnresolvedPackage) : Type 0 where
   -- a type refers to earlier types
   pub earlier : EachAt (λ i (def : TypeDef). Each (λ id. id < i) (referred def.kind)) p.types
   -- an alias of a type names a named type of its own owner or of an interface with a name
@@ -104,11 +104,11 @@ pub record KeepsToOwn (p : UnresolvedPackage) : Type 0 where
   pub exports : EachAt (λ w (world : World). EntriesUseOwn p.types w world.exports) p.worlds
 
 -- what worlds hold
-pub record HasWorlds (p : UnresolvedPackage) : Type 0 where
+pub record HasUnresolvedWorlds (p : UnresolvedPackage) : Type 0 where
   -- under the key of an interface that interface, which has a name; under a label an interface, the
   -- function of that name, or, among imports, the world's own type of that name
-  pub imports : EachAt (HasImports p.interfaces p.types) p.worlds
-  pub exports : Each (HasExports p.interfaces) p.worlds
+  pub imports : EachAt (ImportsAreAllowed p.interfaces p.types) p.worlds
+  pub exports : Each (ExportsAreAllowed p.interfaces) p.worlds
   -- an interface without a name stands in one place at most
   pub once : StandOnce p.interfaces p.worlds
   -- a world includes earlier worlds
@@ -126,10 +126,10 @@ pub record IsShaped (p : UnresolvedPackage) : Type 0 where
   pub foreign : HasForeign p
   pub unknown : HasUnknown p
   pub names : HasNames p
-  pub owners : HasOwners p
-  pub references : HasReferences p
+  pub owners : HasUnresolvedOwners p
+  pub references : HasUnresolvedReferences p
   pub own : KeepsToOwn p
-  pub worlds : HasWorlds p
+  pub worlds : HasUnresolvedWorlds p
   -- no interface uses itself, through whatever others
   pub uses : IsAcyclic (uses_of p.types p.interfaces)
 

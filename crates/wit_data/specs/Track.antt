@@ -8,7 +8,7 @@ use Rattle.wit_values.specs.Version.{Parts}
 use Rattle.wit_data.specs.declared.track.TrackRule.{TrackRule}
 use Rattle.wit_data.specs.declared.track.TrackRule.TheVariants.{Published, WithPrereleases}
 
--- of a release, by its numbers: the major one, or the minor one where the major one is 0, or the whole
+-- the track of a release, by its numbers: the major one, or the minor one where the major one is 0, or the whole
 abbrev pub release_track : ℕ → ℕ → ℕ → Parts
 release_track major minor patch =
     if major == 0 then (if minor == 0 then (0, 0, patch, [], []) else (0, minor, 0, [], [])) else (major, 0, 0, [], [])
@@ -27,7 +27,7 @@ abbrev pub release_track_text : ℕ → ℕ → ℕ → List ℕ
 release_track_text major minor patch =
     if major == 0 then (if minor == 0 then parts_text (0, 0, patch, [], []) else 48 ∷ 46 ∷ decimal minor) else decimal major
 
--- its text: `MAJOR`, `0.MINOR`, or the whole
+-- the text of a track: `MAJOR`, `0.MINOR`, or the whole
 abbrev pub track_text : Parts → List ℕ
 track_text v = if length v.3 == 0 then release_track_text v.0 v.1 v.2 else parts_text (v.0, v.1, v.2, v.3, [])
 

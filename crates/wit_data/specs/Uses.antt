@@ -31,6 +31,6 @@ type_interface_dep types id =
 abbrev pub interface_uses : List TypeDef → Interface → List ℕ
 interface_uses types interface = filter_map (λ (e : List ℕ × ℕ). type_interface_dep types e.1) interface.types
 
--- row i: the interfaces that interface i uses
+-- list i: the interfaces that interface i uses
 abbrev pub uses_of : List TypeDef → List Interface → List (List ℕ)
 uses_of types interfaces = map (interface_uses types) interfaces

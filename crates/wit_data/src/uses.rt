@@ -55,7 +55,7 @@ pub fn interface_uses(
     Ok(uses)
 }
 
-/// The rows of uses of a list of interfaces: row i has the interfaces that interface i uses, both
+/// The adjacency lists of a list of interfaces: row i has the interfaces that interface i uses, both
 /// from 0. The only error is want of memory.
 pub fn uses_of(
     alloc: Global,

@@ -3,8 +3,8 @@ use Rattle.std.proofs.Common.{ℕ, ◌<◌, ◌≤◌, zero, suc, List, [], ◌�
 use Rattle.std.proofs.lemmas.List.Elements.{All-from_recursion, All-contains, All-nil}
 use Rattle.wit_digraph.specs.facts.MemberFacts.{Contains-nil, Contains-here, Contains-there, Contains-cons_cases}
 use Rattle.wit_digraph.specs.Relation.{direct, IsPath, IsInRange}
-use Rattle.wit_digraph.specs.Walks.{walk_within, walk}
-use Rattle.wit_digraph.specs.examples.Examples.{stairs, ring, ExamplesOfPaths, ExamplesOfCycles, ExamplesOfWalks}
+use Rattle.wit_digraph.specs.PostOrder.{post_order_within, post_order}
+use Rattle.wit_digraph.specs.examples.Examples.{stairs, ring, ExamplesOfPaths, ExamplesOfCycles, ExamplesOfPostOrders}
 
 -- where each node uses lower ones alone, paths go down
 descends : (uses : List (List ℕ)) → ((i : ℕ) → All (λ j. j < i) (direct uses i)) → (i : ℕ) (path : List ℕ) (j : ℕ) → IsPath uses i path j → j ≤ i
@@ -61,9 +61,9 @@ cycles = record {
   no_use = λ on. elim (Contains-cons_cases 2 1 [] on.is_used) [ inl same ↦ (cc) | inr none ↦ Contains-nil none ];
 }
 
-pub walks : ExamplesOfWalks
-unfolding walk_within walk
-walks = record {
+pub post_orders : ExamplesOfPostOrders
+unfolding post_order_within post_order
+post_orders = record {
   with_repeats = refl;
   once = refl;
   uses_first = (

@@ -1,7 +1,7 @@
 pub mod Arranging
-pub mod Marks
-pub mod Stack
-pub mod WalkLaws
-pub mod Searching
-pub mod SearchSteps
 pub mod Examples
+pub mod Marks
+pub mod PostOrderLaws
+pub mod SearchSteps
+pub mod Searching
+pub mod Stack

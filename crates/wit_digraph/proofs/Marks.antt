@@ -4,22 +4,22 @@ use Rattle.std.proofs.lemmas.Bool.{cases_eq}
 use Rattle.std.proofs.lemmas.List.{length-set, length_push, drop_more}
 use Rattle.std.proofs.lemmas.List.Elements.{All-head, All-tail, All-push, All-weaker, Contains-push, Contains-append_cases, Contains-append_left}
 use Rattle.std.proofs.lemmas.Option.{get_or_from_slice_get, slice_get_cases}
-use Rattle.wit_digraph.specs.facts.BitFacts.{bit_of-taken_same, bit_of-taken_other, bit_of-longer}
+use Rattle.wit_digraph.specs.facts.BitFacts.{bit_of-selected_same, bit_of-selected_other, bit_of-longer}
 use Rattle.wit_digraph.specs.facts.MemberFacts.{Contains-nil, Contains-cons_cases}
 use Rattle.wit_digraph.specs.steps.Rows.{HasBit, bit_of}
-use Rattle.wit_digraph.specs.Walks.{MarksTell}
+use Rattle.wit_digraph.specs.PostOrder.{AreMarksOf}
 
 -- without bits none is listed
-pub MarksTell-none : (nodes : ℕ) (marks : List ℕ) → nodes ≤ 64 * length marks → ((i : ℕ) → bit_of marks i ≡ 0) → MarksTell nodes marks []
-MarksTell-none nodes marks enough off = record {
+pub AreMarksOf-none : (nodes : ℕ) (marks : List ℕ) → nodes ≤ 64 * length marks → ((i : ℕ) → bit_of marks i ≡ 0) → AreMarksOf nodes marks []
+AreMarksOf-none nodes marks enough off = record {
   enough = enough;
   each = λ i. (λ on. absurd (omega (arith, on, off i)), λ has. absurd (Contains-nil has));
   in_range = λ k d below. absurd (omega (arith, below));
 }
 
 -- one more is listed
-pub MarksTell-listed : (nodes : ℕ) (marks new order : List ℕ) (node : ℕ) → MarksTell nodes marks order → node < nodes → length new ≡ length marks → HasBit new node → ((k : ℕ) → k ≢ node → bit_of new k ≡ bit_of marks k) → MarksTell nodes new (order ++ node ∷ [])
-MarksTell-listed nodes marks new order node tell below long set others = record {
+pub AreMarksOf-listed : (nodes : ℕ) (marks new order : List ℕ) (node : ℕ) → AreMarksOf nodes marks order → node < nodes → length new ≡ length marks → HasBit new node → ((k : ℕ) → k ≢ node → bit_of new k ≡ bit_of marks k) → AreMarksOf nodes new (order ++ node ∷ [])
+AreMarksOf-listed nodes marks new order node tell below long set others = record {
   enough = omega (arith, tell.enough, long);
   each = λ i. (
     λ on. elim (cases_eq i node) [
@@ -38,16 +38,16 @@ MarksTell-listed nodes marks new order node tell below long set others = record 
 }
 
 -- one node more
-pub MarksTell-more : (nodes : ℕ) (marks order : List ℕ) → MarksTell nodes marks order → nodes + 1 ≤ 64 * length marks → MarksTell (nodes + 1) marks order
-MarksTell-more nodes marks order tell enough = record {
+pub AreMarksOf-more : (nodes : ℕ) (marks order : List ℕ) → AreMarksOf nodes marks order → nodes + 1 ≤ 64 * length marks → AreMarksOf (nodes + 1) marks order
+AreMarksOf-more nodes marks order tell enough = record {
   enough = enough;
   each = tell.each;
   in_range = All-weaker (λ k. k < nodes) (λ k. k < nodes + 1) (λ k below. omega (arith, below)) order tell.in_range;
 }
 
 -- one word more
-pub MarksTell-longer : (nodes : ℕ) (marks order : List ℕ) → MarksTell nodes marks order → MarksTell nodes (marks ++ 0 ∷ []) order
-MarksTell-longer nodes marks order tell = record {
+pub AreMarksOf-longer : (nodes : ℕ) (marks order : List ℕ) → AreMarksOf nodes marks order → AreMarksOf nodes (marks ++ 0 ∷ []) order
+AreMarksOf-longer nodes marks order tell = record {
   enough = omega (arith, tell.enough, length_push marks 0);
   each = λ i. (λ on. (tell.each i).0 (sym (bit_of-longer marks i) ∙ on), λ has. bit_of-longer marks i ∙ (tell.each i).1 has);
   in_range = tell.in_range;
@@ -59,7 +59,7 @@ pub record MarksAreOf (nodes : ℕ) (marks order : List ℕ) : Type 0 where
   pub marked : (i : ℕ) → HasBit marks i → Contains order i
   pub in_range : All (λ i. i < nodes) order
 
-pub MarksAreOf-from_tell : (nodes : ℕ) (marks order : List ℕ) → MarksTell nodes marks order → MarksAreOf nodes marks order
+pub MarksAreOf-from_tell : (nodes : ℕ) (marks order : List ℕ) → AreMarksOf nodes marks order → MarksAreOf nodes marks order
 MarksAreOf-from_tell nodes marks order tell = record { enough = tell.enough; marked = λ i on. (tell.each i).0 on; in_range = tell.in_range }
 
 pub first_below : (nodes : ℕ) (marks : List ℕ) (i : ℕ) (rest : List ℕ) → MarksAreOf nodes marks (i ∷ rest) → i / 64 < length marks
@@ -70,14 +70,14 @@ pub MarksAreOf-unset : (nodes : ℕ) (marks : List ℕ) (i : ℕ) (rest : List �
 MarksAreOf-unset nodes marks i rest are = record {
   enough = omega (arith, are.enough, length-set marks (i / 64) 0);
   marked = λ k on. elim (cases_eq (k / 64) (i / 64)) [
-    | inl same ↦ absurd (omega (arith, on, bit_of-taken_same marks i k (first_below nodes marks i rest are) same))
-    | inr apart ↦ elim (Contains-cons_cases i k rest (are.marked k (sym (bit_of-taken_other marks i k apart) ∙ on))) [ inl same ↦ absurd (apart (ap (λ j. j / 64) (sym same))) | inr there ↦ there ]
+    | inl same ↦ absurd (omega (arith, on, bit_of-selected_same marks i k (first_below nodes marks i rest are) same))
+    | inr apart ↦ elim (Contains-cons_cases i k rest (are.marked k (sym (bit_of-selected_other marks i k apart) ∙ on))) [ inl same ↦ absurd (apart (ap (λ j. j / 64) (sym same))) | inr there ↦ there ]
   ];
   in_range = All-tail (λ k. k < nodes) i rest are.in_range;
 }
 
-pub MarksTell-from_none : (nodes kept : ℕ) (marks : List ℕ) → kept ≤ nodes → MarksAreOf nodes marks [] → MarksTell kept marks []
-MarksTell-from_none nodes kept marks few are = record {
+pub AreMarksOf-from_none : (nodes kept : ℕ) (marks : List ℕ) → kept ≤ nodes → MarksAreOf nodes marks [] → AreMarksOf kept marks []
+AreMarksOf-from_none nodes kept marks few are = record {
   enough = omega (arith, are.enough, few);
   each = λ i. (λ on. are.marked i on, λ has. absurd (Contains-nil has));
   in_range = λ k d below. absurd (omega (arith, below));

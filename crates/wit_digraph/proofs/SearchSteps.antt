@@ -6,7 +6,7 @@ use Rattle.std.proofs.lemmas.List.Elements.{All-nil, All-pop, All-push, Contains
 use Rattle.wit_digraph.specs.facts.MemberFacts.{Contains-nil, Contains-here, Contains-cons_cases}
 use Rattle.wit_digraph.proofs.Searching.{KeepsDone, set_done, set_open, DoneAreClear-open, DoneAreClear-done, IsWay, IsWay-keeps, last_done, IsWay-replaced, IsWay-popped, IsWay-reaches}
 use Rattle.wit_digraph.specs.Relation.{direct, Reaches, IsInRange}
-use Rattle.wit_digraph.specs.Cycles.{IsOnCycle, mark_of, DoneAreClear, IsSettled}
+use Rattle.wit_digraph.specs.Cycles.{IsOnCycle, mark_of, DoneAreClear, IsFinished}
 use Rattle.wit_digraph.specs.declared.cycle.Mark.{Mark}
 use Rattle.wit_digraph.specs.declared.cycle.Mark.TheVariants.{Unseen, Open, Done}
 use Rattle.wit_digraph.specs.declared.frame.Frame.{Frame}
@@ -15,7 +15,7 @@ use Rattle.wit_digraph.specs.declared.frame.Frame.{Frame}
 abbrev pub IsOnStack : List Frame → ℕ → Type 0
 IsOnStack stack i = (f : Frame) × Contains stack f × (f.node ≡ i)
 
--- a search on its way from a root
+-- a search that runs from a root
 pub record IsSearching (uses : List (List ℕ)) (old marks : List Mark) (root : ℕ) (stack : List Frame) : Type 0 where
   pub clear : DoneAreClear uses marks
   pub way : IsWay uses marks stack
@@ -160,8 +160,8 @@ step_done uses old marks root s f is all =
     last_done_at : (uses : List (List ℕ)) (marks : List Mark) (s : List Frame) (f : Frame) → IsWay uses marks (s ++ f ∷ []) → (j k : ℕ) → k < f.next → k < length (direct uses f.node) → mark_of marks (get_or (direct uses f.node) k j) ≡ Done
     last_done_at uses marks s f way j k before inside = subst (λ m. mark_of marks m ≡ Done) (get_or_default (direct uses f.node) k 0 j inside) (last_done uses marks s f way k before)
 
--- a search begins where none is on its way
-pub start_search : (uses : List (List ℕ)) (marks : List Mark) → length marks ≡ length uses → (root : ℕ) → root < length uses → IsSettled uses marks → (mark_of marks root ≡ Done → ⊥) →
+-- a search begins where none is running
+pub start_search : (uses : List (List ℕ)) (marks : List Mark) → length marks ≡ length uses → (root : ℕ) → root < length uses → IsFinished uses marks → (mark_of marks root ≡ Done → ⊥) →
     IsSearching uses marks (set marks root Open) root (record { node = root; next = 0 } ∷ [])
 start_search uses marks long root here is not_done =
     let inside : root < length marks = omega (arith, here, long) in

@@ -18,13 +18,13 @@ pub record DoneAreClear (uses : List (List ℕ)) (marks : List Mark) : Type 0 wh
   pub closed : (i j : ℕ) → mark_of marks i ≡ Done → Contains (direct uses i) j → mark_of marks j ≡ Done
   pub no_cycle : (i k : ℕ) (path : List ℕ) → mark_of marks i ≡ Done → IsPath uses i (k ∷ path) i → ⊥
 
--- a search is not on its way: each node is done or was not met
-pub record IsSettled (uses : List (List ℕ)) (marks : List Mark) : Type 0 where
+-- no search is running: each node is done or was not met
+pub record IsFinished (uses : List (List ℕ)) (marks : List Mark) : Type 0 where
   pub clear : DoneAreClear uses marks
   pub none_open : (i : ℕ) → mark_of marks i ≡ Open → ⊥
 
 -- what a search from a root that finds no cycle leaves: the root is done, and what was done before
-pub record Settles (uses : List (List ℕ)) (old new : List Mark) (root : ℕ) : Type 0 where
-  pub settled : IsSettled uses new
+pub record Finishes (uses : List (List ℕ)) (old new : List Mark) (root : ℕ) : Type 0 where
+  pub settled : IsFinished uses new
   pub root_done : mark_of new root ≡ Done
   pub kept : (i : ℕ) → mark_of old i ≡ Done → mark_of new i ≡ Done

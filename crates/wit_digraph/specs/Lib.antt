@@ -1,6 +1,6 @@
 pub mod Cycles
+pub mod PostOrder
 pub mod Relation
-pub mod Walks
 pub mod examples
 pub mod facts
 pub mod laws

@@ -1,4 +1,4 @@
--- Which thing uses which, as rows: row i lists the direct uses of node i, in order, with repeats.
+-- Which thing uses which, as adjacency lists: list i lists the direct uses of node i, in order, with repeats.
 -- Nodes are numbered things, as interfaces, types or packages; the number of rows is the number of nodes.
 use Rattle.std.specs.Prelude.{◌≡◌, ℕ, ◌<◌, List, [], ◌∷◌, length, Contains, All, slice_index_or}
 

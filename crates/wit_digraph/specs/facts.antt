@@ -3,4 +3,4 @@ pub mod BitFacts
 pub mod EarlierFacts
 pub mod FreshFacts
 pub mod MemberFacts
-pub mod WalkFacts
+pub mod PostOrderFacts

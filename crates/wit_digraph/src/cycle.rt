@@ -1,6 +1,6 @@
 //! Cycles along uses: whether there is one, and a use on it.
 ghost use Rattle.std.specs.Prelude.{◌≡◌, ◌<◌, ◌↔◌, IfOk, IfSome, IfNone, IsNone, IsTrue, length};
-ghost use Rattle.wit_digraph.specs.Cycles.{IsOnCycle, IsSettled, Settles};
+ghost use Rattle.wit_digraph.specs.Cycles.{Finishes, IsFinished, IsOnCycle};
 ghost use Rattle.wit_digraph.specs.Relation.{IsAcyclic, IsInRange};
 
 use crate::frame::Frame;
@@ -67,9 +67,9 @@ fn search(
     requires in_range { IsInRange uses.now }
     requires root { root < length uses.now }
     requires long { length marks.old ≡ length uses.now }
-    requires settled { IsSettled uses.now marks.old }
+    requires settled { IsFinished uses.now marks.old }
     ensures some { IfOk result (λ found. IfSome found (λ c. IsOnCycle uses.now c.user c.used)) }
-    ensures none { IfOk result (λ found. IfNone found (Settles uses.now marks.old marks.new root)) }
+    ensures none { IfOk result (λ found. IfNone found (Finishes uses.now marks.old marks.new root)) }
 {
     if marks[root] == Mark::Done {
         return Ok(None);

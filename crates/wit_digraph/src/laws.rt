@@ -1,22 +1,22 @@
 //! Laws of the definitions: each function has no body, and its contract is what is proved.
 ghost use Rattle.std.specs.Prelude.{ℕ, List};
-ghost use Rattle.wit_digraph.specs.examples.Examples.{ExamplesOfCycles, ExamplesOfPaths, ExamplesOfWalks};
-ghost use Rattle.wit_digraph.specs.laws.Laws.{FirstsAreOnce, WalksKeepOrder, WalksReach, WalksUnfold};
+ghost use Rattle.wit_digraph.specs.examples.Examples.{ExamplesOfCycles, ExamplesOfPaths, ExamplesOfPostOrders};
+ghost use Rattle.wit_digraph.specs.laws.Laws.{FirstsAreOnce, PostOrdersKeepOrder, PostOrdersReach, PostOrdersUnfold};
 
-/// Where no node reaches itself, a walk is the walks of the direct uses, in order, and then the
+/// Where no node reaches itself, a post-order is the post-orders of the direct uses, in order, and then the
 /// node.
-pub fn walks_unfold()
-    ensures { WalksUnfold }
+pub fn post_orders_unfold()
+    ensures { PostOrdersUnfold }
 {}
 
 /// Where no node reaches itself, the order of some roots lists exactly what they reach.
-pub fn walks_reach()
-    ensures { WalksReach }
+pub fn post_orders_reach()
+    ensures { PostOrdersReach }
 {}
 
 /// Where no node reaches itself, each direct use stands before its user in the order of some roots.
-pub fn walks_keep_order()
-    ensures { WalksKeepOrder }
+pub fn post_orders_keep_order()
+    ensures { PostOrdersKeepOrder }
 {}
 
 /// The first of each member has all members, each once.
@@ -29,5 +29,5 @@ pub fn firsts_are_once()
 pub fn examples_hold()
     ensures paths { ExamplesOfPaths }
     ensures cycles { ExamplesOfCycles }
-    ensures walks { ExamplesOfWalks }
+    ensures post_orders { ExamplesOfPostOrders }
 {}

@@ -12,10 +12,10 @@ mod frame;
 pub mod laws;
 mod relation;
 mod row;
-mod walk;
+mod post_order;
 
 pub use crate::arrange::in_order;
 pub use crate::cycle::{CycleUse, find_cycle, is_acyclic};
 pub use crate::relation::{direct_uses, is_in_range};
 pub use crate::row::{has_bit, set_bit};
-pub use crate::walk::{Listing, walk_order};
+pub use crate::post_order::{Listing, post_order_of_roots};

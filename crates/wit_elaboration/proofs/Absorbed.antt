@@ -1,4 +1,4 @@
--- The walks of entries whose dependencies stand before them add nothing.
+-- The post-orders of entries whose dependencies stand before them add nothing.
 use Rattle.std.proofs.Common.{◌≡◌, ℕ, ◌<◌, true, List, [], ◌∷◌, ◌++◌, map, append_assoc, length, refl, subst, Contains, All}
 use Rattle.std.specs.List.{flat_map, list_any}
 use Rattle.std.proofs.lemmas.List.{append-nil}
@@ -8,11 +8,11 @@ use Rattle.wit_data.specs.declared.world.WorldItem.{WorldItem}
 use Rattle.wit_data.specs.declared.world.WorldKey.{WorldKey}
 use Rattle.wit_data.specs.declared.world.WorldKey.TheVariants.{Name, Interface}
 use Rattle.wit_digraph.specs.facts.MemberFacts.{Contains-nil, Contains-here, Contains-there, Contains-flat_map_cases}
-use Rattle.wit_digraph.specs.facts.WalkFacts.{Reaches-from_walk, UsesFirst-append, UsesFirst-IsPath}
+use Rattle.wit_digraph.specs.facts.PostOrderFacts.{Reaches-from_post_order, UsesFirst-append, UsesFirst-IsPath}
 use Rattle.wit_digraph.specs.Relation.{direct, IsAcyclic}
-use Rattle.wit_digraph.specs.Walks.{UsesFirst, walk}
+use Rattle.wit_digraph.specs.PostOrder.{UsesFirst, post_order}
 use Rattle.wit_elaboration.specs.Entries.{Entry, Role, Instance, TypeUse, TypeDefinition, FreeFunction, ResourceFunction, role_of, key_interface, same_key, fresh_entries}
-use Rattle.wit_elaboration.specs.Elaborated.{Carried, dependency_of, needs, entry_walk}
+use Rattle.wit_elaboration.specs.Elaborated.{InheritedData, dependency_of, dependencies_before, entry_post_order}
 use Rattle.wit_elaboration.specs.laws.ElaborationLaws.{stands_on, DependenciesFirst}
 use Rattle.wit_elaboration.specs.Sound.{IsRoleInRange}
 use Rattle.wit_elaboration.proofs.FreshEntries.{AllNew, interfaces_of_keys, ids-push, id_known, Contains-deps, fresh_entries-all_known, fresh_entries-new}
@@ -20,13 +20,13 @@ use Rattle.wit_elaboration.proofs.Order.{AreOwn}
 
 module _ (types : List TypeDef) where
   module _ (uses : List (List ℕ)) (acyclic : IsAcyclic uses) where
-    pub needs_in : (role : Role) (s : List ℕ) (j : ℕ) → IsRoleInRange (length uses) role → All (Contains s) (stands_on uses role) → UsesFirst uses [] s → Contains (needs uses role) j → Contains s j
+    pub needs_in : (role : Role) (s : List ℕ) (j : ℕ) → IsRoleInRange (length uses) role → All (Contains s) (stands_on uses role) → UsesFirst uses [] s → Contains (dependencies_before uses role) j → Contains s j
     needs_in (Instance i) s j inside on first has =
-        let part = Contains-flat_map_cases (walk uses) (direct uses i) j has in
-        let path = Reaches-from_walk uses acyclic part.0 (All-contains (λ x. x < length uses) (direct uses i) part.0 (acyclic.in_range i) part.1.0) j part.1.1 in
+        let part = Contains-flat_map_cases (post_order uses) (direct uses i) j has in
+        let path = Reaches-from_post_order uses acyclic part.0 (All-contains (λ x. x < length uses) (direct uses i) part.0 (acyclic.in_range i) part.1.0) j part.1.1 in
         UsesFirst-IsPath uses s part.0 path.0 j first (All-contains (Contains s) (direct uses i) part.0 on part.1.0) path.1
     needs_in (TypeUse i) s j inside on first has =
-        let path = Reaches-from_walk uses acyclic i inside j has in
+        let path = Reaches-from_post_order uses acyclic i inside j has in
         UsesFirst-IsPath uses s i path.0 j first (All-contains (Contains s) (i ∷ []) i on (Contains-here i [])) path.1
     needs_in TypeDefinition s j inside on first has = absurd (Contains-nil has)
     needs_in FreeFunction s j inside on first has = absurd (Contains-nil has)
@@ -36,15 +36,15 @@ module _ (types : List TypeDef) where
     first_more s (Name n) role first on own = rw append-nil first
     first_more s (Interface i) role first on own = UsesFirst-append uses s (i ∷ []) [] first (subst (λ it. All (Contains s) (stands_on uses it)) (own i refl) on, tt)
 
-    pub absorbed : (carries : WorldItem → Carried) (settle : WorldItem → WorldItem) (es : List Entry) (seen : List WorldKey) → AllNew seen es → DependenciesFirst types uses (interfaces_of_keys seen) es → UsesFirst uses [] (interfaces_of_keys seen) → AreOwn types es →
-        ((e : Entry) → Contains es e → IsRoleInRange (length uses) (role_of types e.1)) → ((e : Entry) → Contains es e → settle e.1 ≡ e.1) → fresh_entries seen (flat_map (entry_walk types uses carries settle) es) ≡ es
+    pub absorbed : (carries : WorldItem → InheritedData) (settle : WorldItem → WorldItem) (es : List Entry) (seen : List WorldKey) → AllNew seen es → DependenciesFirst types uses (interfaces_of_keys seen) es → UsesFirst uses [] (interfaces_of_keys seen) → AreOwn types es →
+        ((e : Entry) → Contains es e → IsRoleInRange (length uses) (role_of types e.1)) → ((e : Entry) → Contains es e → settle e.1 ≡ e.1) → fresh_entries seen (flat_map (entry_post_order types uses carries settle) es) ≡ es
     absorbed carries settle [] seen new df first own inside settles = refl
     absorbed carries settle (e ∷ es) seen new df first own inside settles =
-        let rest : List Entry = flat_map (entry_walk types uses carries settle) es in
-        let deps : List Entry = map (dependency_of (carries e.1)) (needs uses (role_of types e.1)) in
+        let rest : List Entry = flat_map (entry_post_order types uses carries settle) es in
+        let deps : List Entry = map (dependency_of (carries e.1)) (dependencies_before uses (role_of types e.1)) in
         let skip : fresh_entries seen (deps ++ ((e.0, settle e.1) ∷ rest)) ≡ fresh_entries seen ((e.0, settle e.1) ∷ rest) =
         fresh_entries-all_known seen deps ((e.0, settle e.1) ∷ rest) (λ f has.
-        let part = Contains-deps (carries e.1) (needs uses (role_of types e.1)) f has in
+        let part = Contains-deps (carries e.1) (dependencies_before uses (role_of types e.1)) f has in
         let known = id_known part.0 seen (needs_in (role_of types e.1) (interfaces_of_keys seen) part.0 (inside e (Contains-here e es)) df.0 first part.1.0) in
         subst (λ (z : Entry). list_any (same_key z.0) seen ≡ true) part.1.1 known) in
         let more : fresh_entries (seen ++ e.0 ∷ []) rest ≡ es =

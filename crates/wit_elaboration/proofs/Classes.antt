@@ -9,7 +9,7 @@ use Rattle.wit_data.specs.declared.types.TypeDef.{TypeDef}
 use Rattle.wit_data.specs.declared.world.WorldKey.{WorldKey}
 use Rattle.wit_data.specs.declared.world.WorldKey.TheVariants.{Name, Interface}
 use Rattle.wit_digraph.specs.facts.MemberFacts.{Contains-nil, Contains-here, Contains-there, Contains-cons_cases, Contains-flat_map, Contains-flat_map_cases}
-use Rattle.wit_elaboration.specs.Entries.{Entry, Role, Instance, TypeUse, TypeDefinition, FreeFunction, ResourceFunction, role_of, class_of, of_class, by_class, key_interface, keyed_interfaces}
+use Rattle.wit_elaboration.specs.Entries.{Entry, Role, Instance, TypeUse, TypeDefinition, FreeFunction, ResourceFunction, role_of, elaboration_class, of_class, by_class, key_interface, keyed_interfaces}
 use Rattle.wit_elaboration.specs.laws.ElaborationLaws.{stands_on, DependenciesFirst}
 use Rattle.wit_elaboration.proofs.Filters.{Contains-filter, Contains-filtered, filter-all, filter-none, filter-pass, filter-fail}
 use Rattle.wit_elaboration.proofs.FreshEntries.{AllNew, AllNew-append, AllNew-over, AllNew-filter, AllNew-one, Contains-keys}
@@ -22,23 +22,23 @@ module _ (types : List TypeDef) where
   eqb_self : (n : ℕ) → eqb n n ≡ true
   eqb_self n = search rules
 
-  of_class-in : (c : ℕ) (es : List Entry) (e : Entry) → Contains (of_class types c es) e → Contains es e × (class_of (role_of types e.1) ≡ c)
-  of_class-in c es e has = let part = Contains-filter (λ (e : Entry). nat_eq (class_of (role_of types e.1)) c) es e has in (part.0, eqb-true (class_of (role_of types e.1)) c part.1)
+  of_class-in : (c : ℕ) (es : List Entry) (e : Entry) → Contains (of_class types c es) e → Contains es e × (elaboration_class (role_of types e.1) ≡ c)
+  of_class-in c es e has = let part = Contains-filter (λ (e : Entry). nat_eq (elaboration_class (role_of types e.1)) c) es e has in (part.0, eqb-true (elaboration_class (role_of types e.1)) c part.1)
 
   -- entries of the first classes of a list
   pub record UpTo (es : List Entry) (c : ℕ) (some : List Entry) : Type 0 where
     pub new : AllNew [] some
-    pub among : (e : Entry) → Contains some e → Contains es e × (class_of (role_of types e.1) < c)
+    pub among : (e : Entry) → Contains some e → Contains es e × (elaboration_class (role_of types e.1) < c)
 
   pub UpTo-more : (es some : List Entry) (c : ℕ) → AllNew [] es → UpTo es c some → UpTo es (suc c) (some ++ of_class types c es)
   UpTo-more es some c new is = record {
     new = AllNew-append some (of_class types c es) [] is.new
-        (AllNew-over (of_class types c es) [] (keys_of some) (AllNew-filter (λ (e : Entry). nat_eq (class_of (role_of types e.1)) c) es [] [] (λ k had. had) new)
+        (AllNew-over (of_class types c es) [] (keys_of some) (AllNew-filter (λ (e : Entry). nat_eq (elaboration_class (role_of types e.1)) c) es [] [] (λ k had. had) new)
         (λ k had. let part = Contains-keys some k had in inr (λ f has same.
         let old = is.among part.0 part.1.0 in
         let own = of_class-in c es f has in
         let one = AllNew-one es [] part.0 f new old.0 own.0 (part.1.1 ∙ sym same) in
-        absurd (omega (arith, old.1, own.1, ap (λ (z : Entry). class_of (role_of types z.1)) one)))));
+        absurd (omega (arith, old.1, own.1, ap (λ (z : Entry). elaboration_class (role_of types z.1)) one)))));
     among = λ e has. elim (Contains-append_cases some (of_class types c es) e has)
         [ inl old ↦ let part = is.among e old in (part.0, omega (arith, part.1)) | inr own ↦ let part = of_class-in c es e own in (part.0, omega (arith, part.1)) ];
   }
@@ -51,11 +51,11 @@ module _ (types : List TypeDef) where
       rw (by_class_is es) (UpTo-more es _ 4 new (UpTo-more es _ 3 new (UpTo-more es _ 2 new (UpTo-more es _ 1 new (UpTo-more es [] 0 new (record { new = tt; among = λ e has. absurd (Contains-nil has) }))))))
 
   of_class-same : (c : ℕ) (es : List Entry) → of_class types c (of_class types c es) ≡ of_class types c es
-  of_class-same c es = filter-all (λ (e : Entry). nat_eq (class_of (role_of types e.1)) c) (of_class types c es) (λ e has. (Contains-filter (λ (e : Entry). nat_eq (class_of (role_of types e.1)) c) es e has).1)
+  of_class-same c es = filter-all (λ (e : Entry). nat_eq (elaboration_class (role_of types e.1)) c) (of_class types c es) (λ e has. (Contains-filter (λ (e : Entry). nat_eq (elaboration_class (role_of types e.1)) c) es e has).1)
 
   of_class-other : (c d : ℕ) (es : List Entry) → (d ≡ c → ⊥) → of_class types c (of_class types d es) ≡ []
-  of_class-other c d es apart = filter-none (λ (e : Entry). nat_eq (class_of (role_of types e.1)) c) (of_class types d es)
-      (λ e has. ne_eqb (class_of (role_of types e.1)) c (λ same. apart (sym (of_class-in d es e has).1 ∙ same)))
+  of_class-other c d es apart = filter-none (λ (e : Entry). nat_eq (elaboration_class (role_of types e.1)) c) (of_class types d es)
+      (λ e has. ne_eqb (elaboration_class (role_of types e.1)) c (λ same. apart (sym (of_class-in d es e has).1 ∙ same)))
 
   of_class-part : (c d : ℕ) (es : List Entry) → of_class types c (of_class types d es) ≡ cond (eqb d c) (of_class types c es) []
   of_class-part c d es =
@@ -67,7 +67,7 @@ module _ (types : List TypeDef) where
   of_class-classes : (c : ℕ) (ds : List ℕ) (es : List Entry) → of_class types c (flat_map (λ d. of_class types d es) ds) ≡ flat_map (λ d. cond (eqb d c) (of_class types c es) []) ds
   of_class-classes c [] es = refl
   of_class-classes c (d ∷ ds) es =
-      filter-append (λ (e : Entry). nat_eq (class_of (role_of types e.1)) c) (of_class types d es) (flat_map (λ d. of_class types d es) ds)
+      filter-append (λ (e : Entry). nat_eq (elaboration_class (role_of types e.1)) c) (of_class types d es) (flat_map (λ d. of_class types d es) ds)
       ∙ rw (of_class-part c d es, of_class-classes c ds es) refl
 
   -- sorting again changes nothing
@@ -83,26 +83,26 @@ module _ (types : List TypeDef) where
 
   -- ---- dependencies first, by class
 
-  own_class : (e : Entry) (j : ℕ) → ((i : ℕ) → e.0 ≡ Interface i → (role_of types e.1) ≡ Instance i) → Contains (key_interface e.0) j → class_of (role_of types e.1) ≡ 0
+  own_class : (e : Entry) (j : ℕ) → ((i : ℕ) → e.0 ≡ Interface i → (role_of types e.1) ≡ Instance i) → Contains (key_interface e.0) j → elaboration_class (role_of types e.1) ≡ 0
   own_class e j own has = of_key e.0 refl has
     where
-      of_key : (k : WorldKey) → e.0 ≡ k → Contains (key_interface k) j → class_of (role_of types e.1) ≡ 0
+      of_key : (k : WorldKey) → e.0 ≡ k → Contains (key_interface k) j → elaboration_class (role_of types e.1) ≡ 0
       of_key (Name n) is has = absurd (Contains-nil has)
-      of_key (Interface i) is has = ap class_of (own i is)
+      of_key (Interface i) is has = ap elaboration_class (own i is)
 
   pub DependenciesFirst-instances : (uses : List (List ℕ)) (es : List Entry) (seen more : List ℕ) → ((j : ℕ) → Contains seen j → Contains more j) → AreOwn types es → DependenciesFirst types uses seen es → DependenciesFirst types uses more (of_class types 0 es)
   DependenciesFirst-instances uses [] seen more wider own df = tt
   DependenciesFirst-instances uses (e ∷ es) seen more wider own df =
-      elim (cases_Bool (nat_eq (class_of (role_of types e.1)) 0)) [
-        | inl kept ↦ rw (filter-pass (λ (e : Entry). nat_eq (class_of (role_of types e.1)) 0) e es kept) (
+      elim (cases_Bool (nat_eq (elaboration_class (role_of types e.1)) 0)) [
+        | inl kept ↦ rw (filter-pass (λ (e : Entry). nat_eq (elaboration_class (role_of types e.1)) 0) e es kept) (
           (λ k d below. wider _ (df.0 k d below)),
           DependenciesFirst-instances uses es (seen ++ key_interface e.0) (more ++ key_interface e.0) (λ j has. elim (Contains-append_cases seen (key_interface e.0) j has)
               [ inl old ↦ Contains-append_left more (key_interface e.0) j (wider j old) | inr new ↦ Contains-append_right more (key_interface e.0) j new ]) (λ f i has. own f i (Contains-there e f es has)) df.1,
         )
-        | inr left ↦ rw (filter-fail (λ (e : Entry). nat_eq (class_of (role_of types e.1)) 0) e es left)
+        | inr left ↦ rw (filter-fail (λ (e : Entry). nat_eq (elaboration_class (role_of types e.1)) 0) e es left)
             (DependenciesFirst-instances uses es (seen ++ key_interface e.0) more (λ j has. elim (Contains-append_cases seen (key_interface e.0) j has) [
               | inl old ↦ wider j old
-              | inr new ↦ absurd (eqb-false (class_of (role_of types e.1)) 0 left (own_class e j (λ i. own e i (Contains-here e es)) new))
+              | inr new ↦ absurd (eqb-false (elaboration_class (role_of types e.1)) 0 left (own_class e j (λ i. own e i (Contains-here e es)) new))
             ]) (λ f i has. own f i (Contains-there e f es has)) df.1)
       ]
 
@@ -110,7 +110,7 @@ module _ (types : List TypeDef) where
   keyed_interfaces-instances es own j has =
       let part = Contains-flat_map_cases (λ (e : Entry). key_interface e.0) es j has in
       let zeroth = own_class part.0 j (λ i. own part.0 i part.1.0) part.1.1 in
-      Contains-flat_map (λ (e : Entry). key_interface e.0) (of_class types 0 es) part.0 j (Contains-filtered (λ (e : Entry). nat_eq (class_of (role_of types e.1)) 0) es part.0 part.1.0 (rw zeroth refl)) part.1.1
+      Contains-flat_map (λ (e : Entry). key_interface e.0) (of_class types 0 es) part.0 j (Contains-filtered (λ (e : Entry). nat_eq (elaboration_class (role_of types e.1)) 0) es part.0 part.1.0 (rw zeroth refl)) part.1.1
 
   -- what an entry stands on is among the interfaces of its list
   pub DependenciesFirst-stands : (uses : List (List ℕ)) (es : List Entry) (seen : List ℕ) (e : Entry) (j : ℕ) → DependenciesFirst types uses seen es → Contains es e → Contains (stands_on uses (role_of types e.1)) j → Contains (seen ++ keyed_interfaces es) j
@@ -137,7 +137,7 @@ module _ (types : List TypeDef) where
       keyed_interfaces-instances es own _ (DependenciesFirst-stands uses es [] e _ df (of_class-in part.0 es e part.1.1).0 (Contains-get_or (stands_on uses (role_of types e.1)) k d below))))
 
   -- an entry is in its class
-  class_among : (role : Role) → Contains (0 ∷ 1 ∷ 2 ∷ 3 ∷ 4 ∷ []) (class_of role)
+  class_among : (role : Role) → Contains (0 ∷ 1 ∷ 2 ∷ 3 ∷ 4 ∷ []) (elaboration_class role)
   class_among (Instance i) = (0, omega arith, refl)
   class_among (TypeUse i) = (1, omega arith, refl)
   class_among TypeDefinition = (2, omega arith, refl)
@@ -146,8 +146,8 @@ module _ (types : List TypeDef) where
 
   pub in_by_class : (es : List Entry) (e : Entry) → Contains es e → Contains (by_class types es) e
   in_by_class es e has =
-      let class : ℕ = class_of (role_of types e.1) in
-      Contains-flat_map (λ c. of_class types c es) (0 ∷ 1 ∷ 2 ∷ 3 ∷ 4 ∷ []) class e (class_among (role_of types e.1)) (Contains-filtered (λ (f : Entry). nat_eq (class_of (role_of types f.1)) class) es e has (eqb_self class))
+      let class : ℕ = elaboration_class (role_of types e.1) in
+      Contains-flat_map (λ c. of_class types c es) (0 ∷ 1 ∷ 2 ∷ 3 ∷ 4 ∷ []) class e (class_among (role_of types e.1)) (Contains-filtered (λ (f : Entry). nat_eq (elaboration_class (role_of types f.1)) class) es e has (eqb_self class))
 
   pub by_class_in : (es : List Entry) (e : Entry) → Contains (by_class types es) e → Contains es e
   by_class_in es e has =

@@ -16,7 +16,7 @@ use Rattle.wit_data.specs.declared.world.WorldKey.TheVariants.{Name, Interface}
 use Rattle.wit_data.specs.contracts.world.WorldKeyPartialEq.TheImpl.{eq-value}
 use Rattle.wit_digraph.specs.facts.MemberFacts.{Contains-nil, Contains-cons_cases}
 use Rattle.wit_digraph.specs.Relation.{IsAcyclic}
-use Rattle.wit_elaboration.specs.Elaborated.{dependency_of, elaborated_exports, elaborated_imports, export_carries, export_imports, export_walk, import_carries, import_steps, import_walk, settled_item}
+use Rattle.wit_elaboration.specs.Elaborated.{dependency_of, elaborated_exports, elaborated_imports, export_imports, export_with_needs, import_steps, import_with_needs, inherited_by_export, inherited_by_import, without_span}
 use Rattle.wit_elaboration.specs.laws.ElaborationLaws.{DependenciesFirst, stands_on}
 use Rattle.wit_elaboration.specs.Entries.{Entry, Instance, by_class, fresh_entries, is_interface, item_interface, key_interface, role_of, same_key}
 use Rattle.wit_elaboration.specs.Imported.{HasConflict, exported_interfaces, is_exported}
@@ -29,7 +29,7 @@ use Rattle.wit_elaboration.proofs.Roles.{InOrder, in_order, role_from_instance}
 
 -- the import of an entry leaves it as it is
 abbrev pub IsSettled : Entry → Type 0
-IsSettled e = settled_item e.1 ≡ e.1
+IsSettled e = without_span e.1 ≡ e.1
 
 -- ---- exports without interfaces
 
@@ -70,15 +70,15 @@ module _ (types : List TypeDef) (uses : List (List ℕ)) (exports : List Entry) 
       let functions : filter (λ (e : Entry). not (is_interface e)) exports ≡ exports =
       filter-all (λ (e : Entry). not (is_interface e)) exports (λ e has. ap not (not_interface e (each_has exports e none has))) in
       let interfaces : filter is_interface exports ≡ [] = filter-none is_interface exports (λ e has. not_interface e (each_has exports e none has)) in
-      ap (λ (es : List Entry). es ++ fresh_entries [] (flat_map (export_walk types uses (is_exported exports)) (filter is_interface exports))) functions
-      ∙ ap (λ (es : List Entry). exports ++ fresh_entries [] (flat_map (export_walk types uses (is_exported exports)) es)) interfaces
+      ap (λ (es : List Entry). es ++ fresh_entries [] (flat_map (export_with_needs types uses (is_exported exports)) (filter is_interface exports))) functions
+      ∙ ap (λ (es : List Entry). exports ++ fresh_entries [] (flat_map (export_with_needs types uses (is_exported exports)) es)) interfaces
       ∙ append-nil exports
 
-  pub imports_stay : (imports : List Entry) → by_class types imports ≡ imports → fresh_entries [] (flat_map (import_walk types uses) (by_class types imports)) ≡ imports → elaborated_imports types uses imports exports ≡ imports
+  pub imports_stay : (imports : List Entry) → by_class types imports ≡ imports → fresh_entries [] (flat_map (import_with_needs types uses) (by_class types imports)) ≡ imports → elaborated_imports types uses imports exports ≡ imports
   imports_stay imports sorted complete =
       let nothing : flat_map (export_imports uses (is_exported exports)) exports ≡ [] = steps exports none in
-      ap (λ (es : List Entry). by_class types (fresh_entries [] (flat_map (import_walk types uses) (by_class types imports) ++ es))) nothing
-      ∙ ap (λ (es : List Entry). by_class types (fresh_entries [] es)) (append-nil (flat_map (import_walk types uses) (by_class types imports)))
+      ap (λ (es : List Entry). by_class types (fresh_entries [] (flat_map (import_with_needs types uses) (by_class types imports) ++ es))) nothing
+      ∙ ap (λ (es : List Entry). by_class types (fresh_entries [] es)) (append-nil (flat_map (import_with_needs types uses) (by_class types imports)))
       ∙ ap (by_class types) complete
       ∙ sorted
     where
@@ -86,7 +86,7 @@ module _ (types : List TypeDef) (uses : List (List ℕ)) (exports : List Entry) 
       steps [] each = refl
       steps (e ∷ es) each =
           let here : item_interface e.1 ≡ [] = each 0 e refl in
-          ap (λ (ids : List ℕ). flat_map (λ i. map (dependency_of (export_carries e.1)) (import_steps uses (is_exported exports) i)) ids ++ flat_map (export_imports uses (is_exported exports)) es) here
+          ap (λ (ids : List ℕ). flat_map (λ i. map (dependency_of (inherited_by_export e.1)) (import_steps uses (is_exported exports) i)) ids ++ flat_map (export_imports uses (is_exported exports)) es) here
           ∙ steps es (λ i x at. each (suc i) x at)
 
 -- ---- imports in order
@@ -148,7 +148,7 @@ module _ (types : List TypeDef) (uses : List (List ℕ)) where
             one : Contains (j ∷ []) i → j ≡ i
             one has = elim (Contains-cons_cases j i [] has) [ inl same ↦ same | inr there ↦ absurd (Contains-nil there) ]
 
-    pub stand-more : (new : List ℕ) → new ≡ order ++ key_interface k → (settled_item x ≡ x) × All (Contains order) (stands_on uses (role_of types x)) → StandOn new others all
+    pub stand-more : (new : List ℕ) → new ≡ order ++ key_interface k → (without_span x ≡ x) × All (Contains order) (stands_on uses (role_of types x)) → StandOn new others all
     stand-more new new_is here = subst (λ (ids : List ℕ). StandOn ids others all) (sym new_is) (record {
       seen = on.seen ++ k ∷ [];
       order_is = ap (λ (ids : List ℕ). ids ++ key_interface k) on.order_is ∙ sym (ids-push on.seen k);
@@ -165,11 +165,11 @@ module _ (types : List TypeDef) (uses : List (List ℕ)) where
 
   -- such imports, sorted, are what elaboration makes of them
   pub complete : (imports : List Entry) → IsAcyclic uses → AreSound types (length uses) imports → IsDistinct eq-value.it (keys_of imports) → by_class types imports ≡ imports
-      → DependenciesFirst types uses [] imports → Each IsSettled imports → fresh_entries [] (flat_map (import_walk types uses) (by_class types imports)) ≡ imports
+      → DependenciesFirst types uses [] imports → Each IsSettled imports → fresh_entries [] (flat_map (import_with_needs types uses) (by_class types imports)) ≡ imports
   complete imports acyclic sound distinct sorted first settled =
       let order = in_order types (length uses) imports [] (record { of_imports = sound; of_exports = record { own_keys = tt; in_range = tt } }) in
-      ap (λ (es : List Entry). fresh_entries [] (flat_map (import_walk types uses) es)) sorted
-      ∙ absorbed types uses acyclic (import_carries types) settled_item imports [] (AllNew-from_distinct imports distinct) first tt order.own_imports order.imports_in_range
+      ap (λ (es : List Entry). fresh_entries [] (flat_map (import_with_needs types uses) es)) sorted
+      ∙ absorbed types uses acyclic (inherited_by_import types) without_span imports [] (AllNew-from_distinct imports distinct) first tt order.own_imports order.imports_in_range
       (λ e has. each_has imports e settled has)
 
 -- ---- nodes that are all listed

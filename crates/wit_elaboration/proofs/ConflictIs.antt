@@ -5,17 +5,17 @@ use Rattle.std.proofs.lemmas.Bool.{cases_Bool, false≢true}
 use Rattle.std.proofs.lemmas.List.Elements.{All-contains}
 use Rattle.wit_digraph.specs.facts.FreshFacts.{fresh_all, fresh_in, contains_from_any, any_from_contains}
 use Rattle.wit_digraph.specs.facts.MemberFacts.{Contains-flat_map, Contains-flat_map_cases}
-use Rattle.wit_digraph.specs.facts.WalkFacts.{Contains-walk_end, UsesFirst-IsPath}
+use Rattle.wit_digraph.specs.facts.PostOrderFacts.{Contains-post_order_end, UsesFirst-IsPath}
 use Rattle.wit_digraph.specs.Relation.{direct, IsPath, Reaches, IsAcyclic}
-use Rattle.wit_digraph.specs.Walks.{UsesFirst, walk, first_of_each}
-use Rattle.wit_elaboration.specs.Elaborated.{needs}
-use Rattle.wit_elaboration.specs.steps.Elaborating.{AreMarked, AreOutside, HasMarkedUse, TellsExported}
+use Rattle.wit_digraph.specs.PostOrder.{UsesFirst, post_order, first_of_each}
+use Rattle.wit_elaboration.specs.Elaborated.{dependencies_before}
+use Rattle.wit_elaboration.specs.steps.Elaborating.{AreMarked, AreOutside, HasMarkedUse, IsExportedList}
 use Rattle.wit_elaboration.specs.Entries.{Entry, Instance, item_interface}
-use Rattle.wit_elaboration.specs.Imported.{HasConflict, LeadsToConflict, IsInConflict, exported_keys, exported_interfaces}
+use Rattle.wit_elaboration.specs.Imported.{HasConflict, LeadsToConflict, IsEntryInConflict, exported_keys, exported_interfaces}
 use Rattle.wit_elaboration.proofs.ExportSteps.{all_needs}
 
 -- what was listed of some keys tells them
-pub tells_keys : (listed : List ℕ) (exports : List Entry) → listed ≡ first_of_each (exported_keys exports) → TellsExported listed exports
+pub tells_keys : (listed : List ℕ) (exports : List Entry) → listed ≡ first_of_each (exported_keys exports) → IsExportedList listed exports
 tells_keys listed exports is i = (
   λ has. fresh_in [] (exported_keys exports) i (subst (λ xs. Contains xs i) is has),
   λ has. subst (λ xs. Contains xs i) (sym is) (fresh_all [] (exported_keys exports) i has),
@@ -26,13 +26,13 @@ use_walked : (uses : List (List ℕ)) → IsAcyclic uses → (exports : List Ent
     (e : Entry) (i j : ℕ) → Contains exports e → Contains (item_interface e.1) i → Contains (direct uses i) j → Contains walked j
 use_walked uses acyclic exports walked is e i j has here among =
     let inside = All-contains (λ x. x < length uses) (direct uses i) j (acyclic.in_range i) among in
-    let own : Contains (needs uses (Instance i)) j = Contains-flat_map (walk uses) (direct uses i) j j among (Contains-walk_end uses acyclic j inside) in
-    let all : Contains (all_needs uses exports) j = Contains-flat_map (λ k. needs uses (Instance k)) (exported_interfaces exports) i j (Contains-flat_map (λ (f : Entry). item_interface f.1) exports e i has here) own in
+    let own : Contains (dependencies_before uses (Instance i)) j = Contains-flat_map (post_order uses) (direct uses i) j j among (Contains-post_order_end uses acyclic j inside) in
+    let all : Contains (all_needs uses exports) j = Contains-flat_map (λ k. dependencies_before uses (Instance k)) (exported_interfaces exports) i j (Contains-flat_map (λ (f : Entry). item_interface f.1) exports e i has here) own in
     subst (λ xs. Contains xs j) (sym is) (fresh_all [] (all_needs uses exports) j all)
 
 -- an exported interface has a marked use exactly where it leads to a conflict
 pub marks_tell : (uses : List (List ℕ)) → IsAcyclic uses → (exports : List Entry) (walked exported reaching outside leading : List ℕ) →
-    walked ≡ first_of_each (all_needs uses exports) → UsesFirst uses [] walked → TellsExported exported exports →
+    walked ≡ first_of_each (all_needs uses exports) → UsesFirst uses [] walked → IsExportedList exported exports →
     AreMarked uses walked exported reaching → AreOutside walked reaching exported outside → AreMarked uses walked outside leading →
     (e : Entry) → (i : ℕ) → Contains exports e → Contains (item_interface e.1) i → HasMarkedUse uses leading i ↔ LeadsToConflict uses exports i
 marks_tell uses acyclic exports walked exported reaching outside leading walked_is first tells are_reaching are_outside are_leading e i has here = (
@@ -51,7 +51,7 @@ marks_tell uses acyclic exports walked exported reaching outside leading walked_
 
 -- ---- a conflict is where some export leads to one
 
-pub conflict_found : (uses : List (List ℕ)) (exports : List Entry) → HasConflict uses exports → (e : Entry) × Contains exports e × IsInConflict uses exports e
+pub conflict_found : (uses : List (List ℕ)) (exports : List Entry) → HasConflict uses exports → (e : Entry) × Contains exports e × IsEntryInConflict uses exports e
 conflict_found uses exports conflict =
     let need = conflict.1 in
     let part = Contains-flat_map_cases (λ (f : Entry). item_interface f.1) exports need.0 need.2 in
@@ -72,7 +72,7 @@ module _ (uses : List (List ℕ)) (exports : List Entry) (own : (j : ℕ) → Co
         | inr no_key ↦ (m, (x, j, exported, among, λ has. false≢true (sym no_key ∙ any_from_contains j (exported_keys exports) has), path_on uses j d (k ∷ path) m leads reached), on)
       ]
 
-  pub conflict_from : (e : Entry) → Contains exports e → IsInConflict uses exports e → HasConflict uses exports
+  pub conflict_from : (e : Entry) → Contains exports e → IsEntryInConflict uses exports e → HasConflict uses exports
   conflict_from e has conflict =
       let leads = conflict.2 in
       leaves conflict.0 leads.0 leads.3.0 leads.1 leads.5.0 (Contains-flat_map (λ (f : Entry). item_interface f.1) exports e conflict.0 has conflict.1) leads.2 leads.3.1 leads.4 leads.5.1 leads.5.2

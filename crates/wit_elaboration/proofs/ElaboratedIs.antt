@@ -14,9 +14,9 @@ use Rattle.wit_data.specs.contracts.world.WorldKeyPartialEq.TheImpl.{eq-value}
 use Rattle.wit_digraph.specs.facts.FreshFacts.{any_from_contains, contains_from_any}
 use Rattle.wit_digraph.specs.facts.MemberFacts.{Contains-nil, Contains-here, Contains-there, Contains-cons_cases, Contains-flat_map, Contains-flat_map_cases, flat_map-same}
 use Rattle.wit_digraph.specs.Relation.{IsAcyclic}
-use Rattle.wit_digraph.specs.Walks.{Listed}
-use Rattle.wit_elaboration.specs.Elaborated.{dependency_of, needs, export_carries, import_walk, import_steps, export_imports, export_walk, elaborated_imports, elaborated_exports}
-use Rattle.wit_elaboration.specs.steps.Elaborating.{TellsExported, is_listed, walked_exports, walked_imports}
+use Rattle.wit_digraph.specs.PostOrder.{Listed}
+use Rattle.wit_elaboration.specs.Elaborated.{dependency_of, dependencies_before, inherited_by_export, import_with_needs, import_steps, export_imports, export_with_needs, elaborated_imports, elaborated_exports}
+use Rattle.wit_elaboration.specs.steps.Elaborating.{IsExportedList, is_listed, walked_exports, walked_imports}
 use Rattle.wit_elaboration.specs.Entries.{Entry, Instance, role_of, item_interface, key_interface, is_instance, is_interface, same_key, by_class, fresh_entries}
 use Rattle.wit_elaboration.specs.Imported.{HasConflict, exported_keys, exported_interfaces, is_exported}
 use Rattle.wit_elaboration.specs.Sound.{IsRoleInRange}
@@ -46,7 +46,7 @@ fresh_entries-apart ks seen (e ∷ es) apart =
     ]
 
 -- what is listed as exported is exported
-pub listed_is : (exported : Listed) (exports : List Entry) → TellsExported exported.order exports → is_listed exported ≡ is_exported exports
+pub listed_is : (exported : Listed) (exports : List Entry) → IsExportedList exported.order exports → is_listed exported ≡ is_exported exports
 listed_is exported exports tells = λ at i. same i at
   where
     same : (i : ℕ) → is_listed exported i ≡ is_exported exports i
@@ -95,26 +95,26 @@ module _ (types : List TypeDef) (uses : List (List ℕ)) (acyclic : IsAcyclic us
   import_parts key (item.Interface i stability docs span external_id) has =
       let e : Entry = (key, item.Interface i stability docs span external_id) in
       let exported = Contains-flat_map (λ (f : Entry). item_interface f.1) exports e i has (Contains-here i []) in
-      rw (append-nil (needs uses (Instance i)), append-nil (map (dependency_of (export_carries e.1)) (import_steps uses E i)))
-      (ap (λ (js : List ℕ). map (dependency_of (export_carries e.1)) js) (sym (imports_of_walk uses acyclic exports own no_conflict i (below i exported) exported)))
+      rw (append-nil (dependencies_before uses (Instance i)), append-nil (map (dependency_of (inherited_by_export e.1)) (import_steps uses E i)))
+      (ap (λ (js : List ℕ). map (dependency_of (inherited_by_export e.1)) js) (sym (imports_of_walk uses acyclic exports own no_conflict i (below i exported) exported)))
   import_parts key (item.Function function) has = refl
   import_parts key (item.Type_ id span) has = refl
 
   -- and what it exports
-  export_parts : (key : WorldKey) (x : WorldItem) → Contains exports (key, x) → is_instance x ≡ true → walked_exports uses E (key, x) ≡ export_walk types uses E (key, x)
+  export_parts : (key : WorldKey) (x : WorldItem) → Contains exports (key, x) → is_instance x ≡ true → walked_exports uses E (key, x) ≡ export_with_needs types uses E (key, x)
   export_parts key (item.Interface i stability docs span external_id) has is =
       let e : Entry = (key, item.Interface i stability docs span external_id) in
       let exported = Contains-flat_map (λ (f : Entry). item_interface f.1) exports e i has (Contains-here i []) in
-      rw (append-nil (needs uses (Instance i)))
-      (ap (λ (js : List ℕ). map (dependency_of (export_carries e.1)) js ++ e ∷ []) (sym (exports_of_walk uses acyclic exports own no_conflict i (below i exported) exported)))
+      rw (append-nil (dependencies_before uses (Instance i)))
+      (ap (λ (js : List ℕ). map (dependency_of (inherited_by_export e.1)) js ++ e ∷ []) (sym (exports_of_walk uses acyclic exports own no_conflict i (below i exported) exported)))
   export_parts key (item.Function function) has is = absurd (false≢true is)
   export_parts key (item.Type_ id span) has is = absurd (false≢true is)
 
   pub imports_walked : flat_map (walked_imports uses E) exports ≡ flat_map (export_imports uses E) exports
   imports_walked = flat_map-same (walked_imports uses E) (export_imports uses E) exports (λ e has. import_parts e.0 e.1 has)
 
-  pub exports_walked : flat_map (walked_exports uses E) (filter is_interface exports) ≡ flat_map (export_walk types uses E) (filter is_interface exports)
-  exports_walked = flat_map-same (walked_exports uses E) (export_walk types uses E) (filter is_interface exports) (λ e has. let part = Contains-filter is_interface exports e has in export_parts e.0 e.1 part.0 part.1)
+  pub exports_walked : flat_map (walked_exports uses E) (filter is_interface exports) ≡ flat_map (export_with_needs types uses E) (filter is_interface exports)
+  exports_walked = flat_map-same (walked_exports uses E) (export_with_needs types uses E) (filter is_interface exports) (λ e has. let part = Contains-filter is_interface exports e has in export_parts e.0 e.1 part.0 part.1)
 
   abbrev functions : List Entry
   functions = filter (λ (e : Entry). not (is_interface e)) exports
@@ -126,10 +126,10 @@ module _ (types : List TypeDef) (uses : List (List ℕ)) (acyclic : IsAcyclic us
       let old = Contains-filter (λ (g : Entry). not (is_interface g)) exports f.0 f.1.0 in
       let part = Contains-flat_map_cases (walked_exports uses E) (filter is_interface exports) e has in
       let root = Contains-filter is_interface exports part.0 part.1.0 in
-      let nodes : List ℕ = filter E (flat_map (λ i. needs uses (Instance i)) (item_interface part.0.1)) in
-      elim (Contains-append_cases (map (dependency_of (export_carries part.0.1)) nodes) (part.0 ∷ []) e part.1.1) [
+      let nodes : List ℕ = filter E (flat_map (λ i. dependencies_before uses (Instance i)) (item_interface part.0.1)) in
+      elim (Contains-append_cases (map (dependency_of (inherited_by_export part.0.1)) nodes) (part.0 ∷ []) e part.1.1) [
         | inl deps ↦
-            let dep = Contains-deps (export_carries part.0.1) nodes e deps in
+            let dep = Contains-deps (inherited_by_export part.0.1) nodes e deps in
             let key : f.0.0 ≡ Interface dep.0 = f.1.1 ∙ ap (λ (z : Entry). z.0) (sym dep.1.1) in
             let on = is_instance_from_role types f.0.1 dep.0 (listed.own_exports f.0 dep.0 old.0 key) in
             false≢true (sym (not_true (is_interface f.0) old.1) ∙ on)
@@ -146,15 +146,15 @@ module _ (types : List TypeDef) (uses : List (List ℕ)) (acyclic : IsAcyclic us
       done ≡ elaborated_exports types uses exports
   exports_are distinct start done start_is done_is =
       let all : start ≡ functions = start_is ∙ fresh_entries-all_new [] functions (AllNew-filter (λ (e : Entry). not (is_interface e)) exports [] [] (λ k had. had) (AllNew-from_distinct exports distinct)) in
-      let walks : List Entry = flat_map (walked_exports uses E) (filter is_interface exports) in
-      let apart : fresh_entries (keys_of functions) walks ≡ fresh_entries [] walks =
-      ap (λ (ks : List WorldKey). fresh_entries ks walks) (sym (append-nil (keys_of functions))) ∙ fresh_entries-apart (keys_of functions) [] walks (functions_apart distinct) in
+      let post_orders : List Entry = flat_map (walked_exports uses E) (filter is_interface exports) in
+      let apart : fresh_entries (keys_of functions) post_orders ≡ fresh_entries [] post_orders =
+      ap (λ (ks : List WorldKey). fresh_entries ks post_orders) (sym (append-nil (keys_of functions))) ∙ fresh_entries-apart (keys_of functions) [] post_orders (functions_apart distinct) in
       done_is ∙ rw (all, apart, exports_walked) refl
 
-  pub imports_are : (start all sorted : List Entry) → start ≡ fresh_entries [] (flat_map (import_walk types uses) (by_class types imports)) → all ≡ start ++ fresh_entries (keys_of start) (flat_map (walked_imports uses E) exports) →
+  pub imports_are : (start all sorted : List Entry) → start ≡ fresh_entries [] (flat_map (import_with_needs types uses) (by_class types imports)) → all ≡ start ++ fresh_entries (keys_of start) (flat_map (walked_imports uses E) exports) →
       sorted ≡ by_class types all → sorted ≡ elaborated_imports types uses imports exports
   imports_are start all sorted start_is all_is sorted_is =
-      let joined : all ≡ fresh_entries [] (flat_map (import_walk types uses) (by_class types imports) ++ flat_map (export_imports uses E) exports) =
-      fresh_entries-next [] start all (flat_map (import_walk types uses) (by_class types imports)) (flat_map (export_imports uses E) exports) start_is
+      let joined : all ≡ fresh_entries [] (flat_map (import_with_needs types uses) (by_class types imports) ++ flat_map (export_imports uses E) exports) =
+      fresh_entries-next [] start all (flat_map (import_with_needs types uses) (by_class types imports)) (flat_map (export_imports uses E) exports) start_is
       (all_is ∙ ap (λ (xs : List Entry). start ++ fresh_entries (keys_of start) xs) imports_walked) in
       sorted_is ∙ ap (λ (xs : List Entry). by_class types xs) joined

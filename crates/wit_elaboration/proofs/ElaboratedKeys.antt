@@ -9,7 +9,7 @@ use Rattle.wit_data.specs.declared.world.WorldKey.{WorldKey}
 use Rattle.wit_digraph.specs.facts.MemberFacts.{Contains-nil, Contains-here, Contains-there, Contains-cons_cases, Contains-flat_map}
 use Rattle.wit_digraph.specs.Relation.{IsAcyclic}
 use Rattle.wit_elaboration.specs.Entries.{Entry, is_interface, fresh_entries}
-use Rattle.wit_elaboration.specs.Elaborated.{entry_walk, export_carries, elaborated_imports, elaborated_exports}
+use Rattle.wit_elaboration.specs.Elaborated.{entry_post_order, inherited_by_export, elaborated_imports, elaborated_exports}
 use Rattle.wit_elaboration.specs.laws.KeptByElaboration.{ElaboratedOnce, ExportKeysStay}
 use Rattle.wit_values.specs.Table.{HasDistinctKeys}
 use Rattle.wit_elaboration.proofs.Classes.{by_class-new}
@@ -107,7 +107,7 @@ module _ (types : List TypeDef) (uses : List (List ℕ)) (acyclic : IsAcyclic us
       rw (keys_of-append others interfaces) (subst (λ l. Contains (keys_of others ++ keys_of interfaces) l) e.1.1 (elim (cases_Bool (is_interface e.0)) [
         | inl yes_it_is ↦
             let root : Contains (filter is_interface exports) e.0 = Contains-filtered is_interface exports e.0 e.1.0 yes_it_is in
-            let walk_of : Entry → List Entry = entry_walk types (inner types uses acyclic imports exports listed) export_carries (λ item. item) in
+            let walk_of : Entry → List Entry = entry_post_order types (inner types uses acyclic imports exports listed) inherited_by_export (λ item. item) in
             let among : Contains (walked types uses acyclic imports exports listed) e.0 =
             Contains-flat_map walk_of (filter is_interface exports) e.0 e.0 root (Contains-append_right _ (e.0 ∷ []) e.0 (Contains-here e.0 [])) in
             Contains-append_right (keys_of others) (keys_of interfaces) e.0.0 (fresh_entries_all [] (walked types uses acyclic imports exports listed) e.0 among)
@@ -122,8 +122,8 @@ elaborated_once types uses old new acyclic listed is =
     let order = in_order types (length uses) old.imports old.exports listed in
     let imports_are : new.imports ≡ elaborated_imports types uses old.imports old.exports = ap (λ (w : World). w.imports) is.world_is in
     let exports_are : new.exports ≡ elaborated_exports types uses old.exports = ap (λ (w : World). w.exports) is.world_is in
-    let walks : List Entry = from_imports types uses acyclic old.imports old.exports order ++ from_exports types uses acyclic old.imports old.exports order in (
-      subst (λ (es : List Entry). HasDistinctKeys es) (sym imports_are) (AllNew-distinct _ [] (by_class-new types (fresh_entries [] walks) (fresh_entries-AllNew [] walks)).new),
+    let post_orders : List Entry = from_imports types uses acyclic old.imports old.exports order ++ from_exports types uses acyclic old.imports old.exports order in (
+      subst (λ (es : List Entry). HasDistinctKeys es) (sym imports_are) (AllNew-distinct _ [] (by_class-new types (fresh_entries [] post_orders) (fresh_entries-AllNew [] post_orders)).new),
       λ distinct. subst (λ (es : List Entry). HasDistinctKeys es) (sym exports_are)
           (AllNew-distinct _ [] (exports_new types uses acyclic old.imports old.exports order (distinct-AllNew old.exports distinct))),
     )

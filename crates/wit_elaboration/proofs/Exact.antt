@@ -9,11 +9,11 @@ use Rattle.wit_data.specs.declared.world.WorldKey.{WorldKey}
 use Rattle.wit_data.specs.declared.world.WorldKey.TheVariants.{Name, Interface}
 use Rattle.wit_digraph.specs.facts.FreshFacts.{any_from_contains, no_any_from}
 use Rattle.wit_digraph.specs.facts.MemberFacts.{Contains-nil, Contains-here, Contains-cons_cases, Contains-flat_map, Contains-flat_map_cases}
-use Rattle.wit_digraph.specs.facts.WalkFacts.{Reaches-from_walk, walk-from_IsPath}
+use Rattle.wit_digraph.specs.facts.PostOrderFacts.{Reaches-from_post_order, post_order-from_IsPath}
 use Rattle.wit_digraph.specs.Relation.{direct, IsPath, Reaches, IsAcyclic}
-use Rattle.wit_digraph.specs.Walks.{walk}
+use Rattle.wit_digraph.specs.PostOrder.{post_order}
 use Rattle.wit_elaboration.specs.Entries.{Entry, Role, Instance, TypeUse, TypeDefinition, FreeFunction, ResourceFunction, role_of, item_interface, key_interface, keyed_interfaces, by_class}
-use Rattle.wit_elaboration.specs.Elaborated.{dependency_of, needs, import_carries, export_carries, settled_item, import_walk, import_steps_within, import_steps, export_imports}
+use Rattle.wit_elaboration.specs.Elaborated.{dependency_of, dependencies_before, inherited_by_import, inherited_by_export, without_span, import_with_needs, import_steps_within, import_steps, export_imports}
 use Rattle.wit_elaboration.specs.Imported.{Needed, roots_of, IsImported, exported_interfaces, is_exported}
 use Rattle.wit_elaboration.specs.Sound.{IsRoleInRange}
 use Rattle.wit_elaboration.proofs.Classes.{by_class_in, in_by_class}
@@ -24,22 +24,22 @@ use Rattle.wit_elaboration.proofs.Roles.{InOrder, instance_from_role, role_from_
 
 -- what an import's walk lists is reached from its roots
 needs_reached : (uses : List (List ℕ)) → IsAcyclic uses → (key : WorldKey) (role : Role) (j : ℕ) → IsRoleInRange (length uses) role → ((i : ℕ) → key ≡ Interface i → role ≡ Instance i) →
-    Contains (needs uses role) j → (r : ℕ) × (Contains (roots_of uses key role) r × Reaches uses r j)
+    Contains (dependencies_before uses role) j → (r : ℕ) × (Contains (roots_of uses key role) r × Reaches uses r j)
 needs_reached uses acyclic (Interface k) (Instance i) j inside own has =
-    let part = Contains-flat_map_cases (walk uses) (direct uses i) j has in
-    let path = Reaches-from_walk uses acyclic part.0 (All-contains (λ x. x < length uses) (direct uses i) part.0 (acyclic.in_range i) part.1.0) j part.1.1 in
+    let part = Contains-flat_map_cases (post_order uses) (direct uses i) j has in
+    let path = Reaches-from_post_order uses acyclic part.0 (All-contains (λ x. x < length uses) (direct uses i) part.0 (acyclic.in_range i) part.1.0) j part.1.1 in
     (i, (Contains-here i [], (part.0 ∷ path.0, (part.1.0, path.1))))
 needs_reached uses acyclic (Name n) (Instance i) j inside own has =
-    let part = Contains-flat_map_cases (walk uses) (direct uses i) j has in
-    (part.0, (part.1.0, Reaches-from_walk uses acyclic part.0 (All-contains (λ x. x < length uses) (direct uses i) part.0 (acyclic.in_range i) part.1.0) j part.1.1))
-needs_reached uses acyclic key (TypeUse i) j inside own has = (i, (Contains-here i [], Reaches-from_walk uses acyclic i inside j has))
+    let part = Contains-flat_map_cases (post_order uses) (direct uses i) j has in
+    (part.0, (part.1.0, Reaches-from_post_order uses acyclic part.0 (All-contains (λ x. x < length uses) (direct uses i) part.0 (acyclic.in_range i) part.1.0) j part.1.1))
+needs_reached uses acyclic key (TypeUse i) j inside own has = (i, (Contains-here i [], Reaches-from_post_order uses acyclic i inside j has))
 needs_reached uses acyclic key TypeDefinition j inside own has = absurd (Contains-nil has)
 needs_reached uses acyclic key FreeFunction j inside own has = absurd (Contains-nil has)
 needs_reached uses acyclic key ResourceFunction j inside own has = absurd (Contains-nil has)
 
 -- and what is reached from its roots is in its walk, or is its own key
 reached_needs : (uses : List (List ℕ)) → IsAcyclic uses → (key : WorldKey) (role : Role) (r j : ℕ) → IsRoleInRange (length uses) role → ((i : ℕ) → key ≡ Interface i → role ≡ Instance i) →
-    Contains (roots_of uses key role) r → Reaches uses r j → Contains (needs uses role) j ⊎ (key ≡ Interface j)
+    Contains (roots_of uses key role) r → Reaches uses r j → Contains (dependencies_before uses role) j ⊎ (key ≡ Interface j)
 reached_needs uses acyclic (Interface k) (Instance i) r j inside own root reached =
     elim (Contains-cons_cases i r [] root) [
       | inl same ↦ along reached.0 (subst (λ x. IsPath uses x reached.0 j) (sym same) reached.1)
@@ -49,14 +49,14 @@ reached_needs uses acyclic (Interface k) (Instance i) r j inside own root reache
     instance_same : {a b : ℕ} → Instance a ≡ Instance b → a ≡ b
     instance_same same = cc
 
-    along : (path : List ℕ) → IsPath uses i path j → Contains (needs uses (Instance i)) j ⊎ (Interface k ≡ Interface j)
+    along : (path : List ℕ) → IsPath uses i path j → Contains (dependencies_before uses (Instance i)) j ⊎ (Interface k ≡ Interface j)
     along [] same = inr (ap (λ x. Interface x) (sym (instance_same (own k refl)) ∙ same))
-    along (d ∷ path) leads = inl (Contains-flat_map (walk uses) (direct uses i) d j leads.0 (walk-from_IsPath uses acyclic d path j (All-contains (λ x. x < length uses) (direct uses i) d (acyclic.in_range i) leads.0) leads.1))
+    along (d ∷ path) leads = inl (Contains-flat_map (post_order uses) (direct uses i) d j leads.0 (post_order-from_IsPath uses acyclic d path j (All-contains (λ x. x < length uses) (direct uses i) d (acyclic.in_range i) leads.0) leads.1))
 reached_needs uses acyclic (Name n) (Instance i) r j inside own root reached =
-    inl (Contains-flat_map (walk uses) (direct uses i) r j root (walk-from_IsPath uses acyclic r reached.0 j (All-contains (λ x. x < length uses) (direct uses i) r (acyclic.in_range i) root) reached.1))
+    inl (Contains-flat_map (post_order uses) (direct uses i) r j root (post_order-from_IsPath uses acyclic r reached.0 j (All-contains (λ x. x < length uses) (direct uses i) r (acyclic.in_range i) root) reached.1))
 reached_needs uses acyclic key (TypeUse i) r j inside own root reached =
     elim (Contains-cons_cases i r [] root) [
-      | inl same ↦ inl (walk-from_IsPath uses acyclic i reached.0 j inside (subst (λ x. IsPath uses x reached.0 j) (sym same) reached.1))
+      | inl same ↦ inl (post_order-from_IsPath uses acyclic i reached.0 j inside (subst (λ x. IsPath uses x reached.0 j) (sym same) reached.1))
       | inr none ↦ absurd (Contains-nil none)
     ]
 reached_needs uses acyclic key TypeDefinition r j inside own root reached = absurd (Contains-nil root)
@@ -83,13 +83,13 @@ module _ (types : List TypeDef) where
   unfolding import_steps_within
   steps_needed uses acyclic exports own zero i j exported has = absurd (Contains-nil has)
   steps_needed uses acyclic exports own (suc members) i j exported has =
-      let part = Contains-flat_map_cases (λ k. cond (is_exported exports k) (import_steps_within uses (is_exported exports) members k) (walk uses k)) (direct uses i) j has in
-      cond_both (is_exported exports part.0) (import_steps_within uses (is_exported exports) members part.0) (walk uses part.0) (λ xs. Contains xs j → Needed uses exports j)
+      let part = Contains-flat_map_cases (λ k. cond (is_exported exports k) (import_steps_within uses (is_exported exports) members k) (post_order uses k)) (direct uses i) j has in
+      cond_both (is_exported exports part.0) (import_steps_within uses (is_exported exports) members part.0) (post_order uses part.0) (λ xs. Contains xs j → Needed uses exports j)
       (λ on there.
       let e = exported_entry exports part.0 on in
       steps_needed uses acyclic exports own members part.0 j
       (Contains-flat_map (λ (e : Entry). item_interface e.1) exports e.0 part.0 e.1.0 (subst (λ xs. Contains xs part.0) (sym (instance_from_role types e.0.1 part.0 (own e.0 part.0 e.1.0 e.1.1))) (Contains-here part.0 []))) there)
-      (λ off there. (i, part.0, exported, part.1.0, λ has'. false≢true (sym off ∙ any_from_contains part.0 _ has'), Reaches-from_walk uses acyclic part.0 (All-contains (λ x. x < length uses) (direct uses i) part.0 (acyclic.in_range i) part.1.0) j there))
+      (λ off there. (i, part.0, exported, part.1.0, λ has'. false≢true (sym off ∙ any_from_contains part.0 _ has'), Reaches-from_post_order uses acyclic part.0 (All-contains (λ x. x < length uses) (direct uses i) part.0 (acyclic.in_range i) part.1.0) j there))
       part.1.1
 
   -- and what is needed outside is in the steps of the exported interface that uses it
@@ -100,9 +100,9 @@ module _ (types : List TypeDef) where
       within : (n : ℕ) → 0 < n → Contains (import_steps_within uses exported n x) j
       within zero some = absurd (omega arith)
       within (suc n) some =
-          Contains-flat_map (λ k. cond (exported k) (import_steps_within uses exported n k) (walk uses k)) (direct uses x) d j among
-          (rw (cond-false (exported d) (import_steps_within uses exported n d) (walk uses d) off)
-          (walk-from_IsPath uses acyclic d reached.0 j (All-contains (λ y. y < length uses) (direct uses x) d (acyclic.in_range x) among) reached.1))
+          Contains-flat_map (λ k. cond (exported k) (import_steps_within uses exported n k) (post_order uses k)) (direct uses x) d j among
+          (rw (cond-false (exported d) (import_steps_within uses exported n d) (post_order uses d) off)
+          (post_order-from_IsPath uses acyclic d reached.0 j (All-contains (λ y. y < length uses) (direct uses x) d (acyclic.in_range x) among) reached.1))
 
   module _ (uses : List (List ℕ)) (acyclic : IsAcyclic uses) (imports exports : List Entry) (listed : InOrder types (length uses) imports exports) where
     abbrev made : List Entry
@@ -124,15 +124,15 @@ module _ (types : List TypeDef) where
         let key = key_here at.0.0 j at.1.1 in
         elim (Contains-append_cases (from_imports types uses acyclic imports exports listed) (from_exports types uses acyclic imports exports listed) at.0 (fresh_entries_in [] _ at.0 (by_class_in types made at.0 at.1.0))) [
           | inl of_import ↦
-              let part = Contains-flat_map_cases (import_walk types uses) (by_class types imports) at.0 of_import in
+              let part = Contains-flat_map_cases (import_with_needs types uses) (by_class types imports) at.0 of_import in
               let root = by_class_in types imports part.0 part.1.0 in
-              elim (Contains-append_cases (map (dependency_of (import_carries types part.0.1)) (needs uses (role_of types part.0.1))) ((part.0.0, settled_item part.0.1) ∷ []) at.0 part.1.1) [
+              elim (Contains-append_cases (map (dependency_of (inherited_by_import types part.0.1)) (dependencies_before uses (role_of types part.0.1))) ((part.0.0, without_span part.0.1) ∷ []) at.0 part.1.1) [
                 | inl deps ↦
-                    let dep = Contains-deps (import_carries types part.0.1) (needs uses (role_of types part.0.1)) at.0 deps in
+                    let dep = Contains-deps (inherited_by_import types part.0.1) (dependencies_before uses (role_of types part.0.1)) at.0 deps in
                     let same : dep.0 ≡ j = id_inj (ap (λ (z : Entry). z.0) dep.1.1 ∙ key) in
-                    let on = needs_reached uses acyclic part.0.0 (role_of types part.0.1) j (listed.imports_in_range part.0 root) (λ i. listed.own_imports part.0 i root) (subst (λ x. Contains (needs uses (role_of types part.0.1)) x) same dep.1.0) in
+                    let on = needs_reached uses acyclic part.0.0 (role_of types part.0.1) j (listed.imports_in_range part.0 root) (λ i. listed.own_imports part.0 i root) (subst (λ x. Contains (dependencies_before uses (role_of types part.0.1)) x) same dep.1.0) in
                     imported_by part.0 j on.0 root on.1.0 on.1.1
-                | inr last ↦ elim (Contains-cons_cases (part.0.0, settled_item part.0.1) at.0 [] last) [
+                | inr last ↦ elim (Contains-cons_cases (part.0.0, without_span part.0.1) at.0 [] last) [
                   | inl same ↦ let own : part.0.0 ≡ Interface j = ap (λ (z : Entry). z.0) same ∙ key in
                       imported_by part.0 j j root (own_root part.0 j own (listed.own_imports part.0 j root own)) ([], refl)
                   | inr none ↦ absurd (Contains-nil none)
@@ -155,23 +155,23 @@ module _ (types : List TypeDef) where
         let part = Contains-flat_map_cases (λ (e : Entry). item_interface e.1) exports need.0 need.2 in
         let inside = instance_below (length uses) part.0 need.0 part.1.1 (listed.exports_in_range part.0 part.1.0) in
         let step = needed_steps uses acyclic (is_exported exports) need.0 need.1 j inside need.3 (no_any_from need.1 _ need.4) need.5 in
-        listed_id (dependency_of (export_carries part.0.1) j) j
-        (Contains-append_right (from_imports types uses acyclic imports exports listed) (from_exports types uses acyclic imports exports listed) (dependency_of (export_carries part.0.1) j)
-        (Contains-flat_map (export_imports uses (is_exported exports)) exports part.0 (dependency_of (export_carries part.0.1) j) part.1.0
-        (Contains-flat_map (λ i. map (dependency_of (export_carries part.0.1)) (import_steps uses (is_exported exports) i)) (item_interface part.0.1) need.0 (dependency_of (export_carries part.0.1) j) part.1.1
-        (deps-Contains (export_carries part.0.1) (import_steps uses (is_exported exports) need.0) j step)))) refl
+        listed_id (dependency_of (inherited_by_export part.0.1) j) j
+        (Contains-append_right (from_imports types uses acyclic imports exports listed) (from_exports types uses acyclic imports exports listed) (dependency_of (inherited_by_export part.0.1) j)
+        (Contains-flat_map (export_imports uses (is_exported exports)) exports part.0 (dependency_of (inherited_by_export part.0.1) j) part.1.0
+        (Contains-flat_map (λ i. map (dependency_of (inherited_by_export part.0.1)) (import_steps uses (is_exported exports) i)) (item_interface part.0.1) need.0 (dependency_of (inherited_by_export part.0.1) j) part.1.1
+        (deps-Contains (inherited_by_export part.0.1) (import_steps uses (is_exported exports) need.0) j step)))) refl
     exact_from j (inr need) =
         let part = Contains-flat_map_cases (λ (e : Entry). roots_of uses e.0 (role_of types e.1)) imports need.0 need.1 in
         let root = in_by_class types imports part.0 part.1.0 in
         let left = from_imports types uses acyclic imports exports listed in
         let right = from_exports types uses acyclic imports exports listed in
         elim (reached_needs uses acyclic part.0.0 (role_of types part.0.1) need.0 j (listed.imports_in_range part.0 part.1.0) (λ i. listed.own_imports part.0 i part.1.0) part.1.1 need.2) [
-          | inl dep ↦ listed_id (dependency_of (import_carries types part.0.1) j) j
-              (Contains-append_left left right (dependency_of (import_carries types part.0.1) j)
-              (Contains-flat_map (import_walk types uses) (by_class types imports) part.0 (dependency_of (import_carries types part.0.1) j) root
-              (Contains-append_left _ ((part.0.0, settled_item part.0.1) ∷ []) (dependency_of (import_carries types part.0.1) j) (deps-Contains (import_carries types part.0.1) (needs uses (role_of types part.0.1)) j dep)))) refl
-          | inr own ↦ listed_id (part.0.0, settled_item part.0.1) j
-              (Contains-append_left left right (part.0.0, settled_item part.0.1)
-              (Contains-flat_map (import_walk types uses) (by_class types imports) part.0 (part.0.0, settled_item part.0.1) root
-              (Contains-append_right _ ((part.0.0, settled_item part.0.1) ∷ []) (part.0.0, settled_item part.0.1) (Contains-here (part.0.0, settled_item part.0.1) [])))) own
+          | inl dep ↦ listed_id (dependency_of (inherited_by_import types part.0.1) j) j
+              (Contains-append_left left right (dependency_of (inherited_by_import types part.0.1) j)
+              (Contains-flat_map (import_with_needs types uses) (by_class types imports) part.0 (dependency_of (inherited_by_import types part.0.1) j) root
+              (Contains-append_left _ ((part.0.0, without_span part.0.1) ∷ []) (dependency_of (inherited_by_import types part.0.1) j) (deps-Contains (inherited_by_import types part.0.1) (dependencies_before uses (role_of types part.0.1)) j dep)))) refl
+          | inr own ↦ listed_id (part.0.0, without_span part.0.1) j
+              (Contains-append_left left right (part.0.0, without_span part.0.1)
+              (Contains-flat_map (import_with_needs types uses) (by_class types imports) part.0 (part.0.0, without_span part.0.1) root
+              (Contains-append_right _ ((part.0.0, without_span part.0.1) ∷ []) (part.0.0, without_span part.0.1) (Contains-here (part.0.0, without_span part.0.1) [])))) own
         ]

@@ -5,7 +5,7 @@ use Rattle.std.proofs.lemmas.List.Elements.{All-contains, All-from_recursion, Al
 use Rattle.std.specs.List.{IsDistinct}
 use Rattle.std.specs.Prelude.{codes, slice_index}
 use Rattle.wit_digraph.specs.Relation.{IsAcyclic, IsPath, direct}
-use Rattle.wit_digraph.specs.Walks.{walk, walk_within}
+use Rattle.wit_digraph.specs.PostOrder.{post_order, post_order_within}
 use Rattle.wit_data.specs.UsePath.{is_kebab_name}
 use Rattle.wit_data.specs.Uses.{uses_of}
 use Rattle.wit_data.specs.declared.package_name.PackageName.{PackageName}
@@ -136,7 +136,7 @@ small_worlds = record {
 }
 
 small_canonical : Elaborated sample_types (uses_of sample_types sample_interfaces) (world_of (codes "w") (entry_of 0 ∷ entry_of 1 ∷ []) []) (world_of (codes "w") (entry_of 0 ∷ entry_of 1 ∷ []) [])
-unfolding walk walk_within import_steps import_steps_within
+unfolding post_order post_order_within import_steps import_steps_within
 small_canonical = record {
   no_conflict = λ conflict. none_in conflict.0 conflict.2;
   world_is = refl;
@@ -168,13 +168,13 @@ small = record {
 -- ---- near misses
 
 not_closed : IsValid (sample (entry_of 1 ∷ []) []) → ⊥
-unfolding walk walk_within import_steps import_steps_within
+unfolding post_order post_order_within import_steps import_steps_within
 not_closed valid =
     let longer : 1 ≡ 2 = ap (λ (w : World). length w.imports) (valid.canonical 0 (world_of (codes "w") (entry_of 1 ∷ []) []) refl).world_is in
     absurd (omega (arith, longer))
 
 user_first : IsValid (sample (entry_of 1 ∷ entry_of 0 ∷ []) []) → ⊥
-unfolding walk walk_within import_steps import_steps_within
+unfolding post_order post_order_within import_steps import_steps_within
 user_first valid =
     let other : 1 ≡ 0 = ap (λ (w : World). slice_index (keyed_interfaces w.imports) 0) (valid.canonical 0 (world_of (codes "w") (entry_of 1 ∷ entry_of 0 ∷ []) []) refl).world_is in
     absurd (omega (arith, other))

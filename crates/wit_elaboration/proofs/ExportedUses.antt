@@ -7,11 +7,11 @@ use Rattle.wit_data.specs.declared.world.WorldKey.{WorldKey}
 use Rattle.wit_data.specs.declared.world.WorldKey.TheVariants.{Name, Interface}
 use Rattle.wit_digraph.specs.facts.MemberFacts.{Contains-nil, Contains-here, Contains-cons_cases, Contains-flat_map, Contains-flat_map_cases}
 use Rattle.wit_digraph.specs.facts.FreshFacts.{any_from_contains, contains_from_any}
-use Rattle.wit_digraph.specs.facts.WalkFacts.{Reaches-from_walk}
+use Rattle.wit_digraph.specs.facts.PostOrderFacts.{Reaches-from_post_order}
 use Rattle.wit_digraph.specs.Relation.{direct, IsPath, IsAcyclic}
-use Rattle.wit_digraph.specs.Walks.{walk}
-use Rattle.wit_elaboration.specs.Entries.{Entry, Role, Instance, TypeUse, TypeDefinition, FreeFunction, ResourceFunction, class_of, key_interface, keyed_interfaces}
-use Rattle.wit_elaboration.specs.Elaborated.{needs, exported_uses}
+use Rattle.wit_digraph.specs.PostOrder.{post_order}
+use Rattle.wit_elaboration.specs.Entries.{Entry, Role, Instance, TypeUse, TypeDefinition, FreeFunction, ResourceFunction, elaboration_class, key_interface, keyed_interfaces}
+use Rattle.wit_elaboration.specs.Elaborated.{dependencies_before, exported_uses}
 use Rattle.wit_elaboration.specs.Imported.{is_exported}
 use Rattle.wit_elaboration.proofs.Filters.{Contains-filter}
 
@@ -42,12 +42,12 @@ IsPath-exported exported uses i [] j here same = subst (λ x. exported x ≡ tru
 IsPath-exported exported uses i (k ∷ path) j here leads =
     IsPath-exported exported uses k path j (in_among exported uses i k leads.0).1 leads.1
 
-pub inner_exported : (exported : ℕ → Bool) (uses : List (List ℕ)) → IsAcyclic uses → (role : Role) (j : ℕ) → class_of role ≡ 0 → Contains (needs (exported_uses exported uses) role) j → exported j ≡ true
+pub inner_exported : (exported : ℕ → Bool) (uses : List (List ℕ)) → IsAcyclic uses → (role : Role) (j : ℕ) → elaboration_class role ≡ 0 → Contains (dependencies_before (exported_uses exported uses) role) j → exported j ≡ true
 inner_exported exported uses acyclic (Instance i) j zeroth has =
-    let part = Contains-flat_map_cases (walk (exported_uses exported uses)) (direct (exported_uses exported uses) i) j has in
+    let part = Contains-flat_map_cases (post_order (exported_uses exported uses)) (direct (exported_uses exported uses) i) j has in
     let on = in_among exported uses i part.0 part.1.0 in
     let inner = among-acyclic exported uses acyclic in
-    let path = Reaches-from_walk (exported_uses exported uses) inner part.0 (All-contains (λ x. x < length (exported_uses exported uses)) (direct (exported_uses exported uses) i) part.0 (inner.in_range i) part.1.0) j part.1.1 in
+    let path = Reaches-from_post_order (exported_uses exported uses) inner part.0 (All-contains (λ x. x < length (exported_uses exported uses)) (direct (exported_uses exported uses) i) part.0 (inner.in_range i) part.1.0) j part.1.1 in
     IsPath-exported exported uses part.0 path.0 j on.1 path.1
 inner_exported exported uses acyclic (TypeUse i) j zeroth has = absurd (omega (arith, zeroth))
 inner_exported exported uses acyclic TypeDefinition j zeroth has = absurd (Contains-nil has)

@@ -9,15 +9,15 @@ use Rattle.wit_data.specs.declared.world.WorldItem.{WorldItem}
 use Rattle.wit_data.specs.declared.world.WorldItem.TheVariants as item
 use Rattle.wit_data.specs.declared.world.WorldKey.TheVariants.{Interface}
 use Rattle.wit_digraph.specs.facts.FreshFacts.{fresh_in}
-use Rattle.wit_digraph.specs.Walks.{Listed, fresh}
-use Rattle.wit_elaboration.specs.Elaborated.{Carried, dependency_of, export_carries, needs}
-use Rattle.wit_elaboration.specs.steps.Elaborating.{IsWalk, IsExporting, walked_exports, walked_imports}
+use Rattle.wit_digraph.specs.PostOrder.{Listed, fresh}
+use Rattle.wit_elaboration.specs.Elaborated.{InheritedData, dependencies_before, dependency_of, inherited_by_export}
+use Rattle.wit_elaboration.specs.steps.Elaborating.{IsPostOrder, IsExporting, walked_exports, walked_imports}
 use Rattle.wit_elaboration.specs.Entries.{Entry, Instance, item_interface, is_instance, fresh_entries}
 use Rattle.wit_elaboration.proofs.Filters.{Contains-filtered}
 use Rattle.wit_elaboration.proofs.FreshEntries.{fresh_entries-next, fresh_entries-filter, dependency_added, key_stays}
 
 -- those of a walk that pass a test, as entries
-pub filtered_entries : (p : ℕ → Bool) (s : Carried) (walked before after slice : List ℕ) (old added : List Entry) → after ≡ before ++ fresh before walked → slice ≡ drop (length before) after →
+pub filtered_entries : (p : ℕ → Bool) (s : InheritedData) (walked before after slice : List ℕ) (old added : List Entry) → after ≡ before ++ fresh before walked → slice ≡ drop (length before) after →
     ((i : ℕ) → Contains before i → p i ≡ true → Contains (keys_of old) (Interface i)) → added ≡ old ++ fresh_entries (keys_of old) (map (dependency_of s) (filter p slice)) →
     added ≡ old ++ fresh_entries (keys_of old) (map (dependency_of s) (filter p walked))
 filtered_entries p s walked before after slice old added after_is slice_is covers added_is =
@@ -25,7 +25,7 @@ filtered_entries p s walked before after slice old added after_is slice_is cover
     added_is ∙ rw (new, fresh_entries-filter p s walked before (keys_of old) covers) refl
 
 -- what was walked before, or now, is among the entries where it passes
-pub filtered_there : (p : ℕ → Bool) (s : Carried) (walked before after : List ℕ) (old added : List Entry) → after ≡ before ++ fresh before walked →
+pub filtered_there : (p : ℕ → Bool) (s : InheritedData) (walked before after : List ℕ) (old added : List Entry) → after ≡ before ++ fresh before walked →
     ((i : ℕ) → Contains before i → p i ≡ true → Contains (keys_of old) (Interface i)) → added ≡ old ++ fresh_entries (keys_of old) (map (dependency_of s) (filter p walked)) →
     (i : ℕ) → Contains after i → p i ≡ true → Contains (keys_of added) (Interface i)
 filtered_there p s walked before after old added after_is covers added_is i has pass =
@@ -42,7 +42,7 @@ of_not true is = absurd (false≢true is)
 of_not false is = refl
 
 -- an exported interface with what it needs
-module _ (uses : List (List ℕ)) (exported : ℕ → Bool) (e : Entry) (s : Carried) (needed : List ℕ) (before after : Listed) (slice : List ℕ) (imports added_imports exports added_exports : List Entry)
+module _ (uses : List (List ℕ)) (exported : ℕ → Bool) (e : Entry) (s : InheritedData) (needed : List ℕ) (before after : Listed) (slice : List ℕ) (imports added_imports exports added_exports : List Entry)
     (state : IsExporting uses exported before imports exports)
     (after_is : after.order ≡ before.order ++ fresh before.order needed)
     (slice_is : slice ≡ drop (length before.order) after.order)
@@ -57,9 +57,9 @@ module _ (uses : List (List ℕ)) (exported : ℕ → Bool) (e : Entry) (s : Car
   pub entry_exported_after : (done : List Entry) → done ≡ added_exports ++ fresh_entries (keys_of added_exports) (e ∷ []) → done ≡ exports ++ fresh_entries (keys_of exports) (map (dependency_of s) (filter exported needed) ++ e ∷ [])
   entry_exported_after done done_is = fresh_entries-next exports added_exports done (map (dependency_of s) (filter exported needed)) (e ∷ []) exports_added done_is
 
-  pub exporting_entry : (done : List Entry) → done ≡ added_exports ++ fresh_entries (keys_of added_exports) (e ∷ []) → IsWalk uses after → IsExporting uses exported after added_imports done
+  pub exporting_entry : (done : List Entry) → done ≡ added_exports ++ fresh_entries (keys_of added_exports) (e ∷ []) → IsPostOrder uses after → IsExporting uses exported after added_imports done
   exporting_entry done done_is is_walk = record {
-    walk = is_walk;
+    post_order = is_walk;
     are_exported = λ i has pass. rw done_is (key_stays added_exports _ (Interface i) (filtered_there exported s needed before.order after.order exports added_exports after_is state.are_exported exports_added i has pass));
     are_imported = λ i has off.
         filtered_there (λ j. not (exported j)) s needed before.order after.order imports added_imports after_is (λ j earlier pass. state.are_imported j earlier (of_not (exported j) pass)) imports_added i has (not_of (exported i) off);
@@ -74,11 +74,11 @@ instance_is (item.Type_ id span) i gives = cc
 
 -- what an entry adds
 module _ (uses : List (List ℕ)) (exported : ℕ → Bool) (e : Entry) where
-  needed_is : (i : ℕ) → i ∷ [] ≡ item_interface e.1 → needs uses (Instance i) ≡ flat_map (λ j. needs uses (Instance j)) (item_interface e.1)
-  needed_is i gives = rw (← gives, append-nil (needs uses (Instance i))) refl
+  needed_is : (i : ℕ) → i ∷ [] ≡ item_interface e.1 → dependencies_before uses (Instance i) ≡ flat_map (λ j. dependencies_before uses (Instance j)) (item_interface e.1)
+  needed_is i gives = rw (← gives, append-nil (dependencies_before uses (Instance i))) refl
 
-  pub exports_of : (i : ℕ) → i ∷ [] ≡ item_interface e.1 → map (dependency_of (export_carries e.1)) (filter exported (needs uses (Instance i))) ++ e ∷ [] ≡ walked_exports uses exported e
-  exports_of i gives = ap (λ (xs : List ℕ). map (dependency_of (export_carries e.1)) (filter exported xs) ++ e ∷ []) (needed_is i gives)
+  pub exports_of : (i : ℕ) → i ∷ [] ≡ item_interface e.1 → map (dependency_of (inherited_by_export e.1)) (filter exported (dependencies_before uses (Instance i))) ++ e ∷ [] ≡ walked_exports uses exported e
+  exports_of i gives = ap (λ (xs : List ℕ). map (dependency_of (inherited_by_export e.1)) (filter exported xs) ++ e ∷ []) (needed_is i gives)
 
-  pub imports_of : (i : ℕ) → i ∷ [] ≡ item_interface e.1 → map (dependency_of (export_carries e.1)) (filter (λ j. not (exported j)) (needs uses (Instance i))) ≡ walked_imports uses exported e
-  imports_of i gives = ap (λ (xs : List ℕ). map (dependency_of (export_carries e.1)) (filter (λ j. not (exported j)) xs)) (needed_is i gives)
+  pub imports_of : (i : ℕ) → i ∷ [] ≡ item_interface e.1 → map (dependency_of (inherited_by_export e.1)) (filter (λ j. not (exported j)) (dependencies_before uses (Instance i))) ≡ walked_imports uses exported e
+  imports_of i gives = ap (λ (xs : List ℕ). map (dependency_of (inherited_by_export e.1)) (filter (λ j. not (exported j)) xs)) (needed_is i gives)

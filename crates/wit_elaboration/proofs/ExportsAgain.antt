@@ -8,7 +8,7 @@ use Rattle.wit_data.specs.declared.types.TypeDef.{TypeDef}
 use Rattle.wit_digraph.specs.facts.MemberFacts.{Contains-nil, Contains-here, Contains-cons_cases, Contains-flat_map, Contains-flat_map_cases}
 use Rattle.wit_digraph.specs.Relation.{IsAcyclic}
 use Rattle.wit_elaboration.specs.Entries.{Entry, Role, Instance, role_of, is_interface, fresh_entries}
-use Rattle.wit_elaboration.specs.Elaborated.{Carried, dependency_of, needs, entry_walk, export_carries, exported_uses, elaborated_exports}
+use Rattle.wit_elaboration.specs.Elaborated.{InheritedData, dependency_of, dependencies_before, entry_post_order, inherited_by_export, exported_uses, elaborated_exports}
 use Rattle.wit_elaboration.specs.Imported.{is_exported}
 use Rattle.wit_elaboration.specs.Sound.{IsRoleInRange}
 use Rattle.wit_elaboration.proofs.Absorbed.{absorbed}
@@ -24,7 +24,7 @@ module _ (types : List TypeDef) where
     inner = exported_uses (is_exported exports) uses
 
     abbrev pub walked : List Entry
-    walked = flat_map (entry_walk types inner export_carries (λ item. item)) (filter is_interface exports)
+    walked = flat_map (entry_post_order types inner inherited_by_export (λ item. item)) (filter is_interface exports)
 
     abbrev pub kept : List Entry
     kept = fresh_entries [] walked
@@ -33,13 +33,13 @@ module _ (types : List TypeDef) where
     functions = filter (λ (e : Entry). not (is_interface e)) exports
 
     -- an export that is made is listed, or is that of an exported interface
-    pub made : (f : Entry) → Contains kept f → (Contains exports f × (is_interface f ≡ true)) ⊎ ((s : Carried) × (j : ℕ) × (dependency_of s j ≡ f) × (is_exported exports j ≡ true))
+    pub made : (f : Entry) → Contains kept f → (Contains exports f × (is_interface f ≡ true)) ⊎ ((s : InheritedData) × (j : ℕ) × (dependency_of s j ≡ f) × (is_exported exports j ≡ true))
     made f has =
-        let part = Contains-flat_map_cases (entry_walk types inner export_carries (λ item. item)) (filter is_interface exports) f (fresh_entries_in [] walked f has) in
+        let part = Contains-flat_map_cases (entry_post_order types inner inherited_by_export (λ item. item)) (filter is_interface exports) f (fresh_entries_in [] walked f has) in
         let root = Contains-filter is_interface exports part.0 part.1.0 in
-        elim (Contains-append_cases (map (dependency_of (export_carries part.0.1)) (needs inner (role_of types part.0.1))) (part.0 ∷ []) f part.1.1) [
-          | inl deps ↦ let dep = Contains-deps (export_carries part.0.1) (needs inner (role_of types part.0.1)) f deps in
-              inr ((export_carries part.0.1), dep.0, dep.1.1, inner_exported (is_exported exports) uses acyclic (role_of types part.0.1) dep.0 (class_from_instance types part.0.1 root.1) dep.1.0)
+        elim (Contains-append_cases (map (dependency_of (inherited_by_export part.0.1)) (dependencies_before inner (role_of types part.0.1))) (part.0 ∷ []) f part.1.1) [
+          | inl deps ↦ let dep = Contains-deps (inherited_by_export part.0.1) (dependencies_before inner (role_of types part.0.1)) f deps in
+              inr ((inherited_by_export part.0.1), dep.0, dep.1.1, inner_exported (is_exported exports) uses acyclic (role_of types part.0.1) dep.0 (class_from_instance types part.0.1 root.1) dep.1.0)
           | inr last ↦ elim (Contains-cons_cases part.0 f [] last)
               [ inl same ↦ inl (subst (λ z. Contains exports z) same root.0, subst (λ z. is_interface z ≡ true) same root.1) | inr none ↦ absurd (Contains-nil none) ]
         ]
@@ -51,7 +51,7 @@ module _ (types : List TypeDef) where
               let e = exported_entry exports j found in
               let item = listed.own_exports e.0 j e.1.0 e.1.1 in
               let root : Contains (filter is_interface exports) e.0 = Contains-filtered is_interface exports e.0 e.1.0 (is_instance_from_role types e.0.1 j item) in
-              let among : Contains walked e.0 = Contains-flat_map (entry_walk types inner export_carries (λ item. item)) (filter is_interface exports) e.0 e.0 root (Contains-append_right _ (e.0 ∷ []) e.0 (Contains-here e.0 [])) in
+              let among : Contains walked e.0 = Contains-flat_map (entry_post_order types inner inherited_by_export (λ item. item)) (filter is_interface exports) e.0 e.0 root (Contains-append_right _ (e.0 ∷ []) e.0 (Contains-here e.0 [])) in
               let key = Contains-keys kept e.0.0 (fresh_entries_all [] walked e.0 among) in
               entry_exported (functions ++ kept) key.0 j (Contains-append_right functions kept key.0 key.1.0) (key.1.1 ∙ e.1.1) ∙ sym found
           | inr absent ↦ false_from_ne_true (is_exported (functions ++ kept) j) (λ found.
@@ -109,12 +109,12 @@ module _ (types : List TypeDef) where
       | inr dep ↦ subst (λ (z : Entry). IsRoleInRange (length uses) (role_of types z.1)) dep.2 (exported_below dep.1 dep.3).1.2
     ]
 
-    kept_absorbed : fresh_entries [] (flat_map (entry_walk types inner export_carries (λ item. item)) kept) ≡ kept
+    kept_absorbed : fresh_entries [] (flat_map (entry_post_order types inner inherited_by_export (λ item. item)) kept) ≡ kept
     kept_absorbed =
         let acyclic' = among-acyclic (is_exported exports) uses acyclic in
-        absorbed types inner acyclic' export_carries (λ item. item) kept [] (fresh_entries-AllNew [] walked)
+        absorbed types inner acyclic' inherited_by_export (λ item. item) kept [] (fresh_entries-AllNew [] walked)
         (DependenciesFirst-fresh types inner walked [] [] (λ j has. has)
-        (entry_walks_first types inner acyclic' export_carries (λ item. item) (λ item. refl) (filter is_interface exports) [] (λ e has. inner_range (role_of types e.1) (listed.exports_in_range e (Contains-filter is_interface exports e has).0))))
+        (entry_walks_first types inner acyclic' inherited_by_export (λ item. item) (λ item. refl) (filter is_interface exports) [] (λ e has. inner_range (role_of types e.1) (listed.exports_in_range e (Contains-filter is_interface exports e has).0))))
         tt kept_own (λ f has. inner_range (role_of types f.1) (kept_range f has)) (λ f has. refl)
 
     pub exports_again : elaborated_exports types uses (functions ++ kept) ≡ functions ++ kept

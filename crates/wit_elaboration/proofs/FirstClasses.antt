@@ -11,7 +11,7 @@ use Rattle.wit_data.specs.declared.types.TypeDef.{TypeDef}
 use Rattle.wit_data.specs.declared.world.WorldKey.{WorldKey}
 use Rattle.wit_data.specs.contracts.world.WorldKeyPartialEq.TheImpl.{eq-value}
 use Rattle.wit_digraph.specs.facts.MemberFacts.{Contains-nil, Contains-cons_cases, Contains-here, Contains-there}
-use Rattle.wit_elaboration.specs.Entries.{Entry, same_key, role_of, class_of, of_class, by_class, fresh_entries}
+use Rattle.wit_elaboration.specs.Entries.{Entry, same_key, role_of, elaboration_class, of_class, by_class, fresh_entries}
 use Rattle.wit_elaboration.proofs.Classes.{by_class-new}
 use Rattle.wit_elaboration.proofs.Filters.{filter-pass}
 use Rattle.wit_elaboration.proofs.FreshEntries.{AllNew, same_key-refl, absent_from, fresh_entries-next, fresh_entries-all_new}
@@ -42,10 +42,10 @@ module _ (types : List TypeDef) where
   first_classes-all c entries all = ap (λ cs. flat_map (λ d. of_class types d entries) cs) (take_all c classes all)
 
   -- entries of which some are left, and the first of these is of the class
-  pub class_first : (c : ℕ) {left others : List Entry} {e : Entry} → left ≡ e ∷ others → class_of (role_of types e.1) ≡ c → of_class types c left ≡ e ∷ of_class types c others
+  pub class_first : (c : ℕ) {left others : List Entry} {e : Entry} → left ≡ e ∷ others → elaboration_class (role_of types e.1) ≡ c → of_class types c left ≡ e ∷ of_class types c others
   class_first c {left} {others} {e} first same =
       ap (of_class types c) first
-      ∙ filter-pass (λ (f : Entry). nat_eq (class_of (role_of types f.1)) c) e others (subst (λ d. nat_eq (class_of (role_of types e.1)) d ≡ true) same (nat_eq_equiv.refl (class_of (role_of types e.1))))
+      ∙ filter-pass (λ (f : Entry). nat_eq (elaboration_class (role_of types f.1)) c) e others (subst (λ d. nat_eq (elaboration_class (role_of types e.1)) d ≡ true) same (nat_eq_equiv.refl (elaboration_class (role_of types e.1))))
 
   -- one class more
   pub classes_walked : (f : Entry → List Entry) (c : ℕ) (es now new : List Entry) → c < 5 → now ≡ fresh_entries [] (flat_map f (first_classes types c es)) →

@@ -13,9 +13,9 @@ use Rattle.wit_data.specs.declared.world.WorldKey.{WorldKey}
 use Rattle.wit_data.specs.declared.world.WorldKey.TheVariants.{Name, Interface}
 use Rattle.wit_digraph.specs.facts.MemberFacts.{Contains-nil, Contains-here, Contains-there, Contains-cons_cases, Contains-flat_map_cases}
 use Rattle.wit_digraph.specs.facts.FreshFacts.{fresh-seen, fresh-new, contains_from_any}
-use Rattle.wit_digraph.specs.Walks.{fresh}
+use Rattle.wit_digraph.specs.PostOrder.{fresh}
 use Rattle.wit_elaboration.specs.Entries.{Entry, same_key, key_interface, keyed_interfaces, fresh_entries}
-use Rattle.wit_elaboration.specs.Elaborated.{Carried, dependency_of}
+use Rattle.wit_elaboration.specs.Elaborated.{InheritedData, dependency_of}
 use Rattle.wit_elaboration.proofs.Filters.{filter-all, filter-pass, filter-fail}
 
 pub same_key-true : (k l : WorldKey) → same_key k l ≡ true → k ≡ l
@@ -153,13 +153,13 @@ pub fresh_entries-all_known : (seen : List WorldKey) (xs ys : List Entry) → ((
 fresh_entries-all_known seen [] ys known = refl
 fresh_entries-all_known seen (e ∷ xs) ys known = fresh_entries-known seen e (xs ++ ys) (known e (Contains-here e xs)) ∙ fresh_entries-all_known seen xs ys (λ f has. known f (Contains-there e f xs has))
 
-pub Contains-deps : (carried : Carried) (js : List ℕ) (e : Entry) → Contains (map (dependency_of carried) js) e → (j : ℕ) × (Contains js j × (dependency_of carried j ≡ e))
+pub Contains-deps : (carried : InheritedData) (js : List ℕ) (e : Entry) → Contains (map (dependency_of carried) js) e → (j : ℕ) × (Contains js j × (dependency_of carried j ≡ e))
 Contains-deps carried [] e has = absurd (Contains-nil has)
 Contains-deps carried (j ∷ js) e has =
     elim (Contains-cons_cases (dependency_of carried j) e (map (dependency_of carried) js) has)
     [ inl same ↦ (j, (Contains-here j js, same)) | inr there ↦ let more = Contains-deps carried js e there in (more.0, (Contains-there j more.0 js more.1.0, more.1.1)) ]
 
-pub deps-Contains : (carried : Carried) (js : List ℕ) (j : ℕ) → Contains js j → Contains (map (dependency_of carried) js) (dependency_of carried j)
+pub deps-Contains : (carried : InheritedData) (js : List ℕ) (j : ℕ) → Contains js j → Contains (map (dependency_of carried) js) (dependency_of carried j)
 deps-Contains carried [] j has = absurd (Contains-nil has)
 deps-Contains carried (i ∷ js) j has =
     elim (Contains-cons_cases i j js has) [
@@ -170,7 +170,7 @@ deps-Contains carried (i ∷ js) j has =
 abbrev pub interfaces_of_keys : List WorldKey → List ℕ
 interfaces_of_keys keys = flat_map key_interface keys
 
-pub keyed_interfaces-map : (carried : Carried) (js : List ℕ) → keyed_interfaces (map (dependency_of carried) js) ≡ js
+pub keyed_interfaces-map : (carried : InheritedData) (js : List ℕ) → keyed_interfaces (map (dependency_of carried) js) ≡ js
 keyed_interfaces-map carried [] = refl
 keyed_interfaces-map carried (j ∷ js) = ap (λ xs. j ∷ xs) (keyed_interfaces-map carried js)
 
@@ -208,14 +208,14 @@ fresh_entries-all_new seen [] new = refl
 fresh_entries-all_new seen (e ∷ es) new = fresh_entries-new seen e es new.0 ∙ ap (λ xs. e ∷ xs) (fresh_entries-all_new (seen ++ e.0 ∷ []) es new.1)
 
 -- one more of a list of interfaces
-pub dependencies-next : (s : Carried) (old now new : List Entry) (js : List ℕ) (at : ℕ) → at < length js → now ≡ old ++ fresh_entries (keys_of old) (map (dependency_of s) (take at js)) →
+pub dependencies-next : (s : InheritedData) (old now new : List Entry) (js : List ℕ) (at : ℕ) → at < length js → now ≡ old ++ fresh_entries (keys_of old) (map (dependency_of s) (take at js)) →
     new ≡ now ++ fresh_entries (keys_of now) (dependency_of s (get_or js at 0) ∷ []) → new ≡ old ++ fresh_entries (keys_of old) (map (dependency_of s) (take (at + 1) js))
 dependencies-next s old now new js at below first then =
     rw (take_more js at 0 below, map-append (dependency_of s) (take at js) (get_or js at 0 ∷ []))
     (fresh_entries-next old now new (map (dependency_of s) (take at js)) (dependency_of s (get_or js at 0) ∷ []) first then)
 
 -- where what was seen has the keys of what was listed and passes a test, only what is fresh matters
-pub fresh_entries-filter : (p : ℕ → Bool) (s : Carried) (js listed : List ℕ) (seen : List WorldKey) → ((i : ℕ) → Contains listed i → p i ≡ true → Contains seen (Interface i)) →
+pub fresh_entries-filter : (p : ℕ → Bool) (s : InheritedData) (js listed : List ℕ) (seen : List WorldKey) → ((i : ℕ) → Contains listed i → p i ≡ true → Contains seen (Interface i)) →
     fresh_entries seen (map (dependency_of s) (filter p (fresh listed js))) ≡ fresh_entries seen (map (dependency_of s) (filter p js))
 fresh_entries-filter p s [] listed seen covers = refl
 fresh_entries-filter p s (j ∷ js) listed seen covers =
@@ -250,7 +250,7 @@ fresh_entries-filter p s (j ∷ js) listed seen covers =
     ]
 
 -- the same without a test
-pub fresh_entries-fresh : (s : Carried) (js listed : List ℕ) (seen : List WorldKey) → ((i : ℕ) → Contains listed i → Contains seen (Interface i)) →
+pub fresh_entries-fresh : (s : InheritedData) (js listed : List ℕ) (seen : List WorldKey) → ((i : ℕ) → Contains listed i → Contains seen (Interface i)) →
     fresh_entries seen (map (dependency_of s) (fresh listed js)) ≡ fresh_entries seen (map (dependency_of s) js)
 fresh_entries-fresh s js listed seen covers =
     let all : ℕ → Bool = λ i. true in
@@ -260,7 +260,7 @@ fresh_entries-fresh s js listed seen covers =
     ∙ ap (λ (xs : List ℕ). fresh_entries seen (map (dependency_of s) xs)) (same js)
 
 -- a dependency's key is there, once it was added
-pub dependency_added : (s : Carried) (js : List ℕ) (old : List Entry) (j : ℕ) → Contains js j → Contains (keys_of (old ++ fresh_entries (keys_of old) (map (dependency_of s) js))) (Interface j)
+pub dependency_added : (s : InheritedData) (js : List ℕ) (old : List Entry) (j : ℕ) → Contains js j → Contains (keys_of (old ++ fresh_entries (keys_of old) (map (dependency_of s) js))) (Interface j)
 dependency_added s js old j has =
     rw (keys_of-append old (fresh_entries (keys_of old) (map (dependency_of s) js))) (fresh_entries_all (keys_of old) (map (dependency_of s) js) (dependency_of s j) (deps-Contains s js j has))
 

@@ -8,24 +8,24 @@ use Rattle.wit_data.specs.declared.world.WorldItem.TheVariants as item
 use Rattle.wit_data.specs.declared.world.World.{World}
 use Rattle.wit_digraph.specs.facts.MemberFacts.{Contains-nil, Contains-cons_cases, Contains-flat_map_cases, flat_map-same}
 use Rattle.wit_digraph.specs.Relation.{direct, IsAcyclic}
-use Rattle.wit_elaboration.specs.Entries.{Entry, role_of, item_interface, is_instance, is_interface, class_of, of_class, by_class, fresh_entries}
-use Rattle.wit_elaboration.specs.Elaborated.{Carried, dependency_of, needs, import_carries, export_carries, settled_item, import_walk, export_imports, export_walk, import_steps, exported_uses, elaborated_imports, elaborated_exports}
+use Rattle.wit_elaboration.specs.Entries.{Entry, role_of, item_interface, is_instance, is_interface, elaboration_class, of_class, by_class, fresh_entries}
+use Rattle.wit_elaboration.specs.Elaborated.{InheritedData, dependency_of, dependencies_before, inherited_by_import, inherited_by_export, without_span, import_with_needs, export_imports, export_with_needs, import_steps, exported_uses, elaborated_imports, elaborated_exports}
 use Rattle.wit_elaboration.specs.Imported.{Needed, HasConflict, is_exported}
-use Rattle.wit_elaboration.specs.laws.KeptByElaboration.{ElaborationIsLocal, SameRoles, SameCarried}
+use Rattle.wit_elaboration.specs.laws.KeptByElaboration.{ElaborationIsLocal, SameRoles, SameInheritedData}
 use Rattle.wit_elaboration.proofs.Classes.{by_class_in}
 use Rattle.wit_elaboration.proofs.Exact.{instance_below}
 use Rattle.wit_elaboration.proofs.Filters.{Contains-filter, filter-same}
 use Rattle.wit_elaboration.proofs.FreshEntries.{Contains-deps, fresh_entries_in}
-use Rattle.wit_elaboration.proofs.GrowingUses.{direct-left, used_below, IsPath-left, needs-left, import_steps-left, exported_needs-left}
-use Rattle.wit_elaboration.proofs.Roles.{InOrder, in_order, role_of-settled}
+use Rattle.wit_elaboration.proofs.GrowingUses.{direct-left, used_below, IsPath-left, dependencies_before-left, import_steps-left, exported_needs-left}
+use Rattle.wit_elaboration.proofs.Roles.{InOrder, in_order, role_of-without_span}
 
 module _ (types wider : List TypeDef) where
   -- ---- classes
 
   pub of_class-same : (es : List Entry) → SameRoles types wider es → (c : ℕ) → of_class types c es ≡ of_class wider c es
   of_class-same es same c =
-      filter-same (λ (e : Entry). nat_eq (class_of (role_of types e.1)) c) (λ (e : Entry). nat_eq (class_of (role_of wider e.1)) c) es
-      (λ e has. ap (λ r. nat_eq (class_of r) c) (same e has))
+      filter-same (λ (e : Entry). nat_eq (elaboration_class (role_of types e.1)) c) (λ (e : Entry). nat_eq (elaboration_class (role_of wider e.1)) c) es
+      (λ e has. ap (λ r. nat_eq (elaboration_class r) c) (same e has))
 
   pub by_class-same : (es : List Entry) → SameRoles types wider es → by_class types es ≡ by_class wider es
   by_class-same es same = flat_map-same (λ c. of_class types c es) (λ c. of_class wider c es) (0 ∷ 1 ∷ 2 ∷ 3 ∷ 4 ∷ []) (λ c has. of_class-same es same c)
@@ -54,54 +54,54 @@ module _ (types wider : List TypeDef) where
 
     -- ---- imports
 
-    module _ (roles : SameRoles types wider imports) (carried : SameCarried types wider imports) where
-      import_walk-same : (e : Entry) → Contains imports e → import_walk types uses e ≡ import_walk wider (uses ++ rows) e
-      import_walk-same e has =
-          ap (λ (s : Carried). map (dependency_of s) (needs uses (role_of types e.1)) ++ (e.0, settled_item e.1) ∷ []) (carried e has)
-          ∙ ap (λ (js : List ℕ). map (dependency_of (import_carries wider e.1)) js ++ (e.0, settled_item e.1) ∷ [])
-          (sym (needs-left uses acyclic rows grown (role_of types e.1) (listed.imports_in_range e has)) ∙ ap (needs (uses ++ rows)) (roles e has))
+    module _ (roles : SameRoles types wider imports) (carried : SameInheritedData types wider imports) where
+      import_with_needs-same : (e : Entry) → Contains imports e → import_with_needs types uses e ≡ import_with_needs wider (uses ++ rows) e
+      import_with_needs-same e has =
+          ap (λ (s : InheritedData). map (dependency_of s) (dependencies_before uses (role_of types e.1)) ++ (e.0, without_span e.1) ∷ []) (carried e has)
+          ∙ ap (λ (js : List ℕ). map (dependency_of (inherited_by_import wider e.1)) js ++ (e.0, without_span e.1) ∷ [])
+          (sym (dependencies_before-left uses acyclic rows grown (role_of types e.1) (listed.imports_in_range e has)) ∙ ap (dependencies_before (uses ++ rows)) (roles e has))
 
       export_imports-same : (e : Entry) → Contains exports e → export_imports uses (is_exported exports) e ≡ export_imports (uses ++ rows) (is_exported exports) e
       export_imports-same e has =
-          flat_map-same (λ i. map (dependency_of (export_carries e.1)) (import_steps uses (is_exported exports) i)) (λ i. map (dependency_of (export_carries e.1)) (import_steps (uses ++ rows) (is_exported exports) i)) (item_interface e.1)
-          (λ i among. ap (map (dependency_of (export_carries e.1))) (sym (import_steps-left uses acyclic rows grown (is_exported exports) i (instance_below types (length uses) e i among (listed.exports_in_range e has)))))
+          flat_map-same (λ i. map (dependency_of (inherited_by_export e.1)) (import_steps uses (is_exported exports) i)) (λ i. map (dependency_of (inherited_by_export e.1)) (import_steps (uses ++ rows) (is_exported exports) i)) (item_interface e.1)
+          (λ i among. ap (map (dependency_of (inherited_by_export e.1))) (sym (import_steps-left uses acyclic rows grown (is_exported exports) i (instance_below types (length uses) e i among (listed.exports_in_range e has)))))
 
       -- what is made has the same role too
-      walk_roles : (e : Entry) → Contains imports e → SameRoles types wider (import_walk types uses e)
+      walk_roles : (e : Entry) → Contains imports e → SameRoles types wider (import_with_needs types uses e)
       walk_roles e has f there =
-          elim (Contains-append_cases (map (dependency_of (import_carries types e.1)) (needs uses (role_of types e.1))) ((e.0, settled_item e.1) ∷ []) f there) [
-            | inl deps ↦ let dep = Contains-deps (import_carries types e.1) (needs uses (role_of types e.1)) f deps in
+          elim (Contains-append_cases (map (dependency_of (inherited_by_import types e.1)) (dependencies_before uses (role_of types e.1))) ((e.0, without_span e.1) ∷ []) f there) [
+            | inl deps ↦ let dep = Contains-deps (inherited_by_import types e.1) (dependencies_before uses (role_of types e.1)) f deps in
                 subst (λ (z : Entry). role_of types z.1 ≡ role_of wider z.1) dep.1.1 refl
-            | inr last ↦ elim (Contains-cons_cases (e.0, settled_item e.1) f [] last) [
-              | inl same ↦ subst (λ (z : Entry). role_of types z.1 ≡ role_of wider z.1) same (role_of-settled types e.1 ∙ roles e has ∙ sym (role_of-settled wider e.1))
+            | inr last ↦ elim (Contains-cons_cases (e.0, without_span e.1) f [] last) [
+              | inl same ↦ subst (λ (z : Entry). role_of types z.1 ≡ role_of wider z.1) same (role_of-without_span types e.1 ∙ roles e has ∙ sym (role_of-without_span wider e.1))
               | inr none ↦ absurd (Contains-nil none)
             ]
           ]
 
       export_roles : (e : Entry) → SameRoles types wider (export_imports uses (is_exported exports) e)
       export_roles e f there =
-          let part = Contains-flat_map_cases (λ i. map (dependency_of (export_carries e.1)) (import_steps uses (is_exported exports) i)) (item_interface e.1) f there in
-          let dep = Contains-deps (export_carries e.1) (import_steps uses (is_exported exports) part.0) f part.1.1 in
+          let part = Contains-flat_map_cases (λ i. map (dependency_of (inherited_by_export e.1)) (import_steps uses (is_exported exports) i)) (item_interface e.1) f there in
+          let dep = Contains-deps (inherited_by_export e.1) (import_steps uses (is_exported exports) part.0) f part.1.1 in
           subst (λ (z : Entry). role_of types z.1 ≡ role_of wider z.1) dep.1.1 refl
 
       abbrev before : List Entry
-      before = flat_map (import_walk types uses) (by_class types imports) ++ flat_map (export_imports uses (is_exported exports)) exports
+      before = flat_map (import_with_needs types uses) (by_class types imports) ++ flat_map (export_imports uses (is_exported exports)) exports
 
       before_roles : SameRoles types wider (fresh_entries [] before)
       before_roles f has =
-          elim (Contains-append_cases (flat_map (import_walk types uses) (by_class types imports)) (flat_map (export_imports uses (is_exported exports)) exports) f (fresh_entries_in [] before f has)) [
+          elim (Contains-append_cases (flat_map (import_with_needs types uses) (by_class types imports)) (flat_map (export_imports uses (is_exported exports)) exports) f (fresh_entries_in [] before f has)) [
             | inl of_import ↦
-                let part = Contains-flat_map_cases (import_walk types uses) (by_class types imports) f of_import in
+                let part = Contains-flat_map_cases (import_with_needs types uses) (by_class types imports) f of_import in
                 walk_roles part.0 (by_class_in types imports part.0 part.1.0) f part.1.1
             | inr of_export ↦
                 let part = Contains-flat_map_cases (export_imports uses (is_exported exports)) exports f of_export in
                 export_roles part.0 f part.1.1
           ]
 
-      walks_same : flat_map (import_walk types uses) (by_class types imports) ≡ flat_map (import_walk wider (uses ++ rows)) (by_class wider imports)
+      walks_same : flat_map (import_with_needs types uses) (by_class types imports) ≡ flat_map (import_with_needs wider (uses ++ rows)) (by_class wider imports)
       walks_same =
-          flat_map-same (import_walk types uses) (import_walk wider (uses ++ rows)) (by_class types imports) (λ e has. import_walk-same e (by_class_in types imports e has))
-          ∙ ap (flat_map (import_walk wider (uses ++ rows))) (by_class-same imports roles)
+          flat_map-same (import_with_needs types uses) (import_with_needs wider (uses ++ rows)) (by_class types imports) (λ e has. import_with_needs-same e (by_class_in types imports e has))
+          ∙ ap (flat_map (import_with_needs wider (uses ++ rows))) (by_class-same imports roles)
 
       steps_same : flat_map (export_imports uses (is_exported exports)) exports ≡ flat_map (export_imports (uses ++ rows) (is_exported exports)) exports
       steps_same = flat_map-same (export_imports uses (is_exported exports)) (export_imports (uses ++ rows) (is_exported exports)) exports export_imports-same
@@ -110,21 +110,21 @@ module _ (types wider : List TypeDef) where
       imports_local =
           by_class-same (fresh_entries [] before) before_roles
           ∙ ap (λ (es : List Entry). by_class wider (fresh_entries [] (es ++ flat_map (export_imports uses (is_exported exports)) exports))) walks_same
-          ∙ ap (λ (es : List Entry). by_class wider (fresh_entries [] (flat_map (import_walk wider (uses ++ rows)) (by_class wider imports) ++ es))) steps_same
+          ∙ ap (λ (es : List Entry). by_class wider (fresh_entries [] (flat_map (import_with_needs wider (uses ++ rows)) (by_class wider imports) ++ es))) steps_same
 
     -- ---- exports
 
-    export_walk-same : (e : Entry) → Contains (filter is_interface exports) e → export_walk types uses (is_exported exports) e ≡ export_walk wider (uses ++ rows) (is_exported exports) e
-    export_walk-same e has =
+    export_with_needs-same : (e : Entry) → Contains (filter is_interface exports) e → export_with_needs types uses (is_exported exports) e ≡ export_with_needs wider (uses ++ rows) (is_exported exports) e
+    export_with_needs-same e has =
         let part = Contains-filter is_interface exports e has in
-        ap (λ (js : List ℕ). map (dependency_of (export_carries e.1)) js ++ (e.0, e.1) ∷ [])
+        ap (λ (js : List ℕ). map (dependency_of (inherited_by_export e.1)) js ++ (e.0, e.1) ∷ [])
         (sym (exported_needs-left (is_exported exports) uses acyclic rows grown (role_of types e.1) (listed.exports_in_range e part.0))
-        ∙ ap (needs (exported_uses (is_exported exports) (uses ++ rows))) (instance-same e.1 part.1))
+        ∙ ap (dependencies_before (exported_uses (is_exported exports) (uses ++ rows))) (instance-same e.1 part.1))
 
     pub exports_local : elaborated_exports types uses exports ≡ elaborated_exports wider (uses ++ rows) exports
     exports_local =
         ap (λ (es : List Entry). filter (λ (e : Entry). not (is_interface e)) exports ++ fresh_entries [] es)
-        (flat_map-same (export_walk types uses (is_exported exports)) (export_walk wider (uses ++ rows) (is_exported exports)) (filter is_interface exports) export_walk-same)
+        (flat_map-same (export_with_needs types uses (is_exported exports)) (export_with_needs wider (uses ++ rows) (is_exported exports)) (filter is_interface exports) export_with_needs-same)
 
 lists_same : (w : World) {i i' x x' : List Entry} → i ≡ i' → x ≡ x' → (let v : World = record w { imports = i; exports = x } in v) ≡ record w { imports = i'; exports = x' }
 lists_same w p q = cc

@@ -4,10 +4,10 @@ use Rattle.std.specs.List.{flat_map}
 use Rattle.std.proofs.lemmas.List.{length-map, map-append}
 use Rattle.std.proofs.lemmas.List.Elements.{All-contains}
 use Rattle.wit_digraph.specs.facts.MemberFacts.{flat_map-same}
-use Rattle.wit_digraph.specs.facts.WalkFacts.{uses_ind, walk_is}
+use Rattle.wit_digraph.specs.facts.PostOrderFacts.{post_order_is, uses_ind}
 use Rattle.wit_digraph.specs.Relation.{direct, IsPath, IsAcyclic}
-use Rattle.wit_digraph.specs.Walks.{walk}
-use Rattle.wit_elaboration.specs.Elaborated.{needs, import_steps, exported_uses}
+use Rattle.wit_digraph.specs.PostOrder.{post_order}
+use Rattle.wit_elaboration.specs.Elaborated.{dependencies_before, import_steps, exported_uses}
 use Rattle.wit_elaboration.specs.Entries.{Role, Instance, TypeUse, TypeDefinition, FreeFunction, ResourceFunction}
 use Rattle.wit_elaboration.specs.Sound.{IsRoleInRange}
 use Rattle.wit_elaboration.proofs.ExportedUses.{among-acyclic}
@@ -32,33 +32,33 @@ module _ (uses : List (List ℕ)) (acyclic : IsAcyclic uses) where
       let among : Contains (direct uses i) k = subst (λ ks. Contains ks k) (direct-left uses rows i here) leads.0 in
       (among, IsPath-left rows k path j (used_below i k among) leads.1)
 
-  pub walk-left : (rows : List (List ℕ)) → IsAcyclic (uses ++ rows) → (i : ℕ) → i < length uses → walk (uses ++ rows) i ≡ walk uses i
-  walk-left rows wider =
-      uses_ind uses acyclic (λ i. walk (uses ++ rows) i ≡ walk uses i)
+  pub post_order-left : (rows : List (List ℕ)) → IsAcyclic (uses ++ rows) → (i : ℕ) → i < length uses → post_order (uses ++ rows) i ≡ post_order uses i
+  post_order-left rows wider =
+      uses_ind uses acyclic (λ i. post_order (uses ++ rows) i ≡ post_order uses i)
       (λ i here below.
-      walk_is (uses ++ rows) wider i (below-left uses rows i here)
-      ∙ ap (λ ks. flat_map (walk (uses ++ rows)) ks ++ i ∷ []) (direct-left uses rows i here)
-      ∙ ap (λ front. front ++ i ∷ []) (flat_map-same (walk (uses ++ rows)) (walk uses) (direct uses i) below)
-      ∙ sym (walk_is uses acyclic i here))
+      post_order_is (uses ++ rows) wider i (below-left uses rows i here)
+      ∙ ap (λ ks. flat_map (post_order (uses ++ rows)) ks ++ i ∷ []) (direct-left uses rows i here)
+      ∙ ap (λ front. front ++ i ∷ []) (flat_map-same (post_order (uses ++ rows)) (post_order uses) (direct uses i) below)
+      ∙ sym (post_order_is uses acyclic i here))
 
-  pub needs-left : (rows : List (List ℕ)) → IsAcyclic (uses ++ rows) → (role : Role) → IsRoleInRange (length uses) role → needs (uses ++ rows) role ≡ needs uses role
-  needs-left rows wider (Instance i) inside =
-      ap (λ ks. flat_map (walk (uses ++ rows)) ks) (direct-left uses rows i inside)
-      ∙ flat_map-same (walk (uses ++ rows)) (walk uses) (direct uses i) (λ j among. walk-left rows wider j (used_below i j among))
-  needs-left rows wider (TypeUse i) inside = walk-left rows wider i inside
-  needs-left rows wider TypeDefinition inside = refl
-  needs-left rows wider FreeFunction inside = refl
-  needs-left rows wider ResourceFunction inside = refl
+  pub dependencies_before-left : (rows : List (List ℕ)) → IsAcyclic (uses ++ rows) → (role : Role) → IsRoleInRange (length uses) role → dependencies_before (uses ++ rows) role ≡ dependencies_before uses role
+  dependencies_before-left rows wider (Instance i) inside =
+      ap (λ ks. flat_map (post_order (uses ++ rows)) ks) (direct-left uses rows i inside)
+      ∙ flat_map-same (post_order (uses ++ rows)) (post_order uses) (direct uses i) (λ j among. post_order-left rows wider j (used_below i j among))
+  dependencies_before-left rows wider (TypeUse i) inside = post_order-left rows wider i inside
+  dependencies_before-left rows wider TypeDefinition inside = refl
+  dependencies_before-left rows wider FreeFunction inside = refl
+  dependencies_before-left rows wider ResourceFunction inside = refl
 
   pub import_steps-left : (rows : List (List ℕ)) → IsAcyclic (uses ++ rows) → (exported : ℕ → Bool) (i : ℕ) → i < length uses → import_steps (uses ++ rows) exported i ≡ import_steps uses exported i
   import_steps-left rows wider exported =
       uses_ind uses acyclic (λ i. import_steps (uses ++ rows) exported i ≡ import_steps uses exported i)
       (λ i here below.
-      let old : ℕ → List ℕ = λ j. cond (exported j) (import_steps uses exported j) (walk uses j) in
-      let new : ℕ → List ℕ = λ j. cond (exported j) (import_steps (uses ++ rows) exported j) (walk (uses ++ rows) j) in
+      let old : ℕ → List ℕ = λ j. cond (exported j) (import_steps uses exported j) (post_order uses j) in
+      let new : ℕ → List ℕ = λ j. cond (exported j) (import_steps (uses ++ rows) exported j) (post_order (uses ++ rows) j) in
       steps_are (uses ++ rows) wider exported i (below-left uses rows i here)
       ∙ ap (λ ks. flat_map new ks) (direct-left uses rows i here)
-      ∙ flat_map-same new old (direct uses i) (λ j among. rw (below j among, walk-left rows wider j (used_below i j among)) refl)
+      ∙ flat_map-same new old (direct uses i) (λ j among. rw (below j among, post_order-left rows wider j (used_below i j among)) refl)
       ∙ sym (steps_are uses acyclic exported i here))
 
 -- the uses of exported interfaces alone
@@ -67,9 +67,9 @@ module _ (exported : ℕ → Bool) where
   uses_parted uses rows = map-append (filter exported) uses rows
 
   pub exported_needs-left : (uses : List (List ℕ)) → IsAcyclic uses → (rows : List (List ℕ)) → IsAcyclic (uses ++ rows) → (role : Role) → IsRoleInRange (length uses) role →
-      needs (exported_uses exported (uses ++ rows)) role ≡ needs (exported_uses exported uses) role
+      dependencies_before (exported_uses exported (uses ++ rows)) role ≡ dependencies_before (exported_uses exported uses) role
   exported_needs-left uses acyclic rows wider role inside =
       let inner : IsAcyclic (exported_uses exported uses ++ exported_uses exported rows) = subst IsAcyclic (uses_parted uses rows) (among-acyclic exported (uses ++ rows) wider) in
-      ap (λ (us : List (List ℕ)). needs us role) (uses_parted uses rows)
-      ∙ needs-left (exported_uses exported uses) (among-acyclic exported uses acyclic) (exported_uses exported rows) inner role
+      ap (λ (us : List (List ℕ)). dependencies_before us role) (uses_parted uses rows)
+      ∙ dependencies_before-left (exported_uses exported uses) (among-acyclic exported uses acyclic) (exported_uses exported rows) inner role
       (subst (λ n. IsRoleInRange n role) (sym (length-map uses (filter exported))) inside)

@@ -9,9 +9,9 @@ use Rattle.wit_data.specs.declared.world.WorldKey.TheVariants.{Interface}
 use Rattle.wit_digraph.specs.facts.FreshFacts.{any_from_contains, contains_from_any}
 use Rattle.wit_digraph.specs.facts.MemberFacts.{Contains-nil, Contains-here, Contains-there, Contains-cons_cases, Contains-flat_map, Contains-flat_map_cases}
 use Rattle.wit_digraph.specs.Relation.{IsAcyclic}
-use Rattle.wit_digraph.specs.Walks.{UsesFirst}
+use Rattle.wit_digraph.specs.PostOrder.{UsesFirst}
 use Rattle.wit_elaboration.specs.Entries.{Entry, Instance, role_of, item_interface, is_interface, keyed_interfaces, same_key, by_class, fresh_entries}
-use Rattle.wit_elaboration.specs.Elaborated.{Carried, dependency_of, needs, import_carries, export_carries, settled_item, import_walk, import_steps, export_imports, elaborated_imports, elaborated_exports}
+use Rattle.wit_elaboration.specs.Elaborated.{InheritedData, dependency_of, dependencies_before, inherited_by_import, inherited_by_export, without_span, import_with_needs, import_steps, export_imports, elaborated_imports, elaborated_exports}
 use Rattle.wit_elaboration.specs.laws.ElaborationLaws.{DependenciesFirst}
 use Rattle.wit_elaboration.specs.Imported.{HasConflict, exported_keys, is_exported}
 use Rattle.wit_elaboration.specs.Sound.{IsRoleInRange}
@@ -22,7 +22,7 @@ use Rattle.wit_elaboration.proofs.ExportsAgain.{functions, kept, made, exported_
 use Rattle.wit_elaboration.proofs.Filters.{Contains-filter}
 use Rattle.wit_elaboration.proofs.FreshEntries.{Contains-keys, Contains-deps, deps-Contains, known_from_contains, fresh_entries_in, fresh_entries_all, fresh_entries-append, fresh_entries-all_known, fresh_entries-AllNew}
 use Rattle.wit_elaboration.proofs.Order.{DependenciesFirst-append, DependenciesFirst-fresh, DependenciesFirst-map, entry_walks_first}
-use Rattle.wit_elaboration.proofs.Roles.{InOrder, instance_from_role, role_of-settled, settled_item-settled}
+use Rattle.wit_elaboration.proofs.Roles.{InOrder, instance_from_role, role_of-without_span, without_span-twice}
 use Rattle.wit_elaboration.proofs.Steps.{import_steps_first, import_steps_below, needs_below}
 
 -- the key of an entry is among the keys
@@ -46,7 +46,7 @@ module _ (types : List TypeDef) where
 
   module _ (uses : List (List ℕ)) (acyclic : IsAcyclic uses) (imports exports : List Entry) (listed : InOrder types (length uses) imports exports) where
     abbrev pub from_imports : List Entry
-    from_imports = flat_map (import_walk types uses) (by_class types imports)
+    from_imports = flat_map (import_with_needs types uses) (by_class types imports)
 
     abbrev pub from_exports : List Entry
     from_exports = flat_map (export_imports uses (is_exported exports)) exports
@@ -58,22 +58,22 @@ module _ (types : List TypeDef) where
     pub record IsFine (f : Entry) : Type 0 where
       pub own : (i : ℕ) → f.0 ≡ Interface i → (role_of types f.1) ≡ Instance i
       pub inside : IsRoleInRange (length uses) (role_of types f.1)
-      pub is_settled : settled_item f.1 ≡ f.1
+      pub is_settled : without_span f.1 ≡ f.1
 
-    dependency_fine : (s : Carried) (j : ℕ) → j < length uses → IsFine (dependency_of s j)
+    dependency_fine : (s : InheritedData) (j : ℕ) → j < length uses → IsFine (dependency_of s j)
     dependency_fine s j below = record { own = λ i is. ap (λ x. Instance x) (id_inj is); inside = below; is_settled = refl }
 
-    pub export_import : (e f : Entry) → Contains (export_imports uses (is_exported exports) e) f → (i : ℕ) × (j : ℕ) × (Contains (item_interface e.1) i) × (Contains (import_steps uses (is_exported exports) i) j) × (dependency_of (export_carries e.1) j ≡ f)
+    pub export_import : (e f : Entry) → Contains (export_imports uses (is_exported exports) e) f → (i : ℕ) × (j : ℕ) × (Contains (item_interface e.1) i) × (Contains (import_steps uses (is_exported exports) i) j) × (dependency_of (inherited_by_export e.1) j ≡ f)
     export_import e f has =
-        let part = Contains-flat_map_cases (λ i. map (dependency_of (export_carries e.1)) (import_steps uses (is_exported exports) i)) (item_interface e.1) f has in
-        let dep = Contains-deps (export_carries e.1) (import_steps uses (is_exported exports) part.0) f part.1.1 in
+        let part = Contains-flat_map_cases (λ i. map (dependency_of (inherited_by_export e.1)) (import_steps uses (is_exported exports) i)) (item_interface e.1) f has in
+        let dep = Contains-deps (inherited_by_export e.1) (import_steps uses (is_exported exports) part.0) f part.1.1 in
         (part.0, dep.0, part.1.0, dep.1.0, dep.1.1)
 
-    settled_fine : (e : Entry) → ((i : ℕ) → e.0 ≡ Interface i → role_of types e.1 ≡ Instance i) → IsRoleInRange (length uses) (role_of types e.1) → IsFine (e.0, settled_item e.1)
+    settled_fine : (e : Entry) → ((i : ℕ) → e.0 ≡ Interface i → role_of types e.1 ≡ Instance i) → IsRoleInRange (length uses) (role_of types e.1) → IsFine (e.0, without_span e.1)
     settled_fine e own inside = record {
-      own = λ i is. role_of-settled types e.1 ∙ own i is;
-      inside = subst (λ r. IsRoleInRange (length uses) r) (sym (role_of-settled types e.1)) inside;
-      is_settled = settled_item-settled e.1;
+      own = λ i is. role_of-without_span types e.1 ∙ own i is;
+      inside = subst (λ r. IsRoleInRange (length uses) r) (sym (role_of-without_span types e.1)) inside;
+      is_settled = without_span-twice e.1;
     }
 
     steps_below : (i j : ℕ) → Contains (import_steps uses (is_exported exports) i) j → j < length uses
@@ -88,12 +88,12 @@ module _ (types : List TypeDef) where
     import_fine f has =
         elim (Contains-append_cases from_imports from_exports f (fresh_entries_in [] (from_imports ++ from_exports) f has)) [
           | inl of_import ↦
-              let part = Contains-flat_map_cases (import_walk types uses) (by_class types imports) f of_import in
+              let part = Contains-flat_map_cases (import_with_needs types uses) (by_class types imports) f of_import in
               let root = by_class_in types imports part.0 part.1.0 in
-              elim (Contains-append_cases (map (dependency_of (import_carries types part.0.1)) (needs uses (role_of types part.0.1))) ((part.0.0, settled_item part.0.1) ∷ []) f part.1.1) [
-                | inl deps ↦ let dep = Contains-deps (import_carries types part.0.1) (needs uses (role_of types part.0.1)) f deps in
-                    subst IsFine dep.1.1 (dependency_fine (import_carries types part.0.1) dep.0 (needs_below uses acyclic (role_of types part.0.1) dep.0 (listed.imports_in_range part.0 root) dep.1.0))
-                | inr last ↦ elim (Contains-cons_cases (part.0.0, settled_item part.0.1) f [] last) [
+              elim (Contains-append_cases (map (dependency_of (inherited_by_import types part.0.1)) (dependencies_before uses (role_of types part.0.1))) ((part.0.0, without_span part.0.1) ∷ []) f part.1.1) [
+                | inl deps ↦ let dep = Contains-deps (inherited_by_import types part.0.1) (dependencies_before uses (role_of types part.0.1)) f deps in
+                    subst IsFine dep.1.1 (dependency_fine (inherited_by_import types part.0.1) dep.0 (needs_below uses acyclic (role_of types part.0.1) dep.0 (listed.imports_in_range part.0 root) dep.1.0))
+                | inr last ↦ elim (Contains-cons_cases (part.0.0, without_span part.0.1) f [] last) [
                   | inl same ↦ subst IsFine same (settled_fine part.0 (λ i. listed.own_imports part.0 i root) (listed.imports_in_range part.0 root))
                   | inr none ↦ absurd (Contains-nil none)
                 ]
@@ -101,21 +101,21 @@ module _ (types : List TypeDef) where
           | inr of_export ↦
               let part = Contains-flat_map_cases (export_imports uses (is_exported exports)) exports f of_export in
               let dep = export_import part.0 f part.1.1 in
-              subst IsFine dep.4 (dependency_fine (export_carries part.0.1) dep.1 (steps_below dep.0 dep.1 dep.3))
+              subst IsFine dep.4 (dependency_fine (inherited_by_export part.0.1) dep.1 (steps_below dep.0 dep.1 dep.3))
         ]
 
     all_imports_first : DependenciesFirst types uses [] all_imports
     all_imports_first =
         DependenciesFirst-fresh types uses (from_imports ++ from_exports) [] [] (λ j has. has)
         (DependenciesFirst-append types uses from_imports from_exports []
-        (entry_walks_first types uses acyclic (import_carries types) settled_item (role_of-settled types) (by_class types imports) [] (λ e has. listed.imports_in_range e (by_class_in types imports e has)))
+        (entry_walks_first types uses acyclic (inherited_by_import types) without_span (role_of-without_span types) (by_class types imports) [] (λ e has. listed.imports_in_range e (by_class_in types imports e has)))
         (DependenciesFirst-each uses (export_imports uses (is_exported exports)) exports (keyed_interfaces from_imports) (λ e has more.
-        DependenciesFirst-each uses (λ i. map (dependency_of (export_carries e.1)) (import_steps uses (is_exported exports) i)) (item_interface e.1) more (λ i among more'.
-        DependenciesFirst-map types uses (export_carries e.1) (import_steps uses (is_exported exports) i) more' (steps_first i more')))))
+        DependenciesFirst-each uses (λ i. map (dependency_of (inherited_by_export e.1)) (import_steps uses (is_exported exports) i)) (item_interface e.1) more (λ i among more'.
+        DependenciesFirst-map types uses (inherited_by_export e.1) (import_steps uses (is_exported exports) i) more' (steps_first i more')))))
 
-    imports_absorbed : fresh_entries [] (flat_map (import_walk types uses) (by_class types all_imports)) ≡ by_class types all_imports
+    imports_absorbed : fresh_entries [] (flat_map (import_with_needs types uses) (by_class types all_imports)) ≡ by_class types all_imports
     imports_absorbed =
-        absorbed types uses acyclic (import_carries types) settled_item (by_class types all_imports) [] (by_class-new types all_imports (fresh_entries-AllNew [] (from_imports ++ from_exports))).new
+        absorbed types uses acyclic (inherited_by_import types) without_span (by_class types all_imports) [] (by_class-new types all_imports (fresh_entries-AllNew [] (from_imports ++ from_exports))).new
         (DependenciesFirst-by_class types uses all_imports (λ f i has. (import_fine f has).own i) all_imports_first)
         tt (λ f i has. (import_fine f (by_class_in types all_imports f has)).own i) (λ f has. (import_fine f (by_class_in types all_imports f has)).inside) (λ f has. (import_fine f (by_class_in types all_imports f has)).is_settled)
 
@@ -139,10 +139,10 @@ module _ (types : List TypeDef) where
         let part = Contains-flat_map_cases (export_imports uses (is_exported exports)) (elaborated_exports types uses exports) f has in
         let dep = export_import part.0 f part.1.1 in
         let old = exported_before part.0 dep.0 part.1.0 dep.2 in
-        let g : Entry = dependency_of (export_carries old.0.1) dep.1 in
+        let g : Entry = dependency_of (inherited_by_export old.0.1) dep.1 in
         let inside : Contains from_exports g =
         Contains-flat_map (export_imports uses (is_exported exports)) exports old.0 g old.1.0
-        (Contains-flat_map (λ i. map (dependency_of (export_carries old.0.1)) (import_steps uses (is_exported exports) i)) (item_interface old.0.1) dep.0 g old.1.1 (deps-Contains (export_carries old.0.1) (import_steps uses (is_exported exports) dep.0) dep.1 dep.3)) in
+        (Contains-flat_map (λ i. map (dependency_of (inherited_by_export old.0.1)) (import_steps uses (is_exported exports) i)) (item_interface old.0.1) dep.0 g old.1.1 (deps-Contains (inherited_by_export old.0.1) (import_steps uses (is_exported exports) dep.0) dep.1 dep.3)) in
         let there : Contains (keys_of (by_class types all_imports)) g.0 = made_known (from_imports ++ from_exports) (by_class types all_imports) (in_by_class types all_imports) g (Contains-append_right from_imports from_exports g inside) in
         known_from_contains f.0 (keys_of (by_class types all_imports)) (subst (λ k. Contains (keys_of (by_class types all_imports)) k) (ap (λ (z : Entry). z.0) dep.4) there)
 
@@ -150,11 +150,11 @@ module _ (types : List TypeDef) where
     imports_again =
         let rest : List Entry = flat_map (export_imports uses (is_exported exports)) (elaborated_exports types uses exports) in
         let nothing : fresh_entries (keys_of (by_class types all_imports)) rest ≡ [] = (ap (λ xs. fresh_entries (keys_of (by_class types all_imports)) xs) (sym (append-nil rest))) ∙ fresh_entries-all_known (keys_of (by_class types all_imports)) rest [] exports_known in
-        let joined : fresh_entries [] (flat_map (import_walk types uses) (by_class types all_imports) ++ rest) ≡ by_class types all_imports =
-        fresh_entries-append [] (flat_map (import_walk types uses) (by_class types all_imports)) rest ∙ rw (imports_absorbed, nothing) (append-nil (by_class types all_imports)) in
+        let joined : fresh_entries [] (flat_map (import_with_needs types uses) (by_class types all_imports) ++ rest) ≡ by_class types all_imports =
+        fresh_entries-append [] (flat_map (import_with_needs types uses) (by_class types all_imports)) rest ∙ rw (imports_absorbed, nothing) (append-nil (by_class types all_imports)) in
         let kept : List Entry = elaborated_exports types uses exports in
-        ap (λ (t : ℕ → Bool). by_class types (fresh_entries [] (flat_map (import_walk types uses) (by_class types (by_class types all_imports)) ++ flat_map (export_imports uses t) kept))) (test_same types uses acyclic imports exports listed)
-        ∙ ap (λ (es : List Entry). by_class types (fresh_entries [] (flat_map (import_walk types uses) es ++ rest))) (by_class-by_class types all_imports)
+        ap (λ (t : ℕ → Bool). by_class types (fresh_entries [] (flat_map (import_with_needs types uses) (by_class types (by_class types all_imports)) ++ flat_map (export_imports uses t) kept))) (test_same types uses acyclic imports exports listed)
+        ∙ ap (λ (es : List Entry). by_class types (fresh_entries [] (flat_map (import_with_needs types uses) es ++ rest))) (by_class-by_class types all_imports)
         ∙ ap (by_class types) joined
         ∙ by_class-by_class types all_imports
 

@@ -9,16 +9,16 @@ use Rattle.wit_data.specs.declared.world.World.{World}
 use Rattle.wit_data.specs.declared.world.WorldKey.{WorldKey}
 use Rattle.wit_digraph.specs.facts.MemberFacts.{Contains-nil, Contains-cons_cases, Contains-flat_map_cases, flat_map-same}
 use Rattle.wit_digraph.specs.Relation.{IsAcyclic}
-use Rattle.wit_elaboration.specs.Entries.{Entry, role_of, same_key, class_of, of_class, by_class, fresh_entries}
-use Rattle.wit_elaboration.specs.Elaborated.{dependency_of, needs, import_carries, import_walk, export_imports, elaborated_imports}
+use Rattle.wit_elaboration.specs.Entries.{Entry, role_of, same_key, elaboration_class, of_class, by_class, fresh_entries}
+use Rattle.wit_elaboration.specs.Elaborated.{dependency_of, dependencies_before, inherited_by_import, import_with_needs, export_imports, elaborated_imports}
 use Rattle.wit_elaboration.specs.Imported.{is_exported}
-use Rattle.wit_elaboration.specs.laws.KeptByElaboration.{LabelsStay, is_label, labelled, settled}
+use Rattle.wit_elaboration.specs.laws.KeptByElaboration.{LabelsStay, is_label, labelled, listed_without_span}
 use Rattle.wit_elaboration.proofs.Classes.{by_class-new, by_class-by_class}
 use Rattle.wit_elaboration.proofs.ElaboratedKeys.{distinct-AllNew}
 use Rattle.wit_elaboration.proofs.Filters.{filter-pass, filter-fail, filter-none, filter-flat_map}
 use Rattle.wit_elaboration.proofs.FreshEntries.{AllNew, AllNew-filter, Contains-deps, known_from_contains, contains_from_known, fresh_entries-known, fresh_entries-new, fresh_entries-all_new}
 use Rattle.wit_elaboration.proofs.ImportsAgain.{from_imports, from_exports, export_import}
-use Rattle.wit_elaboration.proofs.Roles.{InOrder, in_order, role_of-settled}
+use Rattle.wit_elaboration.proofs.Roles.{InOrder, in_order, role_of-without_span}
 
 abbrev has_label : Entry → Bool
 has_label e = is_label e.0
@@ -81,16 +81,16 @@ fresh_labels (e ∷ es) seen less same =
     ]
 
 -- settled entries keep their keys
-settled_new : (es : List Entry) (seen : List WorldKey) → AllNew seen es → AllNew seen (map settled es)
+settled_new : (es : List Entry) (seen : List WorldKey) → AllNew seen es → AllNew seen (map listed_without_span es)
 settled_new [] seen new = tt
 settled_new (e ∷ es) seen new = (new.0, settled_new es (seen ++ e.0 ∷ []) new.1)
 
-settled_labels : (es : List Entry) → flat_map (λ e. filter has_label (settled e ∷ [])) es ≡ map settled (labelled es)
+settled_labels : (es : List Entry) → flat_map (λ e. filter has_label (listed_without_span e ∷ [])) es ≡ map listed_without_span (labelled es)
 settled_labels [] = refl
 settled_labels (e ∷ es) =
     elim (cases_Bool (is_label e.0)) [
-      | inl label ↦ rw (filter-pass has_label e es label, filter-pass has_label (settled e) [] label) (ap (λ xs. settled e ∷ xs) (settled_labels es))
-      | inr other ↦ rw (filter-fail has_label e es other, filter-fail has_label (settled e) [] other) (settled_labels es)
+      | inl label ↦ rw (filter-pass has_label e es label, filter-pass has_label (listed_without_span e) [] label) (ap (λ xs. listed_without_span e ∷ xs) (settled_labels es))
+      | inr other ↦ rw (filter-fail has_label e es other, filter-fail has_label (listed_without_span e) [] other) (settled_labels es)
     ]
 
 module _ (types : List TypeDef) where
@@ -100,33 +100,33 @@ module _ (types : List TypeDef) where
   class_labels es =
       filter-flat_map has_label (λ c. of_class types c es) (0 ∷ 1 ∷ 2 ∷ 3 ∷ 4 ∷ [])
       ∙ flat_map-same (λ c. labelled (of_class types c es)) (λ c. of_class types c (labelled es)) (0 ∷ 1 ∷ 2 ∷ 3 ∷ 4 ∷ [])
-      (λ c among. filter-filter has_label (λ (e : Entry). nat_eq (class_of (role_of types e.1)) c) es)
+      (λ c among. filter-filter has_label (λ (e : Entry). nat_eq (elaboration_class (role_of types e.1)) c) es)
 
-  of_class-settled : (c : ℕ) (es : List Entry) → of_class types c (map settled es) ≡ map settled (of_class types c es)
-  of_class-settled c [] = refl
-  of_class-settled c (e ∷ es) =
-      let is_in : Entry → Bool = λ f. nat_eq (class_of (role_of types f.1)) c in
-      let same : is_in (settled e) ≡ is_in e = ap (λ r. nat_eq (class_of r) c) (role_of-settled types e.1) in
+  of_class-without_span : (c : ℕ) (es : List Entry) → of_class types c (map listed_without_span es) ≡ map listed_without_span (of_class types c es)
+  of_class-without_span c [] = refl
+  of_class-without_span c (e ∷ es) =
+      let is_in : Entry → Bool = λ f. nat_eq (elaboration_class (role_of types f.1)) c in
+      let same : is_in (listed_without_span e) ≡ is_in e = ap (λ r. nat_eq (elaboration_class r) c) (role_of-without_span types e.1) in
       elim (cases_Bool (is_in e)) [
-        | inl here ↦ rw (filter-pass is_in e es here, filter-pass is_in (settled e) (map settled es) (same ∙ here)) (ap (λ xs. settled e ∷ xs) (of_class-settled c es))
-        | inr other ↦ rw (filter-fail is_in e es other, filter-fail is_in (settled e) (map settled es) (same ∙ other)) (of_class-settled c es)
+        | inl here ↦ rw (filter-pass is_in e es here, filter-pass is_in (listed_without_span e) (map listed_without_span es) (same ∙ here)) (ap (λ xs. listed_without_span e ∷ xs) (of_class-without_span c es))
+        | inr other ↦ rw (filter-fail is_in e es other, filter-fail is_in (listed_without_span e) (map listed_without_span es) (same ∙ other)) (of_class-without_span c es)
       ]
 
-  classes_settled : (cs : List ℕ) (es : List Entry) → flat_map (λ c. of_class types c (map settled es)) cs ≡ map settled (flat_map (λ c. of_class types c es) cs)
+  classes_settled : (cs : List ℕ) (es : List Entry) → flat_map (λ c. of_class types c (map listed_without_span es)) cs ≡ map listed_without_span (flat_map (λ c. of_class types c es) cs)
   classes_settled [] es = refl
   classes_settled (c ∷ cs) es =
-      rw (of_class-settled c es, classes_settled cs es) (sym (map-append settled (of_class types c es) (flat_map (λ d. of_class types d es) cs)))
+      rw (of_class-without_span c es, classes_settled cs es) (sym (map-append listed_without_span (of_class types c es) (flat_map (λ d. of_class types d es) cs)))
 
-  by_class-settled : (es : List Entry) → by_class types (map settled es) ≡ map settled (by_class types es)
-  by_class-settled es = classes_settled (0 ∷ 1 ∷ 2 ∷ 3 ∷ 4 ∷ []) es
+  by_class-without_span : (es : List Entry) → by_class types (map listed_without_span es) ≡ map listed_without_span (by_class types es)
+  by_class-without_span es = classes_settled (0 ∷ 1 ∷ 2 ∷ 3 ∷ 4 ∷ []) es
 
   module _ (uses : List (List ℕ)) (acyclic : IsAcyclic uses) (imports exports : List Entry) (listed : InOrder types (length uses) imports exports) where
-    walk_labels : (e : Entry) → labelled (import_walk types uses e) ≡ filter has_label (settled e ∷ [])
+    walk_labels : (e : Entry) → labelled (import_with_needs types uses e) ≡ filter has_label (listed_without_span e ∷ [])
     walk_labels e =
-        let deps : List Entry = map (dependency_of (import_carries types e.1)) (needs uses (role_of types e.1)) in
-        filter-append has_label deps (settled e ∷ [])
-        ∙ ap (λ xs. xs ++ filter has_label (settled e ∷ [])) (filter-none has_label deps (λ f has.
-        let dep = Contains-deps (import_carries types e.1) (needs uses (role_of types e.1)) f has in subst (λ (z : Entry). is_label z.0 ≡ false) dep.1.1 refl))
+        let deps : List Entry = map (dependency_of (inherited_by_import types e.1)) (dependencies_before uses (role_of types e.1)) in
+        filter-append has_label deps (listed_without_span e ∷ [])
+        ∙ ap (λ xs. xs ++ filter has_label (listed_without_span e ∷ [])) (filter-none has_label deps (λ f has.
+        let dep = Contains-deps (inherited_by_import types e.1) (dependencies_before uses (role_of types e.1)) f has in subst (λ (z : Entry). is_label z.0 ≡ false) dep.1.1 refl))
 
     abbrev first : List Entry
     first = from_imports types uses acyclic imports exports listed
@@ -134,10 +134,10 @@ module _ (types : List TypeDef) where
     abbrev second : List Entry
     second = from_exports types uses acyclic imports exports listed
 
-    first_labels : labelled first ≡ map settled (labelled (by_class types imports))
+    first_labels : labelled first ≡ map listed_without_span (labelled (by_class types imports))
     first_labels =
-        filter-flat_map has_label (import_walk types uses) (by_class types imports)
-        ∙ flat_map-same (λ e. labelled (import_walk types uses e)) (λ e. filter has_label (settled e ∷ [])) (by_class types imports) (λ e has. walk_labels e)
+        filter-flat_map has_label (import_with_needs types uses) (by_class types imports)
+        ∙ flat_map-same (λ e. labelled (import_with_needs types uses e)) (λ e. filter has_label (listed_without_span e ∷ [])) (by_class types imports) (λ e has. walk_labels e)
         ∙ settled_labels (by_class types imports)
 
     second_labels : labelled second ≡ []
@@ -146,17 +146,17 @@ module _ (types : List TypeDef) where
         let dep = export_import types uses acyclic imports exports listed part.0 f part.1.1 in
         subst (λ (z : Entry). is_label z.0 ≡ false) dep.4 refl)
 
-    all_labels : labelled (first ++ second) ≡ map settled (labelled (by_class types imports))
-    all_labels = filter-append has_label first second ∙ rw (first_labels, second_labels) (append-nil (map settled (labelled (by_class types imports))))
+    all_labels : labelled (first ++ second) ≡ map listed_without_span (labelled (by_class types imports))
+    all_labels = filter-append has_label first second ∙ rw (first_labels, second_labels) (append-nil (map listed_without_span (labelled (by_class types imports))))
 
-    import_labels : AllNew [] imports → labelled (by_class types (fresh_entries [] (first ++ second))) ≡ map settled (labelled (by_class types imports))
+    import_labels : AllNew [] imports → labelled (by_class types (fresh_entries [] (first ++ second))) ≡ map listed_without_span (labelled (by_class types imports))
     import_labels new =
         let kept : List Entry = labelled (by_class types imports) in
-        let kept_new : AllNew [] (map settled kept) = settled_new kept [] (AllNew-filter has_label (by_class types imports) [] [] (λ k had. had) (by_class-new types imports new).new) in
+        let kept_new : AllNew [] (map listed_without_span kept) = settled_new kept [] (AllNew-filter has_label (by_class types imports) [] [] (λ k had. had) (by_class-new types imports new).new) in
         class_labels (fresh_entries [] (first ++ second))
-        ∙ ap (by_class types) (fresh_labels (first ++ second) [] [] (λ k is. (λ has. has, λ has. has)) ∙ ap (fresh_entries []) all_labels ∙ fresh_entries-all_new [] (map settled kept) kept_new)
-        ∙ by_class-settled kept
-        ∙ ap (map settled) (sym (class_labels (by_class types imports)) ∙ ap labelled (by_class-by_class types imports))
+        ∙ ap (by_class types) (fresh_labels (first ++ second) [] [] (λ k is. (λ has. has, λ has. has)) ∙ ap (fresh_entries []) all_labels ∙ fresh_entries-all_new [] (map listed_without_span kept) kept_new)
+        ∙ by_class-without_span kept
+        ∙ ap (map listed_without_span) (sym (class_labels (by_class types imports)) ∙ ap labelled (by_class-by_class types imports))
 
 pub labels_stay : LabelsStay
 labels_stay types uses old new acyclic listed distinct is =

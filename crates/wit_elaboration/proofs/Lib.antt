@@ -1,11 +1,19 @@
 pub mod Absorbed
+pub mod AllWorlds
 pub mod Classes
+pub mod Closing
+pub mod ColumnFacts
+mod CompleteWorlds
 pub mod ConflictIs
+pub mod Counting
+mod EachLemmas
 pub mod ElaboratedIs
+pub mod ElaboratedKeys
 pub mod Exact
+mod Examples
 pub mod ExportSteps
-pub mod Exporting
 pub mod ExportedUses
+pub mod Exporting
 pub mod ExportsAgain
 pub mod Filters
 pub mod FirstClasses
@@ -15,31 +23,23 @@ pub mod GrowingElaboration
 pub mod GrowingUses
 pub mod Importing
 pub mod ImportsAgain
+pub mod JoinedRows
 pub mod Keys
-pub mod WorldExamples
-pub mod WorldLaws
-pub mod MadeEntries
-pub mod ElaboratedKeys
 pub mod Labels
 pub mod LeastImports
 pub mod ListedAgain
+pub mod MadeEntries
 pub mod Marking
+pub mod MayConflict
 pub mod OneWalk
 pub mod Order
+pub mod PassMarks
+mod QueryExamples
+pub mod ReachedColumns
 pub mod RefusedKeys
 pub mod Refusing
 pub mod Roles
-pub mod Steps
-mod EachLemmas
-mod Examples
-mod QuestionExamples
-pub mod ReachedColumns
-pub mod JoinedRows
-pub mod Closing
-pub mod Counting
-pub mod ColumnFacts
-pub mod PassMarks
-pub mod MayConflict
-pub mod AllWorlds
 mod SortedClasses
-mod CompleteWorlds
+pub mod Steps
+pub mod WorldExamples
+pub mod WorldLaws

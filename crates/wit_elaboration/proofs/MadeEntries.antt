@@ -6,13 +6,13 @@ use Rattle.wit_data.specs.declared.types.TypeDef.{TypeDef}
 use Rattle.wit_data.specs.declared.world.World.{World}
 use Rattle.wit_digraph.specs.facts.FreshFacts.{contains_from_any}
 use Rattle.wit_digraph.specs.facts.MemberFacts.{Contains-nil, Contains-here, Contains-cons_cases, Contains-flat_map, Contains-flat_map_cases}
-use Rattle.wit_digraph.specs.facts.WalkFacts.{Reaches-from_walk}
+use Rattle.wit_digraph.specs.facts.PostOrderFacts.{Reaches-from_post_order}
 use Rattle.wit_digraph.specs.Relation.{direct, IsPath, IsAcyclic}
-use Rattle.wit_digraph.specs.Walks.{walk}
+use Rattle.wit_digraph.specs.PostOrder.{post_order}
 use Rattle.wit_elaboration.specs.Entries.{Entry, Role, Instance, TypeUse, TypeDefinition, FreeFunction, ResourceFunction, role_of, is_interface, key_interface, by_class}
-use Rattle.wit_elaboration.specs.Elaborated.{dependency_of, needs, import_carries, export_carries, settled_item, import_walk, import_steps_within, import_steps, export_imports, elaborated_imports, elaborated_exports}
+use Rattle.wit_elaboration.specs.Elaborated.{dependency_of, dependencies_before, inherited_by_import, inherited_by_export, without_span, import_with_needs, import_steps_within, import_steps, export_imports, elaborated_imports, elaborated_exports}
 use Rattle.wit_elaboration.specs.Imported.{IsImported, exported_keys, is_exported}
-use Rattle.wit_elaboration.specs.laws.KeptByElaboration.{ElaboratedEntries, IsSettled, IsMadeImport, IsMadeExport}
+use Rattle.wit_elaboration.specs.laws.KeptByElaboration.{ElaboratedEntries, IsListedWithoutSpan, IsMadeImport, IsMadeExport}
 use Rattle.wit_elaboration.specs.Sound.{IsRoleInRange}
 use Rattle.wit_elaboration.proofs.Classes.{by_class_in}
 use Rattle.wit_elaboration.proofs.Exact.{exact_to}
@@ -36,16 +36,16 @@ module _ (uses : List (List ℕ)) (acyclic : IsAcyclic uses) where
   path_end i (k ∷ path) j leads = elim (path_end k path j leads.1)
       [ inl same ↦ inr (i, subst (λ m. Contains (direct uses i) m) same leads.0) | inr used ↦ inr used ]
 
-  walk_end : (i j : ℕ) → i < length uses → Contains (walk uses i) j → (i ≡ j) ⊎ HasUser uses j
-  walk_end i j here has = let path = Reaches-from_walk uses acyclic i here j has in path_end i path.0 j path.1
+  walk_end : (i j : ℕ) → i < length uses → Contains (post_order uses i) j → (i ≡ j) ⊎ HasUser uses j
+  walk_end i j here has = let path = Reaches-from_post_order uses acyclic i here j has in path_end i path.0 j path.1
 
-  use_walked : (i k j : ℕ) → Contains (direct uses i) k → Contains (walk uses k) j → HasUser uses j
+  use_walked : (i k j : ℕ) → Contains (direct uses i) k → Contains (post_order uses k) j → HasUser uses j
   use_walked i k j among has = elim (walk_end k j (below i k among) has)
       [ inl same ↦ (i, subst (λ m. Contains (direct uses i) m) same among) | inr used ↦ used ]
 
-  needs_used : (role : Role) (j : ℕ) → IsRoleInRange (length uses) role → Contains (needs uses role) j → HasUser uses j ⊎ (role ≡ TypeUse j)
+  needs_used : (role : Role) (j : ℕ) → IsRoleInRange (length uses) role → Contains (dependencies_before uses role) j → HasUser uses j ⊎ (role ≡ TypeUse j)
   needs_used (Instance i) j inside has =
-      let part = Contains-flat_map_cases (walk uses) (direct uses i) j has in
+      let part = Contains-flat_map_cases (post_order uses) (direct uses i) j has in
       inl (use_walked i part.0 j part.1.0 part.1.1)
   needs_used (TypeUse i) j inside has = elim (walk_end i j inside has) [ inl same ↦ inr (ap (λ x. TypeUse x) same) | inr used ↦ inl used ]
   needs_used TypeDefinition j inside has = absurd (Contains-nil has)
@@ -56,8 +56,8 @@ module _ (uses : List (List ℕ)) (acyclic : IsAcyclic uses) where
   unfolding import_steps_within
   steps_used exported zero i j has = absurd (Contains-nil has)
   steps_used exported (suc members) i j has =
-      let part = Contains-flat_map_cases (λ k. cond (exported k) (import_steps_within uses exported members k) (walk uses k)) (direct uses i) j has in
-      cond_both (exported part.0) (import_steps_within uses exported members part.0) (walk uses part.0) (λ xs. Contains xs j → HasUser uses j)
+      let part = Contains-flat_map_cases (λ k. cond (exported k) (import_steps_within uses exported members k) (post_order uses k)) (direct uses i) j has in
+      cond_both (exported part.0) (import_steps_within uses exported members part.0) (post_order uses part.0) (λ xs. Contains xs j → HasUser uses j)
       (λ on there. steps_used exported members part.0 j there)
       (λ off there. use_walked i part.0 j part.1.0 there)
       part.1.1
@@ -73,31 +73,31 @@ module _ (types : List TypeDef) (uses : List (List ℕ)) (acyclic : IsAcyclic us
   is_imported : (e : Entry) (j : ℕ) → Contains elaborated e → Contains (key_interface e.0) j → IsImported types uses imports exports j
   is_imported e j has key = exact_to types uses acyclic imports exports listed j (Contains-flat_map (λ (f : Entry). key_interface f.0) elaborated e j has key)
 
-  import_is : (e : Entry) → Contains elaborated e → IsSettled imports e ⊎ IsMadeImport types uses imports exports e
+  import_is : (e : Entry) → Contains elaborated e → IsListedWithoutSpan imports e ⊎ IsMadeImport types uses imports exports e
   import_is e has =
       let first : List Entry = from_imports types uses acyclic imports exports listed in
       let second : List Entry = from_exports types uses acyclic imports exports listed in
       elim (Contains-append_cases first second e (fresh_entries_in [] (first ++ second) e (by_class_in types _ e has))) [
         | inl of_import ↦
-            let part = Contains-flat_map_cases (import_walk types uses) (by_class types imports) e of_import in
+            let part = Contains-flat_map_cases (import_with_needs types uses) (by_class types imports) e of_import in
             let root = by_class_in types imports part.0 part.1.0 in
-            elim (Contains-append_cases (map (dependency_of (import_carries types part.0.1)) (needs uses (role_of types part.0.1))) ((part.0.0, settled_item part.0.1) ∷ []) e part.1.1) [
+            elim (Contains-append_cases (map (dependency_of (inherited_by_import types part.0.1)) (dependencies_before uses (role_of types part.0.1))) ((part.0.0, without_span part.0.1) ∷ []) e part.1.1) [
               | inl deps ↦
-                  let dep = Contains-deps (import_carries types part.0.1) (needs uses (role_of types part.0.1)) e deps in
+                  let dep = Contains-deps (inherited_by_import types part.0.1) (dependencies_before uses (role_of types part.0.1)) e deps in
                   inr (
-                    import_carries types part.0.1,
+                    inherited_by_import types part.0.1,
                     dep.0,
                     sym dep.1.1,
                     elim (needs_used uses acyclic (role_of types part.0.1) dep.0 (listed.imports_in_range part.0 root) dep.1.0) [ inl used ↦ inl used | inr role ↦ inr (part.0, root, role) ],
                     is_imported e dep.0 has (subst (λ (z : Entry). Contains (key_interface z.0) dep.0) dep.1.1 (Contains-here dep.0 [])),
                   )
-              | inr last ↦ elim (Contains-cons_cases (part.0.0, settled_item part.0.1) e [] last) [ inl same ↦ inl (part.0, root, sym same) | inr none ↦ absurd (Contains-nil none) ]
+              | inr last ↦ elim (Contains-cons_cases (part.0.0, without_span part.0.1) e [] last) [ inl same ↦ inl (part.0, root, sym same) | inr none ↦ absurd (Contains-nil none) ]
             ]
         | inr of_export ↦
             let part = Contains-flat_map_cases (export_imports uses (is_exported exports)) exports e of_export in
             let dep = export_import types uses acyclic imports exports listed part.0 e part.1.1 in
             inr (
-              export_carries part.0.1,
+              inherited_by_export part.0.1,
               dep.1,
               sym dep.4,
               inl (all_steps_used uses acyclic (is_exported exports) dep.0 dep.1 dep.3),

@@ -3,8 +3,8 @@ use Rattle.std.proofs.Common.{◌≡◌, ◌<◌, ℕ, inl, inr, List, [], ◌�
 use Rattle.std.proofs.lemmas.List.Elements.{All-contains}
 use Rattle.wit_digraph.specs.facts.MemberFacts.{Contains-nil, Contains-cons_cases, Contains-flat_map_cases}
 use Rattle.wit_digraph.specs.Relation.{direct, IsAcyclic}
-use Rattle.wit_elaboration.specs.steps.Closures.{HasColumnsOf, MayNeed, RowsTell, column}
-use Rattle.wit_elaboration.specs.steps.Elaborating.{TellsExported}
+use Rattle.wit_elaboration.specs.steps.Closures.{AreRowsOfAll, HasColumnsOf, MayNeed, column}
+use Rattle.wit_elaboration.specs.steps.Elaborating.{IsExportedList}
 use Rattle.wit_elaboration.specs.Entries.{Entry, item_interface}
 use Rattle.wit_elaboration.specs.Imported.{HasConflict}
 
@@ -24,7 +24,7 @@ module _ (uses rows : List (List ℕ)) (exported columns : List ℕ) (e : Entry)
   need_none gives need = Contains-nil (subst (λ xs. Contains xs need.0) (sym gives) need.1)
 
 -- where no entry may need any, there is no conflict
-pub none_needed : (uses rows : List (List ℕ)) → IsAcyclic uses → (exports : List Entry) (exported columns : List ℕ) → RowsTell uses rows → TellsExported exported exports → HasColumnsOf exported columns →
+pub none_needed : (uses rows : List (List ℕ)) → IsAcyclic uses → (exports : List Entry) (exported columns : List ℕ) → AreRowsOfAll uses rows → IsExportedList exported exports → HasColumnsOf exported columns →
     ((e : Entry) → Contains exports e → EntryMayNeed uses rows exported columns e → ⊥) → HasConflict uses exports → ⊥
 none_needed uses rows acyclic exports exported columns told tells has none conflict =
     let need = conflict.1 in

@@ -6,10 +6,10 @@ use Rattle.std.proofs.lemmas.Bool.{cases_Bool, false≢true, cond-true, cond-fal
 use Rattle.std.proofs.lemmas.List.Elements.{All-contains, filter-append}
 use Rattle.wit_digraph.specs.facts.FreshFacts.{any_from_contains, contains_from_any}
 use Rattle.wit_digraph.specs.facts.MemberFacts.{flat_map-same}
-use Rattle.wit_digraph.specs.facts.WalkFacts.{uses_ind, walk_is, Reaches-from_walk}
+use Rattle.wit_digraph.specs.facts.PostOrderFacts.{uses_ind, post_order_is, Reaches-from_post_order}
 use Rattle.wit_digraph.specs.Relation.{direct, IsAcyclic}
-use Rattle.wit_digraph.specs.Walks.{walk}
-use Rattle.wit_elaboration.specs.Elaborated.{needs, import_steps, exported_uses}
+use Rattle.wit_digraph.specs.PostOrder.{post_order}
+use Rattle.wit_elaboration.specs.Elaborated.{dependencies_before, import_steps, exported_uses}
 use Rattle.wit_elaboration.specs.Entries.{Entry, Instance}
 use Rattle.wit_elaboration.specs.Imported.{HasConflict, is_exported, exported_keys, exported_interfaces}
 use Rattle.wit_elaboration.proofs.ExportedUses.{among-acyclic, direct-among}
@@ -25,41 +25,41 @@ module _ (uses : List (List ℕ)) (acyclic : IsAcyclic uses) (exports : List Ent
   exported_is j on = own j (contains_from_any j (exported_keys exports) on)
 
   -- beyond a use that is not exported nothing is
-  beyond : (i j m : ℕ) → Contains (exported_interfaces exports) i → Contains (direct uses i) j → E j ≡ false → Contains (walk uses j) m → E m ≡ false
+  beyond : (i j m : ℕ) → Contains (exported_interfaces exports) i → Contains (direct uses i) j → E j ≡ false → Contains (post_order uses j) m → E m ≡ false
   beyond i j m exported among off has =
       let inside = All-contains (λ x. x < length uses) (direct uses i) j (acyclic.in_range i) among in
-      false_from_ne_true (E m) (λ on. no_conflict (m, (i, j, exported, among, λ key. false≢true (sym off ∙ any_from_contains j (exported_keys exports) key), Reaches-from_walk uses acyclic j inside m has), contains_from_any m (exported_keys exports) on))
+      false_from_ne_true (E m) (λ on. no_conflict (m, (i, j, exported, among, λ key. false≢true (sym off ∙ any_from_contains j (exported_keys exports) key), Reaches-from_post_order uses acyclic j inside m has), contains_from_any m (exported_keys exports) on))
 
-  pub imports_of_walk : (i : ℕ) → i < length uses → Contains (exported_interfaces exports) i → import_steps uses E i ≡ filter (λ j. not (E j)) (needs uses (Instance i))
+  pub imports_of_walk : (i : ℕ) → i < length uses → Contains (exported_interfaces exports) i → import_steps uses E i ≡ filter (λ j. not (E j)) (dependencies_before uses (Instance i))
   imports_of_walk =
-      uses_ind uses acyclic (λ i. Contains (exported_interfaces exports) i → import_steps uses E i ≡ filter (λ j. not (E j)) (needs uses (Instance i)))
+      uses_ind uses acyclic (λ i. Contains (exported_interfaces exports) i → import_steps uses E i ≡ filter (λ j. not (E j)) (dependencies_before uses (Instance i)))
       (λ i here below exported.
       steps_are uses acyclic E i here
-      ∙ flat_map-same (λ j. cond (E j) (import_steps uses E j) (walk uses j)) (λ j. filter (λ k. not (E k)) (walk uses j)) (direct uses i) (λ j among.
+      ∙ flat_map-same (λ j. cond (E j) (import_steps uses E j) (post_order uses j)) (λ j. filter (λ k. not (E k)) (post_order uses j)) (direct uses i) (λ j among.
       let inside = All-contains (λ x. x < length uses) (direct uses i) j (acyclic.in_range i) among in
       elim (cases_Bool (E j)) [
         | inl on ↦
-            rw (cond-true (E j) (import_steps uses E j) (walk uses j) on, walk_is uses acyclic j inside, filter-append (λ k. not (E k)) (needs uses (Instance j)) (j ∷ []), filter-fail (λ k. not (E k)) j [] (ap not on), append-nil)
+            rw (cond-true (E j) (import_steps uses E j) (post_order uses j) on, post_order_is uses acyclic j inside, filter-append (λ k. not (E k)) (dependencies_before uses (Instance j)) (j ∷ []), filter-fail (λ k. not (E k)) j [] (ap not on), append-nil)
             (below j among (exported_is j on))
         | inr off ↦
-            rw (cond-false (E j) (import_steps uses E j) (walk uses j) off)
-            (sym (filter-all (λ k. not (E k)) (walk uses j) (λ m has. ap not (beyond i j m exported among off has))))
+            rw (cond-false (E j) (import_steps uses E j) (post_order uses j) off)
+            (sym (filter-all (λ k. not (E k)) (post_order uses j) (λ m has. ap not (beyond i j m exported among off has))))
       ])
-      ∙ sym (filter-flat_map (λ k. not (E k)) (walk uses) (direct uses i)))
+      ∙ sym (filter-flat_map (λ k. not (E k)) (post_order uses) (direct uses i)))
 
-  pub exports_of_walk : (i : ℕ) → i < length uses → Contains (exported_interfaces exports) i → needs (exported_uses E uses) (Instance i) ≡ filter E (needs uses (Instance i))
+  pub exports_of_walk : (i : ℕ) → i < length uses → Contains (exported_interfaces exports) i → dependencies_before (exported_uses E uses) (Instance i) ≡ filter E (dependencies_before uses (Instance i))
   exports_of_walk =
-      uses_ind uses acyclic (λ i. Contains (exported_interfaces exports) i → needs (exported_uses E uses) (Instance i) ≡ filter E (needs uses (Instance i)))
+      uses_ind uses acyclic (λ i. Contains (exported_interfaces exports) i → dependencies_before (exported_uses E uses) (Instance i) ≡ filter E (dependencies_before uses (Instance i)))
       (λ i here below exported.
-      ap (λ js. flat_map (walk (exported_uses E uses)) js) (direct-among E uses i)
-      ∙ flat_map-filter E (walk (exported_uses E uses)) (direct uses i)
-      ∙ flat_map-same (λ j. cond (E j) (walk (exported_uses E uses) j) []) (λ j. filter E (walk uses j)) (direct uses i) (λ j among.
+      ap (λ js. flat_map (post_order (exported_uses E uses)) js) (direct-among E uses i)
+      ∙ flat_map-filter E (post_order (exported_uses E uses)) (direct uses i)
+      ∙ flat_map-same (λ j. cond (E j) (post_order (exported_uses E uses) j) []) (λ j. filter E (post_order uses j)) (direct uses i) (λ j among.
       let inside = All-contains (λ x. x < length uses) (direct uses i) j (acyclic.in_range i) among in
       elim (cases_Bool (E j)) [
         | inl on ↦
-            rw (cond-true (E j) (walk (exported_uses E uses) j) [] on, walk_is uses acyclic j inside, filter-append E (needs uses (Instance j)) (j ∷ []), filter-pass E j [] on, walk_is (exported_uses E uses) (among-acyclic E uses acyclic) j (omega (arith, inside, length-map uses (filter E))))
+            rw (cond-true (E j) (post_order (exported_uses E uses) j) [] on, post_order_is uses acyclic j inside, filter-append E (dependencies_before uses (Instance j)) (j ∷ []), filter-pass E j [] on, post_order_is (exported_uses E uses) (among-acyclic E uses acyclic) j (omega (arith, inside, length-map uses (filter E))))
             (ap (λ xs. xs ++ j ∷ []) (below j among (exported_is j on)))
         | inr off ↦
-            rw (cond-false (E j) (walk (exported_uses E uses) j) [] off) (sym (filter-none E (walk uses j) (λ m has. beyond i j m exported among off has)))
+            rw (cond-false (E j) (post_order (exported_uses E uses) j) [] off) (sym (filter-none E (post_order uses j) (λ m has. beyond i j m exported among off has)))
       ])
-      ∙ sym (filter-flat_map E (walk uses) (direct uses i)))
+      ∙ sym (filter-flat_map E (post_order uses) (direct uses i)))

@@ -10,11 +10,11 @@ use Rattle.wit_data.specs.declared.world.WorldItem.{WorldItem}
 use Rattle.wit_data.specs.declared.world.WorldKey.{WorldKey}
 use Rattle.wit_data.specs.declared.world.WorldKey.TheVariants.{Interface}
 use Rattle.wit_digraph.specs.facts.MemberFacts.{Contains-nil, Contains-here, Contains-there, Contains-cons_cases, Contains-flat_map}
-use Rattle.wit_digraph.specs.facts.WalkFacts.{UsesFirst-walk, UsesFirst-flat_map, Contains-walk_end}
+use Rattle.wit_digraph.specs.facts.PostOrderFacts.{UsesFirst-post_order, UsesFirst-flat_map, Contains-post_order_end}
 use Rattle.wit_digraph.specs.Relation.{direct, IsAcyclic}
-use Rattle.wit_digraph.specs.Walks.{UsesFirst, walk}
+use Rattle.wit_digraph.specs.PostOrder.{UsesFirst, post_order}
 use Rattle.wit_elaboration.specs.Entries.{Entry, Role, Instance, TypeUse, TypeDefinition, FreeFunction, ResourceFunction, role_of, same_key, key_interface, keyed_interfaces, fresh_entries}
-use Rattle.wit_elaboration.specs.Elaborated.{Carried, dependency_of, needs, entry_walk}
+use Rattle.wit_elaboration.specs.Elaborated.{InheritedData, dependency_of, dependencies_before, entry_post_order}
 use Rattle.wit_elaboration.specs.laws.ElaborationLaws.{stands_on, DependenciesFirst}
 use Rattle.wit_elaboration.specs.Sound.{IsRoleInRange}
 use Rattle.wit_elaboration.proofs.FreshEntries.{interfaces_of_keys, keyed_interfaces-map, contains_from_known, fresh_entries-known, fresh_entries-new}
@@ -28,46 +28,46 @@ module _ (types : List TypeDef) where
   DependenciesFirst-append uses [] ys seen first then = rw append-nil at then
   DependenciesFirst-append uses (e ∷ xs) ys seen first then = (first.0, DependenciesFirst-append uses xs ys (seen ++ key_interface e.0) first.1 (rw (append_assoc seen (key_interface e.0) (keyed_interfaces xs)) then))
 
-  pub DependenciesFirst-map : (uses : List (List ℕ)) (carried : Carried) (js seen : List ℕ) → UsesFirst uses seen js → DependenciesFirst types uses seen (map (dependency_of carried) js)
+  pub DependenciesFirst-map : (uses : List (List ℕ)) (carried : InheritedData) (js seen : List ℕ) → UsesFirst uses seen js → DependenciesFirst types uses seen (map (dependency_of carried) js)
   DependenciesFirst-map uses carried [] seen first = tt
   DependenciesFirst-map uses carried (j ∷ js) seen first = (first.0, DependenciesFirst-map uses carried js (seen ++ j ∷ []) first.1)
 
   module _ (uses : List (List ℕ)) (acyclic : IsAcyclic uses) where
-    each_first : (js seen : List ℕ) → ((j : ℕ) → Contains js j → j < length uses) → UsesFirst uses seen (flat_map (walk uses) js)
-    each_first js seen inside = UsesFirst-flat_map uses js seen (λ j among. UsesFirst-walk uses acyclic j (inside j among))
+    each_first : (js seen : List ℕ) → ((j : ℕ) → Contains js j → j < length uses) → UsesFirst uses seen (flat_map (post_order uses) js)
+    each_first js seen inside = UsesFirst-flat_map uses js seen (λ j among. UsesFirst-post_order uses acyclic j (inside j among))
 
     direct_in_range : (i j : ℕ) → Contains (direct uses i) j → j < length uses
     direct_in_range i j among = All-contains (λ x. x < length uses) (direct uses i) j (acyclic.in_range i) among
 
-    pub needs_first : (role : Role) (seen : List ℕ) → IsRoleInRange (length uses) role → UsesFirst uses seen (needs uses role)
+    pub needs_first : (role : Role) (seen : List ℕ) → IsRoleInRange (length uses) role → UsesFirst uses seen (dependencies_before uses role)
     needs_first (Instance i) seen inside = each_first (direct uses i) seen (direct_in_range i)
-    needs_first (TypeUse i) seen inside = UsesFirst-walk uses acyclic i inside seen
+    needs_first (TypeUse i) seen inside = UsesFirst-post_order uses acyclic i inside seen
     needs_first TypeDefinition seen inside = tt
     needs_first FreeFunction seen inside = tt
     needs_first ResourceFunction seen inside = tt
 
-    pub needs_hold : (role : Role) (j : ℕ) → IsRoleInRange (length uses) role → Contains (stands_on uses role) j → Contains (needs uses role) j
-    needs_hold (Instance i) j inside on = Contains-flat_map (walk uses) (direct uses i) j j on (Contains-walk_end uses acyclic j (direct_in_range i j on))
-    needs_hold (TypeUse i) j inside on = elim (Contains-cons_cases i j [] on) [ inl same ↦ subst (λ x. Contains (walk uses i) x) same (Contains-walk_end uses acyclic i inside) | inr none ↦ absurd (Contains-nil none) ]
+    pub needs_hold : (role : Role) (j : ℕ) → IsRoleInRange (length uses) role → Contains (stands_on uses role) j → Contains (dependencies_before uses role) j
+    needs_hold (Instance i) j inside on = Contains-flat_map (post_order uses) (direct uses i) j j on (Contains-post_order_end uses acyclic j (direct_in_range i j on))
+    needs_hold (TypeUse i) j inside on = elim (Contains-cons_cases i j [] on) [ inl same ↦ subst (λ x. Contains (post_order uses i) x) same (Contains-post_order_end uses acyclic i inside) | inr none ↦ absurd (Contains-nil none) ]
     needs_hold TypeDefinition j inside on = on
     needs_hold FreeFunction j inside on = on
     needs_hold ResourceFunction j inside on = on
 
-    pub entry_walk_first : (carries : WorldItem → Carried) (settle : WorldItem → WorldItem) → ((item : WorldItem) → role_of types (settle item) ≡ role_of types item) → (e : Entry) (seen : List ℕ) → IsRoleInRange (length uses) (role_of types e.1) → DependenciesFirst types uses seen (entry_walk types uses carries settle e)
+    pub entry_walk_first : (carries : WorldItem → InheritedData) (settle : WorldItem → WorldItem) → ((item : WorldItem) → role_of types (settle item) ≡ role_of types item) → (e : Entry) (seen : List ℕ) → IsRoleInRange (length uses) (role_of types e.1) → DependenciesFirst types uses seen (entry_post_order types uses carries settle e)
     entry_walk_first carries settle keeps e seen inside =
-        DependenciesFirst-append uses (map (dependency_of (carries e.1)) (needs uses (role_of types e.1))) ((e.0, settle e.1) ∷ []) seen (DependenciesFirst-map uses (carries e.1) (needs uses (role_of types e.1)) seen (needs_first (role_of types e.1) seen inside))
+        DependenciesFirst-append uses (map (dependency_of (carries e.1)) (dependencies_before uses (role_of types e.1))) ((e.0, settle e.1) ∷ []) seen (DependenciesFirst-map uses (carries e.1) (dependencies_before uses (role_of types e.1)) seen (needs_first (role_of types e.1) seen inside))
         ((
-          λ k d below. rw (keyed_interfaces-map (carries e.1) (needs uses (role_of types e.1)))
-              (Contains-append_right seen (needs uses (role_of types e.1)) _
+          λ k d below. rw (keyed_interfaces-map (carries e.1) (dependencies_before uses (role_of types e.1)))
+              (Contains-append_right seen (dependencies_before uses (role_of types e.1)) _
               (needs_hold (role_of types e.1) _ inside (All-contains (Contains (stands_on uses (role_of types e.1))) (stands_on uses (role_of types (settle e.1))) _ (rw (keeps e.1) (All-contains_itself (stands_on uses (role_of types e.1)))) (Contains-get_or (stands_on uses (role_of types (settle e.1))) k d below)))),
           tt,
         ))
 
-    pub entry_walks_first : (carries : WorldItem → Carried) (settle : WorldItem → WorldItem) → ((item : WorldItem) → role_of types (settle item) ≡ role_of types item) → (es : List Entry) (seen : List ℕ) → ((e : Entry) → Contains es e → IsRoleInRange (length uses) (role_of types e.1)) → DependenciesFirst types uses seen (flat_map (entry_walk types uses carries settle) es)
+    pub entry_walks_first : (carries : WorldItem → InheritedData) (settle : WorldItem → WorldItem) → ((item : WorldItem) → role_of types (settle item) ≡ role_of types item) → (es : List Entry) (seen : List ℕ) → ((e : Entry) → Contains es e → IsRoleInRange (length uses) (role_of types e.1)) → DependenciesFirst types uses seen (flat_map (entry_post_order types uses carries settle) es)
     entry_walks_first carries settle keeps [] seen inside = tt
     entry_walks_first carries settle keeps (e ∷ es) seen inside =
-        DependenciesFirst-append uses (entry_walk types uses carries settle e) (flat_map (entry_walk types uses carries settle) es) seen (entry_walk_first carries settle keeps e seen (inside e (Contains-here e es)))
-        (entry_walks_first carries settle keeps es (seen ++ keyed_interfaces (entry_walk types uses carries settle e)) (λ f has. inside f (Contains-there e f es has)))
+        DependenciesFirst-append uses (entry_post_order types uses carries settle e) (flat_map (entry_post_order types uses carries settle) es) seen (entry_walk_first carries settle keeps e seen (inside e (Contains-here e es)))
+        (entry_walks_first carries settle keeps es (seen ++ keyed_interfaces (entry_post_order types uses carries settle e)) (λ f has. inside f (Contains-there e f es has)))
 
   pub DependenciesFirst-fresh : (uses : List (List ℕ)) (es : List Entry) (before : List ℕ) (seen : List WorldKey) → ((j : ℕ) → Contains before j → Contains (interfaces_of_keys seen) j) → DependenciesFirst types uses before es → DependenciesFirst types uses (interfaces_of_keys seen) (fresh_entries seen es)
   DependenciesFirst-fresh uses [] before seen wider df = tt

@@ -11,7 +11,7 @@ use Rattle.wit_digraph.specs.facts.MemberFacts.{Contains-nil, Contains-cons_case
 use Rattle.wit_digraph.specs.Relation.{direct, IsPath, Reaches}
 use Rattle.wit_digraph.specs.steps.Rows.{bit_of, HasBit}
 use Rattle.wit_digraph.specs.facts.BitFacts.{bit_of-zero, no_bits}
-use Rattle.wit_elaboration.specs.steps.Closures.{column, ReachesColumn, RowTells}
+use Rattle.wit_elaboration.specs.steps.Closures.{column, ReachesColumn, IsRowOf}
 
 -- a row whose words are zeros up to its end
 pub cleared : (row : List ℕ) → ((k : ℕ) → k < length row → get_or row k 0 ≡ 0) → (i : ℕ) → bit_of row i ≡ 0
@@ -62,7 +62,7 @@ HasReached-start uses row i wide set others = record {
   );
 }
 
-pub HasReached-more : (uses : List (List ℕ)) (old from new : List ℕ) (i u : ℕ) (done : List ℕ) → HasReached uses old i done → RowTells uses from u → length new ≡ length old →
+pub HasReached-more : (uses : List (List ℕ)) (old from new : List ℕ) (i u : ℕ) (done : List ℕ) → HasReached uses old i done → IsRowOf uses from u → length new ≡ length old →
     EachIndex new (λ k. slice_index new k ≡ bit_or (slice_index old k) (slice_index from k)) → HasReached uses new i (done ++ u ∷ [])
 HasReached-more uses old from new i u done is told wide joined = record {
   width = wide ∙ is.width;
@@ -91,7 +91,7 @@ reached_parts : (uses : List (List ℕ)) (i c j : ℕ) (path : List ℕ) → IsP
 reached_parts uses i c j [] leads is = inl (ap column leads ∙ is)
 reached_parts uses i c j (k ∷ path) leads is = inr (k, leads.0, (j, (path, leads.1), is))
 
-pub HasReached-end : (uses : List (List ℕ)) (row : List ℕ) (i : ℕ) → HasReached uses row i (direct uses i) → RowTells uses row i
+pub HasReached-end : (uses : List (List ℕ)) (row : List ℕ) (i : ℕ) → HasReached uses row i (direct uses i) → IsRowOf uses row i
 HasReached-end uses row i is = record {
   width = is.width;
   exact = λ c. (
@@ -103,11 +103,11 @@ HasReached-end uses row i is = record {
 -- ---- what a row answers
 
 -- where a node's column isn't in the row, it isn't reached
-pub lacks_column : (uses : List (List ℕ)) (row : List ℕ) (i j : ℕ) → RowTells uses row i → (HasBit row (column j) → ⊥) → Reaches uses i j → ⊥
+pub lacks_column : (uses : List (List ℕ)) (row : List ℕ) (i j : ℕ) → IsRowOf uses row i → (HasBit row (column j) → ⊥) → Reaches uses i j → ⊥
 lacks_column uses row i j told off reached = off ((told.exact (column j)).1 (j, reached, refl))
 
 -- where nodes have columns of their own and it is, it is reached
-pub has_column : (uses : List (List ℕ)) (row : List ℕ) (i j : ℕ) → RowTells uses row i → length uses ≤ 1024 → ((k : ℕ) → Reaches uses i k → k < length uses) → j < length uses → HasBit row (column j) → Reaches uses i j
+pub has_column : (uses : List (List ℕ)) (row : List ℕ) (i j : ℕ) → IsRowOf uses row i → length uses ≤ 1024 → ((k : ℕ) → Reaches uses i k → k < length uses) → j < length uses → HasBit row (column j) → Reaches uses i j
 has_column uses row i j told few inside below on =
     let found = (told.exact (column j)).0 on in
     let there : found.0 < 1024 = omega (arith, inside found.0 found.1, few) in

@@ -7,12 +7,12 @@ use Rattle.std.proofs.lemmas.List.Folds.{list_any_at}
 use Rattle.wit_data.specs.declared.world.WorldKey.{WorldKey}
 use Rattle.wit_digraph.specs.facts.FreshFacts.{any_from_contains, contains_from_any, no_any_from}
 use Rattle.wit_digraph.specs.facts.MemberFacts.{Contains-nil, Contains-here, Contains-there, Contains-cons_cases}
-use Rattle.wit_digraph.specs.facts.WalkFacts.{Reaches-from_walk, walk-from_IsPath}
+use Rattle.wit_digraph.specs.facts.PostOrderFacts.{Reaches-from_post_order, post_order-from_IsPath}
 use Rattle.wit_digraph.specs.Relation.{direct, IsAcyclic}
-use Rattle.wit_digraph.specs.Walks.{walk}
+use Rattle.wit_digraph.specs.PostOrder.{post_order}
 use Rattle.wit_elaboration.specs.Entries.{Entry, item_interface}
 use Rattle.wit_elaboration.specs.laws.ElaborationLaws.{ConflictsAreRefused}
-use Rattle.wit_elaboration.specs.Imported.{IsInConflict, IsRefusedKey, exported_keys, is_exported}
+use Rattle.wit_elaboration.specs.Imported.{IsEntryInConflict, IsRefusedKey, exported_keys, is_exported}
 use Rattle.wit_elaboration.proofs.ConflictIs.{conflict_found, conflict_from}
 use Rattle.wit_elaboration.proofs.ElaboratedIs.{own_keys}
 use Rattle.wit_elaboration.proofs.Filters.{not_true}
@@ -65,10 +65,10 @@ first_of p (e ∷ es) x has pass =
 
 module _ (uses : List (List ℕ)) (acyclic : IsAcyclic uses) (exports : List Entry) where
   abbrev is_outside : ℕ → Bool
-  is_outside d = not (is_exported exports d) && list_any (is_exported exports) (walk uses d)
+  is_outside d = not (is_exported exports d) && list_any (is_exported exports) (post_order uses d)
 
   abbrev leads : ℕ → Bool
-  leads i = list_any (λ j. list_any is_outside (walk uses j)) (direct uses i)
+  leads i = list_any (λ j. list_any is_outside (post_order uses j)) (direct uses i)
 
   abbrev conflicts : Entry → Bool
   conflicts e = list_any leads (item_interface e.1)
@@ -76,31 +76,31 @@ module _ (uses : List (List ℕ)) (acyclic : IsAcyclic uses) (exports : List Ent
   used_below : (i j : ℕ) → Contains (direct uses i) j → j < length uses
   used_below i j among = All-contains (λ x. x < length uses) (direct uses i) j (acyclic.in_range i) among
 
-  conflicts_is : (e : Entry) → conflicts e ≡ true → IsInConflict uses exports e
+  conflicts_is : (e : Entry) → conflicts e ≡ true → IsEntryInConflict uses exports e
   conflicts_is e found =
       let i = passing leads (item_interface e.1) found in
-      let j = passing (λ k. list_any is_outside (walk uses k)) (direct uses i.0) i.1.1 in
+      let j = passing (λ k. list_any is_outside (post_order uses k)) (direct uses i.0) i.1.1 in
       let below = used_below i.0 j.0 j.1.0 in
-      let d = passing is_outside (walk uses j.0) j.1.1 in
-      let to = Reaches-from_walk uses acyclic j.0 below d.0 d.1.0 in
-      let parts = and_parts (not (is_exported exports d.0)) (list_any (is_exported exports) (walk uses d.0)) d.1.1 in
-      let m = passing (is_exported exports) (walk uses d.0) parts.1 in
-      let on = Reaches-from_walk uses acyclic d.0 (path_below uses acyclic j.0 to.0 d.0 below to.1) m.0 m.1.0 in
+      let d = passing is_outside (post_order uses j.0) j.1.1 in
+      let to = Reaches-from_post_order uses acyclic j.0 below d.0 d.1.0 in
+      let parts = and_parts (not (is_exported exports d.0)) (list_any (is_exported exports) (post_order uses d.0)) d.1.1 in
+      let m = passing (is_exported exports) (post_order uses d.0) parts.1 in
+      let on = Reaches-from_post_order uses acyclic d.0 (path_below uses acyclic j.0 to.0 d.0 below to.1) m.0 m.1.0 in
       (i.0, i.1.0, (j.0, d.0, j.1.0, to, λ key. false≢true (sym (not_true (is_exported exports d.0) parts.0) ∙ any_from_contains d.0 (exported_keys exports) key), (m.0, on, contains_from_any m.0 (exported_keys exports) m.1.1)))
 
-  is_conflicts : (e : Entry) → IsInConflict uses exports e → conflicts e ≡ true
+  is_conflicts : (e : Entry) → IsEntryInConflict uses exports e → conflicts e ≡ true
   is_conflicts e conflict =
       let leads' = conflict.2 in
       let below = used_below conflict.0 leads'.0 leads'.2 in
       let below' = path_below uses acyclic leads'.0 leads'.3.0 leads'.1 below leads'.3.1 in
       passes leads (item_interface e.1) conflict.0 conflict.1
-      (passes (λ k. list_any is_outside (walk uses k)) (direct uses conflict.0) leads'.0 leads'.2
-      (passes is_outside (walk uses leads'.0) leads'.1 (walk-from_IsPath uses acyclic leads'.0 leads'.3.0 leads'.1 below leads'.3.1)
-      (both (not (is_exported exports leads'.1)) (list_any (is_exported exports) (walk uses leads'.1)) (ap not (no_any_from leads'.1 (exported_keys exports) leads'.4))
-      (passes (is_exported exports) (walk uses leads'.1) leads'.5.0 (walk-from_IsPath uses acyclic leads'.1 leads'.5.1.0 leads'.5.0 below' leads'.5.1.1) (any_from_contains leads'.5.0 (exported_keys exports) leads'.5.2)))))
+      (passes (λ k. list_any is_outside (post_order uses k)) (direct uses conflict.0) leads'.0 leads'.2
+      (passes is_outside (post_order uses leads'.0) leads'.1 (post_order-from_IsPath uses acyclic leads'.0 leads'.3.0 leads'.1 below leads'.3.1)
+      (both (not (is_exported exports leads'.1)) (list_any (is_exported exports) (post_order uses leads'.1)) (ap not (no_any_from leads'.1 (exported_keys exports) leads'.4))
+      (passes (is_exported exports) (post_order uses leads'.1) leads'.5.0 (post_order-from_IsPath uses acyclic leads'.1 leads'.5.1.0 leads'.5.0 below' leads'.5.1.1) (any_from_contains leads'.5.0 (exported_keys exports) leads'.5.2)))))
 
   -- where some export is in conflict there is a first
-  pub refused_key : (e : Entry) → Contains exports e → IsInConflict uses exports e → (k : WorldKey) × IsRefusedKey uses exports k
+  pub refused_key : (e : Entry) → Contains exports e → IsEntryInConflict uses exports e → (k : WorldKey) × IsRefusedKey uses exports k
   refused_key e has conflict =
       let first = first_of conflicts exports e has (is_conflicts e conflict) in (
         first.found.0,

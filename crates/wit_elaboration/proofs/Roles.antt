@@ -7,8 +7,8 @@ use Rattle.wit_data.specs.declared.types.TypeDef.{TypeDef}
 use Rattle.wit_data.specs.declared.world.WorldItem.{WorldItem}
 use Rattle.wit_data.specs.declared.world.WorldItem.TheVariants as item
 use Rattle.wit_digraph.specs.facts.MemberFacts.{Contains-nil, Contains-cons_cases}
-use Rattle.wit_elaboration.specs.Entries.{Entry, Instance, type_role, function_role, role_of, item_interface, is_instance, class_of}
-use Rattle.wit_elaboration.specs.Elaborated.{settled_item}
+use Rattle.wit_elaboration.specs.Entries.{Entry, Instance, type_role, function_role, role_of, item_interface, is_instance, elaboration_class}
+use Rattle.wit_elaboration.specs.Elaborated.{without_span}
 use Rattle.wit_elaboration.specs.Sound.{IsUnderOwnKey, IsRoleInRange, HasSoundEntries}
 use Rattle.wit_elaboration.proofs.Order.{AreOwn}
 
@@ -18,10 +18,10 @@ each_member P [] x all has = absurd (Contains-nil has)
 each_member P (y ∷ ys) x all has =
     elim (Contains-cons_cases y x ys has) [ inl same ↦ subst P same all.0 | inr there ↦ each_member P ys x all.1 there ]
 
-pub settled_item-settled : (x : WorldItem) → settled_item (settled_item x) ≡ settled_item x
-settled_item-settled (item.Interface i stability docs span external_id) = refl
-settled_item-settled (item.Function function) = refl
-settled_item-settled (item.Type_ id span) = refl
+pub without_span-twice : (x : WorldItem) → without_span (without_span x) ≡ without_span x
+without_span-twice (item.Interface i stability docs span external_id) = refl
+without_span-twice (item.Function function) = refl
+without_span-twice (item.Type_ id span) = refl
 
 function_role-other : (o : Option ℕ) (i : ℕ) → function_role o ≡ Instance i → ⊥
 function_role-other (Some r) i same = cc
@@ -32,10 +32,10 @@ type_role-other (Some r) i same = cc
 type_role-other None i same = cc
 
 module _ (types : List TypeDef) where
-  pub role_of-settled : (x : WorldItem) → role_of types (settled_item x) ≡ role_of types x
-  role_of-settled (item.Interface i stability docs span external_id) = refl
-  role_of-settled (item.Function function) = refl
-  role_of-settled (item.Type_ id span) = refl
+  pub role_of-without_span : (x : WorldItem) → role_of types (without_span x) ≡ role_of types x
+  role_of-without_span (item.Interface i stability docs span external_id) = refl
+  role_of-without_span (item.Function function) = refl
+  role_of-without_span (item.Type_ id span) = refl
 
   pub role_from_instance : (x : WorldItem) (i : ℕ) → item_interface x ≡ i ∷ [] → role_of types x ≡ Instance i
   role_from_instance (item.Interface j stability docs span external_id) i same = let one : j ≡ i = cc in ap (λ k. Instance k) one
@@ -52,7 +52,7 @@ module _ (types : List TypeDef) where
   is_instance_from_role (item.Function function) i same = absurd (function_role-other (resource_of function.kind) i same)
   is_instance_from_role (item.Type_ id span) i same = absurd (type_role-other (type_interface_dep types id) i same)
 
-  pub class_from_instance : (x : WorldItem) → is_instance x ≡ true → class_of (role_of types x) ≡ 0
+  pub class_from_instance : (x : WorldItem) → is_instance x ≡ true → elaboration_class (role_of types x) ≡ 0
   class_from_instance (item.Interface j stability docs span external_id) is = refl
   class_from_instance (item.Function function) is = cc
   class_from_instance (item.Type_ id span) is = cc

@@ -4,15 +4,15 @@ use Rattle.std.specs.List.{list_any}
 use Rattle.std.proofs.lemmas.Bool.{false≢true}
 use Rattle.wit_digraph.specs.facts.FreshFacts.{any_from_contains}
 use Rattle.wit_digraph.specs.facts.MemberFacts.{Contains-nil, Contains-here, Contains-there, Contains-cons_cases}
-use Rattle.wit_digraph.specs.Walks.{walk, walk_within}
+use Rattle.wit_digraph.specs.PostOrder.{post_order, post_order_within}
 use Rattle.wit_digraph.specs.Relation.{direct, IsPath}
 use Rattle.wit_elaboration.specs.Elaborated.{import_steps, import_steps_within}
 use Rattle.wit_elaboration.specs.Entries.{Entry}
-use Rattle.wit_elaboration.specs.Imported.{HasConflict, IsInConflict, LeadsToConflict, exported_keys}
+use Rattle.wit_elaboration.specs.Imported.{HasConflict, IsEntryInConflict, LeadsToConflict, exported_keys}
 use Rattle.wit_elaboration.specs.examples.ElaborationExamples.{chain, a, b, c, d, labelled, WorkedElaborations, WorkedConflicts}
 
 pub worked_elaborations : WorkedElaborations
-unfolding walk walk_within import_steps import_steps_within
+unfolding post_order post_order_within import_steps import_steps_within
 worked_elaborations = record {
   all_exported = record { imports_are = refl; exports_are = refl };
   used_before_user = record { imports_are = refl; exports_are = refl };
@@ -41,7 +41,7 @@ d_leads exports off on = (1, 1, Contains-here 1 [], ([], refl), off, (0, (0 ∷ 
 a_leads_not : (exports : List Entry) (i : ℕ) → 0 ≡ i → LeadsToConflict chain exports i → ⊥
 a_leads_not exports i same leads = Contains-nil (subst (λ m. Contains (direct chain m) leads.0) (sym same) leads.2)
 
-a_safe : (exports : List Entry) → IsInConflict chain exports a → ⊥
+a_safe : (exports : List Entry) → IsEntryInConflict chain exports a → ⊥
 a_safe exports conflict =
     elim (Contains-cons_cases 0 conflict.0 [] conflict.1) [ inl same ↦ a_leads_not exports conflict.0 same conflict.2 | inr none ↦ Contains-nil none ]
 
@@ -57,18 +57,18 @@ b_leads_not exports on i same leads =
       | inr none ↦ Contains-nil none
     ]
 
-b_safe : (exports : List Entry) → Contains (exported_keys exports) 0 → IsInConflict chain exports (labelled 1) → ⊥
+b_safe : (exports : List Entry) → Contains (exported_keys exports) 0 → IsEntryInConflict chain exports (labelled 1) → ⊥
 b_safe exports on conflict =
     elim (Contains-cons_cases 1 conflict.0 [] conflict.1) [ inl same ↦ b_leads_not exports on conflict.0 same conflict.2 | inr none ↦ Contains-nil none ]
 
-only_a : (exports : List Entry) (f : Entry) → Contains (a ∷ []) f → IsInConflict chain exports f → ⊥
+only_a : (exports : List Entry) (f : Entry) → Contains (a ∷ []) f → IsEntryInConflict chain exports f → ⊥
 only_a exports f has conflict =
-    elim (Contains-cons_cases a f [] has) [ inl same ↦ a_safe exports (subst (λ e. IsInConflict chain exports e) (sym same) conflict) | inr none ↦ Contains-nil none ]
+    elim (Contains-cons_cases a f [] has) [ inl same ↦ a_safe exports (subst (λ e. IsEntryInConflict chain exports e) (sym same) conflict) | inr none ↦ Contains-nil none ]
 
-b_and_a : (exports : List Entry) → Contains (exported_keys exports) 0 → (f : Entry) → Contains (labelled 1 ∷ a ∷ []) f → IsInConflict chain exports f → ⊥
+b_and_a : (exports : List Entry) → Contains (exported_keys exports) 0 → (f : Entry) → Contains (labelled 1 ∷ a ∷ []) f → IsEntryInConflict chain exports f → ⊥
 b_and_a exports on f has conflict =
     elim (Contains-cons_cases (labelled 1) f (a ∷ []) has) [
-      | inl same ↦ b_safe exports on (subst (λ e. IsInConflict chain exports e) (sym same) conflict)
+      | inl same ↦ b_safe exports on (subst (λ e. IsEntryInConflict chain exports e) (sym same) conflict)
       | inr there ↦ only_a exports f there conflict
     ]
 

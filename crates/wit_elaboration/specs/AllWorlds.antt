@@ -10,7 +10,7 @@ use Rattle.wit_graph_data.specs.declared.error_kind.ResolveErrorKind.{ResolveErr
 use Rattle.wit_graph_data.specs.declared.error_kind.ResolveErrorKind.TheVariants.{InvalidTransitiveDependency}
 use Rattle.wit_graph_data.specs.declared.graph.Graph.{Graph}
 
--- a world of a graph, elaborated
+-- a world with its lists elaborated over a graph
 abbrev pub elaborated_world : Graph → World → World
 elaborated_world g world = record world {
   imports = elaborated_imports g.types (graph_uses g) world.imports world.exports;

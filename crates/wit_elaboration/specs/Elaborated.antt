@@ -10,60 +10,60 @@ use Rattle.wit_data.specs.declared.world.WorldItem.{WorldItem}
 use Rattle.wit_data.specs.declared.world.WorldItem.TheVariants as item
 use Rattle.wit_data.specs.declared.world.World.{World}
 use Rattle.wit_data.specs.declared.world.WorldKey.TheVariants.{Interface}
-pub use Rattle.wit_elaboration.specs.declared.entries.Carried.{Carried}
+pub use Rattle.wit_elaboration.specs.declared.entries.InheritedData.{InheritedData}
 use Rattle.wit_digraph.specs.Relation.{direct}
-use Rattle.wit_digraph.specs.Walks.{walk}
+use Rattle.wit_digraph.specs.PostOrder.{post_order}
 use Rattle.wit_elaboration.specs.Entries.{Entry, Role, Instance, TypeUse, TypeDefinition, FreeFunction, ResourceFunction, role_of, item_interface, is_interface, fresh_entries, by_class}
 use Rattle.wit_elaboration.specs.Imported.{HasConflict, is_exported}
 
 -- ---- what a dependency carries
 
 -- the entry of a dependency: under its own key, with what it carries, no docs and an unknown span
-abbrev pub dependency_of : Carried → ℕ → Entry
+abbrev pub dependency_of : InheritedData → ℕ → Entry
 dependency_of carried i = (Interface i, item.Interface i carried.stability (record { contents = None }) None carried.external_id)
 
 -- the dependencies of an import carry the stability of the interface, or of the type that is used, and no external id
-abbrev pub import_carries : List TypeDef → WorldItem → Carried
-import_carries types (item.Interface i stability docs span external_id) = record { stability = stability; external_id = None }
-import_carries types (item.Type_ id span) = record { stability = option_map_or (λ (type : TypeDef). type.stability) (slice_get types id) stability.Unknown; external_id = None }
-import_carries types (item.Function function) = record { stability = stability.Unknown; external_id = None }
+abbrev pub inherited_by_import : List TypeDef → WorldItem → InheritedData
+inherited_by_import types (item.Interface i stability docs span external_id) = record { stability = stability; external_id = None }
+inherited_by_import types (item.Type_ id span) = record { stability = option_map_or (λ (type : TypeDef). type.stability) (slice_get types id) stability.Unknown; external_id = None }
+inherited_by_import types (item.Function function) = record { stability = stability.Unknown; external_id = None }
 
--- those of an export carry the interface's stability and external id
-abbrev pub export_carries : WorldItem → Carried
-export_carries (item.Interface i stability docs span external_id) = record { stability = stability; external_id = external_id }
-export_carries (item.Function function) = record { stability = stability.Unknown; external_id = None }
-export_carries (item.Type_ id span) = record { stability = stability.Unknown; external_id = None }
+-- what an added export carries: the stability and the external id of its interface
+abbrev pub inherited_by_export : WorldItem → InheritedData
+inherited_by_export (item.Interface i stability docs span external_id) = record { stability = stability; external_id = external_id }
+inherited_by_export (item.Function function) = record { stability = stability.Unknown; external_id = None }
+inherited_by_export (item.Type_ id span) = record { stability = stability.Unknown; external_id = None }
 
 -- ---- imports
 
--- the interfaces that must stand before an item, in their order: of an interface the walks of its uses, of a type use the walk of its interface
-abbrev pub needs : List (List ℕ) → Role → List ℕ
-needs uses (Instance i) = flat_map (walk uses) (direct uses i)
-needs uses (TypeUse i) = walk uses i
-needs uses TypeDefinition = []
-needs uses FreeFunction = []
-needs uses ResourceFunction = []
+-- the interfaces that must stand before an item, in their order: of an interface the post-orders of its uses, of a type use the post-order of its interface
+abbrev pub dependencies_before : List (List ℕ) → Role → List ℕ
+dependencies_before uses (Instance i) = flat_map (post_order uses) (direct uses i)
+dependencies_before uses (TypeUse i) = post_order uses i
+dependencies_before uses TypeDefinition = []
+dependencies_before uses FreeFunction = []
+dependencies_before uses ResourceFunction = []
 
 -- an import of an interface loses its span
-abbrev pub settled_item : WorldItem → WorldItem
-settled_item (item.Interface i stability docs span external_id) = item.Interface i stability docs None external_id
-settled_item (item.Function function) = item.Function function
-settled_item (item.Type_ id span) = item.Type_ id span
+abbrev pub without_span : WorldItem → WorldItem
+without_span (item.Interface i stability docs span external_id) = item.Interface i stability docs None external_id
+without_span (item.Function function) = item.Function function
+without_span (item.Type_ id span) = item.Type_ id span
 
 -- an entry, changed so, and before it those of what it needs
-abbrev pub entry_walk : List TypeDef → List (List ℕ) → (WorldItem → Carried) → (WorldItem → WorldItem) → Entry → List Entry
-entry_walk types uses carries change e = map (dependency_of (carries e.1)) (needs uses (role_of types e.1)) ++ (e.0, change e.1) ∷ []
+abbrev pub entry_post_order : List TypeDef → List (List ℕ) → (WorldItem → InheritedData) → (WorldItem → WorldItem) → Entry → List Entry
+entry_post_order types uses carries change e = map (dependency_of (carries e.1)) (dependencies_before uses (role_of types e.1)) ++ (e.0, change e.1) ∷ []
 
 -- an import, and before it the imports of what it needs
-abbrev pub import_walk : List TypeDef → List (List ℕ) → Entry → List Entry
-import_walk types uses e = entry_walk types uses (import_carries types) settled_item e
+abbrev pub import_with_needs : List TypeDef → List (List ℕ) → Entry → List Entry
+import_with_needs types uses e = entry_post_order types uses (inherited_by_import types) without_span e
 
 -- ---- exports
 
 -- along i's uses in order: of an exported one the same, of any other all that it reaches, in the order of its walk
 unfoldable pub import_steps_within : List (List ℕ) → (ℕ → Bool) → ℕ → ℕ → List ℕ
 import_steps_within uses exported zero i = []
-import_steps_within uses exported (suc members) i = flat_map (λ j. if exported j then import_steps_within uses exported members j else walk uses j) (direct uses i)
+import_steps_within uses exported (suc members) i = flat_map (λ j. if exported j then import_steps_within uses exported members j else post_order uses j) (direct uses i)
 
 -- the same along all paths: where uses are acyclic, none has more members than there are interfaces
 unfoldable pub import_steps : List (List ℕ) → (ℕ → Bool) → ℕ → List ℕ
@@ -71,28 +71,28 @@ import_steps uses exported i = import_steps_within uses exported (length uses) i
 
 -- what the export of an interface needs imported
 abbrev pub export_imports : List (List ℕ) → (ℕ → Bool) → Entry → List Entry
-export_imports uses exported e = flat_map (λ i. map (dependency_of (export_carries e.1)) (import_steps uses exported i)) (item_interface e.1)
+export_imports uses exported e = flat_map (λ i. map (dependency_of (inherited_by_export e.1)) (import_steps uses exported i)) (item_interface e.1)
 
 -- the uses of exported interfaces alone
 abbrev pub exported_uses : (ℕ → Bool) → List (List ℕ) → List (List ℕ)
 exported_uses exported uses = map (filter exported) uses
 
 -- an export as it stands, and before it those that it needs along uses of exported interfaces
-abbrev pub export_walk : List TypeDef → List (List ℕ) → (ℕ → Bool) → Entry → List Entry
-export_walk types uses exported e = entry_walk types (exported_uses exported uses) export_carries (λ item. item) e
+abbrev pub export_with_needs : List TypeDef → List (List ℕ) → (ℕ → Bool) → Entry → List Entry
+export_with_needs types uses exported e = entry_post_order types (exported_uses exported uses) inherited_by_export (λ item. item) e
 
 -- ---- the elaborated lists
 
 -- the imports by class, each after what it needs, then what the exports need, of each key the first, by class again
 abbrev pub elaborated_imports : List TypeDef → List (List ℕ) → List Entry → List Entry → List Entry
 elaborated_imports types uses imports exports =
-    by_class types (fresh_entries [] (flat_map (import_walk types uses) (by_class types imports) ++ flat_map (export_imports uses (is_exported exports)) exports))
+    by_class types (fresh_entries [] (flat_map (import_with_needs types uses) (by_class types imports) ++ flat_map (export_imports uses (is_exported exports)) exports))
 
 -- the functions, then the interfaces, each after the exported ones that it uses, of each key the first
 abbrev pub elaborated_exports : List TypeDef → List (List ℕ) → List Entry → List Entry
 elaborated_exports types uses exports =
     filter (λ e. not (is_interface e)) exports
-    ++ fresh_entries [] (flat_map (export_walk types uses (is_exported exports)) (filter is_interface exports))
+    ++ fresh_entries [] (flat_map (export_with_needs types uses (is_exported exports)) (filter is_interface exports))
 
 -- from a world's lists to its elaboration, which there is where there is no conflict
 pub record Elaborated (types : List TypeDef) (uses : List (List ℕ)) (old new : World) : Type 0 where

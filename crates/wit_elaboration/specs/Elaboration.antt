@@ -39,14 +39,15 @@ AreElaborated g id lists =
     × (lists.imports ≡ elaborated_imports g.types (graph_uses g) world.imports world.exports)
     × (lists.exports ≡ elaborated_exports g.types (graph_uses g) world.exports)
 
--- the error of a world that is refused: it has a conflict, at the world's span, under the name of the first export that leads to it
+-- memory is wanting, or the world has a conflict, and the error has the world's span and the name of the first export
+-- that leads to it
 abbrev pub IsConflictError : Graph → World → ResolveErrorKind → Type 0
 IsConflictError g world (InvalidTransitiveDependency span name) =
     HasConflict (graph_uses g) world.exports × (span ≡ world.span) × IsRefusedName g.packages g.interfaces (graph_uses g) world.exports name
 IsConflictError g world OutOfMemory = Unit {0}
 IsConflictError g world _ = ⊥
 
--- of the world at a place
+-- an error by which the elaboration of world id is refused
 abbrev pub IsElaborationError : Graph → ℕ → ResolveErrorKind → Type 0
 IsElaborationError g id kind = ForSome (slice_get g.worlds id) (λ (world : World). IsConflictError g world kind)
 

@@ -60,16 +60,16 @@ role_of types (item.Type_ id span) = type_role (type_interface_dep types id)
 -- ---- classes: interfaces, type uses, type definitions, free functions, functions of resources
 -- Source: the order in which `elaborate_world` of wit-parser 0.263.0 sorts imports.
 
-abbrev pub class_of : Role → ℕ
-class_of (Instance i) = 0
-class_of (TypeUse i) = 1
-class_of TypeDefinition = 2
-class_of FreeFunction = 3
-class_of ResourceFunction = 4
+abbrev pub elaboration_class : Role → ℕ
+elaboration_class (Instance i) = 0
+elaboration_class (TypeUse i) = 1
+elaboration_class TypeDefinition = 2
+elaboration_class FreeFunction = 3
+elaboration_class ResourceFunction = 4
 
 -- the entries of one class, in their order
 abbrev pub of_class : List TypeDef → ℕ → List Entry → List Entry
-of_class types class entries = filter (λ (e : Entry). nat_eq (class_of (role_of types e.1)) class) entries
+of_class types class entries = filter (λ (e : Entry). nat_eq (elaboration_class (role_of types e.1)) class) entries
 
 -- the entries sorted by class, those of one class in their order
 abbrev pub by_class : List TypeDef → List Entry → List Entry

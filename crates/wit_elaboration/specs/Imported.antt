@@ -53,26 +53,26 @@ IsImported types uses imports exports j =
 abbrev pub HasConflict : List (List ℕ) → List Entry → Type 0
 HasConflict uses exports = (j : ℕ) × Needed uses exports j × Contains (exported_keys exports) j
 
--- some exported key is reached from d
-abbrev pub ReachesExport : List (List ℕ) → List Entry → ℕ → Type 0
-ReachesExport uses exports d = (j : ℕ) × Reaches uses d j × Contains (exported_keys exports) j
+-- some exported key is reached from d, which may be that key itself
+abbrev pub ReachesExportedKey : List (List ℕ) → List Entry → ℕ → Type 0
+ReachesExportedKey uses exports d = (j : ℕ) × Reaches uses d j × Contains (exported_keys exports) j
 
--- in one step or more, i reaches an interface that is not an exported key and reaches one
+-- in one step or more, i reaches an interface that is no exported key and that reaches one
 abbrev pub LeadsToConflict : List (List ℕ) → List Entry → ℕ → Type 0
 LeadsToConflict uses exports i =
-    (j : ℕ) × (d : ℕ) × Contains (direct uses i) j × Reaches uses j d × (Contains (exported_keys exports) d → ⊥) × ReachesExport uses exports d
+    (j : ℕ) × (d : ℕ) × Contains (direct uses i) j × Reaches uses j d × (Contains (exported_keys exports) d → ⊥) × ReachesExportedKey uses exports d
 
--- so does the interface of this entry
-abbrev pub IsInConflict : List (List ℕ) → List Entry → Entry → Type 0
-IsInConflict uses exports e = (i : ℕ) × Contains (item_interface e.1) i × LeadsToConflict uses exports i
+-- the interface of this entry leads to a conflict
+abbrev pub IsEntryInConflict : List (List ℕ) → List Entry → Entry → Type 0
+IsEntryInConflict uses exports e = (i : ℕ) × Contains (item_interface e.1) i × LeadsToConflict uses exports i
 
 -- the refused key is that of the first export that leads to the conflict
 abbrev pub IsRefusedKey : List (List ℕ) → List Entry → WorldKey → Type 0
 IsRefusedKey uses exports k =
     (before : List Entry) × (e : Entry) × (after : List Entry)
     × (exports ≡ before ++ e ∷ after)
-    × ((f : Entry) → Contains before f → IsInConflict uses exports f → ⊥)
-    × IsInConflict uses exports e
+    × ((f : Entry) → Contains before f → IsEntryInConflict uses exports f → ⊥)
+    × IsEntryInConflict uses exports e
     × (k ≡ e.0)
 
 -- the refused name: the key as it is named

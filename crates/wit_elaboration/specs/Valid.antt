@@ -7,7 +7,7 @@ use Rattle.std.specs.Option.{IsSomeAnd}
 use Rattle.wit_values.specs.Table.{HasDistinctKeys}
 use Rattle.wit_digraph.specs.Relation.{IsAcyclic}
 use Rattle.wit_data.specs.Each.{Each, EachAt, SomeAt}
-use Rattle.wit_data.specs.Entries.{Entry, EntriesUseOwn, HasExports, HasImports, StandOnce}
+use Rattle.wit_data.specs.Entries.{Entry, EntriesUseOwn, ExportsAreAllowed, ImportsAreAllowed, StandOnce}
 use Rattle.wit_data.specs.Ownership.{AliasesNamed, FunctionsUseOwn, IsListed, IsPlain, ListsOwn, NamesFunctions, RefersToOwn}
 use Rattle.wit_data.specs.Reference.{type_references}
 use Rattle.wit_data.specs.UsePath.{IsKebabName}
@@ -60,7 +60,7 @@ pub record HasTables (packages : List Package) (interfaces : List Interface) (wo
   pub distinct_interfaces : Each (λ (home : Package). HasDistinctKeys home.interfaces) packages
   pub distinct_worlds : Each (λ (home : Package). HasDistinctKeys home.worlds) packages
 
--- namespaces and the names of packages and interfaces are kebab names (a turned world may have any name)
+-- namespaces and the names of packages and interfaces are kebab names (a transformed world may have any name)
 pub record HasKebabNames (packages : List Package) (interfaces : List Interface) : Type 0 where
   pub namespaces : Each (λ (home : Package). IsKebabName home.name.namespace) packages
   pub package_names : Each (λ (home : Package). IsKebabName home.name.name) packages
@@ -103,8 +103,8 @@ IsOfPackage interfaces home (item.Type_ id span) = Unit {0}
 pub record HasWorlds (types : List TypeDef) (interfaces : List Interface) (worlds : List World) : Type 0 where
   -- the key of an interface holds that interface, which has a name; a label holds a function of that name,
   -- an interface or, among the imports, a type of the world
-  pub imports : EachAt (HasImports interfaces types) worlds
-  pub exports : Each (HasExports interfaces) worlds
+  pub imports : EachAt (ImportsAreAllowed interfaces types) worlds
+  pub exports : Each (ExportsAreAllowed interfaces) worlds
   -- functions refer to the world's own types
   pub imported_functions : EachAt (λ w (world : World). EntriesUseOwn types w world.imports) worlds
   pub exported_functions : EachAt (λ w (world : World). EntriesUseOwn types w world.exports) worlds

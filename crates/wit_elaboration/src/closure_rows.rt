@@ -6,8 +6,8 @@
 ghost use Rattle.std.specs.Prelude.{◌≡◌, ℕ, ◌+◌, ◌^◌, ◌<◌, ◌≤◌, ◌↔◌, All, Contains, IfOk, OnOk, IsTrue, length, slice_index, nat_eq};
 ghost use Rattle.std.specs.List.{IsDistinct, sum_by};
 ghost use Rattle.wit_digraph.specs.Relation.{IsAcyclic, Reaches, direct};
-ghost use Rattle.wit_elaboration.specs.steps.Closures.{AreRowsOf, HasColumnsOf, HaveCommonBit, IsOrder, MayNeed, RowTells, RowsTell, column};
-ghost use Rattle.wit_elaboration.specs.steps.Elaborating.{TellsExported};
+ghost use Rattle.wit_elaboration.specs.steps.Closures.{AreRowsOf, AreRowsOfAll, HasColumnsOf, HaveCommonBit, IsOrder, IsRowOf, MayNeed, column};
+ghost use Rattle.wit_elaboration.specs.steps.Elaborating.{IsExportedList};
 ghost use Rattle.wit_elaboration.specs.Imported.{HasConflict, exported_interfaces};
 
 use crate::passes::mark_leading;
@@ -15,7 +15,7 @@ use crate::role::item_interface;
 use crate::rows::{meets, or_into};
 use std::alloc::{AllocError, Global};
 use wit_data::{WorldItem, WorldKey};
-use wit_digraph::{Listing, direct_uses, has_bit, set_bit, walk_order};
+use wit_digraph::{Listing, direct_uses, has_bit, set_bit, post_order_of_roots};
 use wit_values::{Items, Table};
 
 /// How many columns a row has.
@@ -64,9 +64,9 @@ fn row_of(
     requires acyclic { IsAcyclic uses.now }
     requires inside { node < length uses.now }
     requires long { length rows.now ≡ length uses.now }
-    requires told { All (λ j. RowTells uses.now (direct rows.now j) j) (direct uses.now node) }
+    requires told { All (λ j. IsRowOf uses.now (direct rows.now j) j) (direct uses.now node) }
     requires room { joins.old + 2 ^ 64 ≤ 2 ^ 128 }
-    ensures row { IfOk result (λ row. RowTells uses.now row node) }
+    ensures row { IfOk result (λ row. IsRowOf uses.now row node) }
     ensures joins { OnOk result (joins.new ≡ joins.old + length (direct uses.now node)) }
     ensures few { joins.new ≤ joins.old + 2 ^ 64 }
 {
@@ -114,7 +114,7 @@ fn add_rows(
     requires order { IsOrder uses.now order.now }
     requires once { IsDistinct nat_eq order.now }
     requires long { length rows.old ≡ length uses.now }
-    ensures rows { OnOk result (RowsTell uses.now rows.new) }
+    ensures rows { OnOk result (AreRowsOfAll uses.now rows.new) }
     ensures joins { IfOk result (λ joins. joins ≡ sum_by length uses.now) }
 {
     let mut joins = 0u128;
@@ -133,7 +133,7 @@ fn order_of(alloc: Global, uses: &[Items<usize>]) -> Result<Items<usize>, AllocE
     ensures once { IfOk result (IsDistinct nat_eq) }
 {
     let all = all_nodes(alloc, uses.len())?;
-    let order = walk_order(alloc, uses, all.as_slice())?;
+    let order = post_order_of_roots(alloc, uses, all.as_slice())?;
     Ok(order)
 }
 
@@ -186,7 +186,7 @@ impl ClosureRows {
         requires acyclic { IsAcyclic uses.now }
         requires interfaces { All (λ i. i < length uses.now) (exported_interfaces exports.now) }
         requires nodes { exported.now.nodes ≡ length uses.now }
-        requires tells { TellsExported exported.now.order exports.now }
+        requires tells { IsExportedList exported.now.order exports.now }
         ensures { IfOk result (λ may. HasConflict uses.now exports.now → IsTrue may) }
     {
         let columns = columns_of(alloc, exported.order())?;

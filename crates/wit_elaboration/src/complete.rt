@@ -1,7 +1,7 @@
 //! Worlds that are their own elaboration, told by one look at each entry and at its direct uses.
 ghost use Rattle.std.specs.Prelude.{◌≡◌, ◌↔◌, ◌<◌, ◌++◌, ℕ, [], All, Contains, IfOk, IsTrue, OnOk, length};
 ghost use Rattle.std.specs.List.{flat_map};
-ghost use Rattle.wit_elaboration.specs.Elaborated.{import_walk, settled_item};
+ghost use Rattle.wit_elaboration.specs.Elaborated.{import_with_needs, without_span};
 ghost use Rattle.wit_elaboration.specs.laws.ElaborationLaws.{DependenciesFirst, stands_on};
 ghost use Rattle.wit_elaboration.specs.Entries.{by_class, fresh_entries, item_interface, key_interface, role_of};
 ghost use Rattle.wit_elaboration.specs.Sound.{AreSound, IsRoleInRange};
@@ -39,7 +39,7 @@ pub(crate) fn are_complete(
     requires nodes { imported.old.nodes ≡ length uses.now }
     requires none { imported.old.order ≡ [] }
     ensures sorted { IfOk result (λ complete. IsTrue complete → by_class types.now imports.now ≡ imports.now) }
-    ensures complete { IfOk result (λ complete. IsTrue complete → fresh_entries [] (flat_map (import_walk types.now uses.now) (by_class types.now imports.now)) ≡ imports.now) }
+    ensures complete { IfOk result (λ complete. IsTrue complete → fresh_entries [] (flat_map (import_with_needs types.now uses.now) (by_class types.now imports.now)) ≡ imports.now) }
     ensures nodes { imported.new.nodes ≡ imported.old.nodes }
 {
     imports.keys_differ();
@@ -61,7 +61,7 @@ fn stand_in_order(
     requires nodes { imported.old.nodes ≡ length uses.now }
     requires none { imported.old.order ≡ [] }
     ensures order { IfOk result (λ complete. IsTrue complete → DependenciesFirst types.now uses.now [] imports.now) }
-    ensures settled { IfOk result (λ complete. IsTrue complete → Each (λ e. settled_item e.1 ≡ e.1) imports.now) }
+    ensures settled { IfOk result (λ complete. IsTrue complete → Each (λ e. without_span e.1 ≡ e.1) imports.now) }
     ensures nodes { imported.new.nodes ≡ imported.old.nodes }
 {
     for (key, item) in imports.iter() {
@@ -96,14 +96,14 @@ fn is_in_place(
     requires acyclic { IsAcyclic uses.now }
     requires role { IsRoleInRange (length uses.now) (role_of types.now item.now) }
     requires nodes { imported.now.nodes ≡ length uses.now }
-    ensures { IsTrue result ↔ (settled_item item.now ≡ item.now) × All (Contains imported.now.order) (stands_on uses.now (role_of types.now item.now)) }
+    ensures { IsTrue result ↔ (without_span item.now ≡ item.now) × All (Contains imported.now.order) (stands_on uses.now (role_of types.now item.now)) }
 {
     is_settled(item) && stands(uses, imported, Role::of(types, item))
 }
 
 /// Whether the import of an item leaves it as it is: it is no interface, or has no span.
 fn is_settled(item: &WorldItem) -> bool
-    ensures { IsTrue result ↔ (settled_item item.now ≡ item.now) }
+    ensures { IsTrue result ↔ (without_span item.now ≡ item.now) }
 {
     match item {
         WorldItem::Interface { span, .. } => !span.is_known(),

@@ -7,15 +7,15 @@
 ghost use Rattle.std.specs.Prelude.{◌≡◌, ◌++◌, ◌∷◌, ◌<◌, ◌↔◌, ◌⊎◌, [], ℕ, OnOk, IfOk, IfSome, IsTrue, All, Contains, length};
 ghost use Rattle.std.specs.List.{flat_map};
 ghost use Rattle.wit_elaboration.specs.steps.Closures.{IsClosureOf};
-ghost use Rattle.wit_elaboration.specs.Elaborated.{needs};
-ghost use Rattle.wit_elaboration.specs.steps.Elaborating.{AreMarked, AreOutside, HasMarkedUse, HaveNodes, IsFirstConflict, IsWalk, TellsExported};
+ghost use Rattle.wit_elaboration.specs.Elaborated.{dependencies_before};
+ghost use Rattle.wit_elaboration.specs.steps.Elaborating.{AreMarked, AreOutside, HasMarkedUse, HaveNodes, IsExportedList, IsFirstConflict, IsPostOrder};
 ghost use Rattle.wit_elaboration.specs.Entries.{Entry, item_interface};
 ghost use Rattle.wit_elaboration.specs.Imported.{HasConflict, LeadsToConflict, exported_interfaces, exported_keys};
 ghost use Rattle.wit_digraph.specs.Relation.{IsAcyclic, direct};
-ghost use Rattle.wit_digraph.specs.Walks.{UsesFirst, first_of_each, fresh};
+ghost use Rattle.wit_digraph.specs.PostOrder.{UsesFirst, first_of_each, fresh};
 
 use crate::closure_rows::ClosureRows;
-use crate::imports::walk_needs;
+use crate::imports::list_needs;
 use crate::marks::Marks;
 use crate::role::{Role, item_interface, key_interface};
 use std::alloc::{AllocError, Global};
@@ -54,7 +54,7 @@ fn list_exported(
 }
 
 /// Walks the uses of all exported interfaces.
-fn walk_exports(
+fn list_exports_by(
     alloc: Global,
     uses: &[Items<usize>],
     exports: &Table<WorldKey, WorldItem>,
@@ -62,14 +62,14 @@ fn walk_exports(
 ) -> Result<(), AllocError>
     requires acyclic { IsAcyclic uses.now }
     requires in_range { All (λ i. i < length uses.now) (exported_interfaces exports.now) }
-    requires walk { IsWalk uses.now walked.old }
+    requires post_order { IsPostOrder uses.now walked.old }
     requires none { walked.old.order ≡ [] }
-    ensures ok { OnOk result (walked.new.order ≡ first_of_each (flat_map (λ i. needs uses.now (Role.Instance i)) (exported_interfaces exports.now))) }
-    ensures walk { IsWalk uses.now walked.new }
+    ensures ok { OnOk result (walked.new.order ≡ first_of_each (flat_map (λ i. dependencies_before uses.now (Role.Instance i)) (exported_interfaces exports.now))) }
+    ensures post_order { IsPostOrder uses.now walked.new }
 {
     for (_, item) in exports.iter() {
         if let Some(id) = item_interface(item) {
-            walk_needs(alloc, uses, walked, Role::Instance(id))?;
+            list_needs(alloc, uses, walked, Role::Instance(id))?;
         }
     }
     Ok(())
@@ -187,7 +187,7 @@ fn find_conflict(
     requires acyclic { IsAcyclic uses.now }
     requires in_range { All (λ i. i < length uses.now) (exported_interfaces exports.now) }
     requires nodes { HaveNodes marks.old (length uses.now) }
-    requires exported { TellsExported marks.old.exported.order exports.now }
+    requires exported { IsExportedList marks.old.exported.order exports.now }
     ensures found { IfOk result (IsFirstConflict uses.now exports.now) }
     ensures nodes { HaveNodes marks.new (length uses.now) }
     ensures exported { marks.new.exported ≡ marks.old.exported }
@@ -196,7 +196,7 @@ fn find_conflict(
     marks.reaching.clear();
     marks.outside.clear();
     marks.leading.clear();
-    walk_exports(alloc, uses, exports, &mut marks.walked)?;
+    list_exports_by(alloc, uses, exports, &mut marks.walked)?;
     mark_reaching(
         uses,
         marks.walked.order(),
@@ -229,7 +229,7 @@ fn may_conflict(
     requires acyclic { IsAcyclic uses.now }
     requires interfaces { All (λ i. i < length uses.now) (exported_interfaces exports.now) }
     requires nodes { exported.now.nodes ≡ length uses.now }
-    requires tells { TellsExported exported.now.order exports.now }
+    requires tells { IsExportedList exported.now.order exports.now }
     requires rows { IfSome rows.now (λ r. IsClosureOf uses.now r) }
     ensures { IfOk result (λ may. HasConflict uses.now exports.now → IsTrue may) }
 {
@@ -259,7 +259,7 @@ pub(crate) fn find_refused(
     requires nodes { HaveNodes marks.old (length uses.now) }
     ensures found { IfOk result (IsFirstConflict uses.now exports.now) }
     ensures nodes { HaveNodes marks.new (length uses.now) }
-    ensures exported { OnOk result (TellsExported marks.new.exported.order exports.now) }
+    ensures exported { OnOk result (IsExportedList marks.new.exported.order exports.now) }
 {
     marks.exported.clear();
     list_exported(exports, &mut marks.exported)?;

@@ -5,7 +5,7 @@
 ghost use Rattle.std.specs.Prelude.{◌≡◌, ◌<◌, ◌++◌, ◌∷◌, [], IfOk, IfErr, IsTrue, OnOk, OnErr, length, take};
 ghost use Rattle.wit_elaboration.specs.AllWorlds.{elaborated_world};
 ghost use Rattle.wit_elaboration.specs.Elaborated.{elaborated_exports, elaborated_imports};
-ghost use Rattle.wit_elaboration.specs.steps.Elaborating.{HaveNodes, TellsExported};
+ghost use Rattle.wit_elaboration.specs.steps.Elaborating.{HaveNodes, IsExportedList};
 ghost use Rattle.wit_elaboration.specs.Elaboration.{AreElaborated, ElaboratesWorld, HasConflictAt, IsConflictError, IsElaborationError, IsErrorAt, HasSoundEntriesAt, graph_uses};
 ghost use Rattle.wit_elaboration.specs.Imported.{HasConflict};
 ghost use Rattle.wit_elaboration.specs.Sound.{HasSoundEntries};
@@ -280,7 +280,7 @@ fn lists_of(
     requires listed { HasSoundEntries types.now (length uses.now) world.now.imports world.now.exports }
     requires no_conflict { HasConflict uses.now world.now.exports → ⊥ }
     requires nodes { HaveNodes marks.old (length uses.now) }
-    requires exported { TellsExported marks.old.exported.order world.now.exports }
+    requires exported { IsExportedList marks.old.exported.order world.now.exports }
     ensures imports { IfOk result (λ lists. lists.imports ≡ elaborated_imports types.now uses.now world.now.imports world.now.exports) }
     ensures exports { IfOk result (λ lists. lists.exports ≡ elaborated_exports types.now uses.now world.now.exports) }
     ensures nodes { HaveNodes marks.new (length uses.now) }

@@ -2,7 +2,7 @@
 ghost use Rattle.std.specs.Prelude.{◌≡◌, ◌++◌, ◌∷◌, [], OnOk, IfOk, map};
 ghost use Rattle.std.specs.List.{list_any};
 ghost use Rattle.std.specs.Map.{keys_of};
-ghost use Rattle.wit_elaboration.specs.Elaborated.{dependency_of, export_carries, import_carries, settled_item};
+ghost use Rattle.wit_elaboration.specs.Elaborated.{dependency_of, inherited_by_export, inherited_by_import, without_span};
 ghost use Rattle.wit_elaboration.specs.Entries.{fresh_entries, same_key};
 
 use std::alloc::AllocError;
@@ -18,7 +18,7 @@ pub struct Lists {
 
 /// The data that the dependencies of an entry get from it.
 #[derive(Drop)]
-pub(crate) struct Carried {
+pub(crate) struct InheritedData {
     pub(crate) stability: Stability,
     pub(crate) external_id: Option<Text>,
 }
@@ -51,7 +51,7 @@ pub(crate) fn add_import(
     key: &WorldKey,
     item: &WorldItem,
 ) -> Result<(), AllocError>
-    ensures { OnOk result (entries.new ≡ entries.old ++ fresh_entries (keys_of entries.old) ((key.now, settled_item item.now) ∷ [])) }
+    ensures { OnOk result (entries.new ≡ entries.old ++ fresh_entries (keys_of entries.old) ((key.now, without_span item.now) ∷ [])) }
 {
     if has_key(entries, key) {
         return Ok(());
@@ -61,7 +61,7 @@ pub(crate) fn add_import(
 
 /// A copy of an item, with an unknown span where it is an interface.
 fn settled(item: &WorldItem) -> Result<WorldItem, AllocError>
-    ensures { IfOk result (λ copy. copy ≡ settled_item item.now) }
+    ensures { IfOk result (λ copy. copy ≡ without_span item.now) }
 {
     let mut copy = item.try_clone()?;
     if let WorldItem::Interface { span, .. } = &mut copy {
@@ -74,7 +74,7 @@ fn settled(item: &WorldItem) -> Result<WorldItem, AllocError>
 /// docs and an unknown span.
 fn add_dependency(
     entries: &mut Table<WorldKey, WorldItem>,
-    carried: &Carried,
+    carried: &InheritedData,
     interface: usize,
 ) -> Result<(), AllocError>
     ensures { OnOk result (entries.new ≡ entries.old ++ fresh_entries (keys_of entries.old) (dependency_of carried.now interface ∷ [])) }
@@ -100,7 +100,7 @@ fn add_dependency(
 /// Adds interfaces under their own keys, each unless its key is there.
 pub(crate) fn add_dependencies(
     entries: &mut Table<WorldKey, WorldItem>,
-    carried: &Carried,
+    carried: &InheritedData,
     interfaces: &[usize],
 ) -> Result<(), AllocError>
     ensures { OnOk result (entries.new ≡ entries.old ++ fresh_entries (keys_of entries.old) (map (dependency_of carried.now) interfaces.now)) }
@@ -113,8 +113,8 @@ pub(crate) fn add_dependencies(
 
 /// What the dependencies of an import carry: the stability of the interface, or of the type that is
 /// used, and no external id.
-pub(crate) fn import_carried(types: &[TypeDef], item: &WorldItem) -> Result<Carried, AllocError>
-    ensures { IfOk result (λ carried. carried ≡ import_carries types.now item.now) }
+pub(crate) fn import_data(types: &[TypeDef], item: &WorldItem) -> Result<InheritedData, AllocError>
+    ensures { IfOk result (λ carried. carried ≡ inherited_by_import types.now item.now) }
 {
     let stability = match item {
         WorldItem::Interface { stability, .. } => stability.try_clone()?,
@@ -124,15 +124,15 @@ pub(crate) fn import_carried(types: &[TypeDef], item: &WorldItem) -> Result<Carr
         },
         WorldItem::Function(_) => Stability::Unknown,
     };
-    Ok(Carried {
+    Ok(InheritedData {
         stability,
         external_id: None,
     })
 }
 
 /// What the dependencies of an export carry: the interface's stability and external id.
-pub(crate) fn export_carried(item: &WorldItem) -> Result<Carried, AllocError>
-    ensures { IfOk result (λ carried. carried ≡ export_carries item.now) }
+pub(crate) fn export_data(item: &WorldItem) -> Result<InheritedData, AllocError>
+    ensures { IfOk result (λ carried. carried ≡ inherited_by_export item.now) }
 {
     match item {
         WorldItem::Interface {
@@ -141,12 +141,12 @@ pub(crate) fn export_carried(item: &WorldItem) -> Result<Carried, AllocError>
             ..
         } => {
             let (stability, external_id) = try_clone_two(stability, external_id)?;
-            Ok(Carried {
+            Ok(InheritedData {
                 stability,
                 external_id,
             })
         }
-        WorldItem::Function(_) | WorldItem::Type_ { .. } => Ok(Carried {
+        WorldItem::Function(_) | WorldItem::Type_ { .. } => Ok(InheritedData {
             stability: Stability::Unknown,
             external_id: None,
         }),

@@ -3,14 +3,14 @@
 ghost use Rattle.std.specs.Prelude.{◌≡◌, ◌++◌, ◌∷◌, ◌<◌, [], not, OnOk, IfOk, All, filter, length, map};
 ghost use Rattle.std.specs.List.{flat_map};
 ghost use Rattle.std.specs.Map.{keys_of};
-ghost use Rattle.wit_elaboration.specs.Elaborated.{dependency_of, export_carries, needs};
+ghost use Rattle.wit_elaboration.specs.Elaborated.{dependencies_before, dependency_of, inherited_by_export};
 ghost use Rattle.wit_elaboration.specs.steps.Elaborating.{IsExporting, is_listed, walked_exports, walked_imports};
 ghost use Rattle.wit_elaboration.specs.Entries.{fresh_entries, is_interface};
 ghost use Rattle.wit_elaboration.specs.Imported.{exported_interfaces};
 ghost use Rattle.wit_digraph.specs.Relation.{IsAcyclic};
 
-use crate::entries::{Carried, Lists, add_copy, add_dependencies, export_carried};
-use crate::imports::{order_from, walk_needs};
+use crate::entries::{InheritedData, Lists, add_copy, add_dependencies, export_data};
+use crate::imports::{order_from, list_needs};
 use crate::role::{Role, item_interface};
 use std::alloc::{AllocError, Global};
 use wit_data::{InterfaceId, WorldItem, WorldKey};
@@ -49,7 +49,7 @@ fn part_by_export(
 }
 
 /// Exports those of some interfaces that are exported, and imports the others.
-fn add_parted(lists: &mut Lists, carried: &Carried, parted: &Parted) -> Result<(), AllocError>
+fn add_parted(lists: &mut Lists, carried: &InheritedData, parted: &Parted) -> Result<(), AllocError>
     ensures exports { OnOk result (lists.new.exports ≡ lists.old.exports ++ fresh_entries (keys_of lists.old.exports) (map (dependency_of carried.now) parted.now.exported)) }
     ensures imports { OnOk result (lists.new.imports ≡ lists.old.imports ++ fresh_entries (keys_of lists.old.imports) (map (dependency_of carried.now) parted.now.others)) }
 {
@@ -67,11 +67,11 @@ fn add_walked(
     interfaces: &[usize],
 ) -> Result<(), AllocError>
     requires { All (λ i. i < exported.now.nodes) interfaces.now }
-    ensures exports { OnOk result (lists.new.exports ≡ lists.old.exports ++ fresh_entries (keys_of lists.old.exports) (map (dependency_of (export_carries item.now)) (filter (is_listed exported.now) interfaces.now))) }
-    ensures imports { OnOk result (lists.new.imports ≡ lists.old.imports ++ fresh_entries (keys_of lists.old.imports) (map (dependency_of (export_carries item.now)) (filter (λ i. not (is_listed exported.now i)) interfaces.now))) }
+    ensures exports { OnOk result (lists.new.exports ≡ lists.old.exports ++ fresh_entries (keys_of lists.old.exports) (map (dependency_of (inherited_by_export item.now)) (filter (is_listed exported.now) interfaces.now))) }
+    ensures imports { OnOk result (lists.new.imports ≡ lists.old.imports ++ fresh_entries (keys_of lists.old.imports) (map (dependency_of (inherited_by_export item.now)) (filter (λ i. not (is_listed exported.now i)) interfaces.now))) }
 {
     let parted = part_by_export(alloc, exported, interfaces)?;
-    let carried = export_carried(item)?;
+    let carried = export_data(item)?;
     let added = add_parted(lists, &carried, &parted);
     drop(carried);
     added
@@ -92,13 +92,13 @@ fn export_entry(
     requires interface { interface < length uses.now }
     requires exported { exported.now.nodes ≡ length uses.now }
     requires state { IsExporting uses.now (is_listed exported.now) walked.old lists.old.imports lists.old.exports }
-    ensures exports { OnOk result (lists.new.exports ≡ lists.old.exports ++ fresh_entries (keys_of lists.old.exports) (map (dependency_of (export_carries item.now)) (filter (is_listed exported.now) (needs uses.now (Role.Instance interface))) ++ (key.now, item.now) ∷ [])) }
-    ensures imports { OnOk result (lists.new.imports ≡ lists.old.imports ++ fresh_entries (keys_of lists.old.imports) (map (dependency_of (export_carries item.now)) (filter (λ i. not (is_listed exported.now i)) (needs uses.now (Role.Instance interface))))) }
+    ensures exports { OnOk result (lists.new.exports ≡ lists.old.exports ++ fresh_entries (keys_of lists.old.exports) (map (dependency_of (inherited_by_export item.now)) (filter (is_listed exported.now) (dependencies_before uses.now (Role.Instance interface))) ++ (key.now, item.now) ∷ [])) }
+    ensures imports { OnOk result (lists.new.imports ≡ lists.old.imports ++ fresh_entries (keys_of lists.old.imports) (map (dependency_of (inherited_by_export item.now)) (filter (λ i. not (is_listed exported.now i)) (dependencies_before uses.now (Role.Instance interface))))) }
     ensures state { OnOk result (IsExporting uses.now (is_listed exported.now) walked.new lists.new.imports lists.new.exports) }
     ensures nodes { walked.new.nodes ≡ walked.old.nodes }
 {
     let start = walked.order().len();
-    walk_needs(alloc, uses, walked, Role::Instance(interface))?;
+    list_needs(alloc, uses, walked, Role::Instance(interface))?;
     add_walked(alloc, exported, lists, item, order_from(walked, start))?;
     add_copy(&mut lists.exports, key, item)
 }

@@ -2,14 +2,14 @@
 ghost use Rattle.std.specs.Prelude.{◌≡◌, ◌++◌, ◌<◌, ◌≤◌, [], drop, All, OnOk, IfOk, IsTrue, length, map};
 ghost use Rattle.std.specs.List.{flat_map};
 ghost use Rattle.std.specs.Map.{keys_of};
-ghost use Rattle.wit_elaboration.specs.Elaborated.{dependency_of, import_carries, import_walk, needs};
-ghost use Rattle.wit_elaboration.specs.steps.Elaborating.{IsImporting, IsWalk};
+ghost use Rattle.wit_elaboration.specs.Elaborated.{dependencies_before, dependency_of, import_with_needs, inherited_by_import};
+ghost use Rattle.wit_elaboration.specs.steps.Elaborating.{IsImporting, IsPostOrder};
 ghost use Rattle.wit_elaboration.specs.Entries.{by_class, fresh_entries, of_class, role_of};
 ghost use Rattle.wit_elaboration.specs.Sound.{AreSound, IsRoleInRange};
 ghost use Rattle.wit_digraph.specs.Relation.{IsAcyclic};
-ghost use Rattle.wit_digraph.specs.Walks.{fresh};
+ghost use Rattle.wit_digraph.specs.PostOrder.{fresh};
 
-use crate::entries::{add_copy, add_dependencies, add_import, import_carried};
+use crate::entries::{add_copy, add_dependencies, add_import, import_data};
 use crate::role::Role;
 use std::alloc::{AllocError, Global};
 use wit_data::{TypeDef, WorldItem, WorldKey};
@@ -20,7 +20,7 @@ use wit_values::{Items, Table};
 const CLASSES: u32 = 5;
 
 /// Walks what an item needs, from what was walked on.
-pub(crate) fn walk_needs(
+pub(crate) fn list_needs(
     alloc: Global,
     uses: &[Items<usize>],
     walked: &mut Listing,
@@ -28,19 +28,19 @@ pub(crate) fn walk_needs(
 ) -> Result<(), AllocError>
     requires acyclic { IsAcyclic uses.now }
     requires role { IsRoleInRange (length uses.now) role }
-    requires walk { IsWalk uses.now walked.old }
-    ensures ok { OnOk result (walked.new ≡ record walked.old { order = walked.old.order ++ fresh walked.old.order (needs uses.now role) }) }
-    ensures walk { IsWalk uses.now walked.new }
+    requires post_order { IsPostOrder uses.now walked.old }
+    ensures ok { OnOk result (walked.new ≡ record walked.old { order = walked.old.order ++ fresh walked.old.order (dependencies_before uses.now role) }) }
+    ensures post_order { IsPostOrder uses.now walked.new }
 {
     match role {
-        Role::Instance(interface) => walk_uses(alloc, uses, walked, interface.index()),
-        Role::TypeUse(interface) => walked.list_walk(alloc, uses, interface.index()),
+        Role::Instance(interface) => list_uses(alloc, uses, walked, interface.index()),
+        Role::TypeUse(interface) => walked.list_post_order(alloc, uses, interface.index()),
         Role::TypeDefinition | Role::FreeFunction | Role::ResourceFunction => Ok(()),
     }
 }
 
 /// Walks the uses of an interface, from what was walked on.
-fn walk_uses(
+fn list_uses(
     alloc: Global,
     uses: &[Items<usize>],
     walked: &mut Listing,
@@ -48,12 +48,12 @@ fn walk_uses(
 ) -> Result<(), AllocError>
     requires acyclic { IsAcyclic uses.now }
     requires interface { interface < length uses.now }
-    requires walk { IsWalk uses.now walked.old }
-    ensures ok { OnOk result (walked.new ≡ record walked.old { order = walked.old.order ++ fresh walked.old.order (needs uses.now (Role.Instance interface)) }) }
-    ensures walk { IsWalk uses.now walked.new }
+    requires post_order { IsPostOrder uses.now walked.old }
+    ensures ok { OnOk result (walked.new ≡ record walked.old { order = walked.old.order ++ fresh walked.old.order (dependencies_before uses.now (Role.Instance interface)) }) }
+    ensures post_order { IsPostOrder uses.now walked.new }
 {
     for used in direct_uses(uses, interface) {
-        walked.list_walk(alloc, uses, *used)?;
+        walked.list_post_order(alloc, uses, *used)?;
     }
     Ok(())
 }
@@ -80,12 +80,12 @@ fn import_entry(
     requires acyclic { IsAcyclic uses.now }
     requires role { IsRoleInRange (length uses.now) (role_of types.now item.now) }
     requires state { IsImporting uses.now walked.old imports.old }
-    ensures imports { OnOk result (imports.new ≡ imports.old ++ fresh_entries (keys_of imports.old) (import_walk types.now uses.now (key.now, item.now))) }
+    ensures imports { OnOk result (imports.new ≡ imports.old ++ fresh_entries (keys_of imports.old) (import_with_needs types.now uses.now (key.now, item.now))) }
     ensures state { OnOk result (IsImporting uses.now walked.new imports.new) }
     ensures nodes { walked.new.nodes ≡ walked.old.nodes }
 {
     let start = walked.order().len();
-    walk_needs(alloc, uses, walked, Role::of(types, item))?;
+    list_needs(alloc, uses, walked, Role::of(types, item))?;
     add_needed(types, imports, item, order_from(walked, start))?;
     add_import(imports, key, item)
 }
@@ -97,9 +97,9 @@ fn add_needed(
     item: &WorldItem,
     interfaces: &[usize],
 ) -> Result<(), AllocError>
-    ensures { OnOk result (imports.new ≡ imports.old ++ fresh_entries (keys_of imports.old) (map (dependency_of (import_carries types.now item.now)) interfaces.now)) }
+    ensures { OnOk result (imports.new ≡ imports.old ++ fresh_entries (keys_of imports.old) (map (dependency_of (inherited_by_import types.now item.now)) interfaces.now)) }
 {
-    let carried = import_carried(types, item)?;
+    let carried = import_data(types, item)?;
     let added = add_dependencies(imports, &carried, interfaces);
     drop(carried);
     added
@@ -118,7 +118,7 @@ fn import_class(
     requires acyclic { IsAcyclic uses.now }
     requires listed { AreSound types.now (length uses.now) listed.now }
     requires state { IsImporting uses.now walked.old imports.old }
-    ensures imports { OnOk result (imports.new ≡ imports.old ++ fresh_entries (keys_of imports.old) (flat_map (import_walk types.now uses.now) (of_class types.now class listed.now))) }
+    ensures imports { OnOk result (imports.new ≡ imports.old ++ fresh_entries (keys_of imports.old) (flat_map (import_with_needs types.now uses.now) (of_class types.now class listed.now))) }
     ensures state { OnOk result (IsImporting uses.now walked.new imports.new) }
     ensures nodes { walked.new.nodes ≡ walked.old.nodes }
 {
@@ -140,9 +140,9 @@ pub(crate) fn import_listed(
 ) -> Result<Table<WorldKey, WorldItem>, AllocError>
     requires acyclic { IsAcyclic uses.now }
     requires listed { AreSound types.now (length uses.now) listed.now }
-    requires walk { IsWalk uses.now walked.old }
+    requires post_order { IsPostOrder uses.now walked.old }
     requires none { walked.old.order ≡ [] }
-    ensures imports { IfOk result (λ imports. imports ≡ fresh_entries [] (flat_map (import_walk types.now uses.now) (by_class types.now listed.now))) }
+    ensures imports { IfOk result (λ imports. imports ≡ fresh_entries [] (flat_map (import_with_needs types.now uses.now) (by_class types.now listed.now))) }
     ensures nodes { walked.new.nodes ≡ walked.old.nodes }
 {
     let mut imports = Table::new(alloc);

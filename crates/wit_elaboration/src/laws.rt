@@ -5,7 +5,7 @@
 //! stands under the key of an interface is that interface and the interfaces of all entries are there.
 ghost use Rattle.wit_elaboration.specs.examples.ElaborationExamples.{WorkedConflicts, WorkedElaborations};
 ghost use Rattle.wit_elaboration.specs.laws.ElaborationLaws.{ConflictsAreRefused, ElaboratesOnce, ImportsAreExact, ImportsKeepOrder, OrderIsFree};
-ghost use Rattle.wit_elaboration.specs.examples.Examples.{ExamplesOfQuestions, ExamplesOfRelations, ExamplesOfValidity};
+ghost use Rattle.wit_elaboration.specs.examples.Examples.{ExamplesOfQueries, ExamplesOfRelations, ExamplesOfValidity};
 ghost use Rattle.wit_elaboration.specs.laws.KeptByElaboration.{ElaboratedEntries, ElaboratedOnce, ElaborationIsLocal, ExportKeysStay, ImportsAreLeast, LabelsStay, ListedStays};
 
 /// Elaborating an elaborated world changes nothing.
@@ -98,6 +98,6 @@ pub fn examples_of_relations()
 {}
 
 /// Small graphs: what is answered to questions about them.
-pub fn examples_of_questions()
-    ensures { ExamplesOfQuestions }
+pub fn examples_of_queries()
+    ensures { ExamplesOfQueries }
 {}

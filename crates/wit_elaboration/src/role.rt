@@ -1,7 +1,7 @@
 //! What the items of a world are to its elaboration.
 ghost use Rattle.std.specs.Prelude.{◌≡◌};
 ghost use Rattle.std.specs.Option.{option_to_list};
-ghost use Rattle.wit_elaboration.specs.Entries.{class_of, key_interface, item_interface, role_of};
+ghost use Rattle.wit_elaboration.specs.Entries.{elaboration_class, key_interface, item_interface, role_of};
 
 use wit_data::{InterfaceId, TypeDef, WorldItem, WorldKey, type_interface_dep};
 
@@ -62,7 +62,7 @@ impl Role {
     ///
     /// Source: `elaborate_world` of wit-parser 0.263.0.
     pub fn class(self) -> u32
-        ensures { result ≡ class_of self }
+        ensures { result ≡ elaboration_class self }
     {
         match self {
             Role::Instance(_) => 0,

@@ -14,7 +14,7 @@ use Rattle.wit_graph_data.specs.declared.graph.Package.{Package}
 abbrev pub id_text_in : PackageName → List ℕ → List ℕ
 id_text_in owner name = owner.namespace ++ (58 ∷ (owner.name ++ (47 ∷ (name ++ version_suffix owner.version))))
 
--- the same of a package by its place, empty where it isn't there
+-- `namespace:package/name`, and `@version` where there is one, of a name in package p; empty where that isn't there
 abbrev pub id_text : List Package → ℕ → List ℕ → List ℕ
 id_text packages owner name = option_map_or (λ (p : Package). id_text_in p.name name) (slice_get packages owner) []
 
@@ -22,7 +22,7 @@ id_text packages owner name = option_map_or (λ (p : Package). id_text_in p.name
 abbrev pub interface_id_text : List Package → Interface → Option (List ℕ)
 interface_id_text packages interface = option_and_then (λ name. option_map (λ owner. id_text packages owner name) interface.package) interface.name
 
--- the same of an interface by its place
+-- the id text of interface i, where it is there and has a name and a package
 abbrev pub interface_id_at : List Package → List Interface → ℕ → Option (List ℕ)
 interface_id_at packages interfaces i = option_and_then (interface_id_text packages) (slice_get interfaces i)
 

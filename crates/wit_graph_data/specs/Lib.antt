@@ -1,9 +1,9 @@
 pub mod Error
 pub mod ErrorText
 pub mod IdText
-pub mod Questions
+pub mod Queries
 pub mod Relations
-pub mod Rendered
+pub mod RenderedText
 pub mod examples
 pub mod facts
 pub mod steps

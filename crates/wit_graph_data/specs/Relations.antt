@@ -47,7 +47,7 @@ other_package interfaces p i =
 abbrev pub package_needs : List TypeDef → List Interface → List World → ℕ → Package → List ℕ
 package_needs types interfaces worlds p home = filter_map (other_package interfaces p) (package_interfaces types interfaces worlds home)
 
--- row p: the packages that package p depends on directly
+-- list p: the packages that package p depends on directly
 abbrev pub package_uses : List TypeDef → List Interface → List World → List Package → List (List ℕ)
 package_uses types interfaces worlds packages = map (λ (e : ℕ × Package). package_needs types interfaces worlds e.0 e.1) (enumerate_from 0 packages)
 

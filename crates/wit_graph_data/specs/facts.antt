@@ -1,2 +1,2 @@
-pub mod AnswerFacts
-pub mod HeldFacts
+pub mod ContentFacts
+pub mod ResultFacts

@@ -25,7 +25,7 @@ pub enum Cause {
     BorrowInResult,
     /// 16: an `include` renames what the included world doesn't have.
     RenameUnmatched,
-    /// 17: two labels of a world's imports, or of its exports, are too alike.
+    /// 17: two labels of a world's imports, or of its exports, are not strongly unique.
     NotStronglyUnique,
     /// 18: a setter has no getter beside it.
     NoGetter,

@@ -1,6 +1,6 @@
 //! Errors as they are told with their places.
 ghost use Rattle.std.specs.Prelude.{◌≡◌, IfErr, IfOk, string_bytes};
-ghost use Rattle.wit_graph_data.specs.Rendered.{rendered, text_at};
+ghost use Rattle.wit_graph_data.specs.RenderedText.{rendered_text, text_at};
 ghost use Rattle.wit_graph_data.specs.declared.error_kind.ResolveErrorKind.TheVariants.{OutOfMemory};
 
 use crate::error::{ResolveError, ResolveResult};
@@ -14,7 +14,7 @@ impl ResolveError {
     ///
     /// Source: `render` of `ResolveError` of wit-parser 0.263.0.
     pub fn render(&self, alloc: Global, source_map: &SourceMap) -> ResolveResult<String>
-        ensures text { IfOk result (λ text. string_bytes text ≡ rendered source_map.now.files self.now) }
+        ensures text { IfOk result (λ text. string_bytes text ≡ rendered_text source_map.now.files self.now) }
         ensures err { IfErr result (λ e. e ≡ OutOfMemory) }
     {
         let text = format!(in alloc; "{self}")?;

@@ -2,23 +2,23 @@
 use Rattle.std.proofs.Common.{◌≡◌, ℕ, true, false, List, [], ◌∷◌, None, Some, codes, refl, sym, ap, subst, arith, inl, inr, Contains}
 use Rattle.wit_digraph.specs.facts.MemberFacts.{Contains-here, Contains-nil, Contains-there}
 use Rattle.wit_digraph.specs.Relation.{direct}
-use Rattle.wit_sources.specs.Span.{Place}
+use Rattle.wit_sources.specs.Span.{OptionalSpan}
 use Rattle.wit_data.specs.declared.world.World.{World}
 use Rattle.wit_data.specs.declared.world.WorldKey.TheVariants as key
 use Rattle.wit_elaboration.specs.Elaboration.{graph_uses}
 use Rattle.wit_elaboration.specs.Entries.{Entry}
-use Rattle.wit_elaboration.specs.Imported.{HasConflict, IsInConflict, IsRefusedName, exported_keys}
+use Rattle.wit_elaboration.specs.Imported.{HasConflict, IsEntryInConflict, IsRefusedName, exported_keys}
 use Rattle.wit_graph_data.specs.examples.Samples.{entry_of, world_of}
 use Rattle.wit_graph_data.specs.declared.cause.Cause.TheVariants.{TypeExported}
 use Rattle.wit_graph_data.specs.declared.error_kind.ResolveErrorKind.TheVariants.{InvalidTransitiveDependency, Semantic}
 use Rattle.wit_graph_data.specs.declared.graph.Package.{Package}
 use Rattle.wit_graph_theory.specs.facts.OptionFacts.{some_same}
 use Rattle.wit_graph_theory.specs.examples.TestFacts.{one_of_two, only_one}
-use Rattle.wit_transform.specs.TurnCause.{ExportizeCause, HasTypeAt, IsTaken, export_conflict, exportized_taken, type_exported, type_exported_text}
-use Rattle.wit_transform.specs.examples.TurnExamples.{a, b}
-use Rattle.wit_transform.specs.Turned.{exportized}
+use Rattle.wit_transform.specs.TransformCause.{ExportizeCause, HasNameTaken, HasTypeAt, export_conflict, exportized_name_taken, type_exported, type_exported_text}
+use Rattle.wit_transform.specs.examples.TransformExamples.{a, b}
+use Rattle.wit_transform.specs.Transformed.{exportized}
 use Rattle.wit_graph_examples.proofs.TakenNames.{not_taken}
-use Rattle.wit_graph_examples.specs.ReasonsOfTurns.{ExamplesOfConflictsBesideTypes, chain_with_k, ends_and, k}
+use Rattle.wit_graph_examples.specs.TransformCauses.{ExamplesOfConflictsBesideTypes, chain_with_k, ends_and, k}
 
 abbrev c : Entry
 c = entry_of 2
@@ -34,14 +34,14 @@ b_outside has = elim (one_of_two 0 2 1 has) [ inl same ↦ absurd (omega (arith,
 ends_conflict : HasConflict (graph_uses chain_with_k) (a ∷ c ∷ [])
 ends_conflict = (0, (2, 1, Contains-there 0 2 (2 ∷ []) (Contains-here 2 []), Contains-here 1 [], b_outside, (0 ∷ [], (Contains-here 0 [], refl))), Contains-here 0 (2 ∷ []))
 
-c_leads : IsInConflict (graph_uses chain_with_k) (a ∷ c ∷ []) c
+c_leads : IsEntryInConflict (graph_uses chain_with_k) (a ∷ c ∷ []) c
 c_leads = (2, Contains-here 2 [], (1, 1, Contains-here 1 [], ([], refl), b_outside, (0, (0 ∷ [], (Contains-here 0 [], refl)), Contains-here 0 (2 ∷ []))))
 
-from_a : IsInConflict (graph_uses chain_with_k) (a ∷ c ∷ []) a → ⊥
+from_a : IsEntryInConflict (graph_uses chain_with_k) (a ∷ c ∷ []) a → ⊥
 from_a leads = Contains-nil (subst (λ (i : ℕ). Contains (direct (graph_uses chain_with_k) i) leads.2.0) (sym (only_one 0 leads.0 leads.1)) leads.2.2)
 
-a_safe : (f : Entry) → Contains (a ∷ []) f → IsInConflict (graph_uses chain_with_k) (a ∷ c ∷ []) f → ⊥
-a_safe f has conflict = from_a (subst (λ (e : Entry). IsInConflict (graph_uses chain_with_k) (a ∷ c ∷ []) e) (sym (only_one a f has)) conflict)
+a_safe : (f : Entry) → Contains (a ∷ []) f → IsEntryInConflict (graph_uses chain_with_k) (a ∷ c ∷ []) f → ⊥
+a_safe f has conflict = from_a (subst (λ (e : Entry). IsEntryInConflict (graph_uses chain_with_k) (a ∷ c ∷ []) e) (sym (only_one a f has)) conflict)
 
 refused_c : IsRefusedName chain_with_k.packages chain_with_k.interfaces (graph_uses chain_with_k) (a ∷ c ∷ []) (codes "foo:bar/c")
 refused_c = (key.Interface 2, (a ∷ [], c, [], refl, a_safe, c_leads, refl), refl)
@@ -54,7 +54,7 @@ no_type_there label has = elim (one_of_two a c _ has.2) [
   | inr same ↦ let keys = ap (λ (e : Entry). e.0) same in cc
 ]
 
-x_is_free : (home : Package) → IsTaken chain_with_k 0 world_w (codes "x") home → ⊥
+x_is_free : (home : Package) → HasNameTaken chain_with_k 0 world_w (codes "x") home → ⊥
 x_is_free home taken = not_taken chain_with_k 0 0 world_w (codes "x") _ home refl refl refl taken
 
 k_there : HasTypeAt (a ∷ c ∷ k ∷ []) (codes "k")
@@ -65,16 +65,16 @@ no_type_told : (world : World) (label : List ℕ) → world_w ≡ world
 no_type_told world label same cause =
     elim (subst (λ (x : World). ExportizeCause chain_with_k 0 x (exportized (ends_and false) (Some (codes "x")) x) (Semantic None (type_exported_text label) TypeExported)) (sym same) cause) [
       | export_conflict name free types conflict refused is ↦ cc
-      | exportized_taken home taken is ↦ cc
+      | exportized_name_taken home taken is ↦ cc
       | type_exported other has is ↦ no_type_there other has
     ]
 
-no_conflict_told : (world : World) (span : Place) (name : List ℕ) → world_w ≡ world
+no_conflict_told : (world : World) (span : OptionalSpan) (name : List ℕ) → world_w ≡ world
     → ExportizeCause chain_with_k 0 world (exportized (ends_and true) (Some (codes "x")) world) (InvalidTransitiveDependency span name) → ⊥
 no_conflict_told world span name same cause =
     elim (subst (λ (x : World). ExportizeCause chain_with_k 0 x (exportized (ends_and true) (Some (codes "x")) x) (InvalidTransitiveDependency span name)) (sym same) cause) [
       | export_conflict n free types conflict refused is ↦ types (codes "k") k_there
-      | exportized_taken home taken is ↦ cc
+      | exportized_name_taken home taken is ↦ cc
       | type_exported label has is ↦ cc
     ]
 

@@ -1,4 +1,4 @@
 mod Apart
 mod Chained
 mod TakenNames
-mod Turned
+mod Transformed

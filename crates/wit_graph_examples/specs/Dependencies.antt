@@ -5,7 +5,7 @@ use Rattle.wit_data.specs.declared.types.TypeDef.{TypeDef}
 use Rattle.wit_data.specs.declared.types.TypeDefKind.TheVariants as kind
 use Rattle.wit_data.specs.declared.types.Type_.TheVariants as type
 use Rattle.wit_data.specs.declared.world.World.{World}
-use Rattle.wit_graph_data.specs.Questions.{interface_direct_deps, topological_packages}
+use Rattle.wit_graph_data.specs.Queries.{interface_direct_deps, topological_packages}
 use Rattle.wit_graph_data.specs.examples.Samples.{entry_of, interface_of, no_docs, type_in, world_of}
 use Rattle.wit_graph_data.specs.declared.graph.Package.{Package}
 

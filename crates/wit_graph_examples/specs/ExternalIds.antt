@@ -7,7 +7,7 @@ use Rattle.wit_data.specs.declared.types.TypeOwner.TheVariants as owner
 use Rattle.wit_data.specs.declared.types.Type_.TheVariants as type
 use Rattle.wit_data.specs.declared.world.WorldItem.{WorldItem}
 use Rattle.wit_data.specs.declared.world.WorldItem.TheVariants as item
-use Rattle.wit_graph_data.specs.Questions.{external_id_value}
+use Rattle.wit_graph_data.specs.Queries.{external_id_value}
 use Rattle.wit_graph_data.specs.examples.Samples.{function_of, no_docs, type_of}
 
 -- a number of a world with this external id

@@ -9,8 +9,8 @@ use Rattle.wit_data.specs.declared.world.WorldKey.TheVariants as key
 use Rattle.wit_elaboration.specs.Entries.{Entry}
 use Rattle.wit_graph_data.specs.examples.Samples.{function_of, labelled_entry, sample, type_in, type_of}
 use Rattle.wit_graph_data.specs.declared.graph.Graph.{Graph}
-use Rattle.wit_transform.specs.examples.TurnExamples.{a, b, named}
-use Rattle.wit_transform.specs.Turned.{importized, turned}
+use Rattle.wit_transform.specs.examples.TransformExamples.{a, b, named}
+use Rattle.wit_transform.specs.Transformed.{importized, transformed}
 
 -- the sample, in which interface b uses a, and a world that defines a type k and has another name u of the type of a
 abbrev pub with_types : List ℕ → List Entry → List Entry → Graph
@@ -27,8 +27,8 @@ abbrev pub u : Entry
 u = (key.Name (codes "u"), item.Type_ 3 None)
 
 -- the world with these lists whose exports became imports
-abbrev pub typed_turned : List Entry → List Entry → Graph
-typed_turned imports exports = turned (with_types (codes "w") imports exports) 0 (importized None)
+abbrev pub typed_transformed : List Entry → List Entry → Graph
+typed_transformed imports exports = transformed (with_types (codes "w") imports exports) 0 (importized None)
 
 -- and the graph in which it imports these
 abbrev pub typed_result : List Entry → Graph
@@ -36,16 +36,16 @@ typed_result imports = with_types (codes "w-importized") imports []
 
 pub record ExamplesOfKeptImports : Type 0 where
   -- both types stay, whether they are the world's own or another's, and stand by class behind the interfaces
-  pub types_stay : typed_turned (a ∷ u ∷ k ∷ []) (b ∷ []) ≡ typed_result (a ∷ b ∷ u ∷ k ∷ [])
-  pub not_exports_alone : typed_turned (a ∷ u ∷ k ∷ []) (b ∷ []) ≢ typed_result (a ∷ b ∷ [])
-  pub own_not_dropped : typed_turned (a ∷ u ∷ k ∷ []) (b ∷ []) ≢ typed_result (a ∷ b ∷ u ∷ [])
-  pub use_not_dropped : typed_turned (a ∷ u ∷ k ∷ []) (b ∷ []) ≢ typed_result (a ∷ b ∷ k ∷ [])
+  pub types_stay : typed_transformed (a ∷ u ∷ k ∷ []) (b ∷ []) ≡ typed_result (a ∷ b ∷ u ∷ k ∷ [])
+  pub not_exports_alone : typed_transformed (a ∷ u ∷ k ∷ []) (b ∷ []) ≢ typed_result (a ∷ b ∷ [])
+  pub own_not_dropped : typed_transformed (a ∷ u ∷ k ∷ []) (b ∷ []) ≢ typed_result (a ∷ b ∷ u ∷ [])
+  pub use_not_dropped : typed_transformed (a ∷ u ∷ k ∷ []) (b ∷ []) ≢ typed_result (a ∷ b ∷ k ∷ [])
   -- where nothing is exported they stay too, and the interface that one of them needs is imported again
-  pub needed_again : typed_turned (a ∷ u ∷ k ∷ []) [] ≡ typed_result (a ∷ u ∷ k ∷ [])
-  pub not_types_alone : typed_turned (a ∷ u ∷ k ∷ []) [] ≢ typed_result (u ∷ k ∷ [])
+  pub needed_again : typed_transformed (a ∷ u ∷ k ∷ []) [] ≡ typed_result (a ∷ u ∷ k ∷ [])
+  pub not_types_alone : typed_transformed (a ∷ u ∷ k ∷ []) [] ≢ typed_result (u ∷ k ∷ [])
   -- but no other one
-  pub not_needed : typed_turned (a ∷ b ∷ u ∷ k ∷ []) [] ≡ typed_result (a ∷ u ∷ k ∷ [])
-  pub not_kept : typed_turned (a ∷ b ∷ u ∷ k ∷ []) [] ≢ typed_result (a ∷ b ∷ u ∷ k ∷ [])
+  pub not_needed : typed_transformed (a ∷ b ∷ u ∷ k ∷ []) [] ≡ typed_result (a ∷ u ∷ k ∷ [])
+  pub not_kept : typed_transformed (a ∷ b ∷ u ∷ k ∷ []) [] ≢ typed_result (a ∷ b ∷ u ∷ k ∷ [])
 
 -- a function f, with parameters of these types, and interface a under a label
 abbrev pub function_f : List Type_ → Entry
@@ -55,25 +55,25 @@ abbrev pub labelled_a : Entry
 labelled_a = labelled_entry (codes "l") 0
 
 -- a world without types whose exports became imports, and the graph in which it imports these
-abbrev pub plain_turned : List Entry → List Entry → Graph
-plain_turned imports exports = turned (sample imports exports) 0 (importized None)
+abbrev pub plain_transformed : List Entry → List Entry → Graph
+plain_transformed imports exports = transformed (sample imports exports) 0 (importized None)
 
 abbrev pub plain_result : List Entry → Graph
 plain_result imports = named (codes "w-importized") imports []
 
 pub record ExamplesOfDroppedImports : Type 0 where
   -- an interface goes, under its own key
-  pub interface : plain_turned (a ∷ b ∷ []) (a ∷ []) ≡ plain_result (a ∷ [])
-  pub interface_not_kept : plain_turned (a ∷ b ∷ []) (a ∷ []) ≢ plain_result (a ∷ b ∷ [])
+  pub interface : plain_transformed (a ∷ b ∷ []) (a ∷ []) ≡ plain_result (a ∷ [])
+  pub interface_not_kept : plain_transformed (a ∷ b ∷ []) (a ∷ []) ≢ plain_result (a ∷ b ∷ [])
   -- and under a label
-  pub labelled : plain_turned (labelled_a ∷ []) (a ∷ []) ≡ plain_result (a ∷ [])
-  pub labelled_not_kept : plain_turned (labelled_a ∷ []) (a ∷ []) ≢ plain_result (labelled_a ∷ a ∷ [])
+  pub labelled : plain_transformed (labelled_a ∷ []) (a ∷ []) ≡ plain_result (a ∷ [])
+  pub labelled_not_kept : plain_transformed (labelled_a ∷ []) (a ∷ []) ≢ plain_result (labelled_a ∷ a ∷ [])
   -- a function goes
-  pub function : plain_turned (function_f [] ∷ []) (a ∷ []) ≡ plain_result (a ∷ [])
-  pub function_not_kept : plain_turned (function_f [] ∷ []) (a ∷ []) ≢ plain_result (a ∷ function_f [] ∷ [])
+  pub function : plain_transformed (function_f [] ∷ []) (a ∷ []) ≡ plain_result (a ∷ [])
+  pub function_not_kept : plain_transformed (function_f [] ∷ []) (a ∷ []) ≢ plain_result (a ∷ function_f [] ∷ [])
   -- so where a function stands under one label on both sides, that of the exports is the one that is imported then
-  pub same_label : plain_turned (function_f [] ∷ []) (function_f (type.U32 ∷ []) ∷ []) ≡ plain_result (function_f (type.U32 ∷ []) ∷ [])
-  pub not_that_of_the_imports : plain_turned (function_f [] ∷ []) (function_f (type.U32 ∷ []) ∷ []) ≢ plain_result (function_f [] ∷ [])
+  pub same_label : plain_transformed (function_f [] ∷ []) (function_f (type.U32 ∷ []) ∷ []) ≡ plain_result (function_f (type.U32 ∷ []) ∷ [])
+  pub not_that_of_the_imports : plain_transformed (function_f [] ∷ []) (function_f (type.U32 ∷ []) ∷ []) ≢ plain_result (function_f [] ∷ [])
   -- where nothing is exported nothing stays
-  pub all : plain_turned (a ∷ b ∷ function_f [] ∷ []) [] ≡ plain_result []
-  pub not_as_it_was : plain_turned (a ∷ b ∷ function_f [] ∷ []) [] ≢ plain_result (a ∷ b ∷ function_f [] ∷ [])
+  pub all : plain_transformed (a ∷ b ∷ function_f [] ∷ []) [] ≡ plain_result []
+  pub not_as_it_was : plain_transformed (a ∷ b ∷ function_f [] ∷ []) [] ≢ plain_result (a ∷ b ∷ function_f [] ∷ [])

@@ -2,6 +2,6 @@ pub mod CanonicalNames
 pub mod Dependencies
 pub mod ExternalIds
 pub mod KeptImports
-pub mod ReasonsOfTurns
+pub mod TransformCauses
 pub mod TwoPlaces
 pub mod VersionTracks

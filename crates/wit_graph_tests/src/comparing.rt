@@ -1,4 +1,4 @@
-//! What speaks against merging another graph into a valid one: each of the three reasons that read the two graphs and
+//! What holds against merging another graph into a valid one: each of the three reasons that read the two graphs and
 //! what is matched of them alone.
 use crate::fixtures::{
     entries, function, function_entry, interface_item, label, names, string, text, type_at,

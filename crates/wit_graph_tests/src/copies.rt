@@ -1,5 +1,5 @@
 //! What calls on data answer, each once with ample memory.
-use crate::fixtures::{assert_told, text};
+use crate::fixtures::{assert_text, text};
 use crate::shape::{Change, group, package};
 use std::alloc::Global;
 use std::process::Abort;
@@ -21,7 +21,7 @@ fn shown_gate(rt: &impl Abort, alloc: Global) -> String {
 
 #[test]
 fn gates_are_copied_and_shown(rt: HostRuntime) {
-    assert_told(
+    assert_text(
         &rt,
         shown_gate(&rt, rt.alloc()),
         "Unstable { feature: \"fancy\", deprecated: Some(Version { major: 0, minor: 3, patch: 1 }) }",
@@ -83,7 +83,7 @@ fn uses(rt: &impl Abort, alloc: Global) -> String {
 
 #[test]
 fn interfaces_tell_what_they_use(rt: HostRuntime) {
-    assert_told(&rt, uses(&rt, rt.alloc()), "[[], [0], [1], []]");
+    assert_text(&rt, uses(&rt, rt.alloc()), "[[], [0], [1], []]");
 }
 
 #[test]

@@ -3,7 +3,7 @@ ghost use Rattle.wit_data.specs.Reference.{type_references};
 ghost use Rattle.wit_digraph.specs.Relation.{IsAcyclic};
 
 use crate::fixtures::{
-    assert_told, interface, interface_key, interface_owner, one, text, type_def,
+    assert_text, interface, interface_key, interface_owner, one, text, type_def,
 };
 use std::alloc::Global;
 use std::process::Abort;
@@ -213,7 +213,7 @@ const IMPORTS: [ImportName; 14] = [
 #[test]
 fn resources_are_named(rt: HostRuntime) {
     for &(mangling, interface, resource, intrinsic, wanted) in &IMPORTS {
-        assert_told(
+        assert_text(
             &rt,
             import_name(&rt, rt.alloc(), mangling, interface, resource, intrinsic),
             wanted,
@@ -257,7 +257,7 @@ const DTORS: [(ManglingAndAbi, usize, usize, &str); 5] = [
 #[test]
 fn destructors_are_named(rt: HostRuntime) {
     for &(mangling, interface, resource, wanted) in &DTORS {
-        assert_told(
+        assert_text(
             &rt,
             dtor_name(&rt, rt.alloc(), mangling, interface, resource),
             wanted,

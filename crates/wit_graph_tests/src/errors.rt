@@ -1,6 +1,6 @@
 //! Errors that no push tells, with their texts as wit-parser 0.263.0 has them. The texts of the others are in
 //! `wit_resolve_graph_tests` and in the cases of `witgraph_cases`.
-use crate::fixtures::{assert_told, package_name, string, text};
+use crate::fixtures::{assert_text, package_name, string, text};
 use std::alloc::Global;
 use std::process::Abort;
 use wit_data::{Items, Span, Stability, TryClone, Version};
@@ -89,7 +89,7 @@ fn number_and_text(rt: &impl Abort, alloc: Global, told: Told) -> String {
 #[test]
 fn errors_have_their_texts(rt: HostRuntime) {
     for &(told, text) in &TEXTS {
-        assert_told(&rt, number_and_text(&rt, rt.alloc(), told), text);
+        assert_text(&rt, number_and_text(&rt, rt.alloc(), told), text);
     }
 }
 

@@ -1,5 +1,5 @@
 //! Names and use paths as WIT writes them.
-use crate::fixtures::{assert_told, package_name, text};
+use crate::fixtures::{assert_text, package_name, text};
 use std::alloc::Global;
 use std::cmp::Ordering;
 use std::process::Abort;
@@ -67,10 +67,10 @@ const NO_PATHS: [&str; 20] = [
 #[test]
 fn use_paths_are_read(rt: HostRuntime) {
     for &(path, parts) in &PATHS {
-        assert_told(&rt, told(&rt, rt.alloc(), path), parts);
+        assert_text(&rt, told(&rt, rt.alloc(), path), parts);
     }
     for &path in &NO_PATHS {
-        assert_told(&rt, told(&rt, rt.alloc(), path), "invalid use path");
+        assert_text(&rt, told(&rt, rt.alloc(), path), "invalid use path");
     }
 }
 
@@ -95,7 +95,7 @@ fn order_of_versions(rt: &impl Abort, alloc: Global) -> Ordering {
 
 #[test]
 fn package_names_are_shown_and_ordered(rt: HostRuntime) {
-    assert_told(
+    assert_text(
         &rt,
         shown_names(&rt, rt.alloc()),
         "foo:bar foo:bar@1.0.0-rc.1+b",

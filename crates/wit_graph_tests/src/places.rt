@@ -1,5 +1,5 @@
 //! Errors as they are told in a file and without a place, and tracks of versions.
-use crate::fixtures::{assert_told, string};
+use crate::fixtures::{assert_text, string};
 use std::alloc::Global;
 use std::process::Abort;
 use wit_data::{PackageName, SourceMap, Span, Version};
@@ -25,13 +25,13 @@ fn bad_at(rt: &impl Abort, alloc: Global, span: Span) -> String {
 #[test]
 fn an_error_without_a_place_is_its_text(rt: HostRuntime) {
     for span in [Span::unknown(), Span::new(25, 26)] {
-        assert_told(&rt, bad_at(&rt, rt.alloc(), span), "<unknown> bad");
+        assert_text(&rt, bad_at(&rt, rt.alloc(), span), "<unknown> bad");
     }
 }
 
 #[test]
 fn an_error_is_told_in_its_line(rt: HostRuntime) {
-    assert_told(
+    assert_text(
         &rt,
         bad_at(&rt, rt.alloc(), Span::new(13, 18)),
         "m.wit:2:1 bad\n\
@@ -43,7 +43,7 @@ fn an_error_is_told_in_its_line(rt: HostRuntime) {
 }
 
 /// Where a second file begins, and how a text is told at a span of the two.
-fn highlighted(rt: &impl Abort, alloc: Global, span: Span) -> String {
+fn highlight_text(rt: &impl Abort, alloc: Global, span: Span) -> String {
     let mut map = file(rt, alloc);
     let start = map.append(alloc, file(rt, alloc)).expect(rt, "positions");
     let end = map.end();
@@ -57,9 +57,9 @@ fn highlighted(rt: &impl Abort, alloc: Global, span: Span) -> String {
 #[test]
 fn a_text_is_told_in_the_line_of_its_span(rt: HostRuntime) {
     let alloc = rt.alloc();
-    assert_told(
+    assert_text(
         &rt,
-        highlighted(&rt, alloc, Span::new(44, 45)),
+        highlight_text(&rt, alloc, Span::new(44, 45)),
         "25 50 bad\n\
         \x20    --> m.wit:2:7\n\
         \x20     |\n\
@@ -67,7 +67,7 @@ fn a_text_is_told_in_the_line_of_its_span(rt: HostRuntime) {
         \x20     |       ^",
     );
     for span in [Span::unknown(), Span::new(50, 51)] {
-        assert_told(&rt, highlighted(&rt, alloc, span), "25 50 nowhere");
+        assert_text(&rt, highlight_text(&rt, alloc, span), "25 50 nowhere");
     }
 }
 
@@ -97,7 +97,7 @@ fn track(rt: &impl Abort, alloc: Global, version: &Version) -> String {
 fn versions_have_tracks(rt: HostRuntime) {
     for &(text, shown, whole) in &TRACKS {
         let version = Version::parse(rt.alloc(), text).expect(&rt, "a version");
-        assert_told(&rt, track_text(&rt, rt.alloc(), &version), shown);
-        assert_told(&rt, track(&rt, rt.alloc(), &version), whole);
+        assert_text(&rt, track_text(&rt, rt.alloc(), &version), shown);
+        assert_text(&rt, track(&rt, rt.alloc(), &version), whole);
     }
 }

@@ -1,6 +1,6 @@
 //! Rows of bits: joins of every small length, and what a closure tells against a plain loop, on graphs of fewer
 //! interfaces than a row has columns, of as many, and of more.
-use crate::fixtures::{assert_told, interface, interface_owner, type_at, type_def};
+use crate::fixtures::{assert_text, interface, interface_owner, type_at, type_def};
 use std::alloc::Global;
 use std::process::Abort;
 use wit_data::{Items, Names, PackageId, Type_, TypeDefKind, uses_of};
@@ -19,7 +19,7 @@ fn joined(rt: &impl Abort, alloc: Global, into: &[u64], from: &[u64]) -> String 
 #[test]
 fn rows_of_five_words_are_joined(rt: HostRuntime) {
     let told = joined(&rt, rt.alloc(), &[1, 2, 4, 8, 16], &[16, 8, 4, 2, 1]);
-    assert_told(&rt, told, "[17, 10, 4, 10, 17]");
+    assert_text(&rt, told, "[17, 10, 4, 10, 17]");
 }
 
 /// Whether a join of rows of so many words is that of a plain loop.

@@ -1,7 +1,7 @@
 //! Types of one name in two graphs: which agree in structure, and what is told of those that don't.
 use crate::comparing::mismatch;
 use crate::fixtures::{
-    assert_told, interface, interface_owner, one, package_name, string, text, type_at, type_def,
+    assert_text, interface, interface_owner, one, package_name, string, text, type_at, type_def,
 };
 use crate::validity::listed_interfaces;
 use std::alloc::Global;
@@ -325,7 +325,7 @@ fn kinds_come_before_parts(rt: HostRuntime) {
         ),
     ];
     for &(ours, other, text) in &rows {
-        assert_told(&rt, told(&rt, rt.alloc(), ours, other), text);
+        assert_text(&rt, told(&rt, rt.alloc(), ours, other), text);
     }
 }
 
@@ -420,7 +420,7 @@ fn parts_are_told_by_their_paths(rt: HostRuntime) {
         ),
     ];
     for &(ours, other, text) in &rows {
-        assert_told(&rt, told(&rt, rt.alloc(), ours, other), text);
+        assert_text(&rt, told(&rt, rt.alloc(), ours, other), text);
     }
 }
 
@@ -458,8 +458,8 @@ fn doubled_told(rt: &impl Abort, alloc: Global, count: usize, ours: bool, other:
 #[test]
 fn shared_parts_are_compared_once(rt: HostRuntime) {
     let same = doubled_told(&rt, rt.alloc(), 5000, false, false);
-    assert_told(&rt, same, "-");
-    assert_told(
+    assert_text(&rt, same, "-");
+    assert_text(
         &rt,
         doubled_told(&rt, rt.alloc(), 2, false, true),
         "failed to merge package `foo:bar` into existing copy: failed to merge interface `i`: mismatch in type `t`: at element.0.0: different kinds of types",

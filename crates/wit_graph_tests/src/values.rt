@@ -1,5 +1,5 @@
 //! The calls on texts, lists, tables and versions that take memory, each once, and versions as SemVer has them.
-use crate::fixtures::{assert_told, string, text};
+use crate::fixtures::{assert_text, string, text};
 use std::alloc::Global;
 use std::cmp::Ordering;
 use std::process::Abort;
@@ -9,7 +9,7 @@ use wit_values::{
 };
 
 /// A text and how its copy is shown.
-fn shown_text(rt: &impl Abort, alloc: Global, kept: &str) -> String {
+fn snippet_text(rt: &impl Abort, alloc: Global, kept: &str) -> String {
     let kept = text(rt, alloc, kept);
     let copy = kept.try_clone().expect(rt, "memory");
     format!(in alloc; "{kept} {copy:?}").expect(rt, "memory")
@@ -17,9 +17,9 @@ fn shown_text(rt: &impl Abort, alloc: Global, kept: &str) -> String {
 
 #[test]
 fn texts_are_copied_and_shown(rt: HostRuntime) {
-    assert_told(
+    assert_text(
         &rt,
-        shown_text(&rt, rt.alloc(), "a\"\u{e9}"),
+        snippet_text(&rt, rt.alloc(), "a\"\u{e9}"),
         "a\"\u{e9} \"a\\\"\u{e9}\"",
     );
 }
@@ -37,7 +37,7 @@ fn shown_list(rt: &impl Abort, alloc: Global) -> String {
 
 #[test]
 fn lists_grow_and_are_copied(rt: HostRuntime) {
-    assert_told(&rt, shown_list(&rt, rt.alloc()), "[10, 30, 40]");
+    assert_text(&rt, shown_list(&rt, rt.alloc()), "[10, 30, 40]");
 }
 
 /// A table of one text, copied.
@@ -68,9 +68,9 @@ fn shown_set(rt: &impl Abort, alloc: Global) -> String {
 
 #[test]
 fn tables_grow_and_are_copied(rt: HostRuntime) {
-    assert_told(&rt, shown_table(&rt, rt.alloc()), "{\"b\": 1}");
-    assert_told(&rt, shown_names(&rt, rt.alloc()), "{\"b\": 1}");
-    assert_told(&rt, shown_set(&rt, rt.alloc()), "{\"b\", \"a\"}");
+    assert_text(&rt, shown_table(&rt, rt.alloc()), "{\"b\": 1}");
+    assert_text(&rt, shown_names(&rt, rt.alloc()), "{\"b\": 1}");
+    assert_text(&rt, shown_set(&rt, rt.alloc()), "{\"b\", \"a\"}");
 }
 
 /// What a version that is read and copied is shown as, or nothing where the text is no version.
@@ -112,10 +112,10 @@ const NO_VERSIONS: [&str; 9] = [
 #[test]
 fn versions_are_shown_as_they_were_read(rt: HostRuntime) {
     for &text in &VERSIONS {
-        assert_told(&rt, shown_version(&rt, rt.alloc(), text), text);
+        assert_text(&rt, shown_version(&rt, rt.alloc(), text), text);
     }
     for &text in &NO_VERSIONS {
-        assert_told(&rt, shown_version(&rt, rt.alloc(), text), "");
+        assert_text(&rt, shown_version(&rt, rt.alloc(), text), "");
     }
 }
 

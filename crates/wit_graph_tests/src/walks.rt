@@ -1,8 +1,8 @@
 //! Walks, cycles and uses of small rows, worked by hand.
-use crate::fixtures::assert_told;
+use crate::fixtures::assert_text;
 use std::alloc::Global;
 use std::process::Abort;
-use wit_digraph::{CycleUse, Listing, find_cycle, is_acyclic, walk_order};
+use wit_digraph::{CycleUse, Listing, find_cycle, is_acyclic, post_order_of_roots};
 use wit_values::Items;
 
 /// Four rows.
@@ -20,16 +20,16 @@ fn orders(rt: &impl Abort, alloc: Global) -> String {
     let uses = rows(rt, alloc, [&[], &[0], &[0, 1], &[1, 0, 1]]);
     assert!(rt; is_acyclic(alloc, &uses).expect(rt, "memory"));
     assert_eq!(rt; uses.len(), 4);
-    let both = walk_order(alloc, &uses, &[2, 3]).expect(rt, "memory");
+    let both = post_order_of_roots(alloc, &uses, &[2, 3]).expect(rt, "memory");
     let mut listing = Listing::new(alloc, uses.len()).expect(rt, "memory");
-    listing.list_walk(alloc, &uses, 3).expect(rt, "memory");
+    listing.list_post_order(alloc, &uses, 3).expect(rt, "memory");
     let one = listing.order();
     format!(in alloc; "{both:?} {one:?}").expect(rt, "memory")
 }
 
 #[test]
 fn walks_list_uses_before_users(rt: HostRuntime) {
-    assert_told(&rt, orders(&rt, rt.alloc()), "[0, 1, 2, 3] [0, 1, 3]");
+    assert_text(&rt, orders(&rt, rt.alloc()), "[0, 1, 2, 3] [0, 1, 3]");
 }
 
 /// A use on a cycle of these rows, where they have one.

@@ -1,6 +1,6 @@
 //! All worlds of a graph elaborated at once: of two worlds, and of two of which the second is in conflict.
 use crate::fixtures::{
-    assert_told, entries, interface, interface_key, interface_owner, label, names, package_name,
+    assert_text, entries, interface, interface_key, interface_owner, label, names, package_name,
     string, text, type_at, type_def, world,
 };
 use std::alloc::{AllocError, Global};
@@ -234,6 +234,6 @@ const REFUSED: &str =
 #[test]
 fn all_worlds_are_elaborated_or_none(rt: HostRuntime) {
     let lab = label(&rt, rt.alloc(), "lab");
-    assert_told(&rt, elaborated(&rt, rt.alloc(), lab), ELABORATED);
-    assert_told(&rt, elaborated(&rt, rt.alloc(), interface_key(0)), REFUSED);
+    assert_text(&rt, elaborated(&rt, rt.alloc(), lab), ELABORATED);
+    assert_text(&rt, elaborated(&rt, rt.alloc(), interface_key(0)), REFUSED);
 }

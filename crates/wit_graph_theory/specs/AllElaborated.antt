@@ -1,5 +1,5 @@
--- A graph whose worlds were listed anew, as a merge and semver merging leave it: all its worlds elaborated, and what
--- speaks against it.
+-- A graph whose worlds have their new entries, as a merge and semver merging leave it: all its worlds elaborated, and what
+-- holds against it.
 -- Source: `merge` and `merge_world_imports_based_on_semver` of wit-parser 0.263.0; that cycles are refused, and how
 -- those of interfaces and types are told, are rules of this project.
 use Rattle.std.specs.Prelude.{◌≡◌, ℕ, List, ◌++◌, Option, Some, codes, slice_get, Contains}
@@ -16,7 +16,7 @@ use Rattle.wit_graph_data.specs.Relations.{package_uses}
 use Rattle.wit_graph_data.specs.declared.graph.Graph.{Graph}
 use Rattle.wit_graph_data.specs.declared.graph.Package.{Package}
 
--- ---- what speaks against it
+-- ---- what holds against it
 
 -- which package of a graph depends on which
 abbrev pub graph_package_uses : Graph → List (List ℕ)
@@ -59,7 +59,7 @@ pub record RefersToItself (g : Graph) (message : List ℕ) : Type 0 where
 
 -- 4: what the exports of a world need from outside is exported; told of any such world, at its span. Where
 -- interfaces or types are on cycles there is no elaboration to speak of; a cycle of packages is no hindrance
-pub record IsInConflict (g : Graph) (span : Option (ℕ × ℕ)) (name : List ℕ) : Type 0 where
+pub record HasWorldInConflict (g : Graph) (span : Option (ℕ × ℕ)) (name : List ℕ) : Type 0 where
   pub interfaces : (message : List ℕ) → UsesItself g message → ⊥
   pub types : (message : List ℕ) → RefersToItself g message → ⊥
   pub world : World

@@ -1,5 +1,5 @@
--- A source that leaves things out: what is handed in, with its lists cut to what takes part. A package with
--- gates is this source, and so is a graph of which everything takes part.
+-- A source that leaves things out: what comes in, with its lists cut to what is selected. A package with
+-- gates is this source, and so is a graph of which everything is selected.
 use Rattle.std.specs.Prelude.{◌≡◌, ℕ, ◌<◌, Bool, true, List, [], map, filter, length, nat_lt, None, Some, Contains, slice_get}
 use Rattle.wit_data.specs.Each.{Each, EachAt, SomeAt}
 use Rattle.wit_data.specs.Entries.{Entry}
@@ -16,22 +16,22 @@ use Rattle.wit_data.specs.declared.world.WorldItem.TheVariants as item
 use Rattle.wit_graph_data.specs.declared.graph.Graph.{Graph}
 use Rattle.wit_graph_theory.specs.facts.Good.{IsGoodExport, IsGoodImport, IsGoodInterface, IsGoodType}
 use Rattle.wit_graph_theory.specs.Image.{Maps, identity}
-use Rattle.wit_graph_theory.specs.Kept.{Kept}
+use Rattle.wit_graph_theory.specs.Kept.{KeptIds}
 use Rattle.wit_graph_theory.specs.steps.Sources.{Source}
 
-abbrev pub cut_interface : Kept → Interface → Interface
+abbrev pub cut_interface : KeptIds → Interface → Interface
 cut_interface kept interface = record interface {
   types = filter (λ (e : List ℕ × ℕ). kept.types e.1) interface.types;
   functions = filter (λ (e : List ℕ × Function). kept.functions e.1) interface.functions;
 }
 
-abbrev pub cut_world : Kept → World → World
+abbrev pub cut_world : KeptIds → World → World
 cut_world kept world = record world {
   imports = filter (λ (e : Entry). kept.items e.1) world.imports;
   exports = filter (λ (e : Entry). kept.items e.1) world.exports;
 }
 
-abbrev pub cut_source : Kept → List TypeDef → List Interface → List World → Maps → Source
+abbrev pub cut_source : KeptIds → List TypeDef → List Interface → List World → Maps → Source
 cut_source kept types interfaces worlds m = record {
   graph = record {
     types = types;
@@ -46,19 +46,19 @@ cut_source kept types interfaces worlds m = record {
   worlds = kept.worlds;
 }
 
-abbrev pub OwnerIsKept : Kept → TypeOwner → Type 0
+abbrev pub OwnerIsKept : KeptIds → TypeOwner → Type 0
 OwnerIsKept kept (owner.Interface f) = kept.interfaces f ≡ true
 OwnerIsKept kept (owner.World w) = kept.worlds w ≡ true
 OwnerIsKept kept owner.None = Unit {0}
 
-abbrev pub ItemIsKept : Kept → WorldItem → Type 0
+abbrev pub ItemIsKept : KeptIds → WorldItem → Type 0
 ItemIsKept kept (item.Interface f stability docs span external_id) = kept.interfaces f ≡ true
 ItemIsKept kept (item.Function f) = Each (λ t. kept.types t ≡ true) (function_references f)
 ItemIsKept kept (item.Type_ t span) = kept.types t ≡ true
 
 -- no kept thing names one that is left out: what the absence of the two reasons "an active item refers to an
 -- excluded one" and "the owner of an active type is excluded" says
-pub record IsClosedCut (kept : Kept) (types : List TypeDef) (interfaces : List Interface) (worlds : List World) : Type 0 where
+pub record IsClosedCut (kept : KeptIds) (types : List TypeDef) (interfaces : List Interface) (worlds : List World) : Type 0 where
   pub in_range : (t : ℕ) → kept.types t ≡ true → t < length types
   pub interfaces_in_range : (f : ℕ) → kept.interfaces f ≡ true → f < length interfaces
   pub references : EachAt (λ t (def : TypeDef). kept.types t ≡ true → Each (λ u. kept.types u ≡ true) (referred def.kind)) types
@@ -69,9 +69,9 @@ pub record IsClosedCut (kept : Kept) (types : List TypeDef) (interfaces : List I
   -- an entry that is a type is kept with the type
   pub type_items : (t : ℕ) (span : _) → kept.items (item.Type_ t span) ≡ kept.types t
 
--- what is kept is good, before the lists are cut (a shape says so, and a valid graph, and a graph on its way of
+-- what is kept is good, before the lists are cut (a shape says so, and a valid graph, and a partially linked graph of
 -- which so many worlds are finished)
-pub record IsGoodWhere (kept : Kept) (types : List TypeDef) (interfaces : List Interface) (worlds : List World) : Type 0 where
+pub record IsGoodWhere (kept : KeptIds) (types : List TypeDef) (interfaces : List Interface) (worlds : List World) : Type 0 where
   pub types_are : EachAt (λ t (def : TypeDef). kept.types t ≡ true → IsGoodType types interfaces worlds t def) types
   pub interfaces_are : EachAt (λ f (interface : Interface). kept.interfaces f ≡ true → IsGoodInterface types f interface) interfaces
   pub imports_are : EachAt (λ w (world : World). kept.worlds w ≡ true → Each (IsGoodImport types interfaces w world) world.imports) worlds
@@ -85,8 +85,8 @@ item_in_range types (item.Interface f stability docs span external_id) = true
 item_in_range types (item.Function f) = true
 item_in_range types (item.Type_ t span) = nat_lt t types
 
--- all of a graph takes part
-abbrev pub kept_whole : Graph → Kept
+-- all of a graph is selected
+abbrev pub kept_whole : Graph → KeptIds
 kept_whole g = record {
   types = λ t. nat_lt t (length g.types);
   interfaces = λ f. nat_lt f (length g.interfaces);

@@ -1,5 +1,5 @@
 -- The image of data under maps of ids: the same data, with its ids mapped and its spans moved. All are
--- functions, of total maps: an id that takes no part goes anywhere, and nothing is said of it.
+-- functions, of total maps: an id that isn't selected goes anywhere, and nothing is said of it.
 -- Source: `update_typedef`, `update_ty`, `update_interface`, `update_function` and `update_world` of
 -- wit-parser 0.263.0.
 use Rattle.std.specs.Prelude.{ℕ, List, [], map, Option}
@@ -30,10 +30,10 @@ use Rattle.wit_data.specs.declared.world.WorldItem.TheVariants as item
 use Rattle.wit_data.specs.declared.world.WorldKey.{WorldKey}
 use Rattle.wit_data.specs.declared.world.WorldKey.TheVariants as key
 
--- where ids go, what a world's labels become, and how far spans move
+-- what ids are remapped to, what a world's labels become, and how far spans move
 pub record Maps : Type 0 where
   pub types : ℕ → ℕ
-  -- where a type goes at a value position: to its image, or to an unnamed `own` of it
+  -- what a type is remapped to at a value position: to its image, or to an unnamed `own` of it
   pub values : ℕ → ℕ
   pub interfaces : ℕ → ℕ
   pub worlds : ℕ → ℕ

@@ -1,10 +1,10 @@
--- What of some lists takes part.
+-- What of some lists is selected.
 use Rattle.std.specs.Prelude.{ℕ, Bool, true}
 use Rattle.wit_data.specs.declared.function.Function.{Function}
 use Rattle.wit_data.specs.declared.world.WorldItem.{WorldItem}
 
--- what takes part
-pub record Kept : Type 0 where
+-- what is selected
+pub record KeptIds : Type 0 where
   pub types : ℕ → Bool
   pub interfaces : ℕ → Bool
   pub worlds : ℕ → Bool
@@ -12,7 +12,7 @@ pub record Kept : Type 0 where
   pub items : WorldItem → Bool
 
 -- everything does
-abbrev pub everything : Kept
+abbrev pub everything : KeptIds
 everything = record {
   types = λ t. true;
   interfaces = λ f. true;

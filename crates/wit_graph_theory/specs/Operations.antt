@@ -4,13 +4,13 @@ use Rattle.wit_data.specs.declared.unresolved.UnresolvedPackage.{UnresolvedPacka
 use Rattle.wit_graph_data.specs.declared.graph.Graph.{Graph}
 use Rattle.wit_graph_theory.specs.Cut.{cut_source, graph_source, mapped_source}
 use Rattle.wit_graph_theory.specs.Image.{Maps}
-use Rattle.wit_graph_theory.specs.Kept.{Kept}
+use Rattle.wit_graph_theory.specs.Kept.{KeptIds}
 use Rattle.wit_graph_theory.specs.steps.Sources.{Source}
 
--- adding a package: the graph, and what takes part of the package. Foreign interfaces and types take part
+-- adding a package: the graph, and what is selected of the package. Foreign interfaces and types are selected
 -- (they go to those of the graph), foreign worlds don't: nothing is owned by them, and their package is
 -- another
-abbrev pub add_sources : Kept → Graph → UnresolvedPackage → Maps → ℕ → Source
+abbrev pub add_sources : KeptIds → Graph → UnresolvedPackage → Maps → ℕ → Source
 add_sources kept g u m zero = graph_source g
 add_sources kept g u m (suc k) = cut_source kept u.types u.interfaces u.worlds m
 
@@ -32,8 +32,8 @@ include_maps types interfaces renamed from into home = record {
   offset = 0;
 }
 
--- finishing a world of a package: the graph so far, of which what belongs to finished worlds takes part; the
+-- finishing a world of a package: the graph so far, of which what belongs to finished worlds is selected; the
 -- package, of which this world does; and each of its includes, the graph so far under the maps of the copies,
--- of which the included world takes part with all that it names
-abbrev pub include_source : Kept → Graph → Maps → Source
+-- of which the included world is selected with all that it names
+abbrev pub include_source : KeptIds → Graph → Maps → Source
 include_source kept g m = cut_source kept g.types g.interfaces g.worlds m

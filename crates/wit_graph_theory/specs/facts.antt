@@ -16,9 +16,6 @@ pub mod ImagesCome
 pub mod LawsOfElaboration
 pub mod ListFacts
 pub mod NamedUses
-pub mod OnePlaceCarried
-pub mod OnePlaceFacts
-pub mod OnePlaceFrom
 pub mod OptionFacts
 pub mod OwnedFacts
 pub mod PackageCycleFacts
@@ -28,4 +25,7 @@ pub mod ReferredFacts
 pub mod RowFacts
 pub mod ShapeIsGood
 pub mod TypesAcyclic
+pub mod UnnamedOnceCarried
+pub mod UnnamedOnceFacts
+pub mod UnnamedOnceFrom
 pub mod UsesAcyclic

@@ -1,2 +1,2 @@
-pub mod OnePlace
 pub mod Sources
+pub mod UnnamedOnce

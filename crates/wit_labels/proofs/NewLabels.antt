@@ -10,7 +10,7 @@ use Rattle.std.specs.Str.{bytes_eq}
 use Rattle.wit_data.specs.declared.world.IncludeName.{IncludeName}
 use Rattle.wit_labels.specs.steps.FirstRenamings.{is_of}
 use Rattle.wit_labels.specs.Groups.{begins_group, groups_of, rest_of}
-use Rattle.wit_labels.specs.Rename.{behind, renamed, renamed_behind, renamed_by, renamed_rest}
+use Rattle.wit_labels.specs.Rename.{behind, renamed_behind, renamed_label, renamed_label_by, renamed_rest}
 
 -- with no dot, all is the word
 pub whole_word : (rest : List ℕ) → position_or_len (λ b. b == 46) rest ≡ length rest → rest ≡ before_first (λ b. b == 46) rest
@@ -20,9 +20,9 @@ pub none_after : (rest : List ℕ) → [] ≡ drop (length rest) rest
 none_after rest = sym (drop_all (length rest) rest (omega arith))
 
 -- the label where the renaming is of it
-pub renamed_by-new : (name : IncludeName) (label groups word after new : List ℕ) → begins_group (rest_of label) ≡ false → groups ≡ concat (groups_of label)
-    → word ≡ before_first (λ b. b == 46) (rest_of label) → after ≡ drop (length word) (rest_of label) → word ≡ name.name → new ≡ (groups ++ name.as_) ++ after → Some new ≡ renamed_by name label
-renamed_by-new name label groups word after new plain groups_are word_is after_is same made =
+pub renamed_label_by-new : (name : IncludeName) (label groups word after new : List ℕ) → begins_group (rest_of label) ≡ false → groups ≡ concat (groups_of label)
+    → word ≡ before_first (λ b. b == 46) (rest_of label) → after ≡ drop (length word) (rest_of label) → word ≡ name.name → new ≡ (groups ++ name.as_) ++ after → Some new ≡ renamed_label_by name label
+renamed_label_by-new name label groups word after new plain groups_are word_is after_is same made =
     let rest = rest_of label in
     let first = before_first (λ b. b == 46) rest in
     let equal : bytes_eq first name.name ≡ true =
@@ -44,12 +44,12 @@ abbrev made_by : List ℕ → IncludeName → List ℕ
 made_by label name = concat (groups_of label) ++ (name.as_ ++ drop (length (word_of label)) (rest_of label))
 
 first-made : (label : List ℕ) → begins_group (rest_of label) ≡ false → (names : List IncludeName)
-    → slice_get (filter_map (λ (n : IncludeName). renamed_by n label) names) 0 ≡ option_map (made_by label) (find (is_of (word_of label)) names)
+    → slice_get (filter_map (λ (n : IncludeName). renamed_label_by n label) names) 0 ≡ option_map (made_by label) (find (is_of (word_of label)) names)
 first-made label plain [] = refl
 first-made label plain (name ∷ names) = by (begins_group (rest_of label)) (bytes_eq (word_of label) name.name) plain (first-made label plain names)
   where
     f : IncludeName → Option (List ℕ)
-    f n = renamed_by n label
+    f n = renamed_label_by n label
 
     by : (open_bracket same : Bool) → open_bracket ≡ false → slice_get (filter_map f names) 0 ≡ option_map (made_by label) (find (is_of (word_of label)) names)
         → slice_get (cons_option (cond open_bracket None (behind (concat (groups_of label)) (cond same (Some (name.as_ ++ drop (length (word_of label)) (rest_of label))) None))) (filter_map f names)) 0
@@ -59,29 +59,29 @@ first-made label plain (name ∷ names) = by (begins_group (rest_of label)) (byt
     by false false is rest = rest
 
 -- behind a bracket that isn't closed nothing is renamed
-none-made : (label : List ℕ) → begins_group (rest_of label) ≡ true → (names : List IncludeName) → filter_map (λ (n : IncludeName). renamed_by n label) names ≡ []
+none-made : (label : List ℕ) → begins_group (rest_of label) ≡ true → (names : List IncludeName) → filter_map (λ (n : IncludeName). renamed_label_by n label) names ≡ []
 none-made label unclosed [] = refl
 none-made label unclosed (name ∷ names) =
-    ap (λ (o : Option (List ℕ)). cons_option o (filter_map (λ (n : IncludeName). renamed_by n label) names)) (cond-true (begins_group (rest_of label)) None (behind (concat (groups_of label)) (renamed_rest name (rest_of label))) unclosed)
+    ap (λ (o : Option (List ℕ)). cons_option o (filter_map (λ (n : IncludeName). renamed_label_by n label) names)) (cond-true (begins_group (rest_of label)) None (behind (concat (groups_of label)) (renamed_rest name (rest_of label))) unclosed)
     ∙ none-made label unclosed names
 
-pub renamed-unclosed : (names : List IncludeName) (label : List ℕ) → begins_group (rest_of label) ≡ true → label ≡ renamed names label
-renamed-unclosed names label unclosed = sym (ap (λ (l : List (List ℕ)). unwrap_or (slice_get l 0) label) (none-made label unclosed names))
+pub renamed_label-unclosed : (names : List IncludeName) (label : List ℕ) → begins_group (rest_of label) ≡ true → label ≡ renamed_label names label
+renamed_label-unclosed names label unclosed = sym (ap (λ (l : List (List ℕ)). unwrap_or (slice_get l 0) label) (none-made label unclosed names))
 
 module _ (names : List IncludeName) (label word : List ℕ) (plain : begins_group (rest_of label) ≡ false) (word_is : word ≡ before_first (λ b. b == 46) (rest_of label)) where
-  by_word : (found : Option IncludeName) → found ≡ find (is_of word) names → renamed names label ≡ unwrap_or (option_map (made_by label) found) label
+  by_word : (found : Option IncludeName) → found ≡ find (is_of word) names → renamed_label names label ≡ unwrap_or (option_map (made_by label) found) label
   by_word found is =
       ap (λ (o : Option (List ℕ)). unwrap_or o label) (first-made label plain names)
       ∙ ap (λ (o : Option IncludeName). unwrap_or (option_map (made_by label) o) label) (sym (is ∙ ap (λ (w : List ℕ). find (is_of w) names) word_is))
 
   -- the label as the first renaming of its word makes it
-  pub renamed-first : (groups after new : List ℕ) (name : IncludeName) → groups ≡ concat (groups_of label) → after ≡ drop (length word) (rest_of label)
-      → Some name ≡ find (is_of word) names → new ≡ (groups ++ name.as_) ++ after → new ≡ renamed names label
-  renamed-first groups after new name groups_are after_is is made =
+  pub renamed_label-first : (groups after new : List ℕ) (name : IncludeName) → groups ≡ concat (groups_of label) → after ≡ drop (length word) (rest_of label)
+      → Some name ≡ find (is_of word) names → new ≡ (groups ++ name.as_) ++ after → new ≡ renamed_label names label
+  renamed_label-first groups after new name groups_are after_is is made =
       let tail : after ≡ drop (length (word_of label)) (rest_of label) = after_is ∙ ap (λ (w : List ℕ). drop (length w) (rest_of label)) word_is in
       made ∙ append_assoc groups name.as_ after ∙ ap (λ (g : List ℕ). g ++ (name.as_ ++ after)) groups_are ∙ ap (λ (t : List ℕ). concat (groups_of label) ++ (name.as_ ++ t)) tail
       ∙ sym (by_word (Some name) is)
 
   -- no renaming is of its word
-  pub renamed-none : None ≡ find (is_of word) names → label ≡ renamed names label
-  renamed-none is = sym (by_word None is)
+  pub renamed_label-none : None ≡ find (is_of word) names → label ≡ renamed_label names label
+  renamed_label-none is = sym (by_word None is)

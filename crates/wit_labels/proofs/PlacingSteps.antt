@@ -19,8 +19,8 @@ use Rattle.wit_data.specs.declared.world.WorldItem.{WorldItem}
 use Rattle.wit_data.specs.declared.world.WorldItem.TheVariants as item
 use Rattle.wit_data.specs.declared.world.WorldKey.{WorldKey}
 use Rattle.wit_data.specs.declared.world.WorldKey.TheVariants as key
-use Rattle.wit_labels.specs.steps.Placing.{getters_of, placed_order, stand_at, waiters, waits_for}
-use Rattle.wit_labels.specs.Setters.{after, awaited, is_under, placed, places, waiting, wanted_getter}
+use Rattle.wit_labels.specs.steps.Placing.{getters_of, order_after_getters, stand_at, waiters, waits_for}
+use Rattle.wit_labels.specs.Setters.{after, indexed_entries, is_under, later_getter, placed, waiting_setters, wanted_getter}
 
 -- ---- numbers from one on
 
@@ -271,11 +271,11 @@ module _ (getters : List (Option ℕ)) where
       let clash : None ≡ Some i = sym none ∙ waits in
       cc)
 
-  pub order-once : IsDistinct nat_eq (placed_order getters)
-  order-once = IsDistinct-from_differ (placed_order getters)
+  pub order-once : IsDistinct nat_eq (order_after_getters getters)
+  order-once = IsDistinct-from_differ (order_after_getters getters)
       (Differ-flat_map (stand_at getters) (λ (y : ℕ). home_of y (get_or getters y None)) home-at Differ-stand (range_with_len 0 (length getters)) (Differ-range 0 (length getters)))
 
-  below : (y : ℕ) → Contains (placed_order getters) y → y < length getters
+  below : (y : ℕ) → Contains (order_after_getters getters) y → y < length getters
   below y has =
       let part = Contains-flat_map_cases (stand_at getters) (range_with_len 0 (length getters)) y has in
       let root = range-low 0 (length getters) part.0 part.1.0 in
@@ -284,8 +284,8 @@ module _ (getters : List (Option ℕ)) where
         | inr wait ↦ let low = range-low 0 (length getters) y (filter-cases (waits_for getters part.0) (range_with_len 0 (length getters)) y wait).0 in omega (arith, low.1)
       ]
 
-  pub order-below : All (λ place. place < length getters) (placed_order getters)
-  order-below k d within = below (get_or (placed_order getters) k d) (Contains-get_or (placed_order getters) k d within)
+  pub order-below : All (λ place. place < length getters) (order_after_getters getters)
+  order-below k d within = below (get_or (order_after_getters getters) k d) (Contains-get_or (order_after_getters getters) k d within)
 
 -- ---- the entries in that order
 
@@ -298,23 +298,23 @@ enumerate-at a (x ∷ xs) zero j e is at =
     ap (λ (y : Entry). Some (a, y)) one ∙ ap (λ (m : ℕ). Some (m, e)) here
 enumerate-at a (x ∷ xs) (suc i) j e is at = enumerate-at (a + 1) xs i j e (omega arith) at
 
-pub places-at : (entries : List Entry) (i : ℕ) (e : Entry) → slice_get entries i ≡ Some e → slice_get (places entries) i ≡ Some (i, e)
-places-at entries i e at = enumerate-at 0 entries i i e (omega arith) at
+pub indexed_entries-at : (entries : List Entry) (i : ℕ) (e : Entry) → slice_get entries i ≡ Some e → slice_get (indexed_entries entries) i ≡ Some (i, e)
+indexed_entries-at entries i e at = enumerate-at 0 entries i i e (omega arith) at
 
-pub length-places : (entries : List Entry) → length (places entries) ≡ length entries
-length-places entries = length-enumerate_from 0 entries
+pub length-indexed_entries : (entries : List Entry) → length (indexed_entries entries) ≡ length entries
+length-indexed_entries entries = length-enumerate_from 0 entries
 
 pub length-getters : (entries : List Entry) → length (getters_of entries) ≡ length entries
-length-getters entries = length-map (places entries) (λ (p : ℕ × Entry). awaited entries p.0 p.1) ∙ length-places entries
+length-getters entries = length-map (indexed_entries entries) (λ (p : ℕ × Entry). later_getter entries p.0 p.1) ∙ length-indexed_entries entries
 
 mapped-at : {X Y : Type 0} (f : X → Y) (xs : List X) (i : ℕ) (x : X) → slice_get xs i ≡ Some x → slice_get (map f xs) i ≡ Some (f x)
 mapped-at f [] i x at = cc
 mapped-at f (y ∷ ys) zero x at = let same : y ≡ x = cc in ap (λ z. Some (f z)) same
 mapped-at f (y ∷ ys) (suc i) x at = mapped-at f ys i x at
 
-getter-at : (entries : List Entry) (i : ℕ) (e : Entry) → slice_get entries i ≡ Some e → get_or (getters_of entries) i None ≡ awaited entries i e
+getter-at : (entries : List Entry) (i : ℕ) (e : Entry) → slice_get entries i ≡ Some e → get_or (getters_of entries) i None ≡ later_getter entries i e
 getter-at entries i e at =
-    get_at (getters_of entries) i (awaited entries i e) None (mapped-at (λ (p : ℕ × Entry). awaited entries p.0 p.1) (places entries) i (i, e) (places-at entries i e at))
+    get_at (getters_of entries) i (later_getter entries i e) None (mapped-at (λ (p : ℕ × Entry). later_getter entries p.0 p.1) (indexed_entries entries) i (i, e) (indexed_entries-at entries i e at))
 
 -- a getter that is waited for is there
 after-is : (i g : ℕ) (o : Option ℕ) → after i o ≡ Some g → o ≡ Some g
@@ -335,8 +335,8 @@ getters-below entries s g at =
     let wide : length (keys_of entries) ≡ length entries = length-map entries (λ (e : Entry). e.0) in
     let inside : s < length entries = omega (arith, long, within_at (getters_of entries) s (Some g) at) in
     let e = get_or entries s none_entry in
-    let same : get_or (getters_of entries) s None ≡ awaited entries s e = getter-at entries s e (got_at entries s none_entry inside) in
-    let is : awaited entries s e ≡ Some g = sym same ∙ get_at (getters_of entries) s (Some g) None at in
+    let same : get_or (getters_of entries) s None ≡ later_getter entries s e = getter-at entries s e (got_at entries s none_entry inside) in
+    let is : later_getter entries s e ≡ Some g = sym same ∙ get_at (getters_of entries) s (Some g) None at in
     let found = found-is entries (wanted_getter e.0 e.1) g (after-is s g (option_and_then (λ (label : List ℕ). position (is_under label) (keys_of entries)) (wanted_getter e.0 e.1)) is) in
     omega (arith, found, long, wide)
   where
@@ -380,9 +380,9 @@ zipped-are entries (p ∷ ps) [] all = absurd all
 zipped-are entries (p ∷ ps) (x ∷ xs) all =
     ap (λ (l : List Entry). x ∷ l) (zipped-are entries ps xs all.1) ∙ ap (λ (o : Option Entry). cons_option o (filter_map (slice_get entries) ps)) (sym all.0)
 
-waiting-same : (entries : List Entry) (g : ℕ) → filter_map (slice_get entries) (waiters (getters_of entries) (length entries) g) ≡ waiting entries g
-waiting-same entries g =
-    filter-same (waits_for (getters_of entries) g) (λ (s : ℕ × Entry). option_eq nat_eq (awaited entries s.0 s.1) (Some g)) (slice_get entries) 0 entries (λ i j e is at.
+waiting_setters-same : (entries : List Entry) (g : ℕ) → filter_map (slice_get entries) (waiters (getters_of entries) (length entries) g) ≡ waiting_setters entries g
+waiting_setters-same entries g =
+    filter-same (waits_for (getters_of entries) g) (λ (s : ℕ × Entry). option_eq nat_eq (later_getter entries s.0 s.1) (Some g)) (slice_get entries) 0 entries (λ i j e is at.
     let same : i ≡ j = omega (arith, is) in
     let there : slice_get entries j ≡ Some e = subst (λ (m : ℕ). slice_get entries m ≡ Some e) same at in
     (ap (λ (o : Option ℕ). option_eq nat_eq o (Some g)) (getter-at entries j e there), there))
@@ -391,22 +391,22 @@ own-same : (entries : List Entry) (i : ℕ) (e : Entry) (o : Option ℕ) → sli
 own-same entries i e None at = ap (λ (x : Option Entry). cons_option x []) at
 own-same entries i e (Some g) at = refl
 
-pub placed-are : (entries arranged : List Entry) → AllZip (λ place (x : Entry). slice_get entries place ≡ Some x) (placed_order (getters_of entries)) arranged → arranged ≡ placed entries
+pub placed-are : (entries arranged : List Entry) → AllZip (λ place (x : Entry). slice_get entries place ≡ Some x) (order_after_getters (getters_of entries)) arranged → arranged ≡ placed entries
 placed-are entries arranged all =
     let getters = getters_of entries in
     let h = slice_get entries in
     let long : length getters ≡ length entries = length-getters entries in
-    zipped-are entries (placed_order getters) arranged all
+    zipped-are entries (order_after_getters getters) arranged all
     ∙ filter_map-flat_map h (stand_at getters) (range_with_len 0 (length getters))
     ∙ ap (λ (n : ℕ). flat_map (λ (i : ℕ). filter_map h (stand_at getters i)) (range_with_len 0 n)) long
-    ∙ flat-same (λ (i : ℕ). filter_map h (stand_at getters i)) (λ (p : ℕ × Entry). cond (is_some (awaited entries p.0 p.1)) [] (p.1 ∷ []) ++ waiting entries p.0) 0 entries (λ i j e is at.
+    ∙ flat-same (λ (i : ℕ). filter_map h (stand_at getters i)) (λ (p : ℕ × Entry). cond (is_some (later_getter entries p.0 p.1)) [] (p.1 ∷ []) ++ waiting_setters entries p.0) 0 entries (λ i j e is at.
     let same : i ≡ j = omega (arith, is) in
     let there : h j ≡ Some e = subst (λ (m : ℕ). h m ≡ Some e) same at in
     filter_map-append h (cond (is_some (get_or getters j None)) [] (j ∷ [])) (waiters getters (length getters) j)
     ∙ ap (λ (l : List Entry). l ++ filter_map h (waiters getters (length getters) j)) (own-same entries j e (get_or getters j None) there)
     ∙ ap (λ (o : Option ℕ). cond (is_some o) [] (e ∷ []) ++ filter_map h (waiters getters (length getters) j)) (getter-at entries j e there)
-    ∙ ap (λ (n : ℕ). cond (is_some (awaited entries j e)) [] (e ∷ []) ++ filter_map h (waiters getters n j)) long
-    ∙ ap (λ (l : List Entry). cond (is_some (awaited entries j e)) [] (e ∷ []) ++ l) (waiting-same entries j))
+    ∙ ap (λ (n : ℕ). cond (is_some (later_getter entries j e)) [] (e ∷ []) ++ filter_map h (waiters getters n j)) long
+    ∙ ap (λ (l : List Entry). cond (is_some (later_getter entries j e)) [] (e ∷ []) ++ l) (waiting_setters-same entries j))
 
 -- a row that was taken out and put back with one more
 pub row-added : (rows taken new : List (List ℕ)) (index place : ℕ) (row longer none : List ℕ) → slice_get rows index ≡ Some row → taken ≡ slice_set rows index none → longer ≡ row ++ place ∷ []
@@ -430,18 +430,18 @@ key_under label (key.Interface i) = refl
 same_entry : (entries : List Entry) (i : ℕ) (d e : Entry) → slice_get entries i ≡ Some d → slice_get entries i ≡ Some e → d ≡ e
 same_entry entries i d e first second = let same : Some d ≡ Some e = sym first ∙ second in cc
 
-pub awaited-some : (entries : List Entry) (i : ℕ) (k : WorldKey) (held : WorldItem) (label : List ℕ) (found : Option ℕ) → slice_get entries i ≡ Some (k, held) → wanted_getter k held ≡ Some label
-    → found ≡ position (eq-value.it (key.Name label)) (keys_of entries) → (e : Entry) → slice_get entries i ≡ Some e → after i found ≡ awaited entries i e
-awaited-some entries i k held label found at wanted is e there =
+pub later_getter-some : (entries : List Entry) (i : ℕ) (k : WorldKey) (held : WorldItem) (label : List ℕ) (found : Option ℕ) → slice_get entries i ≡ Some (k, held) → wanted_getter k held ≡ Some label
+    → found ≡ position (eq-value.it (key.Name label)) (keys_of entries) → (e : Entry) → slice_get entries i ≡ Some e → after i found ≡ later_getter entries i e
+later_getter-some entries i k held label found at wanted is e there =
     ap (after i) (is ∙ ap (λ (p : WorldKey → Bool). position p (keys_of entries)) (λ j x. key_under label x j))
     ∙ ap (λ (o : Option (List ℕ)). after i (option_and_then (λ (l : List ℕ). position (is_under l) (keys_of entries)) o)) (sym wanted)
-    ∙ ap (awaited entries i) (same_entry entries i (k, held) e at there)
+    ∙ ap (later_getter entries i) (same_entry entries i (k, held) e at there)
 
-pub awaited-none : (entries : List Entry) (i : ℕ) (k : WorldKey) (held : WorldItem) → slice_get entries i ≡ Some (k, held) → wanted_getter k held ≡ None
-    → (e : Entry) → slice_get entries i ≡ Some e → None ≡ awaited entries i e
-awaited-none entries i k held at wanted e there =
+pub later_getter-none : (entries : List Entry) (i : ℕ) (k : WorldKey) (held : WorldItem) → slice_get entries i ≡ Some (k, held) → wanted_getter k held ≡ None
+    → (e : Entry) → slice_get entries i ≡ Some e → None ≡ later_getter entries i e
+later_getter-none entries i k held at wanted e there =
     ap (λ (o : Option (List ℕ)). after i (option_and_then (λ (l : List ℕ). position (is_under l) (keys_of entries)) o)) (sym wanted)
-    ∙ ap (awaited entries i) (same_entry entries i (k, held) e at there)
+    ∙ ap (later_getter entries i) (same_entry entries i (k, held) e at there)
 
 -- ---- lists that are gone through
 
@@ -460,16 +460,16 @@ key-new whole done left rest k held distinct all first =
     lookup-before key_laws done rest k held (subst (λ (l : List Entry). IsDistinct eq-value.it (keys_of l)) (sym split) distinct)
 
 pub getters-next : (entries : List Entry) (n : ℕ) (e : Entry) (getters new : List (Option ℕ)) (getter : Option ℕ) → slice_get entries n ≡ Some e
-    → getters ≡ map (λ (p : ℕ × Entry). awaited entries p.0 p.1) (take n (places entries)) → getter ≡ awaited entries n e → new ≡ getters ++ getter ∷ []
-    → new ≡ map (λ (p : ℕ × Entry). awaited entries p.0 p.1) (take (n + 1) (places entries))
+    → getters ≡ map (λ (p : ℕ × Entry). later_getter entries p.0 p.1) (take n (indexed_entries entries)) → getter ≡ later_getter entries n e → new ≡ getters ++ getter ∷ []
+    → new ≡ map (λ (p : ℕ × Entry). later_getter entries p.0 p.1) (take (n + 1) (indexed_entries entries))
 getters-next entries n e getters new getter at so_far is made =
-    made ∙ ap (λ (l : List (Option ℕ)). l ++ getter ∷ []) so_far ∙ ap (λ (o : Option ℕ). map (λ (p : ℕ × Entry). awaited entries p.0 p.1) (take n (places entries)) ++ o ∷ []) is
-    ∙ sym (map-next (λ (p : ℕ × Entry). awaited entries p.0 p.1) (places entries) n (n, e) (places-at entries n e at))
+    made ∙ ap (λ (l : List (Option ℕ)). l ++ getter ∷ []) so_far ∙ ap (λ (o : Option ℕ). map (λ (p : ℕ × Entry). later_getter entries p.0 p.1) (take n (indexed_entries entries)) ++ o ∷ []) is
+    ∙ sym (map-next (λ (p : ℕ × Entry). later_getter entries p.0 p.1) (indexed_entries entries) n (n, e) (indexed_entries-at entries n e at))
 
-pub getters-all : (entries : List Entry) (n : ℕ) (getters : List (Option ℕ)) → length entries ≤ n → getters ≡ map (λ (p : ℕ × Entry). awaited entries p.0 p.1) (take n (places entries)) → getters ≡ getters_of entries
+pub getters-all : (entries : List Entry) (n : ℕ) (getters : List (Option ℕ)) → length entries ≤ n → getters ≡ map (λ (p : ℕ × Entry). later_getter entries p.0 p.1) (take n (indexed_entries entries)) → getters ≡ getters_of entries
 getters-all entries n getters reached so_far =
-    let long = length-places entries in
-    so_far ∙ ap (map (λ (p : ℕ × Entry). awaited entries p.0 p.1)) (take_all n (places entries) (omega arith))
+    let long = length-indexed_entries entries in
+    so_far ∙ ap (map (λ (p : ℕ × Entry). later_getter entries p.0 p.1)) (take_all n (indexed_entries entries) (omega arith))
 
 pub empty-next : (n : ℕ) (rows new : List (List ℕ)) → rows ≡ map (λ _. []) (range_with_len 0 n) → new ≡ rows ++ [] ∷ [] → new ≡ map (λ _. []) (range_with_len 0 (n + 1))
 empty-next n rows new so_far made =
@@ -508,7 +508,7 @@ arranged-differ es (p ∷ ps) (x ∷ xs) distinct once all = (each ps xs once.0 
 -- the items are the entries, and the order is that of their setters
 pub record IsPlacing (entries items : List Entry) (order : List ℕ) : Type 0 where
   pub items_are : items ≡ entries
-  pub order_is : order ≡ placed_order (getters_of entries)
+  pub order_is : order ≡ order_after_getters (getters_of entries)
 
 pub placing-once : (entries items : List Entry) (order : List ℕ) → IsPlacing entries items order → IsDistinct nat_eq order
 placing-once entries items order is = subst (IsDistinct nat_eq) (sym is.order_is) (order-once (getters_of entries))
@@ -519,7 +519,7 @@ placing-below entries items order is =
     subst (λ (n : ℕ). All (λ place. place < n) order) long (subst (All (λ place. place < length (getters_of entries))) (sym is.order_is) (order-below (getters_of entries)))
 
 zip-of : (entries items arranged : List Entry) (order : List ℕ) → IsPlacing entries items order → AllZip (λ place (x : Entry). slice_get items place ≡ Some x) order arranged
-    → AllZip (λ place (x : Entry). slice_get entries place ≡ Some x) (placed_order (getters_of entries)) arranged
+    → AllZip (λ place (x : Entry). slice_get entries place ≡ Some x) (order_after_getters (getters_of entries)) arranged
 zip-of entries items arranged order is all =
     subst (λ (l : List ℕ). AllZip (λ place (x : Entry). slice_get entries place ≡ Some x) l arranged) is.order_is
     (subst (λ (es : List Entry). AllZip (λ place (x : Entry). slice_get es place ≡ Some x) order arranged) is.items_are all)
@@ -527,14 +527,14 @@ zip-of entries items arranged order is all =
 pub placing-differ : (entries items arranged : List Entry) (order : List ℕ) → IsPlacing entries items order → IsDistinct eq-value.it (keys_of entries)
     → AllZip (λ place (x : Entry). slice_get items place ≡ Some x) order arranged → IsDistinct eq-value.it (keys_of arranged)
 placing-differ entries items arranged order is distinct all =
-    arranged-differ entries (placed_order (getters_of entries)) arranged distinct (order-once (getters_of entries)) (zip-of entries items arranged order is all)
+    arranged-differ entries (order_after_getters (getters_of entries)) arranged distinct (order-once (getters_of entries)) (zip-of entries items arranged order is all)
 
 pub placing-placed : (entries items arranged : List Entry) (order : List ℕ) → IsPlacing entries items order → AllZip (λ place (x : Entry). slice_get items place ≡ Some x) order arranged → arranged ≡ placed entries
 placing-placed entries items arranged order is all = placed-are entries arranged (zip-of entries items arranged order is all)
 
-pub placing-of : (entries kept items : List Entry) (getters : List (Option ℕ)) (order places_of : List ℕ) → kept ≡ entries → getters ≡ getters_of kept → order ≡ placed_order getters → items ≡ kept
+pub placing-of : (entries kept items : List Entry) (getters : List (Option ℕ)) (order places_of : List ℕ) → kept ≡ entries → getters ≡ getters_of kept → order ≡ order_after_getters getters → items ≡ kept
     → places_of ≡ order → IsPlacing entries items places_of
 placing-of entries kept items getters order places_of kept_are getters_are order_is items_are is = record {
   items_are = items_are ∙ kept_are;
-  order_is = is ∙ order_is ∙ ap placed_order (getters_are ∙ ap getters_of kept_are);
+  order_is = is ∙ order_is ∙ ap order_after_getters (getters_are ∙ ap getters_of kept_are);
 }

@@ -13,7 +13,7 @@ renamed_rest name rest =
     let word = before_first (λ b. b == 46) rest in
     if bytes_eq word name.name then Some (name.as_ ++ drop (length word) rest) else None
 
--- the same behind a prefix
+-- a text with a prefix before it, where there is a text
 abbrev pub behind : List ℕ → Option (List ℕ) → Option (List ℕ)
 behind prefix None = None
 behind prefix (Some rest) = Some (prefix ++ rest)
@@ -23,9 +23,9 @@ abbrev pub renamed_behind : IncludeName → List ℕ → List ℕ → Option (Li
 renamed_behind name groups rest = if begins_group rest then None else behind groups (renamed_rest name rest)
 
 -- the label as this renaming makes it, None where it is of another label
-abbrev pub renamed_by : IncludeName → List ℕ → Option (List ℕ)
-renamed_by name label = renamed_behind name (concat (groups_of label)) (rest_of label)
+abbrev pub renamed_label_by : IncludeName → List ℕ → Option (List ℕ)
+renamed_label_by name label = renamed_behind name (concat (groups_of label)) (rest_of label)
 
 -- the label as the first renaming that is of it makes it, itself where none is
-abbrev pub renamed : List IncludeName → List ℕ → List ℕ
-renamed names label = unwrap_or (slice_get (filter_map (λ (name : IncludeName). renamed_by name label) names) 0) label
+abbrev pub renamed_label : List IncludeName → List ℕ → List ℕ
+renamed_label names label = unwrap_or (slice_get (filter_map (λ (name : IncludeName). renamed_label_by name label) names) 0) label

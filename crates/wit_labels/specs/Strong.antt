@@ -1,4 +1,4 @@
--- Labels of one list of a world that are too alike to stand beside each other.
+-- Labels of one list of a world that are not strongly unique.
 -- Source: strongly-unique names on the WIT page of the component model; `validate_world_strongly_unique_names`
 -- of wit-parser 0.263.0. What makes two labels alike is a rule of this project.
 use Rattle.std.specs.Prelude.{◌≡◌, ℕ, ◌<◌, List, Option, Some, None, slice_get, codes, if◌then◌else◌}
@@ -18,12 +18,12 @@ class_named group =
     else (if bytes_eq group (codes "[get]") then Some Getter else (if bytes_eq group (codes "[set]") then Some Setter else None))
 
 -- the class of a label: the first that one of its groups tells
-abbrev pub class_of : List ℕ → Option Class
-class_of label = slice_get (filter_map class_named (groups_of label)) 0
+abbrev pub label_class : List ℕ → Option Class
+label_class label = slice_get (filter_map class_named (groups_of label)) 0
 
 -- what tells labels apart: their class, and what follows the groups, in whatever case
 abbrev pub strong_key : List ℕ → StrongKey
-strong_key label = record { class = class_of label; name = str_to_ascii_lowercase (rest_of label) }
+strong_key label = record { class = label_class label; name = str_to_ascii_lowercase (rest_of label) }
 
 -- label n clashes with the label m that stands earlier in the list
 abbrev pub Clashes : List WorldKey → List ℕ → List ℕ → Type 0

@@ -1,5 +1,5 @@
 //! Labels of worlds: the groups in brackets with which they begin, how an `include` renames them, which
-//! are too alike to stand beside each other, and where setters stand.
+//! are not strongly unique, and where setters stand.
 #![tactic(auto)]
 
 pub mod groups;

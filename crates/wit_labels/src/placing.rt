@@ -5,8 +5,8 @@ ghost use Rattle.std.specs.Map.{keys_of};
 ghost use Rattle.wit_data.specs.Each.{Each};
 ghost use Rattle.wit_data.specs.Entries.{Entry};
 ghost use Rattle.wit_data.specs.contracts.world.WorldKeyPartialEq.TheImpl.{eq-value};
-ghost use Rattle.wit_labels.specs.steps.Placing.{getters_of, placed_order, waiters};
-ghost use Rattle.wit_labels.specs.Setters.{after, awaited, placed, wanted_getter};
+ghost use Rattle.wit_labels.specs.steps.Placing.{getters_of, order_after_getters, waiters};
+ghost use Rattle.wit_labels.specs.Setters.{after, later_getter, placed, wanted_getter};
 
 use crate::setters::{is_setter, wanted_getter};
 use indexmap::IndexMap;
@@ -43,7 +43,7 @@ fn has_no_setter(entries: &Table<WorldKey, WorldItem>) -> bool
     true
 }
 
-/// The entries in the order of `placed_order`.
+/// The entries in the order of `order_after_getters`.
 fn moved_setters(
     alloc: Global,
     entries: Table<WorldKey, WorldItem>,
@@ -53,7 +53,7 @@ fn moved_setters(
     entries.keys_differ();
     let map = entries.into_map();
     let getters = getters_of(alloc, &map)?;
-    let order = placed_order(alloc, &getters)?;
+    let order = order_after_getters(alloc, &getters)?;
     let items = in_order(alloc, items_of(alloc, map)?, order.as_slice())?;
     table_of(alloc, items)
 }
@@ -67,7 +67,7 @@ fn getters_of(
 {
     let mut getters = Items::new(alloc);
     for place in 0..entries.len() {
-        getters.push(awaited(alloc, entries, place)?)?;
+        getters.push(later_getter(alloc, entries, place)?)?;
     }
     Ok(getters)
 }
@@ -84,13 +84,13 @@ fn entry_at(entries: &IndexMap<WorldKey, WorldItem>, place: usize) -> (&WorldKey
 }
 
 /// The place of the getter that the entry at a place waits for.
-fn awaited(
+fn later_getter(
     alloc: Global,
     entries: &IndexMap<WorldKey, WorldItem>,
     place: usize,
 ) -> Result<Option<usize>, AllocError>
     requires { place < length entries.now.entries }
-    ensures { IfOk result (λ getter. (e : Entry) → slice_get entries.now.entries place ≡ Some e → getter ≡ awaited entries.now.entries place e) }
+    ensures { IfOk result (λ getter. (e : Entry) → slice_get entries.now.entries place ≡ Some e → getter ≡ later_getter entries.now.entries place e) }
 {
     let (key, item) = entry_at(entries, place);
     match wanted_getter(alloc, key, item)? {
@@ -110,9 +110,9 @@ fn after(place: usize, found: Option<usize>) -> Option<usize>
 }
 
 /// The places with each setter after its getter.
-fn placed_order(alloc: Global, getters: &Items<Option<usize>>) -> Result<Items<usize>, AllocError>
+fn order_after_getters(alloc: Global, getters: &Items<Option<usize>>) -> Result<Items<usize>, AllocError>
     requires { (s g : ℕ) → slice_get getters.now s ≡ Some (Some g) → g < length getters.now }
-    ensures { IfOk result (λ order. order ≡ placed_order getters.now) }
+    ensures { IfOk result (λ order. order ≡ order_after_getters getters.now) }
 {
     let mut rows = waiting_rows(alloc, getters)?;
     let mut order = Items::new(alloc);

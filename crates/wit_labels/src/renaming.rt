@@ -2,9 +2,9 @@
 ghost use Rattle.std.specs.Prelude.{◌≡◌, ◌==◌, ◌++◌, IfNone, IfOk, IfSome, drop, false, length, string_bytes, true};
 ghost use Rattle.std.specs.List.{before_first, concat, find};
 ghost use Rattle.std.specs.Option.{option_copied, option_map};
-ghost use Rattle.wit_labels.specs.steps.FirstRenamings.{TellsFirsts, is_of};
+ghost use Rattle.wit_labels.specs.steps.FirstRenamings.{AreFirstIndices, is_of};
 ghost use Rattle.wit_labels.specs.Groups.{begins_group, groups_of, rest_of};
-ghost use Rattle.wit_labels.specs.Rename.{renamed, renamed_by};
+ghost use Rattle.wit_labels.specs.Rename.{renamed_label, renamed_label_by};
 
 use crate::groups::{begins_group, split_groups};
 use std::alloc::{AllocError, Global};
@@ -15,7 +15,7 @@ use wit_data::{IncludeName, Items, Names, Text};
 ///
 /// Source: `rename` of wit-parser 0.263.0.
 pub fn rename(alloc: Global, label: &str, name: &IncludeName) -> Result<Option<String>, AllocError>
-    ensures { IfOk result (λ r. option_map string_bytes r ≡ renamed_by name.now label.now) }
+    ensures { IfOk result (λ r. option_map string_bytes r ≡ renamed_label_by name.now label.now) }
 {
     let Some((groups, word, after)) = split_label(label) else {
         return Ok(None);
@@ -75,13 +75,13 @@ pub struct Renamings<'a> {
 impl<'a> Model for Renamings<'a> {
     ghost use Rattle.std.specs.Prelude.{List};
     ghost use Rattle.wit_data.specs.declared.world.IncludeName.{IncludeName};
-    ghost use Rattle.wit_labels.specs.steps.FirstRenamings.{TellsFirsts};
+    ghost use Rattle.wit_labels.specs.steps.FirstRenamings.{AreFirstIndices};
 
     ghost Value = { List IncludeName };
 
     ghost view = { λ r. r.names.now };
 
-    ghost invariant = { λ r. TellsFirsts r.names.now r.firsts };
+    ghost invariant = { λ r. AreFirstIndices r.names.now r.firsts };
 }
 
 impl<'a> Renamings<'a> {
@@ -89,7 +89,7 @@ impl<'a> Renamings<'a> {
     pub fn new(alloc: Global, names: &'a Items<IncludeName>) -> Result<Renamings<'a>, AllocError>
         ensures { IfOk result (λ renamings. renamings ≡ names.now) }
     {
-        let firsts = first_places(alloc, names)?;
+        let firsts = first_indices(alloc, names)?;
         Ok(Renamings { names, firsts })
     }
 
@@ -106,7 +106,7 @@ impl<'a> Renamings<'a> {
     /// The label as the first renaming that is of it makes it, or a copy of it where none is. The only error is want of
     /// memory. It takes a step for each byte of the label and of the new name, however many renamings there are.
     pub fn rename(&self, alloc: Global, label: &str) -> Result<Text, AllocError>
-        ensures { IfOk result (λ new. new ≡ renamed self.now label.now) }
+        ensures { IfOk result (λ new. new ≡ renamed_label self.now label.now) }
     {
         let Some((groups, word, after)) = split_label(label) else {
             return Text::try_from_str(alloc, label);
@@ -119,8 +119,8 @@ impl<'a> Renamings<'a> {
 }
 
 /// Where the first renaming of each word stands.
-fn first_places(alloc: Global, names: &Items<IncludeName>) -> Result<Names<usize>, AllocError>
-    ensures { IfOk result (λ firsts. TellsFirsts names.now firsts) }
+fn first_indices(alloc: Global, names: &Items<IncludeName>) -> Result<Names<usize>, AllocError>
+    ensures { IfOk result (λ firsts. AreFirstIndices names.now firsts) }
 {
     let mut firsts = Names::new(alloc);
     for place in 0..names.len() {

@@ -1,7 +1,7 @@
-//! Which labels of a world are too alike to stand beside each other.
+//! Which labels of a world are not strongly unique.
 ghost use Rattle.std.specs.Prelude.{◌≡◌, IfOk, IfSome, IfNone};
 ghost use Rattle.std.specs.Map.{keys_of};
-ghost use Rattle.wit_labels.specs.Strong.{AreStronglyUnique, Clashes, class_named, class_of, strong_key};
+ghost use Rattle.wit_labels.specs.Strong.{AreStronglyUnique, Clashes, class_named, label_class, strong_key};
 
 use crate::groups::{rest_of, split_group};
 use std::alloc::{AllocError, Global};
@@ -15,7 +15,7 @@ pub enum Class {
     Setter,
 }
 
-/// What tells labels apart: labels with equal keys are too alike.
+/// What tells labels apart: labels with equal keys are not strongly unique.
 #[derive(PartialEq, Eq, Hash, Drop)]
 pub struct StrongKey {
     pub class: Option<Class>,
@@ -37,14 +37,14 @@ pub fn strong_key(alloc: Global, label: &str) -> Result<StrongKey, AllocError>
 {
     let name = rest_of(label).to_ascii_lowercase(alloc)?;
     Ok(StrongKey {
-        class: class_of(label),
+        class: label_class(label),
         name: Text::from_string(name),
     })
 }
 
 /// The class of a label: the first that one of its groups tells.
-fn class_of(label: &str) -> Option<Class>
-    ensures { result ≡ class_of label.now }
+fn label_class(label: &str) -> Option<Class>
+    ensures { result ≡ label_class label.now }
 {
     let mut rest = label;
     while let Some((group, after)) = split_group(rest) {

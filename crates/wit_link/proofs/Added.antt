@@ -14,14 +14,14 @@ use Rattle.wit_graph_data.specs.declared.error_kind.ResolveErrorKind.TheVariants
 use Rattle.wit_graph_theory.specs.Image.{world_image}
 use Rattle.wit_graph_theory.specs.facts.ListFacts.{contained_at, place_of}
 use Rattle.wit_elaboration.proofs.Filters.{Contains-filter}
-use Rattle.wit_link_spec.specs.Addition.{Addition, active_includes, addition_maps, own_worlds, taken_world, world_place}
-use Rattle.wit_link_spec.specs.steps.Adding.{places_of}
-use Rattle.wit_link_spec.specs.Cause.{IsAccepted, IsCause, borrow_in_result_15, conflict_4, duplicate_5, excluded_11, excluded_owner_12, gate_unreleased_10, gate_without_version_9, interface_not_found_3, mismatch_8, no_getter_18, not_a_resource_14, not_strongly_unique_17, offset_overflow_27, package_not_found_1, rename_unmatched_16, shadowing_7, type_not_defined_13, world_not_found_2}
+use Rattle.wit_link_spec.specs.Addition.{Addition, active_includes, active_world_id, addition_maps, own_worlds, remapped_world}
+use Rattle.wit_link_spec.specs.steps.AdditionRefs.{new_ids_of}
+use Rattle.wit_link_spec.specs.Cause.{AdditionIsAccepted, IsCause, borrow_in_result_15, conflict_4, duplicate_5, excluded_11, excluded_owner_12, gate_unreleased_10, gate_without_version_9, interface_not_found_3, mismatch_8, no_getter_18, not_a_resource_14, not_strongly_unique_17, offset_overflow_27, package_not_found_1, rename_unmatched_16, shadowing_7, type_not_defined_13, world_not_found_2}
 use Rattle.wit_link_spec.specs.Gates.{include_is_active}
 use Rattle.wit_link_spec.specs.Pushed.{pushed}
-use Rattle.wit_link_spec.specs.WorldReasons.{WorldIsFine}
+use Rattle.wit_link_spec.specs.WorldReasons.{WorldIsAccepted}
 use Rattle.wit_link_spec.specs.steps.Passed.{has_image}
-use Rattle.wit_link_spec.specs.Reasons.{HasImage, HasPackage}
+use Rattle.wit_link_spec.specs.Reasons.{HasPackage, IsResolved}
 use Rattle.wit_link_spec.specs.facts.OwnThingFacts.{own_world_from}
 use Rattle.wit_link_include.specs.facts.AdditionFacts.{placed_include, placed_includes}
 use Rattle.wit_remap.specs.steps.Added.{added_world}
@@ -33,8 +33,8 @@ use Rattle.wit_link.specs.steps.Fits.{IsNameTaken, PackageFits}
 use Rattle.wit_link.specs.steps.Including.{include_at, ready_world, ready_worlds, world_with}
 use Rattle.wit_link.proofs.FitsIsExact.{fitting_passes_not, passes-of_not_fitting}
 
-module _ (a : Addition) (is_new : IsNew a) (checked : IsChecked a) (each_world : (k : ℕ) → WorldIsFine a k) where
-  pub is_accepted : IsAccepted a
+module _ (a : Addition) (is_new : IsNew a) (checked : IsChecked a) (each_world : (k : ℕ) → WorldIsAccepted a k) where
+  pub is_accepted : AdditionIsAccepted a
   is_accepted _ (package_not_found_1 span requested known is) = checked.found.packages span requested known is
   is_accepted _ (world_not_found_2 span requested home is) = checked.found.worlds span requested home is
   is_accepted _ (interface_not_found_3 span requested home is) = checked.found.interfaces span requested home is
@@ -61,13 +61,13 @@ module _ (a : Addition) (is_new : IsNew a) (checked : IsChecked a) (each_world :
 -- ---- refusals before anything else is looked at
 
 -- that the name is there
-pub taken : (a : Addition) → a.offset < 2 ^ 32 → HasPackage a.graph a.handed.name → (error : ResolveErrorKind) → IsNameTaken a.offset a.handed error → (error ≡ OutOfMemory) ⊎ IsCause a error
+pub taken : (a : Addition) → a.offset < 2 ^ 32 → HasPackage a.graph a.unresolved.name → (error : ResolveErrorKind) → IsNameTaken a.offset a.unresolved error → (error ≡ OutOfMemory) ⊎ IsCause a error
 taken a small there error (inl is) =
-    inr (subst (IsCause a) (sym is) (duplicate_5 a.handed.name _ None (record { there = there; name_is = refl; span1_is = refl; span2_is = refl })))
+    inr (subst (IsCause a) (sym is) (duplicate_5 a.unresolved.name _ None (record { there = there; name_is = refl; span1_is = refl; span2_is = refl })))
 taken a small there error (inr far) = inr (subst (IsCause a) (sym far.0) (offset_overflow_27 (passes-of_not_fitting a small (λ fits. far.1 fits.name))))
 
 -- that a span is too far
-pub too_far : (a : Addition) → a.offset < 2 ^ 32 → (PackageFits a.offset a.handed → ⊥) → IsCause a OffsetOverflow
+pub too_far : (a : Addition) → a.offset < 2 ^ 32 → (PackageFits a.offset a.unresolved → ⊥) → IsCause a OffsetOverflow
 too_far a small fits_not = offset_overflow_27 (passes-of_not_fitting a small fits_not)
 
 not_there : (o : Option ℕ) → is_some o ≡ false → is_some o ≡ true → ⊥
@@ -75,10 +75,10 @@ not_there None none some = cc
 not_there (Some p) none some = cc
 
 -- a package that isn't there and fits is new
-pub is_new : (a : Addition) → is_some (lookup (same_package a.handed.name) a.graph.package_names) ≡ false → PackageFits a.offset a.handed → IsNew a
-is_new a none fits = record { absent = not_there (lookup (same_package a.handed.name) a.graph.package_names) none; fits = fitting_passes_not a fits }
+pub is_new : (a : Addition) → is_some (lookup (same_package a.unresolved.name) a.graph.package_names) ≡ false → PackageFits a.offset a.unresolved → IsNew a
+is_new a none fits = record { absent = not_there (lookup (same_package a.unresolved.name) a.graph.package_names) none; fits = fitting_passes_not a fits }
 
-pub checked_image : (a : Addition) → IsChecked a → HasImage a
+pub checked_image : (a : Addition) → IsChecked a → IsResolved a
 checked_image a checked = has_image a checked.met checked.needs checked.found
 
 -- ---- the worlds at their places
@@ -88,21 +88,21 @@ map_twice f g h [] each = refl
 map_twice f g h (x ∷ xs) each = rw (each 0 x refl, map_twice f g h xs (λ i. each (suc i))) refl
 
 -- a world that the package has goes where it goes
-place_is : (a : Addition) (w : ℕ) → w < length a.handed.worlds → goes (places_of a).worlds w ≡ world_place a w
+place_is : (a : Addition) (w : ℕ) → w < length a.unresolved.worlds → goes (new_ids_of a).worlds w ≡ remapped_world a w
 place_is a w within =
-    let n = length a.handed.worlds in
-    let long : length (places_of a).worlds ≡ length a.handed.worlds = length-map-range_with_len (taken_world a) 0 (length a.handed.worlds) in
-    let inside : w < length (places_of a).worlds = omega (arith, long, within) in
-    let at : slice_get (places_of a).worlds w ≡ Some (taken_world a w) =
-    slice_get-get_or (places_of a).worlds w None inside ∙ ap Some (get_or-map-range_with_len (taken_world a) 0 (length a.handed.worlds) w w None within (omega arith)) in
-    ap (id_or w) at ∙ by (taken_world a w)
+    let n = length a.unresolved.worlds in
+    let long : length (new_ids_of a).worlds ≡ length a.unresolved.worlds = length-map-range_with_len (active_world_id a) 0 (length a.unresolved.worlds) in
+    let inside : w < length (new_ids_of a).worlds = omega (arith, long, within) in
+    let at : slice_get (new_ids_of a).worlds w ≡ Some (active_world_id a w) =
+    slice_get-get_or (new_ids_of a).worlds w None inside ∙ ap Some (get_or-map-range_with_len (active_world_id a) 0 (length a.unresolved.worlds) w w None within (omega arith)) in
+    ap (id_or w) at ∙ by (active_world_id a w)
   where
     by : (o : Option ℕ) → id_or w (Some o) ≡ unwrap_or o w
     by None = refl
     by (Some p) = refl
 
-module _ (a : Addition) (shaped : IsShaped a.handed) where
-  includes_go : (k : ℕ) (e : ℕ × World) → slice_get (own_worlds a) k ≡ Some e → map (include_at (places_of a) a.offset) (active_includes a e.1) ≡ placed_includes a e.1
+module _ (a : Addition) (shaped : IsShaped a.unresolved) where
+  includes_go : (k : ℕ) (e : ℕ × World) → slice_get (own_worlds a) k ≡ Some e → map (include_at (new_ids_of a) a.offset) (active_includes a e.1) ≡ placed_includes a e.1
   includes_go k e at =
       let own = own_world_from a k e at in
       agree (active_includes a e.1) (λ i include on.
@@ -110,18 +110,18 @@ module _ (a : Addition) (shaped : IsShaped a.handed) where
       let listed : Contains own.world.includes include = subst (λ (world : World). Contains world.includes include) (sym own.is) parts.0 in
       let place = place_of own.world.includes include listed in
       let earlier : include.id < e.0 = shaped.worlds.includes e.0 own.world own.there place.0 include place.1 in
-      let within : e.0 < length a.handed.worlds = slice_get_within a.handed.worlds e.0 own.world own.there in
+      let within : e.0 < length a.unresolved.worlds = slice_get_within a.unresolved.worlds e.0 own.world own.there in
       place_is a include.id (omega (arith, earlier, within)))
     where
-      agree : (xs : List WorldInclude) → ((i : ℕ) (include : WorldInclude) → slice_get xs i ≡ Some include → goes (places_of a).worlds include.id ≡ world_place a include.id)
-          → map (include_at (places_of a) a.offset) xs ≡ map (placed_include a) xs
+      agree : (xs : List WorldInclude) → ((i : ℕ) (include : WorldInclude) → slice_get xs i ≡ Some include → goes (new_ids_of a).worlds include.id ≡ remapped_world a include.id)
+          → map (include_at (new_ids_of a) a.offset) xs ≡ map (placed_include a) xs
       agree [] each = refl
       agree (x ∷ xs) each =
-          ap (λ (id : ℕ). (record x { id = id; span = moved_by a.offset x.span }) ∷ map (include_at (places_of a) a.offset) xs) (each 0 x refl)
+          ap (λ (id : ℕ). (record x { id = id; span = moved_by a.offset x.span }) ∷ map (include_at (new_ids_of a) a.offset) xs) (each 0 x refl)
           ∙ ap (λ (l : List WorldInclude). placed_include a x ∷ l) (agree xs (λ i. each (suc i)))
 
   -- the worlds are as they are added
-  pub worlds_ready : map (world_with (places_of a) a.offset) (map (added_world a) (own_worlds a)) ≡ ready_worlds a
+  pub worlds_ready : map (world_with (new_ids_of a) a.offset) (map (added_world a) (own_worlds a)) ≡ ready_worlds a
   worlds_ready =
-      map_twice (world_with (places_of a) a.offset) (added_world a) (ready_world a) (own_worlds a)
+      map_twice (world_with (new_ids_of a) a.offset) (added_world a) (ready_world a) (own_worlds a)
       (λ k e at. ap (λ (l : List WorldInclude). let p : PlacedWorld = record { place = e.0; world = world_image (addition_maps a) e.0 e.1; includes = l } in p) (includes_go k e at))

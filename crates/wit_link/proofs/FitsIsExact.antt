@@ -1,11 +1,11 @@
 -- A package fits exactly where no span of it passes the end.
 use Rattle.std.proofs.Common.{◌⊎◌, inl, inr, ℕ, ◌+◌, ◌<◌, ◌≤◌, ◌^◌, List, ◌++◌, map, Some, arith}
 use Rattle.wit_data.specs.declared.unresolved.UnresolvedPackage.{UnresolvedPackage}
-use Rattle.wit_link_spec.specs.Gates.{Place}
+use Rattle.wit_link_spec.specs.Gates.{OptionalSpan}
 use Rattle.wit_link_spec.specs.Spans.{package_spans}
 use Rattle.wit_graph_theory.specs.facts.ListFacts.{Each-map, place_of}
 use Rattle.wit_link_spec.specs.Addition.{Addition}
-use Rattle.wit_link_spec.specs.Reasons.{PassesTheEnd}
+use Rattle.wit_link_spec.specs.Reasons.{AdditionOverflows}
 use Rattle.wit_remap.specs.steps.Fits.{Fits}
 use Rattle.wit_remap.specs.facts.FittingFacts.{AllFit, Each-append, Each-cons, Each-head, Each-left, Each-right, Each-tail, Each-unmapped, SomePasses, all_parts, fit_or_pass, parts_fit, parts_spans}
 use Rattle.wit_link.specs.steps.Fits.{PackageFits}
@@ -13,27 +13,27 @@ use Rattle.wit_link.specs.steps.Fits.{PackageFits}
 module _ (offset : ℕ) where
   -- ---- the spans of a package, from behind
 
-  abbrev required_spans : UnresolvedPackage → List Place
-  required_spans u = map (λ (r : ℕ × Place). r.1) u.required_resource_types
+  abbrev required_spans : UnresolvedPackage → List OptionalSpan
+  required_spans u = map (λ (r : ℕ × OptionalSpan). r.1) u.required_resource_types
 
-  abbrev RequiredFit : ℕ × Place → Type 0
+  abbrev RequiredFit : ℕ × OptionalSpan → Type 0
   RequiredFit r = Fits offset r.1
 
-  abbrev after_required : UnresolvedPackage → List Place
+  abbrev after_required : UnresolvedPackage → List OptionalSpan
   after_required u = parts_spans offset u.types u.interfaces u.worlds
 
-  abbrev after_unknown : UnresolvedPackage → List Place
+  abbrev after_unknown : UnresolvedPackage → List OptionalSpan
   after_unknown u = required_spans u ++ after_required u
 
-  abbrev after_deps : UnresolvedPackage → List Place
+  abbrev after_deps : UnresolvedPackage → List OptionalSpan
   after_deps u = u.unknown_type_spans ++ after_unknown u
 
-  abbrev after_name : UnresolvedPackage → List Place
+  abbrev after_name : UnresolvedPackage → List OptionalSpan
   after_name u = u.foreign_dep_spans ++ after_deps u
 
   all_package : (u : UnresolvedPackage) → PackageFits offset u → AllFit offset (package_spans u)
   all_package u fits =
-      let required : AllFit offset (required_spans u) = Each-map (λ (r : ℕ × Place). r.1) (Fits offset) u.required_resource_types fits.foreign.required in
+      let required : AllFit offset (required_spans u) = Each-map (λ (r : ℕ × OptionalSpan). r.1) (Fits offset) u.required_resource_types fits.foreign.required in
       Each-cons (Fits offset) u.package_name_span (after_name u) fits.name
       (Each-append (Fits offset) u.foreign_dep_spans (after_deps u) fits.foreign.deps
       (Each-append (Fits offset) u.unknown_type_spans (after_unknown u) fits.foreign.unknown
@@ -51,7 +51,7 @@ module _ (offset : ℕ) where
           deps = Each-left (Fits offset) u.foreign_dep_spans (after_deps u) rest;
           unknown = Each-left (Fits offset) u.unknown_type_spans (after_unknown u) behind_deps;
           required =
-              Each-unmapped (Fits offset) RequiredFit (λ (r : ℕ × Place). r.1) u.required_resource_types (λ r h. h)
+              Each-unmapped (Fits offset) RequiredFit (λ (r : ℕ × OptionalSpan). r.1) u.required_resource_types (λ r h. h)
               (Each-left (Fits offset) (required_spans u) (after_required u) behind_unknown);
         };
         parts = parts_fit offset u.types u.interfaces u.worlds behind_required;
@@ -73,13 +73,13 @@ module _ (offset : ℕ) where
       omega (arith, below, above)
 
 -- where a package doesn't fit, a span of it passes the end
-pub passes-of_not_fitting : (a : Addition) → a.offset < 2 ^ 32 → (PackageFits a.offset a.handed → ⊥) → PassesTheEnd a
+pub passes-of_not_fitting : (a : Addition) → a.offset < 2 ^ 32 → (PackageFits a.offset a.unresolved → ⊥) → AdditionOverflows a
 passes-of_not_fitting a small fits_not =
-    elim (fits_or_passes a.offset small a.handed) [
+    elim (fits_or_passes a.offset small a.unresolved) [
       | inl fits ↦ absurd (fits_not fits)
       | inr passes ↦ record { from = passes.0; to = passes.1; known = passes.2; past = passes.3 }
     ]
 
 -- where it fits, none does
-pub fitting_passes_not : (a : Addition) → PackageFits a.offset a.handed → PassesTheEnd a → ⊥
-fitting_passes_not a fits passes = never_both a.offset a.handed fits (passes.from, passes.to, passes.known, passes.past)
+pub fitting_passes_not : (a : Addition) → PackageFits a.offset a.unresolved → AdditionOverflows a → ⊥
+fitting_passes_not a fits passes = never_both a.offset a.unresolved fits (passes.from, passes.to, passes.known, passes.past)

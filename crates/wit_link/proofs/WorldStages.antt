@@ -14,18 +14,18 @@ use Rattle.wit_graph_data.specs.declared.graph.Graph.{Graph}
 use Rattle.wit_graph_theory.specs.facts.ListFacts.{from_map}
 use Rattle.wit_link_spec.specs.Addition.{Addition, own_worlds}
 use Rattle.wit_link_spec.specs.Cause.{IsCause, IsReached}
-use Rattle.wit_link_spec.specs.Include.{Lists}
+use Rattle.wit_link_spec.specs.Include.{EntryLists}
 use Rattle.wit_link_spec.specs.Pushed.{pushed, with_parts, with_world, with_worlds}
-use Rattle.wit_link_spec.specs.Reasons.{HasImage}
-use Rattle.wit_link_spec.specs.WorldReasons.{AtWorld, HaveLists, WorldIsFine, made, written}
+use Rattle.wit_link_spec.specs.Reasons.{IsResolved}
+use Rattle.wit_link_spec.specs.WorldReasons.{AtWorld, HaveLists, WorldIsAccepted, made, written}
 use Rattle.wit_link_laws.specs.laws.StageFacts.{IncludedAreThere, IncludesCanBe, WorldsCanBe}
-use Rattle.wit_link_include.specs.facts.AdditionFacts.{home, image_at, next_stage, placed_includes, reached_fine, world_cause}
+use Rattle.wit_link_include.specs.facts.AdditionFacts.{home, image_at, next_stage, placed_includes, reached_accepted, world_cause}
 use Rattle.wit_link_include.specs.steps.Included as local
 use Rattle.wit_link_include.specs.facts.ReadyFacts.{can_be_added}
 use Rattle.wit_remap.specs.declared.worlds.PlacedWorld.{PlacedWorld}
 use Rattle.wit_link.specs.steps.Including.{ready_world, ready_worlds}
 
--- so many worlds are added, and nothing speaks against them
+-- so many worlds are added, and no cause holds against them
 pub record IsAdding (a : Addition) (done : List PlacedWorld) (g : Graph) : Type 0 where
   pub graph : g ≡ with_worlds a (length done)
   pub fine : IsReached a (length done)
@@ -48,19 +48,19 @@ module _ (a : Addition) (done rest : List PlacedWorld) (placed : PlacedWorld) (g
   back : (P : Graph → World → List WorldInclude → Type 0) → P g placed.world placed.includes → P (with_worlds a (length done)) (image_at a turn.place turn.world) (placed_includes a turn.world)
   back P p = subst (λ (h : Graph). P h (image_at a turn.place turn.world) (placed_includes a turn.world)) is.graph (subst (λ (x : PlacedWorld). P g x.world x.includes) (sym from.2) p)
 
-  pub is_ready : IncludedAreThere → IncludesCanBe → WorldsCanBe → IsValid a.graph → IsShaped a.handed → HasImage a → local.CanBeAdded (home a) g placed.world placed.includes
+  pub is_ready : IncludedAreThere → IncludesCanBe → WorldsCanBe → IsValid a.graph → IsShaped a.unresolved → IsResolved a → local.CanBeAdded (home a) g placed.world placed.includes
   is_ready there includes worlds valid shaped image = told (local.CanBeAdded (home a)) (can_be_added there includes worlds a valid shaped image (length done) is.fine turn)
 
-  pub adding-next : (new : Graph) → new ≡ local.with_including (home a) g placed.world placed.includes → local.IsFineWorld (home a) g placed.world placed.includes → IsAdding a (done ++ placed ∷ []) new
+  pub adding-next : (new : Graph) → new ≡ local.with_including (home a) g placed.world placed.includes → local.IsAcceptedWorld (home a) g placed.world placed.includes → IsAdding a (done ++ placed ∷ []) new
   adding-next new new_is fine =
       let long : length (done ++ placed ∷ []) ≡ length done + 1 = length_push done placed in
-      let one : WorldIsFine a (length done) = reached_fine a (length done) turn (back (local.IsFineWorld (home a)) fine) in
+      let one : WorldIsAccepted a (length done) = reached_accepted a (length done) turn (back (local.IsAcceptedWorld (home a)) fine) in
       record {
         graph = back (λ (h : Graph) (w : World) (l : List WorldInclude). new ≡ local.with_including (home a) h w l) new_is ∙ sym (next_stage a (length done) turn) ∙ ap (with_worlds a) (sym long);
-        fine = subst (IsReached a) (sym long) (below_more (WorldIsFine a) (length done) is.fine one);
+        fine = subst (IsReached a) (sym long) (below_more (WorldIsAccepted a) (length done) is.fine one);
       }
 
-  pub refused_here : HasImage a → (kind : ResolveErrorKind) → (kind ≡ OutOfMemory) ⊎ local.IsWorldCause (home a) g placed.world placed.includes kind → (kind ≡ OutOfMemory) ⊎ IsCause a kind
+  pub refused_here : IsResolved a → (kind : ResolveErrorKind) → (kind ≡ OutOfMemory) ⊎ local.IsWorldCause (home a) g placed.world placed.includes kind → (kind ≡ OutOfMemory) ⊎ IsCause a kind
   refused_here image kind (inl memory) = inl memory
   refused_here image kind (inr why) =
       inr (world_cause a (length done) turn image is.fine kind (back (λ (h : Graph) (w : World) (l : List WorldInclude). local.IsWorldCause (home a) h w l kind) why))
@@ -71,12 +71,12 @@ module _ (a : Addition) (k : ℕ) (past : length (own_worlds a) ≤ k) where
   no_world : AtWorld a k → ⊥
   no_world at = let within : k < length (own_worlds a) = slice_get_within (own_worlds a) k (at.place, at.world) at.is in omega arith
 
-  no_lists : (world : World) (lists : Lists) (moves : ℕ) → HaveLists a k world lists moves → ⊥
+  no_lists : (world : World) (lists : EntryLists) (moves : ℕ) → HaveLists a k world lists moves → ⊥
   no_lists world lists moves (made at image fine) = no_world at
   no_lists world lists moves (written at none) = no_world at
 
-  -- where there is no world nothing speaks against it
-  pub none_fine : WorldIsFine a k
+  -- where there is no world no cause holds against it
+  pub none_fine : WorldIsAccepted a k
   none_fine = record {
     includes = λ image j. record {
       unshadowed = λ span word name is. no_world is.at.at;
@@ -88,7 +88,7 @@ module _ (a : Addition) (k : ℕ) (past : length (own_worlds a) ≤ k) where
     exports = λ span name is. no_world is.at;
   }
 
-pub each_fine : (a : Addition) → IsReached a (length (own_worlds a)) → (k : ℕ) → WorldIsFine a k
+pub each_fine : (a : Addition) → IsReached a (length (own_worlds a)) → (k : ℕ) → WorldIsAccepted a k
 each_fine a fine k = elim (below_or_not k (length (own_worlds a))) [ inl below ↦ fine k below | inr past ↦ none_fine a k past ]
   where
     below_or_not : (i n : ℕ) → (i < n) ⊎ (n ≤ i)

@@ -1,4 +1,4 @@
--- Groups of packages that are handed in together: their order, what adding them makes of a graph, and why none of them
+-- Groups of packages that are added together: their order, what adding them makes of a graph, and why none of them
 -- is added.
 -- Source: `sort_unresolved_packages` and `visit` of wit-parser 0.263.0.
 use Rattle.std.specs.Prelude.{◌⊎◌, ◌≤◌, ◌^◌, ℕ, ◌+◌, List, [], ◌∷◌, ◌++◌, map}
@@ -8,24 +8,24 @@ use Rattle.wit_graph_data.specs.declared.error_kind.ResolveErrorKind.{ResolveErr
 use Rattle.wit_graph_data.specs.declared.error_kind.ResolveErrorKind.TheVariants.{OffsetOverflow}
 use Rattle.wit_graph_data.specs.declared.features.Features.{Features}
 use Rattle.wit_graph_data.specs.declared.graph.Graph.{Graph}
-use Rattle.wit_link_order.specs.Sorting.{AreSorted, Handed, IsSortCause}
+use Rattle.wit_link_order.specs.GroupOrder.{AreSorted, IsSortCause, Unresolved}
 use Rattle.wit_link.specs.Several.{IsOneRefused}
 
 -- the packages of groups, the nested ones of a group before its main one, where the files of the first
 -- group begin at this position and those of the others follow
-abbrev pub packages_of : ℕ → List UnresolvedPackageGroup → List Handed
+abbrev pub packages_of : ℕ → List UnresolvedPackageGroup → List Unresolved
 packages_of at [] = []
 packages_of at (group ∷ groups) = map (λ (u : UnresolvedPackage). (u, at)) (group.nested ++ group.main ∷ []) ++ packages_of (at + group.source_map.end) groups
 
 -- ---- refusals
 
--- adding handed packages has a reason to be refused with this error: they can be sorted, and one of them
+-- adding unresolved packages has a reason to be refused with this error: they can be sorted, and one of them
 -- can't be added to what those before it make of the graph
-pub record IsPushCause (features : Features) (g : Graph) (handed : List Handed) (error : ResolveErrorKind) : Type 0 where
-  pub sortable : (e : ResolveErrorKind) → IsSortCause handed e → ⊥
+pub record IsPushCause (features : Features) (g : Graph) (unresolved : List Unresolved) (error : ResolveErrorKind) : Type 0 where
+  pub sortable : (e : ResolveErrorKind) → IsSortCause unresolved e → ⊥
   pub order : List ℕ
-  pub sorted : List Handed
-  pub are_sorted : AreSorted handed order sorted
+  pub sorted : List Unresolved
+  pub are_sorted : AreSorted unresolved order sorted
   pub refused : IsOneRefused features g sorted error
 
 -- where the files of groups end that begin at this position

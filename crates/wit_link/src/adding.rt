@@ -1,6 +1,6 @@
 //! Adding a package to a graph.
 ghost use Rattle.std.specs.Prelude.{◌≡◌, ◌⊎◌, IfErr, IfOk, OnErr, OnOk};
-ghost use Rattle.wit_link_spec.specs.steps.Adding.{activity_of, places_of, values_of};
+ghost use Rattle.wit_link_spec.specs.steps.AdditionRefs.{activity_of, new_ids_of, values_of};
 ghost use Rattle.wit_link_spec.specs.Cause.{IsCause};
 ghost use Rattle.wit_elaboration.specs.Elaboration.{graph_uses};
 ghost use Rattle.wit_elaboration.specs.Valid.{IsValid};
@@ -23,16 +23,16 @@ use wit_elaboration::Elaborator;
 use wit_graph_data::{Features, Graph, ResolveError, ResolveErrorKind, ResolveResult};
 use wit_link_include::add_world;
 use wit_link_laws::laws::{included_are_there, includes_can_be, pushes_stay_valid, worlds_can_be};
-use wit_link_spec::Adding;
+use wit_link_spec::AdditionRef;
 use wit_remap::{Mark, Part, PlacedWorld, add_parts};
 
 /// Adds an `is_shaped` package to a valid graph under features, its spans moved by so many positions, and answers its
 /// id. The graph stays valid.
 ///
 /// Refused where a package of that name is there (5), where what is named of other packages isn't there (1, 2, 3, 13)
-/// or is no resource (14), where a gate can't be met (9, 10), where what takes part needs what is left out (11, 12),
+/// or is no resource (14), where a gate can't be met (9, 10), where what is active needs what is left out (11, 12),
 /// where a result holds a borrow (15), where an include brings a label that is there (7) or a stability that
-/// disagrees (8), or renames nothing (16), where labels are too alike (17) or a setter has no getter (18), where what
+/// disagrees (8), or renames nothing (16), where labels are not strongly unique (17) or a setter has no getter (18), where what
 /// exports need from outside is exported (4), where a span would pass 4294967295 (27), and for memory (28). After a
 /// refusal the graph is as before.
 ///
@@ -97,10 +97,10 @@ pub fn append_with(
     }
     let checked = check(
         alloc,
-        &Adding {
+        &AdditionRef {
             graph,
             features,
-            handed: &package,
+            unresolved: &package,
             offset: span_offset,
         },
     )?;
@@ -153,7 +153,7 @@ fn add_checked(
     requires new { IsNew (addition features.now graph.old «package» span_offset) }
     requires checked { IsChecked (addition features.now graph.old «package» span_offset) }
     requires activity { checked.activity ≡ activity_of (addition features.now graph.old «package» span_offset) }
-    requires places { checked.places ≡ places_of (addition features.now graph.old «package» span_offset) }
+    requires places { checked.places ≡ new_ids_of (addition features.now graph.old «package» span_offset) }
     requires values { checked.values ≡ values_of (addition features.now graph.old «package» span_offset) }
     ensures ok { IfOk result (λ id. IsAdded (addition features.now graph.old «package» span_offset) graph.new id) }
     ensures valid { OnOk result (IsValid graph.new) }
@@ -195,7 +195,7 @@ fn add_placed(
     requires new { IsNew (addition features.now graph.old «package» span_offset) }
     requires checked { IsChecked (addition features.now graph.old «package» span_offset) }
     requires activity { checked.activity ≡ activity_of (addition features.now graph.old «package» span_offset) }
-    requires places { checked.places ≡ places_of (addition features.now graph.old «package» span_offset) }
+    requires places { checked.places ≡ new_ids_of (addition features.now graph.old «package» span_offset) }
     requires values { checked.values ≡ values_of (addition features.now graph.old «package» span_offset) }
     ensures ok { OnOk result (graph.new ≡ with_parts (addition features.now graph.old «package» span_offset)) }
     ensures worlds { IfOk result (λ worlds. worlds ≡ ready_worlds (addition features.now graph.old «package» span_offset)) }

@@ -1,9 +1,9 @@
 //! What is looked at of a package before the graph is touched.
 ghost use Rattle.std.specs.Prelude.{◌≡◌, ◌⊎◌, IfErr, IfOk, OnOk};
-ghost use Rattle.wit_link_spec.specs.steps.Adding.{activity_of, addition_of, places_of, values_of};
+ghost use Rattle.wit_link_spec.specs.steps.AdditionRefs.{activity_of, addition_of, new_ids_of, values_of};
 ghost use Rattle.wit_link_spec.specs.Cause.{IsCause};
 ghost use Rattle.wit_link_spec.specs.steps.Passed.{GatesAreMet, HasResources, IsAllFound, NeedsNothingExcluded, ReturnsNoBorrow};
-ghost use Rattle.wit_link_spec.specs.Reasons.{PassesTheEnd};
+ghost use Rattle.wit_link_spec.specs.Reasons.{AdditionOverflows};
 ghost use Rattle.wit_elaboration.specs.Valid.{IsValid};
 ghost use Rattle.wit_graph_data.specs.declared.error_kind.ResolveErrorKind.TheVariants.{OutOfMemory};
 ghost use Rattle.wit_data.specs.Shape.{IsShaped};
@@ -14,26 +14,26 @@ use wit_graph_data::ResolveResult;
 use wit_link_features::{activity, check_references, check_versions};
 use wit_link_foreign::places;
 use wit_link_resources::{check_resources, check_results, values};
-use wit_link_spec::{Activity, Adding, Places, Values};
+use wit_link_spec::{Activity, AdditionRef, NewIds, Values};
 
-/// What takes part of a package, and where its things go.
+/// What is active of a package, and what its things are remapped to.
 #[derive(Drop)]
 pub(crate) struct Checked {
     pub(crate) activity: Activity,
-    pub(crate) places: Places,
+    pub(crate) places: NewIds,
     pub(crate) values: Values,
 }
 
 /// Refuses a package for what it and the graph tell before any world is looked at (1 to 3 and 9 to 15), else answers
-/// where its things go.
+/// what its things are remapped to.
 #[tactic(auto, using(crate::proofs::Checks::passed_image))]
-pub(crate) fn check(alloc: Global, adding: &Adding<'_>) -> ResolveResult<Checked>
-    requires shaped { IsShaped adding.now.handed.now }
+pub(crate) fn check(alloc: Global, adding: &AdditionRef<'_>) -> ResolveResult<Checked>
+    requires shaped { IsShaped adding.now.unresolved.now }
     requires valid { IsValid adding.now.graph.now }
-    requires fits { PassesTheEnd (addition_of adding.now) → ⊥ }
+    requires fits { AdditionOverflows (addition_of adding.now) → ⊥ }
     ensures checked { OnOk result (IsChecked (addition_of adding.now)) }
     ensures activity { IfOk result (λ checked. checked.activity ≡ activity_of (addition_of adding.now)) }
-    ensures places { IfOk result (λ checked. checked.places ≡ places_of (addition_of adding.now)) }
+    ensures places { IfOk result (λ checked. checked.places ≡ new_ids_of (addition_of adding.now)) }
     ensures values { IfOk result (λ checked. checked.values ≡ values_of (addition_of adding.now)) }
     ensures cause { IfErr result (λ kind. (kind ≡ OutOfMemory) ⊎ IsCause (addition_of adding.now) kind) }
 {
@@ -47,10 +47,10 @@ pub(crate) fn check(alloc: Global, adding: &Adding<'_>) -> ResolveResult<Checked
     })
 }
 
-/// Refuses a package whose gates can't be met or that needs what is left out (9 to 12), else answers what takes part
+/// Refuses a package whose gates can't be met or that needs what is left out (9 to 12), else answers what is active
 /// of it.
-fn checked_activity(alloc: Global, adding: &Adding<'_>) -> ResolveResult<Activity>
-    requires { IsShaped adding.now.handed.now }
+fn checked_activity(alloc: Global, adding: &AdditionRef<'_>) -> ResolveResult<Activity>
+    requires { IsShaped adding.now.unresolved.now }
     ensures activity { IfOk result (λ activity. activity ≡ activity_of (addition_of adding.now)) }
     ensures met { OnOk result (GatesAreMet (addition_of adding.now)) }
     ensures needs { OnOk result (NeedsNothingExcluded (addition_of adding.now)) }
@@ -63,15 +63,15 @@ fn checked_activity(alloc: Global, adding: &Adding<'_>) -> ResolveResult<Activit
 }
 
 /// Refuses a package that names what isn't there (1 to 3 and 13), where a type has to be a resource that is none (14)
-/// or a result holds a borrow (15), else answers where its things go.
+/// or a result holds a borrow (15), else answers what its things are remapped to.
 #[tactic(auto, using(crate::proofs::Checks::passed_image))]
-fn checked_places(alloc: Global, adding: &Adding<'_>, activity: &Activity) -> ResolveResult<Places>
-    requires shaped { IsShaped adding.now.handed.now }
+fn checked_places(alloc: Global, adding: &AdditionRef<'_>, activity: &Activity) -> ResolveResult<NewIds>
+    requires shaped { IsShaped adding.now.unresolved.now }
     requires valid { IsValid adding.now.graph.now }
     requires activity { activity.now ≡ activity_of (addition_of adding.now) }
     requires met { GatesAreMet (addition_of adding.now) }
     requires needs { NeedsNothingExcluded (addition_of adding.now) }
-    ensures places { IfOk result (λ places. places ≡ places_of (addition_of adding.now)) }
+    ensures places { IfOk result (λ places. places ≡ new_ids_of (addition_of adding.now)) }
     ensures found { OnOk result (IsAllFound (addition_of adding.now)) }
     ensures resources { OnOk result (HasResources (addition_of adding.now)) }
     ensures no_borrow { OnOk result (ReturnsNoBorrow (addition_of adding.now)) }

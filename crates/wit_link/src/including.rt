@@ -4,7 +4,7 @@ ghost use Rattle.wit_link.specs.steps.Including.{include_at, world_with};
 
 use std::alloc::{AllocError, Global};
 use wit_data::{Items, WorldInclude};
-use wit_link_spec::Places;
+use wit_link_spec::NewIds;
 use wit_remap::PlacedWorld;
 
 /// Worlds with their includes at their places. A span that can't be moved is answered as want of memory: all spans were
@@ -12,7 +12,7 @@ use wit_remap::PlacedWorld;
 pub(crate) fn place_includes(
     alloc: Global,
     worlds: Items<PlacedWorld>,
-    places: &Places,
+    places: &NewIds,
     offset: u32,
 ) -> Result<Items<PlacedWorld>, AllocError>
     ensures { IfOk result (λ new. new ≡ map (world_with places.now offset) worlds) }
@@ -28,7 +28,7 @@ pub(crate) fn place_includes(
 fn world_with(
     alloc: Global,
     world: PlacedWorld,
-    places: &Places,
+    places: &NewIds,
     offset: u32,
 ) -> Result<PlacedWorld, AllocError>
     ensures { IfOk result (λ new. new ≡ world_with places.now offset world) }
@@ -50,7 +50,7 @@ fn world_with(
 fn includes_at(
     alloc: Global,
     includes: Items<WorldInclude>,
-    places: &Places,
+    places: &NewIds,
     offset: u32,
 ) -> Result<Items<WorldInclude>, AllocError>
     ensures { IfOk result (λ new. new ≡ map (include_at places.now offset) includes) }
@@ -65,7 +65,7 @@ fn includes_at(
 /// The same of one include.
 fn include_at(
     include: WorldInclude,
-    places: &Places,
+    places: &NewIds,
     offset: u32,
 ) -> Result<WorldInclude, AllocError>
     ensures { IfOk result (λ new. new ≡ include_at places.now offset include) }

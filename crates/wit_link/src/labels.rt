@@ -2,7 +2,7 @@
 ghost use Rattle.std.specs.Prelude.{◌≡◌, IfErr, IfOk, string_bytes};
 ghost use Rattle.std.specs.Option.{option_map};
 ghost use Rattle.wit_graph_data.specs.declared.error_kind.ResolveErrorKind.TheVariants.{OutOfMemory};
-ghost use Rattle.wit_labels.specs.Rename.{renamed_by};
+ghost use Rattle.wit_labels.specs.Rename.{renamed_label_by};
 
 use std::alloc::Global;
 use wit_data::IncludeName;
@@ -13,7 +13,7 @@ use wit_graph_data::ResolveResult;
 ///
 /// Source: `rename` of wit-parser 0.263.0.
 pub fn rename(alloc: Global, label: &str, name: &IncludeName) -> ResolveResult<Option<String>>
-    ensures renamed { IfOk result (λ text. option_map string_bytes text ≡ renamed_by name.now label.now) }
+    ensures renamed { IfOk result (λ text. option_map string_bytes text ≡ renamed_label_by name.now label.now) }
     ensures err { IfErr result (λ kind. kind ≡ OutOfMemory) }
 {
     Ok(wit_labels::rename(alloc, label, name)?)

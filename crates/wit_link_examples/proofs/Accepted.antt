@@ -1,10 +1,10 @@
--- Nothing speaks against the first package, nor against one whose world includes another.
+-- No cause holds against the first package, nor against one whose world includes another.
 use Rattle.std.proofs.Common.{◌≡◌, ℕ, ◌+◌, ◌<◌, ◌≤◌, suc, Bool, true, false, ◌&&◌, [], ◌∷◌, None, Some, slice_get, nat_lt, refl, inl, inr, arith}
 use Rattle.std.proofs.lemmas.Bool.{and_parts, false≢true, ltb-true}
 use Rattle.std.specs.List.{list_all}
 use Rattle.std.specs.Map.{lookup}
 use Rattle.std.specs.Prelude.{codes, is_some}
-use Rattle.wit_digraph.specs.Walks.{walk, walk_within}
+use Rattle.wit_digraph.specs.PostOrder.{post_order, post_order_within}
 use Rattle.wit_data.specs.Entries.{Entry}
 use Rattle.wit_data.specs.PackageOrder.{same_package}
 use Rattle.wit_data.specs.declared.function.Function.{Function}
@@ -15,13 +15,13 @@ use Rattle.wit_data.specs.declared.world.WorldItem.TheVariants as item
 use Rattle.wit_elaboration.specs.examples.Examples.{empty_graph}
 use Rattle.wit_graph_theory.specs.examples.TestFacts.{all_are, all_at, at_are, is_empty, not_passed, nothing_in}
 use Rattle.wit_link_spec.specs.Addition.{Addition, own_worlds}
-use Rattle.wit_link_spec.specs.Cause.{IsAccepted}
+use Rattle.wit_link_spec.specs.Cause.{AdditionIsAccepted}
 use Rattle.wit_link_spec.specs.Cause as reason
-use Rattle.wit_link_spec.specs.Gates.{Place}
-use Rattle.wit_link_spec.specs.Reasons.{HasImage, IsActiveFunction, PassesTheEnd}
+use Rattle.wit_link_spec.specs.Gates.{OptionalSpan}
+use Rattle.wit_link_spec.specs.Reasons.{AdditionOverflows, IsActiveFunction, IsResolved}
 use Rattle.wit_link_spec.specs.Reasons as part
 use Rattle.wit_link_spec.specs.Spans.{package_spans}
-use Rattle.wit_link_spec.specs.WorldReasons.{AreTooAlike, AtInclude, AtWorld, IncludeIsFine, IsInConflict, LacksGetter, Mismatches, RenamesNothing, Shadows}
+use Rattle.wit_link_spec.specs.WorldReasons.{AreNotStronglyUnique, AtInclude, AtWorld, IncludeIsAccepted, IncludeMismatches, LacksGetter, RenamesNothing, Shadows, WorldHasConflict}
 use Rattle.wit_link_examples.proofs.AtWorlds.{all_fine, at_of, fine_without, no_include, of_first}
 use Rattle.wit_link_examples.proofs.HasImage.{image}
 use Rattle.wit_link_examples.proofs.WorldTests.{IsPlain, fine, plain_exports, plain_getters, plain_labels}
@@ -35,63 +35,63 @@ no_function (item.Interface i note docs span external_id) = true
 no_function (item.Function f) = false
 no_function (item.Type_ t span) = true
 
-abbrev ends_before : ℕ → Place → Bool
+abbrev ends_before : ℕ → OptionalSpan → Bool
 ends_before offset None = true
 ends_before offset (Some (from, to)) = nat_lt (to + offset) 4294967296
 
 -- what a package with one world passes, that has no functions and exports no interface under its own key
 record Passes (a : Addition) (y : AtWorld a 0) : Type 0 where
   later : (k : ℕ) → slice_get (own_worlds a) (suc k) ≡ None
-  has_image : HasImage a
-  absent : is_some (lookup (same_package a.handed.name) a.graph.package_names) ≡ false
-  includes : (j : ℕ) → IncludeIsFine a 0 j
+  has_image : IsResolved a
+  absent : is_some (lookup (same_package a.unresolved.name) a.graph.package_names) ≡ false
+  includes : (j : ℕ) → IncludeIsAccepted a 0 j
   plain : IsPlain a 0 y
-  required : is_empty a.handed.required_resource_types ≡ true
-  interfaces : all_at (λ (i : ℕ) (interface : Interface). is_empty interface.functions) a.handed.interfaces ≡ true
-  worlds : all_at (λ (w : ℕ) (world : World). list_all (λ (e : Entry). no_function e.1) world.imports && list_all (λ (e : Entry). no_function e.1) world.exports) a.handed.worlds ≡ true
-  spans : list_all (ends_before a.offset) (package_spans a.handed) ≡ true
+  required : is_empty a.unresolved.required_resource_types ≡ true
+  interfaces : all_at (λ (i : ℕ) (interface : Interface). is_empty interface.functions) a.unresolved.interfaces ≡ true
+  worlds : all_at (λ (w : ℕ) (world : World). list_all (λ (e : Entry). no_function e.1) world.imports && list_all (λ (e : Entry). no_function e.1) world.exports) a.unresolved.worlds ≡ true
+  spans : list_all (ends_before a.offset) (package_spans a.unresolved) ≡ true
 
 -- ---- what they show
 
 module _ (a : Addition) (y : AtWorld a 0) (p : Passes a y) where
   no_active : (f : Function) → IsActiveFunction a f → ⊥
   no_active f (part.of_interface i interface name _ at active inside on) =
-      nothing_in interface.functions (name, f) (at_are (λ (i : ℕ) (interface : Interface). is_empty interface.functions) a.handed.interfaces p.interfaces i interface at) inside
+      nothing_in interface.functions (name, f) (at_are (λ (i : ℕ) (interface : Interface). is_empty interface.functions) a.unresolved.interfaces p.interfaces i interface at) inside
   no_active f (part.of_world w world k _ at active (inl import) on) =
-      let lists = and_parts _ _ (at_are (λ (w : ℕ) (world : World). list_all (λ (e : Entry). no_function e.1) world.imports && list_all (λ (e : Entry). no_function e.1) world.exports) a.handed.worlds p.worlds w world at) in
+      let lists = and_parts _ _ (at_are (λ (w : ℕ) (world : World). list_all (λ (e : Entry). no_function e.1) world.imports && list_all (λ (e : Entry). no_function e.1) world.exports) a.unresolved.worlds p.worlds w world at) in
       false≢true (all_are (λ (e : Entry). no_function e.1) world.imports lists.0 (k, item.Function f) import)
   no_active f (part.of_world w world k _ at active (inr export) on) =
-      let lists = and_parts _ _ (at_are (λ (w : ℕ) (world : World). list_all (λ (e : Entry). no_function e.1) world.imports && list_all (λ (e : Entry). no_function e.1) world.exports) a.handed.worlds p.worlds w world at) in
+      let lists = and_parts _ _ (at_are (λ (w : ℕ) (world : World). list_all (λ (e : Entry). no_function e.1) world.imports && list_all (λ (e : Entry). no_function e.1) world.exports) a.unresolved.worlds p.worlds w world at) in
       false≢true (all_are (λ (e : Entry). no_function e.1) world.exports lists.1 (k, item.Function f) export)
 
-  fits : PassesTheEnd a → ⊥
+  fits : AdditionOverflows a → ⊥
   fits c =
-      let passes : ends_before a.offset (Some (c.from, c.to)) ≡ true = all_are (ends_before a.offset) (package_spans a.handed) p.spans (Some (c.from, c.to)) c.known in
+      let passes : ends_before a.offset (Some (c.from, c.to)) ≡ true = all_are (ends_before a.offset) (package_spans a.unresolved) p.spans (Some (c.from, c.to)) c.known in
       let below : c.to + a.offset < 4294967296 = ltb-true (c.to + a.offset) 4294967296 passes in
       let past : 4294967296 ≤ c.to + a.offset = c.past in
       absurd (omega (arith, below, past))
 
-  is_accepted : IsAccepted a
+  is_accepted : AdditionIsAccepted a
   is_accepted _ (reason.package_not_found_1 span requested known c) = p.has_image.packages span requested known c
   is_accepted _ (reason.world_not_found_2 span requested home c) = p.has_image.worlds span requested home c
   is_accepted _ (reason.interface_not_found_3 span requested home c) = p.has_image.interfaces span requested home c
-  is_accepted _ (reason.conflict_4 k span name reached c) = of_first a p.later (λ (n : ℕ). IsInConflict a n span name) (λ n (x : IsInConflict a n span name). x.at) (plain_exports a 0 y p.plain span name) k c
+  is_accepted _ (reason.conflict_4 k span name reached c) = of_first a p.later (λ (n : ℕ). WorldHasConflict a n span name) (λ n (x : WorldHasConflict a n span name). x.at) (plain_exports a 0 y p.plain span name) k c
   is_accepted _ (reason.duplicate_5 name span1 span2 c) = not_passed p.absent c.there
   is_accepted _ (reason.shadowing_7 k j span word name reached c) =
       of_first a p.later (λ (n : ℕ). Shadows a n j span word name) (λ n (x : Shadows a n j span word name). x.at.at) ((p.includes j).unshadowed span word name) k c
   is_accepted _ (reason.mismatch_8 k j span from into reached c) =
-      of_first a p.later (λ (n : ℕ). Mismatches a n j span from into) (λ n (x : Mismatches a n j span from into). x.at.at) ((p.includes j).agrees span from into) k c
+      of_first a p.later (λ (n : ℕ). IncludeMismatches a n j span from into) (λ n (x : IncludeMismatches a n j span from into). x.at.at) ((p.includes j).agrees span from into) k c
   is_accepted _ (reason.gate_without_version_9 span message c) = p.has_image.version span message c
   is_accepted _ (reason.gate_unreleased_10 span message c) = p.has_image.released span message c
   is_accepted _ (reason.excluded_11 span message c) = p.has_image.references span message c
   is_accepted _ (reason.excluded_owner_12 span message c) = p.has_image.owners span message c
   is_accepted _ (reason.type_not_defined_13 span message c) = p.has_image.types span message c
-  is_accepted _ (reason.not_a_resource_14 span message c) = nothing_in a.handed.required_resource_types (c.t, c.place) p.required c.required
+  is_accepted _ (reason.not_a_resource_14 span message c) = nothing_in a.unresolved.required_resource_types (c.t, c.place) p.required c.required
   is_accepted _ (reason.borrow_in_result_15 span message c) = no_active c.f c.active
   is_accepted _ (reason.rename_unmatched_16 k j span message reached c) =
       of_first a p.later (λ (n : ℕ). RenamesNothing a n j span message) (λ n (x : RenamesNothing a n j span message). x.at.at) ((p.includes j).renames span message) k c
   is_accepted _ (reason.not_strongly_unique_17 k span message reached c) =
-      of_first a p.later (λ (n : ℕ). AreTooAlike a n span message) (λ n (x : AreTooAlike a n span message). at_of a n x.world x.lists x.moves x.have) (plain_labels a 0 y p.plain span message) k c
+      of_first a p.later (λ (n : ℕ). AreNotStronglyUnique a n span message) (λ n (x : AreNotStronglyUnique a n span message). at_of a n x.world x.lists x.moves x.have) (plain_labels a 0 y p.plain span message) k c
   is_accepted _ (reason.no_getter_18 k span message reached c) =
       of_first a p.later (λ (n : ℕ). LacksGetter a n span message) (λ n (x : LacksGetter a n span message). at_of a n x.world x.lists x.moves x.have) (plain_getters a 0 y p.plain span message) k c
   is_accepted _ (reason.offset_overflow_27 c) = fits c
@@ -104,7 +104,7 @@ the_first = adding no_features empty_graph first_package
 abbrev first_world : AtWorld the_first 0
 first_world = record { place = 0; world = _; is = refl }
 
-pub accepted : IsAccepted the_first
+pub accepted : AdditionIsAccepted the_first
 accepted = is_accepted the_first first_world (record {
   later = λ k. refl;
   has_image = image the_first (record { packages = refl; items = refl; types = refl; interfaces = refl; worlds = refl });
@@ -125,8 +125,8 @@ the_including = including ((codes "d", include_with [] ∷ []) ∷ [])
 abbrev base_include : AtInclude the_including 0 0
 base_include = record { at = record { place = 1; world = _; is = refl }; include = _; is = refl; before = _; before_is = refl; old = _; old_is = refl }
 
-pub including_accepted : IsAccepted the_including
-unfolding walk walk_within
+pub including_accepted : AdditionIsAccepted the_including
+unfolding post_order post_order_within
 including_accepted = is_accepted the_including base_include.at (record {
   later = λ k. refl;
   has_image = image the_including (record { packages = refl; items = refl; types = refl; interfaces = refl; worlds = refl });

@@ -4,10 +4,10 @@ use Rattle.wit_data.specs.declared.world.World.{World}
 use Rattle.wit_data.specs.declared.world.WorldInclude.{WorldInclude}
 use Rattle.wit_graph_theory.specs.facts.OptionFacts.{some_same}
 use Rattle.wit_graph_theory.specs.examples.TestFacts.{none_some}
-use Rattle.wit_link_spec.specs.Addition.{Addition, active_includes, own_worlds, world_place}
-use Rattle.wit_link_spec.specs.Include.{Begun, Lists, lists_of}
-use Rattle.wit_link_spec.specs.Pushed.{begun, begun_with, with_worlds}
-use Rattle.wit_link_spec.specs.WorldReasons.{AtInclude, AtWorld, HaveLists, IncludeIsFine}
+use Rattle.wit_link_spec.specs.Addition.{Addition, active_includes, own_worlds, remapped_world}
+use Rattle.wit_link_spec.specs.Include.{EntryLists, PartiallyLinked, lists_of}
+use Rattle.wit_link_spec.specs.Pushed.{with_all_includes, with_includes, with_worlds}
+use Rattle.wit_link_spec.specs.WorldReasons.{AtInclude, AtWorld, HaveLists, IncludeIsAccepted}
 use Rattle.wit_link_spec.specs.WorldReasons as reason
 
 module _ (a : Addition) (k : ℕ) where
@@ -30,13 +30,13 @@ module _ (a : Addition) (k : ℕ) where
       let include : x.include ≡ y.include = some_same _ _ (sym x.is ∙ (ap (λ (w : World). slice_get (active_includes a w) j) at.1 ∙ y.is)) in
       let before : x.before ≡ y.before =
       x.before_is
-      ∙ (ap (λ (p : ℕ). begun_with a p x.at.world (take j (active_includes a x.at.world)) (with_worlds a k)) at.0
-      ∙ (ap (λ (w : World). begun_with a y.at.place w (take j (active_includes a w)) (with_worlds a k)) at.1 ∙ sym y.before_is)) in
+      ∙ (ap (λ (p : ℕ). with_includes a p x.at.world (take j (active_includes a x.at.world)) (with_worlds a k)) at.0
+      ∙ (ap (λ (w : World). with_includes a y.at.place w (take j (active_includes a w)) (with_worlds a k)) at.1 ∙ sym y.before_is)) in
       let old : x.old ≡ y.old =
       some_same _ _
       (sym x.old_is
-      ∙ (ap (λ (b : Begun). slice_get b.graph.worlds (world_place a x.include.id)) before ∙ (ap (λ (i : WorldInclude). slice_get y.before.graph.worlds (world_place a i.id)) include ∙ y.old_is))) in
-      record { include_is = include; lists_are = ap (λ (b : Begun). b.lists) before; old_is = old }
+      ∙ (ap (λ (b : PartiallyLinked). slice_get b.graph.worlds (remapped_world a x.include.id)) before ∙ (ap (λ (i : WorldInclude). slice_get y.before.graph.worlds (remapped_world a i.id)) include ∙ y.old_is))) in
+      record { include_is = include; lists_are = ap (λ (b : PartiallyLinked). b.lists) before; old_is = old }
 
   -- where there is no include, nothing is wrong with it
   pub no_include : (y : AtWorld a k) (j : ℕ) → slice_get (active_includes a y.world) j ≡ None → AtInclude a k j → ⊥
@@ -45,20 +45,20 @@ module _ (a : Addition) (k : ℕ) where
       let is : Some x.include ≡ None = sym x.is ∙ (ap (λ (w : World). slice_get (active_includes a w) j) at.1 ∙ none) in
       cc
 
-  pub fine_without : (j : ℕ) → (AtInclude a k j → ⊥) → IncludeIsFine a k j
+  pub fine_without : (j : ℕ) → (AtInclude a k j → ⊥) → IncludeIsAccepted a k j
   fine_without j none = record { unshadowed = λ span word name c. none c.at; agrees = λ span brings has c. none c.at; renames = λ span message c. none c.at }
 
   -- the lists of a world: those with its includes, or those as it is written where it has no include
-  pub lists_are : (y : AtWorld a k) (world : World) (lists : Lists) (moves : ℕ) → HaveLists a k world lists moves
-      → (world ≡ y.world) × ((lists ≡ (begun a y.place y.world (with_worlds a k)).lists) ⊎ ((y.world.includes ≡ []) × (lists ≡ lists_of y.world)))
+  pub lists_are : (y : AtWorld a k) (world : World) (lists : EntryLists) (moves : ℕ) → HaveLists a k world lists moves
+      → (world ≡ y.world) × ((lists ≡ (with_all_includes a y.place y.world (with_worlds a k)).lists) ⊎ ((y.world.includes ≡ []) × (lists ≡ lists_of y.world)))
   lists_are y _ _ _ (reason.made at image fine) =
       let same = world_same at y in
-      (same.1, inl (ap (λ (p : ℕ). (begun a p at.world (with_worlds a k)).lists) same.0 ∙ ap (λ (w : World). (begun a y.place w (with_worlds a k)).lists) same.1))
+      (same.1, inl (ap (λ (p : ℕ). (with_all_includes a p at.world (with_worlds a k)).lists) same.0 ∙ ap (λ (w : World). (with_all_includes a y.place w (with_worlds a k)).lists) same.1))
   lists_are y _ _ _ (reason.written at none) =
       let same = world_same at y in
       (same.1, inr (subst (λ (w : World). w.includes ≡ []) same.1 none, ap lists_of same.1))
 
-  pub at_of : (world : World) (lists : Lists) (moves : ℕ) → HaveLists a k world lists moves → AtWorld a k
+  pub at_of : (world : World) (lists : EntryLists) (moves : ℕ) → HaveLists a k world lists moves → AtWorld a k
   at_of _ _ _ (reason.made at image fine) = at
   at_of _ _ _ (reason.written at none) = at
 
@@ -82,7 +82,7 @@ module _ (a : Addition) (later : (k : ℕ) → slice_get (own_worlds a) (suc k) 
       let found : ℕ × World = (x.at.place, x.at.world) in
       none_some found (sym (later k) ∙ x.at.is)
 
--- all includes of a world with one are fine where that is
-pub all_fine : (a : Addition) (y : AtInclude a 0 0) → ((j : ℕ) → slice_get (active_includes a y.at.world) (suc j) ≡ None) → IncludeIsFine a 0 0 → (j : ℕ) → IncludeIsFine a 0 j
+-- all includes of a world with one are accepted where that is
+pub all_fine : (a : Addition) (y : AtInclude a 0 0) → ((j : ℕ) → slice_get (active_includes a y.at.world) (suc j) ≡ None) → IncludeIsAccepted a 0 0 → (j : ℕ) → IncludeIsAccepted a 0 j
 all_fine a y none fine zero = fine
 all_fine a y none fine (suc j) = fine_without a 0 (suc j) (no_include a 0 y.at (suc j) (none j))

@@ -16,10 +16,10 @@ use Rattle.wit_graph_theory.specs.examples.TestFacts.{none_in, one_of_two, only_
 use Rattle.wit_labels.specs.examples.Examples.{function_entry}
 use Rattle.wit_link_spec.specs.Addition.{Addition}
 use Rattle.wit_link_spec.specs.Cause as reason
-use Rattle.wit_link_spec.specs.Gates.{Place}
+use Rattle.wit_link_spec.specs.Gates.{OptionalSpan}
 use Rattle.wit_link_spec.specs.Include.{include_stability, is_other_package, lists_of}
-use Rattle.wit_link_spec.specs.Reasons.{HasImage}
-use Rattle.wit_link_spec.specs.WorldReasons.{AreTooAlike, AtInclude, HasStability, IncludeIsFine, IsInConflict, LacksGetter, Mismatches, Shadows}
+use Rattle.wit_link_spec.specs.Reasons.{IsResolved}
+use Rattle.wit_link_spec.specs.WorldReasons.{AreNotStronglyUnique, AtInclude, HasStability, IncludeIsAccepted, IncludeMismatches, LacksGetter, Shadows, WorldHasConflict}
 use Rattle.wit_link_spec.specs.WorldReasons as world_reason
 use Rattle.wit_link_examples.proofs.AtWorlds.{all_fine, at_of, include_same, of_first, of_first_include}
 use Rattle.wit_link_examples.proofs.HasImage.{image}
@@ -34,13 +34,13 @@ use Rattle.wit_link_examples.specs.WorldCauses.{ExamplesOfIncludedCauses, both_e
 abbrev imports : List ℕ → List ℕ → Addition
 imports old new = both_import (function_entry old ∷ []) (function_entry new ∷ [])
 
-imports_image : (old new : List ℕ) → HasImage (imports old new)
+imports_image : (old new : List ℕ) → IsResolved (imports old new)
 imports_image old new = image (imports old new) (record { packages = refl; items = refl; types = refl; interfaces = refl; worlds = refl })
 
 abbrev import_include : (old new : List ℕ) → AtInclude (imports old new) 0 0
 import_include old new = record { at = record { place = 1; world = _; is = refl }; include = _; is = refl; before = _; before_is = refl; old = _; old_is = refl }
 
-imports_fine : (old new : List ℕ) → Passes (imports old new) 0 0 (import_include old new) → (j : ℕ) → IncludeIsFine (imports old new) 0 j
+imports_fine : (old new : List ℕ) → Passes (imports old new) 0 0 (import_include old new) → (j : ℕ) → IncludeIsAccepted (imports old new) 0 j
 imports_fine old new passes j = all_fine (imports old new) (import_include old new) (λ j. refl) (fine (imports old new) 0 0 (import_include old new) passes) j
 
 -- ---- worlds that export something each
@@ -48,13 +48,13 @@ imports_fine old new passes j = all_fine (imports old new) (import_include old n
 abbrev exports : Entry → Entry → Addition
 exports old new = both_export (old ∷ []) (new ∷ [])
 
-exports_image : (old new : List ℕ) → HasImage (exports (function_entry old) (function_entry new))
+exports_image : (old new : List ℕ) → IsResolved (exports (function_entry old) (function_entry new))
 exports_image old new = image (exports (function_entry old) (function_entry new)) (record { packages = refl; items = refl; types = refl; interfaces = refl; worlds = refl })
 
 abbrev export_include : (old new : List ℕ) → AtInclude (exports (function_entry old) (function_entry new)) 0 0
 export_include old new = record { at = record { place = 1; world = _; is = refl }; include = _; is = refl; before = _; before_is = refl; old = _; old_is = refl }
 
-gates_image : (old : Stability) → HasImage (exports (gated_entry old) (gated_entry gate_f))
+gates_image : (old : Stability) → IsResolved (exports (gated_entry old) (gated_entry gate_f))
 gates_image old = image (exports (gated_entry old) (gated_entry gate_f)) (record { packages = refl; items = refl; types = refl; interfaces = refl; worlds = refl })
 
 abbrev gate_include : (old : Stability) → AtInclude (exports (gated_entry old) (gated_entry gate_f)) 0 0
@@ -69,7 +69,7 @@ only_gate : (i : ℕ) (brings : Stability) → HasStability (gated_entry since_o
 only_gate i brings (docs, place, external_id, inside) =
     ap (λ (e : Entry). stability_of e.1) (only_one (gated_entry since_one) (key.Interface i, item.Interface i brings docs place external_id) inside)
 
-since : (span : Place) (brings has : Stability) → Mismatches (exports (gated_entry since_one) (gated_entry gate_f)) 0 0 span brings has → ⊥
+since : (span : OptionalSpan) (brings has : Stability) → IncludeMismatches (exports (gated_entry since_one) (gated_entry gate_f)) 0 0 span brings has → ⊥
 since span brings has c =
     let same = include_same (exports (gated_entry since_one) (gated_entry gate_f)) 0 0 c.at (gate_include since_one) in
     elim (one_list c.word c.at.before.lists (lists_of c.at.old) c.current c.brought c.list.0 c.list.1) [
@@ -89,7 +89,7 @@ since span brings has c =
 abbrev exporting : ℕ → Addition
 exporting i = adding no_features (three_exporting i) exporting_c
 
-exporting_image : (i : ℕ) → HasImage (exporting i)
+exporting_image : (i : ℕ) → IsResolved (exporting i)
 exporting_image i = image (exporting i) (record { packages = refl; items = refl; types = refl; interfaces = refl; worlds = refl })
 
 abbrev exporting_include : (i : ℕ) → AtInclude (exporting i) 0 0
@@ -129,10 +129,10 @@ closed (j, (x, d, exported, used, outside, reaches), is_exported) =
 
 -- ---- labels with what comes
 
-not_alike : (span : Place) (message : List ℕ) → AreTooAlike (imports (codes "ab") (codes "ac")) 0 span message → ⊥
+not_alike : (span : OptionalSpan) (message : List ℕ) → AreNotStronglyUnique (imports (codes "ab") (codes "ac")) 0 span message → ⊥
 not_alike = none_alike (imports (codes "ab") (codes "ac")) 0 (import_include (codes "ab") (codes "ac")).at (record { imports = refl; exports = refl; written = λ none. cc })
 
-getter_comes : (span : Place) (message : List ℕ) → LacksGetter (imports (codes "[get]p") (codes "[set]p")) 0 span message → ⊥
+getter_comes : (span : OptionalSpan) (message : List ℕ) → LacksGetter (imports (codes "[get]p") (codes "[set]p")) 0 span message → ⊥
 getter_comes = none_lacks (imports (codes "[get]p") (codes "[set]p")) 0 (import_include (codes "[get]p") (codes "[set]p")).at (record { imports = refl; exports = refl; written = λ none. cc })
 
 -- the labels of the setter and of f are not that of the getter
@@ -154,7 +154,7 @@ included_causes = record {
   conflict = reason.conflict_4 0 _ _ (first_reached (exporting 0)) (record {
     at = (exporting_include 0).at;
     has_image = exporting_image 0;
-    includes_are_fine = all_fine (exporting 0) (exporting_include 0) (λ j. refl)
+    includes_are_accepted = all_fine (exporting 0) (exporting_include 0) (λ j. refl)
         (fine (exporting 0) 0 0 (exporting_include 0) (record { import_labels = refl; export_labels = refl; import_keys = refl; export_keys = refl; names = refl }));
     b = _;
     is = refl;
@@ -176,7 +176,7 @@ included_causes = record {
   });
   closed = λ span name c.
       let found = of_conflict (exporting 1) span name c in
-      of_first (exporting 1) (λ k. refl) (λ (k : ℕ). IsInConflict (exporting 1) k span name) (λ k x. x.at)
+      of_first (exporting 1) (λ k. refl) (λ (k : ℕ). WorldHasConflict (exporting 1) k span name) (λ k x. x.at)
       (λ x. closed (conflict_of (exporting 1) 0 (exporting_include 1).at span name x)) found.0 found.1;
   shadows = reason.shadowing_7 0 0 _ _ _ (include_reached _ (exports_image (codes "f") (codes "f"))) (record {
     at = export_include (codes "f") (codes "f");
@@ -206,7 +206,7 @@ included_causes = record {
   since = λ span brings has c.
       let found = of_mismatch (exports (gated_entry since_one) (gated_entry gate_f)) span brings has c in
       of_first_include (exports (gated_entry since_one) (gated_entry gate_f)) (λ k. refl) (gate_include since_one).at (λ j. refl)
-      (λ (k j : ℕ). Mismatches (exports (gated_entry since_one) (gated_entry gate_f)) k j span brings has) (λ k j x. x.at) (since span brings has) found.0 found.1 found.2;
+      (λ (k j : ℕ). IncludeMismatches (exports (gated_entry since_one) (gated_entry gate_f)) k j span brings has) (λ k j x. x.at) (since span brings has) found.0 found.1 found.2;
   alike = reason.not_strongly_unique_17 0 _ _ (first_reached (imports (codes "ab") (codes "AB"))) (record {
     world = _;
     lists = _;
@@ -240,7 +240,7 @@ included_causes = record {
   });
   not_alike = λ span message c.
       let found = of_alike (imports (codes "ab") (codes "ac")) span message c in
-      of_first (imports (codes "ab") (codes "ac")) (λ k. refl) (λ (k : ℕ). AreTooAlike (imports (codes "ab") (codes "ac")) k span message) (λ k x. at_of _ k x.world x.lists x.moves x.have) (not_alike span message) found.0 found.2;
+      of_first (imports (codes "ab") (codes "ac")) (λ k. refl) (λ (k : ℕ). AreNotStronglyUnique (imports (codes "ab") (codes "ac")) k span message) (λ k x. at_of _ k x.world x.lists x.moves x.have) (not_alike span message) found.0 found.2;
   no_getter = reason.no_getter_18 0 _ _ (first_reached (imports (codes "f") (codes "[set]p"))) (record {
     world = _;
     lists = _;

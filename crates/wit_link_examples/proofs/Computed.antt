@@ -2,7 +2,7 @@
 use Rattle.std.proofs.Common.{◌≡◌, ℕ, List, [], ◌∷◌, ◌++◌, length, map, flat_map, refl, ap, lit<, arith}
 use Rattle.std.specs.Prelude.{codes}
 use Rattle.wit_values.specs.facts.Lists.{differ}
-use Rattle.wit_digraph.specs.Walks.{walk, walk_within}
+use Rattle.wit_digraph.specs.PostOrder.{post_order, post_order_within}
 use Rattle.wit_data.specs.declared.interface.Interface.{Interface}
 use Rattle.wit_data.specs.declared.package_name.PackageName.{PackageName}
 use Rattle.wit_data.specs.declared.world.World.{World}
@@ -15,7 +15,7 @@ use Rattle.wit_elaboration.specs.Elaborated.{import_steps, import_steps_within}
 use Rattle.wit_graph_data.specs.declared.graph.Graph.{Graph}
 use Rattle.wit_graph_theory.specs.examples.TestFacts.{only_one}
 use Rattle.wit_link_spec.specs.Addition.{function_positions}
-use Rattle.wit_link_spec.specs.Include.{Lists}
+use Rattle.wit_link_spec.specs.Include.{EntryLists}
 use Rattle.wit_link_examples.proofs.Accepted.{accepted, including_accepted}
 use Rattle.wit_link_examples.proofs.WorldCauses.{label_same, other_feature}
 use Rattle.wit_link_examples.specs.Gates.{ExamplesOfGates}
@@ -31,7 +31,7 @@ gates = record {
   all = refl;
   none = refl;
   since = refl;
-  later_note = refl;
+  later_gate = refl;
   asked = refl;
   asked_all = refl;
   own = refl;
@@ -45,7 +45,7 @@ first_of : (a b : ℕ) (xs ys : List ℕ) → a ∷ xs ≡ b ∷ ys → a ≡ b
 first_of a b xs ys same = cc
 
 pub pushes : ExamplesOfPushes
-unfolding walk walk_within import_steps import_steps_within
+unfolding post_order post_order_within import_steps import_steps_within
 pushes = record {
   first = refl;
   accepted = accepted;
@@ -61,7 +61,7 @@ pub spans : ExamplesOfSpans
 spans = record { spans_of_world = refl; spans_of_names = refl }
 
 pub values : ExamplesOfValues
-unfolding walk walk_within import_steps import_steps_within
+unfolding post_order post_order_within import_steps import_steps_within
 values = record {
   resource = refl;
   alias = refl;
@@ -97,7 +97,7 @@ no_name : (label : List ℕ) → key.Interface 0 ≡ key.Name label → ⊥
 no_name label same = cc
 
 pub includes : ExamplesOfIncludes
-unfolding walk walk_within
+unfolding post_order post_order_within
 includes = record {
   known_replaces = refl;
   unknown_keeps = refl;
@@ -130,14 +130,14 @@ first_key : (j k : WorldKey) (js ks : List WorldKey) → j ∷ js ≡ k ∷ ks �
 first_key j k js ks same = cc
 
 pub included : ExamplesOfIncluded
-unfolding walk walk_within type_of_item
+unfolding post_order post_order_within type_of_item
 included = record {
   copied = refl;
-  shared = λ same. let types : 1 ∷ 0 ∷ [] ≡ 0 ∷ 0 ∷ [] = ap (λ (l : Lists). map (λ (e : Entry). type_of_item e.1) l.imports) same in let type : 1 ≡ 0 = first_of 1 0 (0 ∷ []) (0 ∷ []) types in absurd (omega (arith, type));
+  shared = λ same. let types : 1 ∷ 0 ∷ [] ≡ 0 ∷ 0 ∷ [] = ap (λ (l : EntryLists). map (λ (e : Entry). type_of_item e.1) l.imports) same in let type : 1 ≡ 0 = first_of 1 0 (0 ∷ []) (0 ∷ []) types in absurd (omega (arith, type));
   old_label = λ same.
-      let keys : key.Name (codes "t2") ∷ key.Name (codes "f") ∷ [] ≡ key.Name (codes "t") ∷ key.Name (codes "f") ∷ [] = ap (λ (l : Lists). map (λ (e : Entry). e.0) l.imports) same in
+      let keys : key.Name (codes "t2") ∷ key.Name (codes "f") ∷ [] ≡ key.Name (codes "t") ∷ key.Name (codes "f") ∷ [] = ap (λ (l : EntryLists). map (λ (e : Entry). e.0) l.imports) same in
       differ (codes "t2") (codes "t") refl (label_same _ _ (first_key _ _ _ _ keys));
-  old_parameter = λ same. let types : 1 ∷ [] ≡ 0 ∷ [] = ap (λ (l : Lists). flat_map (λ (e : Entry). function_positions e.1) l.imports) same in let type : 1 ≡ 0 = first_of 1 0 [] [] types in absurd (omega (arith, type));
+  old_parameter = λ same. let types : 1 ∷ [] ≡ 0 ∷ [] = ap (λ (l : EntryLists). flat_map (λ (e : Entry). function_positions e.1) l.imports) same in let type : 1 ≡ 0 = first_of 1 0 [] [] types in absurd (omega (arith, type));
   since_other = refl;
   since_own = refl;
   since_joins = refl;
@@ -145,7 +145,7 @@ included = record {
 }
 
 pub included_worlds : ExamplesOfIncludedWorlds
-unfolding walk walk_within import_steps import_steps_within
+unfolding post_order post_order_within import_steps import_steps_within
 included_worlds = record {
   once = refl;
   accepted = including_accepted;

@@ -13,14 +13,14 @@ use Rattle.wit_data.specs.declared.types.Handle.TheVariants as handle
 use Rattle.wit_data.specs.declared.types.TypeDefKind.TheVariants as kind
 use Rattle.wit_data.specs.declared.types.Type_.TheVariants as type
 use Rattle.wit_elaboration.specs.examples.Examples.{empty_graph}
-use Rattle.wit_graph_data.specs.Questions.{held_rows}
+use Rattle.wit_graph_data.specs.Queries.{type_contents}
 use Rattle.wit_graph_data.specs.examples.Samples.{foo_bar, function_of, no_docs}
 use Rattle.wit_graph_theory.specs.examples.TestFacts.{none_in, none_some, only_one}
 use Rattle.wit_link_spec.specs.Addition.{Addition}
 use Rattle.wit_link_spec.specs.Cause as reason
-use Rattle.wit_link_spec.specs.Gates.{Place, function_is_active}
+use Rattle.wit_link_spec.specs.Gates.{OptionalSpan, function_is_active}
 use Rattle.wit_link_spec.specs.Gates as asked
-use Rattle.wit_link_spec.specs.Reasons.{AType, AWorld, AnInterface, HasImage, IsActiveFunction, IsBorrow, MayHoldBorrow, PassesTheEnd, ReturnsBorrow}
+use Rattle.wit_link_spec.specs.Reasons.{AType, AWorld, AdditionOverflows, AnInterface, IsActiveFunction, IsBorrow, IsResolved, MayHoldBorrow, ReturnsBorrow}
 use Rattle.wit_link_spec.specs.Reasons as part
 use Rattle.wit_link_examples.proofs.HasImage.{image}
 use Rattle.wit_link_examples.proofs.Matching.{no_memory, of_borrow, of_excluded, of_excluded_owner, of_overflow, of_unreleased, of_version}
@@ -35,19 +35,19 @@ versioned = adding no_features empty_graph (gated (Some (1, 0, 0, [], [])) since
 abbrev later : Addition
 later = adding no_features empty_graph (gated (Some (1, 1, 0, [], [])) since_one)
 
-later_image : HasImage later
+later_image : IsResolved later
 later_image = image later (record { packages = refl; items = refl; types = refl; interfaces = refl; worlds = refl })
 
 abbrev gated_off : Addition
 gated_off = adding no_features empty_graph (gated None gate_f)
 
-gated_off_image : HasImage gated_off
+gated_off_image : IsResolved gated_off
 gated_off_image = image gated_off (record { packages = refl; items = refl; types = refl; interfaces = refl; worlds = refl })
 
 abbrev owner_on : Addition
 owner_on = adding feature_f empty_graph (gated_owner gate_f)
 
-owner_on_image : HasImage owner_on
+owner_on_image : IsResolved owner_on
 owner_on_image = image owner_on (record { packages = refl; items = refl; types = refl; interfaces = refl; worlds = refl })
 
 -- ---- an own is no borrow
@@ -55,7 +55,7 @@ owner_on_image = image owner_on (record { packages = refl; items = refl; types =
 abbrev returning_own : Addition
 returning_own = adding no_features empty_graph (returning (type.Id 2))
 
-own_alone : (b : ℕ) (path : List ℕ) → IsPath (held_rows (returning (type.Id 2)).types) 2 path b → IsBorrow (returning (type.Id 2)).types b → ⊥
+own_alone : (b : ℕ) (path : List ℕ) → IsPath (type_contents (returning (type.Id 2)).types) 2 path b → IsBorrow (returning (type.Id 2)).types b → ⊥
 own_alone b [] same borrow =
     let here : IsBorrow (returning (type.Id 2)).types 2 = subst (IsBorrow (returning (type.Id 2)).types) (sym same) borrow in
     let is : kind.Handle (handle.Own 0) ≡ kind.Handle (handle.Borrow here.0) = here.1 in
@@ -73,7 +73,7 @@ holds_none : MayHoldBorrow returning_own 2 → ⊥
 holds_none (inl holds) = own_alone holds.0 holds.1.0 holds.1.1 holds.2
 holds_none (inr (s, s', leads, active, found, (b, reaches, borrow))) = borrow
 
-own_result : (span : Place) (message : List ℕ) → ReturnsBorrow returning_own span message → ⊥
+own_result : (span : OptionalSpan) (message : List ℕ) → ReturnsBorrow returning_own span message → ⊥
 own_result span message c =
     let result : 2 ≡ c.t = only_one _ _ (subst (λ (f : Function). Contains (named_option f.result_) c.t) (sym (returned c.f c.active)) c.result_is) in
     holds_none (subst (MayHoldBorrow returning_own) (sym result) c.holds)
@@ -96,9 +96,9 @@ function_off f (part.of_world w world k _ at active has on) = cc
 abbrev at_the_end : Addition
 at_the_end = adding_at 4294967282 no_features empty_graph (bare foo_bar)
 
-just_fits : PassesTheEnd at_the_end → ⊥
+just_fits : AdditionOverflows at_the_end → ⊥
 just_fits c =
-    let end : 13 ≡ c.to = ap (λ (p : Place). end_of p) (only_one _ _ c.known) in
+    let end : 13 ≡ c.to = ap (λ (p : OptionalSpan). end_of p) (only_one _ _ c.known) in
     absurd (omega (arith, end, c.past))
 
 pub causes : ExamplesOfCauses

@@ -2,7 +2,7 @@
 use Rattle.std.proofs.Common.{◌≡◌, ℕ, ◌<◌, zero, suc, List, [], ◌∷◌, Some, None, slice_get, refl, subst, inl, lit<, arith}
 use Rattle.std.specs.Prelude.{codes}
 use Rattle.wit_values.specs.facts.Lists.{differ}
-use Rattle.wit_digraph.specs.Walks.{walk, walk_within}
+use Rattle.wit_digraph.specs.PostOrder.{post_order, post_order_within}
 use Rattle.wit_data.specs.declared.world.World.{World}
 use Rattle.wit_data.specs.declared.world.WorldInclude.{WorldInclude}
 use Rattle.wit_data.specs.declared.world.WorldKey.TheVariants as key
@@ -13,11 +13,11 @@ use Rattle.wit_labels.specs.examples.Examples.{function_entry}
 use Rattle.wit_link_spec.specs.Addition.{Addition, active_includes, own_worlds}
 use Rattle.wit_link_spec.specs.Cause.{IsReached}
 use Rattle.wit_link_spec.specs.Cause as reason
-use Rattle.wit_link_spec.specs.Gates.{Place}
+use Rattle.wit_link_spec.specs.Gates.{OptionalSpan}
 use Rattle.wit_link_spec.specs.Gates as asked
-use Rattle.wit_link_spec.specs.Include.{Lists}
-use Rattle.wit_link_spec.specs.Reasons.{HasImage, LacksVersion}
-use Rattle.wit_link_spec.specs.WorldReasons.{AreTooAlike, AtInclude, AtWorld, HaveLists, IncludeIsFine, LacksGetter, Mismatches, Shadows, WorldIsFine}
+use Rattle.wit_link_spec.specs.Include.{EntryLists}
+use Rattle.wit_link_spec.specs.Reasons.{IsResolved, LacksVersion}
+use Rattle.wit_link_spec.specs.WorldReasons.{AreNotStronglyUnique, AtInclude, AtWorld, HaveLists, IncludeIsAccepted, IncludeMismatches, LacksGetter, Shadows, WorldIsAccepted}
 use Rattle.wit_link_spec.specs.WorldReasons as world_reason
 use Rattle.wit_link_examples.proofs.AtWorlds.{at_of, fine_without, no_include, of_first, world_same}
 use Rattle.wit_link_examples.proofs.HasImage.{image}
@@ -30,7 +30,7 @@ use Rattle.wit_link_examples.specs.Packages.{gate_f, gate_g, loose_interface, si
 -- ---- a world with which nothing is wrong
 
 -- it is plain, and includes nothing
-plain_is_fine : (a : Addition) (k : ℕ) (y : AtWorld a k) → ((j : ℕ) → slice_get (active_includes a y.world) j ≡ None) → IsPlain a k y → WorldIsFine a k
+plain_is_fine : (a : Addition) (k : ℕ) (y : AtWorld a k) → ((j : ℕ) → slice_get (active_includes a y.world) j ≡ None) → IsPlain a k y → WorldIsAccepted a k
 plain_is_fine a k y no_includes p = record {
   includes = λ image j. fine_without a k j (no_include a k y j (no_includes j));
   labels = plain_labels a k y p;
@@ -55,21 +55,21 @@ first_include = record { at = includes_both; include = include_of 0; is = refl; 
 abbrev second_include : AtInclude two_gates 2 1
 second_include = record { at = includes_both; include = include_of 1; is = refl; before = _; before_is = refl; old = _; old_is = refl }
 
-fine_before : (i : ℕ) → i < 2 → WorldIsFine two_gates i
+fine_before : (i : ℕ) → i < 2 → WorldIsAccepted two_gates i
 fine_before zero below = plain_is_fine two_gates 0 first_gate (λ j. refl) (record { lists = record { imports = refl; exports = refl; written = λ none. (refl, refl) }; no_exports = refl })
 fine_before (suc zero) below = plain_is_fine two_gates 1 second_gate (λ j. refl) (record { lists = record { imports = refl; exports = refl; written = λ none. (refl, refl) }; no_exports = refl })
 fine_before (suc (suc i)) below = absurd (omega (arith, below))
 
-include_fine : (i : ℕ) → i < 1 → IncludeIsFine two_gates 2 i
-unfolding walk walk_within import_steps import_steps_within
+include_fine : (i : ℕ) → i < 1 → IncludeIsAccepted two_gates 2 i
+unfolding post_order post_order_within import_steps import_steps_within
 include_fine zero below = fine two_gates 2 0 first_include (record { import_labels = refl; export_labels = refl; import_keys = refl; export_keys = refl; names = refl })
 include_fine (suc i) below = absurd (omega (arith, below))
 
-gates_image : HasImage two_gates
+gates_image : IsResolved two_gates
 gates_image = image two_gates (record { packages = refl; items = refl; types = refl; interfaces = refl; worlds = refl })
 
-mismatch : Mismatches two_gates 2 1 (Some (50, 60)) gate_g gate_f
-unfolding walk walk_within import_steps import_steps_within
+mismatch : IncludeMismatches two_gates 2 1 (Some (50, 60)) gate_g gate_f
+unfolding post_order post_order_within import_steps import_steps_within
 mismatch = record {
   at = second_include;
   word = codes "import";
@@ -86,9 +86,9 @@ mismatch = record {
 
 -- ---- labels of a world behind another
 
--- world w as it is written, with the labels that are too alike
+-- world w as it is written, with the labels that are not strongly unique
 written_alike : (a : Addition) (k place : ℕ) → slice_get (own_worlds a) k ≡ Some (place, w_of_alike)
-    → AreTooAlike a k None (codes "import `AB` in world `w` conflicts with import `ab` (names must be strongly unique)")
+    → AreNotStronglyUnique a k None (codes "import `AB` in world `w` conflicts with import `ab` (names must be strongly unique)")
 written_alike a k place is = record {
   world = w_of_alike;
   lists = _;
@@ -107,7 +107,7 @@ written_alike a k place is = record {
 abbrev empty_first : AtWorld (before_alike []) 0
 empty_first = record { place = 0; world = _; is = refl }
 
-nothing_before : (i : ℕ) → i < 1 → WorldIsFine (before_alike []) i
+nothing_before : (i : ℕ) → i < 1 → WorldIsAccepted (before_alike []) i
 nothing_before zero below = plain_is_fine (before_alike []) 0 empty_first (λ j. refl) (record { lists = record { imports = refl; exports = refl; written = λ none. (refl, refl) }; no_exports = refl })
 nothing_before (suc i) below = absurd (omega (arith, below))
 
@@ -134,7 +134,7 @@ lacks_getter = record {
   message_is = refl;
 }
 
-first_told : (span : Place) (message : List ℕ) (k : ℕ) → IsReached setter_first k → AreTooAlike setter_first k span message → ⊥
+first_told : (span : OptionalSpan) (message : List ℕ) (k : ℕ) → IsReached setter_first k → AreNotStronglyUnique setter_first k span message → ⊥
 first_told span message zero reached c = none_alike setter_first 0 setter_world (record { imports = refl; exports = refl; written = λ none. (refl, refl) }) span message c
 first_told span message (suc k) reached c =
     let below : 0 < suc k = omega arith in
@@ -151,7 +151,7 @@ unmade_world = record { place = 1; world = _; is = refl }
 some_includes : (include : WorldInclude) → include ∷ [] ≡ [] → ⊥
 some_includes include none = cc
 
-no_lists : (world : World) (lists : Lists) (moves : ℕ) → HaveLists including_unversioned 0 world lists moves → ⊥
+no_lists : (world : World) (lists : EntryLists) (moves : ℕ) → HaveLists including_unversioned 0 world lists moves → ⊥
 no_lists _ _ _ (world_reason.made at has fine) = has.version None (codes "package [foo:main] contains a feature gate with a version specifier, so it must have a version") lacks_version
 no_lists _ _ _ (world_reason.written at none) = some_includes (include_of 0) (subst (λ (w : World). w.includes ≡ []) (world_same including_unversioned 0 at unmade_world).1 none)
 
@@ -163,17 +163,17 @@ unmade = shadowing_first (loose_interface (codes "i") [] since_one ∷ [])
 unversioned_too : LacksVersion unmade None (codes "package [foo:bar] contains a feature gate with a version specifier, so it must have a version")
 unversioned_too = record { note = since_one; place = None; asked = asked.of_interface 0 _ _ refl (0, lit< tt, refl); stable = tt; no_version = refl; span_is = refl; message_is = refl }
 
-no_image : HasImage unmade → ⊥
+no_image : IsResolved unmade → ⊥
 no_image has = has.version None (codes "package [foo:bar] contains a feature gate with a version specifier, so it must have a version") unversioned_too
 
 abbrev including_second : AtWorld unmade 1
 including_second = record { place = 1; world = _; is = refl }
 
-unmade_lists : (world : World) (lists : Lists) (moves : ℕ) → HaveLists unmade 1 world lists moves → ⊥
+unmade_lists : (world : World) (lists : EntryLists) (moves : ℕ) → HaveLists unmade 1 world lists moves → ⊥
 unmade_lists _ _ _ (world_reason.made at has fine) = no_image has
 unmade_lists _ _ _ (world_reason.written at none) = some_includes (include_of 0) (subst (λ (w : World). w.includes ≡ []) (world_same unmade 1 at including_second).1 none)
 
-fine_unmade : (i : ℕ) → i < 2 → WorldIsFine unmade i
+fine_unmade : (i : ℕ) → i < 2 → WorldIsAccepted unmade i
 fine_unmade zero below = plain_is_fine unmade 0 (record { place = 0; world = _; is = refl }) (λ j. refl) (record { lists = record { imports = refl; exports = refl; written = λ none. (refl, refl) }; no_exports = refl })
 fine_unmade (suc zero) below = record {
   includes = λ has j. absurd (no_image has);
@@ -183,7 +183,7 @@ fine_unmade (suc zero) below = record {
 }
 fine_unmade (suc (suc i)) below = absurd (omega (arith, below))
 
-shadowing_image : HasImage (shadowing_first [])
+shadowing_image : IsResolved (shadowing_first [])
 shadowing_image = image (shadowing_first []) (record { packages = refl; items = refl; types = refl; interfaces = refl; worlds = refl })
 
 abbrev shadowing_world : AtWorld (shadowing_first []) 1
@@ -193,7 +193,7 @@ abbrev shadowing_include : AtInclude (shadowing_first []) 1 0
 shadowing_include = record { at = shadowing_world; include = include_of 0; is = refl; before = _; before_is = refl; old = _; old_is = refl }
 
 shadows : Shadows (shadowing_first []) 1 0 (Some (50, 60)) (codes "import") (codes "f")
-unfolding walk walk_within import_steps import_steps_within
+unfolding post_order post_order_within import_steps import_steps_within
 shadows = record {
   at = shadowing_include;
   current = _;
@@ -203,11 +203,11 @@ shadows = record {
   span_is = refl;
 }
 
-refused_lists : (world : World) (lists : Lists) (moves : ℕ) → HaveLists (shadowing_first []) 1 world lists moves → ⊥
+refused_lists : (world : World) (lists : EntryLists) (moves : ℕ) → HaveLists (shadowing_first []) 1 world lists moves → ⊥
 refused_lists _ _ _ (world_reason.made at has fine) = (fine 0).unshadowed (Some (50, 60)) (codes "import") (codes "f") shadows
 refused_lists _ _ _ (world_reason.written at none) = some_includes (include_of 0) (subst (λ (w : World). w.includes ≡ []) (world_same (shadowing_first []) 1 at shadowing_world).1 none)
 
-behind_shadowing : (span : Place) (message : List ℕ) (k : ℕ) → IsReached (shadowing_first []) k → AreTooAlike (shadowing_first []) k span message → ⊥
+behind_shadowing : (span : OptionalSpan) (message : List ℕ) (k : ℕ) → IsReached (shadowing_first []) k → AreNotStronglyUnique (shadowing_first []) k span message → ⊥
 behind_shadowing span message zero reached c =
     none_alike (shadowing_first []) 0 (record { place = 0; world = _; is = refl }) (record { imports = refl; exports = refl; written = λ none. (refl, refl) }) span message c
 behind_shadowing span message (suc zero) reached c = refused_lists c.world c.lists c.moves c.have
@@ -223,7 +223,7 @@ later_worlds = record {
   unversioned = reason.not_strongly_unique_17 0 _ _ (first_reached alike_unversioned) (written_alike alike_unversioned 0 0 refl);
   including = λ span message c.
       let found = of_alike including_unversioned span message c in
-      of_first including_unversioned (λ k. refl) (λ (k : ℕ). AreTooAlike including_unversioned k span message) (λ k x. at_of _ k x.world x.lists x.moves x.have) (λ x. no_lists x.world x.lists x.moves x.have) found.0 found.2;
+      of_first including_unversioned (λ k. refl) (λ (k : ℕ). AreNotStronglyUnique including_unversioned k span message) (λ k x. at_of _ k x.world x.lists x.moves x.have) (λ x. no_lists x.world x.lists x.moves x.have) found.0 found.2;
   behind_unmade = reason.not_strongly_unique_17 2 _ _ fine_unmade (written_alike unmade 2 2 refl);
   behind_shadowing = λ span message c. let found = of_alike (shadowing_first []) span message c in behind_shadowing span message found.0 found.1 found.2;
 }

@@ -3,7 +3,7 @@ use Rattle.std.proofs.Common.{◌≡◌, ℕ, true, false, List, [], Some, refl,
 use Rattle.std.proofs.lemmas.Bool.{false≢true}
 use Rattle.std.specs.Prelude.{codes}
 use Rattle.wit_values.specs.facts.Lists.{differ}
-use Rattle.wit_digraph.specs.Walks.{walk, walk_within}
+use Rattle.wit_digraph.specs.PostOrder.{post_order, post_order_within}
 use Rattle.wit_data.specs.declared.package_name.PackageName.{PackageName}
 use Rattle.wit_elaboration.specs.examples.Examples.{empty_graph}
 use Rattle.wit_graph_data.specs.examples.Samples.{foo_bar, sample}
@@ -11,9 +11,9 @@ use Rattle.wit_graph_theory.specs.facts.OptionFacts.{some_same}
 use Rattle.wit_graph_theory.specs.examples.TestFacts.{only_one}
 use Rattle.wit_link_spec.specs.Addition.{Addition}
 use Rattle.wit_link_spec.specs.Cause as reason
-use Rattle.wit_link_spec.specs.Gates.{Place}
-use Rattle.wit_link_spec.specs.Lookup.{found_type}
-use Rattle.wit_link_spec.specs.Reasons.{HasImage, IsNoResource}
+use Rattle.wit_link_spec.specs.Gates.{OptionalSpan}
+use Rattle.wit_link_spec.specs.Lookup.{foreign_type_id}
+use Rattle.wit_link_spec.specs.Reasons.{IsNoResource, IsResolved}
 use Rattle.wit_link_spec.specs.Resources.{leads_to_resource}
 use Rattle.wit_link_examples.proofs.HasImage.{image}
 use Rattle.wit_link_examples.proofs.Matching.{of_duplicate, of_interface, of_package, of_resource, of_type, of_world}
@@ -21,36 +21,36 @@ use Rattle.wit_link_examples.specs.Causes.{ExamplesOfNames, finding}
 use Rattle.wit_link_examples.specs.Packages.{adding, adding_at, bare, gate_f, naming, naming_type, no_features}
 use Rattle.wit_link_examples.specs.Values.{with_resource}
 
-finds : HasImage finding
+finds : IsResolved finding
 finds = image finding (record { packages = refl; items = refl; types = refl; interfaces = refl; worlds = refl })
 
 abbrev not_asking : Addition
 not_asking = adding no_features empty_graph (naming foo_bar foo_bar gate_f)
 
-asks_nothing : HasImage not_asking
+asks_nothing : IsResolved not_asking
 asks_nothing = image not_asking (record { packages = refl; items = refl; types = refl; interfaces = refl; worlds = refl })
 
 abbrev naming_t : Addition
 naming_t = adding no_features (sample [] []) (naming_type (codes "t"))
 
-finds_t : HasImage naming_t
+finds_t : IsResolved naming_t
 finds_t = image naming_t (record { packages = refl; items = refl; types = refl; interfaces = refl; worlds = refl })
 
 abbrev naming_resource : Addition
 naming_resource = adding no_features with_resource (naming_type (codes "t"))
 
-is_resource : (span : Place) (message : List ℕ) → IsNoResource naming_resource span message → ⊥
-unfolding walk walk_within
+is_resource : (span : OptionalSpan) (message : List ℕ) → IsNoResource naming_resource span message → ⊥
+unfolding post_order post_order_within
 is_resource span message c =
     let required : (0, Some (40, 41)) ≡ (c.t, c.place) = only_one _ _ c.required in
-    let t : 0 ≡ c.t = ap (λ (r : ℕ × Place). r.0) required in
-    let found : Some 0 ≡ Some c.t' = subst (λ (x : ℕ). found_type with_resource (naming_type (codes "t")) x ≡ Some c.t') (sym t) c.found in
+    let t : 0 ≡ c.t = ap (λ (r : ℕ × OptionalSpan). r.0) required in
+    let found : Some 0 ≡ Some c.t' = subst (λ (x : ℕ). foreign_type_id with_resource (naming_type (codes "t")) x ≡ Some c.t') (sym t) c.found in
     let t' : 0 ≡ c.t' = some_same 0 c.t' found in
     let leads : true ≡ false = subst (λ (x : ℕ). leads_to_resource with_resource.types x ≡ false) (sym t') c.no_resource in
     false≢true (sym leads)
 
 pub names : ExamplesOfNames
-unfolding walk walk_within
+unfolding post_order post_order_within
 names = record {
   there = reason.duplicate_5 _ _ _ (record { there = refl; name_is = refl; span1_is = refl; span2_is = refl });
   not_there = λ name span1 span2 c. false≢true (of_duplicate (adding_at 16 no_features empty_graph (bare foo_bar)) name span1 span2 c).there;

@@ -5,7 +5,7 @@ use Rattle.std.proofs.lemmas.List.Sorted.{Contains-permutation, length_permutati
 use Rattle.std.specs.Prelude.{IsSortedByKey}
 use Rattle.std.specs.Option.{option_cmp}
 use Rattle.wit_digraph.specs.Relation.{IsPath, direct}
-use Rattle.wit_digraph.specs.Walks.{first_of_each, walk, walk_within}
+use Rattle.wit_digraph.specs.PostOrder.{first_of_each, post_order, post_order_within}
 use Rattle.wit_data.specs.PackageOrder.{package_cmp}
 use Rattle.wit_sources.specs.Span.{end_of, moved_by}
 use Rattle.wit_data.specs.Each.{SomeAt}
@@ -15,8 +15,8 @@ use Rattle.wit_graph_data.specs.examples.Samples.{foo_bar}
 use Rattle.wit_graph_data.specs.declared.error_kind.ResolveErrorKind.{ResolveErrorKind}
 use Rattle.wit_graph_data.specs.declared.error_kind.ResolveErrorKind.TheVariants.{DuplicatePackage, OffsetOverflow, PackageCycle}
 use Rattle.wit_graph_theory.specs.examples.TestFacts.{none_in, one_of_two, only_one}
-use Rattle.wit_link_spec.specs.Gates.{Place}
-use Rattle.wit_link_order.specs.Sorting.{AreSorted, Handed, IsGroupOrder, IsHandedTwice, IsSortCause, IsTooFar, TellsTooFar, handed_uses, names_of}
+use Rattle.wit_link_spec.specs.Gates.{OptionalSpan}
+use Rattle.wit_link_order.specs.GroupOrder.{AreSorted, HasSpanOverflow, IsDefinedTwice, IsGroupOrder, IsSortCause, PassesLastPosition, Unresolved, group_uses, names_of}
 use Rattle.wit_link_examples.specs.Orders.{ExamplesOfGroups, ExamplesOfOrders, dep_on_main, main_and_dep, one_alone, twice_at, two_alone}
 use Rattle.wit_link_examples.specs.Packages.{bare, dep_name, main_name, naming}
 
@@ -51,28 +51,28 @@ of_both P first second roots moved = elim (roots_are roots moved) [ inl same ↦
 
 -- ---- orders
 
-abbrev order_of : List Handed → List ℕ → List ℕ
-order_of handed roots = first_of_each (flat_map (walk (handed_uses handed)) roots)
+abbrev order_of : List Unresolved → List ℕ → List ℕ
+order_of unresolved roots = first_of_each (flat_map (post_order (group_uses unresolved)) roots)
 
 -- whatever the roots are, dep comes before main
 main_last : (roots order : List ℕ) → IsPermutation (0 ∷ 1 ∷ []) roots → order ≡ order_of main_and_dep roots → 1 ∷ 0 ∷ [] ≡ order
-unfolding walk walk_within
+unfolding post_order post_order_within
 main_last roots order moved = of_both (λ (r : List ℕ). order ≡ order_of main_and_dep r → 1 ∷ 0 ∷ [] ≡ order) (λ is. sym is) (λ is. sym is) roots moved
 
 -- and where dep names main, main comes before it
 dep_last : (roots order : List ℕ) → IsPermutation (0 ∷ 1 ∷ []) roots → order ≡ order_of dep_on_main roots → 1 ∷ 0 ∷ [] ≡ order
-unfolding walk walk_within
+unfolding post_order post_order_within
 dep_last roots order moved = of_both (λ (r : List ℕ). order ≡ order_of dep_on_main r → 1 ∷ 0 ∷ [] ≡ order) (λ is. sym is) (λ is. sym is) roots moved
 
-abbrev AreByName : List Handed → List ℕ → Type 0
-AreByName handed roots = IsSortedByKey (slice_get (names_of handed)) (option_cmp package_cmp) roots
+abbrev AreByName : List Unresolved → List ℕ → Type 0
+AreByName unresolved roots = IsSortedByKey (slice_get (names_of unresolved)) (option_cmp package_cmp) roots
 
 -- foo:main isn't before foo:dep by name
 not_by_name : AreByName two_alone (0 ∷ 1 ∷ []) → ⊥
 not_by_name rises = false≢true (sym (rises 0 0 (lit≤ tt) (lit< tt)))
 
 by_name : (roots order : List ℕ) → IsPermutation (0 ∷ 1 ∷ []) roots → AreByName two_alone roots → order ≡ order_of two_alone roots → 1 ∷ 0 ∷ [] ≡ order
-unfolding walk walk_within
+unfolding post_order post_order_within
 by_name roots order moved =
     of_both (λ (r : List ℕ). AreByName two_alone r → order ≡ order_of two_alone r → 1 ∷ 0 ∷ [] ≡ order) (λ rises is. absurd (not_by_name rises)) (λ rises is. sym is) roots moved
 
@@ -98,37 +98,37 @@ sorted_main zero d low high = refl
 sorted_main (suc k) d low high = absurd (omega (arith, high))
 
 main_order : IsGroupOrder main_and_dep (1 ∷ 0 ∷ [])
-unfolding walk walk_within
+unfolding post_order post_order_within
 main_order = record { roots = 1 ∷ 0 ∷ []; all = record { moves = (0, 1) ∷ []; below = (lit< tt, lit< tt, tt); is = refl }; by_name = sorted_main; is = refl }
 
 dep_order : IsGroupOrder dep_on_main (1 ∷ 0 ∷ [])
-unfolding walk walk_within
+unfolding post_order post_order_within
 dep_order = record { roots = 0 ∷ 1 ∷ []; all = record { moves = []; below = tt; is = refl }; by_name = sorted_dep; is = refl }
 
 two_order : IsGroupOrder two_alone (1 ∷ 0 ∷ [])
-unfolding walk walk_within
+unfolding post_order post_order_within
 two_order = record { roots = 1 ∷ 0 ∷ []; all = record { moves = (0, 1) ∷ []; below = (lit< tt, lit< tt, tt); is = refl }; by_name = sorted_two; is = refl }
 
 -- dep isn't main
 unsorted : AreSorted main_and_dep (1 ∷ 0 ∷ []) main_and_dep → ⊥
 unsorted sorted =
-    let first : Handed = (bare dep_name, 20) in
-    let other : Handed = (naming main_name dep_name Unknown, 0) in
+    let first : Unresolved = (bare dep_name, 20) in
+    let other : Unresolved = (naming main_name dep_name Unknown, 0) in
     let is : Some first ≡ Some other = sorted.are.0 in
     let same : first ≡ other = cc in
-    let place : 20 ≡ 0 = ap (λ (p : Handed). p.1) same in
+    let place : 20 ≡ 0 = ap (λ (p : Unresolved). p.1) same in
     absurd (omega (arith, place))
 
 -- ---- one package alone
 
-one_not_twice : (name : PackageName) (span1 span2 : Place) → IsHandedTwice one_alone name span1 span2 → ⊥
+one_not_twice : (name : PackageName) (span1 span2 : OptionalSpan) → IsDefinedTwice one_alone name span1 span2 → ⊥
 one_not_twice name span1 span2 t = not_later t.earlier t.later t.before t.second
   where
-    not_later : (earlier later : ℕ) → earlier < later → SomeAt one_alone later (λ (p : Handed). (p.0.name ≡ name) × (span1 ≡ moved_by p.1 p.0.package_name_span)) → ⊥
+    not_later : (earlier later : ℕ) → earlier < later → SomeAt one_alone later (λ (p : Unresolved). (p.0.name ≡ name) × (span1 ≡ moved_by p.1 p.0.package_name_span)) → ⊥
     not_later earlier zero before second = absurd (omega (arith, before))
     not_later earlier (suc later) before second = second
 
-one_uses_none : (user used : ℕ) → Contains (direct (handed_uses one_alone) user) used → ⊥
+one_uses_none : (user used : ℕ) → Contains (direct (group_uses one_alone) user) used → ⊥
 one_uses_none zero used inside = none_in used inside
 one_uses_none (suc user) used inside = none_in used inside
 
@@ -143,28 +143,28 @@ one_by_name : AreByName one_alone (0 ∷ [])
 one_by_name k d low high = absurd (omega (arith, high))
 
 one_order : IsGroupOrder one_alone (0 ∷ [])
-unfolding walk walk_within
+unfolding post_order post_order_within
 one_order = record { roots = 0 ∷ []; all = record { moves = []; below = tt; is = refl }; by_name = one_by_name; is = refl }
 
 -- ---- places that end just before the last position
 
-two_use_none : (offset user used : ℕ) → Contains (direct (handed_uses (twice_at offset)) user) used → ⊥
+two_use_none : (offset user used : ℕ) → Contains (direct (group_uses (twice_at offset)) user) used → ⊥
 two_use_none offset zero used inside = none_in used inside
 two_use_none offset (suc zero) used inside = none_in used inside
 two_use_none offset (suc (suc user)) used inside = none_in used inside
 
-ends_before : (name : PackageName) (span : Place) (k : ℕ) → SomeAt (twice_at 4294967282) k (λ (p : Handed). (p.0.name ≡ name) × (span ≡ moved_by p.1 p.0.package_name_span)) → IsTooFar span → ⊥
+ends_before : (name : PackageName) (span : OptionalSpan) (k : ℕ) → SomeAt (twice_at 4294967282) k (λ (p : Unresolved). (p.0.name ≡ name) × (span ≡ moved_by p.1 p.0.package_name_span)) → PassesLastPosition span → ⊥
 ends_before name span zero there far =
-    let end : end_of span ≡ 13 = ap (λ (p : Place). end_of p) there.1 in
-    let to : end_of span ≡ far.1 = ap (λ (p : Place). end_of p) far.2 in
+    let end : end_of span ≡ 13 = ap (λ (p : OptionalSpan). end_of p) there.1 in
+    let to : end_of span ≡ far.1 = ap (λ (p : OptionalSpan). end_of p) far.2 in
     absurd (omega (arith, end, to, far.3))
 ends_before name span (suc zero) there far =
-    let end : end_of span ≡ 4294967295 = ap (λ (p : Place). end_of p) there.1 in
-    let to : end_of span ≡ far.1 = ap (λ (p : Place). end_of p) far.2 in
+    let end : end_of span ≡ 4294967295 = ap (λ (p : OptionalSpan). end_of p) there.1 in
+    let to : end_of span ≡ far.1 = ap (λ (p : OptionalSpan). end_of p) far.2 in
     absurd (omega (arith, end, to, far.3))
 ends_before name span (suc (suc k)) there far = there
 
-just_told : TellsTooFar (twice_at 4294967282) → ⊥
+just_told : HasSpanOverflow (twice_at 4294967282) → ⊥
 just_told (inl (name, span1, span2, twice, inl far)) = ends_before name span1 twice.later twice.second far
 just_told (inl (name, span1, span2, twice, inr far)) = ends_before name span2 twice.earlier twice.first far
 just_told (inr (span, home, cycle, far)) = two_use_none 4294967282 cycle.user cycle.used cycle.on_cycle.is_used
@@ -176,7 +176,7 @@ orders = record {
   against_names = dep_order;
   user_before = λ o. backwards (dep_last o.roots (0 ∷ 1 ∷ []) o.all o.is);
   by_names = two_order;
-  as_handed = λ o. backwards (by_name o.roots (0 ∷ 1 ∷ []) o.all o.by_name o.is);
+  as_unresolved = λ o. backwards (by_name o.roots (0 ∷ 1 ∷ []) o.all o.by_name o.is);
   sorted = record { is_order = main_order; are = (refl, (refl, tt)) };
   unsorted = unsorted;
   one = record { is_order = one_order; are = (refl, tt) };
@@ -186,13 +186,13 @@ orders = record {
 
 -- ---- groups
 
-only_handed : (name : PackageName) (earlier later : ℕ) → earlier < later → SomeAt ((bare foo_bar, 0) ∷ []) later (λ (p : Handed). (p.0.name ≡ name) × (Some (8, 13) ≡ moved_by p.1 p.0.package_name_span)) → ⊥
-only_handed name earlier zero before second = absurd (omega (arith, before))
-only_handed name earlier (suc later) before second = second
+only_unresolved : (name : PackageName) (earlier later : ℕ) → earlier < later → SomeAt ((bare foo_bar, 0) ∷ []) later (λ (p : Unresolved). (p.0.name ≡ name) × (Some (8, 13) ≡ moved_by p.1 p.0.package_name_span)) → ⊥
+only_unresolved name earlier zero before second = absurd (omega (arith, before))
+only_unresolved name earlier (suc later) before second = second
 
-no_way_back : (user used : ℕ) → Contains (direct (handed_uses main_and_dep) user) used → (path : List ℕ) → IsPath (handed_uses main_and_dep) used path user → ⊥
+no_way_back : (user used : ℕ) → Contains (direct (group_uses main_and_dep) user) used → (path : List ℕ) → IsPath (group_uses main_and_dep) used path user → ⊥
 no_way_back zero used uses [] same = absurd (omega (arith, only_one 1 used uses, same))
-no_way_back zero used uses (k ∷ path) leads = none_in k (subst (λ (x : ℕ). Contains (direct (handed_uses main_and_dep) x) k) (sym (only_one 1 used uses)) leads.0)
+no_way_back zero used uses (k ∷ path) leads = none_in k (subst (λ (x : ℕ). Contains (direct (group_uses main_and_dep) x) k) (sym (only_one 1 used uses)) leads.0)
 no_way_back (suc zero) used uses path leads = none_in used uses
 no_way_back (suc (suc user)) used uses path leads = none_in used uses
 
@@ -202,7 +202,7 @@ groups = record {
   itself = refl;
   dependency_first = main_order;
   twice = record { earlier = 0; later = 1; before = lit< tt; first = (refl, refl); second = (refl, refl) };
-  not_twice = λ name t. only_handed name t.earlier t.later t.before t.second;
+  not_twice = λ name t. only_unresolved name t.earlier t.later t.before t.second;
   cycle = record {
     user = 1;
     used = 0;

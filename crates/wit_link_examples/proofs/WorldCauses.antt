@@ -14,19 +14,19 @@ use Rattle.wit_data.specs.declared.world.WorldInclude.{WorldInclude}
 use Rattle.wit_data.specs.declared.world.WorldItem.{WorldItem}
 use Rattle.wit_data.specs.declared.world.WorldItem.TheVariants as item
 use Rattle.wit_data.specs.declared.world.WorldKey.TheVariants as key
-use Rattle.wit_elaboration.specs.Imported.{HasConflict, IsInConflict}
+use Rattle.wit_elaboration.specs.Imported.{HasConflict, IsEntryInConflict}
 use Rattle.wit_graph_data.specs.examples.Samples.{entry_of, no_docs, world_of}
 use Rattle.wit_graph_theory.specs.examples.TestFacts.{feature_of, none_in, one_of_two, only_one}
 use Rattle.wit_labels.specs.examples.Examples.{function_entry, named_as}
-use Rattle.wit_labels.specs.Rename.{renamed_by}
+use Rattle.wit_labels.specs.Rename.{renamed_label_by}
 use Rattle.wit_link_spec.specs.Addition.{Addition}
 use Rattle.wit_link_spec.specs.Cause.{IncludeIsReached, IsReached}
 use Rattle.wit_link_spec.specs.Cause as reason
-use Rattle.wit_link_spec.specs.Gates.{Place}
+use Rattle.wit_link_spec.specs.Gates.{OptionalSpan}
 use Rattle.wit_link_spec.specs.Gates as asked
-use Rattle.wit_link_spec.specs.Include.{Lists, lists_of}
-use Rattle.wit_link_spec.specs.Reasons.{HasImage, LacksVersion}
-use Rattle.wit_link_spec.specs.WorldReasons.{AreTooAlike, AtInclude, AtWorld, HasStability, IsRenamed, LacksGetter, Mismatches, RenamesNothing, Shadows}
+use Rattle.wit_link_spec.specs.Include.{EntryLists, lists_of}
+use Rattle.wit_link_spec.specs.Reasons.{IsResolved, LacksVersion}
+use Rattle.wit_link_spec.specs.WorldReasons.{AreNotStronglyUnique, AtInclude, AtWorld, HasStability, IncludeMismatches, IsRenamed, LacksGetter, RenamesNothing, Shadows}
 use Rattle.wit_link_spec.specs.WorldReasons as world_reason
 use Rattle.wit_link_examples.proofs.AtWorlds.{at_of, fine_without, include_same, no_include, of_first, of_first_include}
 use Rattle.wit_link_examples.proofs.HasImage.{image}
@@ -39,7 +39,7 @@ use Rattle.wit_link_examples.specs.WorldCauses.{ExamplesOfWorldCauses, importing
 pub first_reached : (a : Addition) → IsReached a 0
 first_reached a i below = absurd (omega (arith, below))
 
-pub include_reached : (a : Addition) → HasImage a → IncludeIsReached a 0 0
+pub include_reached : (a : Addition) → IsResolved a → IncludeIsReached a 0 0
 include_reached a has = record { has_image = has; worlds = first_reached a; includes = λ i below. absurd (omega (arith, below)) }
 
 pub other_feature : gate_g ≡ gate_f → ⊥
@@ -50,7 +50,7 @@ other_feature same = differ (codes "g") (codes "f") refl (ap feature_of same)
 abbrev gates : Stability → List ℕ → List IncludeName → Addition
 gates note label names = adding all_features (with_world note label) (including_package names)
 
-gates_image : (note : Stability) (label : List ℕ) (names : List IncludeName) → HasImage (gates note label names)
+gates_image : (note : Stability) (label : List ℕ) (names : List IncludeName) → IsResolved (gates note label names)
 gates_image note label names = image (gates note label names) (record { packages = refl; items = refl; types = refl; interfaces = refl; worlds = refl })
 
 abbrev the_include : (note : Stability) (label : List ℕ) (names : List IncludeName) → AtInclude (gates note label names) 0 0
@@ -60,7 +60,7 @@ the_include note label names = record { at = record { place = 1; world = _; is =
 of_include : (note : Stability) (label : List ℕ) (names : List IncludeName) (P : ℕ → ℕ → Type 0) → ((k j : ℕ) → P k j → AtInclude (gates note label names) k j) → (P 0 0 → ⊥) → (k j : ℕ) → P k j → ⊥
 of_include note label names P at not k j p = of_first_include (gates note label names) (λ k. refl) (the_include note label names).at (λ j. refl) P at not k j p
 
-mismatch : (label : List ℕ) (names : List IncludeName) → Mismatches (gates gate_g label names) 0 0 (Some (50, 60)) gate_g gate_f
+mismatch : (label : List ℕ) (names : List IncludeName) → IncludeMismatches (gates gate_g label names) 0 0 (Some (50, 60)) gate_g gate_f
 mismatch label names = record {
   at = the_include gate_g label names;
   word = codes "import";
@@ -104,15 +104,15 @@ gate_is note f label i has named (docs, place, external_id, (suc (suc k), below,
 none_has : (i : ℕ) (has : Stability) → HasStability [] i has → ⊥
 none_has i has (docs, place, external_id, inside) = none_in _ inside
 
-same_gate : (span : Place) (brings has : Stability) → Mismatches (gates gate_f (codes "f") []) 0 0 span brings has → ⊥
+same_gate : (span : OptionalSpan) (brings has : Stability) → IncludeMismatches (gates gate_f (codes "f") []) 0 0 span brings has → ⊥
 same_gate span brings has c =
     let same = include_same (gates gate_f (codes "f") []) 0 0 c.at (the_include gate_f (codes "f") []) in
     elim (one_list c.word c.at.before.lists (lists_of c.at.old) c.current c.brought c.list.0 c.list.1) [
       | inl both ↦
-          let there : HasStability (gated_entry gate_f ∷ function_entry (codes "f") ∷ []) c.i has = subst (λ (es : List Entry). HasStability es c.i has) (both.0 ∙ ap (λ (l : Lists). l.imports) same.lists_are) c.there in
+          let there : HasStability (gated_entry gate_f ∷ function_entry (codes "f") ∷ []) c.i has = subst (λ (es : List Entry). HasStability es c.i has) (both.0 ∙ ap (λ (l : EntryLists). l.imports) same.lists_are) c.there in
           let comes : HasStability (gated_entry gate_f ∷ function_entry (codes "f") ∷ []) c.i brings = subst (λ (es : List Entry). HasStability es c.i brings) (both.1 ∙ ap (λ (w : World). w.imports) same.old_is) c.comes in
           c.apart.differ (sym (gate_is gate_f _ (codes "f") c.i brings refl comes) ∙ gate_is gate_f _ (codes "f") c.i has refl there)
-      | inr both ↦ none_has c.i has (subst (λ (es : List Entry). HasStability es c.i has) (both.0 ∙ ap (λ (l : Lists). l.exports) same.lists_are) c.there)
+      | inr both ↦ none_has c.i has (subst (λ (es : List Entry). HasStability es c.i has) (both.0 ∙ ap (λ (l : EntryLists). l.exports) same.lists_are) c.there)
     ]
 
 -- ---- renamings
@@ -124,7 +124,7 @@ label_same a b same = cc
 unmatched : IsRenamed (world_of (codes "w") (gated_entry gate_g ∷ function_entry (codes "f") ∷ []) []) (named_as (codes "x") (codes "y")) → ⊥
 unmatched (label, (zero, below, is), matches) = absurd (key_apart 0 label (sym is))
 unmatched (label, (suc zero, below, is), matches) =
-    false≢true (subst (λ (l : List ℕ). is_some (renamed_by (named_as (codes "x") (codes "y")) l) ≡ true) (sym (label_same (codes "f") label is)) matches)
+    false≢true (subst (λ (l : List ℕ). is_some (renamed_label_by (named_as (codes "x") (codes "y")) l) ≡ true) (sym (label_same (codes "f") label is)) matches)
 unmatched (label, (suc (suc k), below, is), matches) = absurd (omega (arith, below))
 
 only_name : (one : IncludeName) (before after : List IncludeName) (name : IncludeName) → one ∷ [] ≡ before ++ name ∷ after → one ≡ name
@@ -132,7 +132,7 @@ only_name one [] after name split = cc
 only_name one (a ∷ []) after name split = cc
 only_name one (a ∷ b ∷ before) after name split = cc
 
-renames : (span : Place) (message : List ℕ) → RenamesNothing (gates gate_g (codes "f") (named_as (codes "f") (codes "y") ∷ [])) 0 0 span message → ⊥
+renames : (span : OptionalSpan) (message : List ℕ) → RenamesNothing (gates gate_g (codes "f") (named_as (codes "f") (codes "y") ∷ [])) 0 0 span message → ⊥
 renames span message c =
     let same = include_same (gates gate_g (codes "f") (named_as (codes "f") (codes "y") ∷ [])) 0 0 c.at (the_include gate_g (codes "f") (named_as (codes "f") (codes "y") ∷ [])) in
     let split : named_as (codes "f") (codes "y") ∷ [] ≡ c.before ++ c.name ∷ c.after = sym (ap (λ (i : WorldInclude). i.names) same.include_is) ∙ c.names_are in
@@ -152,10 +152,10 @@ two_labels a b = importing (function_entry a ∷ function_entry b ∷ [])
 abbrev labelled_world : (a b : List ℕ) → AtWorld (two_labels a b) 0
 labelled_world a b = record { place = 0; world = _; is = refl }
 
-not_alike : (span : Place) (message : List ℕ) → AreTooAlike (two_labels (codes "ab") (codes "ac")) 0 span message → ⊥
+not_alike : (span : OptionalSpan) (message : List ℕ) → AreNotStronglyUnique (two_labels (codes "ab") (codes "ac")) 0 span message → ⊥
 not_alike = none_alike (two_labels (codes "ab") (codes "ac")) 0 (labelled_world (codes "ab") (codes "ac")) (record { imports = refl; exports = refl; written = λ none. (refl, refl) })
 
-has_getter : (span : Place) (message : List ℕ) → LacksGetter (two_labels (codes "[get]p") (codes "[set]p")) 0 span message → ⊥
+has_getter : (span : OptionalSpan) (message : List ℕ) → LacksGetter (two_labels (codes "[get]p") (codes "[set]p")) 0 span message → ⊥
 has_getter = none_lacks (two_labels (codes "[get]p") (codes "[set]p")) 0 (labelled_world (codes "[get]p") (codes "[set]p")) (record { imports = refl; exports = refl; written = λ none. (refl, refl) })
 
 -- ---- exports
@@ -163,7 +163,7 @@ has_getter = none_lacks (two_labels (codes "[get]p") (codes "[set]p")) 0 (labell
 abbrev exporting : List ℕ → Addition
 exporting other = adding no_features three (exporting_with other)
 
-c_image : HasImage (exporting (codes "c"))
+c_image : IsResolved (exporting (codes "c"))
 c_image = image (exporting (codes "c")) (record { packages = refl; items = refl; types = refl; interfaces = refl; worlds = refl })
 
 abbrev exporting_world : (other : List ℕ) → AtWorld (exporting other) 0
@@ -176,10 +176,10 @@ b_outside (suc zero, below, is) = absurd (omega (arith, is))
 b_outside (suc (suc k), below, is) = absurd (omega (arith, below))
 
 -- nothing is reached from a in a step or more
-a_clear : (e : Entry) → Contains (entry_of 0 ∷ []) e → IsInConflict (uses_of three.types three.interfaces) (entry_of 0 ∷ entry_of 2 ∷ []) e → ⊥
+a_clear : (e : Entry) → Contains (entry_of 0 ∷ []) e → IsEntryInConflict (uses_of three.types three.interfaces) (entry_of 0 ∷ entry_of 2 ∷ []) e → ⊥
 a_clear e inside conflict =
-    let there : IsInConflict (uses_of three.types three.interfaces) (entry_of 0 ∷ entry_of 2 ∷ []) (entry_of 0) =
-    subst (IsInConflict (uses_of three.types three.interfaces) (entry_of 0 ∷ entry_of 2 ∷ [])) (sym (only_one (entry_of 0) e inside)) conflict in
+    let there : IsEntryInConflict (uses_of three.types three.interfaces) (entry_of 0 ∷ entry_of 2 ∷ []) (entry_of 0) =
+    subst (IsEntryInConflict (uses_of three.types three.interfaces) (entry_of 0 ∷ entry_of 2 ∷ [])) (sym (only_one (entry_of 0) e inside)) conflict in
     none_in there.2.0 (subst (λ (i : ℕ). Contains (direct (uses_of three.types three.interfaces) i) there.2.0) (sym (only_one 0 there.0 there.1)) there.2.2)
 
 -- a and b use nothing but a
@@ -197,7 +197,7 @@ world_causes = record {
   conflict = reason.conflict_4 0 _ _ (first_reached (exporting (codes "c"))) (record {
     at = exporting_world (codes "c");
     has_image = c_image;
-    includes_are_fine = λ j. fine_without (exporting (codes "c")) 0 j (no_include (exporting (codes "c")) 0 (exporting_world (codes "c")) j refl);
+    includes_are_accepted = λ j. fine_without (exporting (codes "c")) 0 j (no_include (exporting (codes "c")) 0 (exporting_world (codes "c")) j refl);
     b = _;
     is = refl;
     conflict = (0, (2, 1, (1, lit< tt, refl), (0, lit< tt, refl), b_outside, (0 ∷ [], ((0, lit< tt, refl), refl))), (0, lit< tt, refl));
@@ -206,7 +206,7 @@ world_causes = record {
   });
   closed = λ span name c.
       let found = of_conflict (exporting (codes "b")) span name c in
-      of_first (exporting (codes "b")) (λ k. refl) (λ (k : ℕ). world_reason.IsInConflict (exporting (codes "b")) k span name) (λ k x. x.at)
+      of_first (exporting (codes "b")) (λ k. refl) (λ (k : ℕ). world_reason.WorldHasConflict (exporting (codes "b")) k span name) (λ k x. x.at)
       (λ x. closed (conflict_of (exporting (codes "b")) 0 (exporting_world (codes "b")) span name x)) found.0 found.1;
   shadows = reason.shadowing_7 0 0 _ _ _ (include_reached _ (gates_image gate_g (codes "f") [])) (shadows gate_g);
   other_label = λ span word name c.
@@ -220,7 +220,7 @@ world_causes = record {
   mismatch = reason.mismatch_8 0 0 _ _ _ (include_reached _ (gates_image gate_g (codes "f") [])) (mismatch (codes "f") []);
   same_gate = λ span brings has c.
       let found = of_mismatch (gates gate_f (codes "f") []) span brings has c in
-      of_include gate_f (codes "f") [] (λ (k j : ℕ). Mismatches (gates gate_f (codes "f") []) k j span brings has) (λ k j x. x.at) (same_gate span brings has) found.0 found.1 found.2;
+      of_include gate_f (codes "f") [] (λ (k j : ℕ). IncludeMismatches (gates gate_f (codes "f") []) k j span brings has) (λ k j x. x.at) (same_gate span brings has) found.0 found.1 found.2;
   same_label = reason.shadowing_7 0 0 _ _ _ (include_reached _ (gates_image gate_f (codes "f") [])) (shadows gate_f);
   unmatched = reason.rename_unmatched_16 0 0 _ _ (include_reached _ (gates_image gate_g (codes "f") (named_as (codes "x") (codes "y") ∷ []))) (record {
     at = the_include gate_g (codes "f") (named_as (codes "x") (codes "y") ∷ []);
@@ -254,7 +254,7 @@ world_causes = record {
   });
   not_alike = λ span message c.
       let found = of_alike (two_labels (codes "ab") (codes "ac")) span message c in
-      of_first (two_labels (codes "ab") (codes "ac")) (λ k. refl) (λ (k : ℕ). AreTooAlike (two_labels (codes "ab") (codes "ac")) k span message) (λ k x. at_of _ k x.world x.lists x.moves x.have) (not_alike span message) found.0 found.2;
+      of_first (two_labels (codes "ab") (codes "ac")) (λ k. refl) (λ (k : ℕ). AreNotStronglyUnique (two_labels (codes "ab") (codes "ac")) k span message) (λ k x. at_of _ k x.world x.lists x.moves x.have) (not_alike span message) found.0 found.2;
   no_getter = reason.no_getter_18 0 _ _ (first_reached (importing (function_entry (codes "[set]p") ∷ []))) (record {
     world = _;
     lists = _;

@@ -28,10 +28,10 @@ use Rattle.wit_labels.specs.Setters.{IsSetter, getter_label, is_setter_label, pl
 use Rattle.wit_labels.specs.Strong.{strong_key}
 use Rattle.wit_labels.specs.declared.strong.StrongKey.{StrongKey}
 use Rattle.wit_link_spec.specs.Addition.{Addition}
-use Rattle.wit_link_spec.specs.Gates.{Place}
-use Rattle.wit_link_spec.specs.Include.{Begun, Lists, lists_of}
-use Rattle.wit_link_spec.specs.WorldReasons.{AreTooAlike, AtInclude, AtWorld, HasStability, HaveLists, IncludeIsFine, IsInConflict, IsListCalled, IsShadowed, LacksGetter, Mismatches, RenamesNothing, Shadows, renamed_key}
-use Rattle.wit_link_spec.specs.Pushed.{begun, with_worlds}
+use Rattle.wit_link_spec.specs.Gates.{OptionalSpan}
+use Rattle.wit_link_spec.specs.Include.{EntryLists, PartiallyLinked, lists_of}
+use Rattle.wit_link_spec.specs.WorldReasons.{AreNotStronglyUnique, AtInclude, AtWorld, HasStability, HaveLists, IncludeIsAccepted, IncludeMismatches, IsListCalled, IsShadowed, LacksGetter, RenamesNothing, Shadows, WorldHasConflict, renamed_key}
+use Rattle.wit_link_spec.specs.Pushed.{with_all_includes, with_worlds}
 use Rattle.wit_link_examples.proofs.AtWorlds.{include_same, lists_are, world_same}
 
 -- ---- labels that come
@@ -73,7 +73,7 @@ apart current brought i has brings (docs, place, external_id, there) (docs', pla
 
 -- ---- one of the two lists
 
-pub one_list : (word : List ℕ) (l l' : Lists) (es es' : List Entry) → IsListCalled word l es → IsListCalled word l' es'
+pub one_list : (word : List ℕ) (l l' : EntryLists) (es es' : List Entry) → IsListCalled word l es → IsListCalled word l' es'
     → ((es ≡ l.imports) × (es' ≡ l'.imports)) ⊎ ((es ≡ l.exports) × (es' ≡ l'.exports))
 one_list word l l' es es' (inl a) (inl b) = inl (a.1, b.1)
 one_list word l l' es es' (inl a) (inr b) = absurd (differ (codes "import") (codes "export") refl (sym a.0 ∙ b.0))
@@ -84,7 +84,7 @@ one_list word l l' es es' (inr a) (inr b) = inr (a.1, b.1)
 
 module _ (a : Addition) (k j : ℕ) (y : AtInclude a k j) where
   pub unshadowed : labels_come y.include y.before.lists.imports y.old.imports ≡ true → labels_come y.include y.before.lists.exports y.old.exports ≡ true
-      → (span : Place) (word name : List ℕ) → Shadows a k j span word name → ⊥
+      → (span : OptionalSpan) (word name : List ℕ) → Shadows a k j span word name → ⊥
   unshadowed imports exports span word name c =
       let same = include_same a k j c.at y in
       let shadowed : IsShadowed c.current (map (λ (e : Entry). renamed_key y.include.names e.0) c.brought) name =
@@ -92,30 +92,30 @@ module _ (a : Addition) (k j : ℕ) (y : AtInclude a k j) where
       let new : labels_come y.include c.current c.brought ≡ true =
       elim (one_list word c.at.before.lists (lists_of c.at.old) c.current c.brought c.list.0 c.list.1) [
         | inl both ↦
-            subst (λ (es : List Entry). labels_come y.include es c.brought ≡ true) (sym (both.0 ∙ ap (λ (l : Lists). l.imports) same.lists_are))
+            subst (λ (es : List Entry). labels_come y.include es c.brought ≡ true) (sym (both.0 ∙ ap (λ (l : EntryLists). l.imports) same.lists_are))
             (subst (λ (es : List Entry). labels_come y.include y.before.lists.imports es ≡ true) (sym (both.1 ∙ ap (λ (w : World). w.imports) same.old_is)) imports)
         | inr both ↦
-            subst (λ (es : List Entry). labels_come y.include es c.brought ≡ true) (sym (both.0 ∙ ap (λ (l : Lists). l.exports) same.lists_are))
+            subst (λ (es : List Entry). labels_come y.include es c.brought ≡ true) (sym (both.0 ∙ ap (λ (l : EntryLists). l.exports) same.lists_are))
             (subst (λ (es : List Entry). labels_come y.include y.before.lists.exports es ≡ true) (sym (both.1 ∙ ap (λ (w : World). w.exports) same.old_is)) exports)
       ] in
       none_shadowed shadowed.before (keys_of c.current) _ shadowed.after name shadowed.are shadowed.there new
 
   pub agrees : none_common y.before.lists.imports y.old.imports ≡ true → none_common y.before.lists.exports y.old.exports ≡ true
-      → (span : Place) (brings has : Stability) → Mismatches a k j span brings has → ⊥
+      → (span : OptionalSpan) (brings has : Stability) → IncludeMismatches a k j span brings has → ⊥
   agrees imports exports span brings has c =
       let same = include_same a k j c.at y in
       let none : none_common c.current c.brought ≡ true =
       elim (one_list c.word c.at.before.lists (lists_of c.at.old) c.current c.brought c.list.0 c.list.1) [
         | inl both ↦
-            subst (λ (es : List Entry). none_common es c.brought ≡ true) (sym (both.0 ∙ ap (λ (l : Lists). l.imports) same.lists_are))
+            subst (λ (es : List Entry). none_common es c.brought ≡ true) (sym (both.0 ∙ ap (λ (l : EntryLists). l.imports) same.lists_are))
             (subst (λ (es : List Entry). none_common y.before.lists.imports es ≡ true) (sym (both.1 ∙ ap (λ (w : World). w.imports) same.old_is)) imports)
         | inr both ↦
-            subst (λ (es : List Entry). none_common es c.brought ≡ true) (sym (both.0 ∙ ap (λ (l : Lists). l.exports) same.lists_are))
+            subst (λ (es : List Entry). none_common es c.brought ≡ true) (sym (both.0 ∙ ap (λ (l : EntryLists). l.exports) same.lists_are))
             (subst (λ (es : List Entry). none_common y.before.lists.exports es ≡ true) (sym (both.1 ∙ ap (λ (w : World). w.exports) same.old_is)) exports)
       ] in
       apart c.current c.brought c.i has brings c.there c.comes none
 
-  pub without_names : y.include.names ≡ [] → (span : Place) (message : List ℕ) → RenamesNothing a k j span message → ⊥
+  pub without_names : y.include.names ≡ [] → (span : OptionalSpan) (message : List ℕ) → RenamesNothing a k j span message → ⊥
   without_names none span message c =
       empty c.before c.name c.after (sym none ∙ (sym (ap (λ (i : WorldInclude). i.names) (include_same a k j c.at y).include_is) ∙ c.names_are))
     where
@@ -131,7 +131,7 @@ module _ (a : Addition) (k j : ℕ) (y : AtInclude a k j) where
     pub export_keys : none_common y.before.lists.exports y.old.exports ≡ true
     pub names : y.include.names ≡ []
 
-  pub fine : Passes → IncludeIsFine a k j
+  pub fine : Passes → IncludeIsAccepted a k j
   fine p = record { unshadowed = unshadowed p.import_labels p.export_labels; agrees = agrees p.import_keys p.export_keys; renames = without_names p.names }
 
 -- ---- the lists of a world
@@ -139,12 +139,12 @@ module _ (a : Addition) (k j : ℕ) (y : AtInclude a k j) where
 module _ (a : Addition) (k : ℕ) (y : AtWorld a k) where
   -- both lists of the world pass a test, with its includes and, where it has none, as they are written
   pub record BothPass (test : List Entry → Bool) : Type 0 where
-    pub imports : test (begun a y.place y.world (with_worlds a k)).lists.imports ≡ true
-    pub exports : test (begun a y.place y.world (with_worlds a k)).lists.exports ≡ true
+    pub imports : test (with_all_includes a y.place y.world (with_worlds a k)).lists.imports ≡ true
+    pub exports : test (with_all_includes a y.place y.world (with_worlds a k)).lists.exports ≡ true
     pub written : y.world.includes ≡ [] → (test y.world.imports ≡ true) × (test y.world.exports ≡ true)
 
   -- then each list passes by which its labels are told
-  list_passes : (test : List Entry → Bool) → BothPass test → (world : World) (lists : Lists) (moves : ℕ) → HaveLists a k world lists moves
+  list_passes : (test : List Entry → Bool) → BothPass test → (world : World) (lists : EntryLists) (moves : ℕ) → HaveLists a k world lists moves
       → (word : List ℕ) (entries : List Entry) → IsListCalled word lists entries → test entries ≡ true
   list_passes test both world lists moves have word entries called =
       elim (lists_are a k y world lists moves have).1 [
@@ -152,9 +152,9 @@ module _ (a : Addition) (k : ℕ) (y : AtWorld a k) where
         | inr plain ↦ let written = both.written plain.0 in of plain.1 written.0 written.1 called
       ]
     where
-      of : {l : Lists} → lists ≡ l → test l.imports ≡ true → test l.exports ≡ true → IsListCalled word lists entries → test entries ≡ true
-      of same imports exports (inl import) = subst (λ (es : List Entry). test es ≡ true) (sym (import.1 ∙ ap (λ (x : Lists). x.imports) same)) imports
-      of same imports exports (inr export) = subst (λ (es : List Entry). test es ≡ true) (sym (export.1 ∙ ap (λ (x : Lists). x.exports) same)) exports
+      of : {l : EntryLists} → lists ≡ l → test l.imports ≡ true → test l.exports ≡ true → IsListCalled word lists entries → test entries ≡ true
+      of same imports exports (inl import) = subst (λ (es : List Entry). test es ≡ true) (sym (import.1 ∙ ap (λ (x : EntryLists). x.imports) same)) imports
+      of same imports exports (inr export) = subst (λ (es : List Entry). test es ≡ true) (sym (export.1 ∙ ap (λ (x : EntryLists). x.exports) same)) exports
 
   -- what passes a test passes a weaker one
   pub both_weaker : (test other : List Entry → Bool) → ((es : List Entry) → test es ≡ true → other es ≡ true) → BothPass test → BothPass other
@@ -164,7 +164,7 @@ module _ (a : Addition) (k : ℕ) (y : AtWorld a k) where
     written = λ none. let written = both.written none in (weaker _ written.0, weaker _ written.1);
   }
 
--- ---- labels that are too alike
+-- ---- labels that are not strongly unique
 
 abbrev pub names_differ : WorldKey → WorldKey → Bool
 names_differ (key.Name n) (key.Name m) = not (bytes_eq (strong_key n).name (strong_key m).name)
@@ -213,13 +213,13 @@ getters_there entries = list_all (getter_there (keys_of entries)) entries
 -- ---- a conflict
 
 -- a conflict is one of what is begun
-pub conflict_of : (a : Addition) (k : ℕ) (y : AtWorld a k) (span : Place) (name : List ℕ) → IsInConflict a k span name
-    → HasConflict (graph_uses (begun a y.place y.world (with_worlds a k)).graph) (placed (begun a y.place y.world (with_worlds a k)).lists.exports)
+pub conflict_of : (a : Addition) (k : ℕ) (y : AtWorld a k) (span : OptionalSpan) (name : List ℕ) → WorldHasConflict a k span name
+    → HasConflict (graph_uses (with_all_includes a y.place y.world (with_worlds a k)).graph) (placed (with_all_includes a y.place y.world (with_worlds a k)).lists.exports)
 conflict_of a k y span name c =
     let same = world_same a k c.at y in
-    let is : c.b ≡ begun a y.place y.world (with_worlds a k) =
-    c.is ∙ (ap (λ (p : ℕ). begun a p c.at.world (with_worlds a k)) same.0 ∙ ap (λ (w : World). begun a y.place w (with_worlds a k)) same.1) in
-    subst (λ (b : Begun). HasConflict (graph_uses b.graph) (placed b.lists.exports)) is c.conflict
+    let is : c.b ≡ with_all_includes a y.place y.world (with_worlds a k) =
+    c.is ∙ (ap (λ (p : ℕ). with_all_includes a p c.at.world (with_worlds a k)) same.0 ∙ ap (λ (w : World). with_all_includes a y.place w (with_worlds a k)) same.1) in
+    subst (λ (b : PartiallyLinked). HasConflict (graph_uses b.graph) (placed b.lists.exports)) is c.conflict
 
 -- ---- a world with which nothing is wrong
 
@@ -230,27 +230,27 @@ abbrev pub is_plain : List Entry → Bool
 is_plain entries = labels_differ entries && getters_there entries
 
 module _ (a : Addition) (k : ℕ) (y : AtWorld a k) where
-  pub none_alike : BothPass a k y labels_differ → (span : Place) (message : List ℕ) → AreTooAlike a k span message → ⊥
+  pub none_alike : BothPass a k y labels_differ → (span : OptionalSpan) (message : List ℕ) → AreNotStronglyUnique a k span message → ⊥
   none_alike both span message c =
       no_clash (keys_of c.entries) c.clash.0 c.clash.1 c.n c.m c.clash.2 c.clash.3 c.clash.4 c.clash.5
       (list_passes a k y labels_differ both c.world c.lists c.moves c.have c.word c.entries c.list)
 
-  pub none_lacks : BothPass a k y getters_there → (span : Place) (message : List ℕ) → LacksGetter a k span message → ⊥
+  pub none_lacks : BothPass a k y getters_there → (span : OptionalSpan) (message : List ℕ) → LacksGetter a k span message → ⊥
   none_lacks both span message c =
       has_getters c.entries c.label c.f c.setter.0 c.setter.1 c.no_getter (list_passes a k y getters_there both c.world c.lists c.moves c.have c.word c.entries c.list)
 
   -- both lists are plain, and it exports no interface under its own key
   pub record IsPlain : Type 0 where
     pub lists : BothPass a k y is_plain
-    pub no_exports : exported_keys (placed (begun a y.place y.world (with_worlds a k)).lists.exports) ≡ []
+    pub no_exports : exported_keys (placed (with_all_includes a y.place y.world (with_worlds a k)).lists.exports) ≡ []
 
-  pub plain_labels : IsPlain → (span : Place) (message : List ℕ) → AreTooAlike a k span message → ⊥
+  pub plain_labels : IsPlain → (span : OptionalSpan) (message : List ℕ) → AreNotStronglyUnique a k span message → ⊥
   plain_labels p = none_alike (both_weaker a k y is_plain labels_differ (λ es passes. (and_parts (labels_differ es) (getters_there es) passes).0) p.lists)
 
-  pub plain_getters : IsPlain → (span : Place) (message : List ℕ) → LacksGetter a k span message → ⊥
+  pub plain_getters : IsPlain → (span : OptionalSpan) (message : List ℕ) → LacksGetter a k span message → ⊥
   plain_getters p = none_lacks (both_weaker a k y is_plain getters_there (λ es passes. (and_parts (labels_differ es) (getters_there es) passes).1) p.lists)
 
-  pub plain_exports : IsPlain → (span : Place) (name : List ℕ) → IsInConflict a k span name → ⊥
+  pub plain_exports : IsPlain → (span : OptionalSpan) (name : List ℕ) → WorldHasConflict a k span name → ⊥
   plain_exports p span name c =
       let found = conflict_of a k y span name c in
       none_in found.0 (subst (λ (is : List ℕ). Contains is found.0) p.no_exports found.2)

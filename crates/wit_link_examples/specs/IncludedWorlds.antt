@@ -17,7 +17,7 @@ use Rattle.wit_graph_data.specs.examples.Samples.{foo_bar, foo_bar_of, function_
 use Rattle.wit_graph_data.specs.declared.graph.Graph.{Graph}
 use Rattle.wit_labels.specs.examples.Examples.{named_as}
 use Rattle.wit_link_spec.specs.Addition.{Addition}
-use Rattle.wit_link_spec.specs.Cause.{IsAccepted}
+use Rattle.wit_link_spec.specs.Cause.{AdditionIsAccepted}
 use Rattle.wit_link_spec.specs.Pushed.{pushed}
 use Rattle.wit_link_examples.specs.Packages.{adding, bare, include_with, loose_world, main_name, no_features}
 
@@ -136,8 +136,8 @@ pub record ExamplesOfIncludedWorlds : Type 0 where
   -- once: a list, an interface without a name and its type, and what exports name are copied with the world's type
   pub once : pushed (including ((codes "d", include_with [] ∷ []) ∷ []))
       ≡ grown (copied_types (codes "t") 1 4 2) (copied_interfaces 6) (world_like_base (codes "d") 4 5 2 3 ∷ []) ((codes "d", 1) ∷ [])
-  -- and nothing speaks against it
-  pub accepted : IsAccepted (including ((codes "d", include_with [] ∷ []) ∷ []))
+  -- and no cause holds against it
+  pub accepted : AdditionIsAccepted (including ((codes "d", include_with [] ∷ []) ∷ []))
   -- twice in one world, under two sets of names
   pub twice : pushed (including ((codes "d", include_with [] ∷ include_with second_names ∷ []) ∷ []))
       ≡ grown (copied_types (codes "t") 1 4 2 ++ copied_types (codes "t2") 1 7 4) (copied_interfaces 6 ++ copied_interfaces 9) (world_twice ∷ []) ((codes "d", 1) ∷ [])

@@ -13,7 +13,7 @@ use Rattle.wit_data.specs.declared.world.WorldKey.TheVariants as key
 use Rattle.wit_graph_data.specs.examples.Samples.{entry_of, foo_bar, foo_bar_of, function_of, sample, type_of, unnamed, world_of}
 use Rattle.wit_graph_data.specs.declared.graph.Graph.{Graph}
 use Rattle.wit_labels.specs.examples.Examples.{function_entry, named_as}
-use Rattle.wit_link_spec.specs.Include.{Begun, Lists, include_stability, included, is_copied, joined, joined_stability}
+use Rattle.wit_link_spec.specs.Include.{EntryLists, PartiallyLinked, include_stability, is_copied, joined_entries, joined_stability, with_include_of}
 use Rattle.wit_link_spec.specs.WorldReasons.{Disagree, IsRenamed, IsShadowed}
 use Rattle.wit_link_examples.specs.Packages.{gate_f, gate_g, gated_entry, since_one}
 
@@ -50,16 +50,16 @@ abbrev pub t_to_t2 : List IncludeName
 t_to_t2 = named_as (codes "t") (codes "t2") ∷ []
 
 -- lists with these imports and no exports
-abbrev pub imports_alone : List Entry → Lists
+abbrev pub imports_alone : List Entry → EntryLists
 imports_alone imports = record { imports = imports; exports = [] }
 
 -- world 1 of foo:bar, empty so far, with world 0 included
-abbrev pub derived : Begun
-derived = included 0 1 t_to_t2 0 (record { graph = base_graph (world_type (codes "t") 0 ∷ []); lists = imports_alone [] })
+abbrev pub derived : PartiallyLinked
+derived = with_include_of 0 1 t_to_t2 0 (record { graph = base_graph (world_type (codes "t") 0 ∷ []); lists = imports_alone [] })
 
 -- the lists of world 1 of a package, with world 0 of package 0 included that imports a under `@since`
-abbrev pub since_included : ℕ → List Entry → Lists
-since_included home imports = (included home 1 [] 0 (record { graph = sample (gated_entry since_one ∷ []) []; lists = imports_alone imports })).lists
+abbrev pub since_included : ℕ → List Entry → EntryLists
+since_included home imports = (with_include_of home 1 [] 0 (record { graph = sample (gated_entry since_one ∷ []) []; lists = imports_alone imports })).lists
 
 -- ---- the cases
 
@@ -82,8 +82,8 @@ pub record ExamplesOfIncludes : Type 0 where
   pub renames : IsRenamed (world_of (codes "w") (function_entry (codes "[method]r.m") ∷ []) []) (named_as (codes "r") (codes "r2"))
   pub renames_nothing : IsRenamed (world_of (codes "w") (entry_of 0 ∷ []) []) (named_as (codes "x") (codes "y")) → ⊥
   -- lists
-  pub joins : joined false (entry_of 0 ∷ []) (entry_of 0 ∷ entry_of 1 ∷ []) ≡ entry_of 0 ∷ entry_of 1 ∷ []
-  pub joins_gate : joined false (entry_of 0 ∷ []) (gated_entry gate_f ∷ []) ≡ gated_entry gate_f ∷ []
+  pub joins : joined_entries false (entry_of 0 ∷ []) (entry_of 0 ∷ entry_of 1 ∷ []) ≡ entry_of 0 ∷ entry_of 1 ∷ []
+  pub joins_gate : joined_entries false (entry_of 0 ∷ []) (gated_entry gate_f ∷ []) ≡ gated_entry gate_f ∷ []
   -- copies: of a type of the world and of a list of it; not of a type of an interface, nor of a list of numbers
   pub own_type : is_copied (base_graph (world_type (codes "t") 0 ∷ [])) 0 base_world 0 ≡ true
   pub interface_type : is_copied (sample [] []) 0 (world_of (codes "w") (entry_of 0 ∷ []) []) 0 ≡ false

@@ -13,7 +13,7 @@ use Rattle.wit_graph_data.specs.declared.error_kind.ResolveErrorKind.TheVariants
 use Rattle.wit_labels.specs.examples.Examples.{function_entry}
 use Rattle.wit_link_spec.specs.Addition.{Addition}
 use Rattle.wit_link_spec.specs.Cause.{IsCause}
-use Rattle.wit_link_spec.specs.Gates.{Place}
+use Rattle.wit_link_spec.specs.Gates.{OptionalSpan}
 use Rattle.wit_link_examples.specs.Packages.{adding, all_features, gate_f, gate_g, gated_entry, including_lists, loose_interface, loose_world, no_features, since_one, with_lists}
 use Rattle.wit_link_examples.specs.Worked.{package_of}
 
@@ -26,7 +26,7 @@ abbrev pub two_gates : Addition
 two_gates = adding all_features empty_graph (package_of [] (loose_interface (codes "a") [] Unknown ∷ [])
     (loose_world (codes "b1") (gated_entry gate_f ∷ []) [] [] ∷ loose_world (codes "b2") (gated_entry gate_g ∷ []) [] [] ∷ loose_world (codes "d") [] [] (include_of 0 ∷ include_of 1 ∷ []) ∷ []))
 
--- labels that are too alike
+-- labels that are not strongly unique
 abbrev pub alike_entries : List Entry
 alike_entries = function_entry (codes "ab") ∷ function_entry (codes "AB") ∷ []
 
@@ -62,10 +62,10 @@ pub record ExamplesOfLaterWorlds : Type 0 where
   pub second_include : IsCause two_gates (StabilityMismatch (Some (50, 60)) gate_g gate_f)
   -- 17: of w, where nothing is wrong with v; not where v is refused itself
   pub second_world : IsCause (before_alike []) w_is_alike
-  pub first_told : (span : Place) (message : List ℕ) → IsCause (before_alike (function_entry (codes "[set]p") ∷ [])) (Semantic span message cause.NotStronglyUnique) → ⊥
+  pub first_told : (span : OptionalSpan) (message : List ℕ) → IsCause (before_alike (function_entry (codes "[set]p") ∷ [])) (Semantic span message cause.NotStronglyUnique) → ⊥
   -- 17 without an image: of a world that includes nothing, and not of one that does
   pub unversioned : IsCause alike_unversioned w_is_alike
-  pub including : (span : Place) (message : List ℕ) → IsCause including_unversioned (Semantic span message cause.NotStronglyUnique) → ⊥
+  pub including : (span : OptionalSpan) (message : List ℕ) → IsCause including_unversioned (Semantic span message cause.NotStronglyUnique) → ⊥
   -- nor is it asked then what worlds before it include; where there is an image, 7 is told of d, and 17 of none
   pub behind_unmade : IsCause (shadowing_first (loose_interface (codes "i") [] since_one ∷ [])) w_is_alike
-  pub behind_shadowing : (span : Place) (message : List ℕ) → IsCause (shadowing_first []) (Semantic span message cause.NotStronglyUnique) → ⊥
+  pub behind_shadowing : (span : OptionalSpan) (message : List ℕ) → IsCause (shadowing_first []) (Semantic span message cause.NotStronglyUnique) → ⊥

@@ -63,11 +63,11 @@ dep_name = name_of (codes "foo") (codes "dep") None
 abbrev pub main_name : PackageName
 main_name = name_of (codes "foo") (codes "main") None
 
--- ---- packages that are handed in
+-- ---- unresolved packages
 
--- a package on its way into a graph, its spans to move so far
+-- a package that is being added into a graph, its spans to move so far
 abbrev pub adding_at : ℕ → Features → Graph → UnresolvedPackage → Addition
-adding_at offset features g u = record { features = features; graph = g; handed = u; offset = offset }
+adding_at offset features g u = record { features = features; graph = g; unresolved = u; offset = offset }
 
 -- the same, its spans to stay where they are
 abbrev pub adding : Features → Graph → UnresolvedPackage → Addition
@@ -100,7 +100,7 @@ loose_world name imports exports includes = record (world_of name imports export
 abbrev pub include_with : List IncludeName → WorldInclude
 include_with names = record { stability = Unknown; id = 0; names = names; span = Some (50, 60) }
 
--- a package that names interface i of another one, under this note
+-- a package that names interface i of another one, under this gate
 abbrev pub naming : PackageName → PackageName → Stability → UnresolvedPackage
 naming name other note = record (bare name) {
   interfaces = loose_interface (codes "i") [] Unknown ∷ [];
@@ -108,7 +108,7 @@ naming name other note = record (bare name) {
   foreign_dep_spans = Some (20, 25) ∷ [];
 }
 
--- a package with interface i under this note
+-- a package with interface i under this gate
 abbrev pub gated : Option Parts → Stability → UnresolvedPackage
 gated version note = record (bare (name_of (codes "p") (codes "q") version)) { interfaces = loose_interface (codes "i") [] note ∷ [] }
 

@@ -2,7 +2,7 @@
 use Rattle.std.specs.Prelude.{◌≡◌, [], ◌∷◌, Some, None, codes}
 use Rattle.wit_elaboration.specs.examples.Examples.{empty_graph}
 use Rattle.wit_graph_data.specs.examples.Samples.{entry_of, foo_bar, interface_of, sample}
-use Rattle.wit_link_spec.specs.Cause.{IsAccepted}
+use Rattle.wit_link_spec.specs.Cause.{AdditionIsAccepted}
 use Rattle.wit_link_spec.specs.Pushed.{pushed}
 use Rattle.wit_link_spec.specs.Spans.{package_spans}
 use Rattle.wit_link_examples.specs.Packages.{adding, feature_f, first_package, gate_f, gated, including_package, naming_type, no_features}
@@ -11,8 +11,8 @@ use Rattle.wit_link_examples.specs.Packages.{adding, feature_f, first_package, g
 pub record ExamplesOfPushes : Type 0 where
   -- the world imports a before b
   pub first : pushed (adding no_features empty_graph first_package) ≡ sample (entry_of 0 ∷ entry_of 1 ∷ []) []
-  -- and nothing speaks against it
-  pub accepted : IsAccepted (adding no_features empty_graph first_package)
+  -- and no cause holds against it
+  pub accepted : AdditionIsAccepted (adding no_features empty_graph first_package)
   -- not b alone, as it is written; not under another id; and not nothing
   pub not_elaborated : pushed (adding no_features empty_graph first_package) ≡ sample (entry_of 1 ∷ []) [] → ⊥
   pub other_id : (pushed (adding no_features empty_graph first_package)).package_names ≡ (foo_bar, 1) ∷ [] → ⊥

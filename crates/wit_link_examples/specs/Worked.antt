@@ -90,7 +90,7 @@ abbrev pub includes_f : UnresolvedPackage
 includes_f = package_of [] []
     (loose_world (codes "v") (function_entry (codes "f") ∷ []) [] [] ∷ loose_world (codes "w") [] [] (record (include_with []) { stability = gate_f } ∷ []) ∷ [])
 
--- ---- a package of which a part takes part
+-- ---- a package of which a part is active
 
 -- the number t of interface 0 under the gate f
 abbrev pub gated_type : TypeDef
@@ -137,7 +137,7 @@ pub record ExamplesOfWorked : Type 0 where
   pub half : made no_features half_gated ≡ graph_of (type_in 0 (codes "u") (kind.Type_ type.U8) ∷ [])
       (record (interface_of (Some (codes "i")) ((codes "u", 0) ∷ [])) { functions = (codes "g", function_of (codes "g") (type.Id 0 ∷ []) None) ∷ [] } ∷ [])
       (world_of (codes "w") [] [] ∷ []) ((codes "i", 0) ∷ []) ((codes "w", 0) ∷ [])
-  -- all that is on takes part
+  -- all that is on is active
   pub whole : made feature_f half_gated ≡ graph_of half_gated.types
       (record (interface_of (Some (codes "i")) ((codes "t", 0) ∷ (codes "u", 1) ∷ [])) {
         functions = (codes "f", record (function_of (codes "f") (type.Id 0 ∷ []) None) { stability = gate_f }) ∷ (codes "g", function_of (codes "g") (type.Id 1 ∷ []) None) ∷ [];

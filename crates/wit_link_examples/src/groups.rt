@@ -1,4 +1,4 @@
-//! Packages that are handed in together.
+//! Packages that are added together.
 ghost use Rattle.wit_link_examples.specs.Orders.{ExamplesOfGroups, ExamplesOfOrders};
 
 /// Packages that depend on each other, names that come twice, and cycles.
@@ -6,7 +6,7 @@ pub fn examples_of_groups()
     ensures { ExamplesOfGroups }
 {}
 
-/// Orders of packages that are handed in together, and what isn't one.
+/// Orders of packages that are added together, and what isn't one.
 pub fn examples_of_orders()
     ensures { ExamplesOfOrders }
 {}

@@ -1,4 +1,4 @@
--- The flags of what takes part.
+-- The flags of what is active.
 use Rattle.std.proofs.Common.{◌≡◌, ◌∙◌, ◌<◌, ◌≤◌, ◌||◌, ◌&&◌, ℕ, zero, suc, ◌+◌, Bool, true, false, not, if◌then◌else◌, List, [], ◌∷◌, ◌++◌, inl, inr, length, map, take, Option, None, Some, eqb, nat_eq, slice_get, slice_set, refl, sym, ap, subst, arith, Contains}
 use Rattle.std.specs.Prelude.{nat_lt, unwrap_or}
 use Rattle.std.proofs.lemmas.Bool.{cases_lt, eqb-false, eqb-true, le-ltb, lt-ltb, ltb-false}
@@ -11,7 +11,7 @@ use Rattle.std.specs.Option.{option_map_or}
 use Rattle.wit_values.specs.facts.Lists.{slice_get-set, take-next_at}
 use Rattle.wit_data.specs.Each.{Each}
 use Rattle.wit_data.specs.facts.EachFacts.{flat_map-next}
-use Rattle.wit_data.specs.Foreign.{ForeignItem, ForeignItems, IsBare, IsBareInterface, IsBareWorld, interface_id, world_id}
+use Rattle.wit_data.specs.Foreign.{ForeignItem, ForeignItems, IsNameOnly, IsNameOnlyInterface, IsNameOnlyWorld, interface_id, world_id}
 use Rattle.wit_data.specs.Shape.{IsShaped}
 use Rattle.wit_data.specs.declared.interface.Interface.{Interface}
 use Rattle.wit_data.specs.declared.package_name.PackageName.{PackageName}
@@ -22,11 +22,11 @@ use Rattle.wit_data.specs.declared.unresolved.UnresolvedPackage.{UnresolvedPacka
 use Rattle.wit_data.specs.declared.world.World.{World}
 use Rattle.wit_graph_data.specs.declared.features.Features.{Features}
 use Rattle.wit_graph_theory.specs.facts.ListFacts.{found_at, place_of}
-use Rattle.wit_link_spec.specs.Gates.{foreign_items, interface_is_active, is_active, is_foreign_interface, is_foreign_world, notes_of_foreign, some_active, type_is_active, world_is_active}
+use Rattle.wit_link_spec.specs.Gates.{foreign_gates, foreign_items, interface_is_active, is_active, is_foreign_interface, is_foreign_world, some_active, type_is_active, world_is_active}
 use Rattle.wit_link_spec.specs.facts.RangeFacts.{range-at, range-past}
-use Rattle.wit_link_spec.specs.declared.adding.Activity.{Activity}
-use Rattle.wit_link_features.specs.steps.GateSteps.{AreMarked, HasFlag, IsMarked, is_marked, own_activity, own_interface_flag, own_world_flag, with_item}
-use Rattle.wit_link_features.proofs.ForeignNotes.{named_ids, notes_none}
+use Rattle.wit_link_spec.specs.declared.addition.Activity.{Activity}
+use Rattle.wit_link_features.specs.steps.GateSteps.{AreNamedFlags, HasFlag, IsMarked, is_marked, own_activity, own_interface_flag, own_world_flag, with_item}
+use Rattle.wit_link_features.proofs.ForeignGates.{named_ids, notes_none}
 
 -- ---- flags by their places
 
@@ -48,7 +48,7 @@ or-false true = refl
 or-false false = refl
 
 module _ (features : Features) (id : AstItem → List ℕ) where
-  are-joined : (xs ys : List ForeignItem) (old mid new : List Bool) → AreMarked features id xs old mid → AreMarked features id ys mid new → AreMarked features id (xs ++ ys) old new
+  are-joined : (xs ys : List ForeignItem) (old mid new : List Bool) → AreNamedFlags features id xs old mid → AreNamedFlags features id ys mid new → AreNamedFlags features id (xs ++ ys) old new
   are-joined xs ys old mid new first second = (
     second.0 ∙ first.0,
     λ i flag at.
@@ -95,7 +95,7 @@ and-false : (a b : Bool) → b ≡ false → (a && b) ≡ false
 and-false true b off = off
 and-false false b off = refl
 
-skips : (features : Features) (id : AstItem → List ℕ) (item : ForeignItem) (flags : List Bool) → some_active features item.1.1 ≡ false → AreMarked features id (item ∷ []) flags flags
+skips : (features : Features) (id : AstItem → List ℕ) (item : ForeignItem) (flags : List Bool) → some_active features item.1.1 ≡ false → AreNamedFlags features id (item ∷ []) flags flags
 skips features id item flags off = (
   refl,
   λ i flag at. at ∙ ap Some (sym (ap (λ (b : Bool). flag || (b || false)) (and-false (list_any (nat_eq i) (id item.1.0)) (some_active features item.1.1) off) ∙ or-false flag)),
@@ -155,7 +155,7 @@ any-flat_map {X} {Y} p t g (x ∷ xs) =
     by false rest = rest
 
 marked-named : (features : Features) (id : AstItem → List ℕ) (deps : ForeignItems) (i : ℕ)
-    → list_any (is_marked features id i) (foreign_items deps) ≡ some_active features (notes_of_foreign id deps i)
+    → list_any (is_marked features id i) (foreign_items deps) ≡ some_active features (foreign_gates id deps i)
 marked-named features id deps i =
     sym (any-flat_map (is_active features) (λ (item : ForeignItem). list_any (nat_eq i) (id item.1.0)) (λ (item : ForeignItem). item.1.1) (foreign_items deps))
 
@@ -163,11 +163,11 @@ unmarked : (features : Features) (id : AstItem → List ℕ) (deps : ForeignItem
     → list_any (is_marked features id i) (foreign_items deps) ≡ false
 unmarked features id deps i none = marked-named features id deps i ∙ ap (some_active features) (notes_none id deps i none)
 
--- own flags and marks together are what takes part
+-- own flags and marks together are what is active
 matches : {X : Type 0} (stability : X → Stability) (features : Features) (id : AstItem → List ℕ) (deps : ForeignItems) (things : List X) (i : ℕ) (b : Bool)
     → nat_lt i (length (named_ids id deps)) ≡ b → Each (λ k. k < length (named_ids id deps)) (named_ids id deps)
     → ((not b && option_map_or (λ (x : X). is_active features (stability x)) (slice_get things i) false) || list_any (is_marked features id i) (foreign_items deps))
-    ≡ some_active features (if b then notes_of_foreign id deps i else option_map_or (λ (x : X). stability x ∷ []) (slice_get things i) [])
+    ≡ some_active features (if b then foreign_gates id deps i else option_map_or (λ (x : X). stability x ∷ []) (slice_get things i) [])
 matches stability features id deps things i true is first = marked-named features id deps i
 matches {X} stability features id deps things i false is first =
     let beyond : length (named_ids id deps) ≤ i = ltb-false i (length (named_ids id deps)) is in
@@ -184,7 +184,7 @@ matches {X} stability features id deps things i false is first =
 -- marked flags are all flags
 all-flags : (features : Features) (id : AstItem → List ℕ) (deps : ForeignItems) (own whole : ℕ → Bool) (n : ℕ) (old new : List Bool)
     → ((i : ℕ) → (own i || list_any (is_marked features id i) (foreign_items deps)) ≡ whole i) → old ≡ map own (range_with_len 0 n)
-    → AreMarked features id (foreign_items deps) old new → new ≡ map whole (range_with_len 0 n)
+    → AreNamedFlags features id (foreign_items deps) old new → new ≡ map whole (range_with_len 0 n)
 all-flags features id deps own whole n old new match is marked =
     let long : length old ≡ n = ap length is ∙ length-map-range_with_len own 0 n in
     let longer = marked.0 in
@@ -224,14 +224,14 @@ own-flag-out {X} stability features things i n foreign =
 
 -- what is there has a flag
 pub flagged : (features : Features) (u : UnresolvedPackage) (activity : Activity) (name : List ℕ) (item : AstItem) → activity ≡ own_activity features u
-    → IsBare u.interfaces u.worlds name item → HasFlag activity item
+    → IsNameOnly u.interfaces u.worlds name item → HasFlag activity item
 flagged features u activity name (named.Interface id) is bare =
-    let found = found_at (IsBareInterface name) u.interfaces id bare in
+    let found = found_at (IsNameOnlyInterface name) u.interfaces id bare in
     let within : id < length u.interfaces = slice_get_within u.interfaces id found.0 found.1 in
     let long : length activity.interfaces ≡ length u.interfaces = ap (λ (a : Activity). length a.interfaces) is ∙ length-map-range_with_len (own_interface_flag features u) 0 (length u.interfaces) in
     omega arith
 flagged features u activity name (named.World id) is bare =
-    let found = found_at (IsBareWorld name) u.worlds id bare in
+    let found = found_at (IsNameOnlyWorld name) u.worlds id bare in
     let within : id < length u.worlds = slice_get_within u.worlds id found.0 found.1 in
     let long : length activity.worlds ≡ length u.worlds = ap (λ (a : Activity). length a.worlds) is ∙ length-map-range_with_len (own_world_flag features u) 0 (length u.worlds) in
     omega arith

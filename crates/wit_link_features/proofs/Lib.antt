@@ -1,6 +1,6 @@
-pub mod ForeignNotes
+pub mod AskedGates
 pub mod Flags
+pub mod ForeignGates
 pub mod Ready
-pub mod AskedNotes
-pub mod VersionsMet
 pub mod ReferencesStay
+pub mod VersionsMet

@@ -21,23 +21,23 @@ use Rattle.wit_graph_theory.specs.facts.ListFacts.{Contains-map, Contains-map_ca
 use Rattle.wit_link_spec.specs.Addition.{Addition}
 use Rattle.wit_link_spec.specs.Cause.{IsCause, excluded_11, excluded_owner_12}
 use Rattle.wit_link_spec.specs.CauseText.{excluded_owner_text, excluded_text}
-use Rattle.wit_link_spec.specs.Gates.{HasEntry, Place, world_is_active}
+use Rattle.wit_link_spec.specs.Gates.{HasEntry, OptionalSpan, world_is_active}
 use Rattle.wit_link_spec.specs.steps.Passed.{NeedsNothingExcluded}
 use Rattle.wit_link_spec.specs.Reasons.{AType, AWorld, AnInterface, IsActiveFunction, IsExcluded, Thing, kind_references, of_entry, of_foreign_type, of_function, of_include, of_interface, of_type, of_world, owner_thing, word_of}
 use Rattle.wit_link_features.specs.steps.GateSteps.{MayRefuse, seen}
-use Rattle.wit_link_features.specs.steps.ReferenceSteps.{FieldStays, FunctionsStay, IsReferred, IsTakenType, ItemStays, KindRefers, KindStays, PartsStay, RefersByItem, RefersInField, Stays, TypesStay, takes_part}
+use Rattle.wit_link_features.specs.steps.ReferenceSteps.{FieldStays, FunctionsStay, IsActiveType, IsReferred, ItemStays, KindRefers, KindStays, PartsStay, RefersByItem, RefersInField, Stays, TypesStay, thing_is_active}
 use Rattle.wit_link_features.specs.declared.checker.Checker.{Checker}
 
--- ---- what takes part is not left out
+-- ---- what is active is not left out
 
-pub left-out : (a : Addition) (thing : Thing) → takes_part a thing ≡ false → IsExcluded a thing
+pub left-out : (a : Addition) (thing : Thing) → thing_is_active a thing ≡ false → IsExcluded a thing
 left-out a (AType t) none = none
 left-out a (AnInterface i) none = none
 left-out a (AWorld w) none = none
 
 -- ---- refusals
 
-pub told-excluded : (checker : Checker) (thing : Thing) (place : Place) (error : ResolveErrorKind) → IsReferred checker thing place → takes_part (seen checker) thing ≡ false
+pub told-excluded : (checker : Checker) (thing : Thing) (place : OptionalSpan) (error : ResolveErrorKind) → IsReferred checker thing place → thing_is_active (seen checker) thing ≡ false
     → error ≡ Semantic (moved_by checker.adding.offset place) (excluded_text (word_of thing)) cause.Excluded → MayRefuse checker error
 told-excluded checker thing place error refers none is =
     inr (subst (IsCause (seen checker)) (sym is) (excluded_11 (moved_by checker.adding.offset place) (excluded_text (word_of thing)) (record {
@@ -49,8 +49,8 @@ told-excluded checker thing place error refers none is =
       message_is = refl;
     })))
 
-pub told-owner : (checker : Checker) (def : TypeDef) (thing : Thing) (error : ResolveErrorKind) → IsTakenType checker def → def.kind ≢ kind.Unknown → owner_thing def.owner ≡ thing ∷ []
-    → takes_part (seen checker) thing ≡ false
+pub told-owner : (checker : Checker) (def : TypeDef) (thing : Thing) (error : ResolveErrorKind) → IsActiveType checker def → def.kind ≢ kind.Unknown → owner_thing def.owner ≡ thing ∷ []
+    → thing_is_active (seen checker) thing ≡ false
     → error ≡ Semantic (moved_by checker.adding.offset def.span) (excluded_owner_text (word_of thing)) cause.ExcludedOwner → MayRefuse checker error
 told-owner checker def thing error taken own owner none is =
     inr (subst (IsCause (seen checker)) (sym is) (excluded_owner_12 (moved_by checker.adding.offset def.span) (excluded_owner_text (word_of thing)) (record {
@@ -82,10 +82,10 @@ fields-stay checker def fields is stay t place has =
     let from = Contains-flat_map_cases (λ (f : Field). map (λ (u : ℕ). (u, f.span)) (named_type f.ty)) fields (t, place) among in
     let named = Contains-map_cases (λ (u : ℕ). (u, from.0.span)) (named_type from.0.ty) (t, place) from.1.1 in
     let there = place_of fields from.0 from.1.0 in
-    subst (λ (p : ℕ × Place). Stays checker (AType p.0)) named.2 (stay there.0 from.0 there.1 named.0 named.1)
+    subst (λ (p : ℕ × OptionalSpan). Stays checker (AType p.0)) named.2 (stay there.0 from.0 there.1 named.0 named.1)
 
 -- the references of other kinds are at the type's place
-placed : (kind' : TypeDefKind) (place : Place) → ((fields : List Field) → kind' ≡ kind.Record fields → ⊥) → kind_references kind' place ≡ map (λ (t : ℕ). (t, place)) (referred kind')
+placed : (kind' : TypeDefKind) (place : OptionalSpan) → ((fields : List Field) → kind' ≡ kind.Record fields → ⊥) → kind_references kind' place ≡ map (λ (t : ℕ). (t, place)) (referred kind')
 placed (kind.Record fields) place other = absurd (other fields refl)
 placed _ place other = refl
 
@@ -93,20 +93,20 @@ pub ids-refer : (checker : Checker) (def : TypeDef) (ids : List ℕ) → ((field
     → Each (λ t. IsReferred checker (AType t) def.span) ids
 ids-refer checker def ids other are refers i t at =
     let among : Contains (referred def.kind) t = subst (λ (l : List ℕ). Contains l t) are (contained_at ids i t at) in
-    refers t def.span (subst (λ (l : List (ℕ × Place)). Contains l (t, def.span)) (sym (placed def.kind def.span other)) (Contains-map (λ (u : ℕ). (u, def.span)) (referred def.kind) t among))
+    refers t def.span (subst (λ (l : List (ℕ × OptionalSpan)). Contains l (t, def.span)) (sym (placed def.kind def.span other)) (Contains-map (λ (u : ℕ). (u, def.span)) (referred def.kind) t among))
 
 pub ids-stay : (checker : Checker) (def : TypeDef) (ids : List ℕ) → ((fields : List Field) → def.kind ≡ kind.Record fields → ⊥) → ids ≡ referred def.kind
     → Each (λ t. Stays checker (AType t)) ids → KindStays checker def
 ids-stay checker def ids other are stay t place has =
-    let among = Contains-map_cases (λ (u : ℕ). (u, def.span)) (referred def.kind) (t, place) (subst (λ (l : List (ℕ × Place)). Contains l (t, place)) (placed def.kind def.span other) has) in
+    let among = Contains-map_cases (λ (u : ℕ). (u, def.span)) (referred def.kind) (t, place) (subst (λ (l : List (ℕ × OptionalSpan)). Contains l (t, place)) (placed def.kind def.span other) has) in
     let there = place_of ids among.0 (subst (λ (l : List ℕ). Contains l among.0) (sym are) among.1) in
-    subst (λ (p : ℕ × Place). Stays checker (AType p.0)) among.2 (stay there.0 among.0 there.1)
+    subst (λ (p : ℕ × OptionalSpan). Stays checker (AType p.0)) among.2 (stay there.0 among.0 there.1)
 
 -- ---- worlds
 
--- an entry of a world that takes part
-pub refers-entry : (checker : Checker) (w : ℕ) (world : World) (k : WorldKey) (i : WorldItem) → slice_get checker.adding.handed.now.worlds w ≡ Some world
-    → world_is_active checker.adding.features.now checker.adding.handed.now w ≡ true → HasEntry world (k, i) → RefersByItem checker i
+-- an entry of a world that is active
+pub refers-entry : (checker : Checker) (w : ℕ) (world : World) (k : WorldKey) (i : WorldItem) → slice_get checker.adding.unresolved.now.worlds w ≡ Some world
+    → world_is_active checker.adding.features.now checker.adding.unresolved.now w ≡ true → HasEntry world (k, i) → RefersByItem checker i
 refers-entry checker w world k (item.Interface id stability docs span external_id) at active has = λ on. of_entry w world k id stability docs span external_id at active has on
 refers-entry checker w world k (item.Function f) at active has = λ on. of_world w world k f at active has on
 refers-entry checker w world k (item.Type_ id span) at active has = tt
@@ -115,15 +115,15 @@ refers-entry checker w world k (item.Type_ id span) at active has = tt
 
 -- what the steps have seen
 pub record AllStay (checker : Checker) : Type 0 where
-  pub types : EachAt (TypesStay checker) checker.adding.handed.now.types
-  pub functions : EachAt (FunctionsStay checker) checker.adding.handed.now.interfaces
-  pub parts : EachAt (PartsStay checker) checker.adding.handed.now.worlds
+  pub types : EachAt (TypesStay checker) checker.adding.unresolved.now.types
+  pub functions : EachAt (FunctionsStay checker) checker.adding.unresolved.now.interfaces
+  pub parts : EachAt (PartsStay checker) checker.adding.unresolved.now.worlds
 
 entry-stays : (checker : Checker) (entries : List Entry) (e : Entry) → Each (λ (d : Entry). ItemStays checker d.1) entries → Contains entries e → ItemStays checker e.1
 entry-stays checker entries e each has = let there = place_of entries e has in each there.0 e there.1
 
-held-stays : (checker : Checker) → AllStay checker → (w : ℕ) (world : World) (e : Entry) → slice_get checker.adding.handed.now.worlds w ≡ Some world
-    → world_is_active checker.adding.features.now checker.adding.handed.now w ≡ true → HasEntry world e → ItemStays checker e.1
+held-stays : (checker : Checker) → AllStay checker → (w : ℕ) (world : World) (e : Entry) → slice_get checker.adding.unresolved.now.worlds w ≡ Some world
+    → world_is_active checker.adding.features.now checker.adding.unresolved.now w ≡ true → HasEntry world e → ItemStays checker e.1
 held-stays checker all w world e at active has =
     let parts = all.parts w world at active in
     elim has [ inl imports ↦ entry-stays checker world.imports e parts.imports imports | inr exports ↦ entry-stays checker world.exports e parts.exports exports ]
@@ -134,7 +134,7 @@ function-stays checker all f (of_interface i interface name f' at active has on)
     all.functions i interface at active there.0 (name, f') there.1 on
 function-stays checker all f (of_world w world k f' at active has on) = held-stays checker all w world (k, item.Function f') at active has on
 
-all-stays : (checker : Checker) → AllStay checker → (thing : Thing) (place : Place) → IsReferred checker thing place → Stays checker thing
+all-stays : (checker : Checker) → AllStay checker → (thing : Thing) (place : OptionalSpan) → IsReferred checker thing place → Stays checker thing
 all-stays checker all thing place (of_type t def named place' at active has) = (all.types t def at active).refers named place' has
 all-stays checker all thing place (of_foreign_type t def i at foreign active owner) = (all.types t def at active).foreign foreign i owner
 all-stays checker all thing place (of_function f named active has) =

@@ -1,4 +1,4 @@
-//! A package that is added, seen with what takes part of it.
+//! A package that is added, seen with what is active of it.
 ghost use Rattle.std.specs.Prelude.{◌≡◌, IfOk, string_bytes};
 ghost use Rattle.wit_sources.specs.Span.{moved_by};
 ghost use Rattle.wit_graph_data.specs.declared.error_kind.ResolveErrorKind.TheVariants.{Semantic};
@@ -7,18 +7,18 @@ ghost use Rattle.wit_link_spec.specs.Gates.{is_active};
 use std::alloc::{AllocError, Global};
 use wit_data::{Span, Stability, Text};
 use wit_graph_data::{Cause, ResolveError, ResolveErrorKind};
-use wit_link_spec::{Activity, Adding, is_active};
+use wit_link_spec::{Activity, AdditionRef, is_active};
 
-/// A package that is added, and what takes part of it.
+/// A package that is added, and what is active of it.
 #[derive(Drop)]
 pub(crate) struct Checker<'a> {
     pub(crate) alloc: Global,
-    pub(crate) adding: Adding<'a>,
+    pub(crate) adding: AdditionRef<'a>,
     pub(crate) activity: &'a Activity,
 }
 
 impl<'a> Checker<'a> {
-    /// Whether a note lets its item take part.
+    /// Whether a gate lets its item be active.
     pub(crate) fn is_active(&self, note: &Stability) -> bool
         ensures { result ≡ is_active self.now.adding.features.now note.now }
     {

@@ -1,4 +1,4 @@
-//! What takes part and needs what is left out.
+//! What is active and needs what is left out.
 ghost use Rattle.std.specs.Prelude.{◌≡◌, ◌≢◌, ◌⊎◌, ℕ, IfErr, IfOk, List, OnOk};
 ghost use Rattle.wit_sources.specs.Span.{moved_by};
 ghost use Rattle.wit_data.specs.Each.{Each, EachAt};
@@ -8,13 +8,13 @@ ghost use Rattle.wit_data.specs.declared.function.Function.{Function};
 ghost use Rattle.wit_data.specs.declared.types.TypeDefKind.TheVariants as kinds;
 ghost use Rattle.wit_graph_data.specs.declared.cause.Cause.TheVariants as cause;
 ghost use Rattle.wit_graph_data.specs.declared.error_kind.ResolveErrorKind.TheVariants.{OutOfMemory, Semantic};
-ghost use Rattle.wit_link_spec.specs.steps.Adding.{activity_of, addition_of};
+ghost use Rattle.wit_link_spec.specs.steps.AdditionRefs.{activity_of, addition_of};
 ghost use Rattle.wit_link_spec.specs.Cause.{IsCause};
 ghost use Rattle.wit_link_spec.specs.CauseText.{excluded_owner_text, excluded_text};
 ghost use Rattle.wit_link_spec.specs.steps.Passed.{NeedsNothingExcluded};
 ghost use Rattle.wit_link_spec.specs.Reasons.{AType, word_of};
-ghost use Rattle.wit_link_features.specs.steps.GateSteps.{IsReady, MayRefuse, seen};
-ghost use Rattle.wit_link_features.specs.steps.ReferenceSteps.{FieldStays, ForeignStays, FunctionStays, FunctionsStay, IncludeStays, IsReferred, IsTakenType, ItemStays, KindRefers, KindStays, MayTakePart, OwnerStays, PartsStay, RefersByInclude, RefersByItem, RefersInField, Stays, TypeStays, TypesStay, takes_part, thing_of};
+ghost use Rattle.wit_link_features.specs.steps.GateSteps.{IsCheckerReady, MayRefuse, seen};
+ghost use Rattle.wit_link_features.specs.steps.ReferenceSteps.{FieldStays, ForeignStays, FunctionStays, FunctionsStay, IncludeStays, IsActiveType, IsReferred, ItemStays, KindRefers, KindStays, MayBeActive, OwnerStays, PartsStay, RefersByInclude, RefersByItem, RefersInField, Stays, TypeStays, TypesStay, thing_is_active, thing_of};
 
 use crate::checker::Checker;
 use crate::needs::{Needed, flag_at};
@@ -24,10 +24,10 @@ use wit_data::{
     WorldInclude, WorldItem, WorldKey, function_references, referred,
 };
 use wit_graph_data::{Cause, ResolveError, ResolveResult};
-use wit_link_spec::{Activity, Adding, excluded_message, excluded_owner_message};
+use wit_link_spec::{Activity, AdditionRef, excluded_message, excluded_owner_message};
 
-/// Refuses what takes part and needs what is left out: something refers to it (11), or it owns a
-/// type (12). The package has its shape, and what takes part of it is told by `activity`.
+/// Refuses what is active and needs what is left out: something refers to it (11), or it owns a
+/// type (12). The package has its shape, and what is active of it is told by `activity`.
 ///
 /// Else it is refused for want of memory (28) alone. That is told too where a place that would be
 /// told ends past 4294967295, so the caller looks at the spans first.
@@ -35,10 +35,10 @@ use wit_link_spec::{Activity, Adding, excluded_message, excluded_owner_message};
 /// Source: `append` of wit-parser 0.263.0.
 pub fn check_references(
     alloc: Global,
-    adding: &Adding<'_>,
+    adding: &AdditionRef<'_>,
     activity: &Activity,
 ) -> ResolveResult<()>
-    requires shaped { IsShaped adding.now.handed.now }
+    requires shaped { IsShaped adding.now.unresolved.now }
     requires activity { activity.now ≡ activity_of (addition_of adding.now) }
     ensures met { OnOk result (NeedsNothingExcluded (addition_of adding.now)) }
     ensures cause { IfErr result (λ kind. (kind ≡ OutOfMemory) ⊎ IsCause (addition_of adding.now) kind) }
@@ -54,10 +54,10 @@ pub fn check_references(
 }
 
 impl<'a> Checker<'a> {
-    /// Whether a thing takes part.
-    fn takes_part(&self, needed: Needed) -> bool
-        requires { IsReady self.now }
-        ensures { result ≡ takes_part (seen self.now) (thing_of needed) }
+    /// Whether a thing is active.
+    fn thing_is_active(&self, needed: Needed) -> bool
+        requires { IsCheckerReady self.now }
+        ensures { result ≡ thing_is_active (seen self.now) (thing_of needed) }
     {
         match needed {
             Needed::Type(id) => flag_at(&self.activity.types, id.index()),
@@ -84,12 +84,12 @@ impl<'a> Checker<'a> {
 
     /// A thing to which something refers there.
     fn look_at(&self, needed: Needed, span: Span) -> ResolveResult<()>
-        requires ready { IsReady self.now }
+        requires ready { IsCheckerReady self.now }
         requires referred { IsReferred self.now (thing_of needed) span }
         ensures stays { OnOk result (Stays self.now (thing_of needed)) }
         ensures cause { IfErr result (MayRefuse self.now) }
     {
-        if self.takes_part(needed) {
+        if self.thing_is_active(needed) {
             return Ok(());
         }
         Err(self.excluded(needed, span)?)
@@ -97,7 +97,7 @@ impl<'a> Checker<'a> {
 
     /// Types to which something refers there.
     fn look_at_ids(&self, ids: &Items<TypeId>, span: Span) -> ResolveResult<()>
-        requires ready { IsReady self.now }
+        requires ready { IsCheckerReady self.now }
         requires referred { Each (λ t. IsReferred self.now (AType t) span) ids.now }
         ensures stay { OnOk result (Each (λ t. Stays self.now (AType t)) ids.now) }
         ensures cause { IfErr result (MayRefuse self.now) }
@@ -110,11 +110,11 @@ impl<'a> Checker<'a> {
 
     /// What types need.
     fn look_at_types(&self) -> ResolveResult<()>
-        requires { IsReady self.now }
-        ensures stay { OnOk result (EachAt (TypesStay self.now) self.now.adding.handed.now.types) }
+        requires { IsCheckerReady self.now }
+        ensures stay { OnOk result (EachAt (TypesStay self.now) self.now.adding.unresolved.now.types) }
         ensures cause { IfErr result (MayRefuse self.now) }
     {
-        let types = &self.adding.handed.types;
+        let types = &self.adding.unresolved.types;
         for index in 0..types.len() {
             if !flag_at(&self.activity.types, index) {
                 continue;
@@ -124,10 +124,10 @@ impl<'a> Checker<'a> {
         Ok(())
     }
 
-    /// What a type that takes part needs.
+    /// What a type that is active needs.
     fn look_at_type(&self, def: &TypeDef) -> ResolveResult<()>
-        requires ready { IsReady self.now }
-        requires taken { IsTakenType self.now def.now }
+        requires ready { IsCheckerReady self.now }
+        requires taken { IsActiveType self.now def.now }
         ensures stays { OnOk result (TypeStays self.now def.now) }
         ensures cause { IfErr result (MayRefuse self.now) }
     {
@@ -140,7 +140,7 @@ impl<'a> Checker<'a> {
 
     /// What a type's kind names.
     fn look_at_kind(&self, def: &TypeDef) -> ResolveResult<()>
-        requires ready { IsReady self.now }
+        requires ready { IsCheckerReady self.now }
         requires refers { KindRefers self.now def.now }
         ensures stays { OnOk result (KindStays self.now def.now) }
         ensures cause { IfErr result (MayRefuse self.now) }
@@ -153,7 +153,7 @@ impl<'a> Checker<'a> {
 
     /// What fields name.
     fn look_at_fields(&self, fields: &Items<Field>) -> ResolveResult<()>
-        requires ready { IsReady self.now }
+        requires ready { IsCheckerReady self.now }
         requires refer { Each (RefersInField self.now) fields.now }
         ensures stay { OnOk result (Each (FieldStays self.now) fields.now) }
         ensures cause { IfErr result (MayRefuse self.now) }
@@ -166,7 +166,7 @@ impl<'a> Checker<'a> {
 
     /// What a field names.
     fn look_at_field(&self, field: &Field) -> ResolveResult<()>
-        requires ready { IsReady self.now }
+        requires ready { IsCheckerReady self.now }
         requires refers { RefersInField self.now field.now }
         ensures stays { OnOk result (FieldStays self.now field.now) }
         ensures cause { IfErr result (MayRefuse self.now) }
@@ -177,10 +177,10 @@ impl<'a> Checker<'a> {
         }
     }
 
-    /// The interface of a foreign type that takes part.
+    /// The interface of a foreign type that is active.
     fn look_at_home(&self, def: &TypeDef) -> ResolveResult<()>
-        requires ready { IsReady self.now }
-        requires taken { IsTakenType self.now def.now }
+        requires ready { IsCheckerReady self.now }
+        requires taken { IsActiveType self.now def.now }
         requires foreign { def.now.kind ≡ kinds.Unknown }
         ensures stays { OnOk result (ForeignStays self.now def.now) }
         ensures cause { IfErr result (MayRefuse self.now) }
@@ -192,17 +192,17 @@ impl<'a> Checker<'a> {
         }
     }
 
-    /// The owner of a type that takes part and isn't foreign.
+    /// The owner of a type that is active and isn't foreign.
     fn look_at_owner(&self, def: &TypeDef) -> ResolveResult<()>
-        requires ready { IsReady self.now }
-        requires taken { IsTakenType self.now def.now }
+        requires ready { IsCheckerReady self.now }
+        requires taken { IsActiveType self.now def.now }
         requires own { def.now.kind ≢ kinds.Unknown }
         ensures stays { OnOk result (OwnerStays self.now def.now) }
         ensures cause { IfErr result (MayRefuse self.now) }
     {
         match Needed::of_owner(def.owner) {
             Some(owner) => {
-                if self.takes_part(owner) {
+                if self.thing_is_active(owner) {
                     return Ok(());
                 }
                 Err(self.excluded_owner(owner, def.span)?)
@@ -211,13 +211,13 @@ impl<'a> Checker<'a> {
         }
     }
 
-    /// What interfaces that take part need.
+    /// What interfaces that are active need.
     fn look_at_interfaces(&self) -> ResolveResult<()>
-        requires { IsReady self.now }
-        ensures stay { OnOk result (EachAt (FunctionsStay self.now) self.now.adding.handed.now.interfaces) }
+        requires { IsCheckerReady self.now }
+        ensures stay { OnOk result (EachAt (FunctionsStay self.now) self.now.adding.unresolved.now.interfaces) }
         ensures cause { IfErr result (MayRefuse self.now) }
     {
-        let interfaces = &self.adding.handed.interfaces;
+        let interfaces = &self.adding.unresolved.interfaces;
         for index in 0..interfaces.len() {
             if !flag_at(&self.activity.interfaces, index) {
                 continue;
@@ -229,8 +229,8 @@ impl<'a> Checker<'a> {
 
     /// What functions need.
     fn look_at_functions(&self, functions: &Names<Function>) -> ResolveResult<()>
-        requires ready { IsReady self.now }
-        requires may { Each (λ (e : List ℕ × Function). MayTakePart self.now e.1) functions.now }
+        requires ready { IsCheckerReady self.now }
+        requires may { Each (λ (e : List ℕ × Function). MayBeActive self.now e.1) functions.now }
         ensures stay { OnOk result (Each (λ (e : List ℕ × Function). FunctionStays self.now e.1) functions.now) }
         ensures cause { IfErr result (MayRefuse self.now) }
     {
@@ -240,10 +240,10 @@ impl<'a> Checker<'a> {
         Ok(())
     }
 
-    /// What a function needs where it takes part.
+    /// What a function needs where it is active.
     fn look_at_function(&self, function: &Function) -> ResolveResult<()>
-        requires ready { IsReady self.now }
-        requires may { MayTakePart self.now function.now }
+        requires ready { IsCheckerReady self.now }
+        requires may { MayBeActive self.now function.now }
         ensures stays { OnOk result (FunctionStays self.now function.now) }
         ensures cause { IfErr result (MayRefuse self.now) }
     {
@@ -253,13 +253,13 @@ impl<'a> Checker<'a> {
         self.look_at_ids(&function_references(self.alloc, function)?, function.span)
     }
 
-    /// What worlds that take part need.
+    /// What worlds that are active need.
     fn look_at_worlds(&self) -> ResolveResult<()>
-        requires { IsReady self.now }
-        ensures stay { OnOk result (EachAt (PartsStay self.now) self.now.adding.handed.now.worlds) }
+        requires { IsCheckerReady self.now }
+        ensures stay { OnOk result (EachAt (PartsStay self.now) self.now.adding.unresolved.now.worlds) }
         ensures cause { IfErr result (MayRefuse self.now) }
     {
-        let worlds = &self.adding.handed.worlds;
+        let worlds = &self.adding.unresolved.worlds;
         for index in 0..worlds.len() {
             if !flag_at(&self.activity.worlds, index) {
                 continue;
@@ -274,7 +274,7 @@ impl<'a> Checker<'a> {
 
     /// What entries need.
     fn look_at_entries(&self, entries: &Table<WorldKey, WorldItem>) -> ResolveResult<()>
-        requires ready { IsReady self.now }
+        requires ready { IsCheckerReady self.now }
         requires refer { Each (λ (e : Entry). RefersByItem self.now e.1) entries.now }
         ensures stay { OnOk result (Each (λ (e : Entry). ItemStays self.now e.1) entries.now) }
         ensures cause { IfErr result (MayRefuse self.now) }
@@ -285,9 +285,9 @@ impl<'a> Checker<'a> {
         Ok(())
     }
 
-    /// What an entry needs where it takes part.
+    /// What an entry needs where it is active.
     fn look_at_item(&self, item: &WorldItem) -> ResolveResult<()>
-        requires ready { IsReady self.now }
+        requires ready { IsCheckerReady self.now }
         requires refers { RefersByItem self.now item.now }
         ensures stays { OnOk result (ItemStays self.now item.now) }
         ensures cause { IfErr result (MayRefuse self.now) }
@@ -311,7 +311,7 @@ impl<'a> Checker<'a> {
 
     /// What includes need.
     fn look_at_includes(&self, includes: &Items<WorldInclude>) -> ResolveResult<()>
-        requires ready { IsReady self.now }
+        requires ready { IsCheckerReady self.now }
         requires refer { Each (RefersByInclude self.now) includes.now }
         ensures stay { OnOk result (Each (IncludeStays self.now) includes.now) }
         ensures cause { IfErr result (MayRefuse self.now) }
@@ -322,9 +322,9 @@ impl<'a> Checker<'a> {
         Ok(())
     }
 
-    /// What an include needs where it takes part.
+    /// What an include needs where it is active.
     fn look_at_include(&self, include: &WorldInclude) -> ResolveResult<()>
-        requires ready { IsReady self.now }
+        requires ready { IsCheckerReady self.now }
         requires refers { RefersByInclude self.now include.now }
         ensures stays { OnOk result (IncludeStays self.now include.now) }
         ensures cause { IfErr result (MayRefuse self.now) }

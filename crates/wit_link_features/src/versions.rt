@@ -14,12 +14,12 @@ ghost use Rattle.wit_data.specs.declared.world.World.{World};
 ghost use Rattle.wit_data.specs.declared.world.WorldInclude.{WorldInclude};
 ghost use Rattle.wit_graph_data.specs.declared.cause.Cause.TheVariants as cause;
 ghost use Rattle.wit_graph_data.specs.declared.error_kind.ResolveErrorKind.TheVariants.{OutOfMemory, Semantic};
-ghost use Rattle.wit_link_spec.specs.steps.Adding.{activity_of, addition_of};
+ghost use Rattle.wit_link_spec.specs.steps.AdditionRefs.{activity_of, addition_of};
 ghost use Rattle.wit_link_spec.specs.Cause.{IsCause};
 ghost use Rattle.wit_link_spec.specs.CauseText.{gate_unreleased_text, gate_without_version_text};
-ghost use Rattle.wit_link_spec.specs.Gates.{asked_notes, foreign_items};
+ghost use Rattle.wit_link_spec.specs.Gates.{asked_gates, foreign_items};
 ghost use Rattle.wit_link_spec.specs.steps.Passed.{GatesAreMet};
-ghost use Rattle.wit_link_features.specs.steps.GateSteps.{Asks, AsksItem, HasReached, IsAt, IsMet, IsReady, IsThere, MayRefuse, MeetsForeign, MeetsFunctions, MeetsItem, MeetsParts};
+ghost use Rattle.wit_link_features.specs.steps.GateSteps.{Asks, AsksItem, HasReached, IsAt, IsCheckerReady, IsMet, IsThere, MayRefuse, MeetsForeign, MeetsFunctions, MeetsItem, MeetsParts};
 
 use crate::checker::Checker;
 use crate::needs::flag_at;
@@ -29,17 +29,17 @@ use wit_data::{
     WorldKey, foreign_interfaces, foreign_worlds,
 };
 use wit_graph_data::{Cause, ResolveError, ResolveResult};
-use wit_link_spec::{Activity, Adding};
+use wit_link_spec::{Activity, AdditionRef};
 
 /// Refuses a `@since` that is asked and that the package doesn't meet: it has no version (9), or one that is below
-/// (10). The package has its shape, and what takes part of it is told by `activity`.
+/// (10). The package has its shape, and what is active of it is told by `activity`.
 ///
 /// Else it is refused for want of memory (28) alone. That is told too where a place that would be told ends past
 /// 4294967295, so the caller looks at the spans first.
 ///
 /// Source: `include_stability` of wit-parser 0.263.0; WIT.md of the component model.
-pub fn check_versions(alloc: Global, adding: &Adding<'_>, activity: &Activity) -> ResolveResult<()>
-    requires shaped { IsShaped adding.now.handed.now }
+pub fn check_versions(alloc: Global, adding: &AdditionRef<'_>, activity: &Activity) -> ResolveResult<()>
+    requires shaped { IsShaped adding.now.unresolved.now }
     requires activity { activity.now ≡ activity_of (addition_of adding.now) }
     ensures met { OnOk result (GatesAreMet (addition_of adding.now)) }
     ensures cause { IfErr result (λ kind. (kind ≡ OutOfMemory) ⊎ IsCause (addition_of adding.now) kind) }
@@ -60,9 +60,9 @@ pub fn check_versions(alloc: Global, adding: &Adding<'_>, activity: &Activity) -
 impl<'a> Checker<'a> {
     /// The package has no version.
     fn without_version(&self, span: Span) -> Result<ResolveError, AllocError>
-        ensures { IfOk result (λ e. e ≡ Semantic (moved_by self.now.adding.offset span) (gate_without_version_text self.now.adding.handed.now.name) cause.GateWithoutVersion) }
+        ensures { IfOk result (λ e. e ≡ Semantic (moved_by self.now.adding.offset span) (gate_without_version_text self.now.adding.unresolved.now.name) cause.GateWithoutVersion) }
     {
-        let name = &self.adding.handed.name;
+        let name = &self.adding.unresolved.name;
         let message = format!(in self.alloc;
             "package [{name}] contains a feature gate with a version specifier, so it must have a version"
         )?;
@@ -76,9 +76,9 @@ impl<'a> Checker<'a> {
         version: &Version,
         span: Span,
     ) -> Result<ResolveError, AllocError>
-        ensures { IfOk result (λ e. e ≡ Semantic (moved_by self.now.adding.offset span) (gate_unreleased_text since.now self.now.adding.handed.now.name version.now) cause.GateUnreleased) }
+        ensures { IfOk result (λ e. e ≡ Semantic (moved_by self.now.adding.offset span) (gate_unreleased_text since.now self.now.adding.unresolved.now.name version.now) cause.GateUnreleased) }
     {
-        let name = &self.adding.handed.name;
+        let name = &self.adding.unresolved.name;
         let message = format!(in self.alloc;
             "feature gate cannot reference unreleased version {since} of package [{name}] (current version {version})"
         )?;
@@ -86,7 +86,7 @@ impl<'a> Checker<'a> {
     }
 
     /// A note that is asked of an item there.
-    fn check_note(&self, note: &Stability, span: Span) -> ResolveResult<()>
+    fn check_gate(&self, note: &Stability, span: Span) -> ResolveResult<()>
         requires { Asks self.now note.now span }
         ensures met { OnOk result (IsMet self.now note.now) }
         ensures cause { IfErr result (MayRefuse self.now) }
@@ -101,10 +101,10 @@ impl<'a> Checker<'a> {
     /// A version with which an item came.
     fn check_since(&self, since: &Version, span: Span) -> ResolveResult<()>
         requires { (deprecated : Option Parts) × Asks self.now (Stable since.now deprecated) span }
-        ensures met { OnOk result (HasReached self.now.adding.handed.now.name.version since.now) }
+        ensures met { OnOk result (HasReached self.now.adding.unresolved.now.name.version since.now) }
         ensures cause { IfErr result (MayRefuse self.now) }
     {
-        match &self.adding.handed.name.version {
+        match &self.adding.unresolved.name.version {
             None => Err(self.without_version(span)?),
             Some(version) => {
                 if version < since {
@@ -115,15 +115,15 @@ impl<'a> Checker<'a> {
         }
     }
 
-    /// Several notes of one item there, up to the first that lets it take part.
-    fn check_notes(&self, notes: &Items<Stability>, span: Span) -> ResolveResult<()>
-        requires { Each (λ note. Asks self.now note span) (asked_notes self.now.adding.features.now notes.now) }
-        ensures met { OnOk result (Each (IsMet self.now) (asked_notes self.now.adding.features.now notes.now)) }
+    /// Several notes of one item there, up to the first that lets it be active.
+    fn check_gates(&self, notes: &Items<Stability>, span: Span) -> ResolveResult<()>
+        requires { Each (λ note. Asks self.now note span) (asked_gates self.now.adding.features.now notes.now) }
+        ensures met { OnOk result (Each (IsMet self.now) (asked_gates self.now.adding.features.now notes.now)) }
         ensures cause { IfErr result (MayRefuse self.now) }
     {
         for index in 0..notes.len() {
             let note = notes.at(index);
-            self.check_note(note, span)?;
+            self.check_gate(note, span)?;
             if self.is_active(note) {
                 return Ok(());
             }
@@ -131,26 +131,26 @@ impl<'a> Checker<'a> {
         Ok(())
     }
 
-    /// The notes of types, whoever owns them.
+    /// The gates of types, whoever owns them.
     fn check_types(&self) -> ResolveResult<()>
-        ensures met { OnOk result (Each (λ (def : TypeDef). IsMet self.now def.stability) self.now.adding.handed.now.types) }
+        ensures met { OnOk result (Each (λ (def : TypeDef). IsMet self.now def.stability) self.now.adding.unresolved.now.types) }
         ensures cause { IfErr result (MayRefuse self.now) }
     {
-        let types = &self.adding.handed.types;
+        let types = &self.adding.unresolved.types;
         for index in 0..types.len() {
             let def = types.at(index);
-            self.check_note(&def.stability, def.span)?;
+            self.check_gate(&def.stability, def.span)?;
         }
         Ok(())
     }
 
-    /// The notes of what is named of other packages.
+    /// The gates of what is named of other packages.
     fn check_packages(&self) -> ResolveResult<()>
-        requires { IsReady self.now }
-        ensures met { OnOk result (Each (MeetsForeign self.now) (foreign_items self.now.adding.handed.now.foreign_deps)) }
+        requires { IsCheckerReady self.now }
+        ensures met { OnOk result (Each (MeetsForeign self.now) (foreign_items self.now.adding.unresolved.now.foreign_deps)) }
         ensures cause { IfErr result (MayRefuse self.now) }
     {
-        for (_, items) in self.adding.handed.foreign_deps.iter() {
+        for (_, items) in self.adding.unresolved.foreign_deps.iter() {
             self.check_items(items)?;
         }
         Ok(())
@@ -158,13 +158,13 @@ impl<'a> Checker<'a> {
 
     /// Those of one other package.
     fn check_items(&self, items: &Names<(AstItem, Items<Stability>)>) -> ResolveResult<()>
-        requires ready { IsReady self.now }
-        requires named { Each (Contains (foreign_items self.now.adding.handed.now.foreign_deps)) items.now }
+        requires ready { IsCheckerReady self.now }
+        requires named { Each (Contains (foreign_items self.now.adding.unresolved.now.foreign_deps)) items.now }
         ensures met { OnOk result (Each (MeetsForeign self.now) items.now) }
         ensures cause { IfErr result (MayRefuse self.now) }
     {
         for (_, (item, notes)) in items.iter() {
-            self.check_notes(notes, self.span_of(*item))?;
+            self.check_gates(notes, self.span_of(*item))?;
         }
         Ok(())
     }
@@ -174,48 +174,48 @@ impl<'a> Checker<'a> {
         requires { IsThere self.now item }
         ensures { IsAt self.now item result }
     {
-        let handed = self.adding.handed;
+        let unresolved = self.adding.unresolved;
         match item {
-            AstItem::Interface(id) => handed.interfaces.at(id.index()).span,
-            AstItem::World(id) => handed.worlds.at(id.index()).span,
+            AstItem::Interface(id) => unresolved.interfaces.at(id.index()).span,
+            AstItem::World(id) => unresolved.worlds.at(id.index()).span,
         }
     }
 
-    /// The notes of the package's own interfaces.
+    /// The gates of the package's own interfaces.
     fn check_interfaces(&self) -> ResolveResult<()>
-        ensures met { OnOk result (EachAt (λ i (interface : Interface). length (foreign_interfaces self.now.adding.handed.now.foreign_deps) ≤ i → IsMet self.now interface.stability) self.now.adding.handed.now.interfaces) }
+        ensures met { OnOk result (EachAt (λ i (interface : Interface). length (foreign_interfaces self.now.adding.unresolved.now.foreign_deps) ≤ i → IsMet self.now interface.stability) self.now.adding.unresolved.now.interfaces) }
         ensures cause { IfErr result (MayRefuse self.now) }
     {
-        let handed = self.adding.handed;
-        let foreign = foreign_interfaces(self.alloc, &handed.foreign_deps)?.len();
-        for index in foreign..handed.interfaces.len() {
-            let interface = handed.interfaces.at(index);
-            self.check_note(&interface.stability, interface.span)?;
+        let unresolved = self.adding.unresolved;
+        let foreign = foreign_interfaces(self.alloc, &unresolved.foreign_deps)?.len();
+        for index in foreign..unresolved.interfaces.len() {
+            let interface = unresolved.interfaces.at(index);
+            self.check_gate(&interface.stability, interface.span)?;
         }
         Ok(())
     }
 
-    /// The notes of the package's own worlds.
+    /// The gates of the package's own worlds.
     fn check_worlds(&self) -> ResolveResult<()>
-        ensures met { OnOk result (EachAt (λ w (world : World). length (foreign_worlds self.now.adding.handed.now.foreign_deps) ≤ w → IsMet self.now world.stability) self.now.adding.handed.now.worlds) }
+        ensures met { OnOk result (EachAt (λ w (world : World). length (foreign_worlds self.now.adding.unresolved.now.foreign_deps) ≤ w → IsMet self.now world.stability) self.now.adding.unresolved.now.worlds) }
         ensures cause { IfErr result (MayRefuse self.now) }
     {
-        let handed = self.adding.handed;
-        let foreign = foreign_worlds(self.alloc, &handed.foreign_deps)?.len();
-        for index in foreign..handed.worlds.len() {
-            let world = handed.worlds.at(index);
-            self.check_note(&world.stability, world.span)?;
+        let unresolved = self.adding.unresolved;
+        let foreign = foreign_worlds(self.alloc, &unresolved.foreign_deps)?.len();
+        for index in foreign..unresolved.worlds.len() {
+            let world = unresolved.worlds.at(index);
+            self.check_gate(&world.stability, world.span)?;
         }
         Ok(())
     }
 
-    /// The notes of the functions of interfaces that take part.
+    /// The gates of the functions of interfaces that are active.
     fn check_functions_of_interfaces(&self) -> ResolveResult<()>
-        requires { IsReady self.now }
-        ensures met { OnOk result (EachAt (MeetsFunctions self.now) self.now.adding.handed.now.interfaces) }
+        requires { IsCheckerReady self.now }
+        ensures met { OnOk result (EachAt (MeetsFunctions self.now) self.now.adding.unresolved.now.interfaces) }
         ensures cause { IfErr result (MayRefuse self.now) }
     {
-        let interfaces = &self.adding.handed.interfaces;
+        let interfaces = &self.adding.unresolved.interfaces;
         for index in 0..interfaces.len() {
             if !flag_at(&self.activity.interfaces, index) {
                 continue;
@@ -225,25 +225,25 @@ impl<'a> Checker<'a> {
         Ok(())
     }
 
-    /// The notes of functions.
+    /// The gates of functions.
     fn check_functions(&self, functions: &Names<Function>) -> ResolveResult<()>
         requires { Each (λ (e : List ℕ × Function). Asks self.now e.1.stability e.1.span) functions.now }
         ensures met { OnOk result (Each (λ (e : List ℕ × Function). IsMet self.now e.1.stability) functions.now) }
         ensures cause { IfErr result (MayRefuse self.now) }
     {
         for (_, function) in functions.iter() {
-            self.check_note(&function.stability, function.span)?;
+            self.check_gate(&function.stability, function.span)?;
         }
         Ok(())
     }
 
-    /// The notes of the entries and the includes of worlds that take part.
+    /// The gates of the entries and the includes of worlds that are active.
     fn check_parts_of_worlds(&self) -> ResolveResult<()>
-        requires { IsReady self.now }
-        ensures met { OnOk result (EachAt (MeetsParts self.now) self.now.adding.handed.now.worlds) }
+        requires { IsCheckerReady self.now }
+        ensures met { OnOk result (EachAt (MeetsParts self.now) self.now.adding.unresolved.now.worlds) }
         ensures cause { IfErr result (MayRefuse self.now) }
     {
-        let worlds = &self.adding.handed.worlds;
+        let worlds = &self.adding.unresolved.worlds;
         for index in 0..worlds.len() {
             if !flag_at(&self.activity.worlds, index) {
                 continue;
@@ -256,7 +256,7 @@ impl<'a> Checker<'a> {
         Ok(())
     }
 
-    /// The notes of entries.
+    /// The gates of entries.
     fn check_entries(&self, entries: &Table<WorldKey, WorldItem>) -> ResolveResult<()>
         requires { Each (λ (e : Entry). AsksItem self.now e.1) entries.now }
         ensures met { OnOk result (Each (λ (e : Entry). MeetsItem self.now e.1) entries.now) }
@@ -268,7 +268,7 @@ impl<'a> Checker<'a> {
         Ok(())
     }
 
-    /// The note of an entry that has one of its own.
+    /// The gate of an entry that has one of its own.
     fn check_item(&self, item: &WorldItem) -> ResolveResult<()>
         requires { AsksItem self.now item.now }
         ensures met { OnOk result (MeetsItem self.now item.now) }
@@ -279,13 +279,13 @@ impl<'a> Checker<'a> {
                 stability,
                 span,
                 ..
-            } => self.check_note(stability, *span),
-            WorldItem::Function(function) => self.check_note(&function.stability, function.span),
+            } => self.check_gate(stability, *span),
+            WorldItem::Function(function) => self.check_gate(&function.stability, function.span),
             WorldItem::Type_ { .. } => Ok(()),
         }
     }
 
-    /// The notes of includes.
+    /// The gates of includes.
     fn check_includes(&self, includes: &Items<WorldInclude>) -> ResolveResult<()>
         requires { Each (λ (i : WorldInclude). Asks self.now i.stability i.span) includes.now }
         ensures met { OnOk result (Each (λ (i : WorldInclude). IsMet self.now i.stability) includes.now) }
@@ -293,7 +293,7 @@ impl<'a> Checker<'a> {
     {
         for index in 0..includes.len() {
             let include = includes.at(index);
-            self.check_note(&include.stability, include.span)?;
+            self.check_gate(&include.stability, include.span)?;
         }
         Ok(())
     }

@@ -5,12 +5,12 @@ use Rattle.wit_data.specs.declared.unresolved.AstItem.TheVariants as item
 use Rattle.wit_link_spec.specs.Addition.{Addition}
 use Rattle.wit_link_spec.specs.Lookup.{named_items}
 use Rattle.wit_link_spec.specs.steps.Passed.{IsAllFound}
-use Rattle.wit_link_foreign.specs.steps.Finding.{ArePackagesThere, AreThere, AreTypesThere}
+use Rattle.wit_link_foreign.specs.steps.ForeignItems.{ArePackagesThere, AreThere, AreTypesThere}
 
-pub all_found : (a : Addition) → AreThere a (named_items a.handed.foreign_deps) → ArePackagesThere a (length a.handed.foreign_deps) → AreTypesThere a (length a.handed.types) → IsAllFound a
+pub all_found : (a : Addition) → AreThere a (named_items a.unresolved.foreign_deps) → ArePackagesThere a (length a.unresolved.foreign_deps) → AreTypesThere a (length a.unresolved.types) → IsAllFound a
 all_found a there packages types = record {
-  packages = λ span requested known lacks. packages span requested known lacks (slice_get_within a.handed.foreign_deps lacks.at (requested, lacks.items) lacks.names);
+  packages = λ span requested known lacks. packages span requested known lacks (slice_get_within a.unresolved.foreign_deps lacks.at (requested, lacks.items) lacks.names);
   worlds = λ span requested home lacks. there.worlds (lacks.at, home, (requested, (item.World lacks.w, lacks.notes))) lacks.w lacks.names refl lacks.active lacks.absent;
   interfaces = λ span requested home lacks. there.interfaces (lacks.at, home, (requested, (item.Interface lacks.i, lacks.notes))) lacks.i lacks.names refl lacks.active lacks.absent;
-  types = λ span message lacks. types span message lacks (slice_get_within a.handed.types lacks.t lacks.def lacks.is);
+  types = λ span message lacks. types span message lacks (slice_get_within a.unresolved.types lacks.t lacks.def lacks.is);
 }

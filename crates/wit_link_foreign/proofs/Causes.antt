@@ -23,19 +23,19 @@ use Rattle.wit_graph_theory.specs.facts.ListFacts.{contained_at, some_at}
 use Rattle.wit_link_spec.specs.Addition.{Addition}
 use Rattle.wit_link_spec.specs.Cause.{IsCause, interface_not_found_3, package_not_found_1, type_not_defined_13, world_not_found_2}
 use Rattle.wit_link_spec.specs.CauseText.{type_not_defined_text}
-use Rattle.wit_link_spec.specs.facts.Found.{named_into}
-use Rattle.wit_link_spec.specs.Gates.{Place, interface_is_active, type_is_active, world_is_active}
-use Rattle.wit_link_spec.specs.Lookup.{found_interface, is_foreign_type, listed_type, named_items}
+use Rattle.wit_link_spec.specs.facts.ForeignFound.{named_into}
+use Rattle.wit_link_spec.specs.Gates.{OptionalSpan, interface_is_active, type_is_active, world_is_active}
+use Rattle.wit_link_spec.specs.Lookup.{foreign_interface_id, interface_type, is_foreign_type, named_items}
 use Rattle.wit_link_spec.specs.Reasons.{known_packages}
-use Rattle.wit_link_foreign.specs.steps.Finding.{ArePackagesThere, AreTypesThere, IsNamed, IsHome, IsTypeThere, interface_in, world_in}
+use Rattle.wit_link_foreign.specs.steps.ForeignItems.{ArePackagesThere, AreTypesThere, NamesItem, IsHome, IsTypeThere, interface_in, world_in}
 
 not_there : {X : Type 0} (o : Option X) → o ≡ None → is_some o ≡ true → ⊥
 not_there None none some = cc
 not_there (Some x) none some = cc
 
 -- 1
-pub package_missing : (a : Addition) (at : ℕ) (name : PackageName) (items : List ForeignItem) (s : Place) → slice_get a.handed.foreign_deps at ≡ Some (name, items) → items ≢ []
-    → lookup (same_package name) a.graph.package_names ≡ None → same_package a.handed.name name ≡ false → slice_get a.handed.foreign_dep_spans at ≡ Some s
+pub package_missing : (a : Addition) (at : ℕ) (name : PackageName) (items : List ForeignItem) (s : OptionalSpan) → slice_get a.unresolved.foreign_deps at ≡ Some (name, items) → items ≢ []
+    → lookup (same_package name) a.graph.package_names ≡ None → same_package a.unresolved.name name ≡ false → slice_get a.unresolved.foreign_dep_spans at ≡ Some s
     → IsCause a (PackageNotFound (moved_by a.offset s) name (known_packages a))
 package_missing a at name items s there some none other span =
     package_not_found_1 (moved_by a.offset s) name (known_packages a)
@@ -45,14 +45,14 @@ package_missing a at name items s there some none other span =
       names = there;
       some = some;
       absent = not_there (lookup (same_package name) a.graph.package_names) none;
-      other = λ same. false≢true (sym other ∙ ap (same_package a.handed.name) same ∙ own_name a.handed.name);
-      span_is = some_at (λ (p : Place). moved_by a.offset s ≡ moved_by a.offset p) a.handed.foreign_dep_spans at s span refl;
+      other = λ same. false≢true (sym other ∙ ap (same_package a.unresolved.name) same ∙ own_name a.unresolved.name);
+      span_is = some_at (λ (p : OptionalSpan). moved_by a.offset s ≡ moved_by a.offset p) a.unresolved.foreign_dep_spans at s span refl;
       known_are = refl;
     })
 
 -- 3
-pub interface_missing : (a : Addition) (name : PackageName) (home : Option ℕ) (requested : List ℕ) (i : ℕ) (interface : Interface) → IsNamed a name home requested (item.Interface i)
-    → interface_is_active a.features a.handed i ≡ true → interface_in a.graph home requested ≡ None → slice_get a.handed.interfaces i ≡ Some interface
+pub interface_missing : (a : Addition) (name : PackageName) (home : Option ℕ) (requested : List ℕ) (i : ℕ) (interface : Interface) → NamesItem a name home requested (item.Interface i)
+    → interface_is_active a.features a.unresolved i ≡ true → interface_in a.graph home requested ≡ None → slice_get a.unresolved.interfaces i ≡ Some interface
     → IsCause a (InterfaceNotFound (moved_by a.offset interface.span) requested name)
 interface_missing a name home requested i interface named active none at =
     interface_not_found_3 (moved_by a.offset interface.span) requested name
@@ -64,12 +64,12 @@ interface_missing a name home requested i interface named active none at =
       active = active;
       has_package = named.has_package;
       absent = ap (λ (h : Option ℕ). interface_in a.graph h requested) (sym named.home_is) ∙ none;
-      span_is = some_at (λ (x : Interface). moved_by a.offset interface.span ≡ moved_by a.offset x.span) a.handed.interfaces i interface at refl;
+      span_is = some_at (λ (x : Interface). moved_by a.offset interface.span ≡ moved_by a.offset x.span) a.unresolved.interfaces i interface at refl;
     })
 
 -- 2
-pub world_missing : (a : Addition) (name : PackageName) (home : Option ℕ) (requested : List ℕ) (w : ℕ) (world : World) → IsNamed a name home requested (item.World w)
-    → world_is_active a.features a.handed w ≡ true → world_in a.graph home requested ≡ None → slice_get a.handed.worlds w ≡ Some world
+pub world_missing : (a : Addition) (name : PackageName) (home : Option ℕ) (requested : List ℕ) (w : ℕ) (world : World) → NamesItem a name home requested (item.World w)
+    → world_is_active a.features a.unresolved w ≡ true → world_in a.graph home requested ≡ None → slice_get a.unresolved.worlds w ≡ Some world
     → IsCause a (WorldNotFound (moved_by a.offset world.span) requested name)
 world_missing a name home requested w world named active none at =
     world_not_found_2 (moved_by a.offset world.span) requested name
@@ -81,13 +81,13 @@ world_missing a name home requested w world named active none at =
       active = active;
       has_package = named.has_package;
       absent = ap (λ (h : Option ℕ). world_in a.graph h requested) (sym named.home_is) ∙ none;
-      span_is = some_at (λ (x : World). moved_by a.offset world.span ≡ moved_by a.offset x.span) a.handed.worlds w world at refl;
+      span_is = some_at (λ (x : World). moved_by a.offset world.span ≡ moved_by a.offset x.span) a.unresolved.worlds w world at refl;
     })
 
 -- 13
-pub type_missing : (a : Addition) (t : ℕ) (def : TypeDef) (name : List ℕ) (i i' : ℕ) (s : Place) → slice_get a.handed.types t ≡ Some def → is_foreign_type a.handed t ≡ true
-    → type_is_active a.features a.handed.types t ≡ true → def.name ≡ Some name → def.owner ≡ owner.Interface i → interface_is_active a.features a.handed i ≡ true
-    → found_interface a.graph a.handed i ≡ Some i' → listed_type a.graph name i' ≡ None → slice_get a.handed.unknown_type_spans t ≡ Some s
+pub type_missing : (a : Addition) (t : ℕ) (def : TypeDef) (name : List ℕ) (i i' : ℕ) (s : OptionalSpan) → slice_get a.unresolved.types t ≡ Some def → is_foreign_type a.unresolved t ≡ true
+    → type_is_active a.features a.unresolved.types t ≡ true → def.name ≡ Some name → def.owner ≡ owner.Interface i → interface_is_active a.features a.unresolved i ≡ true
+    → foreign_interface_id a.graph a.unresolved i ≡ Some i' → interface_type a.graph name i' ≡ None → slice_get a.unresolved.unknown_type_spans t ≡ Some s
     → IsCause a (Semantic (moved_by a.offset s) (type_not_defined_text name) TypeNotDefined)
 type_missing a t def name i i' s at foreign active called owned owner_active found absent span =
     type_not_defined_13 (moved_by a.offset s) (type_not_defined_text name)
@@ -105,7 +105,7 @@ type_missing a t def name i i' s at foreign active called owned owner_active fou
       owner_active = owner_active;
       found = found;
       absent = absent;
-      span_is = some_at (λ (p : Place). moved_by a.offset s ≡ moved_by a.offset p) a.handed.unknown_type_spans t s span refl;
+      span_is = some_at (λ (p : OptionalSpan). moved_by a.offset s ≡ moved_by a.offset p) a.unresolved.unknown_type_spans t s span refl;
       message_is = refl;
     })
 
@@ -119,7 +119,7 @@ pub packages-next : (a : Addition) (n : ℕ) (name : PackageName) (items : List 
 packages-next a n name items home old is span requested known lacks below = elim (below_or_same lacks.at n below) [
   | inl earlier ↦ old span requested known lacks earlier
   | inr same ↦
-      let one = same_entry (requested, lacks.items) (name, items) (sym lacks.names ∙ ap (slice_get a.handed.foreign_deps) same ∙ is.is) in
+      let one = same_entry (requested, lacks.items) (name, items) (sym lacks.names ∙ ap (slice_get a.unresolved.foreign_deps) same ∙ is.is) in
       let named : requested ≡ name = ap (λ (e : PackageName × List ForeignItem). e.0) one in
       let listed : lacks.items ≡ items = ap (λ (e : PackageName × List ForeignItem). e.1) one in
       elim (is.there (λ none. lacks.some (listed ∙ none))) [
@@ -138,16 +138,16 @@ types-next a n old is span message lacks below = elim (below_or_same lacks.t n b
 -- ---- where a package is
 
 -- the package that is added
-pub own_home : (a : Addition) (place : ℕ) (name : PackageName) (items : List ForeignItem) → slice_get a.handed.foreign_deps place ≡ Some (name, items) → same_package a.handed.name name ≡ true
+pub own_home : (a : Addition) (place : ℕ) (name : PackageName) (items : List ForeignItem) → slice_get a.unresolved.foreign_deps place ≡ Some (name, items) → same_package a.unresolved.name name ≡ true
     → IsHome a place name items None
 own_home a place name items there same = record {
   is = there;
   found = sym (ap (λ (b : Bool). if b then None else lookup (same_package name) a.graph.package_names) same);
-  there = λ some. inr (sym (same_name a.handed.name name same));
+  there = λ some. inr (sym (same_name a.unresolved.name name same));
 }
 
 -- one of the graph
-pub found_home : (a : Addition) (place : ℕ) (name : PackageName) (items : List ForeignItem) (p : ℕ) → slice_get a.handed.foreign_deps place ≡ Some (name, items) → same_package a.handed.name name ≡ false
+pub found_home : (a : Addition) (place : ℕ) (name : PackageName) (items : List ForeignItem) (p : ℕ) → slice_get a.unresolved.foreign_deps place ≡ Some (name, items) → same_package a.unresolved.name name ≡ false
     → lookup (same_package name) a.graph.package_names ≡ Some p → IsHome a place name items (Some p)
 found_home a place name items p there other found = record {
   is = there;
@@ -156,7 +156,7 @@ found_home a place name items p there other found = record {
 }
 
 -- one that isn't there, of which nothing is named
-pub no_home : (a : Addition) (place : ℕ) (name : PackageName) (items : List ForeignItem) → slice_get a.handed.foreign_deps place ≡ Some (name, items) → same_package a.handed.name name ≡ false
+pub no_home : (a : Addition) (place : ℕ) (name : PackageName) (items : List ForeignItem) → slice_get a.unresolved.foreign_deps place ≡ Some (name, items) → same_package a.unresolved.name name ≡ false
     → lookup (same_package name) a.graph.package_names ≡ None → length items ≡ 0 → IsHome a place name items None
 no_home a place name items there other none empty = record {
   is = there;
@@ -166,13 +166,13 @@ no_home a place name items there other none empty = record {
 
 -- an item of a package that is there
 pub is_named : (a : Addition) (place : ℕ) (name : PackageName) (items : List ForeignItem) (home : Option ℕ) (index : ℕ) (requested : List ℕ) (what : AstItem × List Stability) (it : AstItem)
-    → IsHome a place name items home → slice_get items index ≡ Some (requested, what) → what.0 ≡ it → IsNamed a name home requested it
+    → IsHome a place name items home → slice_get items index ≡ Some (requested, what) → what.0 ≡ it → NamesItem a name home requested it
 is_named a place name items home index requested what it is at kind =
     let has : Contains items (requested, what) = contained_at items index (requested, what) at in
     record {
       at = place;
       notes = what.1;
-      names = subst (λ (k : AstItem). Contains (named_items a.handed.foreign_deps) (place, name, (requested, (k, what.1)))) kind (named_into a.handed.foreign_deps place name items (requested, what) is.is has);
+      names = subst (λ (k : AstItem). Contains (named_items a.unresolved.foreign_deps) (place, name, (requested, (k, what.1)))) kind (named_into a.unresolved.foreign_deps place name items (requested, what) is.is has);
       home_is = is.found;
       has_package = is.there (λ empty. Contains-nil (subst (λ (l : List ForeignItem). Contains l (requested, what)) empty has));
     }

@@ -2,8 +2,8 @@ pub mod Assembled
 pub mod Causes
 pub mod Firsts
 pub mod FoundLists
-pub mod Going
 pub mod ItemSteps
 pub mod NamedItems
+pub mod Remapped
 pub mod Steps
 pub mod TypeSteps

@@ -4,18 +4,18 @@ ghost use Rattle.std.specs.List.{range_with_len};
 ghost use Rattle.wit_graph_data.specs.declared.error_kind.ResolveErrorKind.TheVariants.{OutOfMemory};
 ghost use Rattle.wit_data.specs.Shape.{IsShaped};
 ghost use Rattle.wit_data.specs.declared.unresolved.AstItem.TheVariants as item;
-ghost use Rattle.wit_link_spec.specs.steps.Adding.{activity_of, addition_of};
+ghost use Rattle.wit_link_spec.specs.steps.AdditionRefs.{activity_of, addition_of};
 ghost use Rattle.wit_link_spec.specs.Cause.{IsCause};
 ghost use Rattle.wit_link_spec.specs.Gates.{interface_is_active, world_is_active};
 ghost use Rattle.wit_link_spec.specs.Lookup.{named_items};
-ghost use Rattle.wit_link_foreign.specs.steps.Finding.{ArePackagesThere, AreThere, IsNamed, found_among, interface_in, named_before, world_in};
+ghost use Rattle.wit_link_foreign.specs.steps.ForeignItems.{ArePackagesThere, AreThere, NamesItem, found_among, interface_in, named_before, world_in};
 
 use crate::packages::{Home, find_home};
 use crate::refusal::{interface_not_found, world_not_found};
 use std::alloc::{AllocError, Global};
 use wit_data::{AstItem, InterfaceId, Items, PackageId, WorldId};
 use wit_graph_data::{Graph, ResolveResult};
-use wit_link_spec::{Activity, Adding};
+use wit_link_spec::{Activity, AdditionRef};
 
 /// Where the graph has the interfaces and the worlds of a package that are of other packages: an id for each,
 /// None for its own and for what isn't there.
@@ -26,23 +26,23 @@ pub(crate) struct Found {
 }
 
 /// Finds what a package names of other packages. Refused where a package isn't there (1), or a world (2) or an
-/// interface (3) that takes part.
+/// interface (3) that is active.
 pub(crate) fn find_foreign(
     alloc: Global,
-    adding: &Adding<'_>,
+    adding: &AdditionRef<'_>,
     activity: &Activity,
 ) -> ResolveResult<Found>
-    requires shaped { IsShaped adding.now.handed.now }
+    requires shaped { IsShaped adding.now.unresolved.now }
     requires activity { activity.now ≡ activity_of (addition_of adding.now) }
-    ensures found { IfOk result (λ found. found ≡ found_among (addition_of adding.now) (named_items adding.now.handed.now.foreign_deps)) }
-    ensures there { OnOk result (AreThere (addition_of adding.now) (named_items adding.now.handed.now.foreign_deps)) }
-    ensures packages { OnOk result (ArePackagesThere (addition_of adding.now) (length adding.now.handed.now.foreign_deps)) }
+    ensures found { IfOk result (λ found. found ≡ found_among (addition_of adding.now) (named_items adding.now.unresolved.now.foreign_deps)) }
+    ensures there { OnOk result (AreThere (addition_of adding.now) (named_items adding.now.unresolved.now.foreign_deps)) }
+    ensures packages { OnOk result (ArePackagesThere (addition_of adding.now) (length adding.now.unresolved.now.foreign_deps)) }
     ensures cause { IfErr result (λ kind. (kind ≡ OutOfMemory) ⊎ IsCause (addition_of adding.now) kind) }
 {
-    let interfaces = nothing(alloc, adding.handed.interfaces.len())?;
-    let worlds = nothing(alloc, adding.handed.worlds.len())?;
+    let interfaces = nothing(alloc, adding.unresolved.interfaces.len())?;
+    let worlds = nothing(alloc, adding.unresolved.worlds.len())?;
     let mut found = Found { interfaces, worlds };
-    for place in 0..adding.handed.foreign_deps.len() {
+    for place in 0..adding.unresolved.foreign_deps.len() {
         find_named(alloc, adding, activity, place, &mut found)?;
     }
     Ok(found)
@@ -62,19 +62,19 @@ fn nothing<T: Copy>(alloc: Global, count: usize) -> Result<Items<Option<T>>, All
 /// Finds what is named of the package at a place.
 fn find_named(
     alloc: Global,
-    adding: &Adding<'_>,
+    adding: &AdditionRef<'_>,
     activity: &Activity,
     place: usize,
     found: &mut Found,
 ) -> ResolveResult<()>
-    requires shaped { IsShaped adding.now.handed.now }
+    requires shaped { IsShaped adding.now.unresolved.now }
     requires activity { activity.now ≡ activity_of (addition_of adding.now) }
-    requires inside { place < length adding.now.handed.now.foreign_deps }
-    requires before { found.old ≡ found_among (addition_of adding.now) (named_before adding.now.handed.now.foreign_deps place) }
-    requires there { AreThere (addition_of adding.now) (named_before adding.now.handed.now.foreign_deps place) }
+    requires inside { place < length adding.now.unresolved.now.foreign_deps }
+    requires before { found.old ≡ found_among (addition_of adding.now) (named_before adding.now.unresolved.now.foreign_deps place) }
+    requires there { AreThere (addition_of adding.now) (named_before adding.now.unresolved.now.foreign_deps place) }
     requires packages { ArePackagesThere (addition_of adding.now) place }
-    ensures found { OnOk result (found.new ≡ found_among (addition_of adding.now) (named_before adding.now.handed.now.foreign_deps (place + 1))) }
-    ensures there { OnOk result (AreThere (addition_of adding.now) (named_before adding.now.handed.now.foreign_deps (place + 1))) }
+    ensures found { OnOk result (found.new ≡ found_among (addition_of adding.now) (named_before adding.now.unresolved.now.foreign_deps (place + 1))) }
+    ensures there { OnOk result (AreThere (addition_of adding.now) (named_before adding.now.unresolved.now.foreign_deps (place + 1))) }
     ensures packages { OnOk result (ArePackagesThere (addition_of adding.now) (place + 1)) }
     ensures cause { IfErr result (λ kind. (kind ≡ OutOfMemory) ⊎ IsCause (addition_of adding.now) kind) }
 {
@@ -95,49 +95,49 @@ fn find_named(
     Ok(())
 }
 
-/// Finds an interface. Refused where one that takes part isn't there.
+/// Finds an interface. Refused where one that is active isn't there.
 fn find_interface(
     alloc: Global,
-    adding: &Adding<'_>,
+    adding: &AdditionRef<'_>,
     activity: &Activity,
     home: &Home<'_>,
     requested: &str,
     id: InterfaceId,
 ) -> ResolveResult<Option<InterfaceId>>
-    requires shaped { IsShaped adding.now.handed.now }
+    requires shaped { IsShaped adding.now.unresolved.now }
     requires activity { activity.now ≡ activity_of (addition_of adding.now) }
-    requires named { IsNamed (addition_of adding.now) home.now.name.now home.now.id requested.now (item.Interface id) }
+    requires named { NamesItem (addition_of adding.now) home.now.name.now home.now.id requested.now (item.Interface id) }
     ensures found { IfOk result (λ there. there ≡ interface_in adding.now.graph.now home.now.id requested.now) }
-    ensures there { IfOk result (λ there. interface_is_active adding.now.features.now adding.now.handed.now id ≡ true → there ≢ None) }
+    ensures there { IfOk result (λ there. interface_is_active adding.now.features.now adding.now.unresolved.now id ≡ true → there ≢ None) }
     ensures cause { IfErr result (λ kind. (kind ≡ OutOfMemory) ⊎ IsCause (addition_of adding.now) kind) }
 {
     let there = interface_of(adding.graph, home.id, requested);
     if there.is_none() && *activity.interfaces.at(id.index()) {
-        let span = adding.handed.interfaces.at(id.index()).span;
+        let span = adding.unresolved.interfaces.at(id.index()).span;
         return Err(interface_not_found(alloc, adding, span, requested, home.name)?);
     }
     Ok(there)
 }
 
-/// Finds a world. Refused where one that takes part isn't there.
+/// Finds a world. Refused where one that is active isn't there.
 fn find_world(
     alloc: Global,
-    adding: &Adding<'_>,
+    adding: &AdditionRef<'_>,
     activity: &Activity,
     home: &Home<'_>,
     requested: &str,
     id: WorldId,
 ) -> ResolveResult<Option<WorldId>>
-    requires shaped { IsShaped adding.now.handed.now }
+    requires shaped { IsShaped adding.now.unresolved.now }
     requires activity { activity.now ≡ activity_of (addition_of adding.now) }
-    requires named { IsNamed (addition_of adding.now) home.now.name.now home.now.id requested.now (item.World id) }
+    requires named { NamesItem (addition_of adding.now) home.now.name.now home.now.id requested.now (item.World id) }
     ensures found { IfOk result (λ there. there ≡ world_in adding.now.graph.now home.now.id requested.now) }
-    ensures there { IfOk result (λ there. world_is_active adding.now.features.now adding.now.handed.now id ≡ true → there ≢ None) }
+    ensures there { IfOk result (λ there. world_is_active adding.now.features.now adding.now.unresolved.now id ≡ true → there ≢ None) }
     ensures cause { IfErr result (λ kind. (kind ≡ OutOfMemory) ⊎ IsCause (addition_of adding.now) kind) }
 {
     let there = world_of(adding.graph, home.id, requested);
     if there.is_none() && *activity.worlds.at(id.index()) {
-        let span = adding.handed.worlds.at(id.index()).span;
+        let span = adding.unresolved.worlds.at(id.index()).span;
         return Err(world_not_found(alloc, adding, span, requested, home.name)?);
     }
     Ok(there)

@@ -3,7 +3,7 @@
 
 mod foreign;
 mod lookup;
-mod next;
+mod new_ids;
 mod packages;
 mod refusal;
 mod types;

@@ -1,39 +1,39 @@
-//! Where the things of a package go that is added to a graph.
+//! What the things of a package are remapped to that is added to a graph.
 ghost use Rattle.std.specs.Prelude.{◌≡◌, ◌⊎◌, IfErr, IfOk, OnOk};
 ghost use Rattle.wit_graph_data.specs.declared.error_kind.ResolveErrorKind.TheVariants.{OutOfMemory};
 ghost use Rattle.wit_data.specs.Shape.{IsShaped};
-ghost use Rattle.wit_link_spec.specs.steps.Adding.{activity_of, addition_of, places_of};
+ghost use Rattle.wit_link_spec.specs.steps.AdditionRefs.{activity_of, addition_of, new_ids_of};
 ghost use Rattle.wit_link_spec.specs.Cause.{IsCause};
 ghost use Rattle.wit_link_spec.specs.steps.Passed.{IsAllFound};
 
 use crate::foreign::find_foreign;
-use crate::next::{interface_places, world_places};
-use crate::types::type_places;
+use crate::new_ids::{interface_ids, world_ids};
+use crate::types::type_ids;
 use std::alloc::Global;
 use wit_graph_data::ResolveResult;
-use wit_link_spec::{Activity, Adding, Places};
+use wit_link_spec::{Activity, AdditionRef, NewIds};
 
-/// Where the things of a package go: what is named of other packages to what the graph has under that name, its own to
-/// the next ids. The package has its shape, and what takes part of it is told by `activity` of wit_link_features.
+/// What the things of a package are remapped to: what is named of other packages to what the graph has under that name, its own to
+/// the next ids. The package has its shape, and what is active of it is told by `activity` of wit_link_features.
 ///
-/// Refused where a package of which something is named isn't there (1), or, of what takes part, a world (2), an
+/// Refused where a package of which something is named isn't there (1), or, of what is active, a world (2), an
 /// interface (3) or a type (13) of another package; the one that is added counts as there, and empty. Else it is
 /// refused for want of memory (28) alone. That is told too where a place that would be told ends past 4294967295, so
 /// the caller looks at the spans first.
 ///
 /// Source: `process_foreign_deps` of wit-parser 0.263.0.
-pub fn places(alloc: Global, adding: &Adding<'_>, activity: &Activity) -> ResolveResult<Places>
-    requires shaped { IsShaped adding.now.handed.now }
+pub fn places(alloc: Global, adding: &AdditionRef<'_>, activity: &Activity) -> ResolveResult<NewIds>
+    requires shaped { IsShaped adding.now.unresolved.now }
     requires activity { activity.now ≡ activity_of (addition_of adding.now) }
-    ensures places { IfOk result (λ places. places ≡ places_of (addition_of adding.now)) }
+    ensures places { IfOk result (λ places. places ≡ new_ids_of (addition_of adding.now)) }
     ensures found { OnOk result (IsAllFound (addition_of adding.now)) }
     ensures cause { IfErr result (λ kind. (kind ≡ OutOfMemory) ⊎ IsCause (addition_of adding.now) kind) }
 {
     let found = find_foreign(alloc, adding, activity)?;
-    let types = type_places(alloc, adding, activity, &found)?;
-    let interfaces = interface_places(alloc, adding, activity, &found)?;
-    let worlds = world_places(alloc, adding, activity, &found)?;
-    Ok(Places {
+    let types = type_ids(alloc, adding, activity, &found)?;
+    let interfaces = interface_ids(alloc, adding, activity, &found)?;
+    let worlds = world_ids(alloc, adding, activity, &found)?;
+    Ok(NewIds {
         types,
         interfaces,
         worlds,

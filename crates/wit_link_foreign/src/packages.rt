@@ -2,15 +2,15 @@
 ghost use Rattle.std.specs.Prelude.{◌≡◌, ◌⊎◌, ◌<◌, IfErr, IfOk, length};
 ghost use Rattle.wit_graph_data.specs.declared.error_kind.ResolveErrorKind.TheVariants.{OutOfMemory};
 ghost use Rattle.wit_data.specs.Shape.{IsShaped};
-ghost use Rattle.wit_link_spec.specs.steps.Adding.{addition_of};
+ghost use Rattle.wit_link_spec.specs.steps.AdditionRefs.{addition_of};
 ghost use Rattle.wit_link_spec.specs.Cause.{IsCause};
-ghost use Rattle.wit_link_foreign.specs.steps.Finding.{IsHome};
+ghost use Rattle.wit_link_foreign.specs.steps.ForeignItems.{IsHome};
 
 use crate::refusal::package_not_found;
 use std::alloc::Global;
 use wit_data::{AstItem, Items, Names, PackageId, PackageName, Stability};
 use wit_graph_data::ResolveResult;
-use wit_link_spec::Adding;
+use wit_link_spec::AdditionRef;
 
 /// A package of which something is named.
 #[derive(Drop)]
@@ -26,21 +26,21 @@ pub(crate) struct Home<'a> {
 /// of it is named.
 pub(crate) fn find_home<'a>(
     alloc: Global,
-    adding: &Adding<'a>,
+    adding: &AdditionRef<'a>,
     place: usize,
 ) -> ResolveResult<Home<'a>>
-    requires shaped { IsShaped adding.now.handed.now }
-    requires inside { place < length adding.now.handed.now.foreign_deps }
+    requires shaped { IsShaped adding.now.unresolved.now }
+    requires inside { place < length adding.now.unresolved.now.foreign_deps }
     ensures home { IfOk result (λ home. IsHome (addition_of adding.now) place home.name.now home.items.now home.id) }
     ensures cause { IfErr result (λ kind. (kind ≡ OutOfMemory) ⊎ IsCause (addition_of adding.now) kind) }
 {
-    let (name, items) = adding.handed.foreign_deps.entry_at(place);
+    let (name, items) = adding.unresolved.foreign_deps.entry_at(place);
     let id = match adding.graph.package_names.get(name) {
-        _ if adding.handed.name == *name => None,
+        _ if adding.unresolved.name == *name => None,
         Some(id) => Some(*id),
         None if items.is_empty() => None,
         None => {
-            let span = *adding.handed.foreign_dep_spans.at(place);
+            let span = *adding.unresolved.foreign_dep_spans.at(place);
             return Err(package_not_found(alloc, adding, span, name)?);
         }
     };

@@ -4,19 +4,19 @@ ghost use Rattle.std.specs.Map.{keys_of};
 ghost use Rattle.wit_sources.specs.Span.{moved_by};
 ghost use Rattle.wit_graph_data.specs.declared.cause.Cause.TheVariants.{TypeNotDefined};
 ghost use Rattle.wit_graph_data.specs.declared.error_kind.ResolveErrorKind.TheVariants.{InterfaceNotFound, PackageNotFound, Semantic, WorldNotFound};
-ghost use Rattle.wit_link_spec.specs.steps.Adding.{addition_of};
+ghost use Rattle.wit_link_spec.specs.steps.AdditionRefs.{addition_of};
 ghost use Rattle.wit_link_spec.specs.CauseText.{type_not_defined_text};
 ghost use Rattle.wit_link_spec.specs.Reasons.{known_packages};
 
 use std::alloc::{AllocError, Global};
 use wit_data::{Items, PackageName, Span, Text, TryClone};
 use wit_graph_data::{Cause, ResolveError, ResolveErrorKind};
-use wit_link_spec::Adding;
+use wit_link_spec::AdditionRef;
 
 /// 1: a package of which something is named isn't there.
 pub(crate) fn package_not_found(
     alloc: Global,
-    adding: &Adding<'_>,
+    adding: &AdditionRef<'_>,
     span: Span,
     requested: &PackageName,
 ) -> Result<ResolveError, AllocError>
@@ -36,7 +36,7 @@ pub(crate) fn package_not_found(
 /// 2: a world isn't in its package.
 pub(crate) fn world_not_found(
     alloc: Global,
-    adding: &Adding<'_>,
+    adding: &AdditionRef<'_>,
     span: Span,
     requested: &str,
     home: &PackageName,
@@ -57,7 +57,7 @@ pub(crate) fn world_not_found(
 /// 3: an interface isn't in its package.
 pub(crate) fn interface_not_found(
     alloc: Global,
-    adding: &Adding<'_>,
+    adding: &AdditionRef<'_>,
     span: Span,
     requested: &str,
     home: &PackageName,
@@ -78,7 +78,7 @@ pub(crate) fn interface_not_found(
 /// 13: a type isn't in its interface.
 pub(crate) fn type_not_defined(
     alloc: Global,
-    adding: &Adding<'_>,
+    adding: &AdditionRef<'_>,
     span: Span,
     name: &Text,
 ) -> Result<ResolveError, AllocError>
@@ -104,10 +104,10 @@ fn moved(span: Span, offset: u32) -> Result<Span, AllocError>
 
 /// The packages that are known: those of the graph in order, and the one that is added where the graph has none
 /// of its name.
-fn known(alloc: Global, adding: &Adding<'_>) -> Result<Items<PackageName>, AllocError>
+fn known(alloc: Global, adding: &AdditionRef<'_>) -> Result<Items<PackageName>, AllocError>
     ensures { IfOk result (λ known. known ≡ known_packages (addition_of adding.now)) }
 {
-    let own = &adding.handed.name;
+    let own = &adding.unresolved.name;
     let mut known = names(alloc, adding)?;
     if !adding.graph.package_names.contains_key(own) {
         known.push(own.try_clone()?)?;
@@ -116,7 +116,7 @@ fn known(alloc: Global, adding: &Adding<'_>) -> Result<Items<PackageName>, Alloc
 }
 
 /// The names of the packages of the graph, in order.
-fn names(alloc: Global, adding: &Adding<'_>) -> Result<Items<PackageName>, AllocError>
+fn names(alloc: Global, adding: &AdditionRef<'_>) -> Result<Items<PackageName>, AllocError>
     ensures { IfOk result (λ names. names ≡ keys_of adding.now.graph.now.package_names) }
 {
     let mut names = Items::new(alloc);

@@ -3,41 +3,41 @@ ghost use Rattle.std.specs.Prelude.{◌≡◌, ◌⊎◌, ◌<◌, ◌+◌, IfEr
 ghost use Rattle.std.specs.List.{range_with_len};
 ghost use Rattle.wit_graph_data.specs.declared.error_kind.ResolveErrorKind.TheVariants.{OutOfMemory};
 ghost use Rattle.wit_data.specs.Shape.{IsShaped};
-ghost use Rattle.wit_link_spec.specs.Addition.{own_type, taken_type};
-ghost use Rattle.wit_link_spec.specs.steps.Adding.{activity_of, addition_of};
+ghost use Rattle.wit_link_spec.specs.Addition.{active_type_id, own_type};
+ghost use Rattle.wit_link_spec.specs.steps.AdditionRefs.{activity_of, addition_of};
 ghost use Rattle.wit_link_spec.specs.Cause.{IsCause};
 ghost use Rattle.wit_link_spec.specs.Gates.{type_is_active};
-ghost use Rattle.wit_link_spec.specs.Lookup.{found_type, listed_type, named_items};
+ghost use Rattle.wit_link_spec.specs.Lookup.{foreign_type_id, interface_type, named_items};
 ghost use Rattle.wit_link_spec.specs.Ranks.{rank};
-ghost use Rattle.wit_link_foreign.specs.steps.Finding.{AreTypesThere, IsTypeThere, found_among};
+ghost use Rattle.wit_link_foreign.specs.steps.ForeignItems.{AreTypesThere, IsTypeThere, found_among};
 
 use crate::foreign::Found;
-use crate::next::next_place;
+use crate::new_ids::next_new_id;
 use crate::refusal::type_not_defined;
 use std::alloc::Global;
 use wit_data::{InterfaceId, Items, Text, TypeId, TypeOwner};
 use wit_graph_data::{Graph, ResolveResult};
-use wit_link_spec::{Activity, Adding};
+use wit_link_spec::{Activity, AdditionRef};
 
-/// Where the types go: what takes part goes to what is found of it, or, if it is the package's own, to the next
-/// id. Refused where a type of another package that takes part, as its interface does, isn't in that interface
+/// Where the types go: what is active goes to what is found of it, or, if it is the package's own, to the next
+/// id. Refused where a type of another package that is active, as its interface does, isn't in that interface
 /// (13).
-pub(crate) fn type_places(
+pub(crate) fn type_ids(
     alloc: Global,
-    adding: &Adding<'_>,
+    adding: &AdditionRef<'_>,
     activity: &Activity,
     found: &Found,
 ) -> ResolveResult<Items<Option<TypeId>>>
-    requires shaped { IsShaped adding.now.handed.now }
+    requires shaped { IsShaped adding.now.unresolved.now }
     requires activity { activity.now ≡ activity_of (addition_of adding.now) }
-    requires found { found.now ≡ found_among (addition_of adding.now) (named_items adding.now.handed.now.foreign_deps) }
-    ensures places { IfOk result (λ places. places ≡ map (taken_type (addition_of adding.now)) (range_with_len 0 (length adding.now.handed.now.types))) }
-    ensures there { OnOk result (AreTypesThere (addition_of adding.now) (length adding.now.handed.now.types)) }
+    requires found { found.now ≡ found_among (addition_of adding.now) (named_items adding.now.unresolved.now.foreign_deps) }
+    ensures places { IfOk result (λ places. places ≡ map (active_type_id (addition_of adding.now)) (range_with_len 0 (length adding.now.unresolved.now.types))) }
+    ensures there { OnOk result (AreTypesThere (addition_of adding.now) (length adding.now.unresolved.now.types)) }
     ensures cause { IfErr result (λ kind. (kind ≡ OutOfMemory) ⊎ IsCause (addition_of adding.now) kind) }
 {
     let mut places = Items::new(alloc);
     let mut next = adding.graph.types.len();
-    for t in 0..adding.handed.types.len() {
+    for t in 0..adding.unresolved.types.len() {
         places.push(type_place(alloc, adding, activity, found, t, &mut next)?)?;
     }
     Ok(places)
@@ -46,48 +46,48 @@ pub(crate) fn type_places(
 /// Where one type goes, and the next id behind it.
 fn type_place(
     alloc: Global,
-    adding: &Adding<'_>,
+    adding: &AdditionRef<'_>,
     activity: &Activity,
     found: &Found,
     t: usize,
     next: &mut usize,
 ) -> ResolveResult<Option<TypeId>>
-    requires shaped { IsShaped adding.now.handed.now }
+    requires shaped { IsShaped adding.now.unresolved.now }
     requires activity { activity.now ≡ activity_of (addition_of adding.now) }
-    requires found { found.now ≡ found_among (addition_of adding.now) (named_items adding.now.handed.now.foreign_deps) }
-    requires inside { t < length adding.now.handed.now.types }
+    requires found { found.now ≡ found_among (addition_of adding.now) (named_items adding.now.unresolved.now.foreign_deps) }
+    requires inside { t < length adding.now.unresolved.now.types }
     requires next { next.old ≡ length adding.now.graph.now.types + rank (own_type (addition_of adding.now)) t }
-    ensures place { IfOk result (λ place. place ≡ taken_type (addition_of adding.now) t) }
+    ensures place { IfOk result (λ place. place ≡ active_type_id (addition_of adding.now) t) }
     ensures next { OnOk result (next.new ≡ length adding.now.graph.now.types + rank (own_type (addition_of adding.now)) (t + 1)) }
     ensures there { OnOk result (IsTypeThere (addition_of adding.now) t) }
     ensures cause { IfErr result (λ kind. (kind ≡ OutOfMemory) ⊎ IsCause (addition_of adding.now) kind) }
 {
     let active = *activity.types.at(t);
-    if active && t < adding.handed.unknown_type_spans.len() {
+    if active && t < adding.unresolved.unknown_type_spans.len() {
         return foreign_type(alloc, adding, activity, found, t);
     }
-    Ok(next_place(active, None, next)?)
+    Ok(next_new_id(active, None, next)?)
 }
 
-/// Where the graph has a type of another package that takes part.
+/// Where the graph has a type of another package that is active.
 fn foreign_type(
     alloc: Global,
-    adding: &Adding<'_>,
+    adding: &AdditionRef<'_>,
     activity: &Activity,
     found: &Found,
     t: usize,
 ) -> ResolveResult<Option<TypeId>>
-    requires shaped { IsShaped adding.now.handed.now }
+    requires shaped { IsShaped adding.now.unresolved.now }
     requires activity { activity.now ≡ activity_of (addition_of adding.now) }
-    requires found { found.now ≡ found_among (addition_of adding.now) (named_items adding.now.handed.now.foreign_deps) }
-    requires inside { t < length adding.now.handed.now.types }
-    requires foreign { t < length adding.now.handed.now.unknown_type_spans }
-    requires active { type_is_active adding.now.features.now adding.now.handed.now.types t ≡ true }
-    ensures place { IfOk result (λ place. place ≡ found_type adding.now.graph.now adding.now.handed.now t) }
+    requires found { found.now ≡ found_among (addition_of adding.now) (named_items adding.now.unresolved.now.foreign_deps) }
+    requires inside { t < length adding.now.unresolved.now.types }
+    requires foreign { t < length adding.now.unresolved.now.unknown_type_spans }
+    requires active { type_is_active adding.now.features.now adding.now.unresolved.now.types t ≡ true }
+    ensures place { IfOk result (λ place. place ≡ foreign_type_id adding.now.graph.now adding.now.unresolved.now t) }
     ensures there { OnOk result (IsTypeThere (addition_of adding.now) t) }
     ensures cause { IfErr result (λ kind. (kind ≡ OutOfMemory) ⊎ IsCause (addition_of adding.now) kind) }
 {
-    let def = adding.handed.types.at(t);
+    let def = adding.unresolved.types.at(t);
     let Some(name) = &def.name else {
         return Ok(None);
     };
@@ -99,7 +99,7 @@ fn foreign_type(
     };
     let there = type_of(adding.graph, home, name);
     if there.is_none() && *activity.interfaces.at(owner.index()) {
-        let span = *adding.handed.unknown_type_spans.at(t);
+        let span = *adding.unresolved.unknown_type_spans.at(t);
         return Err(type_not_defined(alloc, adding, span, name)?);
     }
     Ok(there)
@@ -107,7 +107,7 @@ fn foreign_type(
 
 /// The type of this name in an interface, if there is one.
 fn type_of(graph: &Graph, home: InterfaceId, name: &Text) -> Option<TypeId>
-    ensures { result ≡ listed_type graph.now name.now home }
+    ensures { result ≡ interface_type graph.now name.now home }
 {
     let home = graph.interfaces.get(home.index())?;
     home.types.get(name.as_str()).copied()

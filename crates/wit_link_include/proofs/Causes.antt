@@ -17,7 +17,7 @@ use Rattle.wit_labels.specs.Setters.{IsSetter, LacksGetterAt, getter_label, plac
 use Rattle.wit_labels.specs.Strong.{Clashes}
 use Rattle.wit_link_spec.specs.CauseText.{clash_text, getter_text}
 use Rattle.wit_link_include.specs.steps.Finished.{CanFinish, IsFinishCause, conflict_4, no_getter_18, not_strongly_unique_17}
-use Rattle.wit_link_include.specs.steps.Labels.{IsLabelError, IsListError, LabelsAreFine, ListIsFine, alone, clash}
+use Rattle.wit_link_include.specs.steps.Labels.{IsLabelError, IsListError, LabelsAreAccepted, ListIsAccepted, alone, clash}
 
 -- ---- labels
 
@@ -69,14 +69,14 @@ conflict_cause g world OutOfMemory is = inl refl
 
 -- ---- a world that can be finished
 
-list_is : (world : World) (word : List ℕ) (entries : List Entry) → LabelsAreFine world → (((word ≡ codes "import") × (entries ≡ world.imports)) ⊎ ((word ≡ codes "export") × (entries ≡ world.exports))) → ListIsFine entries
-list_is world word entries fine (inl is) = subst (λ (l : List Entry). ListIsFine l) (sym is.1) fine.imports
-list_is world word entries fine (inr is) = subst (λ (l : List Entry). ListIsFine l) (sym is.1) fine.exports
+list_is : (world : World) (word : List ℕ) (entries : List Entry) → LabelsAreAccepted world → (((word ≡ codes "import") × (entries ≡ world.imports)) ⊎ ((word ≡ codes "export") × (entries ≡ world.exports))) → ListIsAccepted entries
+list_is world word entries fine (inl is) = subst (λ (l : List Entry). ListIsAccepted l) (sym is.1) fine.imports
+list_is world word entries fine (inr is) = subst (λ (l : List Entry). ListIsAccepted l) (sym is.1) fine.exports
 
-none : (g : Graph) (world : World) → LabelsAreFine world → (HasConflict (graph_uses g) (placed world.exports) → ⊥) → (kind : ResolveErrorKind) → IsFinishCause g world kind → ⊥
+none : (g : Graph) (world : World) → LabelsAreAccepted world → (HasConflict (graph_uses g) (placed world.exports) → ⊥) → (kind : ResolveErrorKind) → IsFinishCause g world kind → ⊥
 none g world fine no_conflict _ (conflict_4 name is) = no_conflict is.conflict
 none g world fine no_conflict _ (not_strongly_unique_17 word n m is) = (list_is world word is.entries fine is.list).unique n m is.clash
 none g world fine no_conflict _ (no_getter_18 word label f is) = is.absent ((list_is world word is.entries fine is.list).getters (key.Name label, item.Function f) label is.setter.0 is.setter.1)
 
-pub can_finish : (g : Graph) (world : World) → LabelsAreFine world → (HasConflict (graph_uses g) (placed world.exports) → ⊥) → CanFinish g world
+pub can_finish : (g : Graph) (world : World) → LabelsAreAccepted world → (HasConflict (graph_uses g) (placed world.exports) → ⊥) → CanFinish g world
 can_finish g world fine no_conflict = record { no_cause = none g world fine no_conflict; no_conflict = no_conflict }

@@ -7,7 +7,7 @@ use Rattle.std.specs.Option.{option_map_or}
 use Rattle.wit_values.specs.facts.Lists.{AllByRecursion-at, differ, slice_get-behind}
 use Rattle.wit_values.specs.Table.{HasDistinctKeys}
 use Rattle.wit_sources.specs.Span.{moved_by}
-use Rattle.wit_data.specs.Entries.{Entry, IsExport, is_unnamed, placed_interfaces}
+use Rattle.wit_data.specs.Entries.{Entry, IsExport, interfaces_in_worlds, is_unnamed}
 use Rattle.wit_data.specs.Ownership.{IsNamed}
 use Rattle.wit_data.specs.Reference.{type_references}
 use Rattle.wit_data.specs.declared.interface.Interface.{Interface}
@@ -29,15 +29,15 @@ use Rattle.wit_graph_data.specs.declared.graph.Graph.{Graph}
 use Rattle.wit_graph_theory.specs.facts.Good.{IsGoodWorld}
 use Rattle.wit_graph_theory.specs.Image.{Maps, entry_image, item_image, key_image}
 use Rattle.wit_graph_theory.specs.facts.ListFacts.{Contains-map, Contains-map_cases, contained_at, found_at, from_map, place_of, same_at}
-use Rattle.wit_labels.specs.Rename.{renamed}
+use Rattle.wit_labels.specs.Rename.{renamed_label}
 use Rattle.wit_link_spec.specs.CauseText.{rename_text}
-use Rattle.wit_link_spec.specs.Include.{Begun, Lists, copy_maps, goes_with, include_stability, interface_copy, is_other_package, is_owned_with, joined, lists_of, with_copies, with_world_included}
+use Rattle.wit_link_spec.specs.Include.{EntryLists, PartiallyLinked, belongs_to, copy_maps, include_stability, interface_copy, is_other_package, is_owned_within, joined_entries, lists_of, with_copies, with_world_included}
 use Rattle.wit_link_spec.specs.WorldReasons.{Disagree, HasStability, IsListCalled, IsShadowed, renamed_key}
 use Rattle.wit_link_laws.specs.laws.StageFacts.{CanInclude}
 use Rattle.wit_link_include.specs.steps.Copied.{StayApart}
 use Rattle.wit_link_include.specs.steps.Joined.{CanJoin, ComeOnce, IsJoinCause, StandsWith, item_shadowing_7, stability_mismatch_8}
 use Rattle.wit_link_include.specs.steps.Renamed.{AreRenamed, IsFirstUnmatched}
-use Rattle.wit_link_include.specs.steps.Included.{HaveOwnKeys, IncludeIsFine, IsIncludeCause, IsIncluded, before_includes, mismatch_8, rename_unmatched_16, shadowing_7, with_lists, with_one}
+use Rattle.wit_link_include.specs.steps.Included.{HasNoIncludeCause, HaveOwnKeys, IsIncludeCause, IsIncluded, before_includes, mismatch_8, rename_unmatched_16, shadowing_7, with_lists, with_one}
 
 -- ---- a list of a good world
 
@@ -60,7 +60,7 @@ export_named interfaces f (item.Type_ t span) is = absurd is
 -- ---- what is brought
 
 module _ (g : Graph) (from : ℕ) (old : World) (names : List IncludeName) (into home : ℕ) where
-  -- where things go
+  -- what things are remapped to
   abbrev pub go : Maps
   go = copy_maps g from old names into home
 
@@ -72,12 +72,12 @@ module _ (g : Graph) (from : ℕ) (old : World) (names : List IncludeName) (into
   named_stays f named =
       let at = found_at (λ (interface : Interface). is_some interface.name ≡ true) g.interfaces f named in
       let none : is_unnamed g.interfaces f ≡ false = ap (λ (o : Option Interface). option_map_or (λ (interface : Interface). not (is_some interface.name)) o false) at.1 ∙ ap not at.2 in
-      let stays : goes_with g old f ≡ false = ap (λ (b : Bool). b && list_any (nat_eq f) (placed_interfaces (old ∷ []))) none in
+      let stays : belongs_to g old f ≡ false = ap (λ (b : Bool). b && list_any (nat_eq f) (interfaces_in_worlds (old ∷ []))) none in
       rw stays refl
 
-  key_goes : (entries : List Entry) → IsKeyed g.interfaces entries → (i : ℕ) (k : WorldKey) (held : WorldItem) → slice_get entries i ≡ Some (k, held) → key_image go from k ≡ renamed_key names k
-  key_goes entries keyed i (key.Name label) held at = ap (λ (b : Bool). key.Name (if b then renamed names label else label)) (nat_eq_equiv.refl from)
-  key_goes entries keyed i (key.Interface f) held at = ap key.Interface (named_stays f (export_named g.interfaces f held (keyed.exports i f held at)))
+  key_remapped : (entries : List Entry) → IsKeyed g.interfaces entries → (i : ℕ) (k : WorldKey) (held : WorldItem) → slice_get entries i ≡ Some (k, held) → key_image go from k ≡ renamed_key names k
+  key_remapped entries keyed i (key.Name label) held at = ap (λ (b : Bool). key.Name (if b then renamed_label names label else label)) (nat_eq_equiv.refl from)
+  key_remapped entries keyed i (key.Interface f) held at = ap key.Interface (named_stays f (export_named g.interfaces f held (keyed.exports i f held at)))
 
   keys_mapped : (f : Entry → Entry) (h : Entry → WorldKey) (xs : List Entry) → ((i : ℕ) (e : Entry) → slice_get xs i ≡ Some e → (f e).0 ≡ h e) → keys_of (map f xs) ≡ map h xs
   keys_mapped f h [] each = refl
@@ -85,12 +85,12 @@ module _ (g : Graph) (from : ℕ) (old : World) (names : List IncludeName) (into
 
   -- the keys that are brought are the renamed ones
   pub brought_keys : (entries : List Entry) → IsKeyed g.interfaces entries → keys_of (bring entries) ≡ map (λ (e : Entry). renamed_key names e.0) entries
-  brought_keys entries keyed = keys_mapped (entry_image go from) (λ (e : Entry). renamed_key names e.0) entries (λ i e at. key_goes entries keyed i e.0 e.1 at)
+  brought_keys entries keyed = keys_mapped (entry_image go from) (λ (e : Entry). renamed_key names e.0) entries (λ i e at. key_remapped entries keyed i e.0 e.1 at)
 
   -- the key of an interface that is brought was there
   key_was : (entries : List Entry) → IsKeyed g.interfaces entries → (i : ℕ) (k : WorldKey) (held : WorldItem) (n : ℕ) → slice_get entries i ≡ Some (k, held) → key_image go from k ≡ key.Interface n → k ≡ key.Interface n
   key_was entries keyed i (key.Name label) held n at same = cc
-  key_was entries keyed i (key.Interface f) held n at same = sym (key_goes entries keyed i (key.Interface f) held at) ∙ same
+  key_was entries keyed i (key.Interface f) held n at same = sym (key_remapped entries keyed i (key.Interface f) held at) ∙ same
 
   pub come_once : (entries : List Entry) → IsKeyed g.interfaces entries → ComeOnce (bring entries)
   come_once entries keyed i j n v w first second =
@@ -199,7 +199,7 @@ pub record ListsJoin (g : Graph) (include : WorldInclude) (old world : World) (h
   pub names : AreRenamed old include.names
 
 -- one of the two lists, whichever the word means
-both : (P : List Entry → List Entry → Type 0) (now old : Lists) (word : List ℕ) (current brought : List Entry) → IsListCalled word now current → IsListCalled word old brought → P now.imports old.imports → P now.exports old.exports → P current brought
+both : (P : List Entry → List Entry → Type 0) (now old : EntryLists) (word : List ℕ) (current brought : List Entry) → IsListCalled word now current → IsListCalled word old brought → P now.imports old.imports → P now.exports old.exports → P current brought
 both P now old word current brought (inl a) (inl b) imports exports = subst (λ (x : List Entry). P x brought) (sym a.1) (subst (P now.imports) (sym b.1) imports)
 both P now old word current brought (inl a) (inr b) imports exports = absurd (words_differ (sym a.0 ∙ b.0))
 both P now old word current brought (inr a) (inl b) imports exports = absurd (words_differ (sym b.0 ∙ a.0))
@@ -219,10 +219,10 @@ not_a_cause g include old world home good join _ (mismatch_8 brings has is) =
 not_a_cause g include old world home good join _ (rename_unmatched_16 name is) =
     is.unmatched (join.names (length is.before) name (subst (λ (l : List IncludeName). slice_get l (length is.before) ≡ Some name) (sym is.are) (slice_get-behind is.before is.after name)))
 
--- so nothing speaks against it
-pub include_is_fine : (g : Graph) (include : WorldInclude) (old world : World) (home : ℕ) → slice_get g.worlds include.id ≡ Some old → IsGoodWorld g.types g.interfaces include.id old → ListsJoin g include old world home
-    → IncludeIsFine home (before_includes g world) include
-include_is_fine g include old world home at good join other there kind is =
+-- so no cause holds against it
+pub include_is_accepted : (g : Graph) (include : WorldInclude) (old world : World) (home : ℕ) → slice_get g.worlds include.id ≡ Some old → IsGoodWorld g.types g.interfaces include.id old → ListsJoin g include old world home
+    → HasNoIncludeCause home (before_includes g world) include
+include_is_accepted g include old world home at good join other there kind is =
     not_a_cause g include old world home good join kind (subst (λ (w : World). IsIncludeCause home (before_includes g world) include w kind) (same_at g.worlds include.id include.id other old refl there at) is)
 
 -- ---- what it asks of the graph
@@ -247,8 +247,8 @@ stay_apart g from old can t o named apart reaches = by (slice_get g.types t) ref
     nowhere [] none is = is
     nowhere (k ∷ path) none is = absurd (no-place k (subst (λ (l : List ℕ). Contains l k) (direct_none g.types t none) is.0))
 
-    by : (found : Option TypeDef) → slice_get g.types t ≡ found → is_owned_with g from old o ≡ false
-    by None none = subst (λ (x : ℕ). is_owned_with g from old x ≡ false) (nowhere reaches.0 none reaches.1) apart
+    by : (found : Option TypeDef) → slice_get g.types t ≡ found → is_owned_within g from old o ≡ false
+    by None none = subst (λ (x : ℕ). is_owned_within g from old x ≡ false) (nowhere reaches.0 none reaches.1) apart
     by (Some def) at =
         let called : not (is_some def.name) ≡ false = sym (ap (λ (d : Option TypeDef). option_map_or (λ (x : TypeDef). not (is_some x.name)) d false) at) ∙ named in
         can.apart t o def at (not_false (is_some def.name) called) apart reaches
@@ -272,22 +272,22 @@ one_is g include home world old at =
 
 module _ (g : Graph) (include : WorldInclude) (home : ℕ) (world : World) (g' : Graph) (imports exports : List Entry) (other : Bool) (step : IsStep g include home g' imports exports other) where
   pub step_graph : g' ≡ (with_one home (before_includes g world) include).graph
-  step_graph = step.graph ∙ sym (ap (λ (b : Begun). b.graph) (one_is g include home world step.old step.at))
+  step_graph = step.graph ∙ sym (ap (λ (b : PartiallyLinked). b.graph) (one_is g include home world step.old step.at))
 
-  pub step_world : (new : World) → new ≡ record world { imports = joined other world.imports imports; exports = joined other world.exports exports }
+  pub step_world : (new : World) → new ≡ record world { imports = joined_entries other world.imports imports; exports = joined_entries other world.exports exports }
       → new ≡ with_lists world (with_one home (before_includes g world) include).lists
   step_world new is =
-      is ∙ ap (λ (l : List Entry). record world { imports = joined other world.imports l; exports = joined other world.exports exports }) step.imports_are
-      ∙ ap (λ (l : List Entry). record world { imports = joined other world.imports (bring g include.id step.old include.names (length g.worlds) home step.old.imports); exports = joined other world.exports l }) step.exports_are
-      ∙ ap (λ (b : Bool). record world { imports = joined b world.imports (bring g include.id step.old include.names (length g.worlds) home step.old.imports); exports = joined b world.exports (bring g include.id step.old include.names (length g.worlds) home step.old.exports) }) step.other_is
-      ∙ sym (ap (λ (b : Begun). with_lists world b.lists) (one_is g include home world step.old step.at))
+      is ∙ ap (λ (l : List Entry). record world { imports = joined_entries other world.imports l; exports = joined_entries other world.exports exports }) step.imports_are
+      ∙ ap (λ (l : List Entry). record world { imports = joined_entries other world.imports (bring g include.id step.old include.names (length g.worlds) home step.old.imports); exports = joined_entries other world.exports l }) step.exports_are
+      ∙ ap (λ (b : Bool). record world { imports = joined_entries b world.imports (bring g include.id step.old include.names (length g.worlds) home step.old.imports); exports = joined_entries b world.exports (bring g include.id step.old include.names (length g.worlds) home step.old.exports) }) step.other_is
+      ∙ sym (ap (λ (b : PartiallyLinked). with_lists world b.lists) (one_is g include home world step.old step.at))
 
   told_of : (P : Bool → List Entry → Type 0) (l l' : List Entry) → l ≡ l' → P other l → P (is_other_package step.old.package home) l'
   told_of P l l' same p = subst (λ (b : Bool). P b l') step.other_is (subst (P other) same p)
 
-  pub step_fine : (old : World) → slice_get g.worlds include.id ≡ Some old → AreRenamed old include.names → CanJoin other world.imports imports → CanJoin other world.exports exports → IncludeIsFine home (before_includes g world) include
+  pub step_fine : (old : World) → slice_get g.worlds include.id ≡ Some old → AreRenamed old include.names → CanJoin other world.imports imports → CanJoin other world.exports exports → HasNoIncludeCause home (before_includes g world) include
   step_fine old at names of_imports of_exports =
-      include_is_fine g include step.old world home step.at step.good (record {
+      include_is_accepted g include step.old world home step.at step.good (record {
         imports = told_of (λ (b : Bool) (l : List Entry). CanJoin b world.imports l) imports _ step.imports_are of_imports;
         exports = told_of (λ (b : Bool) (l : List Entry). CanJoin b world.exports l) exports _ step.exports_are of_exports;
         names = subst (λ (w : World). AreRenamed w include.names) (same_at g.worlds include.id include.id old step.old refl at step.at) names;
@@ -330,11 +330,11 @@ brought_is m m' from from' entries entries' new maps froms same is =
 -- what the calls of an include answer, from the number of the world that includes on: the maps and the origin of the copies, the
 -- world as it is there again, and its entries under the maps
 module _ (g : Graph) (include : WorldInclude) (home into : ℕ) (old again : World) (g' : Graph) (m : Maps) (from : ℕ) (imports exports : List Entry) (other : Bool) where
-  pub answered : slice_get g.worlds include.id ≡ Some old → IsGoodWorld g.types g.interfaces include.id old → into ≡ length g.worlds
+  pub entries_by_answer : slice_get g.worlds include.id ≡ Some old → IsGoodWorld g.types g.interfaces include.id old → into ≡ length g.worlds
       → g' ≡ with_copies g include.id old (go g include.id old include.names into home) → m ≡ go g include.id old include.names into home → from ≡ include.id
       → slice_get g'.worlds include.id ≡ Some again → imports ≡ map (entry_image m from) again.imports → exports ≡ map (entry_image m from) again.exports → other ≡ is_other_package again.package home
       → IsStep g include home g' imports exports other
-  answered at good into_is copied maps froms there imports_are exports_are other_is =
+  entries_by_answer at good into_is copied maps froms there imports_are exports_are other_is =
       let maps_now : Maps = go g include.id old include.names (length g.worlds) home in
       let graph_is : g' ≡ with_copies g include.id old maps_now = copied ∙ ap (λ (n : ℕ). with_copies g include.id old (go g include.id old include.names n home)) into_is in
       let maps_are : m ≡ maps_now = maps ∙ ap (λ (n : ℕ). go g include.id old include.names n home) into_is in

@@ -21,8 +21,8 @@ use Rattle.wit_elaboration.specs.Entries as graph
 use Rattle.wit_graph_data.specs.declared.error_kind.ResolveErrorKind.{ResolveErrorKind}
 use Rattle.wit_graph_data.specs.declared.error_kind.ResolveErrorKind.TheVariants.{ItemShadowing}
 use Rattle.wit_graph_theory.specs.facts.ListFacts.{Contains-map, contained_at, from_map, old_or_new, place_of}
-use Rattle.wit_link_spec.specs.Gates.{Place}
-use Rattle.wit_link_spec.specs.Include.{has_key, include_stability, joined, joined_entry, joined_item, new_item}
+use Rattle.wit_link_spec.specs.Gates.{OptionalSpan}
+use Rattle.wit_link_spec.specs.Include.{has_key, include_stability, joined_entries, joined_entry, joined_item, new_item}
 use Rattle.wit_link_spec.specs.WorldReasons.{Disagree, IsShadowed}
 use Rattle.wit_link_include.specs.steps.Joined.{CanJoin, ComeOnce, IsItemError, IsJoinCause, ItemsAgree, StabilitiesDiffer, StandsWith, item_shadowing_7, stability_mismatch_8}
 use Rattle.wit_link_include.proofs.Keys.{Lacks, has_key-has, has_key-lacks, key_there, lacks-head, lacks-tail, lookup-lacks, lookup-last, lookup-other, under_key}
@@ -74,26 +74,26 @@ comes-key other current (e ∷ es) k lacks has =
         rw absent (Contains-append_left (e.0 ∷ []) (keys_of (coming other current es)) k (contained_at (e.0 ∷ []) 0 k at))
     head (suc i) at = cc
 
-keys-joined : (other : Bool) (current brought : List Entry) → keys_of (joined other current brought) ≡ keys_of current ++ keys_of (coming other current brought)
-keys-joined other current brought =
+keys-joined_entries : (other : Bool) (current brought : List Entry) → keys_of (joined_entries other current brought) ≡ keys_of current ++ keys_of (coming other current brought)
+keys-joined_entries other current brought =
     map-append (λ (e : Entry). e.0) (map (joined_entry other brought) current) (coming other current brought) ∙ ap (λ (ks : List WorldKey). ks ++ keys_of (coming other current brought)) (kept-keys other brought current)
 
 -- a key of a joined list was there or came
-pub joined-key : (other : Bool) (current brought : List Entry) (k : WorldKey) → Contains (keys_of (joined other current brought)) k → Contains (keys_of current ++ keys_of brought) k
-joined-key other current brought k has =
-    elim (Contains-append_cases (keys_of current) (keys_of (coming other current brought)) k (subst (λ (ks : List WorldKey). Contains ks k) (keys-joined other current brought) has)) [
+pub joined_entries-key : (other : Bool) (current brought : List Entry) (k : WorldKey) → Contains (keys_of (joined_entries other current brought)) k → Contains (keys_of current ++ keys_of brought) k
+joined_entries-key other current brought k has =
+    elim (Contains-append_cases (keys_of current) (keys_of (coming other current brought)) k (subst (λ (ks : List WorldKey). Contains ks k) (keys-joined_entries other current brought) has)) [
       | inl old ↦ Contains-append_left (keys_of current) (keys_of brought) k old
       | inr new ↦ Contains-append_right (keys_of current) (keys_of brought) k (coming-key other current brought k new)
     ]
 
 -- and what was there or came is there
-pub lacks-current : (other : Bool) (current brought : List Entry) (k : WorldKey) → Lacks (joined other current brought) k → Lacks current k
+pub lacks-current : (other : Bool) (current brought : List Entry) (k : WorldKey) → Lacks (joined_entries other current brought) k → Lacks current k
 lacks-current other current brought k lacks has =
-    lacks (subst (λ (ks : List WorldKey). Contains ks k) (sym (keys-joined other current brought)) (Contains-append_left (keys_of current) (keys_of (coming other current brought)) k has))
+    lacks (subst (λ (ks : List WorldKey). Contains ks k) (sym (keys-joined_entries other current brought)) (Contains-append_left (keys_of current) (keys_of (coming other current brought)) k has))
 
-pub lacks-brought : (other : Bool) (current brought : List Entry) (k : WorldKey) → Lacks (joined other current brought) k → Lacks brought k
+pub lacks-brought : (other : Bool) (current brought : List Entry) (k : WorldKey) → Lacks (joined_entries other current brought) k → Lacks brought k
 lacks-brought other current brought k lacks has =
-    lacks (subst (λ (ks : List WorldKey). Contains ks k) (sym (keys-joined other current brought))
+    lacks (subst (λ (ks : List WorldKey). Contains ks k) (sym (keys-joined_entries other current brought))
     (Contains-append_right (keys_of current) (keys_of (coming other current brought)) k (comes-key other current brought k (lacks-current other current brought k lacks) has)))
 
 -- ---- one entry more, under a new key
@@ -104,9 +104,9 @@ map-other other brought k v (e ∷ es) lacks =
     let apart : e.0 ≡ k → ⊥ = λ (same : e.0 ≡ k). lacks-head k e es lacks (sym same) in
     rw (lookup-other e.0 k v brought apart, map-other other brought k v es (lacks-tail k e es lacks)) refl
 
-pub joined-new : (other : Bool) (current brought : List Entry) (k : WorldKey) (v : WorldItem) → Lacks (joined other current brought) k
-    → joined other current (brought ++ (k, v) ∷ []) ≡ joined other current brought ++ (k, new_item other k v) ∷ []
-joined-new other current brought k v lacks =
+pub joined_entries-new : (other : Bool) (current brought : List Entry) (k : WorldKey) (v : WorldItem) → Lacks (joined_entries other current brought) k
+    → joined_entries other current (brought ++ (k, v) ∷ []) ≡ joined_entries other current brought ++ (k, new_item other k v) ∷ []
+joined_entries-new other current brought k v lacks =
     let lacked = lacks-current other current brought k lacks in
     let old = map-other other brought k v current lacked in
     let split = filter-append (λ (e : Entry). not (has_key current e.0)) brought ((k, v) ∷ []) in
@@ -162,7 +162,7 @@ set-there other brought k v (e ∷ es) fs (suc i) into lacks lacked distinct at 
     (ap (λ (ds : List Entry). joined_entry other brought e ∷ ds) (set-there other brought k v es fs i into lacks lacked distinct.1 at))
 
 -- what is at a place of a joined list under a key that didn't come was there
-pub there-before : (other : Bool) (current brought : List Entry) (k : WorldKey) (into : WorldItem) (i : ℕ) → Lacks brought k → slice_get (joined other current brought) i ≡ Some (k, into) → Contains current (k, into)
+pub there-before : (other : Bool) (current brought : List Entry) (k : WorldKey) (into : WorldItem) (i : ℕ) → Lacks brought k → slice_get (joined_entries other current brought) i ≡ Some (k, into) → Contains current (k, into)
 there-before other current brought k into i lacks at =
     elim (old_or_new (map (joined_entry other brought) current) (coming other current brought) i (k, into) at) [
       | inl old ↦
@@ -171,9 +171,9 @@ there-before other current brought k into i lacks at =
       | inr new ↦ absurd (lacks (coming-key other current brought k (key_there (coming other current brought) new.0 k into new.2)))
     ]
 
-pub joined-there : (other : Bool) (current brought : List Entry) (k : WorldKey) (v into : WorldItem) (i : ℕ) → Lacks brought k → IsDistinct same_key (keys_of (joined other current brought))
-    → slice_get (joined other current brought) i ≡ Some (k, into) → joined other current (brought ++ (k, v) ∷ []) ≡ set_value_at (joined other current brought) i (joined_item other v into)
-joined-there other current brought k v into i lacks distinct at =
+pub joined_entries-there : (other : Bool) (current brought : List Entry) (k : WorldKey) (v into : WorldItem) (i : ℕ) → Lacks brought k → IsDistinct same_key (keys_of (joined_entries other current brought))
+    → slice_get (joined_entries other current brought) i ≡ Some (k, into) → joined_entries other current (brought ++ (k, v) ∷ []) ≡ set_value_at (joined_entries other current brought) i (joined_item other v into)
+joined_entries-there other current brought k v into i lacks distinct at =
     let there : Contains current (k, into) = there-before other current brought k into i lacks at in
     let has : Contains (keys_of current) k = Contains-map (λ (e : Entry). e.0) current (k, into) there in
     let present : has_key current k ≡ true = present_by (has_key current k) refl has in
@@ -188,7 +188,7 @@ joined-there other current brought k v into i lacks distinct at =
     present_by true is has = is
     present_by false is has = absurd (has_key-has current k is has)
 
--- ---- nothing speaks against one entry more
+-- ---- no cause holds against one entry more
 
 snoc-empty : {X : Type 0} (xs ys : List X) (n : X) → [] ≡ xs ++ n ∷ ys → ⊥
 snoc-empty [] ys n h = cc
@@ -221,7 +221,7 @@ unshadowed-more current done k v earlier last name is =
 
 -- the one more entry brings this stability
 abbrev Brings : WorldKey → WorldItem → ℕ → Stability → Type 0
-Brings k v i stability = (id : ℕ) × (docs : Docs) × (place : Place) × (external_id : Option (List ℕ)) × ◌≡◌ {A = Entry} (k, v) (key.Interface i, item.Interface id stability docs place external_id)
+Brings k v i stability = (id : ℕ) × (docs : Docs) × (place : OptionalSpan) × (external_id : Option (List ℕ)) × ◌≡◌ {A = Entry} (k, v) (key.Interface i, item.Interface id stability docs place external_id)
 
 agree-more : (other : Bool) (current done : List Entry) (k : WorldKey) (v : WorldItem) → ((brings has : Stability) → StabilitiesDiffer other current done brings has → ⊥)
     → ((brings has : Stability) (i : ℕ) → StandsWith current i has → Brings k v i brings → Disagree brings has → include_stability other brings has ≡ brings → ⊥)
@@ -242,21 +242,21 @@ agree-more other current done k v earlier last brings has is =
 
 -- ---- the state of joining
 
--- so many entries are joined, and nothing speaks against them
+-- so many entries are joined, and no cause holds against them
 pub record IsJoining (other : Bool) (current done entries : List Entry) : Type 0 where
-  pub is : entries ≡ joined other current done
+  pub is : entries ≡ joined_entries other current done
   pub can : CanJoin other current done
 
-joined-none : (other : Bool) (es : List Entry) → map (joined_entry other []) es ≡ es
-joined-none other [] = refl
-joined-none other (e ∷ es) = ap (λ (ds : List Entry). e ∷ ds) (joined-none other es)
+joined_entries-none : (other : Bool) (es : List Entry) → map (joined_entry other []) es ≡ es
+joined_entries-none other [] = refl
+joined_entries-none other (e ∷ es) = ap (λ (ds : List Entry). e ∷ ds) (joined_entries-none other es)
 
 no-place : {X : Type 0} (x : X) → Contains [] x → ⊥
 no-place x has = absurd (omega (arith, has.1))
 
 pub joining-none : (other : Bool) (current : List Entry) → IsJoining other current [] current
 joining-none other current = record {
-  is = sym (append-nil (map (joined_entry other []) current) ∙ joined-none other current);
+  is = sym (append-nil (map (joined_entry other []) current) ∙ joined_entries-none other current);
   can = record {
     unshadowed = λ name is. snoc-empty is.before is.after (key.Name name) is.are;
     agree = λ brings has is. no-place (key.Interface is.i, item.Interface is.comes.0 brings is.comes.1 is.comes.2 is.comes.3) is.comes.4;
@@ -270,11 +270,11 @@ stands-key es i stability stands = Contains-map (λ (e : Entry). e.0) es (key.In
 pub joining-new : (other : Bool) (current done entries entries' : List Entry) (k : WorldKey) (v : WorldItem) → IsJoining other current done entries → Lacks entries k
     → entries' ≡ entries ++ (k, new_item other k v) ∷ [] → IsJoining other current (done ++ (k, v) ∷ []) entries'
 joining-new other current done entries entries' k v joining lacks is =
-    let lacked : Lacks (joined other current done) k = subst (λ (es : List Entry). Lacks es k) joining.is lacks in
+    let lacked : Lacks (joined_entries other current done) k = subst (λ (es : List Entry). Lacks es k) joining.is lacks in
     let not_here = lacks-current other current done k lacked in
     let not_come = lacks-brought other current done k lacked in
     record {
-      is = is ∙ ap (λ (es : List Entry). es ++ (k, new_item other k v) ∷ []) joining.is ∙ sym (joined-new other current done k v lacked);
+      is = is ∙ ap (λ (es : List Entry). es ++ (k, new_item other k v) ∷ []) joining.is ∙ sym (joined_entries-new other current done k v lacked);
       can = record {
         unshadowed = unshadowed-more current done k v joining.can.unshadowed
             (λ name same has. elim (Contains-append_cases (keys_of current) (keys_of done) k has) [ inl old ↦ not_here old | inr new ↦ not_come new ]);
@@ -303,12 +303,12 @@ pub joining-there : (other : Bool) (current done entries entries' : List Entry) 
     → Lacks done k → IsDistinct same_key (keys_of entries) → slice_get entries i ≡ Some (k, into) → ItemsAgree other v into → entries' ≡ set_value_at entries i (joined_item other v into)
     → IsJoining other current (done ++ (k, v) ∷ []) entries'
 joining-there other current done entries entries' k v into n i joining called lacks distinct at agree is =
-    let apart : IsDistinct same_key (keys_of (joined other current done)) = subst (λ (es : List Entry). IsDistinct same_key (keys_of es)) joining.is distinct in
-    let here : slice_get (joined other current done) i ≡ Some (k, into) = subst (λ (es : List Entry). slice_get es i ≡ Some (k, into)) joining.is at in
+    let apart : IsDistinct same_key (keys_of (joined_entries other current done)) = subst (λ (es : List Entry). IsDistinct same_key (keys_of es)) joining.is distinct in
+    let here : slice_get (joined_entries other current done) i ≡ Some (k, into) = subst (λ (es : List Entry). slice_get es i ≡ Some (k, into)) joining.is at in
     let there : Contains current (k, into) = there-before other current done k into i lacks here in
-    let front : IsDistinct same_key (keys_of current) = distinct-front (keys_of current) (keys_of (coming other current done)) (subst (IsDistinct same_key) (keys-joined other current done) apart) in
+    let front : IsDistinct same_key (keys_of current) = distinct-front (keys_of current) (keys_of (coming other current done)) (subst (IsDistinct same_key) (keys-joined_entries other current done) apart) in
     record {
-      is = is ∙ ap (λ (es : List Entry). set_value_at es i (joined_item other v into)) joining.is ∙ sym (joined-there other current done k v into i lacks apart here);
+      is = is ∙ ap (λ (es : List Entry). set_value_at es i (joined_item other v into)) joining.is ∙ sym (joined_entries-there other current done k v into i lacks apart here);
       can = record {
         unshadowed = unshadowed-more current done k v joining.can.unshadowed (λ name same has. cc);
         agree = agree-more other current done k v joining.can.agree
@@ -341,17 +341,17 @@ not-done brought done rest n v once are has =
     let within : place.0 < length done = slice_get_within done place.0 (key.Interface n, under.0) place.1 in
     absurd (omega arith)
 
-pub shadow-cause : (other : Bool) (span : Place) (word label : List ℕ) (current brought done rest entries : List Entry) (v into : WorldItem) (i : ℕ) → IsJoining other current done entries
+pub shadow-cause : (other : Bool) (span : OptionalSpan) (word label : List ℕ) (current brought done rest entries : List Entry) (v into : WorldItem) (i : ℕ) → IsJoining other current done entries
     → done ++ (key.Name label, v) ∷ rest ≡ brought → slice_get entries i ≡ Some (key.Name label, into) → IsJoinCause other span word current brought (ItemShadowing span word label)
 shadow-cause other span word label current brought done rest entries v into i joining are at =
     item_shadowing_7 label (record {
       before = keys_of done;
       after = keys_of rest;
       are = ap keys_of (sym are) ∙ map-append (λ (e : Entry). e.0) done ((key.Name label, v) ∷ rest);
-      there = joined-key other current done (key.Name label) (subst (λ (es : List Entry). Contains (keys_of es) (key.Name label)) joining.is (key_there entries i (key.Name label) into at));
+      there = joined_entries-key other current done (key.Name label) (subst (λ (es : List Entry). Contains (keys_of es) (key.Name label)) joining.is (key_there entries i (key.Name label) into at));
     })
 
-differ-from : (other : Bool) (span : Place) (word : List ℕ) (current brought : List Entry) (n : ℕ) (v into : WorldItem) (kind : ResolveErrorKind) → Contains current (key.Interface n, into)
+differ-from : (other : Bool) (span : OptionalSpan) (word : List ℕ) (current brought : List Entry) (n : ℕ) (v into : WorldItem) (kind : ResolveErrorKind) → Contains current (key.Interface n, into)
     → Contains brought (key.Interface n, v) → IsItemError other span v into kind → IsJoinCause other span word current brought kind
 differ-from other span word current brought n (item.Interface a from docs place external_id) (item.Interface b into docs' place' external_id') kind there comes is =
     subst (IsJoinCause other span word current brought) (sym is.0) (stability_mismatch_8 from into (record {
@@ -366,10 +366,10 @@ differ-from other span word current brought n (item.Interface a from docs place 
 differ-from other span word current brought n (item.Function f) into kind there comes is = absurd is
 differ-from other span word current brought n (item.Type_ t s) into kind there comes is = absurd is
 
-pub differ-cause : (other : Bool) (span : Place) (word : List ℕ) (current brought done rest entries : List Entry) (n : ℕ) (v into : WorldItem) (i : ℕ) (kind : ResolveErrorKind) → IsJoining other current done entries
+pub differ-cause : (other : Bool) (span : OptionalSpan) (word : List ℕ) (current brought done rest entries : List Entry) (n : ℕ) (v into : WorldItem) (i : ℕ) (kind : ResolveErrorKind) → IsJoining other current done entries
     → ComeOnce brought → done ++ (key.Interface n, v) ∷ rest ≡ brought → slice_get entries i ≡ Some (key.Interface n, into) → IsItemError other span v into kind
     → IsJoinCause other span word current brought kind
 differ-cause other span word current brought done rest entries n v into i kind joining once are at is =
-    let here : slice_get (joined other current done) i ≡ Some (key.Interface n, into) = subst (λ (es : List Entry). slice_get es i ≡ Some (key.Interface n, into)) joining.is at in
+    let here : slice_get (joined_entries other current done) i ≡ Some (key.Interface n, into) = subst (λ (es : List Entry). slice_get es i ≡ Some (key.Interface n, into)) joining.is at in
     let there = there-before other current done (key.Interface n) into i (not-done brought done rest n v once are) here in
     differ-from other span word current brought n v into kind there (contained_at brought (length done) (key.Interface n, v) (behind-done brought done rest (key.Interface n, v) are)) is

@@ -7,10 +7,10 @@ pub mod NamesThere
 pub mod OpenRows
 pub mod OwnKeys
 pub mod RisingIds
+pub mod SelectedIndices
 pub mod Several
 pub mod Standing
 pub mod Steps
-pub mod TakenPlaces
 pub mod Walking
 pub mod WhatIsCopied
 pub mod Words

@@ -18,7 +18,7 @@ use Rattle.wit_data.specs.declared.world.WorldKey.{WorldKey}
 use Rattle.wit_data.specs.declared.world.WorldKey.TheVariants as key
 use Rattle.wit_graph_data.specs.declared.graph.Graph.{Graph}
 use Rattle.wit_graph_theory.specs.facts.ListFacts.{Contains-map_cases, found_at, place_of}
-use Rattle.wit_link_spec.specs.Include.{entry_mentions, goes_with, interface_mentions}
+use Rattle.wit_link_spec.specs.Include.{belongs_to, entry_mentions, interface_mentions}
 use Rattle.wit_link_laws.specs.laws.StageFacts.{CanInclude}
 use Rattle.wit_link_include.specs.steps.Copied.{NamesThere}
 
@@ -50,7 +50,7 @@ module _ (g : Graph) (from : ℕ) (old : World) (can : CanInclude g from old) wh
   in_going i false t has = absurd (Contains-nil has)
 
   in_entry : (k : WorldKey) (held : WorldItem) → IsImport g.interfaces g.types from k held → ItemUsesOwn g.types from held → (t : ℕ) → Contains (entry_mentions g old (k, held)) t → t < length g.types
-  in_entry k (item.Interface i stability docs span external_id) is own t has = in_going i (goes_with g old i) t has
+  in_entry k (item.Interface i stability docs span external_id) is own t has = in_going i (belongs_to g old i) t has
   in_entry k (item.Function f) is own t has = let place = place_of (function_references f) t has in (own place.0 t place.1).there
   in_entry (key.Interface f) (item.Type_ u span) is own t has = absurd is
   in_entry (key.Name name) (item.Type_ u span) is own t has =

@@ -8,13 +8,13 @@ use Rattle.std.proofs.lemmas.Option.{get_or_from_slice_get, slice_get_within}
 use Rattle.std.proofs.lemmas.Bool.{false≢true}
 use Rattle.wit_digraph.specs.facts.MemberFacts.{Contains-cons_cases, Contains-flat_map_cases, Contains-nil}
 use Rattle.wit_digraph.specs.Relation.{IsAcyclic, IsPath, Reaches, direct}
-use Rattle.wit_digraph.specs.facts.WalkFacts.{Reaches-from_walk, walk-from_IsPath, walk_is}
-use Rattle.wit_digraph.specs.Walks.{walk}
+use Rattle.wit_digraph.specs.facts.PostOrderFacts.{Reaches-from_post_order, post_order-from_IsPath, post_order_is}
+use Rattle.wit_digraph.specs.PostOrder.{post_order}
 use Rattle.wit_data.specs.Reference.{referred, type_references}
 use Rattle.wit_data.specs.declared.types.TypeDef.{TypeDef}
 use Rattle.wit_graph_theory.specs.facts.ListFacts.{at_map}
 use Rattle.wit_graph_theory.specs.facts.RowFacts.{Reaches-join, Reaches-self, Reaches-use}
-use Rattle.wit_link_spec.specs.Include.{is_owned_with, is_unnamed_type, owner_goes_with}
+use Rattle.wit_link_spec.specs.Include.{is_owned_within, is_unnamed_type, owner_belongs_to}
 use Rattle.wit_link_include.specs.steps.Copied.{StayApart, def_leads_by, is_open_in, leads, leads_by, open_row, open_rows, said}
 use Rattle.wit_link_include.specs.declared.origin.Origin.{Origin}
 use Rattle.wit_link_include.proofs.Members.{any_alike, any_in, any_out, same_truth}
@@ -42,7 +42,7 @@ module _ (o : Origin) where
   rows = type_references types
 
   abbrev owned : ℕ → Bool
-  owned = is_owned_with o.graph.now o.id o.world.now
+  owned = is_owned_within o.graph.now o.id o.world.now
 
   pub open_row_at : (t : ℕ) (def : TypeDef) → slice_get types t ≡ Some def → direct (open_rows o) t ≡ open_row o def
   open_row_at t def at = row_at (open_row o) types t def at
@@ -110,13 +110,13 @@ module _ (o : Origin) where
     there t def at = let a = slice_get_within types t def at in let b = rows_long in omega arith
 
     pub leads_from : (t u : ℕ) → t < length rows → Reaches rows t u → owned u ≡ true → leads o t ≡ true
-    leads_from t u within on is = any_in owned (walk rows t) u (walk-from_IsPath rows acyclic t on.0 u within on.1) is
+    leads_from t u within on is = any_in owned (post_order rows t) u (post_order-from_IsPath rows acyclic t on.0 u within on.1) is
 
     pub leads_to : (t : ℕ) → t < length rows → leads o t ≡ true → (u : ℕ) × Reaches rows t u × (owned u ≡ true)
-    leads_to t within is = let found = any_out owned (walk rows t) is in (found.0, Reaches-from_walk rows acyclic t within found.0 found.1.0, found.1.1)
+    leads_to t within is = let found = any_out owned (post_order rows t) is in (found.0, Reaches-from_post_order rows acyclic t within found.0 found.1.0, found.1.1)
 
-    pub owned_at : (t : ℕ) (def : TypeDef) → slice_get types t ≡ Some def → owned t ≡ owner_goes_with o.graph.now o.id o.world.now def.owner
-    owned_at t def at = ap (λ (d : Option TypeDef). option_map_or (λ (e : TypeDef). owner_goes_with o.graph.now o.id o.world.now e.owner) d false) at
+    pub owned_at : (t : ℕ) (def : TypeDef) → slice_get types t ≡ Some def → owned t ≡ owner_belongs_to o.graph.now o.id o.world.now def.owner
+    owned_at t def at = ap (λ (d : Option TypeDef). option_map_or (λ (e : TypeDef). owner_belongs_to o.graph.now o.id o.world.now e.owner) d false) at
 
     pub unnamed_at : (t : ℕ) (def : TypeDef) → slice_get types t ≡ Some def → is_unnamed_type o.graph.now t ≡ not (is_some def.name)
     unnamed_at t def at = ap (λ (d : Option TypeDef). option_map_or (λ (e : TypeDef). not (is_some e.name)) d false) at
@@ -125,11 +125,11 @@ module _ (o : Origin) where
     leads_next : (t : ℕ) (def : TypeDef) → slice_get types t ≡ Some def → owned t ≡ false → leads o t ≡ list_any (leads o) (referred def.kind)
     leads_next t def at not_it =
         same_truth (leads o t) (list_any (leads o) (referred def.kind))
-        (λ h. let found = any_out owned (walk rows t) h in
-        let split : Contains (flat_map (walk rows) (direct rows t) ++ t ∷ []) found.0 = subst (λ (w : List ℕ). Contains w found.0) (walk_is rows acyclic t (there t def at)) found.1.0 in
-        elim (Contains-append_cases (flat_map (walk rows) (direct rows t)) (t ∷ []) found.0 split) [
-          | inl under ↦ let part = Contains-flat_map_cases (walk rows) (direct rows t) found.0 under in
-              any_in (leads o) (referred def.kind) part.0 (subst (λ (us : List ℕ). Contains us part.0) (row_of t def at) part.1.0) (any_in owned (walk rows part.0) found.0 part.1.1 found.1.1)
+        (λ h. let found = any_out owned (post_order rows t) h in
+        let split : Contains (flat_map (post_order rows) (direct rows t) ++ t ∷ []) found.0 = subst (λ (w : List ℕ). Contains w found.0) (post_order_is rows acyclic t (there t def at)) found.1.0 in
+        elim (Contains-append_cases (flat_map (post_order rows) (direct rows t)) (t ∷ []) found.0 split) [
+          | inl under ↦ let part = Contains-flat_map_cases (post_order rows) (direct rows t) found.0 under in
+              any_in (leads o) (referred def.kind) part.0 (subst (λ (us : List ℕ). Contains us part.0) (row_of t def at) part.1.0) (any_in owned (post_order rows part.0) found.0 part.1.1 found.1.1)
           | inr last ↦ elim (Contains-cons_cases t found.0 [] last) [
             | inl same ↦ absurd (false≢true (sym not_it ∙ (ap owned same ∙ found.1.1)))
             | inr none ↦ absurd (Contains-nil none)
@@ -153,7 +153,7 @@ module _ (o : Origin) where
           by : (b : Bool) → leads o t ≡ b → leads o t ≡ false
           by false is = is
           by true is =
-              let parts = not_it (owner_goes_with o.graph.now o.id o.world.now def.owner) (not (is_some def.name)) closed in
+              let parts = not_it (owner_belongs_to o.graph.now o.id o.world.now def.owner) (not (is_some def.name)) closed in
               let on = leads_to t (there t def at) is in
               absurd (false≢true (sym (apart t on.0 (unnamed_at t def at ∙ parts.1) (owned_at t def at ∙ parts.0) on.1) ∙ on.2))
 
@@ -161,9 +161,9 @@ module _ (o : Origin) where
       pub leads_right : (known : List (ℕ × Bool)) (t : ℕ) (def : TypeDef) → slice_get types t ≡ Some def
           → ((u : ℕ) → Contains (direct (open_rows o) t) u → said known u ≡ leads o u) → leads_by o known t ≡ leads o t
       leads_right known t def at right =
-          ap (λ (d : Option TypeDef). option_map_or (def_leads_by o known) d false) at ∙ by (owner_goes_with o.graph.now o.id o.world.now def.owner) refl (is_some def.name) refl
+          ap (λ (d : Option TypeDef). option_map_or (def_leads_by o known) d false) at ∙ by (owner_belongs_to o.graph.now o.id o.world.now def.owner) refl (is_some def.name) refl
         where
-          by : (b : Bool) → owner_goes_with o.graph.now o.id o.world.now def.owner ≡ b → (named : Bool) → is_some def.name ≡ named
+          by : (b : Bool) → owner_belongs_to o.graph.now o.id o.world.now def.owner ≡ b → (named : Bool) → is_some def.name ≡ named
               → (if b then true else (if named then false else list_any (said known) (referred def.kind))) ≡ leads o t
           by true own named is = sym (leads_from t t (there t def at) (Reaches-self rows t) (owned_at t def at ∙ own))
           by false own true is = sym (closed_leads t def at (ap (λ (b : Bool). b || not (is_some def.name)) own ∙ ap not is))

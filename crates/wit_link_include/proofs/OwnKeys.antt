@@ -16,7 +16,7 @@ use Rattle.wit_elaboration.specs.Entries as graph
 use Rattle.wit_elaboration.specs.Entries.{item_interface}
 use Rattle.wit_elaboration.specs.Sound.{IsUnderOwnKey}
 use Rattle.wit_graph_theory.specs.Image.{Maps, entry_image}
-use Rattle.wit_link_spec.specs.Include.{Begun, copy_maps, has_key, is_other_package, joined, joined_entry, joined_item, new_item}
+use Rattle.wit_link_spec.specs.Include.{PartiallyLinked, copy_maps, has_key, is_other_package, joined_entries, joined_entry, joined_item, new_item}
 use Rattle.wit_link_include.specs.steps.Included.{CanBeIncluded, HaveOwnKeys, with_one}
 use Rattle.wit_link_include.specs.facts.SeveralFacts.{none_is, some_is}
 use Rattle.wit_link_include.proofs.IncludeSteps.{IsKeyed, exports_keyed, imports_keyed}
@@ -66,7 +66,7 @@ own_both : (xs ys : List Entry) → AreOwn xs → AreOwn ys → AreOwn (xs ++ ys
 own_both [] ys first second = second
 own_both (x ∷ xs) ys first second = (first.0, own_both xs ys first.1 second)
 
-joined_own : (other : Bool) (current brought : List Entry) → AreOwn current → AreOwn brought → AreOwn (joined other current brought)
+joined_own : (other : Bool) (current brought : List Entry) → AreOwn current → AreOwn brought → AreOwn (joined_entries other current brought)
 joined_own other current brought first second =
     own_both (map (joined_entry other brought) current) (map (λ (e : Entry). (e.0, new_item other e.0 e.1)) (filter (λ (e : Entry). not (has_key current e.0)) brought)) (kept_own other brought current first) (new_own other current brought second)
 
@@ -85,14 +85,14 @@ brought_own interfaces m w entries keyed = go entries (λ i f held at. keyed.exp
     go (e ∷ es) each = (one e.0 e.1 (λ f called. each 0 f e.1 (ap (λ (x : WorldKey). Some (x, e.1)) called)), go es (λ i. each (suc i)))
 
 -- so it is with an include more
-pub one_own : (home : ℕ) (b : Begun) (include : WorldInclude) → CanBeIncluded b include → HaveOwnKeys b.lists → HaveOwnKeys (with_one home b include).lists
+pub one_own : (home : ℕ) (b : PartiallyLinked) (include : WorldInclude) → CanBeIncluded b include → HaveOwnKeys b.lists → HaveOwnKeys (with_one home b include).lists
 one_own home b include can own = by (slice_get b.graph.worlds include.id) refl
   where
     by : (o : Option World) → slice_get b.graph.worlds include.id ≡ o → HaveOwnKeys (with_one home b include).lists
-    by None at = subst (λ (x : Begun). HaveOwnKeys x.lists) (sym (none_is home b include at)) own
+    by None at = subst (λ (x : PartiallyLinked). HaveOwnKeys x.lists) (sym (none_is home b include at)) own
     by (Some old) at =
         let good = (can old at).world in
-        subst (λ (x : Begun). HaveOwnKeys x.lists) (sym (some_is home b include old at)) (record {
+        subst (λ (x : PartiallyLinked). HaveOwnKeys x.lists) (sym (some_is home b include old at)) (record {
           imports = joined_own (is_other_package old.package home) b.lists.imports (map (entry_image (copy_maps b.graph include.id old include.names (length b.graph.worlds) home) include.id) old.imports) own.imports
               (brought_own b.graph.interfaces (copy_maps b.graph include.id old include.names (length b.graph.worlds) home) include.id old.imports (imports_keyed b.graph include.id old good));
           exports = joined_own (is_other_package old.package home) b.lists.exports (map (entry_image (copy_maps b.graph include.id old include.names (length b.graph.worlds) home) include.id) old.exports) own.exports

@@ -28,7 +28,7 @@ pub numbered-keys : (n : ℕ) (xs : List ℕ) → keys_of (numbered n xs) ≡ xs
 numbered-keys n [] = refl
 numbered-keys n (x ∷ xs) = ap (λ (w : List ℕ). x ∷ w) (numbered-keys (n + 1) xs)
 
--- an id that isn't there goes nowhere
+-- an id that isn't there isn't remapped
 pub numbered-none : (n : ℕ) (xs : List ℕ) (x : ℕ) → (Contains xs x → ⊥) → lookup (nat_eq x) (numbered n xs) ≡ None
 numbered-none n [] x absent = refl
 numbered-none n (y ∷ xs) x absent =

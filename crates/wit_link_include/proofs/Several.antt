@@ -13,21 +13,21 @@ use Rattle.wit_graph_data.specs.declared.error_kind.ResolveErrorKind.{ResolveErr
 use Rattle.wit_graph_data.specs.declared.error_kind.ResolveErrorKind.TheVariants.{OutOfMemory}
 use Rattle.wit_graph_data.specs.declared.graph.Graph.{Graph}
 use Rattle.wit_graph_theory.specs.facts.ListFacts.{same_at}
-use Rattle.wit_link_spec.specs.Include.{Begun, lists_of}
+use Rattle.wit_link_spec.specs.Include.{PartiallyLinked, lists_of}
 use Rattle.wit_link_include.specs.steps.Finished.{CanFinish, IsFinishCause, with_finished}
 use Rattle.wit_remap.specs.Grown.{Grown}
 use Rattle.wit_remap.specs.facts.GrownFacts.{Begins-more, Begins-same, Grown-same, Grown-then}
-use Rattle.wit_link_include.specs.steps.Included.{CanBeAdded, CanBeBegun, CanBeIncluded, HaveOwnKeys, IncludeIsFine, IsFineAt, IsFineWorld, IsIncludeCause, IsIncluded, IsWorldCause, StopsAtInclude, as_finished, at_include, before_includes, with_including, with_lists, with_one, with_several}
+use Rattle.wit_link_include.specs.steps.Included.{CanBeAdded, CanBeIncluded, CanIncludeAll, HasNoIncludeCause, HaveOwnKeys, IsAcceptedAt, IsAcceptedWorld, IsIncludeCause, IsIncluded, IsWorldCause, StopsAtInclude, as_finished, at_include, before_includes, with_including, with_lists, with_one, with_several}
 use Rattle.wit_link_include.specs.facts.SeveralFacts.{several_worlds}
 use Rattle.wit_link_include.proofs.OwnKeys.{one_own}
 
 -- ---- the state of including
 
--- so many includes are made, and nothing speaks against them
+-- so many includes are made, and no cause holds against them
 pub record IsBeginning (home : ℕ) (g : Graph) (world : World) (includes : List WorldInclude) (n : ℕ) (g' : Graph) (world' : World) : Type 0 where
   pub graph : g' ≡ (with_several home g world (take n includes)).graph
   pub world_is : world' ≡ with_lists world (with_several home g world (take n includes)).lists
-  pub fine : (i : ℕ) → i < n → IsFineAt home g world includes i
+  pub fine : (i : ℕ) → i < n → IsAcceptedAt home g world includes i
   pub own_keys : HaveOwnKeys (with_several home g world (take n includes)).lists
   pub grown : Grown g g'
 
@@ -44,10 +44,10 @@ module _ (home : ℕ) (g : Graph) (world : World) (includes : List WorldInclude)
   -- what is begun, as the graph and the world show it
   begun_is : before_includes g' world' ≡ with_several home g world (take n includes)
   begun_is =
-      ap (λ (h : Graph). let b : Begun = record { graph = h; lists = lists_of world' } in b) is.graph
-      ∙ ap (λ (w : World). let b : Begun = record { graph = (with_several home g world (take n includes)).graph; lists = lists_of w } in b) is.world_is
+      ap (λ (h : Graph). let b : PartiallyLinked = record { graph = h; lists = lists_of world' } in b) is.graph
+      ∙ ap (λ (w : World). let b : PartiallyLinked = record { graph = (with_several home g world (take n includes)).graph; lists = lists_of w } in b) is.world_is
 
-  module _ (can : CanBeBegun home g world includes) (include : WorldInclude) (at : slice_get includes n ≡ Some include) where
+  module _ (can : CanIncludeAll home g world includes) (include : WorldInclude) (at : slice_get includes n ≡ Some include) where
     pub include_there : include.id < length g'.worlds
     include_there =
         let same : g'.worlds ≡ g.worlds = ap (λ (h : Graph). h.worlds) is.graph ∙ several_worlds home (take n includes) (before_includes g world) in
@@ -57,10 +57,10 @@ module _ (home : ℕ) (g : Graph) (world : World) (includes : List WorldInclude)
     begun_can = can.each n include at is.fine
 
     pub include_can : CanBeIncluded (before_includes g' world') include
-    include_can = subst (λ (b : Begun). CanBeIncluded b include) (sym begun_is) begun_can
+    include_can = subst (λ (b : PartiallyLinked). CanBeIncluded b include) (sym begun_is) begun_can
 
     pub include_own : HaveOwnKeys (lists_of world')
-    include_own = subst (λ (b : Begun). HaveOwnKeys b.lists) (sym begun_is) is.own_keys
+    include_own = subst (λ (b : PartiallyLinked). HaveOwnKeys b.lists) (sym begun_is) is.own_keys
 
     -- one include more
     more_is : with_several home g world (take (n + 1) includes) ≡ with_one home (with_several home g world (take n includes)) include
@@ -68,16 +68,16 @@ module _ (home : ℕ) (g : Graph) (world : World) (includes : List WorldInclude)
         ap (fold (with_one home) (before_includes g world)) (take-next_at includes n include at) ∙ fold-append (with_one home) (before_includes g world) (take n includes) (include ∷ [])
 
     pub beginning-next : (g'' : Graph) (world'' : World) → g'' ≡ (with_one home (before_includes g' world') include).graph → world'' ≡ with_lists world' (with_one home (before_includes g' world') include).lists
-        → IncludeIsFine home (before_includes g' world') include → Grown g' g'' → IsBeginning home g world includes (n + 1) g'' world''
+        → HasNoIncludeCause home (before_includes g' world') include → Grown g' g'' → IsBeginning home g world includes (n + 1) g'' world''
     beginning-next g'' world'' graph_is new_is fine grown =
-        let one : with_one home (before_includes g' world') include ≡ with_several home g world (take (n + 1) includes) = ap (λ (b : Begun). with_one home b include) begun_is ∙ sym more_is in
+        let one : with_one home (before_includes g' world') include ≡ with_several home g world (take (n + 1) includes) = ap (λ (b : PartiallyLinked). with_one home b include) begun_is ∙ sym more_is in
         record {
-          graph = graph_is ∙ ap (λ (b : Begun). b.graph) one;
-          world_is = new_is ∙ ap (λ (b : Begun). with_lists world' b.lists) one ∙ ap (λ (w : World). with_lists w (with_several home g world (take (n + 1) includes)).lists) is.world_is;
-          fine = below_more (λ i. IsFineAt home g world includes i) n is.fine
-              (λ other there. subst (λ (x : WorldInclude). IncludeIsFine home (with_several home g world (take n includes)) x) (same_at includes n n include other refl at there)
-              (subst (λ (b : Begun). IncludeIsFine home b include) begun_is fine));
-          own_keys = subst (λ (b : Begun). HaveOwnKeys b.lists) (sym more_is) (one_own home (with_several home g world (take n includes)) include begun_can is.own_keys);
+          graph = graph_is ∙ ap (λ (b : PartiallyLinked). b.graph) one;
+          world_is = new_is ∙ ap (λ (b : PartiallyLinked). with_lists world' b.lists) one ∙ ap (λ (w : World). with_lists w (with_several home g world (take (n + 1) includes)).lists) is.world_is;
+          fine = below_more (λ i. IsAcceptedAt home g world includes i) n is.fine
+              (λ other there. subst (λ (x : WorldInclude). HasNoIncludeCause home (with_several home g world (take n includes)) x) (same_at includes n n include other refl at there)
+              (subst (λ (b : PartiallyLinked). HasNoIncludeCause home b include) begun_is fine));
+          own_keys = subst (λ (b : PartiallyLinked). HaveOwnKeys b.lists) (sym more_is) (one_own home (with_several home g world (take n includes)) include begun_can is.own_keys);
           grown = Grown-then g g' g'' is.grown grown;
         }
 
@@ -92,9 +92,9 @@ module _ (home : ℕ) (g : Graph) (world : World) (includes : List WorldInclude)
             include = include;
             is = at;
             old = stop.0;
-            there = subst (λ (b : Begun). IsIncluded b include stop.0) begun_is stop.1;
+            there = subst (λ (b : PartiallyLinked). IsIncluded b include stop.0) begun_is stop.1;
             earlier = is.fine;
-            cause = subst (λ (b : Begun). IsIncludeCause home b include stop.0 kind) begun_is stop.2;
+            cause = subst (λ (b : PartiallyLinked). IsIncludeCause home b include stop.0 kind) begun_is stop.2;
           },
         )
 
@@ -114,7 +114,7 @@ module _ (home : ℕ) (g : Graph) (world : World) (includes : List WorldInclude)
   pub all_world : length includes ≤ n → world' ≡ with_lists world (with_several home g world includes).lists
   all_world reached = is.world_is ∙ ap (λ (l : List WorldInclude). with_lists world (with_several home g world l).lists) (take-all reached)
 
-  pub all_fine : length includes ≤ n → (j : ℕ) → IsFineAt home g world includes j
+  pub all_fine : length includes ≤ n → (j : ℕ) → IsAcceptedAt home g world includes j
   all_fine reached j include at =
       let within : j < length includes = slice_get_within includes j include at in
       is.fine j (omega arith) include at
@@ -127,7 +127,7 @@ world_added home g world includes g' new world' graph_is world_is is =
     is ∙ ap (λ (h : Graph). with_finished h world') graph_is ∙ ap (with_finished (with_several home g world includes).graph) world_is
 
 pub world_fine : (home : ℕ) (g : Graph) (world : World) (includes : List WorldInclude) (g' : Graph) (world' : World) → g' ≡ (with_several home g world includes).graph
-    → world' ≡ with_lists world (with_several home g world includes).lists → ((j : ℕ) → IsFineAt home g world includes j) → CanFinish g' world' → IsFineWorld home g world includes
+    → world' ≡ with_lists world (with_several home g world includes).lists → ((j : ℕ) → IsAcceptedAt home g world includes j) → CanFinish g' world' → IsAcceptedWorld home g world includes
 world_fine home g world includes g' world' graph_is world_is fine can = record {
   includes_are = fine;
   finished = subst (CanFinish (with_several home g world includes).graph) world_is (subst (λ (h : Graph). CanFinish h world') graph_is can);
@@ -139,7 +139,7 @@ include_stops home g world includes kind (inl memory) = inl memory
 include_stops home g world includes kind (inr stop) = inr (at_include stop.0 stop.1)
 
 pub finishing_stops : (home : ℕ) (g : Graph) (world : World) (includes : List WorldInclude) (g' : Graph) (world' : World) (kind : ResolveErrorKind) → g' ≡ (with_several home g world includes).graph
-    → world' ≡ with_lists world (with_several home g world includes).lists → ((j : ℕ) → IsFineAt home g world includes j) → (kind ≡ OutOfMemory) ⊎ IsFinishCause g' world' kind
+    → world' ≡ with_lists world (with_several home g world includes).lists → ((j : ℕ) → IsAcceptedAt home g world includes j) → (kind ≡ OutOfMemory) ⊎ IsFinishCause g' world' kind
     → (kind ≡ OutOfMemory) ⊎ IsWorldCause home g world includes kind
 finishing_stops home g world includes g' world' kind graph_is world_is fine (inl memory) = inl memory
 finishing_stops home g world includes g' world' kind graph_is world_is fine (inr is) =
@@ -156,12 +156,12 @@ finished_grown g world = record {
 }
 
 -- what can be finished, as the graph and the world show it
-pub begun_acyclic : (home : ℕ) (g : Graph) (world : World) (includes : List WorldInclude) (g' : Graph) → CanBeAdded home g world includes → g' ≡ (with_several home g world includes).graph → ((j : ℕ) → IsFineAt home g world includes j)
+pub begun_acyclic : (home : ℕ) (g : Graph) (world : World) (includes : List WorldInclude) (g' : Graph) → CanBeAdded home g world includes → g' ≡ (with_several home g world includes).graph → ((j : ℕ) → IsAcceptedAt home g world includes j)
     → IsAcyclic (graph_uses g')
 begun_acyclic home g world includes g' can graph_is fine = subst (λ (h : Graph). IsAcyclic (graph_uses h)) (sym graph_is) (can.finishes fine).graph.uses
 
 pub begun_listed : (home : ℕ) (g : Graph) (world : World) (includes : List WorldInclude) (g' : Graph) (world' : World) → CanBeAdded home g world includes → g' ≡ (with_several home g world includes).graph
-    → world' ≡ with_lists world (with_several home g world includes).lists → ((j : ℕ) → IsFineAt home g world includes j) → HasSoundEntries g'.types (length g'.interfaces) (placed world'.imports) (placed world'.exports)
+    → world' ≡ with_lists world (with_several home g world includes).lists → ((j : ℕ) → IsAcceptedAt home g world includes j) → HasSoundEntries g'.types (length g'.interfaces) (placed world'.imports) (placed world'.exports)
 begun_listed home g world includes g' world' can graph_is world_is fine =
     subst (λ (h : Graph). HasSoundEntries h.types (length h.interfaces) (placed world'.imports) (placed world'.exports)) (sym graph_is)
     (subst (λ (w : World). HasSoundEntries (with_several home g world includes).graph.types (length (with_several home g world includes).graph.interfaces) (placed w.imports) (placed w.exports)) (sym world_is) (can.finishes fine).listed)

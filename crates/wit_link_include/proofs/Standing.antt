@@ -5,26 +5,26 @@ use Rattle.std.specs.Map.{keys_of}
 use Rattle.std.specs.Option.{option_map_or}
 use Rattle.std.proofs.lemmas.Bool.{false≢true}
 use Rattle.std.proofs.lemmas.Option.{slice_get_within}
-use Rattle.wit_digraph.specs.Walks.{walk}
-use Rattle.wit_data.specs.Entries.{is_unnamed, placed_interfaces}
+use Rattle.wit_digraph.specs.PostOrder.{post_order}
+use Rattle.wit_data.specs.Entries.{interfaces_in_worlds, is_unnamed}
 use Rattle.wit_data.specs.Reference.{type_references}
 use Rattle.wit_data.specs.declared.interface.Interface.{Interface}
 use Rattle.wit_data.specs.declared.types.TypeDef.{TypeDef}
 use Rattle.wit_data.specs.declared.world.World.{World}
 use Rattle.wit_graph_data.specs.declared.graph.Graph.{Graph}
 use Rattle.wit_graph_theory.specs.facts.ListFacts.{place_of}
-use Rattle.wit_link_spec.specs.Include.{goes_with, is_copied, is_owned_with, is_unnamed_type, mentioned, owner_goes_with}
+use Rattle.wit_link_spec.specs.Include.{belongs_to, is_copied, is_owned_within, is_unnamed_type, named_types, owner_belongs_to}
 use Rattle.wit_link_include.specs.steps.Copied.{numbered, places}
 use Rattle.wit_link_include.proofs.Members.{and_both}
 use Rattle.wit_link_include.proofs.RisingIds.{numbered-keys}
-use Rattle.wit_link_include.proofs.TakenPlaces.{place_from}
+use Rattle.wit_link_include.proofs.SelectedIndices.{place_from}
 
 -- what goes with a world is there
-pub goes_there : (g : Graph) (world : World) (i : ℕ) → goes_with g world i ≡ true → (interface : Interface) × (slice_get g.interfaces i ≡ Some interface)
+pub goes_there : (g : Graph) (world : World) (i : ℕ) → belongs_to g world i ≡ true → (interface : Interface) × (slice_get g.interfaces i ≡ Some interface)
 goes_there g world i is = by (slice_get g.interfaces i) refl
   where
-    parts : (is_unnamed g.interfaces i ≡ true) × (list_any (nat_eq i) (placed_interfaces (world ∷ [])) ≡ true)
-    parts = and_both (is_unnamed g.interfaces i) (list_any (nat_eq i) (placed_interfaces (world ∷ []))) is
+    parts : (is_unnamed g.interfaces i ≡ true) × (list_any (nat_eq i) (interfaces_in_worlds (world ∷ [])) ≡ true)
+    parts = and_both (is_unnamed g.interfaces i) (list_any (nat_eq i) (interfaces_in_worlds (world ∷ []))) is
 
     by : (o : Option Interface) → slice_get g.interfaces i ≡ o → (interface : Interface) × (slice_get g.interfaces i ≡ Some interface)
     by (Some interface) at = (interface, at)
@@ -34,13 +34,13 @@ goes_there g world i is = by (slice_get g.interfaces i) refl
 pub copied_there : (g : Graph) (w : ℕ) (world : World) (t : ℕ) → is_copied g w world t ≡ true → (def : TypeDef) × (slice_get g.types t ≡ Some def)
 copied_there g w world t is = by (slice_get g.types t) refl
   where
-    parts : (list_any (nat_eq t) (mentioned g world) ≡ true) × ((is_owned_with g w world t || (is_unnamed_type g t && list_any (is_owned_with g w world) (walk (type_references g.types) t))) ≡ true)
-    parts = and_both (list_any (nat_eq t) (mentioned g world)) (is_owned_with g w world t || (is_unnamed_type g t && list_any (is_owned_with g w world) (walk (type_references g.types) t))) is
+    parts : (list_any (nat_eq t) (named_types g world) ≡ true) × ((is_owned_within g w world t || (is_unnamed_type g t && list_any (is_owned_within g w world) (post_order (type_references g.types) t))) ≡ true)
+    parts = and_both (list_any (nat_eq t) (named_types g world)) (is_owned_within g w world t || (is_unnamed_type g t && list_any (is_owned_within g w world) (post_order (type_references g.types) t))) is
 
     by : (o : Option TypeDef) → slice_get g.types t ≡ o → (def : TypeDef) × (slice_get g.types t ≡ Some def)
     by (Some def) at = (def, at)
-    by None at = absurd (false≢true (sym (ap (λ (o : Option TypeDef). option_map_or (λ (d : TypeDef). owner_goes_with g w world d.owner) o false
-        || (option_map_or (λ (d : TypeDef). not (is_some d.name)) o false && list_any (is_owned_with g w world) (walk (type_references g.types) t))) at) ∙ parts.1))
+    by None at = absurd (false≢true (sym (ap (λ (o : Option TypeDef). option_map_or (λ (d : TypeDef). owner_belongs_to g w world d.owner) o false
+        || (option_map_or (λ (d : TypeDef). not (is_some d.name)) o false && list_any (is_owned_within g w world) (post_order (type_references g.types) t))) at) ∙ parts.1))
 
 -- the keys of a table of places are there
 pub keys_there : {X : Type 0} (kept : ℕ → Bool) (xs : List X) (n : ℕ) (table : List (ℕ × ℕ)) → table ≡ numbered n (places kept xs) → (t : ℕ) → Contains (keys_of table) t → t < length xs

@@ -6,8 +6,8 @@ use Rattle.std.proofs.lemmas.List.{append-nil}
 use Rattle.std.proofs.lemmas.List.Elements.{All-contains, Contains-append_left, Contains-append_right, Contains-append_cases, Contains-get_or, Contains-push}
 use Rattle.wit_digraph.specs.facts.MemberFacts.{Contains-cons_cases, Contains-flat_map, Contains-flat_map_cases, Contains-here, Contains-nil, Contains-there}
 use Rattle.wit_digraph.specs.Relation.{IsAcyclic, IsPath, direct}
-use Rattle.wit_digraph.specs.facts.WalkFacts.{Contains-walk_end, Reaches-from_walk, UsesFirst-append, UsesFirst-walk, UsesFirst-wider, walk_is}
-use Rattle.wit_digraph.specs.Walks.{UsesFirst, walk}
+use Rattle.wit_digraph.specs.facts.PostOrderFacts.{Contains-post_order_end, Reaches-from_post_order, UsesFirst-append, UsesFirst-post_order, UsesFirst-wider, post_order_is}
+use Rattle.wit_digraph.specs.PostOrder.{UsesFirst, post_order}
 use Rattle.wit_link_include.specs.declared.leading.Step.{Step}
 use Rattle.wit_link_include.specs.declared.leading.Step.TheVariants as step
 
@@ -27,7 +27,7 @@ step_type (step.Leave t) = t
 module _ (rows : List (List ℕ)) where
   -- what a step still has to list
   abbrev pub left_step : Step → List ℕ
-  left_step (step.Enter t) = walk rows t
+  left_step (step.Enter t) = post_order rows t
   left_step (step.Leave t) = t ∷ []
 
   -- what a stack still has to list, its last step first
@@ -44,7 +44,7 @@ module _ (rows : List (List ℕ)) where
 
   -- ---- how many turns are left at most
   abbrev pub step_turns : Step → ℕ
-  step_turns (step.Enter t) = 2 * length (walk rows t)
+  step_turns (step.Enter t) = 2 * length (post_order rows t)
   step_turns (step.Leave t) = 1
 
   abbrev pub turns : List Step → ℕ
@@ -55,29 +55,29 @@ module _ (rows : List (List ℕ)) where
   turns-append [] above = omega arith
   turns-append (s ∷ below) above = let rest = turns-append below above in omega arith
 
-  turns-enters : (us : List ℕ) → turns (map step.Enter us) ≡ 2 * length (flat_map (walk rows) us)
+  turns-enters : (us : List ℕ) → turns (map step.Enter us) ≡ 2 * length (flat_map (post_order rows) us)
   turns-enters [] = refl
-  turns-enters (u ∷ us) = let rest = turns-enters us in let long = length-append (walk rows u) (flat_map (walk rows) us) in omega arith
+  turns-enters (u ∷ us) = let rest = turns-enters us in let long = length-append (post_order rows u) (flat_map (post_order rows) us) in omega arith
 
   -- ---- what steps into types have left
-  enters_in : (us : List ℕ) (u x : ℕ) → Contains us u → Contains (walk rows u) x → Contains (left_of (map step.Enter us)) x
+  enters_in : (us : List ℕ) (u x : ℕ) → Contains us u → Contains (post_order rows u) x → Contains (left_of (map step.Enter us)) x
   enters_in [] u x has on = absurd (Contains-nil has)
   enters_in (v ∷ us) u x has on =
       elim (Contains-cons_cases v u us has) [
-        | inl same ↦ Contains-append_right (left_of (map step.Enter us)) (walk rows v) x (subst (λ (w : ℕ). Contains (walk rows w) x) (sym same) on)
-        | inr there ↦ Contains-append_left (left_of (map step.Enter us)) (walk rows v) x (enters_in us u x there on)
+        | inl same ↦ Contains-append_right (left_of (map step.Enter us)) (post_order rows v) x (subst (λ (w : ℕ). Contains (post_order rows w) x) (sym same) on)
+        | inr there ↦ Contains-append_left (left_of (map step.Enter us)) (post_order rows v) x (enters_in us u x there on)
       ]
 
-  pub enters_from : (us : List ℕ) (x : ℕ) → Contains (left_of (map step.Enter us)) x → Contains (flat_map (walk rows) us) x
+  pub enters_from : (us : List ℕ) (x : ℕ) → Contains (left_of (map step.Enter us)) x → Contains (flat_map (post_order rows) us) x
   enters_from [] x has = absurd (Contains-nil has)
   enters_from (v ∷ us) x has =
-      elim (Contains-append_cases (left_of (map step.Enter us)) (walk rows v) x has) [
-        | inl there ↦ Contains-append_right (walk rows v) (flat_map (walk rows) us) x (enters_from us x there)
-        | inr here ↦ Contains-append_left (walk rows v) (flat_map (walk rows) us) x here
+      elim (Contains-append_cases (left_of (map step.Enter us)) (post_order rows v) x has) [
+        | inl there ↦ Contains-append_right (post_order rows v) (flat_map (post_order rows) us) x (enters_from us x there)
+        | inr here ↦ Contains-append_left (post_order rows v) (flat_map (post_order rows) us) x here
       ]
 
-  pub enters_to : (us : List ℕ) (x : ℕ) → Contains (flat_map (walk rows) us) x → Contains (left_of (map step.Enter us)) x
-  enters_to us x has = let part = Contains-flat_map_cases (walk rows) us x has in enters_in us part.0 x part.1.0 part.1.1
+  pub enters_to : (us : List ℕ) (x : ℕ) → Contains (flat_map (post_order rows) us) x → Contains (left_of (map step.Enter us)) x
+  enters_to us x has = let part = Contains-flat_map_cases (post_order rows) us x has in enters_in us part.0 x part.1.0 part.1.1
 
   pub enters_types : (us : List ℕ) (s : Step) → Contains (map step.Enter us) s → Contains us (step_type s)
   enters_types [] s has = absurd (Contains-nil has)
@@ -91,17 +91,17 @@ module _ (rows : List (List ℕ)) where
     enters_first : (us seen : List ℕ) → ((u : ℕ) → Contains us u → u < length rows) → UsesFirst rows seen (left_of (map step.Enter us))
     enters_first [] seen within = tt
     enters_first (u ∷ us) seen within =
-        UsesFirst-append rows (left_of (map step.Enter us)) (walk rows u) seen
+        UsesFirst-append rows (left_of (map step.Enter us)) (post_order rows u) seen
         (enters_first us seen (λ v has. within v (Contains-there u v us has)))
-        (UsesFirst-walk rows acyclic u (within u (Contains-here u us)) (seen ++ left_of (map step.Enter us)))
+        (UsesFirst-post_order rows acyclic u (within u (Contains-here u us)) (seen ++ left_of (map step.Enter us)))
 
--- the walk of some roots on its way: what it has listed, and the stack
+-- the post-order of some roots while it runs: what it has listed, and the stack
 pub record IsWalking (rows : List (List ℕ)) (roots keys : List ℕ) (stack : List Step) : Type 0 where
   pub in_range : (s : Step) → Contains stack s → step_type s < length rows
   pub first : UsesFirst rows keys (left_of rows stack)
   pub closed : (t u : ℕ) → Contains keys t → Contains (direct rows t) u → Contains keys u
-  pub within : (t : ℕ) → Contains keys t ⊎ Contains (left_of rows stack) t → Contains (flat_map (walk rows) roots) t
-  pub all : (t : ℕ) → Contains (flat_map (walk rows) roots) t → Contains keys t ⊎ Contains (left_of rows stack) t
+  pub within : (t : ℕ) → Contains keys t ⊎ Contains (left_of rows stack) t → Contains (flat_map (post_order rows) roots) t
+  pub all : (t : ℕ) → Contains (flat_map (post_order rows) roots) t → Contains keys t ⊎ Contains (left_of rows stack) t
 
 module _ (rows : List (List ℕ)) (acyclic : IsAcyclic rows) (roots : List ℕ) where
   pub walk_begun : ((t : ℕ) → Contains roots t → t < length rows) → IsWalking rows roots [] (map step.Enter roots)
@@ -118,14 +118,14 @@ module _ (rows : List (List ℕ)) (acyclic : IsAcyclic rows) (roots : List ℕ) 
       pub enter_there : t < length rows
       enter_there = now.in_range (step.Enter t) (Contains-push below (step.Enter t))
 
-      left_is : left_of rows (below ++ step.Enter t ∷ []) ≡ walk rows t ++ left_of rows below
+      left_is : left_of rows (below ++ step.Enter t ∷ []) ≡ post_order rows t ++ left_of rows below
       left_is = left_of-push rows below (step.Enter t)
 
-      first_is : UsesFirst rows keys (walk rows t ++ left_of rows below)
+      first_is : UsesFirst rows keys (post_order rows t ++ left_of rows below)
       first_is = subst (UsesFirst rows keys) left_is now.first
 
-      walk_length : length (walk rows t) ≡ length (flat_map (walk rows) (direct rows t)) + 1
-      walk_length = ap length (walk_is rows acyclic t enter_there) ∙ length-append (flat_map (walk rows) (direct rows t)) (t ∷ [])
+      walk_length : length (post_order rows t) ≡ length (flat_map (post_order rows) (direct rows t)) + 1
+      walk_length = ap length (post_order_is rows acyclic t enter_there) ∙ length-append (flat_map (post_order rows) (direct rows t)) (t ∷ [])
 
       on_path : (i : ℕ) (path : List ℕ) (j : ℕ) → Contains keys i → IsPath rows i path j → Contains keys j
       on_path i [] j has same = subst (λ (k : ℕ). Contains keys k) same has
@@ -134,21 +134,21 @@ module _ (rows : List (List ℕ)) (acyclic : IsAcyclic rows) (roots : List ℕ) 
       -- the type is listed: nothing of its walk is left
       pub enter_known : Contains keys t → IsWalking rows roots keys below
       enter_known known =
-          let listed : (x : ℕ) → Contains (walk rows t) x → Contains keys x = λ x on.
-          let leads = Reaches-from_walk rows acyclic t enter_there x on in on_path t leads.0 x known leads.1 in
+          let listed : (x : ℕ) → Contains (post_order rows t) x → Contains keys x = λ x on.
+          let leads = Reaches-from_post_order rows acyclic t enter_there x on in on_path t leads.0 x known leads.1 in
           record {
             in_range = λ s has. now.in_range s (Contains-append_left below (step.Enter t ∷ []) s has);
-            first = UsesFirst-wider rows (left_of rows below) (keys ++ walk rows t) keys
-                (λ j has. elim (Contains-append_cases keys (walk rows t) j has) [ inl old ↦ old | inr on ↦ listed j on ])
-                (UsesFirst-right rows (walk rows t) (left_of rows below) keys first_is);
+            first = UsesFirst-wider rows (left_of rows below) (keys ++ post_order rows t) keys
+                (λ j has. elim (Contains-append_cases keys (post_order rows t) j has) [ inl old ↦ old | inr on ↦ listed j on ])
+                (UsesFirst-right rows (post_order rows t) (left_of rows below) keys first_is);
             closed = now.closed;
             within = λ x has. elim has [
               | inl old ↦ now.within x (inl old)
-              | inr on ↦ now.within x (inr (subst (λ (w : List ℕ). Contains w x) (sym left_is) (Contains-append_right (walk rows t) (left_of rows below) x on)))
+              | inr on ↦ now.within x (inr (subst (λ (w : List ℕ). Contains w x) (sym left_is) (Contains-append_right (post_order rows t) (left_of rows below) x on)))
             ];
             all = λ x has. elim (now.all x has) [
               | inl old ↦ inl old
-              | inr on ↦ elim (Contains-append_cases (walk rows t) (left_of rows below) x (subst (λ (w : List ℕ). Contains w x) left_is on)) [
+              | inr on ↦ elim (Contains-append_cases (post_order rows t) (left_of rows below) x (subst (λ (w : List ℕ). Contains w x) left_is on)) [
                 | inl here ↦ inl (listed x here)
                 | inr later ↦ inr later
               ]
@@ -175,19 +175,19 @@ module _ (rows : List (List ℕ)) (acyclic : IsAcyclic rows) (roots : List ℕ) 
       same_left x has =
           subst (λ (w : List ℕ). Contains w x) (sym left_is)
           (elim (Contains-append_cases (left_of rows (map step.Enter (direct rows t))) (t ∷ left_of rows below) x (subst (λ (w : List ℕ). Contains w x) entered_left has)) [
-            | inl under ↦ Contains-append_left (walk rows t) (left_of rows below) x
-                (subst (λ (w : List ℕ). Contains w x) (sym (walk_is rows acyclic t enter_there)) (Contains-append_left (flat_map (walk rows) (direct rows t)) (t ∷ []) x (enters_from rows (direct rows t) x under)))
+            | inl under ↦ Contains-append_left (post_order rows t) (left_of rows below) x
+                (subst (λ (w : List ℕ). Contains w x) (sym (post_order_is rows acyclic t enter_there)) (Contains-append_left (flat_map (post_order rows) (direct rows t)) (t ∷ []) x (enters_from rows (direct rows t) x under)))
             | inr more ↦ elim (Contains-cons_cases t x (left_of rows below) more) [
-              | inl same ↦ Contains-append_left (walk rows t) (left_of rows below) x (subst (λ (k : ℕ). Contains (walk rows t) k) same (Contains-walk_end rows acyclic t enter_there))
-              | inr later ↦ Contains-append_right (walk rows t) (left_of rows below) x later
+              | inl same ↦ Contains-append_left (post_order rows t) (left_of rows below) x (subst (λ (k : ℕ). Contains (post_order rows t) k) same (Contains-post_order_end rows acyclic t enter_there))
+              | inr later ↦ Contains-append_right (post_order rows t) (left_of rows below) x later
             ]
           ])
 
       still_left : (x : ℕ) → Contains (left_of rows (below ++ step.Enter t ∷ [])) x → Contains (left_of rows entered) x
       still_left x has =
           subst (λ (w : List ℕ). Contains w x) (sym entered_left)
-          (elim (Contains-append_cases (walk rows t) (left_of rows below) x (subst (λ (w : List ℕ). Contains w x) left_is has)) [
-            | inl on ↦ elim (Contains-append_cases (flat_map (walk rows) (direct rows t)) (t ∷ []) x (subst (λ (w : List ℕ). Contains w x) (walk_is rows acyclic t enter_there) on)) [
+          (elim (Contains-append_cases (post_order rows t) (left_of rows below) x (subst (λ (w : List ℕ). Contains w x) left_is has)) [
+            | inl on ↦ elim (Contains-append_cases (flat_map (post_order rows) (direct rows t)) (t ∷ []) x (subst (λ (w : List ℕ). Contains w x) (post_order_is rows acyclic t enter_there) on)) [
               | inl under ↦ Contains-append_left (left_of rows (map step.Enter (direct rows t))) (t ∷ left_of rows below) x (enters_to rows (direct rows t) x under)
               | inr last ↦ Contains-append_right (left_of rows (map step.Enter (direct rows t))) (t ∷ left_of rows below) x
                   (subst (λ (k : ℕ). Contains (t ∷ left_of rows below) k) (one_of t x last) (Contains-here t (left_of rows below)))
@@ -211,16 +211,16 @@ module _ (rows : List (List ℕ)) (acyclic : IsAcyclic rows) (roots : List ℕ) 
                   λ k d under. Contains-append_right keys uses (get_or (direct rows t) k d)
                       (let has : Contains (direct rows t) (get_or (direct rows t) k d) = Contains-get_or (direct rows t) k d under in
                       enters_to rows (direct rows t) (get_or (direct rows t) k d)
-                      (Contains-flat_map (walk rows) (direct rows t) (get_or (direct rows t) k d) (get_or (direct rows t) k d) has (Contains-walk_end rows acyclic (get_or (direct rows t) k d) (row_within (get_or (direct rows t) k d) has)))),
-                  UsesFirst-wider rows (left_of rows below) (keys ++ walk rows t) ((keys ++ uses) ++ t ∷ [])
-                      (λ j has. elim (Contains-append_cases keys (walk rows t) j has) [
+                      (Contains-flat_map (post_order rows) (direct rows t) (get_or (direct rows t) k d) (get_or (direct rows t) k d) has (Contains-post_order_end rows acyclic (get_or (direct rows t) k d) (row_within (get_or (direct rows t) k d) has)))),
+                  UsesFirst-wider rows (left_of rows below) (keys ++ post_order rows t) ((keys ++ uses) ++ t ∷ [])
+                      (λ j has. elim (Contains-append_cases keys (post_order rows t) j has) [
                         | inl old ↦ Contains-append_left (keys ++ uses) (t ∷ []) j (Contains-append_left keys uses j old)
-                        | inr on ↦ elim (Contains-append_cases (flat_map (walk rows) (direct rows t)) (t ∷ []) j (subst (λ (w : List ℕ). Contains w j) (walk_is rows acyclic t enter_there) on)) [
+                        | inr on ↦ elim (Contains-append_cases (flat_map (post_order rows) (direct rows t)) (t ∷ []) j (subst (λ (w : List ℕ). Contains w j) (post_order_is rows acyclic t enter_there) on)) [
                           | inl under ↦ Contains-append_left (keys ++ uses) (t ∷ []) j (Contains-append_right keys uses j (enters_to rows (direct rows t) j under))
                           | inr last ↦ Contains-append_right (keys ++ uses) (t ∷ []) j last
                         ]
                       ])
-                      (UsesFirst-right rows (walk rows t) (left_of rows below) keys first_is),
+                      (UsesFirst-right rows (post_order rows t) (left_of rows below) keys first_is),
                 ));
             closed = now.closed;
             within = λ x has. elim has [ inl old ↦ now.within x (inl old) | inr on ↦ now.within x (inr (same_left x on)) ];
@@ -283,8 +283,8 @@ module _ (rows : List (List ℕ)) (acyclic : IsAcyclic rows) (roots : List ℕ) 
 
   -- at the end
   module _ (keys : List ℕ) (done : IsWalking rows roots keys []) where
-    pub done_within : (t : ℕ) → Contains keys t → Contains (flat_map (walk rows) roots) t
+    pub done_within : (t : ℕ) → Contains keys t → Contains (flat_map (post_order rows) roots) t
     done_within t has = done.within t (inl has)
 
-    pub done_all : (t : ℕ) → Contains (flat_map (walk rows) roots) t → Contains keys t
+    pub done_all : (t : ℕ) → Contains (flat_map (post_order rows) roots) t → Contains keys t
     done_all t has = elim (done.all t has) [ inl old ↦ old | inr none ↦ absurd (Contains-nil none) ]

@@ -7,11 +7,11 @@ use Rattle.std.proofs.lemmas.List.Elements.{All-contains}
 use Rattle.wit_digraph.specs.facts.FreshFacts.{any_from_contains, contains_from_any}
 use Rattle.wit_digraph.specs.facts.MemberFacts.{Contains-flat_map, Contains-flat_map_cases}
 use Rattle.wit_digraph.specs.Relation.{IsAcyclic, IsPath, Reaches, direct}
-use Rattle.wit_digraph.specs.facts.WalkFacts.{Reaches-from_walk, walk-from_IsPath}
-use Rattle.wit_digraph.specs.Walks.{walk}
+use Rattle.wit_digraph.specs.facts.PostOrderFacts.{Reaches-from_post_order, post_order-from_IsPath}
+use Rattle.wit_digraph.specs.PostOrder.{post_order}
 use Rattle.wit_data.specs.declared.types.TypeDef.{TypeDef}
 use Rattle.wit_graph_theory.specs.facts.RowFacts.{Reaches-join, Reaches-self}
-use Rattle.wit_link_spec.specs.Include.{is_copied, is_owned_with, is_unnamed_type, mentioned, owner_goes_with}
+use Rattle.wit_link_spec.specs.Include.{is_copied, is_owned_within, is_unnamed_type, named_types, owner_belongs_to}
 use Rattle.wit_link_include.specs.steps.Copied.{StayApart, is_open_in, known_of, leads, open_rows, roots_of, said}
 use Rattle.wit_link_include.specs.declared.origin.Origin.{Origin}
 use Rattle.wit_link_include.proofs.Members.{and_both, and_of, or_cases, or_left, or_right, same_truth}
@@ -19,7 +19,7 @@ use Rattle.wit_link_include.proofs.OpenRows.{closed_leads, leads_from, leads_to,
 
 module _ (o : Origin) (acyclic : IsAcyclic (rows o)) (apart : StayApart o.graph.now o.id o.world.now) (there : (t : ℕ) → Contains (roots_of o) t → t < length o.graph.now.types) where
   abbrev owns : ℕ → Bool
-  owns = is_owned_with o.graph.now o.id o.world.now
+  owns = is_owned_within o.graph.now o.id o.world.now
 
   in_rows : (t : ℕ) → t < length o.graph.now.types → t < length (rows o)
   in_rows t within = let long = rows_long o in omega arith
@@ -49,34 +49,34 @@ module _ (o : Origin) (acyclic : IsAcyclic (rows o)) (apart : StayApart o.graph.
   path_within i [] t here same = subst (λ (k : ℕ). k < length (rows o)) same here
   path_within i (k ∷ path) t here (edge, rest) = path_within k path t (All-contains (λ j. j < length (rows o)) (direct (rows o) i) k (acyclic.in_range i) edge) rest
 
-  copied_from : (t : ℕ) → Contains (flat_map (walk (open_rows o)) (roots_of o)) t → leads o t ≡ true → is_copied o.graph.now o.id o.world.now t ≡ true
+  copied_from : (t : ℕ) → Contains (flat_map (post_order (open_rows o)) (roots_of o)) t → leads o t ≡ true → is_copied o.graph.now o.id o.world.now t ≡ true
   copied_from t has is =
-      let part = Contains-flat_map_cases (walk (open_rows o)) (roots_of o) t has in
+      let part = Contains-flat_map_cases (post_order (open_rows o)) (roots_of o) t has in
       let begin : part.0 < length (rows o) = in_rows part.0 (there part.0 part.1.0) in
-      let on : Reaches (rows o) part.0 t = open_reaches o part.0 t (Reaches-from_walk (open_rows o) (open_acyclic o acyclic) part.0 (in_open part.0 begin) t part.1.1) in
-      let named : list_any (nat_eq t) (mentioned o.graph.now o.world.now) ≡ true =
-      any_from_contains t (mentioned o.graph.now o.world.now) (Contains-flat_map (walk (rows o)) (roots_of o) part.0 t part.1.0 (walk-from_IsPath (rows o) acyclic part.0 on.0 t begin on.1)) in
+      let on : Reaches (rows o) part.0 t = open_reaches o part.0 t (Reaches-from_post_order (open_rows o) (open_acyclic o acyclic) part.0 (in_open part.0 begin) t part.1.1) in
+      let named : list_any (nat_eq t) (named_types o.graph.now o.world.now) ≡ true =
+      any_from_contains t (named_types o.graph.now o.world.now) (Contains-flat_map (post_order (rows o)) (roots_of o) part.0 t part.1.0 (post_order-from_IsPath (rows o) acyclic part.0 on.0 t begin on.1)) in
       let def = there_at o t (in_open t (path_within part.0 on.0 t begin on.1)) in
-      let kind = or_cases (owner_goes_with o.graph.now o.id o.world.now def.0.owner) (not (is_some def.0.name)) (leads_open t def.0 def.1 is) in
-      and_of (list_any (nat_eq t) (mentioned o.graph.now o.world.now)) (owns t || (is_unnamed_type o.graph.now t && leads o t)) named
+      let kind = or_cases (owner_belongs_to o.graph.now o.id o.world.now def.0.owner) (not (is_some def.0.name)) (leads_open t def.0 def.1 is) in
+      and_of (list_any (nat_eq t) (named_types o.graph.now o.world.now)) (owns t || (is_unnamed_type o.graph.now t && leads o t)) named
       (elim kind [
         | inl own ↦ or_left (owns t) (is_unnamed_type o.graph.now t && leads o t) (owned_at o acyclic t def.0 def.1 ∙ own)
         | inr free ↦ or_right (owns t) (is_unnamed_type o.graph.now t && leads o t) (and_of (is_unnamed_type o.graph.now t) (leads o t) (unnamed_at o acyclic t def.0 def.1 ∙ free) is)
       ])
 
-  copied_to : (t : ℕ) → is_copied o.graph.now o.id o.world.now t ≡ true → Contains (flat_map (walk (open_rows o)) (roots_of o)) t × (leads o t ≡ true)
+  copied_to : (t : ℕ) → is_copied o.graph.now o.id o.world.now t ≡ true → Contains (flat_map (post_order (open_rows o)) (roots_of o)) t × (leads o t ≡ true)
   copied_to t is =
-      let parts = and_both (list_any (nat_eq t) (mentioned o.graph.now o.world.now)) (owns t || (is_unnamed_type o.graph.now t && leads o t)) is in
-      let part = Contains-flat_map_cases (walk (rows o)) (roots_of o) t (contains_from_any t (mentioned o.graph.now o.world.now) parts.0) in
+      let parts = and_both (list_any (nat_eq t) (named_types o.graph.now o.world.now)) (owns t || (is_unnamed_type o.graph.now t && leads o t)) is in
+      let part = Contains-flat_map_cases (post_order (rows o)) (roots_of o) t (contains_from_any t (named_types o.graph.now o.world.now) parts.0) in
       let begin : part.0 < length (rows o) = in_rows part.0 (there part.0 part.1.0) in
-      let on : Reaches (rows o) part.0 t = Reaches-from_walk (rows o) acyclic part.0 begin t part.1.1 in
+      let on : Reaches (rows o) part.0 t = Reaches-from_post_order (rows o) acyclic part.0 begin t part.1.1 in
       let within : t < length (rows o) = path_within part.0 on.0 t begin on.1 in
       let lead : leads o t ≡ true = elim (or_cases (owns t) (is_unnamed_type o.graph.now t && leads o t) parts.1) [
         | inl own ↦ leads_from o acyclic t t within (Reaches-self (rows o) t) own
         | inr free ↦ (and_both (is_unnamed_type o.graph.now t) (leads o t) free).1
       ] in (
-        Contains-flat_map (walk (open_rows o)) (roots_of o) part.0 t part.1.0
-            (walk-from_IsPath (open_rows o) (open_acyclic o acyclic) part.0 on.0 t (in_open part.0 begin) (path_open part.0 on.0 t begin within lead on.1)),
+        Contains-flat_map (post_order (open_rows o)) (roots_of o) part.0 t part.1.0
+            (post_order-from_IsPath (open_rows o) (open_acyclic o acyclic) part.0 on.0 t (in_open part.0 begin) (path_open part.0 on.0 t begin within lead on.1)),
         lead,
       )
 
@@ -85,9 +85,9 @@ module _ (o : Origin) (acyclic : IsAcyclic (rows o)) (apart : StayApart o.graph.
   said_is_copied known is t =
       ap (λ (r : Option Bool). unwrap_or r false) (is t)
       ∙ same_truth (unwrap_or (known_of o (roots_of o) t) false) (is_copied o.graph.now o.id o.world.now t)
-      (λ h. let found = told (list_any (nat_eq t) (flat_map (walk (open_rows o)) (roots_of o))) (leads o t) h in
-      copied_from t (contains_from_any t (flat_map (walk (open_rows o)) (roots_of o)) found.0) found.1)
-      (λ h. let found = copied_to t h in tells (list_any (nat_eq t) (flat_map (walk (open_rows o)) (roots_of o))) (leads o t) (any_from_contains t (flat_map (walk (open_rows o)) (roots_of o)) found.0) found.1)
+      (λ h. let found = told (list_any (nat_eq t) (flat_map (post_order (open_rows o)) (roots_of o))) (leads o t) h in
+      copied_from t (contains_from_any t (flat_map (post_order (open_rows o)) (roots_of o)) found.0) found.1)
+      (λ h. let found = copied_to t h in tells (list_any (nat_eq t) (flat_map (post_order (open_rows o)) (roots_of o))) (leads o t) (any_from_contains t (flat_map (post_order (open_rows o)) (roots_of o)) found.0) found.1)
     where
       told : (a b : Bool) → unwrap_or (if a then Some b else None) false ≡ true → (a ≡ true) × (b ≡ true)
       told true b h = (refl, h)

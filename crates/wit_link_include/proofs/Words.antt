@@ -17,7 +17,7 @@ use Rattle.wit_data.specs.declared.world.WorldKey.{WorldKey}
 use Rattle.wit_data.specs.declared.world.WorldKey.TheVariants as key
 use Rattle.wit_graph_theory.specs.facts.ListFacts.{contained_at, place_of}
 use Rattle.wit_labels.specs.Groups.{begins_group, groups_of, rest_of}
-use Rattle.wit_labels.specs.Rename.{behind, renamed_by, renamed_rest}
+use Rattle.wit_labels.specs.Rename.{behind, renamed_label_by, renamed_rest}
 use Rattle.wit_link_spec.specs.WorldReasons.{IsRenamed}
 use Rattle.wit_link_include.specs.steps.Renamed.{AreRenamed, IsFirstUnmatched, has_word, word_of}
 
@@ -27,7 +27,7 @@ behind-is : (b : Bool) (text prefix : List ℕ) → is_some (behind prefix (cond
 behind-is true text prefix = refl
 behind-is false text prefix = refl
 
-pub renames-word : (name : IncludeName) (label : List ℕ) → is_some (renamed_by name label) ≡ has_word name.name (key.Name label)
+pub renames-word : (name : IncludeName) (label : List ℕ) → is_some (renamed_label_by name label) ≡ has_word name.name (key.Name label)
 renames-word name label = by (begins_group (rest_of label))
   where
     word : List ℕ

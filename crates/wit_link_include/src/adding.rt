@@ -2,7 +2,7 @@
 ghost use Rattle.std.specs.Prelude.{◌≡◌, ◌⊎◌, ℕ, IfErr, IfOk, OnOk};
 ghost use Rattle.wit_elaboration.specs.Elaboration.{graph_uses};
 ghost use Rattle.wit_graph_data.specs.declared.error_kind.ResolveErrorKind.TheVariants.{OutOfMemory};
-ghost use Rattle.wit_link_include.specs.steps.Included.{CanBeAdded, CanBeBegun, IsFineAt, IsFineWorld, IsWorldCause, StopsAtInclude, with_including, with_lists, with_several};
+ghost use Rattle.wit_link_include.specs.steps.Included.{CanBeAdded, CanIncludeAll, IsAcceptedAt, IsAcceptedWorld, IsWorldCause, StopsAtInclude, with_including, with_lists, with_several};
 ghost use Rattle.wit_remap.specs.Grown.{Begins, Grown};
 
 use crate::finishing::finish_world;
@@ -20,10 +20,10 @@ fn include_each(
     includes: &Items<WorldInclude>,
     home: PackageId,
 ) -> ResolveResult<World>
-    requires { CanBeBegun home graph.old world includes.now }
+    requires { CanIncludeAll home graph.old world includes.now }
     ensures graph { OnOk result (graph.new ≡ (with_several home graph.old world includes.now).graph) }
     ensures world { IfOk result (λ new. new ≡ with_lists world (with_several home graph.old world includes.now).lists) }
-    ensures fine { OnOk result ((j : ℕ) → IsFineAt home graph.old world includes.now j) }
+    ensures fine { OnOk result ((j : ℕ) → IsAcceptedAt home graph.old world includes.now j) }
     ensures cause { IfErr result (λ kind. (kind ≡ OutOfMemory) ⊎ ((j : ℕ) × StopsAtInclude home graph.old world includes.now j kind)) }
     ensures grown { Grown graph.old graph.new }
 {
@@ -37,7 +37,7 @@ fn include_each(
 /// Puts a world of package `home` behind the worlds of a graph: its includes one after another, its setters after
 /// their getters, elaborated.
 ///
-/// The graph is on its way: its types, interfaces and worlds are good, and nothing uses or refers to itself. The
+/// The graph is partially linked: its types, interfaces and worlds are good, and nothing uses or refers to itself. The
 /// elaborator is one of the graph. Each world that is included is there and can be included, and the world can be
 /// finished.
 ///
@@ -59,7 +59,7 @@ pub fn add_world(
     ensures ok { OnOk result (graph.new ≡ with_including home graph.old world includes.now) }
     ensures uses { OnOk result (elaborator.new ≡ graph_uses graph.new) }
     ensures rows { Begins elaborator.old elaborator.new }
-    ensures fine { OnOk result (IsFineWorld home graph.old world includes.now) }
+    ensures fine { OnOk result (IsAcceptedWorld home graph.old world includes.now) }
     ensures cause { IfErr result (λ kind. (kind ≡ OutOfMemory) ⊎ IsWorldCause home graph.old world includes.now kind) }
     ensures grown { Grown graph.old graph.new }
 {

@@ -2,7 +2,7 @@
 ghost use Rattle.std.specs.Prelude.{◌≡◌, IfOk, map};
 ghost use Rattle.std.specs.Option.{option_map};
 ghost use Rattle.wit_graph_theory.specs.Image.{entry_image, interface_image, key_image, item_image, type_image};
-ghost use Rattle.wit_labels.specs.Rename.{renamed};
+ghost use Rattle.wit_labels.specs.Rename.{renamed_label};
 ghost use Rattle.wit_link_include.specs.steps.Copied.{maps_of};
 
 use std::alloc::{AllocError, Global};
@@ -84,7 +84,7 @@ impl<'a> Moves for Copies<'a> {
 impl<'a> Copies<'a> {
     /// A label of the included world, renamed.
     fn label(&self, alloc: Global, label: &Text) -> Result<Text, AllocError>
-        ensures { IfOk result (λ new. new ≡ renamed self.now.names label.now) }
+        ensures { IfOk result (λ new. new ≡ renamed_label self.now.names label.now) }
     {
         self.names.rename(alloc, label.as_str())
     }
@@ -106,7 +106,7 @@ impl<'a> Copies<'a> {
 
     /// A name of a type of the included world, renamed.
     fn name(&self, alloc: Global, name: &Option<Text>) -> Result<Option<Text>, AllocError>
-        ensures { IfOk result (λ new. new ≡ option_map (renamed self.now.names) name.now) }
+        ensures { IfOk result (λ new. new ≡ option_map (renamed_label self.now.names) name.now) }
     {
         match name {
             Some(label) => Ok(Some(self.label(alloc, label)?)),

@@ -20,7 +20,7 @@ use wit_labels::place_setters;
 /// Finishes a world over the types and interfaces of a graph and puts it behind the graph's worlds: its setters
 /// go after their getters, and it is elaborated.
 ///
-/// Refused where two labels of one list are too alike (17), a setter has no getter beside it (18), what the exports
+/// Refused where two labels of one list are not strongly unique (17), a setter has no getter beside it (18), what the exports
 /// need from outside is exported (4), and for memory (28); the graph is then as before.
 #[tactic(auto, using(crate::proofs::Causes::label_cause, crate::proofs::Causes::conflict_cause))]
 pub(crate) fn finish_world(

@@ -6,16 +6,16 @@ ghost use Rattle.std.specs.Ordering.{nat_cmp};
 ghost use Rattle.wit_data.specs.Reference.{type_references};
 ghost use Rattle.wit_data.specs.declared.world.World.{World};
 ghost use Rattle.wit_digraph.specs.Relation.{IsAcyclic};
-ghost use Rattle.wit_link_spec.specs.Include.{copy_maps, goes_with, is_copied, with_copies};
-ghost use Rattle.wit_link_spec.specs.Ranks.{taken};
+ghost use Rattle.wit_link_spec.specs.Include.{belongs_to, copy_maps, is_copied, with_copies};
+ghost use Rattle.wit_link_spec.specs.Ranks.{selected};
 ghost use Rattle.wit_graph_theory.specs.Image.{interface_image, type_image};
 ghost use Rattle.wit_remap.specs.Grown.{Grown};
 ghost use Rattle.wit_link_include.specs.steps.Copied.{IsOrigin, NamesThere, StayApart, maps_of, numbered, places, with_images};
 
 use crate::copies::Copies;
-use crate::going::going;
+use crate::belonging::belonging_interfaces;
 use crate::leading::{leading, those_leading};
-use crate::mentions::mentioned;
+use crate::mentions::named_types;
 use crate::numbering::{in_order, numbered};
 use crate::origin::Origin;
 use std::alloc::{AllocError, Global};
@@ -57,7 +57,7 @@ pub fn add_copies<'a>(
     ensures grown { Grown graph.old graph.new }
 {
     let names = Renamings::new(alloc, names)?;
-    let interfaces = going_interfaces(alloc, graph, from)?;
+    let interfaces = list_belonging(alloc, graph, from)?;
     let types = copied_types(alloc, graph, from, &interfaces)?;
     let copies = Copies {
         types,
@@ -72,16 +72,16 @@ pub fn add_copies<'a>(
 }
 
 /// Where the interfaces that go with a world go. The graph stays as it is, with room for them.
-fn going_interfaces(
+fn list_belonging(
     alloc: Global,
     graph: &mut Graph,
     from: WorldId,
 ) -> Result<Table<InterfaceId, InterfaceId>, AllocError>
     requires { from < length graph.old.worlds }
-    ensures table { (world : World) → slice_get graph.old.worlds from ≡ Some world → IfOk result (λ table. table ≡ numbered (length graph.old.interfaces) (places (goes_with graph.old world) graph.old.interfaces)) }
+    ensures table { (world : World) → slice_get graph.old.worlds from ≡ Some world → IfOk result (λ table. table ≡ numbered (length graph.old.interfaces) (places (belongs_to graph.old world) graph.old.interfaces)) }
     ensures same { graph.new ≡ graph.old }
 {
-    let ids = going(alloc, graph, graph.worlds.at(from.index()))?;
+    let ids = belonging_interfaces(alloc, graph, graph.worlds.at(from.index()))?;
     graph.interfaces.reserve(ids.len())?;
     numbered(alloc, ids.as_slice(), graph.interfaces.len())
 }
@@ -91,10 +91,10 @@ fn copied_types(
     alloc: Global,
     graph: &mut Graph,
     from: WorldId,
-    going: &Table<InterfaceId, InterfaceId>,
+    belonging_interfaces: &Table<InterfaceId, InterfaceId>,
 ) -> Result<Table<TypeId, TypeId>, AllocError>
     requires there { from < length graph.old.worlds }
-    requires going { (world : World) → slice_get graph.old.worlds from ≡ Some world → (i : ℕ) → is_some (lookup (nat_eq i) going.now) ≡ goes_with graph.old world i }
+    requires belonging_interfaces { (world : World) → slice_get graph.old.worlds from ≡ Some world → (i : ℕ) → is_some (lookup (nat_eq i) belonging_interfaces.now) ≡ belongs_to graph.old world i }
     requires acyclic { IsAcyclic (type_references graph.old.types) }
     requires apart { (world : World) → slice_get graph.old.worlds from ≡ Some world → StayApart graph.old from world }
     requires named { (world : World) → slice_get graph.old.worlds from ≡ Some world → NamesThere graph.old world }
@@ -105,7 +105,7 @@ fn copied_types(
         graph,
         id: from,
         world: graph.worlds.at(from.index()),
-        going,
+        belonging_interfaces,
     };
     let ids = copied_ids(alloc, &origin)?;
     graph.types.reserve(ids.len())?;
@@ -121,12 +121,12 @@ fn copied_ids(alloc: Global, origin: &Origin<'_>) -> Result<Items<TypeId>, Alloc
     ensures rising { IfOk result (λ ids. IsStrictlySortedBy nat_cmp ids) }
     ensures places { IfOk result (λ ids. ids ≡ places (is_copied origin.now.graph.now origin.now.id origin.now.world.now) origin.now.graph.now.types) }
 {
-    let roots = mentioned(alloc, origin)?;
+    let roots = named_types(alloc, origin)?;
     let known = leading(alloc, origin, roots.as_slice())?;
     in_order(those_leading(alloc, &known)?)
 }
 
-/// Puts the copies of what takes part at the ends of a graph's types and interfaces.
+/// Puts the copies of what is active at the ends of a graph's types and interfaces.
 fn append_copies(alloc: Global, graph: &mut Graph, copies: &Copies<'_>) -> Result<(), AllocError>
     requires types { (t : ℕ) → Contains (keys_of copies.now.types) t → t < length graph.old.types }
     requires interfaces { (i : ℕ) → Contains (keys_of copies.now.interfaces) i → i < length graph.old.interfaces }
@@ -140,14 +140,14 @@ fn append_copies(alloc: Global, graph: &mut Graph, copies: &Copies<'_>) -> Resul
     Ok(())
 }
 
-/// The copies of the types that take part.
+/// The copies of the types that are active.
 fn type_copies(
     alloc: Global,
     graph: &Graph,
     copies: &Copies<'_>,
 ) -> Result<Items<TypeDef>, AllocError>
     requires { (t : ℕ) → Contains (keys_of copies.now.types) t → t < length graph.now.types }
-    ensures { (kept : ℕ → Bool) → keys_of copies.now.types ≡ places kept graph.now.types → IfOk result (λ types. types ≡ map (type_image (maps_of copies.now)) (taken kept graph.now.types)) }
+    ensures { (kept : ℕ → Bool) → keys_of copies.now.types ≡ places kept graph.now.types → IfOk result (λ types. types ≡ map (type_image (maps_of copies.now)) (selected kept graph.now.types)) }
 {
     let mut types = Items::new(alloc);
     for (id, _) in copies.types.iter() {
@@ -156,14 +156,14 @@ fn type_copies(
     Ok(types)
 }
 
-/// The copies of the interfaces that take part.
+/// The copies of the interfaces that are active.
 fn interface_copies(
     alloc: Global,
     graph: &Graph,
     copies: &Copies<'_>,
 ) -> Result<Items<Interface>, AllocError>
     requires { (i : ℕ) → Contains (keys_of copies.now.interfaces) i → i < length graph.now.interfaces }
-    ensures { (kept : ℕ → Bool) → keys_of copies.now.interfaces ≡ places kept graph.now.interfaces → IfOk result (λ interfaces. interfaces ≡ map (interface_image (maps_of copies.now)) (taken kept graph.now.interfaces)) }
+    ensures { (kept : ℕ → Bool) → keys_of copies.now.interfaces ≡ places kept graph.now.interfaces → IfOk result (λ interfaces. interfaces ≡ map (interface_image (maps_of copies.now)) (selected kept graph.now.interfaces)) }
 {
     let mut interfaces = Items::new(alloc);
     for (id, _) in copies.interfaces.iter() {

@@ -2,7 +2,7 @@
 ghost use Rattle.std.specs.Prelude.{◌≡◌, ◌⊎◌, ◌<◌, IfErr, IfOk, OnOk, codes, length};
 ghost use Rattle.wit_link_spec.specs.Include.{is_other_package, lists_of};
 ghost use Rattle.wit_graph_data.specs.declared.error_kind.ResolveErrorKind.TheVariants.{OutOfMemory};
-ghost use Rattle.wit_link_include.specs.steps.Included.{CanBeIncluded, HaveOwnKeys, IncludeIsFine, IsIncludeCause, IsIncluded, before_includes, copied_entries, with_joined, with_lists, with_one};
+ghost use Rattle.wit_link_include.specs.steps.Included.{CanBeIncluded, HasNoIncludeCause, HaveOwnKeys, IsIncludeCause, IsIncluded, before_includes, copied_entries, with_joined, with_lists, with_one};
 ghost use Rattle.wit_data.specs.declared.world.World.{World};
 ghost use Rattle.wit_link_include.specs.steps.Joined.{CanJoin, ComeOnce, IsJoinCause};
 ghost use Rattle.wit_remap.specs.Grown.{Grown};
@@ -19,7 +19,7 @@ use wit_graph_data::{Graph, ResolveResult};
 /// Includes a world of a graph in another one of package `home`, which comes next: what goes with the included world
 /// is copied to the ends of the graph, and its entries are joined to the lists of the other, which is answered.
 ///
-/// The id of the include is of the graph. The graph is on its way: its types, interfaces and worlds are good, and
+/// The id of the include is of the graph. The graph is partially linked: its types, interfaces and worlds are good, and
 /// nothing uses or refers to itself. The included world is good in it, and no type with a name that doesn't go with
 /// that world refers to one that does. In the other world stands under the key of an interface that interface.
 ///
@@ -40,7 +40,7 @@ pub fn include(
     requires own_keys { HaveOwnKeys (lists_of world) }
     ensures graph { OnOk result (graph.new ≡ (with_one home (before_includes graph.old world) include.now).graph) }
     ensures world { IfOk result (λ new. new ≡ with_lists world (with_one home (before_includes graph.old world) include.now).lists) }
-    ensures fine { OnOk result (IncludeIsFine home (before_includes graph.old world) include.now) }
+    ensures fine { OnOk result (HasNoIncludeCause home (before_includes graph.old world) include.now) }
     ensures cause { IfErr result (λ kind. (kind ≡ OutOfMemory) ⊎ ((old : World) × IsIncluded (before_includes graph.old world) include.now old × IsIncludeCause home (before_includes graph.old world) include.now old kind)) }
     ensures grown { Grown graph.old graph.new }
 {

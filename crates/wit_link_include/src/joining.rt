@@ -2,7 +2,7 @@
 ghost use Rattle.std.specs.Prelude.{◌≡◌, ◌⊎◌, ◌<◌, ◌++◌, ◌∷◌, [], IfErr, IfOk, None, OnOk, Some, length, slice_get};
 ghost use Rattle.std.specs.Map.{lookup};
 ghost use Rattle.indexmap.specs.Layout.{set_value_at};
-ghost use Rattle.wit_link_spec.specs.Include.{joined, joined_item, new_item};
+ghost use Rattle.wit_link_spec.specs.Include.{joined_entries, joined_item, new_item};
 ghost use Rattle.wit_graph_data.specs.declared.error_kind.ResolveErrorKind.TheVariants.{ItemShadowing, OutOfMemory};
 ghost use Rattle.wit_data.specs.declared.world.WorldItem.{WorldItem};
 ghost use Rattle.wit_data.specs.declared.world.WorldKey.{WorldKey};
@@ -29,7 +29,7 @@ pub(crate) fn join(
     brought: Items<(WorldKey, WorldItem)>,
 ) -> ResolveResult<Table<WorldKey, WorldItem>>
     requires { ComeOnce brought }
-    ensures ok { IfOk result (λ new. new ≡ joined other current brought) }
+    ensures ok { IfOk result (λ new. new ≡ joined_entries other current brought) }
     ensures fine { OnOk result (CanJoin other current brought) }
     ensures cause { IfErr result (λ kind. (kind ≡ OutOfMemory) ⊎ IsJoinCause other span word.now current brought kind) }
 {

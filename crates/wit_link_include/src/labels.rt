@@ -1,7 +1,7 @@
-//! Labels of a world: whether some are too alike, and whether each setter has its getter.
+//! Labels of a world: whether some are not strongly unique, and whether each setter has its getter.
 ghost use Rattle.std.specs.Prelude.{◌≡◌, ◌⊎◌, IfErr, IfOk, OnOk, None};
 ghost use Rattle.wit_link_spec.specs.CauseText.{clash_text};
-ghost use Rattle.wit_link_include.specs.steps.Labels.{IsLabelError, LabelsAreFine, ListIsFine, IsListError};
+ghost use Rattle.wit_link_include.specs.steps.Labels.{IsLabelError, LabelsAreAccepted, ListIsAccepted, IsListError};
 ghost use Rattle.wit_graph_data.specs.declared.cause.Cause.TheVariants as cause;
 ghost use Rattle.wit_graph_data.specs.declared.error_kind.ResolveErrorKind.TheVariants.{OutOfMemory, Semantic};
 ghost use Rattle.wit_labels.specs.Setters.{LacksGetterAt};
@@ -11,9 +11,9 @@ use wit_data::{Span, Table, Text, World, WorldItem, WorldKey};
 use wit_graph_data::{Cause, ResolveError, ResolveErrorKind, ResolveResult};
 use wit_labels::{Clash, find_clash, find_setter_without_getter, getter_label};
 
-/// Refuses labels that are too alike (17) and setters without getters (18).
+/// Refuses labels that are not strongly unique (17) and setters without getters (18).
 pub(crate) fn check_labels(alloc: Global, world: &World) -> ResolveResult<()>
-    ensures fine { OnOk result (LabelsAreFine world.now) }
+    ensures fine { OnOk result (LabelsAreAccepted world.now) }
     ensures cause { IfErr result (λ kind. (kind ≡ OutOfMemory) ⊎ IsLabelError world.now kind) }
 {
     check_list(alloc, "import", &world.imports, &world.name)?;
@@ -27,11 +27,11 @@ fn check_list(
     entries: &Table<WorldKey, WorldItem>,
     world: &Text,
 ) -> ResolveResult<()>
-    ensures fine { OnOk result (ListIsFine entries.now) }
+    ensures fine { OnOk result (ListIsAccepted entries.now) }
     ensures cause { IfErr result (λ kind. (kind ≡ OutOfMemory) ⊎ IsListError world.now word.now entries.now kind) }
 {
     if let Some(clash) = find_clash(alloc, entries)? {
-        return Err(too_alike(alloc, word, clash, world)?);
+        return Err(not_strongly_unique(alloc, word, clash, world)?);
     }
     if let Some(place) = find_setter_without_getter(alloc, entries)? {
         return Err(no_getter(alloc, word, entries, place, world)?);
@@ -39,8 +39,8 @@ fn check_list(
     Ok(())
 }
 
-/// 17: two labels are too alike.
-fn too_alike(
+/// 17: two labels are not strongly unique.
+fn not_strongly_unique(
     alloc: Global,
     word: &str,
     clash: Clash<'_>,

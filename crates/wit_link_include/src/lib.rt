@@ -9,7 +9,7 @@ mod adding;
 mod copies;
 mod finishing;
 mod fresh_copies;
-mod going;
+mod belonging;
 mod including;
 mod joining;
 mod labels;

@@ -14,7 +14,7 @@ use wit_data::{
 };
 
 /// The types that a world's entries name, with repeats.
-pub(crate) fn mentioned(alloc: Global, origin: &Origin<'_>) -> Result<Items<TypeId>, AllocError>
+pub(crate) fn named_types(alloc: Global, origin: &Origin<'_>) -> Result<Items<TypeId>, AllocError>
     requires { IsOrigin origin.now }
     ensures { IfOk result (λ ids. ids ≡ roots_of origin.now) }
 {
@@ -52,7 +52,7 @@ fn push_item(
 {
     match item {
         WorldItem::Interface { id, .. } => {
-            if origin.going.contains_key(id) {
+            if origin.belonging_interfaces.contains_key(id) {
                 push_held(alloc, ids, origin, *id)
             } else {
                 Ok(())

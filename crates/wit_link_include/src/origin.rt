@@ -1,6 +1,6 @@
 //! A world of a graph that another one includes.
 ghost use Rattle.std.specs.Prelude.{◌≡◌};
-ghost use Rattle.wit_link_spec.specs.Include.{owner_goes_with};
+ghost use Rattle.wit_link_spec.specs.Include.{owner_belongs_to};
 ghost use Rattle.wit_link_include.specs.steps.Copied.{IsOrigin, is_open_in};
 
 use wit_data::{InterfaceId, Table, TypeDef, TypeOwner, World, WorldId};
@@ -12,18 +12,18 @@ pub(crate) struct Origin<'a> {
     pub graph: &'a Graph,
     pub id: WorldId,
     pub world: &'a World,
-    pub going: &'a Table<InterfaceId, InterfaceId>,
+    pub belonging_interfaces: &'a Table<InterfaceId, InterfaceId>,
 }
 
 impl<'a> Origin<'a> {
     /// Whether what has this owner goes with the world.
     pub(crate) fn owns(&self, owner: TypeOwner) -> bool
         requires { IsOrigin self.now }
-        ensures { result ≡ owner_goes_with self.now.graph.now self.now.id self.now.world.now owner }
+        ensures { result ≡ owner_belongs_to self.now.graph.now self.now.id self.now.world.now owner }
     {
         match owner {
             TypeOwner::World(world) => world == self.id,
-            TypeOwner::Interface(id) => self.going.contains_key(&id),
+            TypeOwner::Interface(id) => self.belonging_interfaces.contains_key(&id),
             TypeOwner::None => false,
         }
     }

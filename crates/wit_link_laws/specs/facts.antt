@@ -25,8 +25,8 @@ pub mod NameFacts
 pub mod NamedAliases
 pub mod NamesOnce
 pub mod OldWorlds
-pub mod OnItsWay
 pub mod PackageFacts
+pub mod PartiallyLinked
 pub mod Parts
 pub mod PartsStand
 pub mod PlacedFacts

@@ -4,7 +4,7 @@ ghost use Rattle.wit_link_laws.specs.laws.StageFacts.{IncludedAreThere, Includes
 
 use wit_graph_theory::laws::laws_of_elaboration;
 
-/// A valid graph to which a package is added whose worlds are fine is valid.
+/// A valid graph to which a package is added whose worlds are accepted is valid.
 pub fn pushes_stay_valid()
     ensures { PushesStayValid }
 {

@@ -1,3 +1,3 @@
-mod NamePlaces
+mod NameOrders
 mod Orders
 mod Refusals

@@ -1,4 +1,4 @@
--- Which handed package depends on which, and what an order of them lists.
+-- Which unresolved package depends on which, and what an order of them lists.
 use Rattle.std.proofs.Common.{◌≡◌, ◌∙◌, ◌⊎◌, ◌<◌, ◌+◌, ℕ, zero, suc, false, List, [], ◌∷◌, ◌++◌, length, refl, ap, sym, subst, inl, inr, arith, Option, Some, None, map, slice_get, get_or, Contains, All, IsPermutation, nat_eq}
 use Rattle.std.proofs.lemmas.Bool.{cases_lt, false≢true}
 use Rattle.std.proofs.lemmas.List.{get_or_past, length-map}
@@ -13,17 +13,17 @@ use Rattle.wit_digraph.specs.Cycles.{IsOnCycle}
 use Rattle.wit_digraph.specs.facts.FreshFacts.{IsDistinct-fresh, fresh_in}
 use Rattle.wit_digraph.specs.facts.MemberFacts.{Contains-cons_cases, Contains-flat_map_cases, Contains-here, Contains-nil, Contains-there}
 use Rattle.wit_digraph.specs.Relation.{IsAcyclic, IsInRange, IsPath, direct}
-use Rattle.wit_digraph.specs.facts.WalkFacts.{Reaches-from_walk}
-use Rattle.wit_digraph.specs.Walks.{first_of_each, walk}
+use Rattle.wit_digraph.specs.facts.PostOrderFacts.{Reaches-from_post_order}
+use Rattle.wit_digraph.specs.PostOrder.{first_of_each, post_order}
 use Rattle.wit_data.specs.Foreign.{ForeignItem}
 use Rattle.wit_data.specs.PackageOrder.{same_package}
 use Rattle.wit_data.specs.declared.package_name.PackageName.{PackageName}
 use Rattle.wit_data.specs.declared.unresolved.UnresolvedPackage.{UnresolvedPackage}
-use Rattle.wit_link_order.proofs.NamePlaces.{apart, keys-places, lookup-places, roots-all, roots-by_name}
+use Rattle.wit_link_order.proofs.NameOrders.{apart, keys-places, lookup-places, roots-all, roots-by_name}
 use Rattle.wit_data.specs.facts.PackageNameFacts.{own_name, same_name}
 use Rattle.wit_link_order.specs.facts.RangeFacts.{range-below}
-use Rattle.wit_link_order.specs.Sorting.{Handed, IsGroupOrder, handed_deps, handed_uses, names_of}
-use Rattle.wit_link_order.specs.steps.SortingSteps.{AreByName, IsOrdered, found_deps, places_of}
+use Rattle.wit_link_order.specs.GroupOrder.{IsGroupOrder, Unresolved, group_deps, group_uses, names_of}
+use Rattle.wit_link_order.specs.steps.GroupOrderSteps.{AreByName, IsOrdered, found_deps, indices_of_names}
 
 module _ {X Y : Type 0} where
   -- what stands at a place, mapped
@@ -55,17 +55,17 @@ some_at (x ∷ xs) zero within = (x, refl)
 some_at (x ∷ xs) (suc i) within = some_at xs i (omega arith)
 
 -- the look-ups of the code find what a package depends on
-pub found_deps-are : (names : List PackageName) (u : UnresolvedPackage) → found_deps (places_of names) u ≡ handed_deps names u
+pub found_deps-are : (names : List PackageName) (u : UnresolvedPackage) → found_deps (indices_of_names names) u ≡ group_deps names u
 found_deps-are names u = ap (λ (f : PackageName × List ForeignItem → Option ℕ). filter_map f u.foreign_deps) (λ i e. lookup-places e.0 names i)
 
 -- ---- members of rows
 
 -- package `user` depends on package `used`, of this name
-pub record Depends (handed : List Handed) (user used : ℕ) : Type 0 where
-  pub p : Handed
-  pub q : Handed
-  pub user_is : slice_get handed user ≡ Some p
-  pub used_is : slice_get handed used ≡ Some q
+pub record Depends (unresolved : List Unresolved) (user used : ℕ) : Type 0 where
+  pub p : Unresolved
+  pub q : Unresolved
+  pub user_is : slice_get unresolved user ≡ Some p
+  pub used_is : slice_get unresolved used ≡ Some q
   pub named : Contains (keys_of p.0.foreign_deps) q.0.name
 
 key_among : (es : List (PackageName × List ForeignItem)) (e : PackageName × List ForeignItem) → Contains es e → Contains (keys_of es) e.0
@@ -75,21 +75,21 @@ key_among (f ∷ es) e has = elim (Contains-cons_cases f e es has) [
   | inr there ↦ Contains-there f.0 e.0 (keys_of es) (key_among es e there)
 ]
 
-name_at : (handed : List Handed) (i : ℕ) (d : PackageName) → i < length (names_of handed) → (q : Handed) × (slice_get handed i ≡ Some q) × (get_or (names_of handed) i d ≡ q.0.name)
-name_at handed i d within =
-    let long : length (names_of handed) ≡ length handed = length-map handed (λ (p : Handed). p.0.name) in
-    let q = some_at handed i (omega arith) in
-    (q.0, q.1, get_or-mapped (λ (p : Handed). p.0.name) handed i q.0 d q.1)
+name_at : (unresolved : List Unresolved) (i : ℕ) (d : PackageName) → i < length (names_of unresolved) → (q : Unresolved) × (slice_get unresolved i ≡ Some q) × (get_or (names_of unresolved) i d ≡ q.0.name)
+name_at unresolved i d within =
+    let long : length (names_of unresolved) ≡ length unresolved = length-map unresolved (λ (p : Unresolved). p.0.name) in
+    let q = some_at unresolved i (omega arith) in
+    (q.0, q.1, get_or-mapped (λ (p : Unresolved). p.0.name) unresolved i q.0 d q.1)
 
-pub depends : (handed : List Handed) (user used : ℕ) → Contains (direct (handed_uses handed) user) used → Depends handed user used
-depends handed user used has = elim (cases_lt user (length handed)) [
+pub depends : (unresolved : List Unresolved) (user used : ℕ) → Contains (direct (group_uses unresolved) user) used → Depends unresolved user used
+depends unresolved user used has = elim (cases_lt user (length unresolved)) [
   | inl within ↦
-      let p = some_at handed user within in
-      let names = names_of handed in
-      let row : direct (handed_uses handed) user ≡ handed_deps names p.0.0 = get_or-mapped (λ (p : Handed). handed_deps (names_of handed) p.0) handed user p.0 [] p.1 in
+      let p = some_at unresolved user within in
+      let names = names_of unresolved in
+      let row : direct (group_uses unresolved) user ≡ group_deps names p.0.0 = get_or-mapped (λ (p : Unresolved). group_deps (names_of unresolved) p.0) unresolved user p.0 [] p.1 in
       let dep = filter_map-cases (λ (e : PackageName × List ForeignItem). position (same_package e.0) names) p.0.0.foreign_deps used (subst (λ (r : List ℕ). Contains r used) row has) in
       let place = position-Some (same_package dep.0.0) names used dep.0.0 dep.2 in
-      let q = name_at handed used dep.0.0 place.0 in
+      let q = name_at unresolved used dep.0.0 place.0 in
       let same : dep.0.0 ≡ q.0.0.name = same_name dep.0.0 (get_or names used dep.0.0) place.1 ∙ q.2 in
       record {
         p = p.0;
@@ -99,8 +99,8 @@ depends handed user used has = elim (cases_lt user (length handed)) [
         named = subst (λ (x : PackageName). Contains (keys_of p.0.0.foreign_deps) x) same (key_among p.0.0.foreign_deps dep.0 dep.1);
       }
   | inr past ↦
-      let long : length (handed_uses handed) ≡ length handed = length-map handed (λ (p : Handed). handed_deps (names_of handed) p.0) in
-      let none : direct (handed_uses handed) user ≡ [] = get_or_past (handed_uses handed) user [] (omega arith) in
+      let long : length (group_uses unresolved) ≡ length unresolved = length-map unresolved (λ (p : Unresolved). group_deps (names_of unresolved) p.0) in
+      let none : direct (group_uses unresolved) user ≡ [] = get_or_past (group_uses unresolved) user [] (omega arith) in
       absurd (Contains-nil (subst (λ (r : List ℕ). Contains r used) none has))
 ]
 
@@ -109,12 +109,12 @@ within_at [] i x at = cc
 within_at (y ∷ ys) zero x at = omega arith
 within_at (y ∷ ys) (suc i) x at = let rest = within_at ys i x at in omega arith
 
-pub uses-in_range : (handed : List Handed) → IsInRange (handed_uses handed)
-uses-in_range handed i k d below =
-    let long : length (handed_uses handed) ≡ length handed = length-map handed (λ (p : Handed). handed_deps (names_of handed) p.0) in
-    let used = get_or (direct (handed_uses handed) i) k d in
-    let on = depends handed i used (Contains-get_or (direct (handed_uses handed) i) k d below) in
-    let inside = within_at handed used on.q on.used_is in
+pub uses-in_range : (unresolved : List Unresolved) → IsInRange (group_uses unresolved)
+uses-in_range unresolved i k d below =
+    let long : length (group_uses unresolved) ≡ length unresolved = length-map unresolved (λ (p : Unresolved). group_deps (names_of unresolved) p.0) in
+    let used = get_or (direct (group_uses unresolved) i) k d in
+    let on = depends unresolved i used (Contains-get_or (direct (group_uses unresolved) i) k d below) in
+    let inside = within_at unresolved used on.q on.used_is in
     omega arith
 
 -- ---- cycles
@@ -127,18 +127,18 @@ no_cycle uses user used acyclic on = acyclic.no_cycle user used on.leads_back.0 
 pub roots-below : (n : ℕ) (roots : List ℕ) → IsPermutation (range_with_len 0 n) roots → All (λ i. i < n) roots
 roots-below n roots all = All-permutation (λ i. i < n) (range_with_len 0 n) roots all (range-below n)
 
-pub order-once : (handed : List Handed) (order : List ℕ) → IsGroupOrder handed order → IsDistinct nat_eq order
-order-once handed order is = subst (IsDistinct nat_eq) (sym is.is) (IsDistinct-fresh [] (flat_map (walk (handed_uses handed)) is.roots))
+pub order-once : (unresolved : List Unresolved) (order : List ℕ) → IsGroupOrder unresolved order → IsDistinct nat_eq order
+order-once unresolved order is = subst (IsDistinct nat_eq) (sym is.is) (IsDistinct-fresh [] (flat_map (post_order (group_uses unresolved)) is.roots))
 
-pub order-below : (handed : List Handed) (order : List ℕ) → IsAcyclic (handed_uses handed) → IsGroupOrder handed order → All (λ i. i < length handed) order
-order-below handed order acyclic is k d below =
-    let uses = handed_uses handed in
-    let long : length uses ≡ length handed = length-map handed (λ (p : Handed). handed_deps (names_of handed) p.0) in
+pub order-below : (unresolved : List Unresolved) (order : List ℕ) → IsAcyclic (group_uses unresolved) → IsGroupOrder unresolved order → All (λ i. i < length unresolved) order
+order-below unresolved order acyclic is k d below =
+    let uses = group_uses unresolved in
+    let long : length uses ≡ length unresolved = length-map unresolved (λ (p : Unresolved). group_deps (names_of unresolved) p.0) in
     let x = get_or order k d in
-    let has : Contains (first_of_each (flat_map (walk uses) is.roots)) x = subst (λ (l : List ℕ). Contains l x) is.is (Contains-get_or order k d below) in
-    let part = Contains-flat_map_cases (walk uses) is.roots x (fresh_in [] (flat_map (walk uses) is.roots) x has) in
-    let root : part.0 < length handed = All-contains (λ i. i < length handed) is.roots part.0 (roots-below (length handed) is.roots is.all) part.1.0 in
-    let leads = Reaches-from_walk uses acyclic part.0 (omega (arith, root)) x part.1.1 in
+    let has : Contains (first_of_each (flat_map (post_order uses) is.roots)) x = subst (λ (l : List ℕ). Contains l x) is.is (Contains-get_or order k d below) in
+    let part = Contains-flat_map_cases (post_order uses) is.roots x (fresh_in [] (flat_map (post_order uses) is.roots) x has) in
+    let root : part.0 < length unresolved = All-contains (λ i. i < length unresolved) is.roots part.0 (roots-below (length unresolved) is.roots is.all) part.1.0 in
+    let leads = Reaches-from_post_order uses acyclic part.0 (omega (arith, root)) x part.1.1 in
     let inside : x < length uses = to_end uses acyclic part.0 leads.0 x (omega (arith, root)) leads.1 in
     omega arith
   where
@@ -148,29 +148,29 @@ order-below handed order acyclic is k d below =
 
 -- ---- from the steps to the order
 
--- what the steps of the code have found: the rows of uses, which are acyclic, and the roots
-pub record IsFound (handed : List Handed) (uses : List (List ℕ)) (roots : List ℕ) : Type 0 where
-  pub uses_are : uses ≡ handed_uses handed
+-- what the steps of the code have found: the adjacency lists, which are acyclic, and the roots
+pub record IsFound (unresolved : List Unresolved) (uses : List (List ℕ)) (roots : List ℕ) : Type 0 where
+  pub uses_are : uses ≡ group_uses unresolved
   pub acyclic : IsAcyclic uses
-  pub by_name : AreByName (places_of (names_of handed)) roots
-  pub differ : IsDistinct same_package (keys_of (places_of (names_of handed)))
+  pub by_name : AreByName (indices_of_names (names_of unresolved)) roots
+  pub differ : IsDistinct same_package (keys_of (indices_of_names (names_of unresolved)))
 
-pub found-below : (handed : List Handed) (uses : List (List ℕ)) (roots : List ℕ) → uses ≡ handed_uses handed → AreByName (places_of (names_of handed)) roots → All (λ i. i < length uses) roots
-found-below handed uses roots uses_are by_name =
-    let long : length uses ≡ length handed = ap length uses_are ∙ length-map handed (λ (p : Handed). handed_deps (names_of handed) p.0) in
-    let wide : length (names_of handed) ≡ length uses = length-map handed (λ (p : Handed). p.0.name) ∙ sym long in
-    subst (λ (n : ℕ). All (λ i. i < n) roots) wide (roots-below (length (names_of handed)) roots (roots-all (names_of handed) roots by_name))
+pub found-below : (unresolved : List Unresolved) (uses : List (List ℕ)) (roots : List ℕ) → uses ≡ group_uses unresolved → AreByName (indices_of_names (names_of unresolved)) roots → All (λ i. i < length uses) roots
+found-below unresolved uses roots uses_are by_name =
+    let long : length uses ≡ length unresolved = ap length uses_are ∙ length-map unresolved (λ (p : Unresolved). group_deps (names_of unresolved) p.0) in
+    let wide : length (names_of unresolved) ≡ length uses = length-map unresolved (λ (p : Unresolved). p.0.name) ∙ sym long in
+    subst (λ (n : ℕ). All (λ i. i < n) roots) wide (roots-below (length (names_of unresolved)) roots (roots-all (names_of unresolved) roots by_name))
 
-pub found-order : (handed : List Handed) (uses : List (List ℕ)) (roots order : List ℕ) → IsFound handed uses roots → order ≡ first_of_each (flat_map (walk uses) roots) → IsOrdered handed order
-found-order handed uses roots order is listed =
-    let names = names_of handed in
-    let wide : length names ≡ length handed = length-map handed (λ (p : Handed). p.0.name) in
+pub found-order : (unresolved : List Unresolved) (uses : List (List ℕ)) (roots order : List ℕ) → IsFound unresolved uses roots → order ≡ first_of_each (flat_map (post_order uses) roots) → IsOrdered unresolved order
+found-order unresolved uses roots order is listed =
+    let names = names_of unresolved in
+    let wide : length names ≡ length unresolved = length-map unresolved (λ (p : Unresolved). p.0.name) in
     record {
       is = record {
         roots = roots;
         all = subst (λ (n : ℕ). IsPermutation (range_with_len 0 n) roots) wide (roots-all names roots is.by_name);
         by_name = roots-by_name names roots is.by_name;
-        is = listed ∙ ap (λ (rows : List (List ℕ)). first_of_each (flat_map (walk rows) roots)) is.uses_are;
+        is = listed ∙ ap (λ (rows : List (List ℕ)). first_of_each (flat_map (post_order rows) roots)) is.uses_are;
       };
       acyclic = subst IsAcyclic is.uses_are is.acyclic;
       differ = apart names (subst (IsDistinct same_package) (keys-places names) is.differ);

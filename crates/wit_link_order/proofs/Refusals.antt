@@ -1,4 +1,4 @@
--- What is told of handed packages is a reason.
+-- What is told of unresolved packages is a reason.
 use Rattle.std.proofs.Common.{◌≡◌, ◌∙◌, ◌<◌, ◌≤◌, ℕ, zero, suc, List, [], ◌∷◌, length, refl, ap, sym, subst, inl, inr, arith, Option, Some, slice_get, get_or, Contains}
 use Rattle.std.specs.Map.{keys_of}
 use Rattle.std.specs.Option.{IsSomeAnd}
@@ -10,8 +10,8 @@ use Rattle.wit_data.specs.declared.package_name.PackageName.{PackageName}
 use Rattle.wit_graph_data.specs.declared.error_kind.ResolveErrorKind.{ResolveErrorKind}
 use Rattle.wit_graph_data.specs.declared.error_kind.ResolveErrorKind.TheVariants as kind
 use Rattle.wit_link_order.proofs.Orders.{depends, no_cycle, slice_get-map, within_at}
-use Rattle.wit_link_order.specs.Sorting.{Handed, IsHandedTwice, IsOnHandedCycle, IsSortCause, Place, handed_uses, names_of}
-use Rattle.wit_link_order.specs.steps.SortingSteps.{IsOrdered, IsToldCycle, IsToldTwice, NamesAt}
+use Rattle.wit_link_order.specs.GroupOrder.{IsDefinedTwice, IsOnPackageCycle, IsSortCause, OptionalSpan, Unresolved, group_uses, names_of}
+use Rattle.wit_link_order.specs.steps.GroupOrderSteps.{IsCycleError, IsDefinedTwiceError, IsOrdered, NamesAt}
 
 -- ---- what stands at a place
 
@@ -20,40 +20,40 @@ some-at {X} xs i x P at here = subst (λ (o : Option X). IsSomeAnd o P) (sym at)
 
 -- ---- two of one name
 
-twice : (handed : List Handed) (i j : ℕ) (earlier later : Handed) (name : PackageName) (span1 span2 : Place) → i < j → slice_get handed i ≡ Some earlier → slice_get handed j ≡ Some later
+twice : (unresolved : List Unresolved) (i j : ℕ) (earlier later : Unresolved) (name : PackageName) (span1 span2 : OptionalSpan) → i < j → slice_get unresolved i ≡ Some earlier → slice_get unresolved j ≡ Some later
     → earlier.0.name ≡ later.0.name → name ≡ later.0.name → span1 ≡ moved_by later.1 later.0.package_name_span → span2 ≡ moved_by earlier.1 earlier.0.package_name_span
-    → IsHandedTwice handed name span1 span2
-twice handed i j earlier later name span1 span2 before first second same name_is one two = record {
+    → IsDefinedTwice unresolved name span1 span2
+twice unresolved i j earlier later name span1 span2 before first second same name_is one two = record {
   earlier = i;
   later = j;
   before = before;
-  first = some-at handed i earlier (λ (p : Handed). (p.0.name ≡ name) × (span2 ≡ moved_by p.1 p.0.package_name_span)) first (same ∙ sym name_is, two);
-  second = some-at handed j later (λ (p : Handed). (p.0.name ≡ name) × (span1 ≡ moved_by p.1 p.0.package_name_span)) second (sym name_is, one);
+  first = some-at unresolved i earlier (λ (p : Unresolved). (p.0.name ≡ name) × (span2 ≡ moved_by p.1 p.0.package_name_span)) first (same ∙ sym name_is, two);
+  second = some-at unresolved j later (λ (p : Unresolved). (p.0.name ≡ name) × (span1 ≡ moved_by p.1 p.0.package_name_span)) second (sym name_is, one);
 }
 
-pub twice-cause : (handed : List Handed) (i j : ℕ) (earlier later : Handed) (kind : ResolveErrorKind) → i < j → slice_get handed i ≡ Some earlier → slice_get handed j ≡ Some later
-    → earlier.0.name ≡ later.0.name → IsToldTwice later earlier kind → IsSortCause handed kind
-twice-cause handed i j earlier later (kind.DuplicatePackage name span1 span2) before first second same told =
-    twice handed i j earlier later name span1 span2 before first second same told.0 told.1 told.2
-twice-cause handed i j earlier later kind.OffsetOverflow before first second same told =
+pub twice-cause : (unresolved : List Unresolved) (i j : ℕ) (earlier later : Unresolved) (kind : ResolveErrorKind) → i < j → slice_get unresolved i ≡ Some earlier → slice_get unresolved j ≡ Some later
+    → earlier.0.name ≡ later.0.name → IsDefinedTwiceError later earlier kind → IsSortCause unresolved kind
+twice-cause unresolved i j earlier later (kind.DuplicatePackage name span1 span2) before first second same told =
+    twice unresolved i j earlier later name span1 span2 before first second same told.0 told.1 told.2
+twice-cause unresolved i j earlier later kind.OffsetOverflow before first second same told =
     let span1 = moved_by later.1 later.0.package_name_span in
     let span2 = moved_by earlier.1 earlier.0.package_name_span in
-    inl (later.0.name, span1, span2, twice handed i j earlier later later.0.name span1 span2 before first second same refl refl refl, told)
-twice-cause handed i j earlier later kind.OutOfMemory before first second same told = absurd told
-twice-cause handed i j earlier later (kind.PackageNotFound span requested known) before first second same told = absurd told
-twice-cause handed i j earlier later (kind.WorldNotFound span requested home) before first second same told = absurd told
-twice-cause handed i j earlier later (kind.InterfaceNotFound span requested home) before first second same told = absurd told
-twice-cause handed i j earlier later (kind.InvalidTransitiveDependency span name) before first second same told = absurd told
-twice-cause handed i j earlier later (kind.PackageCycle span home) before first second same told = absurd told
-twice-cause handed i j earlier later (kind.ItemShadowing span word name) before first second same told = absurd told
-twice-cause handed i j earlier later (kind.StabilityMismatch span from into) before first second same told = absurd told
-twice-cause handed i j earlier later (kind.Semantic span message cause) before first second same told = absurd told
+    inl (later.0.name, span1, span2, twice unresolved i j earlier later later.0.name span1 span2 before first second same refl refl refl, told)
+twice-cause unresolved i j earlier later kind.OutOfMemory before first second same told = absurd told
+twice-cause unresolved i j earlier later (kind.PackageNotFound span requested known) before first second same told = absurd told
+twice-cause unresolved i j earlier later (kind.WorldNotFound span requested home) before first second same told = absurd told
+twice-cause unresolved i j earlier later (kind.InterfaceNotFound span requested home) before first second same told = absurd told
+twice-cause unresolved i j earlier later (kind.InvalidTransitiveDependency span name) before first second same told = absurd told
+twice-cause unresolved i j earlier later (kind.PackageCycle span home) before first second same told = absurd told
+twice-cause unresolved i j earlier later (kind.ItemShadowing span word name) before first second same told = absurd told
+twice-cause unresolved i j earlier later (kind.StabilityMismatch span from into) before first second same told = absurd told
+twice-cause unresolved i j earlier later (kind.Semantic span message cause) before first second same told = absurd told
 
 -- ---- cycles
 
-cycle : (handed : List Handed) (user used : ℕ) (p q : Handed) (place span : Place) → IsOnCycle (handed_uses handed) user used → slice_get handed user ≡ Some p → slice_get handed used ≡ Some q
-    → NamesAt p.0 q.0.name place → span ≡ moved_by p.1 place → IsOnHandedCycle handed span q.0.name
-cycle handed user used p q place span on user_is used_is names is = record {
+cycle : (unresolved : List Unresolved) (user used : ℕ) (p q : Unresolved) (place span : OptionalSpan) → IsOnCycle (group_uses unresolved) user used → slice_get unresolved user ≡ Some p → slice_get unresolved used ≡ Some q
+    → NamesAt p.0 q.0.name place → span ≡ moved_by p.1 place → IsOnPackageCycle unresolved span q.0.name
+cycle unresolved user used p q place span on user_is used_is names is = record {
   user = user;
   used = used;
   told = used;
@@ -65,90 +65,90 @@ cycle handed user used p q place span on user_is used_is names is = record {
     items = names.items;
     is = user_is;
     names = names.names;
-    used_is = slice_get-map (λ (h : Handed). h.0.name) handed used q used_is;
-    span_is = some-at p.0.foreign_dep_spans names.at place (λ (s : Place). span ≡ moved_by p.1 s) names.span_is is;
+    used_is = slice_get-map (λ (h : Unresolved). h.0.name) unresolved used q used_is;
+    span_is = some-at p.0.foreign_dep_spans names.at place (λ (s : OptionalSpan). span ≡ moved_by p.1 s) names.span_is is;
   };
   to_told = ([], refl);
   from_told = on.leads_back;
-  is = slice_get-map (λ (h : Handed). h.0.name) handed used q used_is;
+  is = slice_get-map (λ (h : Unresolved). h.0.name) unresolved used q used_is;
 }
 
-pub cycle-cause : (handed : List Handed) (user used : ℕ) (p q : Handed) (place : Place) (kind : ResolveErrorKind) → IsOnCycle (handed_uses handed) user used → slice_get handed user ≡ Some p
-    → slice_get handed used ≡ Some q → NamesAt p.0 q.0.name place → IsToldCycle place p.1 q.0.name kind → IsSortCause handed kind
-cycle-cause handed user used p q place (kind.PackageCycle span home) on user_is used_is names told =
-    subst (λ (n : PackageName). IsOnHandedCycle handed span n) (sym told.1) (cycle handed user used p q place span on user_is used_is names told.0)
-cycle-cause handed user used p q place kind.OffsetOverflow on user_is used_is names told =
-    inr (moved_by p.1 place, q.0.name, cycle handed user used p q place (moved_by p.1 place) on user_is used_is names refl, told)
-cycle-cause handed user used p q place kind.OutOfMemory on user_is used_is names told = absurd told
-cycle-cause handed user used p q place (kind.PackageNotFound span requested known) on user_is used_is names told = absurd told
-cycle-cause handed user used p q place (kind.WorldNotFound span requested home) on user_is used_is names told = absurd told
-cycle-cause handed user used p q place (kind.InterfaceNotFound span requested home) on user_is used_is names told = absurd told
-cycle-cause handed user used p q place (kind.InvalidTransitiveDependency span name) on user_is used_is names told = absurd told
-cycle-cause handed user used p q place (kind.DuplicatePackage name span1 span2) on user_is used_is names told = absurd told
-cycle-cause handed user used p q place (kind.ItemShadowing span word name) on user_is used_is names told = absurd told
-cycle-cause handed user used p q place (kind.StabilityMismatch span from into) on user_is used_is names told = absurd told
-cycle-cause handed user used p q place (kind.Semantic span message cause) on user_is used_is names told = absurd told
+pub cycle-cause : (unresolved : List Unresolved) (user used : ℕ) (p q : Unresolved) (place : OptionalSpan) (kind : ResolveErrorKind) → IsOnCycle (group_uses unresolved) user used → slice_get unresolved user ≡ Some p
+    → slice_get unresolved used ≡ Some q → NamesAt p.0 q.0.name place → IsCycleError place p.1 q.0.name kind → IsSortCause unresolved kind
+cycle-cause unresolved user used p q place (kind.PackageCycle span home) on user_is used_is names told =
+    subst (λ (n : PackageName). IsOnPackageCycle unresolved span n) (sym told.1) (cycle unresolved user used p q place span on user_is used_is names told.0)
+cycle-cause unresolved user used p q place kind.OffsetOverflow on user_is used_is names told =
+    inr (moved_by p.1 place, q.0.name, cycle unresolved user used p q place (moved_by p.1 place) on user_is used_is names refl, told)
+cycle-cause unresolved user used p q place kind.OutOfMemory on user_is used_is names told = absurd told
+cycle-cause unresolved user used p q place (kind.PackageNotFound span requested known) on user_is used_is names told = absurd told
+cycle-cause unresolved user used p q place (kind.WorldNotFound span requested home) on user_is used_is names told = absurd told
+cycle-cause unresolved user used p q place (kind.InterfaceNotFound span requested home) on user_is used_is names told = absurd told
+cycle-cause unresolved user used p q place (kind.InvalidTransitiveDependency span name) on user_is used_is names told = absurd told
+cycle-cause unresolved user used p q place (kind.DuplicatePackage name span1 span2) on user_is used_is names told = absurd told
+cycle-cause unresolved user used p q place (kind.ItemShadowing span word name) on user_is used_is names told = absurd told
+cycle-cause unresolved user used p q place (kind.StabilityMismatch span from into) on user_is used_is names told = absurd told
+cycle-cause unresolved user used p q place (kind.Semantic span message cause) on user_is used_is names told = absurd told
 
 -- ---- where there is no reason
 
-named : (handed : List Handed) (i : ℕ) (name : PackageName) (Q : Handed → Type 0) → SomeAt handed i (λ (p : Handed). (p.0.name ≡ name) × Q p) → slice_get (names_of handed) i ≡ Some name
+named : (unresolved : List Unresolved) (i : ℕ) (name : PackageName) (Q : Unresolved → Type 0) → SomeAt unresolved i (λ (p : Unresolved). (p.0.name ≡ name) × Q p) → slice_get (names_of unresolved) i ≡ Some name
 named [] i name Q some = absurd some
 named (p ∷ ps) zero name Q some = ap (λ (n : PackageName). Some n) some.0
 named (p ∷ ps) (suc i) name Q some = named ps i name Q some
 
-not-twice : (handed : List Handed) (order : List ℕ) (name : PackageName) (span1 span2 : Place) → IsOrdered handed order → IsHandedTwice handed name span1 span2 → ⊥
-not-twice handed order name span1 span2 ordered is =
-    ordered.differ is.earlier is.later name is.before (named handed is.earlier name (λ (p : Handed). span2 ≡ moved_by p.1 p.0.package_name_span) is.first)
-    (named handed is.later name (λ (p : Handed). span1 ≡ moved_by p.1 p.0.package_name_span) is.second)
+not-twice : (unresolved : List Unresolved) (order : List ℕ) (name : PackageName) (span1 span2 : OptionalSpan) → IsOrdered unresolved order → IsDefinedTwice unresolved name span1 span2 → ⊥
+not-twice unresolved order name span1 span2 ordered is =
+    ordered.differ is.earlier is.later name is.before (named unresolved is.earlier name (λ (p : Unresolved). span2 ≡ moved_by p.1 p.0.package_name_span) is.first)
+    (named unresolved is.later name (λ (p : Unresolved). span1 ≡ moved_by p.1 p.0.package_name_span) is.second)
 
-not-cycle : (handed : List Handed) (order : List ℕ) (span : Place) (home : PackageName) → IsOrdered handed order → IsOnHandedCycle handed span home → ⊥
-not-cycle handed order span home ordered is = no_cycle (handed_uses handed) is.user is.used ordered.acyclic is.on_cycle
+not-cycle : (unresolved : List Unresolved) (order : List ℕ) (span : OptionalSpan) (home : PackageName) → IsOrdered unresolved order → IsOnPackageCycle unresolved span home → ⊥
+not-cycle unresolved order span home ordered is = no_cycle (group_uses unresolved) is.user is.used ordered.acyclic is.on_cycle
 
-pub no-cause : (handed : List Handed) (order : List ℕ) (kind : ResolveErrorKind) → IsOrdered handed order → IsSortCause handed kind → ⊥
-no-cause handed order (kind.DuplicatePackage name span1 span2) ordered is = not-twice handed order name span1 span2 ordered is
-no-cause handed order (kind.PackageCycle span home) ordered is = not-cycle handed order span home ordered is
-no-cause handed order kind.OffsetOverflow ordered is = elim is [
-  | inl two ↦ not-twice handed order two.0 two.1 two.2 ordered two.3
-  | inr on ↦ not-cycle handed order on.0 on.1 ordered on.2
+pub no-cause : (unresolved : List Unresolved) (order : List ℕ) (kind : ResolveErrorKind) → IsOrdered unresolved order → IsSortCause unresolved kind → ⊥
+no-cause unresolved order (kind.DuplicatePackage name span1 span2) ordered is = not-twice unresolved order name span1 span2 ordered is
+no-cause unresolved order (kind.PackageCycle span home) ordered is = not-cycle unresolved order span home ordered is
+no-cause unresolved order kind.OffsetOverflow ordered is = elim is [
+  | inl two ↦ not-twice unresolved order two.0 two.1 two.2 ordered two.3
+  | inr on ↦ not-cycle unresolved order on.0 on.1 ordered on.2
 ]
-no-cause handed order kind.OutOfMemory ordered is = is
-no-cause handed order (kind.PackageNotFound span requested known) ordered is = is
-no-cause handed order (kind.WorldNotFound span requested home) ordered is = is
-no-cause handed order (kind.InterfaceNotFound span requested home) ordered is = is
-no-cause handed order (kind.InvalidTransitiveDependency span name) ordered is = is
-no-cause handed order (kind.ItemShadowing span word name) ordered is = is
-no-cause handed order (kind.StabilityMismatch span from into) ordered is = is
-no-cause handed order (kind.Semantic span message cause) ordered is = is
+no-cause unresolved order kind.OutOfMemory ordered is = is
+no-cause unresolved order (kind.PackageNotFound span requested known) ordered is = is
+no-cause unresolved order (kind.WorldNotFound span requested home) ordered is = is
+no-cause unresolved order (kind.InterfaceNotFound span requested home) ordered is = is
+no-cause unresolved order (kind.InvalidTransitiveDependency span name) ordered is = is
+no-cause unresolved order (kind.ItemShadowing span word name) ordered is = is
+no-cause unresolved order (kind.StabilityMismatch span from into) ordered is = is
+no-cause unresolved order (kind.Semantic span message cause) ordered is = is
 
 -- ---- from the steps of the code
 
 name_of_both : (a b : PackageName) → Some a ≡ Some b → a ≡ b
 name_of_both a b same = cc
 
-pub twice-told : (handed : List Handed) (i j : ℕ) (earlier later : Handed) (kind : ResolveErrorKind) → i < j → slice_get handed i ≡ Some earlier → slice_get handed j ≡ Some later
-    → slice_get (names_of handed) i ≡ slice_get (names_of handed) j → IsToldTwice later earlier kind → IsSortCause handed kind
-twice-told handed i j earlier later kind before first second names told =
+pub twice-told : (unresolved : List Unresolved) (i j : ℕ) (earlier later : Unresolved) (kind : ResolveErrorKind) → i < j → slice_get unresolved i ≡ Some earlier → slice_get unresolved j ≡ Some later
+    → slice_get (names_of unresolved) i ≡ slice_get (names_of unresolved) j → IsDefinedTwiceError later earlier kind → IsSortCause unresolved kind
+twice-told unresolved i j earlier later kind before first second names told =
     let same : earlier.0.name ≡ later.0.name =
     name_of_both earlier.0.name later.0.name
-    (sym (slice_get-map (λ (h : Handed). h.0.name) handed i earlier first) ∙ names ∙ slice_get-map (λ (h : Handed). h.0.name) handed j later second) in
-    twice-cause handed i j earlier later kind before first second same told
+    (sym (slice_get-map (λ (h : Unresolved). h.0.name) unresolved i earlier first) ∙ names ∙ slice_get-map (λ (h : Unresolved). h.0.name) unresolved j later second) in
+    twice-cause unresolved i j earlier later kind before first second same told
 
-package_same : (handed : List Handed) (i : ℕ) (p q : Handed) → slice_get handed i ≡ Some p → slice_get handed i ≡ Some q → p ≡ q
-package_same handed i p q first second = let same : Some p ≡ Some q = sym first ∙ second in cc
+package_same : (unresolved : List Unresolved) (i : ℕ) (p q : Unresolved) → slice_get unresolved i ≡ Some p → slice_get unresolved i ≡ Some q → p ≡ q
+package_same unresolved i p q first second = let same : Some p ≡ Some q = sym first ∙ second in cc
 
 -- the user on a cycle names the other package
-pub cycle-named : (handed : List Handed) (user used : ℕ) (p q : Handed) → IsOnCycle (handed_uses handed) user used → slice_get handed user ≡ Some p → slice_get handed used ≡ Some q
+pub cycle-named : (unresolved : List Unresolved) (user used : ℕ) (p q : Unresolved) → IsOnCycle (group_uses unresolved) user used → slice_get unresolved user ≡ Some p → slice_get unresolved used ≡ Some q
     → Contains (keys_of p.0.foreign_deps) q.0.name
-cycle-named handed user used p q on user_is used_is =
-    let is = depends handed user used on.is_used in
-    subst (λ (h : Handed). Contains (keys_of p.0.foreign_deps) h.0.name) (package_same handed used is.q q is.used_is used_is)
-    (subst (λ (h : Handed). Contains (keys_of h.0.foreign_deps) is.q.0.name) (package_same handed user is.p p is.user_is user_is) is.named)
+cycle-named unresolved user used p q on user_is used_is =
+    let is = depends unresolved user used on.is_used in
+    subst (λ (h : Unresolved). Contains (keys_of p.0.foreign_deps) h.0.name) (package_same unresolved used is.q q is.used_is used_is)
+    (subst (λ (h : Unresolved). Contains (keys_of h.0.foreign_deps) is.q.0.name) (package_same unresolved user is.p p is.user_is user_is) is.named)
 
 -- both packages of a use on a cycle are there
-pub cycle-inside : (handed : List Handed) (user used : ℕ) → IsOnCycle (handed_uses handed) user used → (user < length handed) × (used < length handed)
-cycle-inside handed user used on =
-    let is = depends handed user used on.is_used in
-    (within_at handed user is.p is.user_is, within_at handed used is.q is.used_is)
+pub cycle-inside : (unresolved : List Unresolved) (user used : ℕ) → IsOnCycle (group_uses unresolved) user used → (user < length unresolved) × (used < length unresolved)
+cycle-inside unresolved user used on =
+    let is = depends unresolved user used on.is_used in
+    (within_at unresolved user is.p is.user_is, within_at unresolved used is.q is.used_is)
 
 -- where no key so far is the name, one further on is
 key_place : (es : List (PackageName × List ForeignItem)) (k : ℕ) (name : PackageName) → k < length (keys_of es) → get_or (keys_of es) k name ≡ name

@@ -1,3 +1,3 @@
-pub mod Sorting
+pub mod GroupOrder
 pub mod facts
 pub mod steps

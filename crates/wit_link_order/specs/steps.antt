@@ -1,1 +1,1 @@
-pub mod SortingSteps
+pub mod GroupOrderSteps

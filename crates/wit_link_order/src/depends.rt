@@ -1,24 +1,24 @@
-//! Which handed packages depend on which.
+//! Which unresolved packages depend on which.
 ghost use Rattle.std.specs.Prelude.{◌≡◌, ◌++◌, IfOk, OnOk};
 ghost use Rattle.std.specs.Option.{option_to_list};
-ghost use Rattle.wit_link_order.specs.Sorting.{handed_uses, names_of};
-ghost use Rattle.wit_link_order.specs.steps.SortingSteps.{found_deps, places_of};
+ghost use Rattle.wit_link_order.specs.GroupOrder.{group_uses, names_of};
+ghost use Rattle.wit_link_order.specs.steps.GroupOrderSteps.{found_deps, indices_of_names};
 
 use std::alloc::{AllocError, Global};
 use wit_data::{Items, PackageName, Table, UnresolvedPackage};
 
-/// For each handed package those that it depends on.
-pub(crate) fn uses_of_handed(
+/// For each unresolved package those that it depends on.
+pub(crate) fn uses_of_group(
     alloc: Global,
-    handed: &Items<(UnresolvedPackage, u32)>,
+    unresolved: &Items<(UnresolvedPackage, u32)>,
     places: &Table<PackageName, usize>,
 ) -> Result<Items<Items<usize>>, AllocError>
-    requires { places.now ≡ places_of (names_of handed.now) }
-    ensures { IfOk result (λ uses. uses ≡ handed_uses handed.now) }
+    requires { places.now ≡ indices_of_names (names_of unresolved.now) }
+    ensures { IfOk result (λ uses. uses ≡ group_uses unresolved.now) }
 {
     let mut uses = Items::new(alloc);
-    for place in 0..handed.len() {
-        uses.push(deps_of(alloc, &handed.at(place).0, places)?)?;
+    for place in 0..unresolved.len() {
+        uses.push(deps_of(alloc, &unresolved.at(place).0, places)?)?;
     }
     Ok(uses)
 }

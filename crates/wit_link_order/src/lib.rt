@@ -1,8 +1,8 @@
-//! The order in which packages that are handed in together are added: dependencies first, else by name.
+//! The order in which packages that are added together are added: dependencies first, else by name.
 #![tactic(auto)]
 
 mod depends;
-mod places;
+mod name_order;
 mod refusal;
 mod sort;
 

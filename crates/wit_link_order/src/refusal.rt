@@ -1,10 +1,10 @@
-//! What is told of handed packages that can't be put in an order.
+//! What is told of unresolved packages that can't be put in an order.
 ghost use Rattle.std.specs.Prelude.{◌≡◌, ◌⊎◌, ◌<◌, Contains, IfOk, length, slice_get};
 ghost use Rattle.std.specs.Map.{keys_of};
 ghost use Rattle.wit_digraph.specs.Cycles.{IsOnCycle};
 ghost use Rattle.wit_graph_data.specs.declared.error_kind.ResolveErrorKind.TheVariants.{OutOfMemory};
-ghost use Rattle.wit_link_order.specs.Sorting.{HaveSpans, IsSortCause, handed_uses, names_of};
-ghost use Rattle.wit_link_order.specs.steps.SortingSteps.{IsToldCycle, IsToldTwice, NamesAt};
+ghost use Rattle.wit_link_order.specs.GroupOrder.{HaveSpans, IsSortCause, group_uses, names_of};
+ghost use Rattle.wit_link_order.specs.steps.GroupOrderSteps.{IsCycleError, IsDefinedTwiceError, NamesAt};
 
 use std::alloc::AllocError;
 use wit_data::{Items, PackageName, Span, TryClone, UnresolvedPackage};
@@ -12,28 +12,28 @@ use wit_digraph::CycleUse;
 use wit_graph_data::{ResolveError, ResolveErrorKind};
 
 /// The refusal of two packages of one name.
-pub(crate) fn handed_twice(
-    handed: &Items<(UnresolvedPackage, u32)>,
+pub(crate) fn defined_twice(
+    unresolved: &Items<(UnresolvedPackage, u32)>,
     later: usize,
     earlier: usize,
 ) -> ResolveError
     requires before { earlier < later }
-    requires inside { later < length handed.now }
-    requires same { slice_get (names_of handed.now) earlier ≡ slice_get (names_of handed.now) later }
-    ensures { (result ≡ OutOfMemory) ⊎ IsSortCause handed.now result }
+    requires inside { later < length unresolved.now }
+    requires same { slice_get (names_of unresolved.now) earlier ≡ slice_get (names_of unresolved.now) later }
+    ensures { (result ≡ OutOfMemory) ⊎ IsSortCause unresolved.now result }
 {
-    match told_twice(handed.at(later), handed.at(earlier)) {
+    match defined_twice_error(unresolved.at(later), unresolved.at(earlier)) {
         Ok(kind) => ResolveError::from(kind),
         Err(error) => ResolveError::from(error),
     }
 }
 
 /// What is told of two packages of one name.
-fn told_twice(
+fn defined_twice_error(
     later: &(UnresolvedPackage, u32),
     earlier: &(UnresolvedPackage, u32),
 ) -> Result<ResolveErrorKind, AllocError>
-    ensures { IfOk result (IsToldTwice later.now earlier.now) }
+    ensures { IfOk result (IsDefinedTwiceError later.now earlier.now) }
 {
     let Some(span1) = later.0.package_name_span.moved(later.1) else {
         return Ok(ResolveErrorKind::OffsetOverflow);
@@ -49,20 +49,20 @@ fn told_twice(
 }
 
 /// The refusal of packages that depend on each other.
-pub(crate) fn handed_in_cycle(
-    handed: &Items<(UnresolvedPackage, u32)>,
+pub(crate) fn on_package_cycle(
+    unresolved: &Items<(UnresolvedPackage, u32)>,
     found: CycleUse,
 ) -> ResolveError
-    requires spans { HaveSpans handed.now }
-    requires cycle { IsOnCycle (handed_uses handed.now) found.user found.used }
-    requires user { found.user < length handed.now }
-    requires used { found.used < length handed.now }
-    ensures { (result ≡ OutOfMemory) ⊎ IsSortCause handed.now result }
+    requires spans { HaveSpans unresolved.now }
+    requires cycle { IsOnCycle (group_uses unresolved.now) found.user found.used }
+    requires user { found.user < length unresolved.now }
+    requires used { found.used < length unresolved.now }
+    ensures { (result ≡ OutOfMemory) ⊎ IsSortCause unresolved.now result }
 {
-    let name = &handed.at(found.used).0.name;
-    let (package, span_offset) = handed.at(found.user);
+    let name = &unresolved.at(found.used).0.name;
+    let (package, span_offset) = unresolved.at(found.user);
     let span = dependency_span(package, name);
-    match told_cycle(span, *span_offset, name) {
+    match cycle_error(span, *span_offset, name) {
         Ok(kind) => ResolveError::from(kind),
         Err(error) => ResolveError::from(error),
     }
@@ -83,12 +83,12 @@ fn dependency_span(package: &UnresolvedPackage, name: &PackageName) -> Span
 }
 
 /// What is told of a dependency that is on a cycle.
-fn told_cycle(
+fn cycle_error(
     span: Span,
     span_offset: u32,
     name: &PackageName,
 ) -> Result<ResolveErrorKind, AllocError>
-    ensures { IfOk result (IsToldCycle span span_offset name.now) }
+    ensures { IfOk result (IsCycleError span span_offset name.now) }
 {
     match span.moved(span_offset) {
         Some(span) => Ok(ResolveErrorKind::PackageCycle {

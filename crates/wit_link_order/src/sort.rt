@@ -1,16 +1,16 @@
-//! The order of packages that are handed in together.
+//! The order of packages that are added together.
 ghost use Rattle.std.specs.Prelude.{◌≡◌, ◌⊎◌, ℕ, IfErr, IfOk, List, OnOk};
 ghost use Rattle.wit_graph_data.specs.declared.error_kind.ResolveErrorKind.{ResolveErrorKind};
 ghost use Rattle.wit_graph_data.specs.declared.error_kind.ResolveErrorKind.TheVariants.{OutOfMemory};
-ghost use Rattle.wit_link_order.specs.Sorting.{AreSorted, HaveSpans, IsSortCause};
-ghost use Rattle.wit_link_order.specs.steps.SortingSteps.{IsOrdered};
+ghost use Rattle.wit_link_order.specs.GroupOrder.{AreSorted, HaveSpans, IsSortCause};
+ghost use Rattle.wit_link_order.specs.steps.GroupOrderSteps.{IsOrdered};
 
-use crate::depends::uses_of_handed;
-use crate::places::{places_by_name, roots_by_name};
-use crate::refusal::handed_in_cycle;
+use crate::depends::uses_of_group;
+use crate::name_order::{indices_by_name, package_indices_by_name};
+use crate::refusal::on_package_cycle;
 use std::alloc::Global;
 use wit_data::{Items, UnresolvedPackage};
-use wit_digraph::{find_cycle, in_order, walk_order};
+use wit_digraph::{find_cycle, in_order, post_order_of_roots};
 use wit_graph_data::ResolveResult;
 
 /// The packages, each with the offset by which its spans move, in the order in which they are
@@ -24,32 +24,32 @@ use wit_graph_data::ResolveResult;
 /// Source: `sort_unresolved_packages` of wit-parser 0.263.0.
 pub fn sort_groups(
     alloc: Global,
-    handed: Items<(UnresolvedPackage, u32)>,
+    unresolved: Items<(UnresolvedPackage, u32)>,
 ) -> ResolveResult<Items<(UnresolvedPackage, u32)>>
-    requires { HaveSpans handed }
-    ensures ok { IfOk result (λ sorted. (order : List ℕ) × AreSorted handed order sorted) }
-    ensures cause { IfErr result (λ kind. (kind ≡ OutOfMemory) ⊎ IsSortCause handed kind) }
-    ensures refuses { (kind : ResolveErrorKind) → IsSortCause handed kind → OnOk result ⊥ }
+    requires { HaveSpans unresolved }
+    ensures ok { IfOk result (λ sorted. (order : List ℕ) × AreSorted unresolved order sorted) }
+    ensures cause { IfErr result (λ kind. (kind ≡ OutOfMemory) ⊎ IsSortCause unresolved kind) }
+    ensures refuses { (kind : ResolveErrorKind) → IsSortCause unresolved kind → OnOk result ⊥ }
 {
-    let order = group_order(alloc, &handed)?;
-    Ok(in_order(alloc, handed, order.as_slice())?)
+    let order = group_order(alloc, &unresolved)?;
+    Ok(in_order(alloc, unresolved, order.as_slice())?)
 }
 
 /// The places of the packages in that order.
 fn group_order(
     alloc: Global,
-    handed: &Items<(UnresolvedPackage, u32)>,
+    unresolved: &Items<(UnresolvedPackage, u32)>,
 ) -> ResolveResult<Items<usize>>
-    requires { HaveSpans handed.now }
-    ensures ok { IfOk result (IsOrdered handed.now) }
-    ensures cause { IfErr result (λ kind. (kind ≡ OutOfMemory) ⊎ IsSortCause handed.now kind) }
+    requires { HaveSpans unresolved.now }
+    ensures ok { IfOk result (IsOrdered unresolved.now) }
+    ensures cause { IfErr result (λ kind. (kind ≡ OutOfMemory) ⊎ IsSortCause unresolved.now kind) }
 {
-    let places = places_by_name(alloc, handed)?;
+    let places = indices_by_name(alloc, unresolved)?;
     places.keys_differ();
-    let uses = uses_of_handed(alloc, handed, &places)?;
+    let uses = uses_of_group(alloc, unresolved, &places)?;
     if let Some(found) = find_cycle(alloc, uses.as_slice())? {
-        return Err(handed_in_cycle(handed, found));
+        return Err(on_package_cycle(unresolved, found));
     }
-    let roots = roots_by_name(alloc, places)?;
-    Ok(walk_order(alloc, uses.as_slice(), roots.as_slice())?)
+    let roots = package_indices_by_name(alloc, places)?;
+    Ok(post_order_of_roots(alloc, uses.as_slice(), roots.as_slice())?)
 }

@@ -10,8 +10,8 @@ use Rattle.std.proofs.lemmas.Option.{get_or_from_slice_get, slice_get_within}
 use Rattle.wit_values.specs.facts.Lists.{slice_get-append}
 use Rattle.wit_digraph.specs.facts.MemberFacts.{Contains-here}
 use Rattle.wit_digraph.specs.Relation.{IsAcyclic, direct}
-use Rattle.wit_digraph.specs.facts.WalkFacts.{uses_ind, walk_is}
-use Rattle.wit_digraph.specs.Walks.{walk}
+use Rattle.wit_digraph.specs.facts.PostOrderFacts.{post_order_is, uses_ind}
+use Rattle.wit_digraph.specs.PostOrder.{post_order}
 use Rattle.wit_data.specs.Reference.{type_references}
 use Rattle.wit_data.specs.Uses.{alias_target}
 use Rattle.wit_data.specs.declared.types.TypeDef.{TypeDef}
@@ -57,29 +57,29 @@ module _ (types : List TypeDef) (acyclic : IsAcyclic (alias_rows types)) where
   resource_at t def at = ap (λ (o : Option TypeDef). option_map_or (λ (d : TypeDef). is_resource_kind d.kind) o false) at
 
   walk_of : (t : ℕ) (def : TypeDef) (ids : List ℕ) → slice_get types t ≡ Some def → option_to_list (alias_target def.kind) ≡ ids
-      → walk (alias_rows types) t ≡ flat_map (walk (alias_rows types)) ids ++ t ∷ []
+      → post_order (alias_rows types) t ≡ flat_map (post_order (alias_rows types)) ids ++ t ∷ []
   walk_of t def ids at row =
-      walk_is (alias_rows types) acyclic t (there t def at) ∙ ap (λ (us : List ℕ). flat_map (walk (alias_rows types)) us ++ t ∷ []) (row_at t def at ∙ row)
+      post_order_is (alias_rows types) acyclic t (there t def at) ∙ ap (λ (us : List ℕ). flat_map (post_order (alias_rows types)) us ++ t ∷ []) (row_at t def at ∙ row)
 
   -- an alias leads where its target does
   pub leads_on : (t u : ℕ) (def : TypeDef) → slice_get types t ≡ Some def → alias_target def.kind ≡ Some u → leads_to_resource types t ≡ leads_to_resource types u
   leads_on t u def at target =
       ap (list_any (is_resource types)) (walk_of t def (u ∷ []) at (ap (λ (o : Option ℕ). option_to_list o) target))
-      ∙ (list_any-append (is_resource types) (walk (alias_rows types) u ++ []) (t ∷ [])
-      ∙ (or_none (list_any (is_resource types) (walk (alias_rows types) u ++ [])) (is_resource types t || false) (or_none (is_resource types t) false refl ∙ (resource_at t def at ∙ alias_is_none def.kind u target))
-      ∙ ap (list_any (is_resource types)) (append-nil (walk (alias_rows types) u))))
+      ∙ (list_any-append (is_resource types) (post_order (alias_rows types) u ++ []) (t ∷ [])
+      ∙ (or_none (list_any (is_resource types) (post_order (alias_rows types) u ++ [])) (is_resource types t || false) (or_none (is_resource types t) false refl ∙ (resource_at t def at ∙ alias_is_none def.kind u target))
+      ∙ ap (list_any (is_resource types)) (append-nil (post_order (alias_rows types) u))))
 
   -- any other type where it is a resource
   pub leads_here : (t : ℕ) (def : TypeDef) → slice_get types t ≡ Some def → alias_target def.kind ≡ None → leads_to_resource types t ≡ is_resource_kind def.kind
   leads_here t def at none =
       ap (list_any (is_resource types)) (walk_of t def [] at (ap (λ (o : Option ℕ). option_to_list o) none)) ∙ (or_none (is_resource types t) false refl ∙ resource_at t def at)
 
-  -- the walk of an alias is longer than that of its target
-  pub walk_falls : (t u : ℕ) (def : TypeDef) → slice_get types t ≡ Some def → alias_target def.kind ≡ Some u → length (walk (alias_rows types) u) < length (walk (alias_rows types) t)
+  -- the post-order of an alias is longer than that of its target
+  pub walk_falls : (t u : ℕ) (def : TypeDef) → slice_get types t ≡ Some def → alias_target def.kind ≡ Some u → length (post_order (alias_rows types) u) < length (post_order (alias_rows types) t)
   walk_falls t u def at target =
       let is = ap length (walk_of t def (u ∷ []) at (ap (λ (o : Option ℕ). option_to_list o) target)) in
-      let parts = length-append (walk (alias_rows types) u ++ []) (t ∷ []) in
-      let none = ap length (append-nil (walk (alias_rows types) u)) in
+      let parts = length-append (post_order (alias_rows types) u ++ []) (t ∷ []) in
+      let none = ap length (append-nil (post_order (alias_rows types) u)) in
       omega arith
 
 -- the same in a graph

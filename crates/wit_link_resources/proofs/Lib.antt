@@ -10,5 +10,5 @@ pub mod Ranges
 pub mod Rows
 mod Searching
 mod Tells
-mod Where
 mod Wanting
+mod Where

@@ -4,12 +4,12 @@ use Rattle.std.specs.List.{enumerate_from, range_with_len}
 use Rattle.std.proofs.lemmas.List.{length-append, length-map}
 use Rattle.std.proofs.lemmas.List.Elements.{filter-append}
 use Rattle.wit_data.specs.Shape.{IsShaped}
-use Rattle.wit_link_spec.specs.Addition.{Addition, needs_own, plain_types, type_place}
+use Rattle.wit_link_spec.specs.Addition.{Addition, remapped_type, types_without_owns, value_needs_own}
 use Rattle.wit_link_spec.specs.Gates.{type_is_active}
 use Rattle.wit_link_spec.specs.facts.RangeFacts.{range-more}
 use Rattle.wit_link_spec.specs.facts.RankFacts.{after, rank-kept, rank-left, rank-suc}
-use Rattle.wit_link_spec.specs.Ranks.{rank, taken, taken_places}
-use Rattle.wit_link_spec.specs.Reasons.{HasImage}
+use Rattle.wit_link_spec.specs.Ranks.{rank, selected, selected_with_index}
+use Rattle.wit_link_spec.specs.Reasons.{IsResolved}
 use Rattle.wit_link_spec.specs.Resources.{leads_to_resource}
 use Rattle.wit_link_resources.specs.steps.Asked.{is_asked}
 use Rattle.wit_link_resources.specs.steps.Leading.{leads_there}
@@ -51,10 +51,10 @@ module _ {X : Type 0} where
       by true is old = let one = rank-one kept n is in let end = place in omega arith
       by false is old = let one = rank-same kept n is in let end = place in omega arith
 
-  -- what takes part of a list is as much as its rank says
-  pub length-taken : (kept : ℕ → Bool) (xs : List X) → length (taken kept xs) ≡ rank kept (length xs)
-  length-taken kept xs =
-      let long = length-map (taken_places kept xs) (λ (e : ℕ × X). e.1) in
+  -- what is active of a list is as much as its rank says
+  pub length-selected : (kept : ℕ → Bool) (xs : List X) → length (selected kept xs) ≡ rank kept (length xs)
+  length-selected kept xs =
+      let long = length-map (selected_with_index kept xs) (λ (e : ℕ × X). e.1) in
       let is = counted kept 0 xs in
       let whole : 0 + length xs ≡ length xs = omega arith in
       let end = ap (rank kept) whole in
@@ -80,11 +80,11 @@ length-filtered p (suc n) = by (p n) refl (length-filtered p n)
 
 -- ---- which need one
 
-module _ (a : Addition) (shaped : IsShaped a.handed) (image : HasImage a) where
+module _ (a : Addition) (shaped : IsShaped a.unresolved) (image : IsResolved a) where
   -- a type needs an `own` where it is asked for and leads to a resource
-  pub needs_is : (t : ℕ) → is_asked a t && leads_there a t ≡ needs_own a t
+  pub needs_is : (t : ℕ) → is_asked a t && leads_there a t ≡ value_needs_own a t
   needs_is t = by (is_asked a t) refl
     where
-      by : (b : Bool) → is_asked a t ≡ b → b && leads_there a t ≡ b && leads_to_resource (plain_types a) (type_place a t)
-      by true is = conj (type_is_active a.features a.handed.types t) (leads_to_resource (plain_types a) (type_place a t)) (asked_active a shaped image t is)
+      by : (b : Bool) → is_asked a t ≡ b → b && leads_there a t ≡ b && leads_to_resource (types_without_owns a) (remapped_type a t)
+      by true is = conj (type_is_active a.features a.unresolved.types t) (leads_to_resource (types_without_owns a) (remapped_type a t)) (asked_active a shaped image t is)
       by false is = refl

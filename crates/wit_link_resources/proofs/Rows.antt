@@ -8,7 +8,7 @@ use Rattle.wit_data.specs.declared.types.TypeDef.{TypeDef}
 use Rattle.wit_data.specs.declared.types.TypeDefKind.{TypeDefKind}
 use Rattle.wit_data.specs.declared.types.TypeDefKind.TheVariants as kind
 use Rattle.wit_data.specs.declared.types.Type_.TheVariants as type
-use Rattle.wit_graph_data.specs.facts.HeldFacts.{rows_acyclic}
+use Rattle.wit_graph_data.specs.facts.ContentFacts.{rows_acyclic}
 use Rattle.wit_graph_theory.specs.steps.Sources.{alias_rows}
 
 alias_among : (k : TypeDefKind) (t : ℕ) → Contains (option_to_list (alias_target k)) t → Contains (referred k) t

@@ -7,8 +7,8 @@ use Rattle.std.proofs.lemmas.List.{append-nil, length-append}
 use Rattle.std.proofs.lemmas.List.Elements.{All-contains, Contains-append_cases, Contains-append_left, Contains-append_right, Contains-push}
 use Rattle.wit_digraph.specs.facts.MemberFacts.{Contains-cons_cases, Contains-here, Contains-nil}
 use Rattle.wit_digraph.specs.Relation.{IsAcyclic, IsPath, Reaches, direct}
-use Rattle.wit_digraph.specs.facts.WalkFacts.{walk_is}
-use Rattle.wit_digraph.specs.Walks.{walk}
+use Rattle.wit_digraph.specs.facts.PostOrderFacts.{post_order_is}
+use Rattle.wit_digraph.specs.PostOrder.{post_order}
 use Rattle.wit_graph_theory.specs.facts.RowFacts.{Reaches-join, Reaches-self, Reaches-use}
 use Rattle.wit_link_resources.specs.steps.Borrows.{AreFree}
 
@@ -96,29 +96,29 @@ module _ (rows : List (List ℕ)) (Bad : ℕ → Type 0) (acyclic : IsAcyclic ro
       begun = wider root now.begun;
     }
 
-    -- both make the walks of the stack shorter
-    whole_length : length (flat_map (walk rows) (rest ++ top ∷ [])) ≡ length (flat_map (walk rows) rest ++ walk rows top)
-    whole_length = ap length (flat_map-append (walk rows) rest (top ∷ [])) ∙ ap (λ (w : List ℕ). length (flat_map (walk rows) rest ++ w)) (append-nil (walk rows top))
+    -- both make the post-orders of the stack shorter
+    whole_length : length (flat_map (post_order rows) (rest ++ top ∷ [])) ≡ length (flat_map (post_order rows) rest ++ post_order rows top)
+    whole_length = ap length (flat_map-append (post_order rows) rest (top ∷ [])) ∙ ap (λ (w : List ℕ). length (flat_map (post_order rows) rest ++ w)) (append-nil (post_order rows top))
 
-    top_length : length (walk rows top) ≡ length (flat_map (walk rows) (direct rows top) ++ top ∷ [])
-    top_length = ap length (walk_is rows acyclic top top_there)
+    top_length : length (post_order rows top) ≡ length (flat_map (post_order rows) (direct rows top) ++ top ∷ [])
+    top_length = ap length (post_order_is rows acyclic top top_there)
 
-    pub shorter-known : length (flat_map (walk rows) rest) < length (flat_map (walk rows) (rest ++ top ∷ []))
+    pub shorter-known : length (flat_map (post_order rows) rest) < length (flat_map (post_order rows) (rest ++ top ∷ []))
     shorter-known =
         let whole = whole_length in
         let of_top = top_length in
-        let one = length-append (flat_map (walk rows) rest) (walk rows top) in
-        let two = length-append (flat_map (walk rows) (direct rows top)) (top ∷ []) in
+        let one = length-append (flat_map (post_order rows) rest) (post_order rows top) in
+        let two = length-append (flat_map (post_order rows) (direct rows top)) (top ∷ []) in
         omega arith
 
-    pub shorter-more : length (flat_map (walk rows) (rest ++ direct rows top)) < length (flat_map (walk rows) (rest ++ top ∷ []))
+    pub shorter-more : length (flat_map (post_order rows) (rest ++ direct rows top)) < length (flat_map (post_order rows) (rest ++ top ∷ []))
     shorter-more =
         let whole = whole_length in
         let of_top = top_length in
-        let one = length-append (flat_map (walk rows) rest) (walk rows top) in
-        let two = length-append (flat_map (walk rows) (direct rows top)) (top ∷ []) in
-        let three = ap length (flat_map-append (walk rows) rest (direct rows top)) in
-        let four = length-append (flat_map (walk rows) rest) (flat_map (walk rows) (direct rows top)) in
+        let one = length-append (flat_map (post_order rows) rest) (post_order rows top) in
+        let two = length-append (flat_map (post_order rows) (direct rows top)) (top ∷ []) in
+        let three = ap length (flat_map-append (post_order rows) rest (direct rows top)) in
+        let four = length-append (flat_map (post_order rows) rest) (flat_map (post_order rows) (direct rows top)) in
         omega arith
 
   -- at the end

@@ -29,16 +29,16 @@ use Rattle.wit_graph_theory.specs.facts.ListFacts.{at_map, at_new, contained_at,
 use Rattle.wit_graph_theory.specs.facts.ReferredFacts.{alias_image}
 use Rattle.wit_graph_theory.specs.facts.RowFacts.{IsAcyclic-grown}
 use Rattle.wit_graph_theory.specs.steps.Sources.{alias_rows}
-use Rattle.wit_link_spec.specs.Addition.{Addition, own_type, own_types, plain_maps, plain_types, taken_type, type_place}
+use Rattle.wit_link_spec.specs.Addition.{Addition, active_type_id, maps_without_owns, own_type, own_types, remapped_type, types_without_owns}
 use Rattle.wit_link_spec.specs.facts.ClosedCut.{references_kept, there_where}
-use Rattle.wit_link_spec.specs.facts.Found.{find-passes, named_at}
+use Rattle.wit_link_spec.specs.facts.ForeignFound.{find-passes, named_at}
 use Rattle.wit_link_spec.specs.Gates.{is_active, type_is_active}
-use Rattle.wit_link_spec.specs.Lookup.{find_interface, found_interface, found_type, is_foreign_type, listed_type, named_items, naming, owning_interface}
-use Rattle.wit_link_spec.specs.facts.RankFacts.{rank-strict, taken-at, taken_places-from}
-use Rattle.wit_link_spec.specs.Ranks.{rank, taken_places}
-use Rattle.wit_link_spec.specs.Reasons.{HasImage}
+use Rattle.wit_link_spec.specs.Lookup.{find_interface, foreign_interface_id, foreign_type_id, interface_type, is_foreign_type, named_items, naming_item, owning_interface}
+use Rattle.wit_link_spec.specs.facts.RankFacts.{rank-strict, selected-at, selected_with_index-from}
+use Rattle.wit_link_spec.specs.Ranks.{rank, selected_with_index}
+use Rattle.wit_link_spec.specs.Reasons.{IsResolved}
 use Rattle.wit_link_spec.specs.Resources.{is_resource_kind, leads_to_resource}
-use Rattle.wit_link_spec.specs.facts.Standing.{foreign_interface_goes, foreign_type, listed_is, own_type_goes}
+use Rattle.wit_link_spec.specs.facts.Standing.{foreign_interface_remapped, foreign_type, listed_is, own_type_remapped}
 use Rattle.wit_link_resources.specs.steps.Leading.{leads_there}
 use Rattle.wit_link_resources.proofs.Leads.{leads_here, leads_on, leads_stays}
 use Rattle.wit_link_resources.proofs.Rows.{alias_acyclic}
@@ -59,7 +59,7 @@ taken_on true true found next t' on is h = h
 taken_on true false found next t' on is h = cc
 taken_on false foreign found next t' on is h = cc
 
--- what is its own and takes part goes somewhere
+-- what is its own and is active goes somewhere
 own_somewhere : (active foreign : Bool) (found : Option ℕ) (next : ℕ) → foreign ≡ false → (if active then (if foreign then found else Some next) else None) ≡ None → active ≡ false
 own_somewhere true true found next is h = cc
 own_somewhere true false found next is h = cc
@@ -94,18 +94,18 @@ record FoundType (a : Addition) (t t' : ℕ) : Type 0 where
   name : List ℕ
   i : ℕ
   i' : ℕ
-  is : slice_get a.handed.types t ≡ Some def
+  is : slice_get a.unresolved.types t ≡ Some def
   called : def.name ≡ Some name
   owned : def.owner ≡ owner.Interface i
-  found : found_interface a.graph a.handed i ≡ Some i'
-  listed : listed_type a.graph name i' ≡ Some t'
+  found : foreign_interface_id a.graph a.unresolved i ≡ Some i'
+  listed : interface_type a.graph name i' ≡ Some t'
 
-how_found : (a : Addition) (t t' : ℕ) → found_type a.graph a.handed t ≡ Some t' → FoundType a t t'
+how_found : (a : Addition) (t t' : ℕ) → foreign_type_id a.graph a.unresolved t ≡ Some t' → FoundType a t t'
 how_found a t t' h =
-    let one = and_then_some (λ (def : TypeDef). option_and_then (λ (name : List ℕ). option_and_then (λ (i : ℕ). option_and_then (listed_type a.graph name) (found_interface a.graph a.handed i)) (owning_interface def.owner)) def.name) (slice_get a.handed.types t) t' h in
-    let two = and_then_some (λ (name : List ℕ). option_and_then (λ (i : ℕ). option_and_then (listed_type a.graph name) (found_interface a.graph a.handed i)) (owning_interface one.0.owner)) one.0.name t' one.2 in
-    let three = and_then_some (λ (i : ℕ). option_and_then (listed_type a.graph two.0) (found_interface a.graph a.handed i)) (owning_interface one.0.owner) t' two.2 in
-    let four = and_then_some (listed_type a.graph two.0) (found_interface a.graph a.handed three.0) t' three.2 in
+    let one = and_then_some (λ (def : TypeDef). option_and_then (λ (name : List ℕ). option_and_then (λ (i : ℕ). option_and_then (interface_type a.graph name) (foreign_interface_id a.graph a.unresolved i)) (owning_interface def.owner)) def.name) (slice_get a.unresolved.types t) t' h in
+    let two = and_then_some (λ (name : List ℕ). option_and_then (λ (i : ℕ). option_and_then (interface_type a.graph name) (foreign_interface_id a.graph a.unresolved i)) (owning_interface one.0.owner)) one.0.name t' one.2 in
+    let three = and_then_some (λ (i : ℕ). option_and_then (interface_type a.graph two.0) (foreign_interface_id a.graph a.unresolved i)) (owning_interface one.0.owner) t' two.2 in
+    let four = and_then_some (interface_type a.graph two.0) (foreign_interface_id a.graph a.unresolved three.0) t' three.2 in
     record {
       def = one.0;
       name = two.0;
@@ -120,17 +120,17 @@ how_found a t t' h =
 
 module _ (a : Addition) (valid : IsValid a.graph) where
   -- it is a type of the graph
-  pub found_there : (t t' : ℕ) → found_type a.graph a.handed t ≡ Some t' → t' < length a.graph.types
+  pub found_there : (t t' : ℕ) → foreign_type_id a.graph a.unresolved t ≡ Some t' → t' < length a.graph.types
   found_there t t' h =
       let how = how_found a t t' h in
       let at = found_at (λ (def : TypeDef). (def.name ≡ Some how.name) × (def.owner ≡ owner.Interface how.i')) a.graph.types t' (listed_is a.graph valid how.name how.i' t' how.listed) in
       slice_get_within a.graph.types t' at.0 at.1
 
-module _ (a : Addition) (shaped : IsShaped a.handed) where
+module _ (a : Addition) (shaped : IsShaped a.unresolved) where
   -- what is named of other packages is one of the first interfaces
-  named_is_foreign : (i : ℕ) (e : ℕ × PackageName × ForeignItem) → naming interface_id a.handed i ≡ Some e → i < length (foreign_interfaces a.handed.foreign_deps)
+  named_is_foreign : (i : ℕ) (e : ℕ × PackageName × ForeignItem) → naming_item interface_id a.unresolved i ≡ Some e → i < length (foreign_interfaces a.unresolved.foreign_deps)
   named_is_foreign i e is =
-      let deps = a.handed.foreign_deps in
+      let deps = a.unresolved.foreign_deps in
       let passes = find-passes (λ (e : ℕ × PackageName × ForeignItem). list_any (nat_eq i) (interface_id e.2.1.0)) (named_items deps) e is in
       let at = named_at deps e passes.0 in
       let has : Contains (foreign_interfaces deps) i =
@@ -140,30 +140,30 @@ module _ (a : Addition) (shaped : IsShaped a.handed) where
       shaped.foreign.interfaces.first place.0 i place.1
 
   -- only a type of another package is found
-  pub found_is_foreign : (t t' : ℕ) → found_type a.graph a.handed t ≡ Some t' → is_foreign_type a.handed t ≡ true
+  pub found_is_foreign : (t t' : ℕ) → foreign_type_id a.graph a.unresolved t ≡ Some t' → is_foreign_type a.unresolved t ≡ true
   found_is_foreign t t' h =
       let how = how_found a t t' h in
-      let named = and_then_some (λ (e : ℕ × PackageName × ForeignItem). find_interface a.graph a.handed.name e.1 e.2.0) (naming interface_id a.handed how.i) how.i' how.found in
-      let first : how.i < length (foreign_interfaces a.handed.foreign_deps) = named_is_foreign how.i named.0 named.1 in
-      let listed : IsListed a.handed.interfaces a.handed.worlds t (Some how.name) (owner.Interface how.i) =
-      subst (λ (n : Option (List ℕ)). IsListed a.handed.interfaces a.handed.worlds t n (owner.Interface how.i)) how.called
-      (subst (λ (o : TypeOwner). IsListed a.handed.interfaces a.handed.worlds t how.def.name o) how.owned (shaped.owners.listed t how.def how.is)) in
-      let by = found_at (λ (interface : Interface). Contains interface.types (how.name, t)) a.handed.interfaces how.i listed in
+      let named = and_then_some (λ (e : ℕ × PackageName × ForeignItem). find_interface a.graph a.unresolved.name e.1 e.2.0) (naming_item interface_id a.unresolved how.i) how.i' how.found in
+      let first : how.i < length (foreign_interfaces a.unresolved.foreign_deps) = named_is_foreign how.i named.0 named.1 in
+      let listed : IsListed a.unresolved.interfaces a.unresolved.worlds t (Some how.name) (owner.Interface how.i) =
+      subst (λ (n : Option (List ℕ)). IsListed a.unresolved.interfaces a.unresolved.worlds t n (owner.Interface how.i)) how.called
+      (subst (λ (o : TypeOwner). IsListed a.unresolved.interfaces a.unresolved.worlds t how.def.name o) how.owned (shaped.owners.listed t how.def how.is)) in
+      let by = found_at (λ (interface : Interface). Contains interface.types (how.name, t)) a.unresolved.interfaces how.i listed in
       let place = place_of by.0.types (how.name, t) by.2 in
-      lt-ltb t (length a.handed.unknown_type_spans) (shaped.unknown.alone how.i by.0 by.1 first place.0 (how.name, t) place.1)
+      lt-ltb t (length a.unresolved.unknown_type_spans) (shaped.unknown.alone how.i by.0 by.1 first place.0 (how.name, t) place.1)
 
   -- a type of another package that goes somewhere is found there
-  pub foreign_back : (t t' : ℕ) → is_foreign_type a.handed t ≡ true → taken_type a t ≡ Some t' → (type_is_active a.features a.handed.types t ≡ true) × (found_type a.graph a.handed t ≡ Some t')
+  pub foreign_back : (t t' : ℕ) → is_foreign_type a.unresolved t ≡ true → active_type_id a t ≡ Some t' → (type_is_active a.features a.unresolved.types t ≡ true) × (foreign_type_id a.graph a.unresolved t ≡ Some t')
   foreign_back t t' foreign goes =
-      taken_back (type_is_active a.features a.handed.types t) (is_foreign_type a.handed t) (found_type a.graph a.handed t) (length a.graph.types + rank (own_type a) t) t' foreign goes
+      taken_back (type_is_active a.features a.unresolved.types t) (is_foreign_type a.unresolved t) (foreign_type_id a.graph a.unresolved t) (length a.graph.types + rank (own_type a) t) t' foreign goes
 
   -- and what is found goes there
-  pub found_on : (t t' : ℕ) → type_is_active a.features a.handed.types t ≡ true → found_type a.graph a.handed t ≡ Some t' → taken_type a t ≡ Some t'
+  pub found_on : (t t' : ℕ) → type_is_active a.features a.unresolved.types t ≡ true → foreign_type_id a.graph a.unresolved t ≡ Some t' → active_type_id a t ≡ Some t'
   found_on t t' active found =
-      taken_on (type_is_active a.features a.handed.types t) (is_foreign_type a.handed t) (found_type a.graph a.handed t) (length a.graph.types + rank (own_type a) t) t' active (found_is_foreign t t' found) found
+      taken_on (type_is_active a.features a.unresolved.types t) (is_foreign_type a.unresolved t) (foreign_type_id a.graph a.unresolved t) (length a.graph.types + rank (own_type a) t) t' active (found_is_foreign t t' found) found
 
-  pub taken_is_active : (t t' : ℕ) → taken_type a t ≡ Some t' → type_is_active a.features a.handed.types t ≡ true
-  taken_is_active t t' goes = some_active (type_is_active a.features a.handed.types t) (is_foreign_type a.handed t) (found_type a.graph a.handed t) (length a.graph.types + rank (own_type a) t) t' goes
+  pub taken_is_active : (t t' : ℕ) → active_type_id a t ≡ Some t' → type_is_active a.features a.unresolved.types t ≡ true
+  taken_is_active t t' goes = some_active (type_is_active a.features a.unresolved.types t) (is_foreign_type a.unresolved t) (foreign_type_id a.graph a.unresolved t) (length a.graph.types + rank (own_type a) t) t' goes
 
 -- what an alias names is referred to
 target_referred : (k : TypeDefKind) (u : ℕ) → alias_target k ≡ Some u → Contains (referred k) u
@@ -171,38 +171,38 @@ target_referred (kind.Type_ (type.Id v)) u is = let same : v ≡ u = cc in subst
 target_referred other u is = cc
 
 -- so it is earlier
-pub target_earlier : (a : Addition) → IsShaped a.handed → (t u : ℕ) (def : TypeDef) → slice_get a.handed.types t ≡ Some def → alias_target def.kind ≡ Some u → u < t
+pub target_earlier : (a : Addition) → IsShaped a.unresolved → (t u : ℕ) (def : TypeDef) → slice_get a.unresolved.types t ≡ Some def → alias_target def.kind ≡ Some u → u < t
 target_earlier a shaped t u def at is = let place = place_of (referred def.kind) u (target_referred def.kind u is) in shaped.references.earlier t def at place.0 u place.1
 
 -- where it goes
-pub goes_there : (a : Addition) (t t' : ℕ) → taken_type a t ≡ Some t' → type_place a t ≡ t'
+pub goes_there : (a : Addition) (t t' : ℕ) → active_type_id a t ≡ Some t' → remapped_type a t ≡ t'
 goes_there a t t' goes = ap (λ (o : Option ℕ). unwrap_or o t) goes
 
-module _ (a : Addition) (valid : IsValid a.graph) (shaped : IsShaped a.handed) (image : HasImage a) where
-  -- a type of another package that takes part is found
-  pub foreign_found : (t : ℕ) → is_foreign_type a.handed t ≡ true → type_is_active a.features a.handed.types t ≡ true → (t' : ℕ) × (found_type a.graph a.handed t ≡ Some t')
+module _ (a : Addition) (valid : IsValid a.graph) (shaped : IsShaped a.unresolved) (image : IsResolved a) where
+  -- a type of another package that is active is found
+  pub foreign_found : (t : ℕ) → is_foreign_type a.unresolved t ≡ true → type_is_active a.features a.unresolved.types t ≡ true → (t' : ℕ) × (foreign_type_id a.graph a.unresolved t ≡ Some t')
   foreign_found t foreign active =
-      let at = there_where (λ (def : TypeDef). is_active a.features def.stability) (slice_get a.handed.types t) active in
+      let at = there_where (λ (def : TypeDef). is_active a.features def.stability) (slice_get a.unresolved.types t) active in
       let known = foreign_type a valid shaped image t at.0 at.1 foreign active in
-      let below : known.i < length (foreign_interfaces a.handed.foreign_deps) = ltb-true known.i (length (foreign_interfaces a.handed.foreign_deps)) known.foreign in
-      let there = get_at a.handed.interfaces known.i (let inside = shaped.foreign.interfaces.there in omega arith) in
-      let goes = foreign_interface_goes a valid shaped image known.i there.0 there.1 known.foreign known.active in (
-        type_place a t,
+      let below : known.i < length (foreign_interfaces a.unresolved.foreign_deps) = ltb-true known.i (length (foreign_interfaces a.unresolved.foreign_deps)) known.foreign in
+      let there = get_at a.unresolved.interfaces known.i (let inside = shaped.foreign.interfaces.there in omega arith) in
+      let goes = foreign_interface_remapped a valid shaped image known.i there.0 there.1 known.foreign known.active in (
+        remapped_type a t,
         (
-            ap (λ (o : Option TypeDef). option_and_then (λ (def : TypeDef). option_and_then (λ (name : List ℕ). option_and_then (λ (i : ℕ). option_and_then (listed_type a.graph name) (found_interface a.graph a.handed i)) (owning_interface def.owner)) def.name) o) at.1
-            ∙ (ap (λ (o : Option (List ℕ)). option_and_then (λ (name : List ℕ). option_and_then (λ (i : ℕ). option_and_then (listed_type a.graph name) (found_interface a.graph a.handed i)) (owning_interface at.0.owner)) o) known.name_is
-            ∙ (ap (λ (o : TypeOwner). option_and_then (λ (i : ℕ). option_and_then (listed_type a.graph known.name) (found_interface a.graph a.handed i)) (owning_interface o)) known.owner_is
-            ∙ (ap (λ (o : Option ℕ). option_and_then (listed_type a.graph known.name) o) goes.0 ∙ known.listed)))),
+            ap (λ (o : Option TypeDef). option_and_then (λ (def : TypeDef). option_and_then (λ (name : List ℕ). option_and_then (λ (i : ℕ). option_and_then (interface_type a.graph name) (foreign_interface_id a.graph a.unresolved i)) (owning_interface def.owner)) def.name) o) at.1
+            ∙ (ap (λ (o : Option (List ℕ)). option_and_then (λ (name : List ℕ). option_and_then (λ (i : ℕ). option_and_then (interface_type a.graph name) (foreign_interface_id a.graph a.unresolved i)) (owning_interface at.0.owner)) o) known.name_is
+            ∙ (ap (λ (o : TypeOwner). option_and_then (λ (i : ℕ). option_and_then (interface_type a.graph known.name) (foreign_interface_id a.graph a.unresolved i)) (owning_interface o)) known.owner_is
+            ∙ (ap (λ (o : Option ℕ). option_and_then (interface_type a.graph known.name) o) goes.0 ∙ known.listed)))),
       )
 
-  -- what goes nowhere takes no part
-  pub nowhere : (t : ℕ) → taken_type a t ≡ None → type_is_active a.features a.handed.types t ≡ false
-  nowhere t none = elim (cases_Bool (is_foreign_type a.handed t)) [
-    | inl foreign ↦ elim (cases_Bool (type_is_active a.features a.handed.types t)) [
+  -- what isn't remapped isn't active
+  pub nowhere : (t : ℕ) → active_type_id a t ≡ None → type_is_active a.features a.unresolved.types t ≡ false
+  nowhere t none = elim (cases_Bool (is_foreign_type a.unresolved t)) [
+    | inl foreign ↦ elim (cases_Bool (type_is_active a.features a.unresolved.types t)) [
       | inl active ↦ let found = foreign_found t foreign active in let goes = found_on a shaped t found.0 active found.1 in cc
       | inr left ↦ left
     ]
-    | inr own ↦ own_somewhere (type_is_active a.features a.handed.types t) (is_foreign_type a.handed t) (found_type a.graph a.handed t) (length a.graph.types + rank (own_type a) t) own none
+    | inr own ↦ own_somewhere (type_is_active a.features a.unresolved.types t) (is_foreign_type a.unresolved t) (foreign_type_id a.graph a.unresolved t) (length a.graph.types + rank (own_type a) t) own none
   ]
 
   -- ---- the types behind those of the graph
@@ -211,47 +211,47 @@ module _ (a : Addition) (valid : IsValid a.graph) (shaped : IsShaped a.handed) (
   record Behind (k : ℕ) (new : TypeDef) : Type 0 where
     t : ℕ
     def : TypeDef
-    is : slice_get a.handed.types t ≡ Some def
+    is : slice_get a.unresolved.types t ≡ Some def
     own : own_type a t ≡ true
     place : k ≡ rank (own_type a) t
-    image_is : new ≡ type_image (plain_maps a) def
+    image_is : new ≡ type_image (maps_without_owns a) def
 
-  behind : (k : ℕ) (new : TypeDef) → slice_get (map (type_image (plain_maps a)) (own_types a)) k ≡ Some new → Behind k new
+  behind : (k : ℕ) (new : TypeDef) → slice_get (map (type_image (maps_without_owns a)) (own_types a)) k ≡ Some new → Behind k new
   behind k new at =
-      let image = from_map (type_image (plain_maps a)) (own_types a) k new at in
-      let one = from_map (λ (e : ℕ × TypeDef). e.1) (taken_places (own_type a) a.handed.types) k image.0 image.1 in
-      let from = taken_places-from (own_type a) a.handed.types k one.0 one.1 in
+      let image = from_map (type_image (maps_without_owns a)) (own_types a) k new at in
+      let one = from_map (λ (e : ℕ × TypeDef). e.1) (selected_with_index (own_type a) a.unresolved.types) k image.0 image.1 in
+      let from = selected_with_index-from (own_type a) a.unresolved.types k one.0 one.1 in
       record {
         t = one.0.0;
         def = one.0.1;
         is = from.0;
         own = from.1;
         place = from.2;
-        image_is = sym image.2 ∙ ap (type_image (plain_maps a)) (sym one.2);
+        image_is = sym image.2 ∙ ap (type_image (maps_without_owns a)) (sym one.2);
       }
 
-  own_active : (t : ℕ) → own_type a t ≡ true → type_is_active a.features a.handed.types t ≡ true
-  own_active t own = second (is_foreign_type a.handed t) (type_is_active a.features a.handed.types t) own
+  own_active : (t : ℕ) → own_type a t ≡ true → type_is_active a.features a.unresolved.types t ≡ true
+  own_active t own = second (is_foreign_type a.unresolved t) (type_is_active a.features a.unresolved.types t) own
     where
       second : (b c : Bool) → not b && c ≡ true → c ≡ true
       second true c h = cc
       second false c h = h
 
-  -- what an alias names takes part
-  target_active : (t u : ℕ) (def : TypeDef) → slice_get a.handed.types t ≡ Some def → type_is_active a.features a.handed.types t ≡ true → alias_target def.kind ≡ Some u → type_is_active a.features a.handed.types u ≡ true
+  -- what an alias names is active
+  target_active : (t u : ℕ) (def : TypeDef) → slice_get a.unresolved.types t ≡ Some def → type_is_active a.features a.unresolved.types t ≡ true → alias_target def.kind ≡ Some u → type_is_active a.features a.unresolved.types u ≡ true
   target_active t u def at active is = let place = place_of (referred def.kind) u (target_referred def.kind u is) in references_kept a shaped image t def at active place.0 u place.1
 
   -- and goes to the graph, or before
-  goes_before : (t u : ℕ) → own_type a t ≡ true → u < t → type_is_active a.features a.handed.types u ≡ true → type_place a u < length a.graph.types + rank (own_type a) t
-  goes_before t u own before active = elim (cases_Bool (is_foreign_type a.handed u)) [
+  goes_before : (t u : ℕ) → own_type a t ≡ true → u < t → type_is_active a.features a.unresolved.types u ≡ true → remapped_type a u < length a.graph.types + rank (own_type a) t
+  goes_before t u own before active = elim (cases_Bool (is_foreign_type a.unresolved u)) [
     | inl foreign ↦
         let found = foreign_found u foreign active in
         let there = found_there a valid u found.0 found.1 in
         let goes = goes_there a u found.0 (found_on a shaped u found.0 active found.1) in
         omega arith
     | inr its ↦
-        let is_own = both (is_foreign_type a.handed u) (type_is_active a.features a.handed.types u) its active in
-        let goes = own_type_goes a u is_own in
+        let is_own = both (is_foreign_type a.unresolved u) (type_is_active a.features a.unresolved.types u) its active in
+        let goes = own_type_remapped a u is_own in
         let below = rank-strict (own_type a) u t is_own before in
         omega arith
   ]
@@ -265,10 +265,10 @@ module _ (a : Addition) (valid : IsValid a.graph) (shaped : IsShaped a.handed) (
   mapped_one f (Some u) j h = (u, refl, let same : f u ≡ j = cc in sym same)
 
   -- what a new alias names stands before it
-  alias_before : (i k j : ℕ) (new : TypeDef) → i ≡ length a.graph.types + k → slice_get (map (type_image (plain_maps a)) (own_types a)) k ≡ Some new → alias_target new.kind ≡ Some j → j < i
+  alias_before : (i k j : ℕ) (new : TypeDef) → i ≡ length a.graph.types + k → slice_get (map (type_image (maps_without_owns a)) (own_types a)) k ≡ Some new → alias_target new.kind ≡ Some j → j < i
   alias_before i k j new place at is =
       let from = behind k new at in
-      let named = mapped_one (type_place a) (alias_target from.def.kind) j (sym (alias_image (plain_maps a) from.def.kind) ∙ (sym (ap (λ (d : TypeDef). alias_target d.kind) from.image_is) ∙ is)) in
+      let named = mapped_one (remapped_type a) (alias_target from.def.kind) j (sym (alias_image (maps_without_owns a) from.def.kind) ∙ (sym (ap (λ (d : TypeDef). alias_target d.kind) from.image_is) ∙ is)) in
       let before = target_earlier a shaped from.t named.0 from.def from.is named.1 in
       let active = target_active from.t named.0 from.def from.is (own_active from.t from.own) named.1 in
       let low = goes_before from.t named.0 from.own before active in
@@ -279,44 +279,44 @@ module _ (a : Addition) (valid : IsValid a.graph) (shaped : IsShaped a.handed) (
   abbrev row : TypeDef → List ℕ
   row def = option_to_list (alias_target def.kind)
 
-  edge_falls : (i j : ℕ) → length a.graph.types ≤ i → Contains (direct (alias_rows (plain_types a)) i) j → j < i
+  edge_falls : (i j : ℕ) → length a.graph.types ≤ i → Contains (direct (alias_rows (types_without_owns a)) i) j → j < i
   edge_falls i j past has =
-      let from = from_row row (plain_types a) i j has in
-      elim (old_or_new a.graph.types (map (type_image (plain_maps a)) (own_types a)) i from.0 from.1) [
+      let from = from_row row (types_without_owns a) i j has in
+      elim (old_or_new a.graph.types (map (type_image (maps_without_owns a)) (own_types a)) i from.0 from.1) [
         | inl old ↦ let within = slice_get_within a.graph.types i from.0 old in absurd (omega arith)
         | inr new ↦ alias_before i new.0 j from.0 new.1 new.2 (option_one (alias_target from.0.kind) j from.2)
       ]
 
-  edge_stays : (i j : ℕ) → i < length a.graph.types → Contains (direct (alias_rows (plain_types a)) i) j → Contains (direct (alias_rows a.graph.types) i) j
+  edge_stays : (i j : ℕ) → i < length a.graph.types → Contains (direct (alias_rows (types_without_owns a)) i) j → Contains (direct (alias_rows a.graph.types) i) j
   edge_stays i j within has =
-      let from = from_row row (plain_types a) i j has in
+      let from = from_row row (types_without_owns a) i j has in
       let old = get_at a.graph.types i within in
-      let same = same_at (plain_types a) i i from.0 old.0 refl from.1 (slice_get-append a.graph.types (map (type_image (plain_maps a)) (own_types a)) i old.0 old.1) in
+      let same = same_at (types_without_owns a) i i from.0 old.0 refl from.1 (slice_get-append a.graph.types (map (type_image (maps_without_owns a)) (own_types a)) i old.0 old.1) in
       in_row row a.graph.types i old.0 j old.1 (subst (λ (d : TypeDef). Contains (row d) j) same from.2)
 
   -- aliases are acyclic among all
-  pub plain_acyclic : IsAcyclic (alias_rows (plain_types a))
+  pub plain_acyclic : IsAcyclic (alias_rows (types_without_owns a))
   plain_acyclic =
       let old = alias_acyclic a.graph.types valid.no_cycles.types in
       let long = length-map a.graph.types row in
-      let all = length-map (plain_types a) row in
-      let parts = length-append a.graph.types (map (type_image (plain_maps a)) (own_types a)) in
-      IsAcyclic-grown (λ i r. r ≡ i) (alias_rows a.graph.types) (alias_rows (plain_types a)) old (record {
+      let all = length-map (types_without_owns a) row in
+      let parts = length-append a.graph.types (map (type_image (maps_without_owns a)) (own_types a)) in
+      IsAcyclic-grown (λ i r. r ≡ i) (alias_rows a.graph.types) (alias_rows (types_without_owns a)) old (record {
         in_range = λ i k d below.
-            let j : ℕ = get_or (direct (alias_rows (plain_types a)) i) k d in
-            let has : Contains (direct (alias_rows (plain_types a)) i) j = Contains-get_or (direct (alias_rows (plain_types a)) i) k d below in
+            let j : ℕ = get_or (direct (alias_rows (types_without_owns a)) i) k d in
+            let has : Contains (direct (alias_rows (types_without_owns a)) i) j = Contains-get_or (direct (alias_rows (types_without_owns a)) i) k d below in
             within i j has;
         stays = λ i j inside has. edge_stays i j (omega arith) has;
         ranked = λ i past j has. (i, refl);
         down = λ i r j past is has. let falls = edge_falls i j (omega arith) has in inr (j, refl, omega arith);
       })
     where
-      within : (i j : ℕ) → Contains (direct (alias_rows (plain_types a)) i) j → j < length (alias_rows (plain_types a))
+      within : (i j : ℕ) → Contains (direct (alias_rows (types_without_owns a)) i) j → j < length (alias_rows (types_without_owns a))
       within i j has =
-          let all = length-map (plain_types a) row in
-          let parts = length-append a.graph.types (map (type_image (plain_maps a)) (own_types a)) in
-          let from = from_row row (plain_types a) i j has in
-          let inside : i < length (plain_types a) = slice_get_within (plain_types a) i from.0 from.1 in
+          let all = length-map (types_without_owns a) row in
+          let parts = length-append a.graph.types (map (type_image (maps_without_owns a)) (own_types a)) in
+          let from = from_row row (types_without_owns a) i j has in
+          let inside : i < length (types_without_owns a) = slice_get_within (types_without_owns a) i from.0 from.1 in
           elim (cases_lt i (length a.graph.types)) [
             | inl before ↦
                 let long = length-map a.graph.types row in
@@ -328,55 +328,55 @@ module _ (a : Addition) (valid : IsValid a.graph) (shaped : IsShaped a.handed) (
 
   -- ---- which lead to a resource
 
-  -- one that takes no part
-  pub leads_left : (t : ℕ) → taken_type a t ≡ None → leads_there a t ≡ false
-  leads_left t none = disj (type_is_active a.features a.handed.types t) (leads_to_resource (plain_types a) (type_place a t)) (nowhere t none)
+  -- one that isn't active
+  pub leads_left : (t : ℕ) → active_type_id a t ≡ None → leads_there a t ≡ false
+  leads_left t none = disj (type_is_active a.features a.unresolved.types t) (leads_to_resource (types_without_owns a) (remapped_type a t)) (nowhere t none)
 
   -- one of another package does where the type does that it goes to
-  pub leads_foreign : (t t' : ℕ) → is_foreign_type a.handed t ≡ true → taken_type a t ≡ Some t' → leads_there a t ≡ leads_to_resource a.graph.types t'
+  pub leads_foreign : (t t' : ℕ) → is_foreign_type a.unresolved t ≡ true → active_type_id a t ≡ Some t' → leads_there a t ≡ leads_to_resource a.graph.types t'
   leads_foreign t t' foreign goes =
       let back = foreign_back a shaped t t' foreign goes in
-      conj (type_is_active a.features a.handed.types t) (leads_to_resource (plain_types a) (type_place a t)) back.0
-      ∙ (ap (leads_to_resource (plain_types a)) (goes_there a t t' goes)
-      ∙ leads_stays a.graph.types (map (type_image (plain_maps a)) (own_types a)) (alias_acyclic a.graph.types valid.no_cycles.types) plain_acyclic t' (found_there a valid t t' back.1))
+      conj (type_is_active a.features a.unresolved.types t) (leads_to_resource (types_without_owns a) (remapped_type a t)) back.0
+      ∙ (ap (leads_to_resource (types_without_owns a)) (goes_there a t t' goes)
+      ∙ leads_stays a.graph.types (map (type_image (maps_without_owns a)) (own_types a)) (alias_acyclic a.graph.types valid.no_cycles.types) plain_acyclic t' (found_there a valid t t' back.1))
 
   -- an own type stands at its place
-  own_plain : (t : ℕ) (def : TypeDef) → slice_get a.handed.types t ≡ Some def → own_type a t ≡ true → slice_get (plain_types a) (type_place a t) ≡ Some (type_image (plain_maps a) def)
+  own_plain : (t : ℕ) (def : TypeDef) → slice_get a.unresolved.types t ≡ Some def → own_type a t ≡ true → slice_get (types_without_owns a) (remapped_type a t) ≡ Some (type_image (maps_without_owns a) def)
   own_plain t def at own =
-      at_new a.graph.types (map (type_image (plain_maps a)) (own_types a)) (rank (own_type a) t) (type_place a t) (type_image (plain_maps a) def) (own_type_goes a t own)
-      (at_map (type_image (plain_maps a)) (own_types a) (rank (own_type a) t) def (taken-at (own_type a) a.handed.types t def at own))
+      at_new a.graph.types (map (type_image (maps_without_owns a)) (own_types a)) (rank (own_type a) t) (remapped_type a t) (type_image (maps_without_owns a) def) (own_type_remapped a t own)
+      (at_map (type_image (maps_without_owns a)) (own_types a) (rank (own_type a) t) def (selected-at (own_type a) a.unresolved.types t def at own))
 
-  image_resource : (k : TypeDefKind) → is_resource_kind (kind_image (plain_maps a) k) ≡ is_resource_kind k
+  image_resource : (k : TypeDefKind) → is_resource_kind (kind_image (maps_without_owns a) k) ≡ is_resource_kind k
   image_resource kind.Resource = refl
   image_resource other = refl
 
-  module _ (t t' : ℕ) (def : TypeDef) (at : slice_get a.handed.types t ≡ Some def) (its : is_foreign_type a.handed t ≡ false) (goes : taken_type a t ≡ Some t') where
-    active_here : type_is_active a.features a.handed.types t ≡ true
+  module _ (t t' : ℕ) (def : TypeDef) (at : slice_get a.unresolved.types t ≡ Some def) (its : is_foreign_type a.unresolved t ≡ false) (goes : active_type_id a t ≡ Some t') where
+    active_here : type_is_active a.features a.unresolved.types t ≡ true
     active_here = taken_is_active a shaped t t' goes
 
     own_here : own_type a t ≡ true
-    own_here = both (is_foreign_type a.handed t) (type_is_active a.features a.handed.types t) its active_here
+    own_here = both (is_foreign_type a.unresolved t) (type_is_active a.features a.unresolved.types t) its active_here
 
     -- an alias does where its target does
     pub leads_alias : (u : ℕ) → alias_target def.kind ≡ Some u → leads_there a t ≡ leads_there a u
     leads_alias u is =
-        conj (type_is_active a.features a.handed.types t) (leads_to_resource (plain_types a) (type_place a t)) active_here
-        ∙ (leads_on (plain_types a) plain_acyclic (type_place a t) (type_place a u) (type_image (plain_maps a) def) (own_plain t def at own_here)
-        (alias_image (plain_maps a) def.kind ∙ ap (λ (o : Option ℕ). option_map (type_place a) o) is)
-        ∙ sym (conj (type_is_active a.features a.handed.types u) (leads_to_resource (plain_types a) (type_place a u)) (target_active t u def at active_here is)))
+        conj (type_is_active a.features a.unresolved.types t) (leads_to_resource (types_without_owns a) (remapped_type a t)) active_here
+        ∙ (leads_on (types_without_owns a) plain_acyclic (remapped_type a t) (remapped_type a u) (type_image (maps_without_owns a) def) (own_plain t def at own_here)
+        (alias_image (maps_without_owns a) def.kind ∙ ap (λ (o : Option ℕ). option_map (remapped_type a) o) is)
+        ∙ sym (conj (type_is_active a.features a.unresolved.types u) (leads_to_resource (types_without_owns a) (remapped_type a u)) (target_active t u def at active_here is)))
 
     -- any other where it is a resource
     pub leads_own : alias_target def.kind ≡ None → leads_there a t ≡ is_resource_kind def.kind
     leads_own none =
-        conj (type_is_active a.features a.handed.types t) (leads_to_resource (plain_types a) (type_place a t)) active_here
-        ∙ (leads_here (plain_types a) plain_acyclic (type_place a t) (type_image (plain_maps a) def) (own_plain t def at own_here)
-        (alias_image (plain_maps a) def.kind ∙ ap (λ (o : Option ℕ). option_map (type_place a) o) none)
+        conj (type_is_active a.features a.unresolved.types t) (leads_to_resource (types_without_owns a) (remapped_type a t)) active_here
+        ∙ (leads_here (types_without_owns a) plain_acyclic (remapped_type a t) (type_image (maps_without_owns a) def) (own_plain t def at own_here)
+        (alias_image (maps_without_owns a) def.kind ∙ ap (λ (o : Option ℕ). option_map (remapped_type a) o) none)
         ∙ image_resource def.kind)
 
-module _ (a : Addition) (shaped : IsShaped a.handed) where
+module _ (a : Addition) (shaped : IsShaped a.unresolved) where
   -- what has to be a resource is of another package
-  pub required_is_foreign : (t : ℕ) (place : Option (ℕ × ℕ)) → Contains a.handed.required_resource_types (t, place) → (t < length a.handed.types) × (is_foreign_type a.handed t ≡ true)
+  pub required_is_foreign : (t : ℕ) (place : Option (ℕ × ℕ)) → Contains a.unresolved.required_resource_types (t, place) → (t < length a.unresolved.types) × (is_foreign_type a.unresolved t ≡ true)
   required_is_foreign t place has =
-      let at = place_of a.handed.required_resource_types (t, place) has in
-      let found = found_at (λ (def : TypeDef). def.kind ≡ kind.Unknown) a.handed.types t (shaped.unknown.required at.0 (t, place) at.1) in
-      (slice_get_within a.handed.types t found.0 found.1, lt-ltb t (length a.handed.unknown_type_spans) ((shaped.unknown.first.1 t found.0 found.1).0 found.2))
+      let at = place_of a.unresolved.required_resource_types (t, place) has in
+      let found = found_at (λ (def : TypeDef). def.kind ≡ kind.Unknown) a.unresolved.types t (shaped.unknown.required at.0 (t, place) at.1) in
+      (slice_get_within a.unresolved.types t found.0 found.1, lt-ltb t (length a.unresolved.unknown_type_spans) ((shaped.unknown.first.1 t found.0 found.1).0 found.2))

@@ -1,5 +1,5 @@
 pub mod Active
 pub mod Asked
 pub mod Borrows
+pub mod KnownBorrows
 pub mod Leading
-pub mod Told

@@ -1,30 +1,30 @@
-//! Which types stand at value positions of what takes part.
+//! Which types stand at value positions of what is active.
 ghost use Rattle.std.specs.Prelude.{◌≡◌, ◌++◌, ◌<◌, All, IfOk, OnOk, length, map, nat_eq};
 ghost use Rattle.std.specs.List.{flat_map, list_any, range_with_len};
 ghost use Rattle.wit_data.specs.Shape.{IsShaped};
-ghost use Rattle.wit_link_spec.specs.steps.Adding.{activity_of, addition_of};
-ghost use Rattle.wit_link_spec.specs.Reasons.{HasImage};
+ghost use Rattle.wit_link_spec.specs.steps.AdditionRefs.{activity_of, addition_of};
+ghost use Rattle.wit_link_spec.specs.Reasons.{IsResolved};
 ghost use Rattle.wit_link_spec.specs.Resources.{signature_positions, value_positions};
 ghost use Rattle.wit_link_resources.specs.steps.Asked.{gathered_positions, is_asked, positions_of_type};
 
 use crate::functions::active_functions;
 use std::alloc::{AllocError, Global};
 use wit_data::{Function, Items, TypeDefKind, TypeId, push_type, referred};
-use wit_link_spec::{Activity, Adding};
+use wit_link_spec::{Activity, AdditionRef};
 
-/// For each type of the package, whether it stands at a value position of what takes part.
+/// For each type of the package, whether it stands at a value position of what is active.
 pub(crate) fn asked(
     alloc: Global,
-    adding: &Adding<'_>,
+    adding: &AdditionRef<'_>,
     activity: &Activity,
 ) -> Result<Items<bool>, AllocError>
-    requires shaped { IsShaped adding.now.handed.now }
+    requires shaped { IsShaped adding.now.unresolved.now }
     requires activity { activity.now ≡ activity_of (addition_of adding.now) }
-    requires image { HasImage (addition_of adding.now) }
-    ensures { IfOk result (λ asked. asked ≡ map (is_asked (addition_of adding.now)) (range_with_len 0 (length adding.now.handed.now.types))) }
+    requires image { IsResolved (addition_of adding.now) }
+    ensures { IfOk result (λ asked. asked ≡ map (is_asked (addition_of adding.now)) (range_with_len 0 (length adding.now.unresolved.now.types))) }
 {
     let ids = positions(alloc, adding, activity)?;
-    marked(alloc, adding.handed.types.len(), ids.as_slice())
+    marked(alloc, adding.unresolved.types.len(), ids.as_slice())
 }
 
 /// A flag for each of so many types, whether it is among these, which are all below the count. The
@@ -40,10 +40,10 @@ pub fn marked(alloc: Global, count: usize, ids: &[TypeId]) -> Result<Items<bool>
     Ok(marks)
 }
 
-/// The types at the value positions of what takes part, those of types first.
+/// The types at the value positions of what is active, those of types first.
 fn positions(
     alloc: Global,
-    adding: &Adding<'_>,
+    adding: &AdditionRef<'_>,
     activity: &Activity,
 ) -> Result<Items<TypeId>, AllocError>
     requires { activity.now ≡ activity_of (addition_of adding.now) }
@@ -62,15 +62,15 @@ fn positions(
 fn push_types(
     alloc: Global,
     ids: &mut Items<TypeId>,
-    adding: &Adding<'_>,
+    adding: &AdditionRef<'_>,
     activity: &Activity,
 ) -> Result<(), AllocError>
     requires { activity.now ≡ activity_of (addition_of adding.now) }
-    ensures { OnOk result (ids.new ≡ ids.old ++ flat_map (positions_of_type (addition_of adding.now)) (range_with_len 0 (length adding.now.handed.now.types))) }
+    ensures { OnOk result (ids.new ≡ ids.old ++ flat_map (positions_of_type (addition_of adding.now)) (range_with_len 0 (length adding.now.unresolved.now.types))) }
 {
-    for place in 0..adding.handed.types.len() {
+    for place in 0..adding.unresolved.types.len() {
         if *activity.types.at(place) {
-            ids.append(value_positions(alloc, &adding.handed.types.at(place).kind)?)?;
+            ids.append(value_positions(alloc, &adding.unresolved.types.at(place).kind)?)?;
         }
     }
     Ok(())

@@ -5,32 +5,32 @@ ghost use Rattle.wit_data.specs.Reference.{type_references};
 ghost use Rattle.wit_data.specs.Shape.{IsShaped};
 ghost use Rattle.wit_data.specs.declared.types.Handle.TheVariants as handle;
 ghost use Rattle.wit_data.specs.declared.types.TypeDefKind.TheVariants as kinds;
-ghost use Rattle.wit_graph_data.specs.Questions.{held_types};
+ghost use Rattle.wit_graph_data.specs.Queries.{content_types};
 ghost use Rattle.wit_elaboration.specs.Valid.{IsValid};
-ghost use Rattle.wit_link_spec.specs.steps.Adding.{addition_of, places_of};
+ghost use Rattle.wit_link_spec.specs.steps.AdditionRefs.{addition_of, new_ids_of};
 ghost use Rattle.wit_link_spec.specs.Reasons.{HoldsBorrow, MayHoldBorrow};
-ghost use Rattle.wit_link_resources.specs.steps.Borrows.{AreFreeHanded, AreFreeTypes, IsBorrowThere};
+ghost use Rattle.wit_link_resources.specs.steps.Borrows.{AreFreeOfUnresolved, AreFreeTypes, IsBorrowThere};
 
 use indexmap::IndexSet;
 use std::alloc::{AllocError, Global};
 use wit_data::{Handle, Items, TypeDef, TypeDefKind, TypeId, referred};
-use wit_link_spec::{Adding, Places};
+use wit_link_spec::{AdditionRef, NewIds};
 
 /// Types that are known to hold no borrow, as places: of the package, and of the graph.
 #[derive(Drop)]
 pub(crate) struct Free {
-    pub(crate) handed: IndexSet<usize>,
+    pub(crate) unresolved: IndexSet<usize>,
     pub(crate) graph: IndexSet<usize>,
 }
 
 impl Free {
     /// Nothing is known.
     pub(crate) fn new(alloc: Global) -> Free
-        ensures handed { result.handed.keys ≡ [] }
+        ensures unresolved { result.unresolved.keys ≡ [] }
         ensures graph { result.graph.keys ≡ [] }
     {
         Free {
-            handed: IndexSet::new(alloc),
+            unresolved: IndexSet::new(alloc),
             graph: IndexSet::new(alloc),
         }
     }
@@ -44,7 +44,7 @@ fn is_borrow(kind: &TypeDefKind) -> bool
 
 /// Puts what the values of a kind hold on a stack.
 fn push_held(alloc: Global, stack: &mut Items<usize>, kind: &TypeDefKind) -> Result<(), AllocError>
-    ensures { OnOk result (stack.new ≡ stack.old ++ held_types kind.now) }
+    ensures { OnOk result (stack.new ≡ stack.old ++ content_types kind.now) }
 {
     match kind {
         TypeDefKind::Handle(_) => Ok(()),
@@ -96,26 +96,26 @@ pub fn holds_borrow(
 /// Whether a type of the package is a borrow, or goes to a type of the graph that holds one.
 fn is_borrow_there(
     alloc: Global,
-    adding: &Adding<'_>,
-    places: &Places,
+    adding: &AdditionRef<'_>,
+    places: &NewIds,
     free: &mut IndexSet<usize>,
     place: usize,
 ) -> Result<bool, AllocError>
-    requires shaped { IsShaped adding.now.handed.now }
+    requires shaped { IsShaped adding.now.unresolved.now }
     requires valid { IsValid adding.now.graph.now }
-    requires places { places.now ≡ places_of (addition_of adding.now) }
-    requires there { place < length adding.now.handed.now.types }
+    requires places { places.now ≡ new_ids_of (addition_of adding.now) }
+    requires there { place < length adding.now.unresolved.now.types }
     requires free { AreFreeTypes adding.now.graph.now.types free.old.keys }
     ensures holds { IfOk result (λ holds. IsTrue holds ↔ IsBorrowThere (addition_of adding.now) place) }
     ensures free { IfOk result (λ holds. holds ≡ false → AreFreeTypes adding.now.graph.now.types free.new.keys) }
 {
-    if place < adding.handed.unknown_type_spans.len() {
+    if place < adding.unresolved.unknown_type_spans.len() {
         match *places.types.at(place) {
             Some(found) => holds_borrow(alloc, adding.graph.types.as_slice(), free, found),
             None => Ok(false),
         }
     } else {
-        Ok(is_borrow(&adding.handed.types.at(place).kind))
+        Ok(is_borrow(&adding.unresolved.types.at(place).kind))
     }
 }
 
@@ -124,29 +124,29 @@ fn is_borrow_there(
 /// none: so all calls together take a step for each type that they meet and for each that one holds.
 pub(crate) fn may_hold_borrow(
     alloc: Global,
-    adding: &Adding<'_>,
-    places: &Places,
+    adding: &AdditionRef<'_>,
+    places: &NewIds,
     free: &mut Free,
     id: TypeId,
 ) -> Result<bool, AllocError>
-    requires shaped { IsShaped adding.now.handed.now }
+    requires shaped { IsShaped adding.now.unresolved.now }
     requires valid { IsValid adding.now.graph.now }
-    requires places { places.now ≡ places_of (addition_of adding.now) }
-    requires there { id < length adding.now.handed.now.types }
-    requires handed { AreFreeHanded (addition_of adding.now) free.old.handed.keys }
+    requires places { places.now ≡ new_ids_of (addition_of adding.now) }
+    requires there { id < length adding.now.unresolved.now.types }
+    requires unresolved { AreFreeOfUnresolved (addition_of adding.now) free.old.unresolved.keys }
     requires graph { AreFreeTypes adding.now.graph.now.types free.old.graph.keys }
     ensures holds { IfOk result (λ holds. IsTrue holds ↔ MayHoldBorrow (addition_of adding.now) id) }
-    ensures handed { IfOk result (λ holds. holds ≡ false → AreFreeHanded (addition_of adding.now) free.new.handed.keys) }
+    ensures unresolved { IfOk result (λ holds. holds ≡ false → AreFreeOfUnresolved (addition_of adding.now) free.new.unresolved.keys) }
     ensures graph { IfOk result (λ holds. holds ≡ false → AreFreeTypes adding.now.graph.now.types free.new.graph.keys) }
 {
     let mut stack = Items::new(alloc);
     stack.push(id.index())?;
     while let Some(place) = stack.pop() {
-        if free.handed.insert(place)? {
+        if free.unresolved.insert(place)? {
             if is_borrow_there(alloc, adding, places, &mut free.graph, place)? {
                 return Ok(true);
             }
-            push_held(alloc, &mut stack, &adding.handed.types.at(place).kind)?;
+            push_held(alloc, &mut stack, &adding.unresolved.types.at(place).kind)?;
         }
     }
     Ok(false)

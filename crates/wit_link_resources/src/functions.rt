@@ -1,18 +1,18 @@
-//! The functions that take part of a package.
+//! The functions that are active of a package.
 ghost use Rattle.std.specs.Prelude.{◌≡◌, ◌++◌, IfOk, OnOk, length};
 ghost use Rattle.std.specs.List.{flat_map, range_with_len};
-ghost use Rattle.wit_link_spec.specs.steps.Adding.{activity_of, addition_of};
+ghost use Rattle.wit_link_spec.specs.steps.AdditionRefs.{activity_of, addition_of};
 ghost use Rattle.wit_link_resources.specs.steps.Active.{active_entries, active_functions, active_item, active_named, active_one, interface_functions, seen, world_functions};
 
 use std::alloc::{AllocError, Global};
 use wit_data::{Function, Names, Table, WorldItem, WorldKey};
 use wit_graph_data::Features;
-use wit_link_spec::{Activity, Adding, is_active};
+use wit_link_spec::{Activity, AdditionRef, is_active};
 
-/// The functions that take part: those of the interfaces, then those of the worlds.
+/// The functions that are active: those of the interfaces, then those of the worlds.
 pub(crate) fn active_functions<'a>(
     alloc: Global,
-    adding: &Adding<'a>,
+    adding: &AdditionRef<'a>,
     activity: &Activity,
 ) -> Result<Vec<&'a Function>, AllocError>
     requires { activity.now ≡ activity_of (addition_of adding.now) }
@@ -27,15 +27,15 @@ pub(crate) fn active_functions<'a>(
 /// Adds those of the interfaces.
 fn push_interfaces<'a>(
     functions: &mut Vec<&'a Function>,
-    adding: &Adding<'a>,
+    adding: &AdditionRef<'a>,
     activity: &Activity,
 ) -> Result<(), AllocError>
     requires { activity.now ≡ activity_of (addition_of adding.now) }
-    ensures { OnOk result (seen functions.new.items ≡ seen functions.old.items ++ flat_map (interface_functions (addition_of adding.now)) (range_with_len 0 (length adding.now.handed.now.interfaces))) }
+    ensures { OnOk result (seen functions.new.items ≡ seen functions.old.items ++ flat_map (interface_functions (addition_of adding.now)) (range_with_len 0 (length adding.now.unresolved.now.interfaces))) }
 {
-    for place in 0..adding.handed.interfaces.len() {
+    for place in 0..adding.unresolved.interfaces.len() {
         if *activity.interfaces.at(place) {
-            let interface = adding.handed.interfaces.at(place);
+            let interface = adding.unresolved.interfaces.at(place);
             push_named(functions, adding.features, &interface.functions)?;
         }
     }
@@ -45,15 +45,15 @@ fn push_interfaces<'a>(
 /// Adds those of the worlds.
 fn push_worlds<'a>(
     functions: &mut Vec<&'a Function>,
-    adding: &Adding<'a>,
+    adding: &AdditionRef<'a>,
     activity: &Activity,
 ) -> Result<(), AllocError>
     requires { activity.now ≡ activity_of (addition_of adding.now) }
-    ensures { OnOk result (seen functions.new.items ≡ seen functions.old.items ++ flat_map (world_functions (addition_of adding.now)) (range_with_len 0 (length adding.now.handed.now.worlds))) }
+    ensures { OnOk result (seen functions.new.items ≡ seen functions.old.items ++ flat_map (world_functions (addition_of adding.now)) (range_with_len 0 (length adding.now.unresolved.now.worlds))) }
 {
-    for place in 0..adding.handed.worlds.len() {
+    for place in 0..adding.unresolved.worlds.len() {
         if *activity.worlds.at(place) {
-            let world = adding.handed.worlds.at(place);
+            let world = adding.unresolved.worlds.at(place);
             push_entries(functions, adding.features, &world.imports)?;
             push_entries(functions, adding.features, &world.exports)?;
         }

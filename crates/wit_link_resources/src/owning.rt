@@ -1,22 +1,22 @@
-//! Where types go at value positions, and the `own`s that come for that.
+//! What types are remapped to at value positions, and the `own`s that come for that.
 ghost use Rattle.std.specs.Prelude.{◌≡◌, ◌+◌, ◌^◌, ◌≤◌, ◌<◌, IfOk, Option, Some, length, map, slice_get, unwrap_or, ℕ};
 ghost use Rattle.std.specs.List.{range_with_len};
 ghost use Rattle.wit_data.specs.Shape.{IsShaped};
 ghost use Rattle.wit_elaboration.specs.Valid.{IsValid};
-ghost use Rattle.wit_link_spec.specs.steps.Adding.{activity_of, addition_of, places_of, values_of};
-ghost use Rattle.wit_link_spec.specs.Addition.{needs_own, own_types};
-ghost use Rattle.wit_link_spec.specs.Reasons.{HasImage};
+ghost use Rattle.wit_link_spec.specs.steps.AdditionRefs.{activity_of, addition_of, new_ids_of, values_of};
+ghost use Rattle.wit_link_spec.specs.Addition.{own_types, value_needs_own};
+ghost use Rattle.wit_link_spec.specs.Reasons.{IsResolved};
 ghost use Rattle.wit_link_spec.specs.Resources.{own_of};
 
 use crate::asked::asked;
 use crate::leading::{leading, wanted};
 use std::alloc::{AllocError, Global};
 use wit_data::{Docs, Handle, Items, Span, Stability, TypeDef, TypeDefKind, TypeId, TypeOwner};
-use wit_link_spec::{Activity, Adding, Places, Values};
+use wit_link_spec::{Activity, AdditionRef, NewIds, Values};
 
-/// Where types go at value positions, and the `own`s that come for that. The package has its shape, the graph is valid,
-/// what takes part of the package and where it goes is told by `activity` of wit_link_features and `places` of wit_link_foreign, and
-/// none of 1 to 3 and 9 to 13 speaks against the addition. The only error is want of memory.
+/// What types are remapped to at value positions, and the `own`s that come for that. The package has its shape, the graph is valid,
+/// what is active of the package and what it is remapped to is told by `activity` of wit_link_features and `places` of wit_link_foreign, and
+/// none of 1 to 3 and 9 to 13 holds against the addition. The only error is want of memory.
 ///
 /// It takes a step for each part of the package, and for each alias of the graph on the way from the types of other
 /// packages that values ask for, themselves or through aliases of the package.
@@ -24,32 +24,32 @@ use wit_link_spec::{Activity, Adding, Places, Values};
 /// Source: `update_ty` of wit-parser 0.263.0.
 pub fn values(
     alloc: Global,
-    adding: &Adding<'_>,
+    adding: &AdditionRef<'_>,
     activity: &Activity,
-    places: &Places,
+    places: &NewIds,
 ) -> Result<Values, AllocError>
-    requires shaped { IsShaped adding.now.handed.now }
+    requires shaped { IsShaped adding.now.unresolved.now }
     requires valid { IsValid adding.now.graph.now }
     requires activity { activity.now ≡ activity_of (addition_of adding.now) }
-    requires places { places.now ≡ places_of (addition_of adding.now) }
-    requires image { HasImage (addition_of adding.now) }
+    requires places { places.now ≡ new_ids_of (addition_of adding.now) }
+    requires image { IsResolved (addition_of adding.now) }
     ensures { IfOk result (λ values. values ≡ values_of (addition_of adding.now)) }
 {
     let needed = needed(alloc, adding, activity, places)?;
     let first = first_own(adding, activity);
-    let mut value_places = Items::new(alloc);
+    let mut value_ids = Items::new(alloc);
     let mut owns = Items::new(alloc);
     for place in 0..needed.len() {
         let id = type_place(places, place);
         if *needed.at(place) {
-            value_places.push(TypeId::from_index(first + owns.len()))?;
+            value_ids.push(TypeId::from_index(first + owns.len()))?;
             owns.push(own_of(id))?;
         } else {
-            value_places.push(id)?;
+            value_ids.push(id)?;
         }
     }
     Ok(Values {
-        places: value_places,
+        places: value_ids,
         owns,
     })
 }
@@ -57,16 +57,16 @@ pub fn values(
 /// For each type of the package, whether a value asks for an `own` of it.
 fn needed(
     alloc: Global,
-    adding: &Adding<'_>,
+    adding: &AdditionRef<'_>,
     activity: &Activity,
-    places: &Places,
+    places: &NewIds,
 ) -> Result<Items<bool>, AllocError>
-    requires shaped { IsShaped adding.now.handed.now }
+    requires shaped { IsShaped adding.now.unresolved.now }
     requires valid { IsValid adding.now.graph.now }
     requires activity { activity.now ≡ activity_of (addition_of adding.now) }
-    requires places { places.now ≡ places_of (addition_of adding.now) }
-    requires image { HasImage (addition_of adding.now) }
-    ensures { IfOk result (λ needed. needed ≡ map (needs_own (addition_of adding.now)) (range_with_len 0 (length adding.now.handed.now.types))) }
+    requires places { places.now ≡ new_ids_of (addition_of adding.now) }
+    requires image { IsResolved (addition_of adding.now) }
+    ensures { IfOk result (λ needed. needed ≡ map (value_needs_own (addition_of adding.now)) (range_with_len 0 (length adding.now.unresolved.now.types))) }
 {
     let asked = asked(alloc, adding, activity)?;
     let wanted = wanted(alloc, adding, &asked)?;
@@ -79,26 +79,26 @@ fn needed(
 }
 
 /// The id of the first `own`: it comes behind the types of the graph and those that the package adds.
-fn first_own(adding: &Adding<'_>, activity: &Activity) -> usize
-    requires shaped { IsShaped adding.now.handed.now }
+fn first_own(adding: &AdditionRef<'_>, activity: &Activity) -> usize
+    requires shaped { IsShaped adding.now.unresolved.now }
     requires activity { activity.now ≡ activity_of (addition_of adding.now) }
     ensures first { result ≡ length adding.now.graph.now.types + length (own_types (addition_of adding.now)) }
-    ensures room { result + length adding.now.handed.now.types < 2 ^ 64 }
+    ensures room { result + length adding.now.unresolved.now.types < 2 ^ 64 }
 {
     adding.graph.types.as_slice().len() + count_own(adding, activity)
 }
 
 /// How many types of its own the package adds.
-fn count_own(adding: &Adding<'_>, activity: &Activity) -> usize
-    requires shaped { IsShaped adding.now.handed.now }
+fn count_own(adding: &AdditionRef<'_>, activity: &Activity) -> usize
+    requires shaped { IsShaped adding.now.unresolved.now }
     requires activity { activity.now ≡ activity_of (addition_of adding.now) }
     ensures count { result ≡ length (own_types (addition_of adding.now)) }
-    ensures within { result ≤ length adding.now.handed.now.types }
-    ensures small { length adding.now.handed.now.types < 2 ^ 62 }
+    ensures within { result ≤ length adding.now.unresolved.now.types }
+    ensures small { length adding.now.unresolved.now.types < 2 ^ 62 }
 {
-    let types = adding.handed.types.as_slice();
+    let types = adding.unresolved.types.as_slice();
     let mut count = 0;
-    for place in adding.handed.unknown_type_spans.len()..types.len() {
+    for place in adding.unresolved.unknown_type_spans.len()..types.len() {
         if *activity.types.at(place) {
             count += 1;
         }
@@ -106,8 +106,8 @@ fn count_own(adding: &Adding<'_>, activity: &Activity) -> usize
     count
 }
 
-/// Where the type at a place of the package goes, which is that of one of its types; one that goes nowhere stays.
-pub fn type_place(places: &Places, place: usize) -> TypeId
+/// Where the type at a place of the package goes, which is that of one of its types; one that isn't remapped stays.
+pub fn type_place(places: &NewIds, place: usize) -> TypeId
     requires { place < length places.now.types }
     ensures { (o : Option ℕ) → slice_get places.now.types place ≡ Some o → result ≡ unwrap_or o place }
 {

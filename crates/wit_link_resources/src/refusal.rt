@@ -2,7 +2,7 @@
 ghost use Rattle.std.specs.Prelude.{IfOk, string_bytes};
 ghost use Rattle.wit_link_spec.specs.CauseText.{borrow_text, not_a_resource_text};
 ghost use Rattle.wit_graph_data.specs.declared.cause.Cause.TheVariants as cause;
-ghost use Rattle.wit_link_resources.specs.steps.Told.{IsToldAt};
+ghost use Rattle.wit_link_resources.specs.steps.KnownBorrows.{IsErrorAtSpan};
 
 use std::alloc::{AllocError, Global};
 use wit_data::{Function, Span, Text};
@@ -10,7 +10,7 @@ use wit_graph_data::{Cause, ResolveError, ResolveErrorKind};
 
 /// A message at a place of the package, whose spans move by an offset.
 fn semantic(span: Span, offset: u32, message: String, cause: Cause) -> ResolveError
-    ensures { IsToldAt span offset (string_bytes message) cause result }
+    ensures { IsErrorAtSpan span offset (string_bytes message) cause result }
 {
     match span.moved(offset) {
         Some(span) => ResolveErrorKind::Semantic {
@@ -29,7 +29,7 @@ pub(crate) fn not_a_resource(
     span: Span,
     offset: u32,
 ) -> Result<ResolveError, AllocError>
-    ensures { IfOk result (IsToldAt span offset not_a_resource_text cause.NotAResource) }
+    ensures { IfOk result (IsErrorAtSpan span offset not_a_resource_text cause.NotAResource) }
 {
     let message = format!(in alloc; "type used in a handle must be a resource")?;
     Ok(semantic(span, offset, message, Cause::NotAResource))
@@ -41,7 +41,7 @@ pub(crate) fn borrow_in_result(
     function: &Function,
     offset: u32,
 ) -> Result<ResolveError, AllocError>
-    ensures { IfOk result (IsToldAt function.now.span offset (borrow_text function.now.name) cause.BorrowInResult) }
+    ensures { IfOk result (IsErrorAtSpan function.now.span offset (borrow_text function.now.name) cause.BorrowInResult) }
 {
     let name = &function.name;
     let message = format!(in alloc;

@@ -3,7 +3,7 @@ ghost use Rattle.std.specs.Prelude.{◌≡◌, ◌⊎◌, Contains, IfErr, OnOk}
 ghost use Rattle.wit_data.specs.Shape.{IsShaped};
 ghost use Rattle.wit_elaboration.specs.Valid.{IsValid};
 ghost use Rattle.wit_graph_data.specs.declared.error_kind.ResolveErrorKind.TheVariants.{OutOfMemory};
-ghost use Rattle.wit_link_spec.specs.steps.Adding.{addition_of, places_of};
+ghost use Rattle.wit_link_spec.specs.steps.AdditionRefs.{addition_of, new_ids_of};
 ghost use Rattle.wit_link_spec.specs.Cause.{IsCause};
 ghost use Rattle.wit_link_spec.specs.steps.Passed.{HasResources};
 ghost use Rattle.wit_link_resources.specs.steps.Leading.{AreRight, LeadsWhereFound};
@@ -13,27 +13,27 @@ use crate::refusal::not_a_resource;
 use std::alloc::Global;
 use wit_data::{Span, TypeId};
 use wit_graph_data::ResolveResult;
-use wit_link_spec::{Adding, Places};
+use wit_link_spec::{AdditionRef, NewIds};
 use wit_values::Table;
 
 /// Refuses a type that has to be a resource and doesn't lead to one (14). The package has its
-/// shape, the graph is valid, and where things go is told by `places` of wit_link_foreign. A place that
+/// shape, the graph is valid, and what things are remapped to is told by `places` of wit_link_foreign. A place that
 /// would be told and ends past 4294967295 is refused (27), and else want of memory (28) alone.
 ///
 /// It takes a step for each such type, and for each alias of the graph on the way to what they
 /// name.
 ///
 /// Source: `process_foreign_deps` of wit-parser 0.263.0.
-pub fn check_resources(alloc: Global, adding: &Adding<'_>, places: &Places) -> ResolveResult<()>
-    requires shaped { IsShaped adding.now.handed.now }
+pub fn check_resources(alloc: Global, adding: &AdditionRef<'_>, places: &NewIds) -> ResolveResult<()>
+    requires shaped { IsShaped adding.now.unresolved.now }
     requires valid { IsValid adding.now.graph.now }
-    requires places { places.now ≡ places_of (addition_of adding.now) }
+    requires places { places.now ≡ new_ids_of (addition_of adding.now) }
     ensures resources { OnOk result (HasResources (addition_of adding.now)) }
     ensures cause { IfErr result (λ kind. (kind ≡ OutOfMemory) ⊎ IsCause (addition_of adding.now) kind) }
 {
     let mut met = Table::new(alloc);
-    for index in 0..adding.handed.required_resource_types.len() {
-        let (id, span) = *adding.handed.required_resource_types.at(index);
+    for index in 0..adding.unresolved.required_resource_types.len() {
+        let (id, span) = *adding.unresolved.required_resource_types.at(index);
         check_required(alloc, adding, places, &mut met, id, span)?;
     }
     Ok(())
@@ -42,17 +42,17 @@ pub fn check_resources(alloc: Global, adding: &Adding<'_>, places: &Places) -> R
 /// Refuses one type, where it is found in the graph and doesn't lead to a resource there.
 fn check_required(
     alloc: Global,
-    adding: &Adding<'_>,
-    places: &Places,
+    adding: &AdditionRef<'_>,
+    places: &NewIds,
     met: &mut Table<TypeId, bool>,
     id: TypeId,
     span: Span,
 ) -> ResolveResult<()>
-    requires shaped { IsShaped adding.now.handed.now }
+    requires shaped { IsShaped adding.now.unresolved.now }
     requires valid { IsValid adding.now.graph.now }
-    requires places { places.now ≡ places_of (addition_of adding.now) }
+    requires places { places.now ≡ new_ids_of (addition_of adding.now) }
     requires met { AreRight adding.now.graph.now.types met.old }
-    requires required { Contains adding.now.handed.now.required_resource_types (id, span) }
+    requires required { Contains adding.now.unresolved.now.required_resource_types (id, span) }
     ensures ok { OnOk result (LeadsWhereFound (addition_of adding.now) id) }
     ensures cause { IfErr result (λ kind. (kind ≡ OutOfMemory) ⊎ IsCause (addition_of adding.now) kind) }
     ensures met { OnOk result (AreRight adding.now.graph.now.types met.new) }

@@ -5,11 +5,11 @@ ghost use Rattle.wit_data.specs.Reference.{named_option};
 ghost use Rattle.wit_data.specs.Shape.{IsShaped};
 ghost use Rattle.wit_elaboration.specs.Valid.{IsValid};
 ghost use Rattle.wit_graph_data.specs.declared.error_kind.ResolveErrorKind.TheVariants.{OutOfMemory};
-ghost use Rattle.wit_link_spec.specs.steps.Adding.{activity_of, addition_of, places_of};
+ghost use Rattle.wit_link_spec.specs.steps.AdditionRefs.{activity_of, addition_of, new_ids_of};
 ghost use Rattle.wit_link_spec.specs.Cause.{IsCause};
 ghost use Rattle.wit_link_spec.specs.steps.Passed.{ReturnsNoBorrow};
-ghost use Rattle.wit_link_spec.specs.Reasons.{HasImage, IsActiveFunction};
-ghost use Rattle.wit_link_resources.specs.steps.Borrows.{AreFreeHanded, AreFreeTypes, ReturnsNone};
+ghost use Rattle.wit_link_spec.specs.Reasons.{IsActiveFunction, IsResolved};
+ghost use Rattle.wit_link_resources.specs.steps.Borrows.{AreFreeOfUnresolved, AreFreeTypes, ReturnsNone};
 
 use crate::borrows::{Free, may_hold_borrow};
 use crate::functions::active_functions;
@@ -17,28 +17,28 @@ use crate::refusal::borrow_in_result;
 use std::alloc::Global;
 use wit_data::{Function, Type_, TypeId};
 use wit_graph_data::ResolveResult;
-use wit_link_spec::{Activity, Adding, Places};
+use wit_link_spec::{Activity, AdditionRef, NewIds};
 
-/// Refuses a function whose result holds a borrow (15). The package has its shape, the graph is valid, what takes part
-/// of the package and where it goes is told by `activity` of wit_link_features and `places` of wit_link_foreign, and none of 1 to 3
-/// and 9 to 13 speaks against the addition. A place that would be told and ends past 4294967295 is refused (27), and
+/// Refuses a function whose result holds a borrow (15). The package has its shape, the graph is valid, what is active
+/// of the package and what it is remapped to is told by `activity` of wit_link_features and `places` of wit_link_foreign, and none of 1 to 3
+/// and 9 to 13 holds against the addition. A place that would be told and ends past 4294967295 is refused (27), and
 /// else want of memory (28) alone.
 ///
-/// It takes a step for each function of the package that takes part, and for each type that their results hold, of the
+/// It takes a step for each function of the package that is active, and for each type that their results hold, of the
 /// package and of the graph, once for all functions.
 ///
 /// Source: `update_function` of wit-parser 0.263.0.
 pub fn check_results(
     alloc: Global,
-    adding: &Adding<'_>,
+    adding: &AdditionRef<'_>,
     activity: &Activity,
-    places: &Places,
+    places: &NewIds,
 ) -> ResolveResult<()>
-    requires shaped { IsShaped adding.now.handed.now }
+    requires shaped { IsShaped adding.now.unresolved.now }
     requires valid { IsValid adding.now.graph.now }
     requires activity { activity.now ≡ activity_of (addition_of adding.now) }
-    requires places { places.now ≡ places_of (addition_of adding.now) }
-    requires image { HasImage (addition_of adding.now) }
+    requires places { places.now ≡ new_ids_of (addition_of adding.now) }
+    requires image { IsResolved (addition_of adding.now) }
     ensures no_borrow { OnOk result (ReturnsNoBorrow (addition_of adding.now)) }
     ensures cause { IfErr result (λ kind. (kind ≡ OutOfMemory) ⊎ IsCause (addition_of adding.now) kind) }
 {
@@ -50,23 +50,23 @@ pub fn check_results(
     Ok(())
 }
 
-/// Refuses one function that takes part, where its result holds a borrow.
+/// Refuses one function that is active, where its result holds a borrow.
 fn check_result(
     alloc: Global,
-    adding: &Adding<'_>,
-    places: &Places,
+    adding: &AdditionRef<'_>,
+    places: &NewIds,
     free: &mut Free,
     function: &Function,
 ) -> ResolveResult<()>
-    requires shaped { IsShaped adding.now.handed.now }
+    requires shaped { IsShaped adding.now.unresolved.now }
     requires valid { IsValid adding.now.graph.now }
-    requires places { places.now ≡ places_of (addition_of adding.now) }
-    requires image { HasImage (addition_of adding.now) }
+    requires places { places.now ≡ new_ids_of (addition_of adding.now) }
+    requires image { IsResolved (addition_of adding.now) }
     requires active { IsActiveFunction (addition_of adding.now) function.now }
-    requires handed { AreFreeHanded (addition_of adding.now) free.old.handed.keys }
+    requires unresolved { AreFreeOfUnresolved (addition_of adding.now) free.old.unresolved.keys }
     requires graph { AreFreeTypes adding.now.graph.now.types free.old.graph.keys }
     ensures none { OnOk result (ReturnsNone (addition_of adding.now) function.now) }
-    ensures handed { OnOk result (AreFreeHanded (addition_of adding.now) free.new.handed.keys) }
+    ensures unresolved { OnOk result (AreFreeOfUnresolved (addition_of adding.now) free.new.unresolved.keys) }
     ensures graph { OnOk result (AreFreeTypes adding.now.graph.now.types free.new.graph.keys) }
     ensures cause { IfErr result (λ kind. (kind ≡ OutOfMemory) ⊎ IsCause (addition_of adding.now) kind) }
 {

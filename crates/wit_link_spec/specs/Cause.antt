@@ -8,40 +8,41 @@ use Rattle.wit_graph_data.specs.declared.cause.Cause.TheVariants as cause
 use Rattle.wit_graph_data.specs.declared.error_kind.ResolveErrorKind.{ResolveErrorKind}
 use Rattle.wit_graph_data.specs.declared.error_kind.ResolveErrorKind.TheVariants.{PackageNotFound, WorldNotFound, InterfaceNotFound, InvalidTransitiveDependency, DuplicatePackage, ItemShadowing, StabilityMismatch, Semantic, OffsetOverflow}
 use Rattle.wit_link_spec.specs.Addition.{Addition}
-use Rattle.wit_link_spec.specs.Gates.{Place}
-use Rattle.wit_link_spec.specs.Reasons.{HasExcludedOwner, HasImage, IsDuplicate, IsNoResource, IsUnreleased, LacksInterface, LacksPackage, LacksType, LacksVersion, LacksWorld, PassesTheEnd, RefersToExcluded, ReturnsBorrow}
-use Rattle.wit_link_spec.specs.WorldReasons.{AreTooAlike, IncludeIsFine, IsInConflict, LacksGetter, Mismatches, RenamesNothing, Shadows, WorldIsFine}
+use Rattle.wit_link_spec.specs.Gates.{OptionalSpan}
+use Rattle.wit_link_spec.specs.Reasons.{AdditionOverflows, ForeignTypeMissing, HasExcludedOwner, IsDuplicate, IsNoResource, IsResolved, IsUnreleased, LacksInterface, LacksPackage, LacksVersion, LacksWorld, RefersToExcluded, ReturnsBorrow}
+use Rattle.wit_link_spec.specs.WorldReasons.{AreNotStronglyUnique, IncludeIsAccepted, IncludeMismatches, LacksGetter, RenamesNothing, Shadows, WorldHasConflict, WorldIsAccepted}
 
--- world k is the first one that is not fine, or none before it is
+-- every world before world k is accepted
 abbrev pub IsReached : Addition → ℕ → Type 0
-IsReached a k = (i : ℕ) → i < k → WorldIsFine a i
+IsReached a k = (i : ℕ) → i < k → WorldIsAccepted a i
 
--- so for include j of world k, where the package has an image
+-- the package has an image, every world before world k is accepted, and so is every include of world k before include
+-- j
 pub record IncludeIsReached (a : Addition) (k j : ℕ) : Type 0 where
-  pub has_image : HasImage a
+  pub has_image : IsResolved a
   pub worlds : IsReached a k
-  pub includes : (i : ℕ) → i < j → IncludeIsFine a k i
+  pub includes : (i : ℕ) → i < j → IncludeIsAccepted a k i
 
 pub data IsCause (a : Addition) : ResolveErrorKind → Type 0 where
-  package_not_found_1 : (span : Place) (requested : PackageName) (known : List PackageName) → LacksPackage a span requested known → IsCause a (PackageNotFound span requested known)
-  world_not_found_2 : (span : Place) (requested : List ℕ) (home : PackageName) → LacksWorld a span requested home → IsCause a (WorldNotFound span requested home)
-  interface_not_found_3 : (span : Place) (requested : List ℕ) (home : PackageName) → LacksInterface a span requested home → IsCause a (InterfaceNotFound span requested home)
-  conflict_4 : (k : ℕ) (span : Place) (name : List ℕ) → IsReached a k → IsInConflict a k span name → IsCause a (InvalidTransitiveDependency span name)
-  duplicate_5 : (name : PackageName) (span1 span2 : Place) → IsDuplicate a name span1 span2 → IsCause a (DuplicatePackage name span1 span2)
-  shadowing_7 : (k j : ℕ) (span : Place) (word name : List ℕ) → IncludeIsReached a k j → Shadows a k j span word name → IsCause a (ItemShadowing span word name)
-  mismatch_8 : (k j : ℕ) (span : Place) (from into : Stability) → IncludeIsReached a k j → Mismatches a k j span from into → IsCause a (StabilityMismatch span from into)
-  gate_without_version_9 : (span : Place) (message : List ℕ) → LacksVersion a span message → IsCause a (Semantic span message cause.GateWithoutVersion)
-  gate_unreleased_10 : (span : Place) (message : List ℕ) → IsUnreleased a span message → IsCause a (Semantic span message cause.GateUnreleased)
-  excluded_11 : (span : Place) (message : List ℕ) → RefersToExcluded a span message → IsCause a (Semantic span message cause.Excluded)
-  excluded_owner_12 : (span : Place) (message : List ℕ) → HasExcludedOwner a span message → IsCause a (Semantic span message cause.ExcludedOwner)
-  type_not_defined_13 : (span : Place) (message : List ℕ) → LacksType a span message → IsCause a (Semantic span message cause.TypeNotDefined)
-  not_a_resource_14 : (span : Place) (message : List ℕ) → IsNoResource a span message → IsCause a (Semantic span message cause.NotAResource)
-  borrow_in_result_15 : (span : Place) (message : List ℕ) → ReturnsBorrow a span message → IsCause a (Semantic span message cause.BorrowInResult)
-  rename_unmatched_16 : (k j : ℕ) (span : Place) (message : List ℕ) → IncludeIsReached a k j → RenamesNothing a k j span message → IsCause a (Semantic span message cause.RenameUnmatched)
-  not_strongly_unique_17 : (k : ℕ) (span : Place) (message : List ℕ) → IsReached a k → AreTooAlike a k span message → IsCause a (Semantic span message cause.NotStronglyUnique)
-  no_getter_18 : (k : ℕ) (span : Place) (message : List ℕ) → IsReached a k → LacksGetter a k span message → IsCause a (Semantic span message cause.NoGetter)
-  offset_overflow_27 : PassesTheEnd a → IsCause a OffsetOverflow
+  package_not_found_1 : (span : OptionalSpan) (requested : PackageName) (known : List PackageName) → LacksPackage a span requested known → IsCause a (PackageNotFound span requested known)
+  world_not_found_2 : (span : OptionalSpan) (requested : List ℕ) (home : PackageName) → LacksWorld a span requested home → IsCause a (WorldNotFound span requested home)
+  interface_not_found_3 : (span : OptionalSpan) (requested : List ℕ) (home : PackageName) → LacksInterface a span requested home → IsCause a (InterfaceNotFound span requested home)
+  conflict_4 : (k : ℕ) (span : OptionalSpan) (name : List ℕ) → IsReached a k → WorldHasConflict a k span name → IsCause a (InvalidTransitiveDependency span name)
+  duplicate_5 : (name : PackageName) (span1 span2 : OptionalSpan) → IsDuplicate a name span1 span2 → IsCause a (DuplicatePackage name span1 span2)
+  shadowing_7 : (k j : ℕ) (span : OptionalSpan) (word name : List ℕ) → IncludeIsReached a k j → Shadows a k j span word name → IsCause a (ItemShadowing span word name)
+  mismatch_8 : (k j : ℕ) (span : OptionalSpan) (from into : Stability) → IncludeIsReached a k j → IncludeMismatches a k j span from into → IsCause a (StabilityMismatch span from into)
+  gate_without_version_9 : (span : OptionalSpan) (message : List ℕ) → LacksVersion a span message → IsCause a (Semantic span message cause.GateWithoutVersion)
+  gate_unreleased_10 : (span : OptionalSpan) (message : List ℕ) → IsUnreleased a span message → IsCause a (Semantic span message cause.GateUnreleased)
+  excluded_11 : (span : OptionalSpan) (message : List ℕ) → RefersToExcluded a span message → IsCause a (Semantic span message cause.Excluded)
+  excluded_owner_12 : (span : OptionalSpan) (message : List ℕ) → HasExcludedOwner a span message → IsCause a (Semantic span message cause.ExcludedOwner)
+  type_not_defined_13 : (span : OptionalSpan) (message : List ℕ) → ForeignTypeMissing a span message → IsCause a (Semantic span message cause.TypeNotDefined)
+  not_a_resource_14 : (span : OptionalSpan) (message : List ℕ) → IsNoResource a span message → IsCause a (Semantic span message cause.NotAResource)
+  borrow_in_result_15 : (span : OptionalSpan) (message : List ℕ) → ReturnsBorrow a span message → IsCause a (Semantic span message cause.BorrowInResult)
+  rename_unmatched_16 : (k j : ℕ) (span : OptionalSpan) (message : List ℕ) → IncludeIsReached a k j → RenamesNothing a k j span message → IsCause a (Semantic span message cause.RenameUnmatched)
+  not_strongly_unique_17 : (k : ℕ) (span : OptionalSpan) (message : List ℕ) → IsReached a k → AreNotStronglyUnique a k span message → IsCause a (Semantic span message cause.NotStronglyUnique)
+  no_getter_18 : (k : ℕ) (span : OptionalSpan) (message : List ℕ) → IsReached a k → LacksGetter a k span message → IsCause a (Semantic span message cause.NoGetter)
+  offset_overflow_27 : AdditionOverflows a → IsCause a OffsetOverflow
 
--- nothing speaks against the addition
-abbrev pub IsAccepted : Addition → Type 0
-IsAccepted a = (error : ResolveErrorKind) → IsCause a error → ⊥
+-- no cause holds against the addition
+abbrev pub AdditionIsAccepted : Addition → Type 0
+AdditionIsAccepted a = (error : ResolveErrorKind) → IsCause a error → ⊥

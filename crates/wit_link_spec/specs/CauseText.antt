@@ -39,7 +39,7 @@ borrow_text name = codes "function `" ++ (name ++ codes "` returns a type which 
 abbrev pub rename_text : List ℕ → List ℕ
 rename_text name = codes "no import or export kebab-name `" ++ (name ++ codes "`. Note that an ID does not support renaming")
 
--- 17: two labels that are too alike; list is `import` or `export`
+-- 17: two labels that are not strongly unique; list is `import` or `export`
 abbrev pub clash_text : List ℕ → List ℕ → List ℕ → List ℕ → List ℕ
 clash_text list n world m =
     list ++ (codes " `" ++ (n ++ (codes "` in world `" ++ (world ++ (codes "` conflicts with " ++ (list ++ (codes " `" ++ (m ++ codes "` (names must be strongly unique)"))))))))

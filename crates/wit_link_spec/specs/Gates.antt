@@ -1,9 +1,9 @@
--- Feature gates: which things of an unresolved package take part, which are excluded, and whose gates are
+-- Feature gates: which things of an unresolved package are active, which are excluded, and whose gates are
 -- asked. A gate is a note on an item: none, `@since(version = ..)`, or `@unstable(feature = ..)`, of which
 -- the deprecation is never asked. A foreign interface or world has several notes, those of the places that
 -- name it.
 -- Source: the WIT page of the component model, "Feature gates"; `include_stability` of wit-parser 0.263.0.
-pub use Rattle.wit_link_order.specs.Sorting.{Place}
+pub use Rattle.wit_link_order.specs.GroupOrder.{OptionalSpan}
 use Rattle.std.specs.Prelude.{◌≡◌, ◌⊎◌, ◌||◌, ℕ, suc, Bool, true, false, List, [], ◌∷◌, length, take, nat_eq, nat_lt, slice_get, Some, Contains, if◌then◌else◌}
 use Rattle.std.specs.List.{flat_map, list_any, position_or_len}
 use Rattle.std.specs.Option.{option_map_or}
@@ -30,30 +30,30 @@ use Rattle.wit_graph_data.specs.declared.features.Features.{Features}
 abbrev pub is_on : Features → List ℕ → Bool
 is_on features feature = features.all || list_any (bytes_eq feature) features.names
 
--- the note lets its item take part. A `@since` does: one that the package's version doesn't reach is a
+-- the note lets its item be active. A `@since` does: one that the package's version doesn't reach is a
 -- fault of its own, and no reason to leave the item out
 abbrev pub is_active : Features → Stability → Bool
 is_active features Unknown = true
 is_active features (Stable since deprecated) = true
 is_active features (Unstable feature deprecated) = is_on features feature
 
--- some note lets the item take part
+-- some gate lets the item be active
 abbrev pub some_active : Features → List Stability → Bool
 some_active features notes = list_any (is_active features) notes
 
 -- of several notes those that are asked: in order, up to the first active one
-abbrev pub asked_notes : Features → List Stability → List Stability
-asked_notes features notes = take (suc (position_or_len (is_active features) notes)) notes
+abbrev pub asked_gates : Features → List Stability → List Stability
+asked_gates features notes = take (suc (position_or_len (is_active features) notes)) notes
 
--- ---- the notes of interfaces and worlds
+-- ---- the gates of interfaces and worlds
 
 -- what is named of other packages, one after another
 abbrev pub foreign_items : ForeignItems → List ForeignItem
 foreign_items deps = flat_map (λ (e : PackageName × List ForeignItem). e.1) deps
 
--- the notes of a foreign item that has this id among those of its sort
-abbrev pub notes_of_foreign : (AstItem → List ℕ) → ForeignItems → ℕ → List Stability
-notes_of_foreign id deps i = flat_map (λ (named : ForeignItem). if list_any (nat_eq i) (id named.1.0) then named.1.1 else []) (foreign_items deps)
+-- the gates of a foreign item that has this id among those of its sort
+abbrev pub foreign_gates : (AstItem → List ℕ) → ForeignItems → ℕ → List Stability
+foreign_gates id deps i = flat_map (λ (named : ForeignItem). if list_any (nat_eq i) (id named.1.0) then named.1.1 else []) (foreign_items deps)
 
 -- is interface i of the package one of another package? So for worlds
 abbrev pub is_foreign_interface : UnresolvedPackage → ℕ → Bool
@@ -63,44 +63,44 @@ is_foreign_interface u i = nat_lt i (length (foreign_interfaces u.foreign_deps))
 abbrev pub is_foreign_world : UnresolvedPackage → ℕ → Bool
 is_foreign_world u w = nat_lt w (length (foreign_worlds u.foreign_deps))
 
--- the notes of interface i: of a foreign one those of the places that name it, else its own
-abbrev pub interface_notes : UnresolvedPackage → ℕ → List Stability
-interface_notes u i =
-    if is_foreign_interface u i then notes_of_foreign interface_id u.foreign_deps i
+-- the gates of interface i: of a foreign one those of the places that name it, else its own
+abbrev pub interface_gates : UnresolvedPackage → ℕ → List Stability
+interface_gates u i =
+    if is_foreign_interface u i then foreign_gates interface_id u.foreign_deps i
     else option_map_or (λ (interface : Interface). interface.stability ∷ []) (slice_get u.interfaces i) []
 
--- the notes of world w
-abbrev pub world_notes : UnresolvedPackage → ℕ → List Stability
-world_notes u w =
-    if is_foreign_world u w then notes_of_foreign world_id u.foreign_deps w
+-- the gates of world w
+abbrev pub world_gates : UnresolvedPackage → ℕ → List Stability
+world_gates u w =
+    if is_foreign_world u w then foreign_gates world_id u.foreign_deps w
     else option_map_or (λ (world : World). world.stability ∷ []) (slice_get u.worlds w) []
 
--- ---- what takes part
+-- ---- what is active
 
--- a type takes part where its note is active, whatever its owner's is
+-- a type is active where its gate is active, whatever its owner's is
 abbrev pub type_is_active : Features → List TypeDef → ℕ → Bool
 type_is_active features types t = option_map_or (λ (def : TypeDef). is_active features def.stability) (slice_get types t) false
 
--- does interface i take part?
+-- does interface i are active?
 abbrev pub interface_is_active : Features → UnresolvedPackage → ℕ → Bool
-interface_is_active features u i = some_active features (interface_notes u i)
+interface_is_active features u i = some_active features (interface_gates u i)
 
--- does world w take part?
+-- does world w are active?
 abbrev pub world_is_active : Features → UnresolvedPackage → ℕ → Bool
-world_is_active features u w = some_active features (world_notes u w)
+world_is_active features u w = some_active features (world_gates u w)
 
--- a function of an interface, or of a world, that takes part does so where its note is active
+-- a function of an interface, or of a world, that is active does so where its gate is active
 abbrev pub function_is_active : Features → Function → Bool
 function_is_active features f = is_active features f.stability
 
--- an entry of a world that takes part does so where its note is active; an entry that is a type has the
+-- an entry of a world that is active does so where its gate is active; an entry that is a type has the
 -- note of the type
 abbrev pub item_is_active : Features → List TypeDef → WorldItem → Bool
 item_is_active features types (item.Interface id stability docs span external_id) = is_active features stability
 item_is_active features types (item.Function function) = function_is_active features function
 item_is_active features types (item.Type_ id span) = type_is_active features types id
 
--- an include of a world that takes part does so where its note is active
+-- an include of a world that is active does so where its gate is active
 abbrev pub include_is_active : Features → WorldInclude → Bool
 include_is_active features i = is_active features i.stability
 
@@ -122,26 +122,26 @@ IsExcludedWorld features u w = world_is_active features u w ≡ false
 abbrev pub HasEntry : World → Entry → Type 0
 HasEntry world e = Contains world.imports e ⊎ Contains world.exports e
 
--- the note of an entry that has one of its own, and its place
-abbrev pub HasNote : WorldItem → Stability → Place → Type 0
-HasNote (item.Interface id stability docs span external_id) note place = (note ≡ stability) × (place ≡ span)
-HasNote (item.Function function) note place = (note ≡ function.stability) × (place ≡ function.span)
-HasNote (item.Type_ id span) note place = ⊥
+-- the gate of an entry that has one of its own, and its place
+abbrev pub HasOwnGate : WorldItem → Stability → OptionalSpan → Type 0
+HasOwnGate (item.Interface id stability docs span external_id) note place = (note ≡ stability) × (place ≡ span)
+HasOwnGate (item.Function function) note place = (note ≡ function.stability) × (place ≡ function.span)
+HasOwnGate (item.Type_ id span) note place = ⊥
 
--- the notes that are asked, each with the place of its item
-pub data IsAsked (features : Features) (u : UnresolvedPackage) : Stability → Place → Type 0 where
+-- the gates that are asked, each with the place of its item
+pub data IsAsked (features : Features) (u : UnresolvedPackage) : Stability → OptionalSpan → Type 0 where
   -- those of all types, also of foreign ones and of those whose owner is excluded
   of_type : (t : ℕ) (def : TypeDef) → slice_get u.types t ≡ Some def → IsAsked features u def.stability def.span
-  -- those of interfaces and worlds: of foreign ones up to the first active note
+  -- those of interfaces and worlds: of foreign ones up to the first active gate
   of_interface : (i : ℕ) (interface : Interface) (note : Stability) → slice_get u.interfaces i ≡ Some interface
-      → Contains (asked_notes features (interface_notes u i)) note → IsAsked features u note interface.span
+      → Contains (asked_gates features (interface_gates u i)) note → IsAsked features u note interface.span
   of_world : (w : ℕ) (world : World) (note : Stability) → slice_get u.worlds w ≡ Some world
-      → Contains (asked_notes features (world_notes u w)) note → IsAsked features u note world.span
-  -- those of the functions of interfaces that take part
+      → Contains (asked_gates features (world_gates u w)) note → IsAsked features u note world.span
+  -- those of the functions of interfaces that are active
   of_function : (i : ℕ) (interface : Interface) (name : List ℕ) (f : Function) → slice_get u.interfaces i ≡ Some interface → interface_is_active features u i ≡ true
       → Contains interface.functions (name, f) → IsAsked features u f.stability f.span
-  -- those of the entries and the includes of worlds that take part
-  of_entry : (w : ℕ) (world : World) (e : Entry) (note : Stability) (place : Place) → slice_get u.worlds w ≡ Some world → world_is_active features u w ≡ true
-      → HasEntry world e → HasNote e.1 note place → IsAsked features u note place
+  -- those of the entries and the includes of worlds that are active
+  of_entry : (w : ℕ) (world : World) (e : Entry) (note : Stability) (place : OptionalSpan) → slice_get u.worlds w ≡ Some world → world_is_active features u w ≡ true
+      → HasEntry world e → HasOwnGate e.1 note place → IsAsked features u note place
   of_include : (w : ℕ) (world : World) (i : WorldInclude) → slice_get u.worlds w ≡ Some world → world_is_active features u w ≡ true
       → Contains world.includes i → IsAsked features u i.stability i.span

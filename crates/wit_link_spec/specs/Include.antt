@@ -6,8 +6,8 @@ use Rattle.std.specs.Prelude.{ℕ, ◌+◌, ◌&&◌, ◌||◌, Bool, not, true,
 use Rattle.std.specs.List.{flat_map, list_any}
 use Rattle.std.specs.Map.{lookup}
 use Rattle.std.specs.Option.{option_eq, option_map_or}
-use Rattle.wit_digraph.specs.Walks.{walk}
-use Rattle.wit_data.specs.Entries.{Entry, is_unnamed, placed_interfaces}
+use Rattle.wit_digraph.specs.PostOrder.{post_order}
+use Rattle.wit_data.specs.Entries.{Entry, interfaces_in_worlds, is_unnamed}
 use Rattle.wit_data.specs.Reference.{function_references, type_references}
 use Rattle.wit_data.specs.declared.function.Function.{Function}
 use Rattle.wit_data.specs.declared.interface.Interface.{Interface}
@@ -26,32 +26,32 @@ use Rattle.wit_elaboration.specs.Entries.{same_key}
 use Rattle.wit_graph_data.specs.declared.graph.Graph.{Graph}
 use Rattle.wit_graph_theory.specs.Image.{Maps, entry_image, interface_image, type_image}
 use Rattle.wit_graph_theory.specs.Operations.{include_maps}
-use Rattle.wit_link_spec.specs.Ranks.{rank, taken}
-use Rattle.wit_labels.specs.Rename.{renamed}
+use Rattle.wit_link_spec.specs.Ranks.{rank, selected}
+use Rattle.wit_labels.specs.Rename.{renamed_label}
 
 -- the two lists of a world
-pub record Lists : Type 0 where
+pub record EntryLists : Type 0 where
   pub imports : List Entry
   pub exports : List Entry
 
-abbrev pub lists_of : World → Lists
+abbrev pub lists_of : World → EntryLists
 lists_of world = record { imports = world.imports; exports = world.exports }
 
 -- ---- what is copied
 
 -- the interfaces without a name that stand in a world: they go with it
-abbrev pub goes_with : Graph → World → ℕ → Bool
-goes_with g world i = is_unnamed g.interfaces i && list_any (nat_eq i) (placed_interfaces (world ∷ []))
+abbrev pub belongs_to : Graph → World → ℕ → Bool
+belongs_to g world i = is_unnamed g.interfaces i && list_any (nat_eq i) (interfaces_in_worlds (world ∷ []))
 
 -- does an owner go with world w?
-abbrev pub owner_goes_with : Graph → ℕ → World → TypeOwner → Bool
-owner_goes_with g w world (owner.World v) = nat_eq v w
-owner_goes_with g w world (owner.Interface i) = goes_with g world i
-owner_goes_with g w world owner.None = false
+abbrev pub owner_belongs_to : Graph → ℕ → World → TypeOwner → Bool
+owner_belongs_to g w world (owner.World v) = nat_eq v w
+owner_belongs_to g w world (owner.Interface i) = belongs_to g world i
+owner_belongs_to g w world owner.None = false
 
 -- is type t owned by such an owner?
-abbrev pub is_owned_with : Graph → ℕ → World → ℕ → Bool
-is_owned_with g w world t = option_map_or (λ (def : TypeDef). owner_goes_with g w world def.owner) (slice_get g.types t) false
+abbrev pub is_owned_within : Graph → ℕ → World → ℕ → Bool
+is_owned_within g w world t = option_map_or (λ (def : TypeDef). owner_belongs_to g w world def.owner) (slice_get g.types t) false
 
 -- the types that an interface names: those of its list, and those that its functions refer to
 abbrev pub interface_mentions : Interface → List ℕ
@@ -60,13 +60,13 @@ interface_mentions interface = map (λ (e : List ℕ × ℕ). e.1) interface.typ
 -- the types that an entry names: itself where it is a type, those that its function refers to, those of an
 -- interface that goes with the world
 abbrev pub entry_mentions : Graph → World → Entry → List ℕ
-entry_mentions g world (k, item.Interface i stability docs span external_id) = if goes_with g world i then option_map_or interface_mentions (slice_get g.interfaces i) [] else []
+entry_mentions g world (k, item.Interface i stability docs span external_id) = if belongs_to g world i then option_map_or interface_mentions (slice_get g.interfaces i) [] else []
 entry_mentions g world (k, item.Function f) = function_references f
 entry_mentions g world (k, item.Type_ t span) = t ∷ []
 
 -- the types that a world's entries name, and all that these refer to, through whatever others
-abbrev pub mentioned : Graph → World → List ℕ
-mentioned g world = flat_map (walk (type_references g.types)) (flat_map (entry_mentions g world) (world.imports ++ world.exports))
+abbrev pub named_types : Graph → World → List ℕ
+named_types g world = flat_map (post_order (type_references g.types)) (flat_map (entry_mentions g world) (world.imports ++ world.exports))
 
 -- has type t no name?
 abbrev pub is_unnamed_type : Graph → ℕ → Bool
@@ -76,25 +76,25 @@ is_unnamed_type g t = option_map_or (λ (def : TypeDef). not (is_some def.name))
 -- world, or has no name and refers to one that does
 abbrev pub is_copied : Graph → ℕ → World → ℕ → Bool
 is_copied g w world t =
-    list_any (nat_eq t) (mentioned g world)
-    && (is_owned_with g w world t || (is_unnamed_type g t && list_any (is_owned_with g w world) (walk (type_references g.types) t)))
+    list_any (nat_eq t) (named_types g world)
+    && (is_owned_within g w world t || (is_unnamed_type g t && list_any (is_owned_within g w world) (post_order (type_references g.types) t)))
 
--- where things go: what is copied to its copy, behind what is there in the order of the ids; all else stays
+-- what things are remapped to: what is copied to its copy, behind what is there in the order of the ids; all else stays
 abbrev pub type_copy : Graph → ℕ → World → ℕ → ℕ
 type_copy g w world t = if is_copied g w world t then length g.types + rank (is_copied g w world) t else t
 
 abbrev pub interface_copy : Graph → World → ℕ → ℕ
-interface_copy g world i = if goes_with g world i then length g.interfaces + rank (goes_with g world) i else i
+interface_copy g world i = if belongs_to g world i then length g.interfaces + rank (belongs_to g world) i else i
 
 -- the maps of an include of world `from` into world `into` of package `home`, under these renamings
 abbrev pub copy_maps : Graph → ℕ → World → List IncludeName → ℕ → ℕ → Maps
-copy_maps g from world names into home = include_maps (type_copy g from world) (interface_copy g world) (renamed names) from into home
+copy_maps g from world names into home = include_maps (type_copy g from world) (interface_copy g world) (renamed_label names) from into home
 
 -- the graph with the copies at its ends
 abbrev pub with_copies : Graph → ℕ → World → Maps → Graph
 with_copies g from world m = record g {
-  types = g.types ++ map (type_image m) (taken (is_copied g from world) g.types);
-  interfaces = g.interfaces ++ map (interface_image m) (taken (goes_with g world) g.interfaces);
+  types = g.types ++ map (type_image m) (selected (is_copied g from world) g.types);
+  interfaces = g.interfaces ++ map (interface_image m) (selected (belongs_to g world) g.interfaces);
 }
 
 -- ---- joined stabilities
@@ -131,33 +131,34 @@ new_item true (key.Interface k) (item.Interface i (Stable since deprecated) docs
 new_item other k held = held
 
 -- a list with brought entries added to it: those that were there stay in front
-abbrev pub joined : Bool → List Entry → List Entry → List Entry
-joined other current brought =
+abbrev pub joined_entries : Bool → List Entry → List Entry → List Entry
+joined_entries other current brought =
     map (joined_entry other brought) current ++ map (λ (e : Entry). (e.0, new_item other e.0 e.1)) (filter (λ (e : Entry). not (has_key current e.0)) brought)
 
 -- ---- the include
 
--- a graph on its way, and the lists of the world that comes next
-pub record Begun : Type 0 where
+-- a partially linked graph, and the lists of the world that comes next
+pub record PartiallyLinked : Type 0 where
   pub graph : Graph
-  pub lists : Lists
+  pub lists : EntryLists
 
 -- is the included world of another package?
 abbrev pub is_other_package : Option ℕ → ℕ → Bool
 is_other_package there home = not (option_eq nat_eq there (Some home))
 
 -- with world `from` included into world `into` of package `home`
-abbrev pub with_world_included : ℕ → ℕ → List IncludeName → ℕ → World → Begun → Begun
+abbrev pub with_world_included : ℕ → ℕ → List IncludeName → ℕ → World → PartiallyLinked → PartiallyLinked
 with_world_included home into names from world b =
     let m = copy_maps b.graph from world names into home in
     record {
       graph = with_copies b.graph from world m;
       lists = record {
-        imports = joined (is_other_package world.package home) b.lists.imports (map (entry_image m from) world.imports);
-        exports = joined (is_other_package world.package home) b.lists.exports (map (entry_image m from) world.exports);
+        imports = joined_entries (is_other_package world.package home) b.lists.imports (map (entry_image m from) world.imports);
+        exports = joined_entries (is_other_package world.package home) b.lists.exports (map (entry_image m from) world.exports);
       };
     }
 
--- the same of a world that may not be there
-abbrev pub included : ℕ → ℕ → List IncludeName → ℕ → Begun → Begun
-included home into names from b = option_map_or (λ (world : World). with_world_included home into names from world b) (slice_get b.graph.worlds from) b
+-- a graph and the lists of the world that comes next, with world `from` included, or as they are where there is no
+-- such world
+abbrev pub with_include_of : ℕ → ℕ → List IncludeName → ℕ → PartiallyLinked → PartiallyLinked
+with_include_of home into names from b = option_map_or (λ (world : World). with_world_included home into names from world b) (slice_get b.graph.worlds from) b

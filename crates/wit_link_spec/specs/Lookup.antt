@@ -24,8 +24,8 @@ abbrev pub named_items : ForeignItems → List (ℕ × PackageName × ForeignIte
 named_items deps = flat_map (λ (e : ℕ × (PackageName × List ForeignItem)). map (λ (i : ForeignItem). (e.0, e.1.0, i)) e.1.1) (enumerate_from 0 deps)
 
 -- what names the thing of this id, among interfaces or among worlds
-abbrev pub naming : (AstItem → List ℕ) → UnresolvedPackage → ℕ → Option (ℕ × PackageName × ForeignItem)
-naming ids u id = find (λ (e : ℕ × PackageName × ForeignItem). list_any (nat_eq id) (ids e.2.1.0)) (named_items u.foreign_deps)
+abbrev pub naming_item : (AstItem → List ℕ) → UnresolvedPackage → ℕ → Option (ℕ × PackageName × ForeignItem)
+naming_item ids u id = find (λ (e : ℕ × PackageName × ForeignItem). list_any (nat_eq id) (ids e.2.1.0)) (named_items u.foreign_deps)
 
 -- the types of other packages are the first ones
 abbrev pub is_foreign_type : UnresolvedPackage → ℕ → Bool
@@ -47,17 +47,17 @@ abbrev pub find_world : Graph → PackageName → PackageName → List ℕ → O
 find_world g own home name =
     option_and_then (λ p. option_and_then (λ (there : Package). lookup (bytes_eq name) there.worlds) (slice_get g.packages p)) (find_package g own home)
 
--- where foreign interface i of the package is
-abbrev pub found_interface : Graph → UnresolvedPackage → ℕ → Option ℕ
-found_interface g u i = option_and_then (λ (e : ℕ × PackageName × ForeignItem). find_interface g u.name e.1 e.2.0) (naming interface_id u i)
+-- the interface of the graph that foreign interface i of the package names
+abbrev pub foreign_interface_id : Graph → UnresolvedPackage → ℕ → Option ℕ
+foreign_interface_id g u i = option_and_then (λ (e : ℕ × PackageName × ForeignItem). find_interface g u.name e.1 e.2.0) (naming_item interface_id u i)
 
--- where foreign world w is
-abbrev pub found_world : Graph → UnresolvedPackage → ℕ → Option ℕ
-found_world g u w = option_and_then (λ (e : ℕ × PackageName × ForeignItem). find_world g u.name e.1 e.2.0) (naming world_id u w)
+-- the world of the graph that foreign world w of the package names
+abbrev pub foreign_world_id : Graph → UnresolvedPackage → ℕ → Option ℕ
+foreign_world_id g u w = option_and_then (λ (e : ℕ × PackageName × ForeignItem). find_world g u.name e.1 e.2.0) (naming_item world_id u w)
 
 -- the type of this name in interface i of the graph
-abbrev pub listed_type : Graph → List ℕ → ℕ → Option ℕ
-listed_type g name i = option_and_then (λ (interface : Interface). lookup (bytes_eq name) interface.types) (slice_get g.interfaces i)
+abbrev pub interface_type : Graph → List ℕ → ℕ → Option ℕ
+interface_type g name i = option_and_then (λ (interface : Interface). lookup (bytes_eq name) interface.types) (slice_get g.interfaces i)
 
 -- the foreign interface that owns a foreign type
 abbrev pub owning_interface : TypeOwner → Option ℕ
@@ -65,8 +65,9 @@ owning_interface (owner.Interface i) = Some i
 owning_interface (owner.World w) = None
 owning_interface owner.None = None
 
--- where foreign type t is: in the interface where its owner is, under its name
-abbrev pub found_type : Graph → UnresolvedPackage → ℕ → Option ℕ
-found_type g u t =
+-- the type of the graph that foreign type t of the package names: in the interface that its owner names, under its
+-- name
+abbrev pub foreign_type_id : Graph → UnresolvedPackage → ℕ → Option ℕ
+foreign_type_id g u t =
     option_and_then (λ (def : TypeDef). option_and_then (λ (name : List ℕ).
-    option_and_then (λ i. option_and_then (listed_type g name) (found_interface g u i)) (owning_interface def.owner)) def.name) (slice_get u.types t)
+    option_and_then (λ i. option_and_then (interface_type g name) (foreign_interface_id g u i)) (owning_interface def.owner)) def.name) (slice_get u.types t)

@@ -1,5 +1,5 @@
 -- What adding a package makes of a graph: a function of the graph, the features, the package and the offset.
--- Everything of the graph stays at its ids. Behind it come the images of what takes part, the `own`s that
+-- Everything of the graph stays at its ids. Behind it come the images of what is active, the `own`s that
 -- values ask for, and, world by world, the copies of its includes and the world, elaborated.
 -- Source: `append` of wit-parser 0.263.0.
 use Rattle.std.specs.Prelude.{ℕ, List, [], ◌∷◌, ◌++◌, map, filter_map, fold, take, length}
@@ -12,60 +12,60 @@ use Rattle.wit_elaboration.specs.Elaboration.{graph_uses}
 use Rattle.wit_graph_data.specs.declared.graph.Graph.{Graph}
 use Rattle.wit_graph_data.specs.declared.graph.Package.{Package}
 use Rattle.wit_graph_theory.specs.Image.{interface_image, type_image, world_image}
-use Rattle.wit_link_spec.specs.Addition.{Addition, active_includes, added_owns, addition_maps, interface_place, own_interface, own_interfaces, own_types, own_world, own_worlds, world_place}
-use Rattle.wit_link_spec.specs.Include.{Begun, included, lists_of}
+use Rattle.wit_link_spec.specs.Addition.{Addition, active_includes, addition_maps, own_interface, own_interfaces, own_types, own_world, own_worlds, owns_of_addition, remapped_interface, remapped_world}
+use Rattle.wit_link_spec.specs.Include.{PartiallyLinked, lists_of, with_include_of}
 use Rattle.wit_labels.specs.Setters.{placed}
-use Rattle.wit_link_spec.specs.Ranks.{taken_places}
+use Rattle.wit_link_spec.specs.Ranks.{selected_with_index}
 
 -- ---- the package
 
 -- the package, with its interfaces that have names and its worlds under their names
 abbrev pub new_package : Addition → Package
 new_package a = record {
-  name = a.handed.name;
-  docs = a.handed.docs;
-  interfaces = filter_map (λ (e : ℕ × Interface). option_map (λ (name : List ℕ). (name, interface_place a e.0)) e.1.name) (taken_places (own_interface a) a.handed.interfaces);
-  worlds = map (λ (e : ℕ × World). (e.1.name, world_place a e.0)) (taken_places (own_world a) a.handed.worlds);
+  name = a.unresolved.name;
+  docs = a.unresolved.docs;
+  interfaces = filter_map (λ (e : ℕ × Interface). option_map (λ (name : List ℕ). (name, remapped_interface a e.0)) e.1.name) (selected_with_index (own_interface a) a.unresolved.interfaces);
+  worlds = map (λ (e : ℕ × World). (e.1.name, remapped_world a e.0)) (selected_with_index (own_world a) a.unresolved.worlds);
 }
 
 -- the graph with the package's types and interfaces, before its worlds
 abbrev pub with_parts : Addition → Graph
 with_parts a = record {
-  types = a.graph.types ++ (map (type_image (addition_maps a)) (own_types a) ++ added_owns a);
+  types = a.graph.types ++ (map (type_image (addition_maps a)) (own_types a) ++ owns_of_addition a);
   interfaces = a.graph.interfaces ++ map (interface_image (addition_maps a)) (own_interfaces a);
   worlds = a.graph.worlds;
   packages = a.graph.packages ++ new_package a ∷ [];
-  package_names = a.graph.package_names ++ (a.handed.name, length a.graph.packages) ∷ [];
+  package_names = a.graph.package_names ++ (a.unresolved.name, length a.graph.packages) ∷ [];
 }
 
 -- ---- its worlds
 
--- one include more
-abbrev pub with_include : Addition → ℕ → Begun → WorldInclude → Begun
-with_include a into b include = included (length a.graph.packages) into include.names (world_place a include.id) b
+-- one include more of the world that comes next
+abbrev pub with_include : Addition → ℕ → PartiallyLinked → WorldInclude → PartiallyLinked
+with_include a into b include = with_include_of (length a.graph.packages) into include.names (remapped_world a include.id) b
 
--- world w of the package with some of its includes, where the graph is on its way
-abbrev pub begun_with : Addition → ℕ → World → List WorldInclude → Graph → Begun
-begun_with a w world includes g = fold (with_include a (length g.worlds)) (record { graph = g; lists = lists_of (world_image (addition_maps a) w world) }) includes
+-- world w of the package with these includes, over a partially linked graph
+abbrev pub with_includes : Addition → ℕ → World → List WorldInclude → Graph → PartiallyLinked
+with_includes a w world includes g = fold (with_include a (length g.worlds)) (record { graph = g; lists = lists_of (world_image (addition_maps a) w world) }) includes
 
--- with all of them
-abbrev pub begun : Addition → ℕ → World → Graph → Begun
-begun a w world g = begun_with a w world (active_includes a world) g
+-- world w of the package with all its active includes, over a partially linked graph
+abbrev pub with_all_includes : Addition → ℕ → World → Graph → PartiallyLinked
+with_all_includes a w world g = with_includes a w world (active_includes a world) g
 
 -- a world with its setters after their getters
 abbrev pub with_placed : World → World
 with_placed world = record world { imports = placed world.imports; exports = placed world.exports }
 
--- the world with these lists, its setters after their getters, elaborated
-abbrev pub finished : Addition → ℕ → World → Begun → World
-finished a w world b = record (world_image (addition_maps a) w world) {
+-- world w of the package behind its includes, its setters after their getters, elaborated
+abbrev pub linked_world : Addition → ℕ → World → PartiallyLinked → World
+linked_world a w world b = record (world_image (addition_maps a) w world) {
   imports = elaborated_imports b.graph.types (graph_uses b.graph) (placed b.lists.imports) (placed b.lists.exports);
   exports = elaborated_exports b.graph.types (graph_uses b.graph) (placed b.lists.exports);
 }
 
 -- the graph with one world more
 abbrev pub with_world : Addition → Graph → ℕ × World → Graph
-with_world a g e = let b = begun a e.0 e.1 g in record b.graph { worlds = b.graph.worlds ++ finished a e.0 e.1 b ∷ [] }
+with_world a g e = let b = with_all_includes a e.0 e.1 g in record b.graph { worlds = b.graph.worlds ++ linked_world a e.0 e.1 b ∷ [] }
 
 -- the graph with the first so many of the package's worlds
 abbrev pub with_worlds : Addition → ℕ → Graph

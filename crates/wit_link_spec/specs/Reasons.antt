@@ -31,12 +31,12 @@ use Rattle.wit_data.specs.declared.world.World.{World}
 use Rattle.wit_data.specs.declared.world.WorldInclude.{WorldInclude}
 use Rattle.wit_data.specs.declared.world.WorldItem.TheVariants as item
 use Rattle.wit_data.specs.declared.world.WorldKey.{WorldKey}
-use Rattle.wit_graph_data.specs.Questions.{held_rows}
+use Rattle.wit_graph_data.specs.Queries.{type_contents}
 use Rattle.wit_graph_data.specs.declared.graph.Graph.{Graph}
 use Rattle.wit_link_spec.specs.Addition.{Addition}
 use Rattle.wit_link_spec.specs.CauseText.{borrow_text, excluded_owner_text, excluded_text, gate_unreleased_text, gate_without_version_text, not_a_resource_text, type_not_defined_text}
-use Rattle.wit_link_spec.specs.Gates.{Place, HasEntry, IsAsked, IsExcludedInterface, IsExcludedType, IsExcludedWorld, function_is_active, include_is_active, interface_is_active, is_active, type_is_active, world_is_active}
-use Rattle.wit_link_spec.specs.Lookup.{find_interface, find_world, found_interface, found_type, is_foreign_type, listed_type, named_items}
+use Rattle.wit_link_spec.specs.Gates.{OptionalSpan, HasEntry, IsAsked, IsExcludedInterface, IsExcludedType, IsExcludedWorld, function_is_active, include_is_active, interface_is_active, is_active, type_is_active, world_is_active}
+use Rattle.wit_link_spec.specs.Lookup.{find_interface, find_world, foreign_interface_id, foreign_type_id, interface_type, is_foreign_type, named_items}
 use Rattle.wit_link_spec.specs.Resources.{leads_to_resource}
 use Rattle.wit_link_spec.specs.Spans.{package_spans}
 
@@ -46,10 +46,10 @@ HasPackage g name = is_some (lookup (same_package name) g.package_names) ≡ tru
 
 -- ---- 5: the package is there
 
-pub record IsDuplicate (a : Addition) (name : PackageName) (span1 span2 : Place) : Type 0 where
-  pub there : HasPackage a.graph a.handed.name
-  pub name_is : name ≡ a.handed.name
-  pub span1_is : span1 ≡ moved_by a.offset a.handed.package_name_span
+pub record IsDuplicate (a : Addition) (name : PackageName) (span1 span2 : OptionalSpan) : Type 0 where
+  pub there : HasPackage a.graph a.unresolved.name
+  pub name_is : name ≡ a.unresolved.name
+  pub span1_is : span1 ≡ moved_by a.offset a.unresolved.package_name_span
   pub span2_is : span2 ≡ None
 
 -- ---- 1, 2, 3: what is named of other packages isn't there
@@ -57,67 +57,67 @@ pub record IsDuplicate (a : Addition) (name : PackageName) (span1 span2 : Place)
 -- the packages that are known: those of the graph in order and the one that is added, each once
 abbrev pub known_packages : Addition → List PackageName
 known_packages a =
-    if is_some (lookup (same_package a.handed.name) a.graph.package_names) then keys_of a.graph.package_names else keys_of a.graph.package_names ++ a.handed.name ∷ []
+    if is_some (lookup (same_package a.unresolved.name) a.graph.package_names) then keys_of a.graph.package_names else keys_of a.graph.package_names ++ a.unresolved.name ∷ []
 
 -- 1: something is named of a package that is neither in the graph nor the one that is added
-pub record LacksPackage (a : Addition) (span : Place) (requested : PackageName) (known : List PackageName) : Type 0 where
+pub record LacksPackage (a : Addition) (span : OptionalSpan) (requested : PackageName) (known : List PackageName) : Type 0 where
   pub at : ℕ
   pub items : List ForeignItem
-  pub names : slice_get a.handed.foreign_deps at ≡ Some (requested, items)
+  pub names : slice_get a.unresolved.foreign_deps at ≡ Some (requested, items)
   pub some : items ≢ []
   pub absent : HasPackage a.graph requested → ⊥
-  pub other : requested ≢ a.handed.name
-  pub span_is : SomeAt a.handed.foreign_dep_spans at (λ (s : Place). span ≡ moved_by a.offset s)
+  pub other : requested ≢ a.unresolved.name
+  pub span_is : SomeAt a.unresolved.foreign_dep_spans at (λ (s : OptionalSpan). span ≡ moved_by a.offset s)
   pub known_are : known ≡ known_packages a
 
--- 2: a world that takes part isn't in the table of its package; the package that is added counts as there
+-- 2: a world that is active isn't in the table of its package; the package that is added counts as there
 -- and empty
-pub record LacksWorld (a : Addition) (span : Place) (requested : List ℕ) (home : PackageName) : Type 0 where
+pub record LacksWorld (a : Addition) (span : OptionalSpan) (requested : List ℕ) (home : PackageName) : Type 0 where
   pub at : ℕ
   pub w : ℕ
   pub notes : List Stability
-  pub names : Contains (named_items a.handed.foreign_deps) (at, home, (requested, (named.World w, notes)))
-  pub active : world_is_active a.features a.handed w ≡ true
-  pub has_package : HasPackage a.graph home ⊎ (home ≡ a.handed.name)
-  pub absent : find_world a.graph a.handed.name home requested ≡ None
-  pub span_is : SomeAt a.handed.worlds w (λ (world : World). span ≡ moved_by a.offset world.span)
+  pub names : Contains (named_items a.unresolved.foreign_deps) (at, home, (requested, (named.World w, notes)))
+  pub active : world_is_active a.features a.unresolved w ≡ true
+  pub has_package : HasPackage a.graph home ⊎ (home ≡ a.unresolved.name)
+  pub absent : find_world a.graph a.unresolved.name home requested ≡ None
+  pub span_is : SomeAt a.unresolved.worlds w (λ (world : World). span ≡ moved_by a.offset world.span)
 
 -- 3: the same of an interface
-pub record LacksInterface (a : Addition) (span : Place) (requested : List ℕ) (home : PackageName) : Type 0 where
+pub record LacksInterface (a : Addition) (span : OptionalSpan) (requested : List ℕ) (home : PackageName) : Type 0 where
   pub at : ℕ
   pub i : ℕ
   pub notes : List Stability
-  pub names : Contains (named_items a.handed.foreign_deps) (at, home, (requested, (named.Interface i, notes)))
-  pub active : interface_is_active a.features a.handed i ≡ true
-  pub has_package : HasPackage a.graph home ⊎ (home ≡ a.handed.name)
-  pub absent : find_interface a.graph a.handed.name home requested ≡ None
-  pub span_is : SomeAt a.handed.interfaces i (λ (interface : Interface). span ≡ moved_by a.offset interface.span)
+  pub names : Contains (named_items a.unresolved.foreign_deps) (at, home, (requested, (named.Interface i, notes)))
+  pub active : interface_is_active a.features a.unresolved i ≡ true
+  pub has_package : HasPackage a.graph home ⊎ (home ≡ a.unresolved.name)
+  pub absent : find_interface a.graph a.unresolved.name home requested ≡ None
+  pub span_is : SomeAt a.unresolved.interfaces i (λ (interface : Interface). span ≡ moved_by a.offset interface.span)
 
 -- ---- 9, 10: a `@since` that the package can't meet
 
 -- 9: a `@since` is asked, and the package has no version
-pub record LacksVersion (a : Addition) (span : Place) (message : List ℕ) : Type 0 where
+pub record LacksVersion (a : Addition) (span : OptionalSpan) (message : List ℕ) : Type 0 where
   pub note : Stability
-  pub place : Place
-  pub asked : IsAsked a.features a.handed note place
+  pub place : OptionalSpan
+  pub asked : IsAsked a.features a.unresolved note place
   pub stable : IsStable note
-  pub no_version : a.handed.name.version ≡ None
+  pub no_version : a.unresolved.name.version ≡ None
   pub span_is : span ≡ moved_by a.offset place
-  pub message_is : message ≡ gate_without_version_text a.handed.name
+  pub message_is : message ≡ gate_without_version_text a.unresolved.name
 
 -- 10: a `@since` is asked, and the package's version is below it
-pub record IsUnreleased (a : Addition) (span : Place) (message : List ℕ) : Type 0 where
+pub record IsUnreleased (a : Addition) (span : OptionalSpan) (message : List ℕ) : Type 0 where
   pub since : Parts
   pub deprecated : Option Parts
   pub version : Parts
-  pub place : Place
-  pub asked : IsAsked a.features a.handed (Stable since deprecated) place
-  pub has_version : a.handed.name.version ≡ Some version
+  pub place : OptionalSpan
+  pub asked : IsAsked a.features a.unresolved (Stable since deprecated) place
+  pub has_version : a.unresolved.name.version ≡ Some version
   pub below : version_cmp version since ≡ Less
   pub span_is : span ≡ moved_by a.offset place
-  pub message_is : message ≡ gate_unreleased_text since a.handed.name version
+  pub message_is : message ≡ gate_unreleased_text since a.unresolved.name version
 
--- ---- 11, 12: what takes part needs what is left out
+-- ---- 11, 12: what is active needs what is left out
 
 -- a thing that may be referred to
 pub data Thing : Type 0 where
@@ -133,44 +133,44 @@ word_of (AWorld w) = codes "world"
 
 -- the package leaves the thing out
 abbrev pub IsExcluded : Addition → Thing → Type 0
-IsExcluded a (AType t) = IsExcludedType a.features a.handed t
-IsExcluded a (AnInterface i) = IsExcludedInterface a.features a.handed i
-IsExcluded a (AWorld w) = IsExcludedWorld a.features a.handed w
+IsExcluded a (AType t) = IsExcludedType a.features a.unresolved t
+IsExcluded a (AnInterface i) = IsExcludedInterface a.features a.unresolved i
+IsExcluded a (AWorld w) = IsExcludedWorld a.features a.unresolved w
 
 -- the types that a type refers to, each with the place: that of the field, or of the type
-abbrev pub kind_references : TypeDefKind → Place → List (ℕ × Place)
+abbrev pub kind_references : TypeDefKind → OptionalSpan → List (ℕ × OptionalSpan)
 kind_references (kind.Record fields) span = flat_map (λ (f : Field). map (λ (t : ℕ). (t, f.span)) (named_type f.ty)) fields
 kind_references other span = map (λ (t : ℕ). (t, span)) (referred other)
 
--- a function of the package that takes part: of an interface or of a world
+-- a function of the package that is active: of an interface or of a world
 pub data IsActiveFunction (a : Addition) : Function → Type 0 where
-  of_interface : (i : ℕ) (interface : Interface) (name : List ℕ) (f : Function) → slice_get a.handed.interfaces i ≡ Some interface → interface_is_active a.features a.handed i ≡ true
+  of_interface : (i : ℕ) (interface : Interface) (name : List ℕ) (f : Function) → slice_get a.unresolved.interfaces i ≡ Some interface → interface_is_active a.features a.unresolved i ≡ true
       → Contains interface.functions (name, f) → function_is_active a.features f ≡ true → IsActiveFunction a f
-  of_world : (w : ℕ) (world : World) (k : WorldKey) (f : Function) → slice_get a.handed.worlds w ≡ Some world → world_is_active a.features a.handed w ≡ true
+  of_world : (w : ℕ) (world : World) (k : WorldKey) (f : Function) → slice_get a.unresolved.worlds w ≡ Some world → world_is_active a.features a.unresolved w ≡ true
       → HasEntry world (k, item.Function f) → function_is_active a.features f ≡ true → IsActiveFunction a f
 
--- what takes part refers to a thing, at a place
-pub data RefersTo (a : Addition) : Thing → Place → Type 0 where
+-- what is active refers to a thing, at a place
+pub data RefersTo (a : Addition) : Thing → OptionalSpan → Type 0 where
   -- a type to those that its kind names, whatever owns it
-  of_type : (t : ℕ) (def : TypeDef) (named : ℕ) (place : Place) → slice_get a.handed.types t ≡ Some def → type_is_active a.features a.handed.types t ≡ true
+  of_type : (t : ℕ) (def : TypeDef) (named : ℕ) (place : OptionalSpan) → slice_get a.unresolved.types t ≡ Some def → type_is_active a.features a.unresolved.types t ≡ true
       → Contains (kind_references def.kind def.span) (named, place) → RefersTo a (AType named) place
   -- a foreign type to its interface, at no known place
-  of_foreign_type : (t : ℕ) (def : TypeDef) (i : ℕ) → slice_get a.handed.types t ≡ Some def → def.kind ≡ kind.Unknown → type_is_active a.features a.handed.types t ≡ true
+  of_foreign_type : (t : ℕ) (def : TypeDef) (i : ℕ) → slice_get a.unresolved.types t ≡ Some def → def.kind ≡ kind.Unknown → type_is_active a.features a.unresolved.types t ≡ true
       → def.owner ≡ owner.Interface i → RefersTo a (AnInterface i) None
   -- a function to its resource and to the types of its parameters and of its result
   of_function : (f : Function) (named : ℕ) → IsActiveFunction a f → Contains (function_references f) named → RefersTo a (AType named) f.span
   -- an entry of a world to its interface
-  of_entry : (w : ℕ) (world : World) (k : WorldKey) (i : ℕ) (note : Stability) (docs : Docs) (place : Place) (external_id : Option (List ℕ))
-      → slice_get a.handed.worlds w ≡ Some world → world_is_active a.features a.handed w ≡ true
+  of_entry : (w : ℕ) (world : World) (k : WorldKey) (i : ℕ) (note : Stability) (docs : Docs) (place : OptionalSpan) (external_id : Option (List ℕ))
+      → slice_get a.unresolved.worlds w ≡ Some world → world_is_active a.features a.unresolved w ≡ true
       → HasEntry world (k, item.Interface i note docs place external_id) → is_active a.features note ≡ true → RefersTo a (AnInterface i) place
   -- an include to its world
-  of_include : (w : ℕ) (world : World) (i : WorldInclude) → slice_get a.handed.worlds w ≡ Some world → world_is_active a.features a.handed w ≡ true
+  of_include : (w : ℕ) (world : World) (i : WorldInclude) → slice_get a.unresolved.worlds w ≡ Some world → world_is_active a.features a.unresolved w ≡ true
       → Contains world.includes i → include_is_active a.features i ≡ true → RefersTo a (AWorld i.id) i.span
 
--- 11: what takes part refers to what is left out
-pub record RefersToExcluded (a : Addition) (span : Place) (message : List ℕ) : Type 0 where
+-- 11: what is active refers to what is left out
+pub record RefersToExcluded (a : Addition) (span : OptionalSpan) (message : List ℕ) : Type 0 where
   pub thing : Thing
-  pub place : Place
+  pub place : OptionalSpan
   pub refers : RefersTo a thing place
   pub excluded : IsExcluded a thing
   pub span_is : span ≡ moved_by a.offset place
@@ -182,14 +182,14 @@ owner_thing (owner.World w) = AWorld w ∷ []
 owner_thing (owner.Interface i) = AnInterface i ∷ []
 owner_thing owner.None = []
 
--- 12: a type that takes part, and isn't foreign, has an owner that is left out
-pub record HasExcludedOwner (a : Addition) (span : Place) (message : List ℕ) : Type 0 where
+-- 12: a type that is active, and isn't foreign, has an owner that is left out
+pub record HasExcludedOwner (a : Addition) (span : OptionalSpan) (message : List ℕ) : Type 0 where
   pub t : ℕ
   pub def : TypeDef
   pub thing : Thing
-  pub is : slice_get a.handed.types t ≡ Some def
+  pub is : slice_get a.unresolved.types t ≡ Some def
   pub own : def.kind ≢ kind.Unknown
-  pub active : type_is_active a.features a.handed.types t ≡ true
+  pub active : type_is_active a.features a.unresolved.types t ≡ true
   pub owner : owner_thing def.owner ≡ thing ∷ []
   pub excluded : IsExcluded a thing
   pub span_is : span ≡ moved_by a.offset def.span
@@ -198,31 +198,31 @@ pub record HasExcludedOwner (a : Addition) (span : Place) (message : List ℕ) :
 -- ---- 13, 14: foreign types that aren't there, or aren't resources
 
 -- 13: a foreign type isn't in its interface
-pub record LacksType (a : Addition) (span : Place) (message : List ℕ) : Type 0 where
+pub record ForeignTypeMissing (a : Addition) (span : OptionalSpan) (message : List ℕ) : Type 0 where
   pub t : ℕ
   pub def : TypeDef
   pub name : List ℕ
   pub i : ℕ
   pub i' : ℕ
-  pub is : slice_get a.handed.types t ≡ Some def
-  pub foreign : is_foreign_type a.handed t ≡ true
-  pub active : type_is_active a.features a.handed.types t ≡ true
+  pub is : slice_get a.unresolved.types t ≡ Some def
+  pub foreign : is_foreign_type a.unresolved t ≡ true
+  pub active : type_is_active a.features a.unresolved.types t ≡ true
   pub called : def.name ≡ Some name
   pub owner : def.owner ≡ owner.Interface i
-  pub owner_active : interface_is_active a.features a.handed i ≡ true
-  pub found : found_interface a.graph a.handed i ≡ Some i'
-  pub absent : listed_type a.graph name i' ≡ None
-  pub span_is : SomeAt a.handed.unknown_type_spans t (λ (s : Place). span ≡ moved_by a.offset s)
+  pub owner_active : interface_is_active a.features a.unresolved i ≡ true
+  pub found : foreign_interface_id a.graph a.unresolved i ≡ Some i'
+  pub absent : interface_type a.graph name i' ≡ None
+  pub span_is : SomeAt a.unresolved.unknown_type_spans t (λ (s : OptionalSpan). span ≡ moved_by a.offset s)
   pub message_is : message ≡ type_not_defined_text name
 
 -- 14: a type that has to be a resource doesn't lead to one by aliases
-pub record IsNoResource (a : Addition) (span : Place) (message : List ℕ) : Type 0 where
+pub record IsNoResource (a : Addition) (span : OptionalSpan) (message : List ℕ) : Type 0 where
   pub t : ℕ
   pub t' : ℕ
-  pub place : Place
-  pub required : Contains a.handed.required_resource_types (t, place)
-  pub active : type_is_active a.features a.handed.types t ≡ true
-  pub found : found_type a.graph a.handed t ≡ Some t'
+  pub place : OptionalSpan
+  pub required : Contains a.unresolved.required_resource_types (t, place)
+  pub active : type_is_active a.features a.unresolved.types t ≡ true
+  pub found : foreign_type_id a.graph a.unresolved t ≡ Some t'
   pub no_resource : leads_to_resource a.graph.types t' ≡ false
   pub span_is : span ≡ moved_by a.offset place
   pub message_is : message ≡ not_a_resource_text
@@ -235,16 +235,16 @@ IsBorrow types t = SomeAt types t (λ (def : TypeDef). (r : ℕ) × (def.kind �
 
 -- the values of type t hold a borrow
 abbrev pub HoldsBorrow : List TypeDef → ℕ → Type 0
-HoldsBorrow types t = (b : ℕ) × Reaches (held_rows types) t b × IsBorrow types b
+HoldsBorrow types t = (b : ℕ) × Reaches (type_contents types) t b × IsBorrow types b
 
 -- the values of type t of the package hold a borrow: one of the package, or in a foreign type one of the graph
 abbrev pub MayHoldBorrow : Addition → ℕ → Type 0
 MayHoldBorrow a t =
-    HoldsBorrow a.handed.types t
-    ⊎ ((s : ℕ) × (s' : ℕ) × Reaches (held_rows a.handed.types) t s × (type_is_active a.features a.handed.types s ≡ true) × (found_type a.graph a.handed s ≡ Some s') × HoldsBorrow a.graph.types s')
+    HoldsBorrow a.unresolved.types t
+    ⊎ ((s : ℕ) × (s' : ℕ) × Reaches (type_contents a.unresolved.types) t s × (type_is_active a.features a.unresolved.types s ≡ true) × (foreign_type_id a.graph a.unresolved s ≡ Some s') × HoldsBorrow a.graph.types s')
 
--- 15: the result of a function that takes part holds a borrow
-pub record ReturnsBorrow (a : Addition) (span : Place) (message : List ℕ) : Type 0 where
+-- 15: the result of a function that is active holds a borrow
+pub record ReturnsBorrow (a : Addition) (span : OptionalSpan) (message : List ℕ) : Type 0 where
   pub f : Function
   pub t : ℕ
   pub active : IsActiveFunction a f
@@ -256,21 +256,21 @@ pub record ReturnsBorrow (a : Addition) (span : Place) (message : List ℕ) : Ty
 -- ---- 27: a position that is too large
 
 -- a span of the package would end past 4294967295
-pub record PassesTheEnd (a : Addition) : Type 0 where
+pub record AdditionOverflows (a : Addition) : Type 0 where
   pub from : ℕ
   pub to : ℕ
-  pub known : Contains (package_spans a.handed) (Some (from, to))
+  pub known : Contains (package_spans a.unresolved) (Some (from, to))
   pub past : 2 ^ 32 ≤ to + a.offset
 
 -- ---- what leaves no image
 
--- none of the reasons holds that leave a package without an image in the graph
-pub record HasImage (a : Addition) : Type 0 where
-  pub packages : (span : Place) (requested : PackageName) (known : List PackageName) → LacksPackage a span requested known → ⊥
-  pub worlds : (span : Place) (requested : List ℕ) (home : PackageName) → LacksWorld a span requested home → ⊥
-  pub interfaces : (span : Place) (requested : List ℕ) (home : PackageName) → LacksInterface a span requested home → ⊥
-  pub version : (span : Place) (message : List ℕ) → LacksVersion a span message → ⊥
-  pub released : (span : Place) (message : List ℕ) → IsUnreleased a span message → ⊥
-  pub references : (span : Place) (message : List ℕ) → RefersToExcluded a span message → ⊥
-  pub owners : (span : Place) (message : List ℕ) → HasExcludedOwner a span message → ⊥
-  pub types : (span : Place) (message : List ℕ) → LacksType a span message → ⊥
+-- none of 1, 2, 3, 9, 10, 11, 12 and 13 holds, so every id of the package has an image
+pub record IsResolved (a : Addition) : Type 0 where
+  pub packages : (span : OptionalSpan) (requested : PackageName) (known : List PackageName) → LacksPackage a span requested known → ⊥
+  pub worlds : (span : OptionalSpan) (requested : List ℕ) (home : PackageName) → LacksWorld a span requested home → ⊥
+  pub interfaces : (span : OptionalSpan) (requested : List ℕ) (home : PackageName) → LacksInterface a span requested home → ⊥
+  pub version : (span : OptionalSpan) (message : List ℕ) → LacksVersion a span message → ⊥
+  pub released : (span : OptionalSpan) (message : List ℕ) → IsUnreleased a span message → ⊥
+  pub references : (span : OptionalSpan) (message : List ℕ) → RefersToExcluded a span message → ⊥
+  pub owners : (span : OptionalSpan) (message : List ℕ) → HasExcludedOwner a span message → ⊥
+  pub types : (span : OptionalSpan) (message : List ℕ) → ForeignTypeMissing a span message → ⊥

@@ -4,7 +4,7 @@
 use Rattle.std.specs.Prelude.{ℕ, Bool, true, false, List, [], ◌++◌, slice_get, None}
 use Rattle.std.specs.List.{flat_map, list_any}
 use Rattle.std.specs.Option.{option_map_or}
-use Rattle.wit_digraph.specs.Walks.{walk}
+use Rattle.wit_digraph.specs.PostOrder.{post_order}
 use Rattle.wit_data.specs.Reference.{named_option, named_type, referred}
 use Rattle.wit_data.specs.declared.function.Function.{Function}
 use Rattle.wit_data.specs.declared.function.Param.{Param}
@@ -26,7 +26,7 @@ is_resource types t = option_map_or (λ (def : TypeDef). is_resource_kind def.ki
 
 -- is type t a resource, or does it lead to one by aliases?
 abbrev pub leads_to_resource : List TypeDef → ℕ → Bool
-leads_to_resource types t = list_any (is_resource types) (walk (alias_rows types) t)
+leads_to_resource types t = list_any (is_resource types) (post_order (alias_rows types) t)
 
 -- the types at the value positions of a kind: all that it names, but not what an alias or a handle names
 abbrev pub value_positions : TypeDefKind → List ℕ
@@ -34,7 +34,7 @@ value_positions (kind.Handle handle) = []
 value_positions (kind.Type_ ty) = []
 value_positions other = referred other
 
--- those of a function: its parameters and its result
+-- the types at the value positions of a function: its parameters and its result
 abbrev pub signature_positions : Function → List ℕ
 signature_positions f = flat_map (λ (p : Param). named_type p.ty) f.params ++ named_option f.result_
 

@@ -17,10 +17,10 @@ use Rattle.wit_data.specs.declared.world.World.{World}
 use Rattle.wit_data.specs.declared.world.WorldInclude.{WorldInclude}
 use Rattle.wit_data.specs.declared.world.WorldItem.{WorldItem}
 use Rattle.wit_data.specs.declared.world.WorldItem.TheVariants as item
-use Rattle.wit_link_spec.specs.Gates.{Place}
+use Rattle.wit_link_spec.specs.Gates.{OptionalSpan}
 
 -- those of the fields, cases and flags of a kind
-abbrev pub kind_spans : TypeDefKind → List Place
+abbrev pub kind_spans : TypeDefKind → List OptionalSpan
 kind_spans (kind.Record fields) = map (λ (f : Field). f.span) fields
 kind_spans (kind.Variant cases) = map (λ (c : Case). c.span) cases
 kind_spans (kind.Flags flags) = map (λ (f : Flag). f.span) flags
@@ -28,30 +28,30 @@ kind_spans (kind.Enum cases) = map (λ (c : EnumCase). c.span) cases
 kind_spans other = []
 
 -- those of a type and of its parts
-abbrev pub type_spans : TypeDef → List Place
+abbrev pub type_spans : TypeDef → List OptionalSpan
 type_spans def = def.span ∷ kind_spans def.kind
 
 -- those of a function and of its parameters
-abbrev pub function_spans : Function → List Place
+abbrev pub function_spans : Function → List OptionalSpan
 function_spans f = f.span ∷ map (λ (p : Param). p.span) f.params
 
 -- those of an interface and of its functions
-abbrev pub interface_spans : Interface → List Place
+abbrev pub interface_spans : Interface → List OptionalSpan
 interface_spans interface = interface.span ∷ flat_map (λ (e : List ℕ × Function). function_spans e.1) interface.functions
 
 -- those of an entry of a world
-abbrev pub item_spans : WorldItem → List Place
+abbrev pub item_spans : WorldItem → List OptionalSpan
 item_spans (item.Interface id stability docs span external_id) = span ∷ []
 item_spans (item.Function function) = function_spans function
 item_spans (item.Type_ id span) = span ∷ []
 
 -- those of a world, of its entries and of its includes
-abbrev pub world_spans : World → List Place
+abbrev pub world_spans : World → List OptionalSpan
 world_spans world =
     world.span ∷ (flat_map (λ (e : Entry). item_spans e.1) world.imports ++ (flat_map (λ (e : Entry). item_spans e.1) world.exports ++ map (λ (i : WorldInclude). i.span) world.includes))
 
 -- all of a package
-abbrev pub package_spans : UnresolvedPackage → List Place
+abbrev pub package_spans : UnresolvedPackage → List OptionalSpan
 package_spans u =
-    u.package_name_span ∷ (u.foreign_dep_spans ++ (u.unknown_type_spans ++ (map (λ (r : ℕ × Place). r.1) u.required_resource_types
+    u.package_name_span ∷ (u.foreign_dep_spans ++ (u.unknown_type_spans ++ (map (λ (r : ℕ × OptionalSpan). r.1) u.required_resource_types
     ++ (flat_map type_spans u.types ++ (flat_map interface_spans u.interfaces ++ flat_map world_spans u.worlds)))))

@@ -17,19 +17,19 @@ use Rattle.wit_data.specs.declared.world.WorldKey.{WorldKey}
 use Rattle.wit_data.specs.declared.world.WorldKey.TheVariants as key
 use Rattle.wit_elaboration.specs.Elaboration.{graph_uses}
 use Rattle.wit_elaboration.specs.Imported.{HasConflict, IsRefusedName}
-use Rattle.wit_link_spec.specs.Addition.{Addition, active_includes, own_worlds, world_place}
+use Rattle.wit_link_spec.specs.Addition.{Addition, active_includes, own_worlds, remapped_world}
 use Rattle.wit_link_spec.specs.CauseText.{clash_text, getter_text, rename_text}
-use Rattle.wit_link_spec.specs.Gates.{Place}
-use Rattle.wit_link_spec.specs.Include.{Begun, Lists, include_stability, is_other_package, lists_of}
+use Rattle.wit_link_spec.specs.Gates.{OptionalSpan}
+use Rattle.wit_link_spec.specs.Include.{EntryLists, PartiallyLinked, include_stability, is_other_package, lists_of}
 use Rattle.wit_labels.specs.Setters.{IsSetter, getter_label, placed}
 use Rattle.wit_labels.specs.Strong.{Clashes}
-use Rattle.wit_link_spec.specs.Pushed.{begun, begun_with, with_worlds}
-use Rattle.wit_link_spec.specs.Reasons.{HasImage}
-use Rattle.wit_labels.specs.Rename.{renamed, renamed_by}
+use Rattle.wit_link_spec.specs.Pushed.{with_all_includes, with_includes, with_worlds}
+use Rattle.wit_link_spec.specs.Reasons.{IsResolved}
+use Rattle.wit_labels.specs.Rename.{renamed_label, renamed_label_by}
 
 -- ---- a world, and an include of it
 
--- world k of those that take part, as it is when its turn comes
+-- world k of those that are active, as it is when its turn comes
 pub record AtWorld (a : Addition) (k : ℕ) : Type 0 where
   pub place : ℕ
   pub world : World
@@ -40,20 +40,20 @@ pub record AtInclude (a : Addition) (k j : ℕ) : Type 0 where
   pub at : AtWorld a k
   pub include : WorldInclude
   pub is : slice_get (active_includes a at.world) j ≡ Some include
-  pub before : Begun
-  pub before_is : before ≡ begun_with a at.place at.world (take j (active_includes a at.world)) (with_worlds a k)
+  pub before : PartiallyLinked
+  pub before_is : before ≡ with_includes a at.place at.world (take j (active_includes a at.world)) (with_worlds a k)
   pub old : World
-  pub old_is : slice_get before.graph.worlds (world_place a include.id) ≡ Some old
+  pub old_is : slice_get before.graph.worlds (remapped_world a include.id) ≡ Some old
 
 -- `import` and `export`, with the lists that they mean
-abbrev pub IsListCalled : List ℕ → Lists → List Entry → Type 0
+abbrev pub IsListCalled : List ℕ → EntryLists → List Entry → Type 0
 IsListCalled word lists entries = ((word ≡ codes "import") × (entries ≡ lists.imports)) ⊎ ((word ≡ codes "export") × (entries ≡ lists.exports))
 
 -- ---- 7, 8, 16: of an include
 
 -- a key under its new label
 abbrev pub renamed_key : List IncludeName → WorldKey → WorldKey
-renamed_key names (key.Name label) = key.Name (renamed names label)
+renamed_key names (key.Name label) = key.Name (renamed_label names label)
 renamed_key names (key.Interface i) = key.Interface i
 
 -- label n of brought keys is there: in the list, or among the keys brought before
@@ -64,7 +64,7 @@ pub record IsShadowed (current : List Entry) (brought : List WorldKey) (n : List
   pub there : Contains (keys_of current ++ before) (key.Name n)
 
 -- 7: a label that an include brings is there
-pub record Shadows (a : Addition) (k j : ℕ) (span : Place) (word name : List ℕ) : Type 0 where
+pub record Shadows (a : Addition) (k j : ℕ) (span : OptionalSpan) (word name : List ℕ) : Type 0 where
   pub at : AtInclude a k j
   pub current : List Entry
   pub brought : List Entry
@@ -75,7 +75,7 @@ pub record Shadows (a : Addition) (k j : ℕ) (span : Place) (word name : List �
 -- the entry under the key of an interface, with its stability
 abbrev pub HasStability : List Entry → ℕ → Stability → Type 0
 HasStability entries i stability =
-    (docs : Docs) × (place : Place) × (external_id : Option (List ℕ)) × Contains entries (key.Interface i, item.Interface i stability docs place external_id)
+    (docs : Docs) × (place : OptionalSpan) × (external_id : Option (List ℕ)) × Contains entries (key.Interface i, item.Interface i stability docs place external_id)
 
 -- two stabilities disagree: both are known, and they differ
 pub record Disagree (from into : Stability) : Type 0 where
@@ -85,7 +85,7 @@ pub record Disagree (from into : Stability) : Type 0 where
 
 -- 8: an interface that an include brings is there with another stability, and it isn't a `@since` of another
 -- package, which says nothing
-pub record Mismatches (a : Addition) (k j : ℕ) (span : Place) (brings has : Stability) : Type 0 where
+pub record IncludeMismatches (a : Addition) (k j : ℕ) (span : OptionalSpan) (brings has : Stability) : Type 0 where
   pub at : AtInclude a k j
   pub word : List ℕ
   pub current : List Entry
@@ -100,10 +100,10 @@ pub record Mismatches (a : Addition) (k j : ℕ) (span : Place) (brings has : St
 
 -- some label of a world is what a renaming is of
 abbrev pub IsRenamed : World → IncludeName → Type 0
-IsRenamed world name = (label : List ℕ) × Contains (keys_of world.imports ++ keys_of world.exports) (key.Name label) × (is_some (renamed_by name label) ≡ true)
+IsRenamed world name = (label : List ℕ) × Contains (keys_of world.imports ++ keys_of world.exports) (key.Name label) × (is_some (renamed_label_by name label) ≡ true)
 
 -- 16: a renaming is of no label of the included world; the message tells the first such one
-pub record RenamesNothing (a : Addition) (k j : ℕ) (span : Place) (message : List ℕ) : Type 0 where
+pub record RenamesNothing (a : Addition) (k j : ℕ) (span : OptionalSpan) (message : List ℕ) : Type 0 where
   pub at : AtInclude a k j
   pub before : List IncludeName
   pub name : IncludeName
@@ -115,24 +115,24 @@ pub record RenamesNothing (a : Addition) (k j : ℕ) (span : Place) (message : L
   pub message_is : message ≡ rename_text name.name
 
 -- include j of world k is refused for none of these
-pub record IncludeIsFine (a : Addition) (k j : ℕ) : Type 0 where
-  pub unshadowed : (span : Place) (word name : List ℕ) → Shadows a k j span word name → ⊥
-  pub agrees : (span : Place) (brings has : Stability) → Mismatches a k j span brings has → ⊥
-  pub renames : (span : Place) (message : List ℕ) → RenamesNothing a k j span message → ⊥
+pub record IncludeIsAccepted (a : Addition) (k j : ℕ) : Type 0 where
+  pub unshadowed : (span : OptionalSpan) (word name : List ℕ) → Shadows a k j span word name → ⊥
+  pub agrees : (span : OptionalSpan) (brings has : Stability) → IncludeMismatches a k j span brings has → ⊥
+  pub renames : (span : OptionalSpan) (message : List ℕ) → RenamesNothing a k j span message → ⊥
 
 -- ---- 17, 18: of the lists of a world
 
 -- the lists of world k, by which its labels are told: with all its includes, where the package has an image; or
 -- as it is written where it lists no include, image or not; the spans of its entries are then still to move by
 -- `moves`
-pub data HaveLists (a : Addition) (k : ℕ) : World → Lists → ℕ → Type 0 where
-  made : (at : AtWorld a k) → HasImage a → ((j : ℕ) → IncludeIsFine a k j) → HaveLists a k at.world (begun a at.place at.world (with_worlds a k)).lists 0
+pub data HaveLists (a : Addition) (k : ℕ) : World → EntryLists → ℕ → Type 0 where
+  made : (at : AtWorld a k) → IsResolved a → ((j : ℕ) → IncludeIsAccepted a k j) → HaveLists a k at.world (with_all_includes a at.place at.world (with_worlds a k)).lists 0
   written : (at : AtWorld a k) → at.world.includes ≡ [] → HaveLists a k at.world (lists_of at.world) a.offset
 
--- 17: two labels of one list are too alike
-pub record AreTooAlike (a : Addition) (k : ℕ) (span : Place) (message : List ℕ) : Type 0 where
+-- 17: two labels of one list are not strongly unique
+pub record AreNotStronglyUnique (a : Addition) (k : ℕ) (span : OptionalSpan) (message : List ℕ) : Type 0 where
   pub world : World
-  pub lists : Lists
+  pub lists : EntryLists
   pub moves : ℕ
   pub have : HaveLists a k world lists moves
   pub word : List ℕ
@@ -145,9 +145,9 @@ pub record AreTooAlike (a : Addition) (k : ℕ) (span : Place) (message : List �
   pub message_is : message ≡ clash_text word n world.name m
 
 -- 18: a setter has no getter beside it
-pub record LacksGetter (a : Addition) (k : ℕ) (span : Place) (message : List ℕ) : Type 0 where
+pub record LacksGetter (a : Addition) (k : ℕ) (span : OptionalSpan) (message : List ℕ) : Type 0 where
   pub world : World
-  pub lists : Lists
+  pub lists : EntryLists
   pub moves : ℕ
   pub have : HaveLists a k world lists moves
   pub word : List ℕ
@@ -163,12 +163,12 @@ pub record LacksGetter (a : Addition) (k : ℕ) (span : Place) (message : List �
 -- ---- 4: of its exports
 
 -- 4: what the exports of a world need from outside is exported
-pub record IsInConflict (a : Addition) (k : ℕ) (span : Place) (name : List ℕ) : Type 0 where
+pub record WorldHasConflict (a : Addition) (k : ℕ) (span : OptionalSpan) (name : List ℕ) : Type 0 where
   pub at : AtWorld a k
-  pub has_image : HasImage a
-  pub includes_are_fine : (j : ℕ) → IncludeIsFine a k j
-  pub b : Begun
-  pub is : b ≡ begun a at.place at.world (with_worlds a k)
+  pub has_image : IsResolved a
+  pub includes_are_accepted : (j : ℕ) → IncludeIsAccepted a k j
+  pub b : PartiallyLinked
+  pub is : b ≡ with_all_includes a at.place at.world (with_worlds a k)
   pub conflict : HasConflict (graph_uses b.graph) (placed b.lists.exports)
   pub name_is : IsRefusedName b.graph.packages b.graph.interfaces (graph_uses b.graph) (placed b.lists.exports) name
   pub span_is : span ≡ moved_by a.offset at.world.span
@@ -176,8 +176,8 @@ pub record IsInConflict (a : Addition) (k : ℕ) (span : Place) (name : List ℕ
 -- ---- a world without any
 
 -- world k is refused for nothing; of its includes this is asked where the package has an image
-pub record WorldIsFine (a : Addition) (k : ℕ) : Type 0 where
-  pub includes : HasImage a → (j : ℕ) → IncludeIsFine a k j
-  pub labels : (span : Place) (message : List ℕ) → AreTooAlike a k span message → ⊥
-  pub setters : (span : Place) (message : List ℕ) → LacksGetter a k span message → ⊥
-  pub exports : (span : Place) (name : List ℕ) → IsInConflict a k span name → ⊥
+pub record WorldIsAccepted (a : Addition) (k : ℕ) : Type 0 where
+  pub includes : IsResolved a → (j : ℕ) → IncludeIsAccepted a k j
+  pub labels : (span : OptionalSpan) (message : List ℕ) → AreNotStronglyUnique a k span message → ⊥
+  pub setters : (span : OptionalSpan) (message : List ℕ) → LacksGetter a k span message → ⊥
+  pub exports : (span : OptionalSpan) (name : List ℕ) → WorldHasConflict a k span name → ⊥

@@ -1,7 +1,7 @@
 pub mod ApartFacts
 pub mod ClosedCut
 pub mod FlagFacts
-pub mod Found
+pub mod ForeignFound
 pub mod OwnThingFacts
 pub mod PositionFacts
 pub mod RangeFacts

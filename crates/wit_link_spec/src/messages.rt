@@ -16,7 +16,7 @@ pub fn excluded_message(alloc: Global, sort: &str) -> Result<String, AllocError>
     )
 }
 
-/// 12: a type takes part, but its owner is left out; `sort` is `interface` or `world`. The only
+/// 12: a type is active, but its owner is left out; `sort` is `interface` or `world`. The only
 /// error is want of memory.
 ///
 /// Source: `map_interface_for_type` and `map_world_for_type` of wit-parser 0.263.0.

@@ -13,11 +13,11 @@ use Rattle.wit_graph_theory.specs.Image.{entry_image, function_image, interface_
 use Rattle.wit_link_spec.specs.facts.RangeFacts.{range-at}
 use Rattle.wit_remap.specs.steps.Movers.{goes, id_or, maps_of}
 use Rattle.wit_remap.specs.declared.mover.Mover.{Mover}
-use Rattle.wit_merge_spec.specs.Matches.{Merging}
-use Rattle.wit_merge_spec.specs.Moved.{interface_place, merge_maps, package_place, type_place, value_place, world_place}
+use Rattle.wit_merge_spec.specs.Matches.{GraphMerge}
+use Rattle.wit_merge_spec.specs.Remapped.{merge_maps, merged_interface, merged_package, merged_type, merged_value, merged_world}
 use Rattle.wit_merge.specs.steps.Joined.{EntryWithin, FunctionMoves, InterfaceMoves, TypeMoves}
-use Rattle.wit_merge.specs.steps.Uniting.{IsReady, merging_of}
-use Rattle.wit_merge.specs.declared.uniting.Uniting.{Uniting}
+use Rattle.wit_merge.specs.steps.UnionSteps.{CanUnite, merging_of}
+use Rattle.wit_merge.specs.declared.union_plan.UnionPlan.{UnionPlan}
 use Rattle.wit_merge.proofs.NamesStay.{name_stays}
 use Rattle.wit_merge.proofs.SameImages.{Agree, each_same, entries_same, function_same, interface_same, type_same}
 
@@ -25,23 +25,23 @@ use Rattle.wit_merge.proofs.SameImages.{Agree, each_same, entries_same, function
 goes_there : (places : List (Option ℕ)) (f : ℕ → ℕ) (n x : ℕ) → places ≡ map (λ (t : ℕ). Some (f t)) (range_with_len 0 n) → x < n → goes places x ≡ f x
 goes_there places f n x are below = ap (λ (l : List (Option ℕ)). id_or x (slice_get l x)) are ∙ ap (id_or x) (range-at (λ (t : ℕ). Some (f t)) n x below)
 
-module _ (u : Uniting) (ready : IsReady u) where
-  abbrev m : Merging
+module _ (u : UnionPlan) (ready : CanUnite u) where
+  abbrev m : GraphMerge
   m = merging_of u
 
-  pub types_go : (x : ℕ) → x < length u.other.now.types → goes u.going.now.places.types x ≡ type_place m x
-  types_go x below = goes_there u.going.now.places.types (type_place m) (length u.other.now.types) x (λ j. (ready.going j).places.types) below
+  pub types_go : (x : ℕ) → x < length u.other.now.types → goes u.merge_remap.now.places.types x ≡ merged_type m x
+  types_go x below = goes_there u.merge_remap.now.places.types (merged_type m) (length u.other.now.types) x (λ j. (ready.merge_remap j).places.types) below
 
-  pub interfaces_go : (x : ℕ) → x < length u.other.now.interfaces → goes u.going.now.places.interfaces x ≡ interface_place m x
-  interfaces_go x below = goes_there u.going.now.places.interfaces (interface_place m) (length u.other.now.interfaces) x (λ j. (ready.going j).places.interfaces) below
+  pub interfaces_go : (x : ℕ) → x < length u.other.now.interfaces → goes u.merge_remap.now.places.interfaces x ≡ merged_interface m x
+  interfaces_go x below = goes_there u.merge_remap.now.places.interfaces (merged_interface m) (length u.other.now.interfaces) x (λ j. (ready.merge_remap j).places.interfaces) below
 
-  pub worlds_go : (x : ℕ) → x < length u.other.now.worlds → goes u.going.now.places.worlds x ≡ world_place m x
-  worlds_go x below = goes_there u.going.now.places.worlds (world_place m) (length u.other.now.worlds) x (λ j. (ready.going j).places.worlds) below
+  pub worlds_go : (x : ℕ) → x < length u.other.now.worlds → goes u.merge_remap.now.places.worlds x ≡ merged_world m x
+  worlds_go x below = goes_there u.merge_remap.now.places.worlds (merged_world m) (length u.other.now.worlds) x (λ j. (ready.merge_remap j).places.worlds) below
 
-  values_go : (x : ℕ) → x < length u.other.now.types → unwrap_or (slice_get u.values.now x) x ≡ value_place m x
-  values_go x below = ap (λ (l : List ℕ). unwrap_or (slice_get l x) x) ready.values ∙ ap (λ (o : Option ℕ). unwrap_or o x) (range-at (value_place m) (length u.other.now.types) x below)
+  values_go : (x : ℕ) → x < length u.other.now.types → unwrap_or (slice_get u.values.now x) x ≡ merged_value m x
+  values_go x below = ap (λ (l : List ℕ). unwrap_or (slice_get l x) x) ready.values ∙ ap (λ (o : Option ℕ). unwrap_or o x) (range-at (merged_value m) (length u.other.now.types) x below)
 
-  module _ (mv : Mover) (places : mv.places.now ≡ u.going.now.places) (values : mv.values.now ≡ u.values.now) (offset : mv.offset ≡ u.offset) where
+  module _ (mv : Mover) (places : mv.places.now ≡ u.merge_remap.now.places) (values : mv.values.now ≡ u.values.now) (offset : mv.offset ≡ u.offset) where
     agrees : Agree (maps_of mv) (merge_maps m) (length u.other.now.types) (length u.other.now.interfaces) (length u.other.now.worlds)
     agrees = record {
       of_types = λ x below. ap (λ p. goes p x) (λ j. (places j).types) ∙ types_go x below;
@@ -58,10 +58,10 @@ module _ (u : Uniting) (ready : IsReady u) where
     pub function_is : (f : Function) → FunctionMoves m f → function_image (maps_of mv) f ≡ function_image (merge_maps m) f
     function_is f can = function_same (maps_of mv) (merge_maps m) (length u.other.now.types) (length u.other.now.interfaces) (length u.other.now.worlds) agrees f can.parts
 
-    pub interface_is : (interface : Interface) (can : InterfaceMoves m interface) → mv.«package» ≡ package_place m can.home → interface_image (maps_of mv) interface ≡ interface_image (merge_maps m) interface
+    pub interface_is : (interface : Interface) (can : InterfaceMoves m interface) → mv.«package» ≡ merged_package m can.home → interface_image (maps_of mv) interface ≡ interface_image (merge_maps m) interface
     interface_is interface can home =
         interface_same (maps_of mv) (merge_maps m) (length u.other.now.types) (length u.other.now.interfaces) (length u.other.now.worlds) agrees interface
-        (ap (λ (p : ℕ). Some p) home ∙ ap (option_map (package_place m)) (sym can.home_is)) can.types (λ e has. (can.functions e has).parts)
+        (ap (λ (p : ℕ). Some p) home ∙ ap (option_map (merged_package m)) (sym can.home_is)) can.types (λ e has. (can.functions e has).parts)
 
     -- entries at their places, whichever world they are of
     pub entries_are : (w : ℕ) (entries : List Entry) → ((e : Entry) → Contains entries e → EntryWithin (length u.other.now.types) (length u.other.now.interfaces) e)

@@ -23,11 +23,11 @@ module _ {X Y : Type 0} (p : X → Bool) (f : X → List Y) where
 
 -- the same where each has come with its place
 module _ {X Y : Type 0} (p : ℕ × X → Bool) (f : X → List Y) where
-  abbrev pub of_taken : ℕ × X → List Y
-  of_taken e = if p e then f e.1 else []
+  abbrev pub of_selected : ℕ × X → List Y
+  of_selected e = if p e then f e.1 else []
 
-  pub taken-first : (e : ℕ × X) (es : List (ℕ × X)) → flat_map f (map (λ (e : ℕ × X). e.1) (filter p (e ∷ es))) ≡ of_taken e ++ flat_map f (map (λ (e : ℕ × X). e.1) (filter p es))
-  taken-first e es = by (p e)
+  pub selected-first : (e : ℕ × X) (es : List (ℕ × X)) → flat_map f (map (λ (e : ℕ × X). e.1) (filter p (e ∷ es))) ≡ of_selected e ++ flat_map f (map (λ (e : ℕ × X). e.1) (filter p es))
+  selected-first e es = by (p e)
     where
       by : (b : Bool) → flat_map f (map (λ (e : ℕ × X). e.1) (cond b (e ∷ filter p es) (filter p es))) ≡ (if b then f e.1 else []) ++ flat_map f (map (λ (e : ℕ × X). e.1) (filter p es))
       by true = refl

@@ -28,19 +28,19 @@ use Rattle.wit_graph_theory.specs.facts.GoodIsValid.{good_things}
 use Rattle.wit_graph_theory.specs.facts.GraphSource.{mapped_is_good}
 use Rattle.wit_graph_theory.specs.Image.{identity}
 use Rattle.wit_graph_theory.specs.facts.ListFacts.{found_at, place_of}
-use Rattle.wit_graph_theory.specs.steps.Sources.{IsGoodSource, OwnerTakesPart, Source}
+use Rattle.wit_graph_theory.specs.steps.Sources.{IsGoodSource, OwnerIsActive, Source}
 use Rattle.wit_merge_spec.specs.Joined.{joined_package, with_interface, with_package}
-use Rattle.wit_merge_spec.specs.Matches.{Merging, found_as, found_in, found_interface, found_package, found_world}
-use Rattle.wit_merge_spec.specs.Moved.{moves_package}
+use Rattle.wit_merge_spec.specs.Matches.{GraphMerge, counterpart_interface, counterpart_interface_by, counterpart_package, counterpart_world, named_in_counterpart}
+use Rattle.wit_merge_spec.specs.Remapped.{moves_package}
 use Rattle.wit_merge_spec.specs.United.{joined_graph, united}
-use Rattle.wit_merge_laws.specs.facts.InterfacesStand.{old_interface_at, partner_is, with_partner}
+use Rattle.wit_merge_laws.specs.facts.InterfacesStand.{counterpart_is, old_interface_at, with_counterpart}
 use Rattle.wit_merge_laws.specs.facts.JoinedGood.{joined_good}
 use Rattle.wit_merge_laws.specs.facts.ListedStand.{moved_comes}
 use Rattle.wit_merge_laws.specs.facts.MatchedOnce.{package_once}
 use Rattle.wit_merge_laws.specs.facts.PackagesStand.{old_package_at, packages_good}
 use Rattle.wit_merge.specs.steps.Joined.{EntryWithin, FunctionsMove, InterfaceJoins, InterfaceMoves, OwnerWithin, PackageJoins, PackageMoves, TypeMoves, Within, WorldJoins, WorldMoves}
-use Rattle.wit_merge.specs.steps.Uniting.{IsReady, merging_of}
-use Rattle.wit_merge.specs.declared.uniting.Uniting.{Uniting}
+use Rattle.wit_merge.specs.steps.UnionSteps.{CanUnite, merging_of}
+use Rattle.wit_merge.specs.declared.union_plan.UnionPlan.{UnionPlan}
 use Rattle.wit_merge.proofs.Agrees.{of_any}
 
 -- what is said of a package is said of one that is there
@@ -48,8 +48,8 @@ home_there : {X : Type 0} (packages : List X) (home : Option ℕ) (P : ℕ → X
 home_there packages None P is = absurd is
 home_there packages (Some p) P is = let there = found_at (P p) packages p is in (p, refl, slice_get_within packages p there.0 there.1)
 
-module _ (u : Uniting) (ready : IsReady u) where
-  abbrev m : Merging
+module _ (u : UnionPlan) (ready : CanUnite u) where
+  abbrev m : GraphMerge
   m = merging_of u
 
   abbrev other : Graph
@@ -78,7 +78,7 @@ module _ (u : Uniting) (ready : IsReady u) where
         fits = ready.fits.of_types t def at;
       }
     where
-      by : (of : TypeOwner) → OwnerTakesPart s of → OwnerWithin (length other.interfaces) (length other.worlds) of
+      by : (of : TypeOwner) → OwnerIsActive s of → OwnerWithin (length other.interfaces) (length other.worlds) of
       by (owner.World w) takes = ltb-true w (length other.worlds) takes
       by (owner.Interface i) takes = ltb-true i (length other.interfaces) takes
       by owner.None takes = tt
@@ -115,9 +115,9 @@ module _ (u : Uniting) (ready : IsReady u) where
           fits = ready.fits.of_interfaces i interface at;
         }
 
-  pub interfaces_join : (i i' : ℕ) (from into : Interface) → slice_get other.interfaces i ≡ Some from → found_interface m i ≡ Some i' → slice_get u.graph.now.interfaces i' ≡ Some into → InterfaceJoins m (i, from) into
+  pub interfaces_join : (i i' : ℕ) (from into : Interface) → slice_get other.interfaces i ≡ Some from → counterpart_interface m i ≡ Some i' → slice_get u.graph.now.interfaces i' ≡ Some into → InterfaceJoins m (i, from) into
   interfaces_join i i' from into from_at found into_at =
-      let at : slice_get (joined_graph m).interfaces i' ≡ Some (with_interface m from into) = old_interface_at m i' into into_at ∙ ap (λ (x : Interface). Some x) (with_partner m ready.valid ready.valid_other i i' from into from_at found) in
+      let at : slice_get (joined_graph m).interfaces i' ≡ Some (with_interface m from into) = old_interface_at m i' into into_at ∙ ap (λ (x : Interface). Some x) (with_counterpart m ready.valid ready.valid_other i i' from into from_at found) in
       let is : IsGoodInterface (joined_graph m).types i' (with_interface m from into) = (joined_good m ready.valid ready.valid_other ready.one).interfaces_are i' (with_interface m from into) at refl in
       record {
         types_apart = is.distinct_types;
@@ -129,10 +129,10 @@ module _ (u : Uniting) (ready : IsReady u) where
   -- ---- packages
 
   -- where a package moves, so does what its tables hold
-  moves_with : (table : Package → List (List ℕ × ℕ)) (p : ℕ) (name : List ℕ) → moves_package m p ≡ true → found_in table m (Some p) name ≡ None
-  moves_with table p name moves = by (found_package m p) refl
+  moves_with : (table : Package → List (List ℕ × ℕ)) (p : ℕ) (name : List ℕ) → moves_package m p ≡ true → named_in_counterpart table m (Some p) name ≡ None
+  moves_with table p name moves = by (counterpart_package m p) refl
     where
-      by : (o : Option ℕ) → found_package m p ≡ o → found_in table m (Some p) name ≡ None
+      by : (o : Option ℕ) → counterpart_package m p ≡ o → named_in_counterpart table m (Some p) name ≡ None
       by None is = ap (λ (o : Option ℕ). option_and_then (λ p'. option_and_then (λ (there : Package). lookup (bytes_eq name) (table there)) (slice_get m.graph.packages p')) o) is
       by (Some p') is = absurd (true≢false (sym moves ∙ ap (λ (o : Option ℕ). not (is_some o)) is))
 
@@ -161,22 +161,22 @@ module _ (u : Uniting) (ready : IsReady u) where
       worlds_apart = ready.valid_other.well_formed.tables.distinct_worlds p home at;
       interfaces = λ e has.
           let there = interface_there e has in
-          let none : found_interface m e.1 ≡ None =
-          ap (option_and_then (λ (interface : Interface). found_as m e.1 interface.package interface.name)) there.1 ∙ (λ j. found_as m e.1 (there.3 j) (there.2 j)) ∙ moves_with (λ (there : Package). there.interfaces) p e.0 moves in
+          let none : counterpart_interface m e.1 ≡ None =
+          ap (option_and_then (λ (interface : Interface). counterpart_interface_by m e.1 interface.package interface.name)) there.1 ∙ (λ j. counterpart_interface_by m e.1 (there.3 j) (there.2 j)) ∙ moves_with (λ (there : Package). there.interfaces) p e.0 moves in
           (interfaces_there e has, ap (λ (o : Option ℕ). not (is_some o)) none);
       worlds = λ e has.
           let there = world_there e has in
-          let none : found_world m e.1 ≡ None =
-          ap (option_and_then (λ (world : World). found_in (λ (there : Package). there.worlds) m world.package world.name)) there.1
-          ∙ (λ j. found_in (λ (there : Package). there.worlds) m (there.3 j) (there.2 j)) ∙ moves_with (λ (there : Package). there.worlds) p e.0 moves in
+          let none : counterpart_world m e.1 ≡ None =
+          ap (option_and_then (λ (world : World). named_in_counterpart (λ (there : Package). there.worlds) m world.package world.name)) there.1
+          ∙ (λ j. named_in_counterpart (λ (there : Package). there.worlds) m (there.3 j) (there.2 j)) ∙ moves_with (λ (there : Package). there.worlds) p e.0 moves in
           (worlds_there e has, ap (λ (o : Option ℕ). not (is_some o)) none);
     }
 
-  pub packages_join : (p p' : ℕ) (from into : Package) → slice_get other.packages p ≡ Some from → found_package m p ≡ Some p' → slice_get u.graph.now.packages p' ≡ Some into → PackageJoins m (p, from) into
+  pub packages_join : (p p' : ℕ) (from into : Package) → slice_get other.packages p ≡ Some from → counterpart_package m p ≡ Some p' → slice_get u.graph.now.packages p' ≡ Some into → PackageJoins m (p, from) into
   packages_join p p' from into from_at found into_at =
       let joined : joined_package m (p', into) ≡ with_package m from into =
       ap (λ (o : Option (ℕ × Package)). option_map_or (λ (e : ℕ × Package). with_package m e.1 into) o into)
-      (partner_is (found_package m) other.packages p' (λ i j. package_once m ready.valid ready.valid_other i j p') p from from_at found) in
+      (counterpart_is (counterpart_package m) other.packages p' (λ i j. package_once m ready.valid ready.valid_other i j p') p from from_at found) in
       let at : slice_get (united m).packages p' ≡ Some (with_package m from into) = old_package_at m p' into into_at ∙ ap (λ (x : Package). Some x) joined in
       let is : IsGoodPackage (united m).interfaces (united m).worlds p' (with_package m from into) = packages_good m ready.valid ready.valid_other p' (with_package m from into) at in
       record {

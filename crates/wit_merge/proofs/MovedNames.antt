@@ -1,14 +1,14 @@
--- The entries of tables whose things move, with where these go, by lists of what is found and of places.
+-- The entries of tables whose things move, with what these are remapped to, by lists of what is found and of places.
 use Rattle.std.proofs.Common.{◌≡◌, ◌∙◌, ℕ, ◌<◌, Bool, true, cond, List, [], ◌∷◌, Option, filter, length, map, refl, ap, Contains}
 use Rattle.wit_digraph.specs.facts.MemberFacts.{Contains-here, Contains-there}
 use Rattle.wit_elaboration.proofs.Filters.{Contains-filter}
-use Rattle.wit_merge_match.specs.steps.Going.{moves}
+use Rattle.wit_merge_match.specs.steps.MergeRemaps.{moves}
 use Rattle.wit_remap.specs.steps.Movers.{goes}
-use Rattle.wit_merge_spec.specs.Matches.{Merging, found_interface, found_type, found_world}
-use Rattle.wit_merge_spec.specs.Moved.{interface_place, moves_interface, moves_type, moves_world, type_place, world_place}
+use Rattle.wit_merge_spec.specs.Matches.{GraphMerge, counterpart_interface, counterpart_type, counterpart_world}
+use Rattle.wit_merge_spec.specs.Remapped.{merged_interface, merged_type, merged_world, moves_interface, moves_type, moves_world}
 use Rattle.wit_merge.specs.steps.Joined.{moved_names}
-use Rattle.wit_merge.specs.steps.Uniting.{IsReady, merging_of}
-use Rattle.wit_merge.specs.declared.uniting.Uniting.{Uniting}
+use Rattle.wit_merge.specs.steps.UnionSteps.{CanUnite, merging_of}
+use Rattle.wit_merge.specs.declared.union_plan.UnionPlan.{UnionPlan}
 use Rattle.wit_merge.proofs.Agrees.{interfaces_go, types_go, worlds_go}
 use Rattle.wit_merge.proofs.SameImages.{each_same}
 use Rattle.wit_merge.proofs.UnitedIs.{moves_is}
@@ -30,21 +30,21 @@ all_move kept (e ∷ from) all =
     ap (λ (b : Bool). cond b (e ∷ filter (λ (d : List ℕ × ℕ). kept d.1) from) (filter (λ (d : List ℕ × ℕ). kept d.1) from)) (all e (Contains-here e from))
     ∙ ap (λ (l : Table). e ∷ l) (all_move kept from (λ d has. all d (Contains-there e d from has)))
 
-module _ (u : Uniting) (ready : IsReady u) where
-  abbrev m : Merging
+module _ (u : UnionPlan) (ready : CanUnite u) where
+  abbrev m : GraphMerge
   m = merging_of u
 
   pub types_moved : (from : Table) → ((e : List ℕ × ℕ) → Contains from e → e.1 < length u.other.now.types)
-      → moved_names u.matches.now.types u.going.now.places.types from ≡ map (λ (e : List ℕ × ℕ). (e.0, type_place m e.1)) (filter (λ (e : List ℕ × ℕ). moves_type m e.1) from)
-  types_moved = names_are u.matches.now.types u.going.now.places.types (moves_type m) (type_place m) (length u.other.now.types) (moves_is (found_type m) (length u.other.now.types) u.matches.now.types ready.matches.types) (types_go u ready)
+      → moved_names u.matches.now.types u.merge_remap.now.places.types from ≡ map (λ (e : List ℕ × ℕ). (e.0, merged_type m e.1)) (filter (λ (e : List ℕ × ℕ). moves_type m e.1) from)
+  types_moved = names_are u.matches.now.types u.merge_remap.now.places.types (moves_type m) (merged_type m) (length u.other.now.types) (moves_is (counterpart_type m) (length u.other.now.types) u.matches.now.types ready.matches.types) (types_go u ready)
 
   pub interfaces_moved : (from : Table) → ((e : List ℕ × ℕ) → Contains from e → e.1 < length u.other.now.interfaces)
-      → moved_names u.matches.now.interfaces u.going.now.places.interfaces from ≡ map (λ (e : List ℕ × ℕ). (e.0, interface_place m e.1)) (filter (λ (e : List ℕ × ℕ). moves_interface m e.1) from)
+      → moved_names u.matches.now.interfaces u.merge_remap.now.places.interfaces from ≡ map (λ (e : List ℕ × ℕ). (e.0, merged_interface m e.1)) (filter (λ (e : List ℕ × ℕ). moves_interface m e.1) from)
   interfaces_moved =
-      names_are u.matches.now.interfaces u.going.now.places.interfaces (moves_interface m) (interface_place m) (length u.other.now.interfaces)
-      (moves_is (found_interface m) (length u.other.now.interfaces) u.matches.now.interfaces ready.matches.interfaces) (interfaces_go u ready)
+      names_are u.matches.now.interfaces u.merge_remap.now.places.interfaces (moves_interface m) (merged_interface m) (length u.other.now.interfaces)
+      (moves_is (counterpart_interface m) (length u.other.now.interfaces) u.matches.now.interfaces ready.matches.interfaces) (interfaces_go u ready)
 
   pub worlds_moved : (from : Table) → ((e : List ℕ × ℕ) → Contains from e → e.1 < length u.other.now.worlds)
-      → moved_names u.matches.now.worlds u.going.now.places.worlds from ≡ map (λ (e : List ℕ × ℕ). (e.0, world_place m e.1)) (filter (λ (e : List ℕ × ℕ). moves_world m e.1) from)
+      → moved_names u.matches.now.worlds u.merge_remap.now.places.worlds from ≡ map (λ (e : List ℕ × ℕ). (e.0, merged_world m e.1)) (filter (λ (e : List ℕ × ℕ). moves_world m e.1) from)
   worlds_moved =
-      names_are u.matches.now.worlds u.going.now.places.worlds (moves_world m) (world_place m) (length u.other.now.worlds) (moves_is (found_world m) (length u.other.now.worlds) u.matches.now.worlds ready.matches.worlds) (worlds_go u ready)
+      names_are u.matches.now.worlds u.merge_remap.now.places.worlds (moves_world m) (merged_world m) (length u.other.now.worlds) (moves_is (counterpart_world m) (length u.other.now.worlds) u.matches.now.worlds ready.matches.worlds) (worlds_go u ready)

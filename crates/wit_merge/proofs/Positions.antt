@@ -14,11 +14,11 @@ use Rattle.wit_data.specs.declared.types.TypeDefKind.TheVariants as kind
 use Rattle.wit_elaboration.specs.Valid.{IsValid}
 use Rattle.wit_graph_data.specs.declared.graph.Graph.{Graph}
 use Rattle.wit_graph_theory.specs.facts.ListFacts.{from_map, in_row, place_of}
-use Rattle.wit_link_spec.specs.facts.RankFacts.{taken_places-from}
-use Rattle.wit_link_spec.specs.Ranks.{taken_places}
+use Rattle.wit_link_spec.specs.facts.RankFacts.{selected_with_index-from}
+use Rattle.wit_link_spec.specs.Ranks.{selected_with_index}
 use Rattle.wit_link_spec.specs.Resources.{signature_positions, value_positions}
-use Rattle.wit_merge_spec.specs.Matches.{Merging}
-use Rattle.wit_merge_spec.specs.Moved.{moved_functions, moved_types, moves_type, positions}
+use Rattle.wit_merge_spec.specs.Matches.{GraphMerge}
+use Rattle.wit_merge_spec.specs.Remapped.{moved_functions, moved_types, moves_type, positions}
 use Rattle.wit_merge_laws.specs.facts.FunctionsThere.{moved_refers}
 
 -- a value position of a kind is a reference of it
@@ -38,15 +38,15 @@ references_there g valid i def at t has =
     let within : t < length (type_references g.types) = All-contains (λ x. x < length (type_references g.types)) (direct (type_references g.types) i) t (valid.no_cycles.types.in_range i) edge in
     omega (arith, within, length-map g.types (λ (d : TypeDef). referred d.kind))
 
-module _ (m : Merging) (valid : IsValid m.other) where
+module _ (m : GraphMerge) (valid : IsValid m.other) where
   -- ---- positions
 
   type_there : (t : ℕ) → Contains (flat_map (λ (def : TypeDef). value_positions def.kind) (moved_types m)) t → t < length m.other.types
   type_there t has =
       let from = Contains-flat_map_cases (λ (def : TypeDef). value_positions def.kind) (moved_types m) t has in
       let place = place_of (moved_types m) from.0 from.1.0 in
-      let taken_from = from_map (λ (e : ℕ × TypeDef). e.1) (taken_places (moves_type m) m.other.types) place.0 from.0 place.1 in
-      let is = taken_places-from (moves_type m) m.other.types place.0 taken_from.0 taken_from.1 in
+      let taken_from = from_map (λ (e : ℕ × TypeDef). e.1) (selected_with_index (moves_type m) m.other.types) place.0 from.0 place.1 in
+      let is = selected_with_index-from (moves_type m) m.other.types place.0 taken_from.0 taken_from.1 in
       let def : TypeDef = from.0 in
       let at : slice_get m.other.types taken_from.0.0 ≡ Some def = is.0 ∙ ap Some taken_from.2 in
       references_there m.other valid taken_from.0.0 def at t (position_referred def.kind t from.1.1)

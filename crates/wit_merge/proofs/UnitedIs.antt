@@ -2,10 +2,10 @@
 use Rattle.std.proofs.Common.{◌≡◌, ℕ, Bool, List, [], ◌∷◌, ◌++◌, Option, None, get_or, is_some, map, not, refl, ap}
 use Rattle.std.specs.List.{enumerate_from}
 use Rattle.std.specs.Option.{option_map_or}
-use Rattle.wit_link_spec.specs.Ranks.{taken_places}
-use Rattle.wit_merge_match.specs.steps.Found.{AreFound}
-use Rattle.wit_merge_match.specs.steps.Going.{moves}
-use Rattle.wit_merge_spec.specs.Matches.{partner}
+use Rattle.wit_link_spec.specs.Ranks.{selected_with_index}
+use Rattle.wit_merge_match.specs.steps.Matched.{AreFound}
+use Rattle.wit_merge_match.specs.steps.MergeRemaps.{moves}
+use Rattle.wit_merge_spec.specs.Matches.{counterpart_of}
 
 -- without places
 pub without_places : {X Y : Type 0} (f : X → Y) (es : List (ℕ × X)) → map (λ (e : ℕ × X). f e.1) es ≡ map f (map (λ (e : ℕ × X). e.1) es)
@@ -21,7 +21,7 @@ module _ (found : ℕ → Option ℕ) (count : ℕ) (list : List (Option ℕ)) (
 
   module _ {X : Type 0} (union : ℕ × X → X → X) (image : ℕ × X → X) (others ours : List X) where
     abbrev made : (ℕ → Option ℕ) → (ℕ → Bool) → List X
-    made look kept = map (λ (e : ℕ × X). option_map_or (λ (p : ℕ × X). union p e.1) (partner look others e.0) e.1) (enumerate_from 0 ours) ++ map image (taken_places kept others)
+    made look kept = map (λ (e : ℕ × X). option_map_or (λ (p : ℕ × X). union p e.1) (counterpart_of look others e.0) e.1) (enumerate_from 0 ours) ++ map image (selected_with_index kept others)
 
     pub united_is : made (λ (x : ℕ). get_or list x None) (moves list) ≡ made found (λ (x : ℕ). not (is_some (found x)))
     united_is = λ j. made (found_is j) (moves_is j)

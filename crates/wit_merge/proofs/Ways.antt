@@ -2,12 +2,12 @@
 use Rattle.std.proofs.Common.{◌≡◌, ◌∙◌, ◌<◌, inl, inr, ℕ, Bool, List, Option, None, Some, length, slice_get, slice_set, sym, ap}
 use Rattle.wit_values.specs.facts.Lists.{set-cases}
 use Rattle.wit_digraph.specs.Relation.{IsAcyclic}
-use Rattle.wit_digraph.specs.Walks.{walk}
+use Rattle.wit_digraph.specs.PostOrder.{post_order}
 use Rattle.wit_data.specs.Reference.{type_references}
 use Rattle.wit_data.specs.Uses.{alias_target}
 use Rattle.wit_data.specs.declared.types.TypeDef.{TypeDef}
 use Rattle.wit_graph_theory.specs.steps.Sources.{alias_rows}
-use Rattle.wit_merge.specs.facts.Leading.{TellsLeads}
+use Rattle.wit_merge.specs.facts.Leading.{AreLeadFlags}
 use Rattle.wit_link_resources.proofs.Leads.{target_there, walk_falls}
 use Rattle.wit_link_resources.proofs.Rows.{alias_acyclic}
 
@@ -19,14 +19,14 @@ module _ (types : List TypeDef) (acyclic : IsAcyclic (type_references types)) (k
   pub next_there : u < length types
   next_there = target_there types acyclic t u names.1.0 names.1.1 names.1.2
 
-  pub next_shorter : length (walk (alias_rows types) u) < length (walk (alias_rows types) t)
+  pub next_shorter : length (post_order (alias_rows types) u) < length (post_order (alias_rows types) t)
   next_shorter = walk_falls types (alias_acyclic types acyclic) t u names.1.0 names.1.1 names.1.2
 
-  pub next_same : (test : ℕ → Bool) → TellsLeads types known test → test t ≡ test u
+  pub next_same : (test : ℕ → Bool) → AreLeadFlags types known test → test t ≡ test u
   next_same test tells = tells.alias t u names.1.0 names.0 names.1.1 names.1.2
 
 -- what is right of one place more
-pub noted : (types : List TypeDef) (known new : List (Option Bool)) (t : ℕ) (answer : Bool) (test : ℕ → Bool) → new ≡ slice_set known t (Some answer) → test t ≡ answer → TellsLeads types known test → TellsLeads types new test
+pub noted : (types : List TypeDef) (known new : List (Option Bool)) (t : ℕ) (answer : Bool) (test : ℕ → Bool) → new ≡ slice_set known t (Some answer) → test t ≡ answer → AreLeadFlags types known test → AreLeadFlags types new test
 noted types known new t answer test set_is right tells = record {
   told = λ x b at. elim (set-cases known t (Some answer) x (Some b) (place x (Some b) at)) [
     | inl here ↦ ap test here.0 ∙ (right ∙ one answer b here.1)

@@ -1,3 +1,3 @@
+pub mod Counterparts
 pub mod Joined
-pub mod Partners
-pub mod Uniting
+pub mod UnionSteps

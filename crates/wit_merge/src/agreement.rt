@@ -1,9 +1,9 @@
-//! What speaks against a merge before anything is made.
+//! What holds against a merge before anything is made.
 ghost use Rattle.std.specs.Prelude.{◌≡◌, ◌⊎◌, IfErr, OnOk};
 ghost use Rattle.wit_elaboration.specs.Valid.{IsValid};
 ghost use Rattle.wit_graph_data.specs.declared.error_kind.ResolveErrorKind.TheVariants.{OutOfMemory};
-ghost use Rattle.wit_merge_match.specs.Differing.{merging_by};
-ghost use Rattle.wit_merge_match.specs.steps.Found.{AreMatches};
+ghost use Rattle.wit_merge_match.specs.Differing.{merge_of_graphs_by};
+ghost use Rattle.wit_merge_match.specs.steps.Matched.{AreMatches};
 ghost use Rattle.wit_merge_spec.specs.Cause.{IsMergeCause};
 ghost use Rattle.wit_merge.specs.facts.Agreeing.{DoAgree};
 
@@ -23,8 +23,8 @@ pub(crate) fn check_agreement(
     requires graph { IsValid graph.now }
     requires other { IsValid other.now }
     requires matches { AreMatches graph.now other.now matches.now }
-    ensures agree { OnOk result (DoAgree (merging_by graph.now other.now offset)) }
-    ensures cause { IfErr result (λ e. (e ≡ OutOfMemory) ⊎ IsMergeCause (merging_by graph.now other.now offset) e) }
+    ensures agree { OnOk result (DoAgree (merge_of_graphs_by graph.now other.now offset)) }
+    ensures cause { IfErr result (λ e. (e ≡ OutOfMemory) ⊎ IsMergeCause (merge_of_graphs_by graph.now other.now offset) e) }
 {
     match find_mismatch(alloc, graph, other, matches)? {
         Some(message) => {

@@ -3,11 +3,11 @@ ghost use Rattle.std.specs.Prelude.{◌≡◌, ◌++◌, IfOk, OnOk, length, map
 ghost use Rattle.std.specs.List.{flat_map, list_any, range_with_len};
 ghost use Rattle.wit_data.specs.declared.types.TypeDef.{TypeDef};
 ghost use Rattle.wit_elaboration.specs.Valid.{IsValid};
-ghost use Rattle.wit_link_spec.specs.Ranks.{taken};
+ghost use Rattle.wit_link_spec.specs.Ranks.{selected};
 ghost use Rattle.wit_link_spec.specs.Resources.{value_positions};
-ghost use Rattle.wit_merge_spec.specs.Moved.{positions};
-ghost use Rattle.wit_merge_match.specs.steps.Found.{AreMatches, merging};
-ghost use Rattle.wit_merge_match.specs.steps.Going.{moves};
+ghost use Rattle.wit_merge_spec.specs.Remapped.{positions};
+ghost use Rattle.wit_merge_match.specs.steps.Matched.{AreMatches, merge_of_graphs};
+ghost use Rattle.wit_merge_match.specs.steps.MergeRemaps.{moves};
 
 use crate::functions::moved_functions;
 use crate::names::moves;
@@ -26,7 +26,7 @@ pub(crate) fn asked(
 ) -> Result<Items<bool>, AllocError>
     requires valid_other { IsValid other.now }
     requires matches { AreMatches graph.now other.now matches.now }
-    ensures { IfOk result (λ asked. asked ≡ map (λ t. list_any (nat_eq t) (positions (merging graph.now other.now))) (range_with_len 0 (length other.now.types))) }
+    ensures { IfOk result (λ asked. asked ≡ map (λ t. list_any (nat_eq t) (positions (merge_of_graphs graph.now other.now))) (range_with_len 0 (length other.now.types))) }
 {
     let ids = positions(alloc, graph, other, matches)?;
     marked(alloc, other.types.len(), ids.as_slice())
@@ -40,7 +40,7 @@ fn positions(
     matches: &Matches,
 ) -> Result<Items<TypeId>, AllocError>
     requires { AreMatches graph.now other.now matches.now }
-    ensures { IfOk result (λ ids. ids ≡ positions (merging graph.now other.now)) }
+    ensures { IfOk result (λ ids. ids ≡ positions (merge_of_graphs graph.now other.now)) }
 {
     let mut ids = Items::new(alloc);
     push_types(alloc, &mut ids, other, matches)?;
@@ -58,7 +58,7 @@ fn push_types(
     other: &Graph,
     matches: &Matches,
 ) -> Result<(), AllocError>
-    ensures { OnOk result (ids.new ≡ ids.old ++ flat_map (λ (def : TypeDef). value_positions def.kind) (taken (moves matches.now.types) other.now.types)) }
+    ensures { OnOk result (ids.new ≡ ids.old ++ flat_map (λ (def : TypeDef). value_positions def.kind) (selected (moves matches.now.types) other.now.types)) }
 {
     for place in 0..other.types.len() {
         if moves(&matches.types, place) {

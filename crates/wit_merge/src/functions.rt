@@ -8,11 +8,11 @@ ghost use Rattle.wit_data.specs.Entries.{Entry};
 ghost use Rattle.wit_data.specs.declared.function.Function.{Function};
 ghost use Rattle.wit_data.specs.declared.interface.Interface.{Interface};
 ghost use Rattle.wit_data.specs.declared.world.World.{World};
-ghost use Rattle.wit_link_spec.specs.Ranks.{taken_places};
-ghost use Rattle.wit_merge_spec.specs.Moved.{brought_functions, interface_functions, item_function, moved_functions, world_functions};
+ghost use Rattle.wit_link_spec.specs.Ranks.{selected_with_index};
+ghost use Rattle.wit_merge_spec.specs.Remapped.{brought_functions, interface_functions, item_function, moved_functions, world_functions};
 ghost use Rattle.wit_link_resources.specs.steps.Active.{seen};
-ghost use Rattle.wit_merge_match.specs.steps.Found.{AreMatches, merging};
-ghost use Rattle.wit_merge_match.specs.steps.Going.{moves};
+ghost use Rattle.wit_merge_match.specs.steps.Matched.{AreMatches, merge_of_graphs};
+ghost use Rattle.wit_merge_match.specs.steps.MergeRemaps.{moves};
 
 use crate::names::moves;
 use std::alloc::{AllocError, Global};
@@ -28,7 +28,7 @@ pub(crate) fn moved_functions<'a>(
     matches: &Matches,
 ) -> Result<Vec<&'a Function>, AllocError>
     requires { AreMatches graph.now other.now matches.now }
-    ensures { IfOk result (λ functions. seen functions.items ≡ moved_functions (merging graph.now other.now)) }
+    ensures { IfOk result (λ functions. seen functions.items ≡ moved_functions (merge_of_graphs graph.now other.now)) }
 {
     let mut functions = Vec::new(alloc);
     push_interfaces(&mut functions, graph, other, matches)?;
@@ -44,17 +44,17 @@ fn push_interfaces<'a>(
     matches: &Matches,
 ) -> Result<(), AllocError>
     requires { AreMatches graph.now other.now matches.now }
-    ensures { OnOk result (seen functions.new.items ≡ seen functions.old.items ++ flat_map (λ (e : ℕ × Interface). interface_functions (merging graph.now other.now) e.0 e.1) (enumerate_from 0 other.now.interfaces)) }
+    ensures { OnOk result (seen functions.new.items ≡ seen functions.old.items ++ flat_map (λ (e : ℕ × Interface). interface_functions (merge_of_graphs graph.now other.now) e.0 e.1) (enumerate_from 0 other.now.interfaces)) }
 {
     for place in 0..other.interfaces.len() {
-        let into = interface_beside(graph, matches, place);
+        let into = matched_interface(graph, matches, place);
         push_brought(functions, other.interfaces.at(place), into)?;
     }
     Ok(())
 }
 
 /// The interface that is matched with one of the other graph.
-fn interface_beside<'a>(graph: &'a Graph, matches: &Matches, place: usize) -> Option<&'a Interface>
+fn matched_interface<'a>(graph: &'a Graph, matches: &Matches, place: usize) -> Option<&'a Interface>
     requires { place < length matches.now.interfaces }
     ensures { option_copied result ≡ option_and_then (slice_get graph.now.interfaces) (get_or matches.now.interfaces place None) }
 {
@@ -111,7 +111,7 @@ fn push_worlds<'a>(
     other: &'a Graph,
     matches: &Matches,
 ) -> Result<(), AllocError>
-    ensures { OnOk result (seen functions.new.items ≡ seen functions.old.items ++ flat_map (λ (e : ℕ × World). world_functions e.1) (taken_places (moves matches.now.worlds) other.now.worlds)) }
+    ensures { OnOk result (seen functions.new.items ≡ seen functions.old.items ++ flat_map (λ (e : ℕ × World). world_functions e.1) (selected_with_index (moves matches.now.worlds) other.now.worlds)) }
 {
     for place in 0..other.worlds.len() {
         if moves(&matches.worlds, place) {

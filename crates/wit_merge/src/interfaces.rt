@@ -1,16 +1,16 @@
 //! The interfaces of two graphs as one.
 ghost use Rattle.std.specs.Prelude.{◌≡◌, ◌++◌, IfOk, OnOk};
 ghost use Rattle.wit_graph_theory.specs.Image.{function_image};
-ghost use Rattle.wit_merge_spec.specs.Moved.{merge_maps};
+ghost use Rattle.wit_merge_spec.specs.Remapped.{merge_maps};
 ghost use Rattle.wit_merge_spec.specs.United.{joined_graph};
-ghost use Rattle.wit_merge.specs.steps.Joined.{FunctionMoves, FunctionsMove, brought_beside, functions_image};
+ghost use Rattle.wit_merge.specs.steps.Joined.{FunctionMoves, FunctionsMove, brought_matched, functions_image};
 ghost use Rattle.wit_values.specs.Table.{HasDistinctKeys};
-ghost use Rattle.wit_merge.specs.steps.Uniting.{IsReady, merging_of};
+ghost use Rattle.wit_merge.specs.steps.UnionSteps.{CanUnite, merging_of};
 
 use crate::names::push_moved;
 use crate::parts::{Part, joined_list};
 use crate::stabilities::join_stability;
-use crate::uniting::Uniting;
+use crate::union_plan::UnionPlan;
 use std::alloc::{AllocError, Global};
 use wit_data::{Function, Interface, Items, Names, TryClone};
 use wit_remap::Place;
@@ -33,7 +33,7 @@ impl Part for Interface {
     fn moved(
         &self,
         _alloc: Global,
-        uniting: &Uniting<'_>,
+        uniting: &UnionPlan<'_>,
         _place: usize,
     ) -> Result<Interface, AllocError> {
         let mut moved = self.try_clone()?;
@@ -44,7 +44,7 @@ impl Part for Interface {
     fn joined(
         &self,
         _alloc: Global,
-        uniting: &Uniting<'_>,
+        uniting: &UnionPlan<'_>,
         _place: usize,
         from: &Interface,
     ) -> Result<Interface, AllocError> {
@@ -54,7 +54,7 @@ impl Part for Interface {
             &mut joined.types,
             &from.types,
             found,
-            &uniting.going.places.types,
+            &uniting.merge_remap.places.types,
         )?;
         push_functions(
             uniting,
@@ -69,15 +69,15 @@ impl Part for Interface {
 
 /// Adds those functions of another interface whose names aren't among the known ones, at their places.
 fn push_functions(
-    uniting: &Uniting<'_>,
+    uniting: &UnionPlan<'_>,
     into: &mut Names<Function>,
     known: &Names<Function>,
     from: &Names<Function>,
 ) -> Result<(), AllocError>
-    requires ready { IsReady uniting.now }
+    requires ready { CanUnite uniting.now }
     requires functions { FunctionsMove (merging_of uniting.now) from.now }
-    requires apart { HasDistinctKeys (into.old ++ functions_image (merging_of uniting.now) (brought_beside known.now from.now)) }
-    ensures { OnOk result (into.new ≡ into.old ++ functions_image (merging_of uniting.now) (brought_beside known.now from.now)) }
+    requires apart { HasDistinctKeys (into.old ++ functions_image (merging_of uniting.now) (brought_matched known.now from.now)) }
+    ensures { OnOk result (into.new ≡ into.old ++ functions_image (merging_of uniting.now) (brought_matched known.now from.now)) }
 {
     let alloc = into.allocator();
     for (name, function) in from.iter() {
@@ -90,8 +90,8 @@ fn push_functions(
 }
 
 /// A function at its place.
-fn moved_function(uniting: &Uniting<'_>, function: &Function) -> Result<Function, AllocError>
-    requires ready { IsReady uniting.now }
+fn moved_function(uniting: &UnionPlan<'_>, function: &Function) -> Result<Function, AllocError>
+    requires ready { CanUnite uniting.now }
     requires moves { FunctionMoves (merging_of uniting.now) function.now }
     ensures { IfOk result (λ moved. moved ≡ function_image (merge_maps (merging_of uniting.now)) function.now) }
 {
@@ -103,9 +103,9 @@ fn moved_function(uniting: &Uniting<'_>, function: &Function) -> Result<Function
 /// The interfaces of the two as one.
 pub(crate) fn joined_interfaces(
     alloc: Global,
-    uniting: &Uniting<'_>,
+    uniting: &UnionPlan<'_>,
 ) -> Result<Items<Interface>, AllocError>
-    requires { IsReady uniting.now }
+    requires { CanUnite uniting.now }
     ensures { IfOk result (λ interfaces. interfaces ≡ (joined_graph (merging_of uniting.now)).interfaces) }
 {
     let found = &uniting.matches.interfaces;

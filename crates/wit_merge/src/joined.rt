@@ -1,13 +1,13 @@
 //! The two graphs as one, as they are listed.
 ghost use Rattle.std.specs.Prelude.{◌≡◌, IfOk};
-ghost use Rattle.wit_merge_spec.specs.Moved.{added_owns};
+ghost use Rattle.wit_merge_spec.specs.Remapped.{owns_of_merge};
 ghost use Rattle.wit_merge_spec.specs.United.{joined_graph};
-ghost use Rattle.wit_merge.specs.steps.Uniting.{IsReady, merging_of};
+ghost use Rattle.wit_merge.specs.steps.UnionSteps.{CanUnite, merging_of};
 
 use crate::interfaces::joined_interfaces;
 use crate::packages::{joined_names, joined_packages};
 use crate::types::joined_types;
-use crate::uniting::Uniting;
+use crate::union_plan::UnionPlan;
 use crate::worlds::joined_worlds;
 use std::alloc::{AllocError, Global};
 use wit_data::{Items, TypeDef};
@@ -16,11 +16,11 @@ use wit_graph_data::Graph;
 /// The two graphs as one, with the lists of worlds as they were listed.
 pub(crate) fn joined_graph(
     alloc: Global,
-    uniting: &Uniting<'_>,
+    uniting: &UnionPlan<'_>,
     owns: Items<TypeDef>,
 ) -> Result<Graph, AllocError>
-    requires ready { IsReady uniting.now }
-    requires owns { owns ≡ added_owns (merging_of uniting.now) }
+    requires ready { CanUnite uniting.now }
+    requires owns { owns ≡ owns_of_merge (merging_of uniting.now) }
     ensures { IfOk result (λ joined. joined ≡ joined_graph (merging_of uniting.now)) }
 {
     let types = joined_types(alloc, uniting, owns)?;

@@ -7,10 +7,10 @@ ghost use Rattle.wit_data.specs.Uses.{alias_target};
 ghost use Rattle.wit_data.specs.declared.types.TypeDef.{TypeDef};
 ghost use Rattle.wit_elaboration.specs.Valid.{IsValid};
 ghost use Rattle.wit_link_spec.specs.Resources.{leads_to_resource};
-ghost use Rattle.wit_merge_spec.specs.Moved.{plain_types, type_place};
-ghost use Rattle.wit_merge_match.specs.Differing.{merging_by};
-ghost use Rattle.wit_merge_match.specs.steps.Found.{AreMatches};
-ghost use Rattle.wit_merge.specs.facts.Leading.{TellsLeads};
+ghost use Rattle.wit_merge_spec.specs.Remapped.{merge_types_without_owns, merged_type};
+ghost use Rattle.wit_merge_match.specs.Differing.{merge_of_graphs_by};
+ghost use Rattle.wit_merge_match.specs.steps.Matched.{AreMatches};
+ghost use Rattle.wit_merge.specs.facts.Leading.{AreLeadFlags};
 
 use std::alloc::{AllocError, Global};
 use wit_data::{Items, TypeDef, TypeId, alias_target};
@@ -30,7 +30,7 @@ pub(crate) fn leading_types(
     requires valid { IsValid graph.now }
     requires valid_other { IsValid other.now }
     requires matches { AreMatches graph.now other.now matches.now }
-    ensures { IfOk result (λ leading. (offset : ℕ) → leading ≡ map (λ t. leads_to_resource (plain_types (merging_by graph.now other.now offset)) (type_place (merging_by graph.now other.now offset) t)) (range_with_len 0 (length other.now.types))) }
+    ensures { IfOk result (λ leading. (offset : ℕ) → leading ≡ map (λ t. leads_to_resource (merge_types_without_owns (merge_of_graphs_by graph.now other.now offset)) (merged_type (merge_of_graphs_by graph.now other.now offset) t)) (range_with_len 0 (length other.now.types))) }
 {
     let nothing = Items::from_vec(vec![in alloc; None; graph.types.len()]?);
     let there = leading(alloc, graph.types.as_slice(), nothing)?;
@@ -70,7 +70,7 @@ fn leading(
 ) -> Result<Items<bool>, AllocError>
     requires acyclic { IsAcyclic (type_references types.now) }
     requires long { length known ≡ length types.now }
-    ensures { IfOk result (λ leading. (test : ℕ → Bool) → TellsLeads types.now known test → leading ≡ map test (range_with_len 0 (length types.now))) }
+    ensures { IfOk result (λ leading. (test : ℕ → Bool) → AreLeadFlags types.now known test → leading ≡ map test (range_with_len 0 (length types.now))) }
 {
     let mut known = known;
     let mut leading = Items::new(alloc);
@@ -88,7 +88,7 @@ fn leads(types: &[TypeDef], known: &Items<Option<bool>>, place: usize) -> bool
     requires acyclic { IsAcyclic (type_references types.now) }
     requires long { length known.now ≡ length types.now }
     requires there { place < length types.now }
-    ensures { (test : ℕ → Bool) → TellsLeads types.now known.now test → result ≡ test place }
+    ensures { (test : ℕ → Bool) → AreLeadFlags types.now known.now test → result ≡ test place }
 {
     let mut place = place;
     while let Some(target) = next(types, known, place) {
@@ -106,7 +106,7 @@ fn note_way(types: &[TypeDef], known: &mut Items<Option<bool>>, place: usize, le
     requires long { length known.old ≡ length types.now }
     requires there { place < length types.now }
     ensures long { length known.new ≡ length types.now }
-    ensures tells { (test : ℕ → Bool) → TellsLeads types.now known.old test → test place ≡ leads → TellsLeads types.now known.new test }
+    ensures tells { (test : ℕ → Bool) → AreLeadFlags types.now known.old test → test place ≡ leads → AreLeadFlags types.now known.new test }
 {
     let mut place = place;
     while let Some(target) = next(types, known, place) {

@@ -10,12 +10,12 @@ mod leading;
 mod names;
 mod owning;
 mod packages;
-mod partners;
+mod counterparts;
 mod parts;
 mod results;
 mod stabilities;
 mod types;
-mod uniting;
+mod union_plan;
 mod whole;
 mod worlds;
 

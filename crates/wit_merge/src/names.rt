@@ -1,7 +1,7 @@
 //! Tables that take the names of what moves.
 ghost use Rattle.std.specs.Prelude.{◌≡◌, ◌++◌, IfOk, OnOk};
 ghost use Rattle.wit_values.specs.Table.{HasDistinctKeys};
-ghost use Rattle.wit_merge_match.specs.steps.Going.{moves};
+ghost use Rattle.wit_merge_match.specs.steps.MergeRemaps.{moves};
 ghost use Rattle.wit_remap.specs.steps.Movers.{goes};
 ghost use Rattle.wit_merge.specs.steps.Joined.{moved_names};
 
@@ -19,7 +19,7 @@ pub(crate) fn moves<S>(found: &Items<Option<Id<S>>>, index: usize) -> bool
     }
 }
 
-/// Where a thing goes. One that isn't there stays.
+/// What a thing is remapped to. One that isn't there stays.
 fn goes<S>(places: &Items<Option<Id<S>>>, id: &Id<S>) -> Result<Id<S>, AllocError>
     ensures { IfOk result (λ place. place ≡ goes places.now id.now) }
 {
@@ -29,7 +29,7 @@ fn goes<S>(places: &Items<Option<Id<S>>>, id: &Id<S>) -> Result<Id<S>, AllocErro
     }
 }
 
-/// Adds those entries of another table whose things move, with where these go.
+/// Adds those entries of another table whose things move, with what these are remapped to.
 pub(crate) fn push_moved<S>(
     into: &mut Names<Id<S>>,
     from: &Names<Id<S>>,

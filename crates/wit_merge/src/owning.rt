@@ -3,11 +3,11 @@ ghost use Rattle.std.specs.Prelude.{◌≡◌, ◌+◌, ◌^◌, ◌<◌, ℕ, I
 ghost use Rattle.std.specs.List.{range_with_len};
 ghost use Rattle.wit_elaboration.specs.Valid.{IsValid};
 ghost use Rattle.wit_link_spec.specs.Ranks.{rank};
-ghost use Rattle.wit_merge_spec.specs.Moved.{added_owns, needs_own};
-ghost use Rattle.wit_merge_match.specs.Differing.{merging_by};
-ghost use Rattle.wit_merge_match.specs.steps.Found.{AreMatches};
-ghost use Rattle.wit_merge_match.specs.steps.Going.{going_of, moves};
-ghost use Rattle.wit_merge.specs.steps.Uniting.{value_places};
+ghost use Rattle.wit_merge_spec.specs.Remapped.{merged_value_needs_own, owns_of_merge};
+ghost use Rattle.wit_merge_match.specs.Differing.{merge_of_graphs_by};
+ghost use Rattle.wit_merge_match.specs.steps.Matched.{AreMatches};
+ghost use Rattle.wit_merge_match.specs.steps.MergeRemaps.{merge_remap_of, moves};
+ghost use Rattle.wit_merge.specs.steps.UnionSteps.{value_ids};
 
 use crate::asked::asked;
 use crate::leading::leading_types;
@@ -17,9 +17,9 @@ use wit_data::{Items, TypeId};
 use wit_graph_data::Graph;
 use wit_link_resources::{own_of, type_place};
 use wit_link_spec::Values;
-use wit_merge_match::{Going, Matches};
+use wit_merge_match::{MergeRemap, Matches};
 
-/// Where types go at value positions, and the `own`s that come for that. The offset by which spans move is for the
+/// What types are remapped to at value positions, and the `own`s that come for that. The offset by which spans move is for the
 /// contract alone.
 ///
 /// It takes a step for each type of the two graphs, and for each part of what moves.
@@ -28,30 +28,30 @@ pub(crate) fn values(
     graph: &Graph,
     other: &Graph,
     matches: &Matches,
-    going: &Going,
+    merge_remap: &MergeRemap,
     _offset: u32,
 ) -> Result<Values, AllocError>
     requires valid { IsValid graph.now }
     requires valid_other { IsValid other.now }
     requires matches { AreMatches graph.now other.now matches.now }
-    requires going { going.now ≡ going_of (merging_by graph.now other.now _offset) }
-    ensures { IfOk result (λ values. (values.places ≡ value_places (merging_by graph.now other.now _offset)) × (values.owns ≡ added_owns (merging_by graph.now other.now _offset))) }
+    requires merge_remap { merge_remap.now ≡ merge_remap_of (merge_of_graphs_by graph.now other.now _offset) }
+    ensures { IfOk result (λ values. (values.places ≡ value_ids (merge_of_graphs_by graph.now other.now _offset)) × (values.owns ≡ owns_of_merge (merge_of_graphs_by graph.now other.now _offset))) }
 {
     let needed = needed(alloc, graph, other, matches)?;
     let first = first_own(graph, &matches.types);
-    let mut value_places = Items::new(alloc);
+    let mut value_ids = Items::new(alloc);
     let mut owns = Items::new(alloc);
     for place in 0..needed.len() {
-        let id = type_place(&going.places, place);
+        let id = type_place(&merge_remap.places, place);
         if *needed.at(place) {
-            value_places.push(TypeId::from_index(first + owns.len()))?;
+            value_ids.push(TypeId::from_index(first + owns.len()))?;
             owns.push(own_of(id))?;
         } else {
-            value_places.push(id)?;
+            value_ids.push(id)?;
         }
     }
     Ok(Values {
-        places: value_places,
+        places: value_ids,
         owns,
     })
 }
@@ -66,7 +66,7 @@ fn needed(
     requires valid { IsValid graph.now }
     requires valid_other { IsValid other.now }
     requires matches { AreMatches graph.now other.now matches.now }
-    ensures { IfOk result (λ needed. (offset : ℕ) → needed ≡ map (needs_own (merging_by graph.now other.now offset)) (range_with_len 0 (length other.now.types))) }
+    ensures { IfOk result (λ needed. (offset : ℕ) → needed ≡ map (merged_value_needs_own (merge_of_graphs_by graph.now other.now offset)) (range_with_len 0 (length other.now.types))) }
 {
     let asked = asked(alloc, graph, other, matches)?;
     let leading = leading_types(alloc, graph, other, matches)?;

@@ -3,11 +3,11 @@ ghost use Rattle.std.specs.Prelude.{◌≡◌, ◌++◌, IfOk, OnOk};
 ghost use Rattle.wit_values.specs.Table.{HasDistinctKeys};
 ghost use Rattle.wit_merge_spec.specs.United.{joined_graph};
 ghost use Rattle.wit_merge.specs.steps.Joined.{moved_names};
-ghost use Rattle.wit_merge.specs.steps.Uniting.{IsReady, merging_of};
+ghost use Rattle.wit_merge.specs.steps.UnionSteps.{CanUnite, merging_of};
 
 use crate::names::{moves, push_moved};
 use crate::parts::{Part, joined_list};
-use crate::uniting::Uniting;
+use crate::union_plan::UnionPlan;
 use std::alloc::{AllocError, Global};
 use wit_data::{Items, Names, PackageId, PackageName, Table, TryClone};
 use wit_graph_data::Package;
@@ -29,7 +29,7 @@ impl Part for Package {
     fn moved(
         &self,
         alloc: Global,
-        uniting: &Uniting<'_>,
+        uniting: &UnionPlan<'_>,
         _place: usize,
     ) -> Result<Package, AllocError> {
         let mut moved = Package {
@@ -45,7 +45,7 @@ impl Part for Package {
     fn joined(
         &self,
         _alloc: Global,
-        uniting: &Uniting<'_>,
+        uniting: &UnionPlan<'_>,
         _place: usize,
         from: &Package,
     ) -> Result<Package, AllocError> {
@@ -56,15 +56,15 @@ impl Part for Package {
 }
 
 /// Adds the interfaces and worlds of a package of the other graph that move.
-fn push_tables(uniting: &Uniting<'_>, into: &mut Package, from: &Package) -> Result<(), AllocError>
-    requires interfaces { HasDistinctKeys (into.old.interfaces ++ moved_names uniting.now.matches.now.interfaces uniting.now.going.now.places.interfaces from.now.interfaces) }
-    requires worlds { HasDistinctKeys (into.old.worlds ++ moved_names uniting.now.matches.now.worlds uniting.now.going.now.places.worlds from.now.worlds) }
+fn push_tables(uniting: &UnionPlan<'_>, into: &mut Package, from: &Package) -> Result<(), AllocError>
+    requires interfaces { HasDistinctKeys (into.old.interfaces ++ moved_names uniting.now.matches.now.interfaces uniting.now.merge_remap.now.places.interfaces from.now.interfaces) }
+    requires worlds { HasDistinctKeys (into.old.worlds ++ moved_names uniting.now.matches.now.worlds uniting.now.merge_remap.now.places.worlds from.now.worlds) }
     ensures { OnOk result (into.new ≡ record into.old {
-      interfaces = into.old.interfaces ++ moved_names uniting.now.matches.now.interfaces uniting.now.going.now.places.interfaces from.now.interfaces;
-      worlds = into.old.worlds ++ moved_names uniting.now.matches.now.worlds uniting.now.going.now.places.worlds from.now.worlds;
+      interfaces = into.old.interfaces ++ moved_names uniting.now.matches.now.interfaces uniting.now.merge_remap.now.places.interfaces from.now.interfaces;
+      worlds = into.old.worlds ++ moved_names uniting.now.matches.now.worlds uniting.now.merge_remap.now.places.worlds from.now.worlds;
     }) }
 {
-    let (matches, places) = (uniting.matches, &uniting.going.places);
+    let (matches, places) = (uniting.matches, &uniting.merge_remap.places);
     push_moved(
         &mut into.interfaces,
         &from.interfaces,
@@ -82,9 +82,9 @@ fn push_tables(uniting: &Uniting<'_>, into: &mut Package, from: &Package) -> Res
 /// The packages of the two as one.
 pub(crate) fn joined_packages(
     alloc: Global,
-    uniting: &Uniting<'_>,
+    uniting: &UnionPlan<'_>,
 ) -> Result<Items<Package>, AllocError>
-    requires { IsReady uniting.now }
+    requires { CanUnite uniting.now }
     ensures { IfOk result (λ packages. packages ≡ (joined_graph (merging_of uniting.now)).packages) }
 {
     let found = &uniting.matches.packages;
@@ -94,15 +94,15 @@ pub(crate) fn joined_packages(
 
 /// The names of the packages of the two as one.
 pub(crate) fn joined_names(
-    uniting: &Uniting<'_>,
+    uniting: &UnionPlan<'_>,
 ) -> Result<Table<PackageName, PackageId>, AllocError>
-    requires { IsReady uniting.now }
+    requires { CanUnite uniting.now }
     ensures { IfOk result (λ names. names ≡ (joined_graph (merging_of uniting.now)).package_names) }
 {
     let mut names = uniting.graph.package_names.try_clone()?;
     for (name, id) in uniting.other.package_names.iter() {
         if moves(&uniting.matches.packages, id.index()) {
-            names.push(name.try_clone()?, uniting.package_place(*id))?;
+            names.push(name.try_clone()?, uniting.merged_package(*id))?;
         }
     }
     Ok(names)

@@ -2,35 +2,35 @@
 ghost use Rattle.std.specs.Prelude.{◌≡◌, ◌++◌, ℕ, IfOk, None, Some, get_or, length, map, slice_get, true};
 ghost use Rattle.std.specs.List.{enumerate_from};
 ghost use Rattle.std.specs.Option.{option_map_or};
-ghost use Rattle.wit_link_spec.specs.Ranks.{taken_places};
-ghost use Rattle.wit_merge_match.specs.steps.Going.{moves};
-ghost use Rattle.wit_merge_spec.specs.Matches.{Merging, partner};
-ghost use Rattle.wit_merge.specs.steps.Partners.{placed_at};
-ghost use Rattle.wit_merge.specs.steps.Uniting.{IsReady, merging_of};
+ghost use Rattle.wit_link_spec.specs.Ranks.{selected_with_index};
+ghost use Rattle.wit_merge_match.specs.steps.MergeRemaps.{moves};
+ghost use Rattle.wit_merge_spec.specs.Matches.{GraphMerge, counterpart_of};
+ghost use Rattle.wit_merge.specs.steps.Counterparts.{placed_at};
+ghost use Rattle.wit_merge.specs.steps.UnionSteps.{CanUnite, merging_of};
 
 use crate::names::moves;
-use crate::partners::partners;
-use crate::uniting::Uniting;
+use crate::counterparts::counterparts;
+use crate::union_plan::UnionPlan;
 use std::alloc::{AllocError, Global};
 use wit_data::{Id, Items, TryClone};
 
 /// What stands in a list of a graph.
 pub(crate) trait Part: TryClone + Drop {
     /// What is asked of one that moves, which comes with its place.
-    ghost can_move: { Merging → ℕ × Self → Type 0 };
+    ghost can_move: { GraphMerge → ℕ × Self → Type 0 };
 
     /// What becomes of one that moves.
-    ghost image: { Merging → ℕ × Self → Self };
+    ghost image: { GraphMerge → ℕ × Self → Self };
 
     /// What is asked of two, of which the first comes with its place.
-    ghost can_join: { Merging → ℕ × Self → Self → Type 0 };
+    ghost can_join: { GraphMerge → ℕ × Self → Self → Type 0 };
 
     /// What is made of two.
-    ghost union: { Merging → ℕ × Self → Self → Self };
+    ghost union: { GraphMerge → ℕ × Self → Self → Self };
 
     /// A copy as it comes to be where it goes; it stands at a place of the other graph.
-    fn moved(&self, alloc: Global, uniting: &Uniting<'_>, place: usize) -> Result<Self, AllocError>
-        requires ready { IsReady uniting.now }
+    fn moved(&self, alloc: Global, uniting: &UnionPlan<'_>, place: usize) -> Result<Self, AllocError>
+        requires ready { CanUnite uniting.now }
         requires can { can_move (merging_of uniting.now) (place, self.now) }
         ensures { IfOk result (λ made. made ≡ image (merging_of uniting.now) (place, self.now)) };
 
@@ -38,11 +38,11 @@ pub(crate) trait Part: TryClone + Drop {
     fn joined(
         &self,
         alloc: Global,
-        uniting: &Uniting<'_>,
+        uniting: &UnionPlan<'_>,
         place: usize,
         from: &Self,
     ) -> Result<Self, AllocError>
-        requires ready { IsReady uniting.now }
+        requires ready { CanUnite uniting.now }
         requires can { can_join (merging_of uniting.now) (place, from.now) self.now }
         ensures { IfOk result (λ made. made ≡ union (merging_of uniting.now) (place, from.now) self.now) };
 }
@@ -51,16 +51,16 @@ pub(crate) trait Part: TryClone + Drop {
 /// those of the other graph that move.
 pub(crate) fn joined_list<S, T: Part>(
     alloc: Global,
-    uniting: &Uniting<'_>,
+    uniting: &UnionPlan<'_>,
     found: &Items<Option<Id<S>>>,
     others: &Items<T>,
     ours: &Items<T>,
 ) -> Result<Items<T>, AllocError>
-    requires ready { IsReady uniting.now }
+    requires ready { CanUnite uniting.now }
     requires long { length found.now ≡ length others.now }
     requires joining { (x x' : ℕ) (from into : T) → slice_get others.now x ≡ Some from → get_or found.now x None ≡ Some x' → slice_get ours.now x' ≡ Some into → T.can_join (merging_of uniting.now) (x, from) into }
     requires moving { (x : ℕ) (from : T) → slice_get others.now x ≡ Some from → moves found.now x ≡ true → T.can_move (merging_of uniting.now) (x, from) }
-    ensures { IfOk result (λ made. made ≡ map (λ (e : ℕ × T). option_map_or (λ (p : ℕ × T). T.union (merging_of uniting.now) p e.1) (partner (λ x. get_or found.now x None) others.now e.0) e.1) (enumerate_from 0 ours.now) ++ map (T.image (merging_of uniting.now)) (taken_places (moves found.now) others.now)) }
+    ensures { IfOk result (λ made. made ≡ map (λ (e : ℕ × T). option_map_or (λ (p : ℕ × T). T.union (merging_of uniting.now) p e.1) (counterpart_of (λ x. get_or found.now x None) others.now e.0) e.1) (enumerate_from 0 ours.now) ++ map (T.image (merging_of uniting.now)) (selected_with_index (moves found.now) others.now)) }
 {
     let mut made = join_all(alloc, uniting, found, others, ours)?;
     made.append(move_all(alloc, uniting, found, others)?)?;
@@ -70,21 +70,21 @@ pub(crate) fn joined_list<S, T: Part>(
 /// Those of the graph.
 fn join_all<S, T: Part>(
     alloc: Global,
-    uniting: &Uniting<'_>,
+    uniting: &UnionPlan<'_>,
     found: &Items<Option<Id<S>>>,
     others: &Items<T>,
     ours: &Items<T>,
 ) -> Result<Items<T>, AllocError>
-    requires ready { IsReady uniting.now }
+    requires ready { CanUnite uniting.now }
     requires long { length found.now ≡ length others.now }
     requires can { (x x' : ℕ) (from into : T) → slice_get others.now x ≡ Some from → get_or found.now x None ≡ Some x' → slice_get ours.now x' ≡ Some into → T.can_join (merging_of uniting.now) (x, from) into }
-    ensures { IfOk result (λ made. made ≡ map (λ (e : ℕ × T). option_map_or (λ (p : ℕ × T). T.union (merging_of uniting.now) p e.1) (partner (λ x. get_or found.now x None) others.now e.0) e.1) (enumerate_from 0 ours.now)) }
+    ensures { IfOk result (λ made. made ≡ map (λ (e : ℕ × T). option_map_or (λ (p : ℕ × T). T.union (merging_of uniting.now) p e.1) (counterpart_of (λ x. get_or found.now x None) others.now e.0) e.1) (enumerate_from 0 ours.now)) }
 {
-    let partners = partners(alloc, found, ours.len())?;
+    let counterparts = counterparts(alloc, found, ours.len())?;
     let mut made = Items::new(alloc);
     for index in 0..ours.len() {
         let into = ours.at(index);
-        let place = *partners.at(index);
+        let place = *counterparts.at(index);
         made.push(join_one(alloc, uniting, others, place, into)?)?;
     }
     Ok(made)
@@ -93,12 +93,12 @@ fn join_all<S, T: Part>(
 /// A copy of a thing, with the one at a place joined to it, if there is one.
 fn join_one<T: Part>(
     alloc: Global,
-    uniting: &Uniting<'_>,
+    uniting: &UnionPlan<'_>,
     others: &Items<T>,
     place: Option<usize>,
     into: &T,
 ) -> Result<T, AllocError>
-    requires ready { IsReady uniting.now }
+    requires ready { CanUnite uniting.now }
     requires can { (x : ℕ) (from : T) → place ≡ Some x → slice_get others.now x ≡ Some from → T.can_join (merging_of uniting.now) (x, from) into.now }
     ensures { IfOk result (λ made. made ≡ option_map_or (λ (p : ℕ × T). T.union (merging_of uniting.now) p into.now) (placed_at others.now place) into.now) }
 {
@@ -114,13 +114,13 @@ fn join_one<T: Part>(
 /// Those that move.
 fn move_all<S, T: Part>(
     alloc: Global,
-    uniting: &Uniting<'_>,
+    uniting: &UnionPlan<'_>,
     found: &Items<Option<Id<S>>>,
     others: &Items<T>,
 ) -> Result<Items<T>, AllocError>
-    requires ready { IsReady uniting.now }
+    requires ready { CanUnite uniting.now }
     requires can { (x : ℕ) (from : T) → slice_get others.now x ≡ Some from → moves found.now x ≡ true → T.can_move (merging_of uniting.now) (x, from) }
-    ensures { IfOk result (λ made. made ≡ map (T.image (merging_of uniting.now)) (taken_places (moves found.now) others.now)) }
+    ensures { IfOk result (λ made. made ≡ map (T.image (merging_of uniting.now)) (selected_with_index (moves found.now) others.now)) }
 {
     let mut made = Items::new(alloc);
     for index in 0..others.len() {

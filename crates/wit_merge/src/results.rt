@@ -3,15 +3,15 @@ ghost use Rattle.std.specs.Prelude.{◌≡◌, ◌⊎◌, ℕ, List, None, Conta
 ghost use Rattle.wit_graph_data.specs.declared.cause.Cause.TheVariants as cause;
 ghost use Rattle.wit_graph_data.specs.declared.error_kind.ResolveErrorKind.TheVariants.{OutOfMemory, Semantic};
 ghost use Rattle.wit_link_spec.specs.CauseText.{borrow_text};
-ghost use Rattle.wit_merge_spec.specs.Moved.{moved_functions};
-ghost use Rattle.wit_merge_spec.specs.Reasons.{ReturnsBorrow};
+ghost use Rattle.wit_merge_spec.specs.Remapped.{moved_functions};
+ghost use Rattle.wit_merge_spec.specs.Reasons.{MergeReturnsBorrow};
 ghost use Rattle.wit_merge_spec.specs.United.{joined_graph};
 ghost use Rattle.wit_link_resources.specs.steps.Borrows.{AreFreeTypes};
-ghost use Rattle.wit_merge.specs.facts.Returned.{ReturnsFree, TellsBorrow};
-ghost use Rattle.wit_merge.specs.steps.Uniting.{IsReady, merging_of};
+ghost use Rattle.wit_merge.specs.facts.Returned.{IsBorrowError, ReturnsFree};
+ghost use Rattle.wit_merge.specs.steps.UnionSteps.{CanUnite, merging_of};
 
 use crate::functions::moved_functions;
-use crate::uniting::Uniting;
+use crate::union_plan::UnionPlan;
 use indexmap::IndexSet;
 use std::alloc::{AllocError, Global};
 use wit_data::{Function, Span, Text, TypeDef};
@@ -23,13 +23,13 @@ use wit_link_resources::{holds_borrow, result_type};
 /// It takes a step for each function that moves, and for each type that their results hold, once for all functions.
 pub(crate) fn check_results(
     alloc: Global,
-    uniting: &Uniting<'_>,
+    uniting: &UnionPlan<'_>,
     types: &[TypeDef],
 ) -> ResolveResult<()>
-    requires ready { IsReady uniting.now }
+    requires ready { CanUnite uniting.now }
     requires types { types.now ≡ (joined_graph (merging_of uniting.now)).types }
-    ensures none { OnOk result ((message : List ℕ) → ReturnsBorrow (merging_of uniting.now) message → ⊥) }
-    ensures cause { IfErr result (λ kind. (kind ≡ OutOfMemory) ⊎ TellsBorrow (merging_of uniting.now) kind) }
+    ensures none { OnOk result ((message : List ℕ) → MergeReturnsBorrow (merging_of uniting.now) message → ⊥) }
+    ensures cause { IfErr result (λ kind. (kind ≡ OutOfMemory) ⊎ IsBorrowError (merging_of uniting.now) kind) }
 {
     let functions = moved_functions(alloc, uniting.graph, uniting.other, uniting.matches)?;
     let mut free = IndexSet::new(alloc);
@@ -42,18 +42,18 @@ pub(crate) fn check_results(
 /// Refuses one function that moves, where its result holds a borrow.
 fn check_result(
     alloc: Global,
-    uniting: &Uniting<'_>,
+    uniting: &UnionPlan<'_>,
     types: &[TypeDef],
     free: &mut IndexSet<usize>,
     function: &Function,
 ) -> ResolveResult<()>
-    requires ready { IsReady uniting.now }
+    requires ready { CanUnite uniting.now }
     requires types { types.now ≡ (joined_graph (merging_of uniting.now)).types }
     requires moved { Contains (moved_functions (merging_of uniting.now)) function.now }
     requires free { AreFreeTypes types.now free.old.keys }
     ensures none { OnOk result (ReturnsFree (merging_of uniting.now) function.now) }
     ensures free { OnOk result (AreFreeTypes types.now free.new.keys) }
-    ensures cause { IfErr result (λ kind. (kind ≡ OutOfMemory) ⊎ TellsBorrow (merging_of uniting.now) kind) }
+    ensures cause { IfErr result (λ kind. (kind ≡ OutOfMemory) ⊎ IsBorrowError (merging_of uniting.now) kind) }
 {
     let Some(id) = result_type(function) else {
         return Ok(());

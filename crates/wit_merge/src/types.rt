@@ -1,12 +1,12 @@
 //! The types of two graphs as one.
 ghost use Rattle.std.specs.Prelude.{◌≡◌, IfOk};
-ghost use Rattle.wit_merge_spec.specs.Moved.{added_owns};
+ghost use Rattle.wit_merge_spec.specs.Remapped.{owns_of_merge};
 ghost use Rattle.wit_merge_spec.specs.United.{joined_graph};
-ghost use Rattle.wit_merge.specs.steps.Uniting.{IsReady, merging_of};
+ghost use Rattle.wit_merge.specs.steps.UnionSteps.{CanUnite, merging_of};
 
 use crate::parts::{Part, joined_list};
 use crate::stabilities::join_stability;
-use crate::uniting::Uniting;
+use crate::union_plan::UnionPlan;
 use std::alloc::{AllocError, Global};
 use wit_data::{Items, TryClone, TypeDef};
 use wit_remap::Place;
@@ -15,7 +15,7 @@ use wit_remap::Place;
 impl Part for TypeDef {
     ghost use Rattle.wit_graph_theory.specs.Image.{type_image};
     ghost use Rattle.wit_merge_spec.specs.Joined.{with_type};
-    ghost use Rattle.wit_merge_spec.specs.Moved.{merge_maps};
+    ghost use Rattle.wit_merge_spec.specs.Remapped.{merge_maps};
     ghost use Rattle.wit_merge.specs.steps.Joined.{TypeMoves};
 
     ghost can_move = { λ m e. TypeMoves m e.1 };
@@ -29,7 +29,7 @@ impl Part for TypeDef {
     fn moved(
         &self,
         _alloc: Global,
-        uniting: &Uniting<'_>,
+        uniting: &UnionPlan<'_>,
         _place: usize,
     ) -> Result<TypeDef, AllocError> {
         let mut moved = self.try_clone()?;
@@ -40,7 +40,7 @@ impl Part for TypeDef {
     fn joined(
         &self,
         _alloc: Global,
-        _uniting: &Uniting<'_>,
+        _uniting: &UnionPlan<'_>,
         _place: usize,
         from: &TypeDef,
     ) -> Result<TypeDef, AllocError> {
@@ -54,11 +54,11 @@ impl Part for TypeDef {
 /// the `own`s that values ask for.
 pub(crate) fn joined_types(
     alloc: Global,
-    uniting: &Uniting<'_>,
+    uniting: &UnionPlan<'_>,
     owns: Items<TypeDef>,
 ) -> Result<Items<TypeDef>, AllocError>
-    requires ready { IsReady uniting.now }
-    requires owns { owns ≡ added_owns (merging_of uniting.now) }
+    requires ready { CanUnite uniting.now }
+    requires owns { owns ≡ owns_of_merge (merging_of uniting.now) }
     ensures { IfOk result (λ types. types ≡ (joined_graph (merging_of uniting.now)).types) }
 {
     let found = &uniting.matches.types;

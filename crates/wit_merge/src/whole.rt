@@ -3,12 +3,12 @@ ghost use Rattle.std.specs.Prelude.{◌≡◌, ◌⊎◌, ℕ, IfErr, IfOk, List
 ghost use Rattle.wit_elaboration.specs.Valid.{IsValid};
 ghost use Rattle.wit_graph_data.specs.declared.error_kind.ResolveErrorKind.{ResolveErrorKind};
 ghost use Rattle.wit_graph_data.specs.declared.error_kind.ResolveErrorKind.TheVariants.{OutOfMemory};
-ghost use Rattle.wit_merge_match.specs.Differing.{merging_by};
-ghost use Rattle.wit_merge_match.specs.steps.Found.{AreMatches};
-ghost use Rattle.wit_merge_match.specs.steps.Going.{going_of};
-ghost use Rattle.wit_merge_spec.specs.Moved.{going as ids_of};
+ghost use Rattle.wit_merge_match.specs.Differing.{merge_of_graphs_by};
+ghost use Rattle.wit_merge_match.specs.steps.Matched.{AreMatches};
+ghost use Rattle.wit_merge_match.specs.steps.MergeRemaps.{merge_remap_of};
+ghost use Rattle.wit_merge_spec.specs.Remapped.{merge_remap as ids_of};
 ghost use Rattle.wit_merge_spec.specs.Cause.{IsMergeCause};
-ghost use Rattle.wit_merge_spec.specs.Reasons.{ReturnsBorrow};
+ghost use Rattle.wit_merge_spec.specs.Reasons.{MergeReturnsBorrow};
 ghost use Rattle.wit_merge_spec.specs.United.{joined_graph, united};
 ghost use Rattle.wit_merge.specs.facts.Agreeing.{DoAgree};
 ghost use Rattle.wit_merge.specs.Remapped.{remap_of};
@@ -16,16 +16,16 @@ ghost use Rattle.wit_merge.specs.Remapped.{remap_of};
 use crate::agreement::check_agreement;
 use crate::joined::joined_graph;
 use crate::owning::values;
-use crate::partners::partners;
+use crate::counterparts::counterparts;
 use crate::results::check_results;
-use crate::uniting::Uniting;
+use crate::union_plan::UnionPlan;
 use std::alloc::Global;
 use wit_graph_data::{Graph, ResolveResult};
-use wit_link_spec::{Places, Values};
+use wit_link_spec::{NewIds, Values};
 use wit_merge_laws::laws::unions_stay_valid;
-use wit_merge_match::{Going, Matches, find_matches, find_places};
+use wit_merge_match::{MergeRemap, Matches, find_matches, find_remap};
 use wit_remap::Remap;
-use wit_unite_common::settle;
+use wit_unite_common::check_and_elaborate;
 
 /// A graph that another one was merged into, and where the things of that one are now.
 #[derive(Drop)]
@@ -46,11 +46,11 @@ pub fn unite(
 ) -> ResolveResult<(Graph, Remap)>
     requires valid { IsValid graph.now }
     requires other { IsValid other }
-    ensures ok { IfOk result (λ made. made.0 ≡ united (merging_by graph.now other offset)) }
-    ensures remap { IfOk result (λ made. made.1 ≡ remap_of (ids_of (merging_by graph.now other offset))) }
+    ensures ok { IfOk result (λ made. made.0 ≡ united (merge_of_graphs_by graph.now other offset)) }
+    ensures remap { IfOk result (λ made. made.1 ≡ remap_of (ids_of (merge_of_graphs_by graph.now other offset))) }
     ensures valid { IfOk result (λ made. IsValid made.0) }
-    ensures cause { IfErr result (λ e. (e ≡ OutOfMemory) ⊎ IsMergeCause (merging_by graph.now other offset) e) }
-    ensures refuses { (e : ResolveErrorKind) → IsMergeCause (merging_by graph.now other offset) e → OnOk result ⊥ }
+    ensures cause { IfErr result (λ e. (e ≡ OutOfMemory) ⊎ IsMergeCause (merge_of_graphs_by graph.now other offset) e) }
+    ensures refuses { (e : ResolveErrorKind) → IsMergeCause (merge_of_graphs_by graph.now other offset) e → OnOk result ⊥ }
 {
     let United {
         graph: union_graph,
@@ -71,30 +71,30 @@ pub fn unite(
 pub fn union_of(alloc: Global, graph: &Graph, other: &Graph, offset: u32) -> ResolveResult<United>
     requires valid { IsValid graph.now }
     requires other { IsValid other.now }
-    ensures graph { IfOk result (λ made. made.graph ≡ united (merging_by graph.now other.now offset)) }
-    ensures remap { IfOk result (λ made. made.remap ≡ remap_of (ids_of (merging_by graph.now other.now offset))) }
+    ensures graph { IfOk result (λ made. made.graph ≡ united (merge_of_graphs_by graph.now other.now offset)) }
+    ensures remap { IfOk result (λ made. made.remap ≡ remap_of (ids_of (merge_of_graphs_by graph.now other.now offset))) }
     ensures valid { IfOk result (λ made. IsValid made.graph) }
-    ensures cause { IfErr result (λ e. (e ≡ OutOfMemory) ⊎ IsMergeCause (merging_by graph.now other.now offset) e) }
-    ensures refuses { (e : ResolveErrorKind) → IsMergeCause (merging_by graph.now other.now offset) e → OnOk result ⊥ }
+    ensures cause { IfErr result (λ e. (e ≡ OutOfMemory) ⊎ IsMergeCause (merge_of_graphs_by graph.now other.now offset) e) }
+    ensures refuses { (e : ResolveErrorKind) → IsMergeCause (merge_of_graphs_by graph.now other.now offset) e → OnOk result ⊥ }
 {
     unions_stay_valid();
     let matches = find_matches(alloc, graph, other)?;
     check_agreement(alloc, graph, other, &matches, offset)?;
-    let going = find_places(alloc, graph, other, &matches)?;
-    let mut joined = as_listed(alloc, graph, other, &matches, &going, offset)?;
-    settle(alloc, &mut joined)?;
+    let merge_remap = find_remap(alloc, graph, other, &matches)?;
+    let mut joined = as_listed(alloc, graph, other, &matches, &merge_remap, offset)?;
+    check_and_elaborate(alloc, &mut joined)?;
     Ok(United {
         graph: joined,
-        remap: into_remap(going),
+        remap: into_remap(merge_remap),
     })
 }
 
 /// Where things are now, as it is answered.
-fn into_remap(going: Going) -> Remap
-    ensures { result ≡ record { types = going.places.types; interfaces = going.places.interfaces; worlds = going.places.worlds; packages = going.packages } }
+fn into_remap(merge_remap: MergeRemap) -> Remap
+    ensures { result ≡ record { types = merge_remap.places.types; interfaces = merge_remap.places.interfaces; worlds = merge_remap.places.worlds; packages = merge_remap.packages } }
 {
-    let Going { places, packages } = going;
-    let Places {
+    let MergeRemap { places, packages } = merge_remap;
+    let NewIds {
         types,
         interfaces,
         worlds,
@@ -108,30 +108,30 @@ fn as_listed(
     graph: &Graph,
     other: &Graph,
     matches: &Matches,
-    going: &Going,
+    merge_remap: &MergeRemap,
     offset: u32,
 ) -> ResolveResult<Graph>
     requires valid { IsValid graph.now }
     requires other { IsValid other.now }
-    requires agree { DoAgree (merging_by graph.now other.now offset) }
+    requires agree { DoAgree (merge_of_graphs_by graph.now other.now offset) }
     requires matches { AreMatches graph.now other.now matches.now }
-    requires going { going.now ≡ going_of (merging_by graph.now other.now offset) }
-    ensures joined { IfOk result (λ joined. joined ≡ joined_graph (merging_by graph.now other.now offset)) }
-    ensures none { OnOk result ((message : List ℕ) → ReturnsBorrow (merging_by graph.now other.now offset) message → ⊥) }
-    ensures cause { IfErr result (λ e. (e ≡ OutOfMemory) ⊎ IsMergeCause (merging_by graph.now other.now offset) e) }
+    requires merge_remap { merge_remap.now ≡ merge_remap_of (merge_of_graphs_by graph.now other.now offset) }
+    ensures joined { IfOk result (λ joined. joined ≡ joined_graph (merge_of_graphs_by graph.now other.now offset)) }
+    ensures none { OnOk result ((message : List ℕ) → MergeReturnsBorrow (merge_of_graphs_by graph.now other.now offset) message → ⊥) }
+    ensures cause { IfErr result (λ e. (e ≡ OutOfMemory) ⊎ IsMergeCause (merge_of_graphs_by graph.now other.now offset) e) }
 {
     let Values {
-        places: value_places,
+        places: value_ids,
         owns,
-    } = values(alloc, graph, other, matches, going, offset)?;
-    let partners = partners(alloc, &matches.interfaces, graph.interfaces.len())?;
-    let uniting = Uniting {
+    } = values(alloc, graph, other, matches, merge_remap, offset)?;
+    let counterparts = counterparts(alloc, &matches.interfaces, graph.interfaces.len())?;
+    let uniting = UnionPlan {
         graph,
         other,
         matches,
-        going,
-        values: &value_places,
-        partners: &partners,
+        merge_remap,
+        values: &value_ids,
+        counterparts: &counterparts,
         offset,
     };
     let joined = joined_graph(alloc, &uniting, owns)?;

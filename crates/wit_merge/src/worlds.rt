@@ -4,11 +4,11 @@ ghost use Rattle.std.specs.Option.{option_copied};
 ghost use Rattle.wit_values.specs.Table.{HasDistinctKeys};
 ghost use Rattle.wit_merge_spec.specs.United.{joined_graph};
 ghost use Rattle.wit_merge.specs.steps.Joined.{entry_joined, stability_joined, stability_of, stability_under};
-ghost use Rattle.wit_merge.specs.steps.Uniting.{IsReady, merging_of};
+ghost use Rattle.wit_merge.specs.steps.UnionSteps.{CanUnite, merging_of};
 
 use crate::parts::{Part, joined_list};
 use crate::stabilities::join_stability;
-use crate::uniting::Uniting;
+use crate::union_plan::UnionPlan;
 use std::alloc::{AllocError, Global};
 use std::mem;
 use wit_data::{InterfaceId, Items, Stability, Table, TryClone, World, WorldItem, WorldKey};
@@ -19,7 +19,7 @@ use wit_remap::{Moves, placed_entries};
 impl Part for World {
     ghost use Rattle.wit_graph_theory.specs.Image.{world_image};
     ghost use Rattle.wit_merge_spec.specs.Joined.{with_world};
-    ghost use Rattle.wit_merge_spec.specs.Moved.{merge_maps};
+    ghost use Rattle.wit_merge_spec.specs.Remapped.{merge_maps};
     ghost use Rattle.wit_merge.specs.steps.Joined.{WorldJoins, WorldMoves};
 
     ghost can_move = { λ m e. WorldMoves m e.1 };
@@ -33,7 +33,7 @@ impl Part for World {
     fn moved(
         &self,
         alloc: Global,
-        uniting: &Uniting<'_>,
+        uniting: &UnionPlan<'_>,
         _place: usize,
     ) -> Result<World, AllocError> {
         let mover = uniting.mover(self.package);
@@ -52,7 +52,7 @@ impl Part for World {
     fn joined(
         &self,
         alloc: Global,
-        uniting: &Uniting<'_>,
+        uniting: &UnionPlan<'_>,
         _place: usize,
         from: &World,
     ) -> Result<World, AllocError> {
@@ -70,16 +70,16 @@ impl Part for World {
 /// matched.
 fn joined_entries(
     alloc: Global,
-    uniting: &Uniting<'_>,
+    uniting: &UnionPlan<'_>,
     from: &Table<WorldKey, WorldItem>,
     into: &Table<WorldKey, WorldItem>,
 ) -> Result<Table<WorldKey, WorldItem>, AllocError>
     requires { HasDistinctKeys into.now }
-    ensures { IfOk result (λ joined. joined ≡ map (entry_joined uniting.now.partners.now from.now) into.now) }
+    ensures { IfOk result (λ joined. joined ≡ map (entry_joined uniting.now.counterparts.now from.now) into.now) }
 {
     let mut joined = Table::new(alloc);
     for (key, item) in into.iter() {
-        let item = joined_item(item, stability_under(uniting.partners, from, key))?;
+        let item = joined_item(item, stability_under(uniting.counterparts, from, key))?;
         joined.push(key.try_clone()?, item)?;
     }
     Ok(joined)
@@ -101,26 +101,26 @@ fn joined_item(item: &WorldItem, stability: Option<&Stability>) -> Result<WorldI
 /// The stability of what stands among entries of the other graph under the interface that is matched with the one of a
 /// key.
 fn stability_under<'a>(
-    partners: &Items<Option<usize>>,
+    counterparts: &Items<Option<usize>>,
     from: &'a Table<WorldKey, WorldItem>,
     key: &WorldKey,
 ) -> Option<&'a Stability>
-    ensures { option_copied result ≡ stability_under partners.now from.now key.now }
+    ensures { option_copied result ≡ stability_under counterparts.now from.now key.now }
 {
     match key {
         WorldKey::Name(_) => None,
         WorldKey::Interface(id) => {
-            let there = WorldKey::Interface(partner_of(partners, *id)?);
+            let there = WorldKey::Interface(counterpart_named(counterparts, *id)?);
             stability_of(from.get(&there)?)
         }
     }
 }
 
 /// The interface of the other graph that is matched with one of the graph.
-fn partner_of(partners: &Items<Option<usize>>, id: InterfaceId) -> Option<InterfaceId>
-    ensures { result ≡ get_or partners.now id None }
+fn counterpart_named(counterparts: &Items<Option<usize>>, id: InterfaceId) -> Option<InterfaceId>
+    ensures { result ≡ get_or counterparts.now id None }
 {
-    match partners.get(id.index()) {
+    match counterparts.get(id.index()) {
         Some(Some(place)) => Some(InterfaceId::from_index(*place)),
         Some(None) => None,
         None => None,
@@ -140,9 +140,9 @@ fn stability_of(item: &WorldItem) -> Option<&Stability>
 /// The worlds of the two as one.
 pub(crate) fn joined_worlds(
     alloc: Global,
-    uniting: &Uniting<'_>,
+    uniting: &UnionPlan<'_>,
 ) -> Result<Items<World>, AllocError>
-    requires { IsReady uniting.now }
+    requires { CanUnite uniting.now }
     ensures { IfOk result (λ worlds. worlds ≡ (joined_graph (merging_of uniting.now)).worlds) }
 {
     let found = &uniting.matches.worlds;

@@ -1,12 +1,12 @@
--- Merges against which nothing speaks.
+-- Merges against which no cause holds.
 use Rattle.std.proofs.Common.{◌-◌, refl}
-use Rattle.wit_digraph.specs.Walks.{walk, walk_within}
+use Rattle.wit_digraph.specs.PostOrder.{post_order, post_order_within}
 use Rattle.wit_merge_structure.specs.Structure.{structure, structure_within}
 use Rattle.wit_merge_examples.proofs.Passing.{can_merge}
 use Rattle.wit_merge_examples.specs.Refusals.{ExamplesOfAccepted}
 
 pub accepted : ExamplesOfAccepted
-unfolding walk walk_within structure structure_within
+unfolding post_order post_order_within structure structure_within
 accepted = record {
   nothing_comes = can_merge _ (record { interfaces = refl; worlds = refl; types = refl; rank = λ i. i; uses = refl; packages = refl; exports = refl; gates = record { types = refl; interfaces = refl; worlds = refl }; results = refl; spans = refl });
   itself = can_merge _ (record { interfaces = refl; worlds = refl; types = refl; rank = λ i. i; uses = refl; packages = refl; exports = refl; gates = record { types = refl; interfaces = refl; worlds = refl }; results = refl; spans = refl });

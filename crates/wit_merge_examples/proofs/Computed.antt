@@ -3,7 +3,7 @@ use Rattle.std.proofs.Common.{◌≡◌, ℕ, List, [], length, slice_get, slice
 use Rattle.std.specs.Option.{option_map_or}
 use Rattle.std.specs.Prelude.{unwrap_or}
 use Rattle.wit_values.specs.facts.Lists.{differ}
-use Rattle.wit_digraph.specs.Walks.{walk, walk_within}
+use Rattle.wit_digraph.specs.PostOrder.{post_order, post_order_within}
 use Rattle.wit_data.specs.declared.types.TypeDef.{TypeDef}
 use Rattle.wit_data.specs.declared.types.TypeDefKind.{TypeDefKind}
 use Rattle.wit_data.specs.declared.types.TypeOwner.{TypeOwner}
@@ -11,15 +11,15 @@ use Rattle.wit_data.specs.declared.types.TypeOwner.TheVariants as owner
 use Rattle.wit_data.specs.declared.world.World.{World}
 use Rattle.wit_elaboration.specs.Elaborated.{import_steps, import_steps_within}
 use Rattle.wit_graph_data.specs.declared.graph.Graph.{Graph}
-use Rattle.wit_merge_spec.specs.Moved.{Going}
+use Rattle.wit_merge_spec.specs.Remapped.{MergeRemap}
 use Rattle.wit_merge_examples.specs.Unions.{ExamplesOfMatches, ExamplesOfUnions}
 
 -- where type t goes
-abbrev type_goes : ℕ → Going → ℕ
-type_goes t places = option_map_or (λ (place : Option ℕ). unwrap_or place 99) (slice_get places.types t) 99
+abbrev type_remapped : ℕ → MergeRemap → ℕ
+type_remapped t places = option_map_or (λ (place : Option ℕ). unwrap_or place 99) (slice_get places.types t) 99
 
 pub matches : ExamplesOfMatches
-unfolding walk walk_within
+unfolding post_order post_order_within
 matches = record {
   home = refl;
   no_home = refl;
@@ -40,11 +40,11 @@ matches = record {
   other_world = refl;
   named_there = refl;
   goes = refl;
-  not_anew = λ same. let apart : 0 ≡ 1 = ap (type_goes 0) same in absurd (omega (arith, apart));
-  not_nowhere = λ same. let apart : 1 ≡ 99 = ap (type_goes 1) same in absurd (omega (arith, apart));
+  not_anew = λ same. let apart : 0 ≡ 1 = ap (type_remapped 0) same in absurd (omega (arith, apart));
+  not_nowhere = λ same. let apart : 1 ≡ 99 = ap (type_remapped 1) same in absurd (omega (arith, apart));
   goes_across = refl;
-  not_straight = λ same. let apart : 1 ≡ 0 = ap (λ (places : Going). slice_index_or places.packages 0 99) same in absurd (omega (arith, apart));
-  not_turned = λ same. let apart : 2 ≡ 3 = ap (type_goes 0) same in absurd (omega (arith, apart));
+  not_straight = λ same. let apart : 1 ≡ 0 = ap (λ (places : MergeRemap). slice_index_or places.packages 0 99) same in absurd (omega (arith, apart));
+  not_transformed = λ same. let apart : 2 ≡ 3 = ap (type_remapped 0) same in absurd (omega (arith, apart));
 }
 
 -- how many imports some worlds have
@@ -68,7 +68,7 @@ owner_at : List TypeDef → ℕ
 owner_at types = option_map_or (λ (def : TypeDef). owner_world def.owner) (slice_get types 1) 99
 
 pub unions : ExamplesOfUnions
-unfolding walk walk_within import_steps import_steps_within owner_world owner_at
+unfolding post_order post_order_within import_steps import_steps_within owner_world owner_at
 unions = record {
   nothing_comes = refl;
   into_nothing = refl;
@@ -85,8 +85,8 @@ unions = record {
   less = refl;
   first_order = refl;
   second_order = refl;
-  first_not_turned = λ same. differ (codes "u") (codes "v") refl (ap (λ (g : Graph). name_at 1 g.types) same);
-  second_not_turned = λ same. differ (codes "v") (codes "u") refl (ap (λ (g : Graph). name_at 1 g.types) same);
+  first_not_transformed = λ same. differ (codes "u") (codes "v") refl (ap (λ (g : Graph). name_at 1 g.types) same);
+  second_not_transformed = λ same. differ (codes "v") (codes "u") refl (ap (λ (g : Graph). name_at 1 g.types) same);
   first_not_less = λ same. let count : 3 ≡ 2 = ap (λ (g : Graph). length g.types) same in absurd (omega (arith, count));
   second_not_less = λ same. let count : 3 ≡ 2 = ap (λ (g : Graph). length g.types) same in absurd (omega (arith, count));
   first_import = λ same. let count : 1 ≡ 0 = ap (λ (g : Graph). import_count g.worlds) same in absurd (omega (arith, count));

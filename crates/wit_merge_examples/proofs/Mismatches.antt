@@ -4,7 +4,7 @@ use Rattle.std.proofs.lemmas.Bool.{false≢true}
 use Rattle.std.specs.Prelude.{codes}
 use Rattle.wit_values.specs.facts.Lists.{differ}
 use Rattle.wit_digraph.specs.facts.MemberFacts.{Contains-nil}
-use Rattle.wit_digraph.specs.Walks.{walk, walk_within}
+use Rattle.wit_digraph.specs.PostOrder.{post_order, post_order_within}
 use Rattle.wit_data.specs.Entries.{Entry}
 use Rattle.wit_data.specs.declared.function.Function.{Function}
 use Rattle.wit_data.specs.declared.function.FunctionKind.TheVariants as function
@@ -21,14 +21,14 @@ use Rattle.wit_merge_spec.specs.Agreement.{EntriesDiffer, StructuresDiffer}
 use Rattle.wit_merge_spec.specs.Agreement as mismatch
 use Rattle.wit_merge_spec.specs.Cause.{IsMergeCause}
 use Rattle.wit_merge_spec.specs.Cause as reason
-use Rattle.wit_merge_spec.specs.Matches.{Merging}
+use Rattle.wit_merge_spec.specs.Matches.{GraphMerge}
 use Rattle.wit_merge_spec.specs.MismatchText.{linked, part_links, side_word, type_link}
 use Rattle.wit_merge_spec.specs.TypePairs.{TypePair, type_pairs}
 use Rattle.wit_merge_structure.specs.facts.DifferenceFacts.{first_here}
 use Rattle.wit_merge_structure.specs.Structure.{Feature, here, named, names, structure, structure_within, variant}
 use Rattle.wit_merge_structure.specs.declared.kinds.Variant.TheVariants as variants
 use Rattle.wit_merge_examples.proofs.Passing.{differs_in_nothing}
-use Rattle.wit_merge_examples.specs.Graphs.{merging, record_x, resource_t, taking}
+use Rattle.wit_merge_examples.specs.Graphs.{merge_of_graphs, record_x, resource_t, taking}
 use Rattle.wit_merge_examples.specs.Refusals.{ExamplesOfMismatches, holding, importing, naming, returning, taking_x}
 
 -- a function of one name in which two interfaces disagree
@@ -39,26 +39,26 @@ disagreeing from into f g text same has there apart =
 
 -- a difference of the function of i is told of i
 of_function : (f g : Function) (text : List ℕ) → f.name ≡ g.name → FunctionMismatch g f text
-    → IsMergeCause (merging (holding f) (holding g)) (Semantic None (linked (part_links foo_bar (codes "interface") (codes "i")) (function_mismatch_text g.name text)) cause.MergeMismatch)
+    → IsMergeCause (merge_of_graphs (holding f) (holding g)) (Semantic None (linked (part_links foo_bar (codes "interface") (codes "i")) (function_mismatch_text g.name text)) cause.MergeMismatch)
 of_function f g text same apart =
     reason.merge_mismatch_24 _
     (mismatch.interfaces (record { x = 0; from = _; x' = 0; into = _; from_is = refl; matched = refl; into_is = refl }) 0 _ (codes "i") _ refl refl refl
     (disagreeing _ _ f g text same (0, lit< tt, refl) (0, lit< tt, refl) apart))
 
 -- a difference of the imports of w is told of w
-of_imports : (into from : List Entry) (text : List ℕ) → EntriesDiffer (merging (importing into) (importing from)) (side_word false) from into text
-    → IsMergeCause (merging (importing into) (importing from)) (Semantic None (linked (part_links foo_bar (codes "world") (codes "w")) text) cause.MergeMismatch)
+of_imports : (into from : List Entry) (text : List ℕ) → EntriesDiffer (merge_of_graphs (importing into) (importing from)) (side_word false) from into text
+    → IsMergeCause (merge_of_graphs (importing into) (importing from)) (Semantic None (linked (part_links foo_bar (codes "world") (codes "w")) text) cause.MergeMismatch)
 of_imports into from text differs =
     reason.merge_mismatch_24 _ (mismatch.worlds (record { x = 0; from = _; x' = 0; into = _; from_is = refl; matched = refl; into_is = refl }) 0 _ false _ refl refl differs)
 
 -- a difference of matched types is told of the first of them
-of_types : (m : Merging) (pair : TypePair) (after : List TypePair) (ending : List ℕ) → type_pairs m ≡ pair ∷ after → StructuresDiffer m pair.from pair.into ending → IsMergeCause m (Semantic None (linked pair.links ending) cause.MergeMismatch)
+of_types : (m : GraphMerge) (pair : TypePair) (after : List TypePair) (ending : List ℕ) → type_pairs m ≡ pair ∷ after → StructuresDiffer m pair.from pair.into ending → IsMergeCause m (Semantic None (linked pair.links ending) cause.MergeMismatch)
 of_types m pair after ending is differs =
     reason.merge_mismatch_24 _
     (mismatch.types _ (record { before = []; pair = pair; after = after; pairs_are = is; alike = λ p e among d. Contains-nil among; ending = ending; differs = differs; message_is = refl }))
 
 pub mismatches : ExamplesOfMismatches
-unfolding walk walk_within structure structure_within
+unfolding post_order post_order_within structure structure_within
 mismatches = record {
   param_names = of_function (taking_x type.U32) (taking (codes "f") (codes "y") type.U32) _ refl (parameter_names_differ 0 _ _ refl refl (differ (codes "y") (codes "x") refl) refl);
   same = differs_in_nothing _ refl refl refl;
@@ -72,14 +72,14 @@ mismatches = record {
   result_types = of_function (returning (Some type.U32)) (returning (Some type.U8)) _ refl (results_differ type.U8 type.U32 refl refl (λ same. cc) refl);
   result_counts = of_function (returning (Some type.U32)) (returning None) _ refl (result_counts_differ (λ same. false≢true same) refl);
   resource_and_number =
-      of_types (merging resource_t record_x) (record { from = 0; into = 0; links = part_links foo_bar (codes "interface") (codes "i") ++ (type_link (codes "t") ∷ []) }) [] (codes "different kinds of types") refl (record {
+      of_types (merge_of_graphs resource_t record_x) (record { from = 0; into = 0; links = part_links foo_bar (codes "interface") (codes "i") ++ (type_link (codes "t") ∷ []) }) [] (codes "different kinds of types") refl (record {
         x = here (variant variants.Alias);
         y = here (variant variants.Resource);
         first = first_here _ _ _ _ (λ same. let contents : variant variants.Alias ≡ variant variants.Resource = ap (λ (f : Feature). f.content) same in cc);
         text_is = refl;
       });
   other_target =
-      of_types (merging (naming (codes "u")) (naming (codes "v"))) (record { from = 1; into = 1; links = part_links foo_bar (codes "interface") (codes "i") ++ (type_link (codes "s") ∷ []) }) [] (codes "at alias: different types") refl (record {
+      of_types (merge_of_graphs (naming (codes "u")) (naming (codes "v"))) (record { from = 1; into = 1; links = part_links foo_bar (codes "interface") (codes "i") ++ (type_link (codes "s") ∷ []) }) [] (codes "at alias: different types") refl (record {
         x = record { path = codes "alias" ∷ []; content = named None };
         y = record { path = codes "alias" ∷ []; content = named (Some 0) };
         first = record {

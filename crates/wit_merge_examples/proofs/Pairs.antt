@@ -3,7 +3,7 @@ use Rattle.std.proofs.Common.{◌≡◌, ◌∙◌, ℕ, List, [], ◌∷◌, �
 use Rattle.std.specs.Prelude.{codes}
 use Rattle.wit_values.specs.facts.Lists.{differ}
 use Rattle.wit_digraph.specs.facts.MemberFacts.{Contains-here}
-use Rattle.wit_digraph.specs.Walks.{walk, walk_within}
+use Rattle.wit_digraph.specs.PostOrder.{post_order, post_order_within}
 use Rattle.wit_graph_theory.specs.examples.TestFacts.{none_in, only_one}
 use Rattle.wit_merge_spec.specs.MismatchText.{linked}
 use Rattle.wit_merge_spec.specs.TypePairs.{FirstDiffers, TypePair}
@@ -48,12 +48,12 @@ links_of_second (p ∷ []) = 0
 links_of_second (p ∷ q ∷ ps) = length q.links
 
 pub pairs : ExamplesOfPairs
-unfolding walk walk_within first_from links_of_second
+unfolding post_order post_order_within first_from links_of_second
 pairs = record {
   common = refl;
   other_name = refl;
   by_list = refl;
-  not_turned = λ same. let apart : 0 ≡ 1 = ap first_from same in absurd (omega (arith, apart));
+  not_transformed = λ same. let apart : 0 ≡ 1 = ap first_from same in absurd (omega (arith, apart));
   by_table = refl;
   by_package = refl;
   of_a_world = refl;

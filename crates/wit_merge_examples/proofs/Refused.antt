@@ -2,45 +2,45 @@
 use Rattle.std.proofs.Common.{◌≡◌, ℕ, zero, suc, List, [], ◌∷◌, Some, refl, sym, subst, lit<, lit≤, arith, Contains}
 use Rattle.std.specs.Prelude.{codes}
 use Rattle.wit_digraph.specs.Relation.{direct}
-use Rattle.wit_digraph.specs.Walks.{walk, walk_within}
+use Rattle.wit_digraph.specs.PostOrder.{post_order, post_order_within}
 use Rattle.wit_data.specs.Entries.{Entry}
 use Rattle.wit_data.specs.Reference.{type_references}
 use Rattle.wit_data.specs.declared.package_name.PackageName.{PackageName}
 use Rattle.wit_data.specs.declared.world.WorldKey.TheVariants as key
 use Rattle.wit_elaboration.specs.Elaboration.{graph_uses}
 use Rattle.wit_elaboration.specs.Entries.{item_interface}
-use Rattle.wit_elaboration.specs.Imported.{IsInConflict as IsEntryInConflict}
+use Rattle.wit_elaboration.specs.Imported.{IsEntryInConflict}
 use Rattle.wit_graph_data.specs.examples.Samples.{entry_of}
 use Rattle.wit_graph_data.specs.declared.cause.Cause.TheVariants as cause
 use Rattle.wit_graph_data.specs.declared.error_kind.ResolveErrorKind.TheVariants.{InvalidTransitiveDependency, OffsetOverflow, OutOfMemory, PackageCycle, Semantic}
-use Rattle.wit_graph_theory.specs.AllElaborated.{DependsOnItself, IsInConflict, UsesItself}
+use Rattle.wit_graph_theory.specs.AllElaborated.{DependsOnItself, HasWorldInConflict, UsesItself}
 use Rattle.wit_graph_theory.specs.examples.TestFacts.{no_cycle, none_in, only_one}
-use Rattle.wit_link_spec.specs.Gates.{Place}
+use Rattle.wit_link_spec.specs.Gates.{OptionalSpan}
 use Rattle.wit_merge_spec.specs.Cause.{IsMergeCause}
 use Rattle.wit_merge_spec.specs.Cause as reason
-use Rattle.wit_merge_spec.specs.Matches.{Merging}
+use Rattle.wit_merge_spec.specs.Matches.{GraphMerge}
 use Rattle.wit_merge_spec.specs.Reasons as joins
 use Rattle.wit_merge_spec.specs.United.{joined_graph}
 use Rattle.wit_merge_structure.specs.Structure.{structure, structure_within}
 use Rattle.wit_merge_examples.proofs.Passing.{are_one, fits, in_no_conflict, results_fine}
 use Rattle.wit_merge_examples.proofs.Stabilities.{disagreeing, nowhere}
-use Rattle.wit_merge_examples.specs.Graphs.{merging}
+use Rattle.wit_merge_examples.specs.Graphs.{merge_of_graphs}
 use Rattle.wit_merge_examples.specs.Refusals.{ExamplesOfRefusals, b_alone, c_uses_b, exports_two}
 
-module _ (m : Merging) where
-  pub of_conflict : (span : Place) (name : List ℕ) → IsMergeCause m (InvalidTransitiveDependency span name) → IsInConflict (joined_graph m) span name
+module _ (m : GraphMerge) where
+  pub of_conflict : (span : OptionalSpan) (name : List ℕ) → IsMergeCause m (InvalidTransitiveDependency span name) → HasWorldInConflict (joined_graph m) span name
   of_conflict _ _ (reason.conflict_4 span name one c) = c
 
-  of_cycle : (span : Place) (home : PackageName) → IsMergeCause m (PackageCycle span home) → DependsOnItself (joined_graph m) home
+  of_cycle : (span : OptionalSpan) (home : PackageName) → IsMergeCause m (PackageCycle span home) → DependsOnItself (joined_graph m) home
   of_cycle _ _ (reason.package_cycle_6 home one c) = c
 
-  of_borrow : (span : Place) (message : List ℕ) → IsMergeCause m (Semantic span message cause.BorrowInResult) → joins.ReturnsBorrow m message
+  of_borrow : (span : OptionalSpan) (message : List ℕ) → IsMergeCause m (Semantic span message cause.BorrowInResult) → joins.MergeReturnsBorrow m message
   of_borrow _ _ (reason.borrow_in_result_15 message one c) = c
 
-  of_circle : (span : Place) (message : List ℕ) → IsMergeCause m (Semantic span message cause.InterfaceCycle) → UsesItself (joined_graph m) message
+  of_circle : (span : OptionalSpan) (message : List ℕ) → IsMergeCause m (Semantic span message cause.InterfaceCycle) → UsesItself (joined_graph m) message
   of_circle _ _ (reason.interface_cycle_22 message one c) = c
 
-  of_overflow : IsMergeCause m OffsetOverflow → joins.PassesTheEnd m
+  of_overflow : IsMergeCause m OffsetOverflow → joins.MergeOverflows m
   of_overflow (reason.offset_overflow_27 c) = c
 
   none_of_memory : IsMergeCause m OutOfMemory → ⊥
@@ -55,17 +55,17 @@ not_b (suc zero, below, is) = absurd (omega (arith, is))
 not_b (suc (suc k), below, is) = absurd (omega (arith, below))
 
 -- a leads to none
-not_first : (f : Entry) → Contains (entry_of 0 ∷ []) f → IsEntryInConflict (graph_uses (joined_graph (merging exports_two c_uses_b))) (entry_of 0 ∷ entry_of 2 ∷ []) f → ⊥
+not_first : (f : Entry) → Contains (entry_of 0 ∷ []) f → IsEntryInConflict (graph_uses (joined_graph (merge_of_graphs exports_two c_uses_b))) (entry_of 0 ∷ entry_of 2 ∷ []) f → ⊥
 not_first f inside c =
     let same : entry_of 0 ≡ f = only_one (entry_of 0) f inside in
     let i : 0 ≡ c.0 = only_one 0 c.0 (subst (λ (e : Entry). Contains (item_interface e.1) c.0) (sym same) c.1) in
-    none_in c.2.0 (subst (λ (x : ℕ). Contains (direct (graph_uses (joined_graph (merging exports_two c_uses_b))) x) c.2.0) (sym i) c.2.2)
+    none_in c.2.0 (subst (λ (x : ℕ). Contains (direct (graph_uses (joined_graph (merge_of_graphs exports_two c_uses_b))) x) c.2.0) (sym i) c.2.2)
 
-conflict : IsMergeCause (merging exports_two c_uses_b) (InvalidTransitiveDependency (Some (30, 31)) (codes "foo:bar/c"))
-unfolding walk walk_within structure structure_within
-conflict = reason.conflict_4 _ _ (are_one (merging exports_two c_uses_b) refl refl refl) (record {
-  interfaces = λ message c. no_cycle (λ i. i) (graph_uses (joined_graph (merging exports_two c_uses_b))) refl c.i c.j c.on_cycle;
-  types = λ message c. no_cycle (λ t. t) (type_references (joined_graph (merging exports_two c_uses_b)).types) refl c.t c.u c.on_cycle;
+conflict : IsMergeCause (merge_of_graphs exports_two c_uses_b) (InvalidTransitiveDependency (Some (30, 31)) (codes "foo:bar/c"))
+unfolding post_order post_order_within structure structure_within
+conflict = reason.conflict_4 _ _ (are_one (merge_of_graphs exports_two c_uses_b) refl refl refl) (record {
+  interfaces = λ message c. no_cycle (λ i. i) (graph_uses (joined_graph (merge_of_graphs exports_two c_uses_b))) refl c.i c.j c.on_cycle;
+  types = λ message c. no_cycle (λ t. t) (type_references (joined_graph (merge_of_graphs exports_two c_uses_b)).types) refl c.t c.u c.on_cycle;
   world = _;
   there = (0, lit< tt, refl);
   conflict = (0, (2, 1, (1, lit< tt, refl), (0, lit< tt, refl), not_b, (0 ∷ [], ((0, lit< tt, refl), refl))), (0, lit< tt, refl));
@@ -78,10 +78,10 @@ conflict = reason.conflict_4 _ _ (are_one (merging exports_two c_uses_b) refl re
 })
 
 pub refusals : ExamplesOfRefusals
-unfolding walk walk_within structure structure_within
+unfolding post_order post_order_within structure structure_within
 refusals = record {
   conflict = conflict;
-  no_conflict = λ span name c. in_no_conflict (merging exports_two b_alone) refl span name (of_conflict _ span name c);
+  no_conflict = λ span name c. in_no_conflict (merge_of_graphs exports_two b_alone) refl span name (of_conflict _ span name c);
   cycle_a = reason.package_cycle_6 _ (are_one _ refl refl refl) (record { p = 0; q = 1; on_cycle = record { is_used = (0, lit< tt, refl); leads_back = (0 ∷ [], ((0, lit< tt, refl), refl)) }; there = _; is = refl; home_is = refl });
   cycle_b = reason.package_cycle_6 _ (are_one _ refl refl refl) (record { p = 1; q = 0; on_cycle = record { is_used = (0, lit< tt, refl); leads_back = (1 ∷ [], ((0, lit< tt, refl), refl)) }; there = _; is = refl; home_is = refl });
   no_cycle = λ span home c. let is = of_cycle _ span home c in no_cycle (λ i. i) _ refl is.p is.q is.on_cycle;

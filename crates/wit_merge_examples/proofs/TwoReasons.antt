@@ -3,27 +3,27 @@ use Rattle.std.proofs.Common.{◌≡◌, inl, inr, ℕ, List, [], ◌∷◌, Non
 use Rattle.std.specs.Prelude.{codes}
 use Rattle.wit_values.specs.facts.Lists.{differ}
 use Rattle.wit_digraph.specs.Relation.{direct}
-use Rattle.wit_digraph.specs.Walks.{walk, walk_within}
+use Rattle.wit_digraph.specs.PostOrder.{post_order, post_order_within}
 use Rattle.wit_data.specs.Reference.{type_references}
 use Rattle.wit_data.specs.declared.package_name.PackageName.{PackageName}
 use Rattle.wit_data.specs.declared.world.WorldKey.TheVariants as key
 use Rattle.wit_elaboration.specs.Elaboration.{graph_uses}
 use Rattle.wit_elaboration.specs.Entries.{Entry}
 use Rattle.wit_elaboration.specs.Imported.{HasConflict}
-use Rattle.wit_elaboration.specs.Imported.{IsInConflict as IsEntryInConflict}
+use Rattle.wit_elaboration.specs.Imported.{IsEntryInConflict}
 use Rattle.wit_graph_data.specs.examples.Samples.{entry_of}
 use Rattle.wit_graph_data.specs.declared.cause.Cause.TheVariants as cause
 use Rattle.wit_graph_data.specs.declared.error_kind.ResolveErrorKind.TheVariants.{InvalidTransitiveDependency, PackageCycle, Semantic}
-use Rattle.wit_graph_theory.specs.AllElaborated.{IsInConflict, UsesItself}
+use Rattle.wit_graph_theory.specs.AllElaborated.{HasWorldInConflict, UsesItself}
 use Rattle.wit_graph_theory.specs.FunctionMismatch.{FunctionMismatch, parameter_names_differ}
 use Rattle.wit_graph_theory.specs.examples.TestFacts.{no_cycle, none_in, one_of_two, only_one}
-use Rattle.wit_link_spec.specs.Gates.{Place}
+use Rattle.wit_link_spec.specs.Gates.{OptionalSpan}
 use Rattle.wit_merge_spec.specs.Agreement.{GraphsDiffer}
 use Rattle.wit_merge_spec.specs.Agreement as mismatch
 use Rattle.wit_merge_spec.specs.Cause.{IsMergeCause}
 use Rattle.wit_merge_spec.specs.Cause as reason
-use Rattle.wit_merge_spec.specs.Matches.{Merging}
-use Rattle.wit_merge_spec.specs.Reasons.{AreOne, ReturnsBorrow}
+use Rattle.wit_merge_spec.specs.Matches.{GraphMerge}
+use Rattle.wit_merge_spec.specs.Reasons.{HasNoMismatch, MergeReturnsBorrow}
 use Rattle.wit_merge_spec.specs.Reasons as joins
 use Rattle.wit_merge_spec.specs.United.{joined_graph}
 use Rattle.wit_merge_structure.specs.Structure.{structure, structure_within}
@@ -36,17 +36,17 @@ use Rattle.wit_merge_examples.specs.TwoReasons.{ExamplesOfTwoReasons, all_wrong,
 
 -- ---- the reasons that stand only where the two are one
 
-module _ (m : Merging) where
-  one_of_conflict : (span : Place) (name : List ℕ) → IsMergeCause m (InvalidTransitiveDependency span name) → AreOne m
+module _ (m : GraphMerge) where
+  one_of_conflict : (span : OptionalSpan) (name : List ℕ) → IsMergeCause m (InvalidTransitiveDependency span name) → HasNoMismatch m
   one_of_conflict _ _ (reason.conflict_4 span name one c) = one
 
-  one_of_cycle : (span : Place) (home : PackageName) → IsMergeCause m (PackageCycle span home) → AreOne m
+  one_of_cycle : (span : OptionalSpan) (home : PackageName) → IsMergeCause m (PackageCycle span home) → HasNoMismatch m
   one_of_cycle _ _ (reason.package_cycle_6 home one c) = one
 
-  one_of_borrow : (span : Place) (message : List ℕ) → IsMergeCause m (Semantic span message cause.BorrowInResult) → AreOne m
+  one_of_borrow : (span : OptionalSpan) (message : List ℕ) → IsMergeCause m (Semantic span message cause.BorrowInResult) → HasNoMismatch m
   one_of_borrow _ _ (reason.borrow_in_result_15 message one c) = one
 
-  one_of_circle : (span : Place) (message : List ℕ) → IsMergeCause m (Semantic span message cause.InterfaceCycle) → AreOne m
+  one_of_circle : (span : OptionalSpan) (message : List ℕ) → IsMergeCause m (Semantic span message cause.InterfaceCycle) → HasNoMismatch m
   one_of_circle _ _ (reason.interface_cycle_22 message one c) = one
 
 -- ---- what differs
@@ -85,14 +85,14 @@ one_not_there has = elim (one_of_two 0 2 1 has) [
 
 -- i leads to none
 not_first : (f : Entry) → Contains (entry_of 0 ∷ []) f → IsEntryInConflict (graph_uses (joined_graph l_agrees)) (entry_of 0 ∷ entry_of 2 ∷ []) f → ⊥
-unfolding walk walk_within
+unfolding post_order post_order_within
 not_first f inside c =
     let at_i = subst (λ (e : Entry). IsEntryInConflict (graph_uses (joined_graph l_agrees)) (entry_of 0 ∷ entry_of 2 ∷ []) e) (sym (only_one (entry_of 0) f inside)) c in
     let place : 0 ≡ at_i.0 = only_one 0 at_i.0 at_i.1 in
     none_in at_i.2.0 (subst (λ (i : ℕ). Contains (direct (graph_uses (joined_graph l_agrees)) i) at_i.2.0) (sym place) at_i.2.2)
 
-l_conflict : IsInConflict (joined_graph l_agrees) None (codes "foo:a/l")
-unfolding walk walk_within
+l_conflict : HasWorldInConflict (joined_graph l_agrees) None (codes "foo:a/l")
+unfolding post_order post_order_within
 l_conflict = record {
   interfaces = λ message c. no_cycle (λ i. i) (graph_uses (joined_graph l_agrees)) refl c.i c.j c.on_cycle;
   types = λ message c. no_cycle (λ t. t) (type_references (joined_graph l_agrees).types) refl c.t c.u c.on_cycle;
@@ -108,30 +108,30 @@ l_conflict = record {
 }
 
 would_conflict : HasConflict (graph_uses (joined_graph l_differs)) (entry_of 0 ∷ entry_of 2 ∷ [])
-unfolding walk walk_within
+unfolding post_order post_order_within
 would_conflict = (0, (2, 1, (1, lit< tt, refl), (0, lit< tt, refl), one_not_there, (0 ∷ [], ((0, lit< tt, refl), refl))), (0, lit< tt, refl))
 
 -- ---- 22 and 4
 
 x_circle : UsesItself (joined_graph x_agrees) (codes "interface `foo:bar/x` would depend on itself")
-unfolding walk walk_within
+unfolding post_order post_order_within
 x_circle = record { i = 1; j = 0; on_cycle = record { is_used = (0, lit< tt, refl); leads_back = (1 ∷ [], ((0, lit< tt, refl), refl)) }; id = _; id_is = refl; message_is = refl }
 
 zero_not_one : Contains {X = ℕ} (1 ∷ []) 0 → ⊥
 zero_not_one has = let one : 1 ≡ 0 = only_one 1 0 has in absurd (omega (arith, one))
 
 would_conflict_too : HasConflict (graph_uses (joined_graph x_agrees)) (entry_of 1 ∷ [])
-unfolding walk walk_within
+unfolding post_order post_order_within
 would_conflict_too = (1, (1, 0, (0, lit< tt, refl), (0, lit< tt, refl), zero_not_one, (1 ∷ [], ((0, lit< tt, refl), refl))), (0, lit< tt, refl))
 
 -- ---- 15
 
-would_return : ReturnsBorrow t_differs borrow_told
-unfolding walk walk_within
+would_return : MergeReturnsBorrow t_differs borrow_told
+unfolding post_order post_order_within
 would_return = record { f = _; t' = 1; moved = (0, lit< tt, refl); result_is = (0, lit< tt, refl); holds = (1, ([], refl), (0, refl)); message_is = refl }
 
 pub two_reasons : ExamplesOfTwoReasons
-unfolding walk walk_within structure structure_within
+unfolding post_order post_order_within structure structure_within
 two_reasons = record {
   conflict = reason.conflict_4 _ _ (are_one l_agrees refl refl refl) l_conflict;
   cycle = reason.package_cycle_6 _ (are_one l_agrees refl refl refl) (record { p = 0; q = 1; on_cycle = record { is_used = (0, lit< tt, refl); leads_back = (0 ∷ [], ((0, lit< tt, refl), refl)) }; there = _; is = refl; home_is = refl });

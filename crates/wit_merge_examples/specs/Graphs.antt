@@ -15,11 +15,11 @@ use Rattle.wit_data.specs.declared.world.WorldKey.TheVariants as key
 use Rattle.wit_graph_data.specs.examples.Samples.{entry_of, foo_bar, foo_bar_of, function_of, instance, interface_of, no_docs, type_in, world_of}
 use Rattle.wit_graph_data.specs.declared.graph.Graph.{Graph}
 use Rattle.wit_graph_data.specs.declared.graph.Package.{Package}
-use Rattle.wit_merge_spec.specs.Matches.{Merging}
+use Rattle.wit_merge_spec.specs.Matches.{GraphMerge}
 
 -- one graph that goes into another
-abbrev pub merging : Graph → Graph → Merging
-merging g other = record { graph = g; other = other; offset = 0 }
+abbrev pub merge_of_graphs : Graph → Graph → GraphMerge
+merge_of_graphs g other = record { graph = g; other = other; offset = 0 }
 
 -- ---- parts
 

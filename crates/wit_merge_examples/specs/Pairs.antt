@@ -9,7 +9,7 @@ use Rattle.wit_data.specs.declared.world.WorldKey.TheVariants as key
 use Rattle.wit_graph_data.specs.examples.Samples.{instance, interface_of, type_of, world_of}
 use Rattle.wit_graph_data.specs.declared.graph.Graph.{Graph}
 use Rattle.wit_merge_spec.specs.TypePairs.{FirstDiffers, TypePair, type_pairs}
-use Rattle.wit_merge_examples.specs.Graphs.{alias_in, b_uses_a, foo_bar_alone, foo_named, inner, interface_in, merging, more, number_in, one_number, package_named}
+use Rattle.wit_merge_examples.specs.Graphs.{alias_in, b_uses_a, foo_bar_alone, foo_named, inner, interface_in, merge_of_graphs, more, number_in, one_number, package_named}
 
 -- ---- graphs
 
@@ -62,33 +62,33 @@ mismatch_t = codes "mismatch in type `t`"
 abbrev pub AllDiffer : ℕ → ℕ → List ℕ → Type 0
 AllDiffer t t' ending = ending ≡ codes "different kinds of types"
 
--- those of type 1 of the graph that is handed in do
+-- those of type 1 of the incoming graph do
 abbrev pub SecondDiffers : ℕ → ℕ → List ℕ → Type 0
 SecondDiffers t t' ending = (t ≡ 1) × AllDiffer t t' ending
 
 pub record ExamplesOfPairs : Type 0 where
   -- what both have, of interfaces of one name; what one alone has is none
-  pub common : type_pairs (merging one_number more) ≡ pair 0 0 (in_i mismatch_t) ∷ []
-  pub other_name : type_pairs (merging (two_interfaces ((codes "i", 0) ∷ [])) (two_interfaces ((codes "j", 1) ∷ []))) ≡ []
-  -- in the order of the lists of the graph that is handed in, not of the other, nor of ids
-  pub by_list : type_pairs (merging (listing (codes "t") (codes "u")) (listing (codes "u") (codes "t"))) ≡ pair 0 1 (in_i (codes "mismatch in type `u`")) ∷ pair 1 0 (in_i mismatch_t) ∷ []
-  pub not_turned : type_pairs (merging (listing (codes "t") (codes "u")) (listing (codes "u") (codes "t"))) ≡ pair 1 0 (in_i mismatch_t) ∷ pair 0 1 (in_i (codes "mismatch in type `u`")) ∷ [] → ⊥
+  pub common : type_pairs (merge_of_graphs one_number more) ≡ pair 0 0 (in_i mismatch_t) ∷ []
+  pub other_name : type_pairs (merge_of_graphs (two_interfaces ((codes "i", 0) ∷ [])) (two_interfaces ((codes "j", 1) ∷ []))) ≡ []
+  -- in the order of the lists of the incoming graph, not of the other, nor of ids
+  pub by_list : type_pairs (merge_of_graphs (listing (codes "t") (codes "u")) (listing (codes "u") (codes "t"))) ≡ pair 0 1 (in_i (codes "mismatch in type `u`")) ∷ pair 1 0 (in_i mismatch_t) ∷ []
+  pub not_transformed : type_pairs (merge_of_graphs (listing (codes "t") (codes "u")) (listing (codes "u") (codes "t"))) ≡ pair 1 0 (in_i mismatch_t) ∷ pair 0 1 (in_i (codes "mismatch in type `u`")) ∷ [] → ⊥
   -- and of its tables
-  pub by_table : type_pairs (merging (two_interfaces ((codes "i", 0) ∷ (codes "j", 1) ∷ [])) (two_interfaces ((codes "j", 1) ∷ (codes "i", 0) ∷ [])))
+  pub by_table : type_pairs (merge_of_graphs (two_interfaces ((codes "i", 0) ∷ (codes "j", 1) ∷ [])) (two_interfaces ((codes "j", 1) ∷ (codes "i", 0) ∷ [])))
       ≡ pair 1 1 (codes "failed to merge package `foo:bar` into existing copy" ∷ codes "failed to merge interface `j`" ∷ mismatch_t ∷ []) ∷ pair 0 0 (in_i mismatch_t) ∷ []
   -- packages after those that they depend on; worlds after the interfaces of all packages
-  pub by_package : type_pairs (merging b_before_a b_before_a)
+  pub by_package : type_pairs (merge_of_graphs b_before_a b_before_a)
       ≡ pair 1 1 (codes "failed to merge package `foo:a` into existing copy" ∷ codes "failed to merge interface `i`" ∷ mismatch_t ∷ [])
       ∷ pair 0 0 (codes "failed to merge package `foo:b` into existing copy" ∷ codes "failed to merge interface `j`" ∷ mismatch_t ∷ [])
       ∷ pair 2 2 (codes "failed to merge package `foo:b` into existing copy" ∷ codes "failed to merge world `w`" ∷ codes "import `k` didn't match target world" ∷ codes "mismatch in type `k`" ∷ []) ∷ []
   -- of a world its own types, which are told by the import and by the type; an interface with a name is none of its entries'
-  pub of_a_world : type_pairs (merging (with_k ((key.Name (codes "x"), instance 0) ∷ [])) (with_k ((key.Name (codes "x"), instance 0) ∷ []))) ≡ pair 0 0 (in_i mismatch_t) ∷ pair 1 1 (in_w (codes "import `k` didn't match target world") (codes "mismatch in type `k`")) ∷ []
-  pub not_without : type_pairs (merging (with_k []) (with_k [])) ≡ pair 0 0 (in_i mismatch_t) ∷ pair 1 1 (codes "failed to merge package `foo:bar` into existing copy" ∷ codes "failed to merge world `w`" ∷ codes "import `k` didn't match target world" ∷ []) ∷ [] → ⊥
+  pub of_a_world : type_pairs (merge_of_graphs (with_k ((key.Name (codes "x"), instance 0) ∷ [])) (with_k ((key.Name (codes "x"), instance 0) ∷ []))) ≡ pair 0 0 (in_i mismatch_t) ∷ pair 1 1 (in_w (codes "import `k` didn't match target world") (codes "mismatch in type `k`")) ∷ []
+  pub not_without : type_pairs (merge_of_graphs (with_k []) (with_k [])) ≡ pair 0 0 (in_i mismatch_t) ∷ pair 1 1 (codes "failed to merge package `foo:bar` into existing copy" ∷ codes "failed to merge world `w`" ∷ codes "import `k` didn't match target world" ∷ []) ∷ [] → ⊥
   -- those of an interface without a name, under its label, be it imported or exported
-  pub unnamed : type_pairs (merging (inner ((codes "t", 0) ∷ []) (number_in 0 (codes "t") ∷ []) []) (inner ((codes "t", 0) ∷ []) (number_in 0 (codes "t") ∷ []) [])) ≡ pair 0 0 (in_w (codes "import `x` didn't match target world") mismatch_t) ∷ []
-  pub exported : type_pairs (merging inner_export inner_export) ≡ pair 0 0 (in_w (codes "export `x` didn't match target world") mismatch_t) ∷ []
+  pub unnamed : type_pairs (merge_of_graphs (inner ((codes "t", 0) ∷ []) (number_in 0 (codes "t") ∷ []) []) (inner ((codes "t", 0) ∷ []) (number_in 0 (codes "t") ∷ []) [])) ≡ pair 0 0 (in_w (codes "import `x` didn't match target world") mismatch_t) ∷ []
+  pub exported : type_pairs (merge_of_graphs inner_export inner_export) ≡ pair 0 0 (in_w (codes "export `x` didn't match target world") mismatch_t) ∷ []
   -- the first that differs is told, and no other
-  pub first : FirstDiffers AllDiffer (type_pairs (merging (listing (codes "t") (codes "u")) (listing (codes "t") (codes "u")))) (codes "failed to merge package `foo:bar` into existing copy: failed to merge interface `i`: mismatch in type `t`: different kinds of types")
-  pub not_second : FirstDiffers AllDiffer (type_pairs (merging (listing (codes "t") (codes "u")) (listing (codes "t") (codes "u")))) (codes "failed to merge package `foo:bar` into existing copy: failed to merge interface `i`: mismatch in type `u`: different kinds of types") → ⊥
-  pub second : FirstDiffers SecondDiffers (type_pairs (merging (listing (codes "t") (codes "u")) (listing (codes "t") (codes "u")))) (codes "failed to merge package `foo:bar` into existing copy: failed to merge interface `i`: mismatch in type `u`: different kinds of types")
-  pub none : (message : List ℕ) → FirstDiffers AllDiffer (type_pairs (merging one_number b_uses_a)) message → ⊥
+  pub first : FirstDiffers AllDiffer (type_pairs (merge_of_graphs (listing (codes "t") (codes "u")) (listing (codes "t") (codes "u")))) (codes "failed to merge package `foo:bar` into existing copy: failed to merge interface `i`: mismatch in type `t`: different kinds of types")
+  pub not_second : FirstDiffers AllDiffer (type_pairs (merge_of_graphs (listing (codes "t") (codes "u")) (listing (codes "t") (codes "u")))) (codes "failed to merge package `foo:bar` into existing copy: failed to merge interface `i`: mismatch in type `u`: different kinds of types") → ⊥
+  pub second : FirstDiffers SecondDiffers (type_pairs (merge_of_graphs (listing (codes "t") (codes "u")) (listing (codes "t") (codes "u")))) (codes "failed to merge package `foo:bar` into existing copy: failed to merge interface `i`: mismatch in type `u`: different kinds of types")
+  pub none : (message : List ℕ) → FirstDiffers AllDiffer (type_pairs (merge_of_graphs one_number b_uses_a)) message → ⊥

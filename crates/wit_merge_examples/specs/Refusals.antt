@@ -17,10 +17,10 @@ use Rattle.wit_graph_data.specs.examples.Samples.{entry_of, foo_bar_of, function
 use Rattle.wit_graph_data.specs.declared.cause.Cause.TheVariants as cause
 use Rattle.wit_graph_data.specs.declared.error_kind.ResolveErrorKind.TheVariants.{InvalidTransitiveDependency, OffsetOverflow, OutOfMemory, PackageCycle, Semantic, StabilityMismatch}
 use Rattle.wit_graph_data.specs.declared.graph.Graph.{Graph}
-use Rattle.wit_link_spec.specs.Gates.{Place}
-use Rattle.wit_merge_spec.specs.Cause.{CanMerge, IsMergeCause}
-use Rattle.wit_merge_spec.specs.Matches.{Merging}
-use Rattle.wit_merge_examples.specs.Graphs.{a_beside_b, a_uses_b, alias_in, b_uses_a, field_a, foo_bar_alone, foo_named, gate_f, gate_g, i_uses_j, inner, merging, more, number_in, one_number, only_c, record_x, resource_record, resource_t, taking, three, two_numbers, with_functions, world_of_i}
+use Rattle.wit_link_spec.specs.Gates.{OptionalSpan}
+use Rattle.wit_merge_spec.specs.Cause.{IsMergeCause, MergeIsAccepted}
+use Rattle.wit_merge_spec.specs.Matches.{GraphMerge}
+use Rattle.wit_merge_examples.specs.Graphs.{a_beside_b, a_uses_b, alias_in, b_uses_a, field_a, foo_bar_alone, foo_named, gate_f, gate_g, i_uses_j, inner, merge_of_graphs, more, number_in, one_number, only_c, record_x, resource_record, resource_t, taking, three, two_numbers, with_functions, world_of_i}
 use Rattle.wit_merge_examples.specs.Unions.{gated, named_x, v_alone, world_function}
 
 -- ---- graphs
@@ -92,11 +92,11 @@ abbrev pub b_alone : Graph
 b_alone = record c_uses_b { types = number_in 0 (codes "t") ∷ alias_in 1 (codes "t") 0 ∷ []; interfaces = interface_of (Some (codes "a")) ((codes "t", 0) ∷ []) ∷ interface_of (Some (codes "b")) ((codes "t", 1) ∷ []) ∷ []; packages = foo_bar_of ((codes "a", 0) ∷ (codes "b", 1) ∷ []) [] ∷ [] }
 
 -- i stands at this place, handed in to be moved by an offset
-abbrev pub placed_at : ℕ → ℕ → ℕ → Merging
+abbrev pub placed_at : ℕ → ℕ → ℕ → GraphMerge
 placed_at from to offset = record { graph = one_number; other = record one_number { interfaces = record (interface_of (Some (codes "i")) ((codes "t", 0) ∷ [])) { span = Some (from, to) } ∷ [] }; offset = offset }
 
 -- so the field of record x, which moves
-abbrev pub field_at : ℕ → ℕ → ℕ → Merging
+abbrev pub field_at : ℕ → ℕ → ℕ → GraphMerge
 field_at from to offset = record {
   graph = one_number;
   other = record record_x { types = number_in 0 (codes "t") ∷ type_in 0 (codes "x") (kind.Record (record (field_a (type.Id 0)) { span = Some (from, to) } ∷ [])) ∷ [] };
@@ -107,11 +107,11 @@ field_at from to offset = record {
 
 -- two graphs differ, and this is told of i, or of w
 abbrev pub DifferIn : Graph → Graph → List ℕ → Type 0
-DifferIn g other text = IsMergeCause (merging g other) (Semantic None (codes "failed to merge package `foo:bar` into existing copy: " ++ text) cause.MergeMismatch)
+DifferIn g other text = IsMergeCause (merge_of_graphs g other) (Semantic None (codes "failed to merge package `foo:bar` into existing copy: " ++ text) cause.MergeMismatch)
 
 -- nothing of that is told
 abbrev pub DifferInNothing : Graph → Graph → Type 0
-DifferInNothing g other = (span : Place) (message : List ℕ) → IsMergeCause (merging g other) (Semantic span message cause.MergeMismatch) → ⊥
+DifferInNothing g other = (span : OptionalSpan) (message : List ℕ) → IsMergeCause (merge_of_graphs g other) (Semantic span message cause.MergeMismatch) → ⊥
 
 -- 24
 pub record ExamplesOfMismatches : Type 0 where
@@ -160,23 +160,23 @@ pub record ExamplesOfMismatches : Type 0 where
 -- 4, 6, 8, 15, 22, 27
 pub record ExamplesOfRefusals : Type 0 where
   -- 4: c would need b from outside, which needs a, which is exported; where c uses nothing there is no such need
-  pub conflict : IsMergeCause (merging exports_two c_uses_b) (InvalidTransitiveDependency (Some (30, 31)) (codes "foo:bar/c"))
-  pub no_conflict : (span : Place) (name : List ℕ) → IsMergeCause (merging exports_two b_alone) (InvalidTransitiveDependency span name) → ⊥
+  pub conflict : IsMergeCause (merge_of_graphs exports_two c_uses_b) (InvalidTransitiveDependency (Some (30, 31)) (codes "foo:bar/c"))
+  pub no_conflict : (span : OptionalSpan) (name : List ℕ) → IsMergeCause (merge_of_graphs exports_two b_alone) (InvalidTransitiveDependency span name) → ⊥
   -- 6: either package of the cycle
-  pub cycle_a : IsMergeCause (merging b_uses_a a_uses_b) (PackageCycle None (foo_named (codes "a")))
-  pub cycle_b : IsMergeCause (merging b_uses_a a_uses_b) (PackageCycle None (foo_named (codes "b")))
-  pub no_cycle : (span : Place) (home : PackageName) → IsMergeCause (merging b_uses_a only_c) (PackageCycle span home) → ⊥
-  -- 8: of what is handed in, to what is there
-  pub gates : IsMergeCause (merging (gated gate_f) (gated gate_g)) (StabilityMismatch None gate_g gate_f)
-  pub no_gate : (span : Place) (from into : Stability) → IsMergeCause (merging (gated gate_f) one_number) (StabilityMismatch span from into) → ⊥
+  pub cycle_a : IsMergeCause (merge_of_graphs b_uses_a a_uses_b) (PackageCycle None (foo_named (codes "a")))
+  pub cycle_b : IsMergeCause (merge_of_graphs b_uses_a a_uses_b) (PackageCycle None (foo_named (codes "b")))
+  pub no_cycle : (span : OptionalSpan) (home : PackageName) → IsMergeCause (merge_of_graphs b_uses_a only_c) (PackageCycle span home) → ⊥
+  -- 8: of what comes in, to what is there
+  pub gates : IsMergeCause (merge_of_graphs (gated gate_f) (gated gate_g)) (StabilityMismatch None gate_g gate_f)
+  pub no_gate : (span : OptionalSpan) (from into : Stability) → IsMergeCause (merge_of_graphs (gated gate_f) one_number) (StabilityMismatch span from into) → ⊥
   -- 15: a function that comes returns a borrow; where t is an `own`, or where i has its function, there is no such reason
-  pub borrow : IsMergeCause (merging (handle_t (handle.Borrow 0)) (returns_t (handle.Borrow 0))) (Semantic None (codes "function `f` returns a type which contains a `borrow<T>` which is not supported") cause.BorrowInResult)
-  pub own : (span : Place) (message : List ℕ) → IsMergeCause (merging (handle_t (handle.Own 0)) (returns_t (handle.Own 0))) (Semantic span message cause.BorrowInResult) → ⊥
-  pub stays : (span : Place) (message : List ℕ) → IsMergeCause (merging (returns_handle (handle.Borrow 0)) (returns_t (handle.Borrow 0))) (Semantic span message cause.BorrowInResult) → ⊥
+  pub borrow : IsMergeCause (merge_of_graphs (handle_t (handle.Borrow 0)) (returns_t (handle.Borrow 0))) (Semantic None (codes "function `f` returns a type which contains a `borrow<T>` which is not supported") cause.BorrowInResult)
+  pub own : (span : OptionalSpan) (message : List ℕ) → IsMergeCause (merge_of_graphs (handle_t (handle.Own 0)) (returns_t (handle.Own 0))) (Semantic span message cause.BorrowInResult) → ⊥
+  pub stays : (span : OptionalSpan) (message : List ℕ) → IsMergeCause (merge_of_graphs (returns_handle (handle.Borrow 0)) (returns_t (handle.Borrow 0))) (Semantic span message cause.BorrowInResult) → ⊥
   -- 22: either interface of the cycle
-  pub circle_x : IsMergeCause (merging x_uses_y y_uses_x) (Semantic None (codes "interface `foo:bar/x` would depend on itself") cause.InterfaceCycle)
-  pub circle_y : IsMergeCause (merging x_uses_y y_uses_x) (Semantic None (codes "interface `foo:bar/y` would depend on itself") cause.InterfaceCycle)
-  pub no_circle : (span : Place) (message : List ℕ) → IsMergeCause (merging x_uses_y y_alone) (Semantic span message cause.InterfaceCycle) → ⊥
+  pub circle_x : IsMergeCause (merge_of_graphs x_uses_y y_uses_x) (Semantic None (codes "interface `foo:bar/x` would depend on itself") cause.InterfaceCycle)
+  pub circle_y : IsMergeCause (merge_of_graphs x_uses_y y_uses_x) (Semantic None (codes "interface `foo:bar/y` would depend on itself") cause.InterfaceCycle)
+  pub no_circle : (span : OptionalSpan) (message : List ℕ) → IsMergeCause (merge_of_graphs x_uses_y y_alone) (Semantic span message cause.InterfaceCycle) → ⊥
   -- 27: a place that would end past the last position, and one that just fits
   pub too_far : IsMergeCause (placed_at 5 10 4294967286) OffsetOverflow
   pub just_fits : IsMergeCause (placed_at 5 10 4294967285) OffsetOverflow → ⊥
@@ -185,28 +185,28 @@ pub record ExamplesOfRefusals : Type 0 where
   pub field_fits : IsMergeCause (field_at 5 10 4294967285) OffsetOverflow → ⊥
   pub unknown_fits : IsMergeCause (record { graph = one_number; other = record_x; offset = 4294967295 }) OffsetOverflow → ⊥
   -- want of memory is no reason
-  pub no_memory : (m : Merging) → IsMergeCause m OutOfMemory → ⊥
+  pub no_memory : (m : GraphMerge) → IsMergeCause m OutOfMemory → ⊥
 
--- nothing speaks against these
+-- no cause holds against these
 pub record ExamplesOfAccepted : Type 0 where
-  pub nothing_comes : CanMerge (merging three empty_graph)
-  pub itself : CanMerge (merging three three)
-  pub grown : CanMerge (merging one_number more)
-  pub resource : CanMerge (merging resource_t resource_record)
-  pub first_order : CanMerge (merging (two_numbers (codes "u")) (two_numbers (codes "v")))
-  pub second_order : CanMerge (merging (two_numbers (codes "v")) (two_numbers (codes "u")))
-  pub elaborated : CanMerge (merging world_of_i i_uses_j)
+  pub nothing_comes : MergeIsAccepted (merge_of_graphs three empty_graph)
+  pub itself : MergeIsAccepted (merge_of_graphs three three)
+  pub grown : MergeIsAccepted (merge_of_graphs one_number more)
+  pub resource : MergeIsAccepted (merge_of_graphs resource_t resource_record)
+  pub first_order : MergeIsAccepted (merge_of_graphs (two_numbers (codes "u")) (two_numbers (codes "v")))
+  pub second_order : MergeIsAccepted (merge_of_graphs (two_numbers (codes "v")) (two_numbers (codes "u")))
+  pub elaborated : MergeIsAccepted (merge_of_graphs world_of_i i_uses_j)
   -- and the other merges of which the whole graph, or a list of it, is told
-  pub into_nothing : CanMerge (merging empty_graph three)
-  pub less : CanMerge (merging more one_number)
-  pub no_own : CanMerge (merging one_number record_x)
-  pub not_owned : CanMerge (merging resource_record resource_t)
-  pub inner_joined : CanMerge (merging (inner ((codes "t", 0) ∷ []) (number_in 0 (codes "t") ∷ []) []) (inner ((codes "u", 0) ∷ []) (number_in 0 (codes "u") ∷ []) (function_of (codes "f") (type.Id 0 ∷ []) None ∷ [])))
-  pub function_once : CanMerge (merging world_function world_function)
-  pub world_comes : CanMerge (merging world_of_i v_alone)
-  pub types_once : CanMerge (merging v_alone v_alone)
-  pub packages : CanMerge (merging b_uses_a a_beside_b)
-  pub package_comes : CanMerge (merging b_uses_a only_c)
-  pub gate_comes : CanMerge (merging one_number (gated gate_f))
-  pub gate_stays : CanMerge (merging (gated gate_f) one_number)
-  pub moved : CanMerge (record { graph = empty_graph; other = record one_number { interfaces = record (interface_of (Some (codes "i")) ((codes "t", 0) ∷ [])) { span = Some (20, 25) } ∷ [] }; offset = 16 })
+  pub into_nothing : MergeIsAccepted (merge_of_graphs empty_graph three)
+  pub less : MergeIsAccepted (merge_of_graphs more one_number)
+  pub no_own : MergeIsAccepted (merge_of_graphs one_number record_x)
+  pub not_owned : MergeIsAccepted (merge_of_graphs resource_record resource_t)
+  pub inner_joined : MergeIsAccepted (merge_of_graphs (inner ((codes "t", 0) ∷ []) (number_in 0 (codes "t") ∷ []) []) (inner ((codes "u", 0) ∷ []) (number_in 0 (codes "u") ∷ []) (function_of (codes "f") (type.Id 0 ∷ []) None ∷ [])))
+  pub function_once : MergeIsAccepted (merge_of_graphs world_function world_function)
+  pub world_comes : MergeIsAccepted (merge_of_graphs world_of_i v_alone)
+  pub types_once : MergeIsAccepted (merge_of_graphs v_alone v_alone)
+  pub packages : MergeIsAccepted (merge_of_graphs b_uses_a a_beside_b)
+  pub package_comes : MergeIsAccepted (merge_of_graphs b_uses_a only_c)
+  pub gate_comes : MergeIsAccepted (merge_of_graphs one_number (gated gate_f))
+  pub gate_stays : MergeIsAccepted (merge_of_graphs (gated gate_f) one_number)
+  pub moved : MergeIsAccepted (record { graph = empty_graph; other = record one_number { interfaces = record (interface_of (Some (codes "i")) ((codes "t", 0) ∷ [])) { span = Some (20, 25) } ∷ [] }; offset = 16 })

@@ -8,10 +8,10 @@ use Rattle.wit_data.specs.declared.world.WorldItem.TheVariants as item
 use Rattle.wit_graph_data.specs.examples.Samples.{function_of, interface_of, no_docs, world_of}
 use Rattle.wit_graph_data.specs.declared.error_kind.ResolveErrorKind.TheVariants.{StabilityMismatch}
 use Rattle.wit_graph_data.specs.declared.graph.Graph.{Graph}
-use Rattle.wit_link_spec.specs.Gates.{Place}
-use Rattle.wit_merge_spec.specs.Cause.{CanMerge, IsMergeCause}
+use Rattle.wit_link_spec.specs.Gates.{OptionalSpan}
+use Rattle.wit_merge_spec.specs.Cause.{IsMergeCause, MergeIsAccepted}
 use Rattle.wit_merge_spec.specs.United.{united}
-use Rattle.wit_merge_examples.specs.Graphs.{foo_bar_alone, gate_f, gate_g, merging, with_functions}
+use Rattle.wit_merge_examples.specs.Graphs.{foo_bar_alone, gate_f, gate_g, merge_of_graphs, with_functions}
 
 -- ---- graphs
 
@@ -42,11 +42,11 @@ gated_function note = foo_bar_alone [] (with_functions (record (function_of (cod
 
 -- the gate g comes to the gate f, and 8 is told of both
 abbrev pub Disagrees : Graph → Graph → Type 0
-Disagrees g other = IsMergeCause (merging g other) (StabilityMismatch None gate_g gate_f)
+Disagrees g other = IsMergeCause (merge_of_graphs g other) (StabilityMismatch None gate_g gate_f)
 
 -- no 8 is told, of whatever
 abbrev pub DisagreesNowhere : Graph → Graph → Type 0
-DisagreesNowhere g other = (span : Place) (from into : Stability) → IsMergeCause (merging g other) (StabilityMismatch span from into) → ⊥
+DisagreesNowhere g other = (span : OptionalSpan) (from into : Stability) → IsMergeCause (merge_of_graphs g other) (StabilityMismatch span from into) → ⊥
 
 pub record ExamplesOfStabilities : Type 0 where
   -- of interfaces; the same gate, an interface of another name, and none in one of the two are no reason
@@ -67,17 +67,17 @@ pub record ExamplesOfStabilities : Type 0 where
   -- nor of functions
   pub functions : DisagreesNowhere (gated_function gate_f) (gated_function gate_g)
   -- what is made: a gate replaces none, of an interface, of a world, of an import
-  pub interface_takes : united (merging (gated_interface (codes "i") Unknown) (gated_interface (codes "i") gate_g)) ≡ gated_interface (codes "i") gate_g
-  pub interface_keeps : united (merging (gated_interface (codes "i") gate_f) (gated_interface (codes "i") Unknown)) ≡ gated_interface (codes "i") gate_f
-  pub world_takes : united (merging (gated_world (codes "w") Unknown) (gated_world (codes "w") gate_g)) ≡ gated_world (codes "w") gate_g
-  pub import_takes : united (merging (listing (keyed Unknown ∷ []) []) (listing (keyed gate_g ∷ []) [])) ≡ listing (keyed gate_g ∷ []) []
+  pub interface_part_is_active : united (merge_of_graphs (gated_interface (codes "i") Unknown) (gated_interface (codes "i") gate_g)) ≡ gated_interface (codes "i") gate_g
+  pub interface_keeps : united (merge_of_graphs (gated_interface (codes "i") gate_f) (gated_interface (codes "i") Unknown)) ≡ gated_interface (codes "i") gate_f
+  pub world_part_is_active : united (merge_of_graphs (gated_world (codes "w") Unknown) (gated_world (codes "w") gate_g)) ≡ gated_world (codes "w") gate_g
+  pub import_is_active : united (merge_of_graphs (listing (keyed Unknown ∷ []) []) (listing (keyed gate_g ∷ []) [])) ≡ listing (keyed gate_g ∷ []) []
   -- under a label it takes none, and a function keeps its own
-  pub label_keeps : united (merging (listing (labelled Unknown ∷ []) []) (listing (labelled gate_g ∷ []) [])) ≡ listing (labelled Unknown ∷ []) []
-  pub function_keeps : united (merging (gated_function gate_f) (gated_function gate_g)) ≡ gated_function gate_f
-  -- and nothing speaks against it
-  pub interface_taken : CanMerge (merging (gated_interface (codes "i") Unknown) (gated_interface (codes "i") gate_g))
-  pub interface_kept : CanMerge (merging (gated_interface (codes "i") gate_f) (gated_interface (codes "i") Unknown))
-  pub world_taken : CanMerge (merging (gated_world (codes "w") Unknown) (gated_world (codes "w") gate_g))
-  pub import_taken : CanMerge (merging (listing (keyed Unknown ∷ []) []) (listing (keyed gate_g ∷ []) []))
-  pub label_kept : CanMerge (merging (listing (labelled Unknown ∷ []) []) (listing (labelled gate_g ∷ []) []))
-  pub function_kept : CanMerge (merging (gated_function gate_f) (gated_function gate_g))
+  pub label_keeps : united (merge_of_graphs (listing (labelled Unknown ∷ []) []) (listing (labelled gate_g ∷ []) [])) ≡ listing (labelled Unknown ∷ []) []
+  pub function_keeps : united (merge_of_graphs (gated_function gate_f) (gated_function gate_g)) ≡ gated_function gate_f
+  -- and no cause holds against it
+  pub interface_taken : MergeIsAccepted (merge_of_graphs (gated_interface (codes "i") Unknown) (gated_interface (codes "i") gate_g))
+  pub interface_kept : MergeIsAccepted (merge_of_graphs (gated_interface (codes "i") gate_f) (gated_interface (codes "i") Unknown))
+  pub world_taken : MergeIsAccepted (merge_of_graphs (gated_world (codes "w") Unknown) (gated_world (codes "w") gate_g))
+  pub import_taken : MergeIsAccepted (merge_of_graphs (listing (keyed Unknown ∷ []) []) (listing (keyed gate_g ∷ []) []))
+  pub label_kept : MergeIsAccepted (merge_of_graphs (listing (labelled Unknown ∷ []) []) (listing (labelled gate_g ∷ []) []))
+  pub function_kept : MergeIsAccepted (merge_of_graphs (gated_function gate_f) (gated_function gate_g))

@@ -1,4 +1,4 @@
--- Worked merges: which things are matched, where things go, and the whole graph that is made.
+-- Worked merges: which things are matched, what things are remapped to, and the whole graph that is made.
 use Rattle.std.specs.Prelude.{◌≡◌, ℕ, suc, List, [], ◌∷◌, Some, None, codes}
 use Rattle.wit_data.specs.Entries.{Entry}
 use Rattle.wit_data.specs.declared.stability.Stability.{Stability}
@@ -15,10 +15,10 @@ use Rattle.wit_elaboration.specs.examples.Examples.{empty_graph}
 use Rattle.wit_graph_data.specs.examples.Samples.{entry_of, foo_bar, foo_bar_of, function_of, interface_of, labelled_entry, no_docs, type_in, type_of, unnamed, world_of}
 use Rattle.wit_graph_data.specs.declared.graph.Graph.{Graph}
 use Rattle.wit_graph_data.specs.declared.graph.Package.{Package}
-use Rattle.wit_merge_spec.specs.Matches.{found_interface, found_package, found_type, found_world}
-use Rattle.wit_merge_spec.specs.Moved.{going}
+use Rattle.wit_merge_spec.specs.Matches.{counterpart_interface, counterpart_package, counterpart_type, counterpart_world}
+use Rattle.wit_merge_spec.specs.Remapped.{merge_remap}
 use Rattle.wit_merge_spec.specs.United.{united}
-use Rattle.wit_merge_examples.specs.Graphs.{a_beside_b, a_uses_b, alias_in, b_uses_a, field_a, foo_bar_alone, foo_named, gate_f, i_uses_j, inner, interface_in, merging, more, number_in, one_number, only_c, package_named, record_x, resource_record, resource_t, three, two_numbers, world_of_i}
+use Rattle.wit_merge_examples.specs.Graphs.{a_beside_b, a_uses_b, alias_in, b_uses_a, field_a, foo_bar_alone, foo_named, gate_f, i_uses_j, inner, interface_in, merge_of_graphs, more, number_in, one_number, only_c, package_named, record_x, resource_record, resource_t, three, two_numbers, world_of_i}
 
 -- an interface without a name beside world w, which imports and exports these
 abbrev pub nameless : List Entry → List Entry → Graph
@@ -36,43 +36,43 @@ inner_y = record (inner ((codes "t", 0) ∷ []) (number_in 0 (codes "t") ∷ [])
 abbrev pub x_of_v : Graph
 x_of_v = foo_bar_alone [] (interface_of None [] ∷ []) (world_of (codes "v") (labelled_entry (codes "x") 0 ∷ []) [] ∷ []) [] ((codes "v", 0) ∷ [])
 
--- what is matched, and where things go
+-- what is matched, and what things are remapped to
 pub record ExamplesOfMatches : Type 0 where
   -- by names, whatever the order
-  pub home : found_package (merging b_uses_a a_uses_b) 0 ≡ Some 1
-  pub no_home : found_package (merging b_uses_a only_c) 0 ≡ None
-  pub interface : found_interface (merging one_number more) 0 ≡ Some 0
-  pub no_interface : found_interface (merging one_number more) 1 ≡ None
+  pub home : counterpart_package (merge_of_graphs b_uses_a a_uses_b) 0 ≡ Some 1
+  pub no_home : counterpart_package (merge_of_graphs b_uses_a only_c) 0 ≡ None
+  pub interface : counterpart_interface (merge_of_graphs one_number more) 0 ≡ Some 0
+  pub no_interface : counterpart_interface (merge_of_graphs one_number more) 1 ≡ None
   -- an interface of that name in a package of another name isn't matched
-  pub other_home : found_interface (merging a_uses_b only_c) 0 ≡ None
-  pub type : found_type (merging one_number more) 0 ≡ Some 0
-  pub no_type : found_type (merging one_number more) 1 ≡ None
+  pub other_home : counterpart_interface (merge_of_graphs a_uses_b only_c) 0 ≡ None
+  pub type : counterpart_type (merge_of_graphs one_number more) 0 ≡ Some 0
+  pub no_type : counterpart_type (merge_of_graphs one_number more) 1 ≡ None
   -- nor is a type of that name in an interface of another name
-  pub other_interface : found_type (merging b_uses_a a_uses_b) 0 ≡ None
-  pub world : found_world (merging three (two_numbers (codes "u"))) 0 ≡ Some 0
+  pub other_interface : counterpart_type (merge_of_graphs b_uses_a a_uses_b) 0 ≡ None
+  pub world : counterpart_world (merge_of_graphs three (two_numbers (codes "u"))) 0 ≡ Some 0
   -- interfaces without a name by the label under which they stand, their types by name
-  pub inner_interface : found_interface (merging (inner [] [] []) (inner ((codes "t", 0) ∷ []) (number_in 0 (codes "t") ∷ []) [])) 0 ≡ Some 0
-  pub inner_type : found_type (merging (inner ((codes "t", 0) ∷ []) (number_in 0 (codes "t") ∷ []) []) (inner ((codes "t", 0) ∷ []) (number_in 0 (codes "t") ∷ []) [])) 0 ≡ Some 0
+  pub inner_interface : counterpart_interface (merge_of_graphs (inner [] [] []) (inner ((codes "t", 0) ∷ []) (number_in 0 (codes "t") ∷ []) [])) 0 ≡ Some 0
+  pub inner_type : counterpart_type (merge_of_graphs (inner ((codes "t", 0) ∷ []) (number_in 0 (codes "t") ∷ []) []) (inner ((codes "t", 0) ∷ []) (number_in 0 (codes "t") ∷ []) [])) 0 ≡ Some 0
   -- among the exports as well
-  pub inner_export : found_interface (merging (nameless [] (labelled_entry (codes "x") 0 ∷ [])) (nameless [] (labelled_entry (codes "x") 0 ∷ []))) 0 ≡ Some 0
+  pub inner_export : counterpart_interface (merge_of_graphs (nameless [] (labelled_entry (codes "x") 0 ∷ [])) (nameless [] (labelled_entry (codes "x") 0 ∷ []))) 0 ≡ Some 0
   -- not under another label, nor their types; not on the other side, not under the label of another world, and not where
   -- an interface with a name stands under the label
-  pub other_label : found_interface (merging (inner [] [] []) inner_y) 0 ≡ None
-  pub other_label_type : found_type (merging (inner ((codes "t", 0) ∷ []) (number_in 0 (codes "t") ∷ []) []) inner_y) 0 ≡ None
-  pub other_side : found_interface (merging (inner [] [] []) (nameless [] (labelled_entry (codes "x") 0 ∷ []))) 0 ≡ None
-  pub other_side_too : found_interface (merging (nameless [] (labelled_entry (codes "x") 0 ∷ [])) (inner [] [] [])) 0 ≡ None
-  pub other_world : found_interface (merging (inner [] [] []) x_of_v) 0 ≡ None
-  pub named_there : found_interface (merging named_x (inner [] [] [])) 0 ≡ None
-  -- where things go: i and its t to those that are there, u, j and v to the next ids
-  pub goes : going (merging one_number more) ≡ record { types = Some 0 ∷ Some 1 ∷ Some 2 ∷ []; interfaces = Some 0 ∷ Some 1 ∷ []; worlds = []; packages = 0 ∷ [] }
+  pub other_label : counterpart_interface (merge_of_graphs (inner [] [] []) inner_y) 0 ≡ None
+  pub other_label_type : counterpart_type (merge_of_graphs (inner ((codes "t", 0) ∷ []) (number_in 0 (codes "t") ∷ []) []) inner_y) 0 ≡ None
+  pub other_side : counterpart_interface (merge_of_graphs (inner [] [] []) (nameless [] (labelled_entry (codes "x") 0 ∷ []))) 0 ≡ None
+  pub other_side_too : counterpart_interface (merge_of_graphs (nameless [] (labelled_entry (codes "x") 0 ∷ [])) (inner [] [] [])) 0 ≡ None
+  pub other_world : counterpart_interface (merge_of_graphs (inner [] [] []) x_of_v) 0 ≡ None
+  pub named_there : counterpart_interface (merge_of_graphs named_x (inner [] [] [])) 0 ≡ None
+  -- what things are remapped to: i and its t to those that are there, u, j and v to the next ids
+  pub goes : merge_remap (merge_of_graphs one_number more) ≡ record { types = Some 0 ∷ Some 1 ∷ Some 2 ∷ []; interfaces = Some 0 ∷ Some 1 ∷ []; worlds = []; packages = 0 ∷ [] }
   -- what is matched doesn't go to the next ids, and what isn't does go somewhere
-  pub not_anew : going (merging one_number more) ≡ record { types = Some 1 ∷ Some 2 ∷ Some 3 ∷ []; interfaces = Some 1 ∷ Some 2 ∷ []; worlds = []; packages = 1 ∷ [] } → ⊥
-  pub not_nowhere : going (merging one_number more) ≡ record { types = Some 0 ∷ None ∷ None ∷ []; interfaces = Some 0 ∷ None ∷ []; worlds = []; packages = 0 ∷ [] } → ⊥
+  pub not_anew : merge_remap (merge_of_graphs one_number more) ≡ record { types = Some 1 ∷ Some 2 ∷ Some 3 ∷ []; interfaces = Some 1 ∷ Some 2 ∷ []; worlds = []; packages = 1 ∷ [] } → ⊥
+  pub not_nowhere : merge_remap (merge_of_graphs one_number more) ≡ record { types = Some 0 ∷ None ∷ None ∷ []; interfaces = Some 0 ∷ None ∷ []; worlds = []; packages = 0 ∷ [] } → ⊥
   -- packages that are there in another order
-  pub goes_across : going (merging b_uses_a a_beside_b) ≡ record { types = Some 2 ∷ Some 3 ∷ []; interfaces = Some 2 ∷ Some 3 ∷ []; worlds = []; packages = 1 ∷ 0 ∷ [] }
+  pub goes_across : merge_remap (merge_of_graphs b_uses_a a_beside_b) ≡ record { types = Some 2 ∷ Some 3 ∷ []; interfaces = Some 2 ∷ Some 3 ∷ []; worlds = []; packages = 1 ∷ 0 ∷ [] }
   -- they don't go to the ids that they have; and what moves goes there in its order
-  pub not_straight : going (merging b_uses_a a_beside_b) ≡ record { types = Some 2 ∷ Some 3 ∷ []; interfaces = Some 2 ∷ Some 3 ∷ []; worlds = []; packages = 0 ∷ 1 ∷ [] } → ⊥
-  pub not_turned : going (merging b_uses_a a_beside_b) ≡ record { types = Some 3 ∷ Some 2 ∷ []; interfaces = Some 3 ∷ Some 2 ∷ []; worlds = []; packages = 1 ∷ 0 ∷ [] } → ⊥
+  pub not_straight : merge_remap (merge_of_graphs b_uses_a a_beside_b) ≡ record { types = Some 2 ∷ Some 3 ∷ []; interfaces = Some 2 ∷ Some 3 ∷ []; worlds = []; packages = 0 ∷ 1 ∷ [] } → ⊥
+  pub not_transformed : merge_remap (merge_of_graphs b_uses_a a_beside_b) ≡ record { types = Some 3 ∷ Some 2 ∷ []; interfaces = Some 3 ∷ Some 2 ∷ []; worlds = []; packages = 1 ∷ 0 ∷ [] } → ⊥
 
 -- interface i of numbers of these names, in this order
 abbrev pub three_numbers : List ℕ → List ℕ → Graph
@@ -108,74 +108,74 @@ v_alone = foo_bar_alone (types_of_v 0 0) [] (v_of 0 ∷ []) [] ((codes "v", 0) �
 -- whole graphs
 pub record ExamplesOfUnions : Type 0 where
   -- nothing into a graph, a graph into nothing, a graph into itself
-  pub nothing_comes : united (merging three empty_graph) ≡ three
-  pub into_nothing : united (merging empty_graph three) ≡ three
-  pub itself : united (merging three three) ≡ three
+  pub nothing_comes : united (merge_of_graphs three empty_graph) ≡ three
+  pub into_nothing : united (merge_of_graphs empty_graph three) ≡ three
+  pub itself : united (merge_of_graphs three three) ≡ three
   -- with nothing nothing goes, be it the list of a package's name alone or one import; and a package that holds nothing is
   -- not nothing
-  pub name_not_lost : united (merging three empty_graph) ≡ record three { package_names = [] } → ⊥
-  pub import_not_lost : united (merging three empty_graph) ≡ record three { worlds = world_of (codes "w") (entry_of 0 ∷ entry_of 1 ∷ []) [] ∷ [] } → ⊥
-  pub not_empty : united (merging empty_graph three) ≡ empty_graph → ⊥
-  pub empty_package : united (merging three (record empty_graph { packages = package_named (codes "c") [] ∷ []; package_names = (foo_named (codes "c"), 0) ∷ [] })) ≡ three → ⊥
+  pub name_not_lost : united (merge_of_graphs three empty_graph) ≡ record three { package_names = [] } → ⊥
+  pub import_not_lost : united (merge_of_graphs three empty_graph) ≡ record three { worlds = world_of (codes "w") (entry_of 0 ∷ entry_of 1 ∷ []) [] ∷ [] } → ⊥
+  pub not_empty : united (merge_of_graphs empty_graph three) ≡ empty_graph → ⊥
+  pub empty_package : united (merge_of_graphs three (record empty_graph { packages = package_named (codes "c") [] ∷ []; package_names = (foo_named (codes "c"), 0) ∷ [] })) ≡ three → ⊥
   -- of a graph into itself nothing comes a second time: not a type, not the package, not its name
-  pub type_not_twice : united (merging three three) ≡ record three { types = number_in 0 (codes "t") ∷ alias_in 1 (codes "t") 0 ∷ alias_in 2 (codes "t") 0 ∷ alias_in 2 (codes "t2") 1 ∷ alias_in 2 (codes "t2") 1 ∷ [] } → ⊥
-  pub package_not_twice : united (merging three three) ≡ record three { packages = home_of_three ∷ home_of_three ∷ [] } → ⊥
-  pub name_not_twice : united (merging three three) ≡ record three { package_names = (foo_bar, 0) ∷ (foo_bar, 0) ∷ [] } → ⊥
+  pub type_not_twice : united (merge_of_graphs three three) ≡ record three { types = number_in 0 (codes "t") ∷ alias_in 1 (codes "t") 0 ∷ alias_in 2 (codes "t") 0 ∷ alias_in 2 (codes "t2") 1 ∷ alias_in 2 (codes "t2") 1 ∷ [] } → ⊥
+  pub package_not_twice : united (merge_of_graphs three three) ≡ record three { packages = home_of_three ∷ home_of_three ∷ [] } → ⊥
+  pub name_not_twice : united (merge_of_graphs three three) ≡ record three { package_names = (foo_bar, 0) ∷ (foo_bar, 0) ∷ [] } → ⊥
   -- what isn't there comes: u to i, j to the package; and it isn't left out
-  pub grown : united (merging one_number more) ≡ more
-  pub stays : united (merging one_number more) ≡ one_number → ⊥
+  pub grown : united (merge_of_graphs one_number more) ≡ more
+  pub stays : united (merge_of_graphs one_number more) ≡ one_number → ⊥
   -- and the other way round nothing comes
-  pub less : united (merging more one_number) ≡ more
+  pub less : united (merge_of_graphs more one_number) ≡ more
   -- in both orders the same names, though not the same order
-  pub first_order : united (merging (two_numbers (codes "u")) (two_numbers (codes "v"))) ≡ three_numbers (codes "u") (codes "v")
-  pub second_order : united (merging (two_numbers (codes "v")) (two_numbers (codes "u"))) ≡ three_numbers (codes "v") (codes "u")
+  pub first_order : united (merge_of_graphs (two_numbers (codes "u")) (two_numbers (codes "v"))) ≡ three_numbers (codes "u") (codes "v")
+  pub second_order : united (merge_of_graphs (two_numbers (codes "v")) (two_numbers (codes "u"))) ≡ three_numbers (codes "v") (codes "u")
   -- what is there stays before what comes, in each order; nothing is left out, and the world imports i still
-  pub first_not_turned : united (merging (two_numbers (codes "u")) (two_numbers (codes "v"))) ≡ three_numbers (codes "v") (codes "u") → ⊥
-  pub second_not_turned : united (merging (two_numbers (codes "v")) (two_numbers (codes "u"))) ≡ three_numbers (codes "u") (codes "v") → ⊥
-  pub first_not_less : united (merging (two_numbers (codes "u")) (two_numbers (codes "v"))) ≡ two_numbers (codes "u") → ⊥
-  pub second_not_less : united (merging (two_numbers (codes "v")) (two_numbers (codes "u"))) ≡ two_numbers (codes "v") → ⊥
-  pub first_import : united (merging (two_numbers (codes "u")) (two_numbers (codes "v"))) ≡ record (three_numbers (codes "u") (codes "v")) { worlds = world_of (codes "w") [] [] ∷ [] } → ⊥
-  pub second_import : united (merging (two_numbers (codes "v")) (two_numbers (codes "u"))) ≡ record (three_numbers (codes "v") (codes "u")) { worlds = world_of (codes "w") [] [] ∷ [] } → ⊥
+  pub first_not_transformed : united (merge_of_graphs (two_numbers (codes "u")) (two_numbers (codes "v"))) ≡ three_numbers (codes "v") (codes "u") → ⊥
+  pub second_not_transformed : united (merge_of_graphs (two_numbers (codes "v")) (two_numbers (codes "u"))) ≡ three_numbers (codes "u") (codes "v") → ⊥
+  pub first_not_less : united (merge_of_graphs (two_numbers (codes "u")) (two_numbers (codes "v"))) ≡ two_numbers (codes "u") → ⊥
+  pub second_not_less : united (merge_of_graphs (two_numbers (codes "v")) (two_numbers (codes "u"))) ≡ two_numbers (codes "v") → ⊥
+  pub first_import : united (merge_of_graphs (two_numbers (codes "u")) (two_numbers (codes "v"))) ≡ record (three_numbers (codes "u") (codes "v")) { worlds = world_of (codes "w") [] [] ∷ [] } → ⊥
+  pub second_import : united (merge_of_graphs (two_numbers (codes "v")) (two_numbers (codes "u"))) ≡ record (three_numbers (codes "v") (codes "u")) { worlds = world_of (codes "w") [] [] ∷ [] } → ⊥
   -- so the two graphs that are made aren't equal
-  pub orders_differ : united (merging (two_numbers (codes "u")) (two_numbers (codes "v"))) ≡ united (merging (two_numbers (codes "v")) (two_numbers (codes "u"))) → ⊥
+  pub orders_differ : united (merge_of_graphs (two_numbers (codes "u")) (two_numbers (codes "v"))) ≡ united (merge_of_graphs (two_numbers (codes "v")) (two_numbers (codes "u"))) → ⊥
   -- t is a resource, so a value of it that comes is an `own`, which stands behind what moves; the record itself isn't kept out
-  pub owned : (united (merging resource_t resource_record)).types ≡ type_in 0 (codes "t") kind.Resource ∷ type_in 0 (codes "x") (kind.Record (record { name = codes "a"; ty = type.Id 2; docs = no_docs; span = None } ∷ [])) ∷ unnamed (kind.Handle (handle.Own 0)) ∷ []
+  pub owned : (united (merge_of_graphs resource_t resource_record)).types ≡ type_in 0 (codes "t") kind.Resource ∷ type_in 0 (codes "x") (kind.Record (record { name = codes "a"; ty = type.Id 2; docs = no_docs; span = None } ∷ [])) ∷ unnamed (kind.Handle (handle.Own 0)) ∷ []
   -- not a plain value of it, not a `borrow`, not an `own` before the record, and t becomes no number
-  pub not_plain : (united (merging resource_t resource_record)).types ≡ type_in 0 (codes "t") kind.Resource ∷ x_of (type.Id 0) ∷ [] → ⊥
-  pub not_borrowed : (united (merging resource_t resource_record)).types ≡ type_in 0 (codes "t") kind.Resource ∷ x_of (type.Id 2) ∷ unnamed (kind.Handle (handle.Borrow 0)) ∷ [] → ⊥
-  pub not_before : (united (merging resource_t resource_record)).types ≡ type_in 0 (codes "t") kind.Resource ∷ unnamed (kind.Handle (handle.Own 0)) ∷ x_of (type.Id 1) ∷ [] → ⊥
-  pub no_number : (united (merging resource_t resource_record)).types ≡ number_in 0 (codes "t") ∷ x_of (type.Id 2) ∷ unnamed (kind.Handle (handle.Own 0)) ∷ [] → ⊥
+  pub not_plain : (united (merge_of_graphs resource_t resource_record)).types ≡ type_in 0 (codes "t") kind.Resource ∷ x_of (type.Id 0) ∷ [] → ⊥
+  pub not_borrowed : (united (merge_of_graphs resource_t resource_record)).types ≡ type_in 0 (codes "t") kind.Resource ∷ x_of (type.Id 2) ∷ unnamed (kind.Handle (handle.Borrow 0)) ∷ [] → ⊥
+  pub not_before : (united (merge_of_graphs resource_t resource_record)).types ≡ type_in 0 (codes "t") kind.Resource ∷ unnamed (kind.Handle (handle.Own 0)) ∷ x_of (type.Id 1) ∷ [] → ⊥
+  pub no_number : (united (merge_of_graphs resource_t resource_record)).types ≡ number_in 0 (codes "t") ∷ x_of (type.Id 2) ∷ unnamed (kind.Handle (handle.Own 0)) ∷ [] → ⊥
   -- where t is a number no `own` comes
-  pub no_own : united (merging one_number record_x) ≡ record_x
+  pub no_own : united (merge_of_graphs one_number record_x) ≡ record_x
   -- and a value that is there stays as it is
-  pub not_owned : united (merging resource_record resource_t) ≡ resource_record
+  pub not_owned : united (merge_of_graphs resource_record resource_t) ≡ resource_record
   -- i uses j now, so a world that imports i imports j, before it
-  pub elaborated : (united (merging world_of_i i_uses_j)).worlds ≡ world_of (codes "w") (entry_of 1 ∷ entry_of 0 ∷ []) [] ∷ []
-  pub not_as_listed : (united (merging world_of_i i_uses_j)).worlds ≡ world_of_i.worlds → ⊥
+  pub elaborated : (united (merge_of_graphs world_of_i i_uses_j)).worlds ≡ world_of (codes "w") (entry_of 1 ∷ entry_of 0 ∷ []) [] ∷ []
+  pub not_as_listed : (united (merge_of_graphs world_of_i i_uses_j)).worlds ≡ world_of_i.worlds → ⊥
   -- the interface without a name takes what the other one has
-  pub inner_joined : united (merging (inner ((codes "t", 0) ∷ []) (number_in 0 (codes "t") ∷ []) []) (inner ((codes "u", 0) ∷ []) (number_in 0 (codes "u") ∷ []) (function_of (codes "f") (type.Id 0 ∷ []) None ∷ [])))
+  pub inner_joined : united (merge_of_graphs (inner ((codes "t", 0) ∷ []) (number_in 0 (codes "t") ∷ []) []) (inner ((codes "u", 0) ∷ []) (number_in 0 (codes "u") ∷ []) (function_of (codes "f") (type.Id 0 ∷ []) None ∷ [])))
       ≡ inner ((codes "t", 0) ∷ (codes "u", 1) ∷ []) (number_in 0 (codes "t") ∷ number_in 0 (codes "u") ∷ []) (function_of (codes "f") (type.Id 1 ∷ []) None ∷ [])
   -- a function of a matched world doesn't come again
-  pub function_once : united (merging world_function world_function) ≡ world_function
+  pub function_once : united (merge_of_graphs world_function world_function) ≡ world_function
   -- a world comes with its own types, at the next ids, and they are of it, not of the world that had its id
-  pub world_comes : united (merging world_of_i v_alone) ≡ record world_of_i {
+  pub world_comes : united (merge_of_graphs world_of_i v_alone) ≡ record world_of_i {
     types = number_in 0 (codes "t") ∷ types_of_v 1 1;
     worlds = world_of (codes "w") (entry_of 0 ∷ []) [] ∷ v_of 1 ∷ [];
     packages = foo_bar_of ((codes "i", 0) ∷ []) ((codes "w", 0) ∷ (codes "v", 1) ∷ []) ∷ [];
   }
-  pub not_of_another : (united (merging world_of_i v_alone)).types ≡ number_in 0 (codes "t") ∷ types_of_v 0 1 → ⊥
+  pub not_of_another : (united (merge_of_graphs world_of_i v_alone)).types ≡ number_in 0 (codes "t") ∷ types_of_v 0 1 → ⊥
   -- a matched world takes none
-  pub types_once : united (merging v_alone v_alone) ≡ v_alone
+  pub types_once : united (merge_of_graphs v_alone v_alone) ≡ v_alone
   -- packages: what each has joins under its name, and one that isn't there comes last
-  pub packages : (united (merging b_uses_a a_beside_b)).packages ≡ package_named (codes "a") ((codes "i", 0) ∷ (codes "h", 3) ∷ []) ∷ package_named (codes "b") ((codes "j", 1) ∷ (codes "k", 2) ∷ []) ∷ []
-  pub package_comes : (united (merging b_uses_a only_c)).packages
+  pub packages : (united (merge_of_graphs b_uses_a a_beside_b)).packages ≡ package_named (codes "a") ((codes "i", 0) ∷ (codes "h", 3) ∷ []) ∷ package_named (codes "b") ((codes "j", 1) ∷ (codes "k", 2) ∷ []) ∷ []
+  pub package_comes : (united (merge_of_graphs b_uses_a only_c)).packages
       ≡ package_named (codes "a") ((codes "i", 0) ∷ []) ∷ package_named (codes "b") ((codes "j", 1) ∷ []) ∷ package_named (codes "c") ((codes "k", 2) ∷ []) ∷ []
-  pub named_once : (united (merging b_uses_a only_c)).package_names ≡ (foo_named (codes "a"), 0) ∷ (foo_named (codes "b"), 1) ∷ (foo_named (codes "c"), 2) ∷ []
-  pub of_its_package : (united (merging b_uses_a only_c)).interfaces
+  pub named_once : (united (merge_of_graphs b_uses_a only_c)).package_names ≡ (foo_named (codes "a"), 0) ∷ (foo_named (codes "b"), 1) ∷ (foo_named (codes "c"), 2) ∷ []
+  pub of_its_package : (united (merge_of_graphs b_uses_a only_c)).interfaces
       ≡ interface_in 0 (codes "i") ((codes "t", 0) ∷ []) ∷ interface_in 1 (codes "j") ((codes "t", 1) ∷ []) ∷ interface_in 2 (codes "k") ((codes "v", 2) ∷ []) ∷ []
   -- a gate replaces none, and stays where none comes
-  pub gate_comes : united (merging one_number (gated gate_f)) ≡ gated gate_f
-  pub gate_stays : united (merging (gated gate_f) one_number) ≡ gated gate_f
+  pub gate_comes : united (merge_of_graphs one_number (gated gate_f)) ≡ gated gate_f
+  pub gate_stays : united (merge_of_graphs (gated gate_f) one_number) ≡ gated gate_f
   -- spans of what moves move
   pub moved : (united (record { graph = empty_graph; other = record one_number { interfaces = record (interface_of (Some (codes "i")) ((codes "t", 0) ∷ [])) { span = Some (20, 25) } ∷ [] }; offset = 16 })).interfaces
       ≡ record (interface_of (Some (codes "i")) ((codes "t", 0) ∷ [])) { span = Some (36, 41) } ∷ []

@@ -29,7 +29,7 @@ pub fn examples_of_two_reasons()
     ensures { ExamplesOfTwoReasons }
 {}
 
-/// Merges against which nothing speaks.
+/// Merges against which no cause holds.
 pub fn examples_of_accepted()
     ensures { ExamplesOfAccepted }
 {}

@@ -5,26 +5,26 @@ ghost use Rattle.wit_merge_laws.specs.laws.OrderLaws.{AgreementIsSymmetric, Merg
 
 use wit_graph_theory::laws::laws_of_elaboration;
 
-/// Where an empty graph goes into a valid one, nothing speaks against it, and nothing changes.
+/// Where an empty graph goes into a valid one, no cause holds against it, and nothing changes.
 pub fn nothing_comes()
     ensures { NothingComes }
 {}
 
-/// What is united of two valid graphs is valid, where nothing speaks against the merge.
+/// What is united of two valid graphs is valid, where no cause holds against the merge.
 pub fn unions_stay_valid()
     ensures { UnionsStayValid }
 {
     laws_of_elaboration();
 }
 
-/// Where nothing speaks against the merge, what is united of two valid graphs has the names of both, and no others.
+/// Where no cause holds against the merge, what is united of two valid graphs has the names of both, and no others.
 pub fn unions_have_both_names()
     ensures { UnionsHaveBothNames }
 {
     laws_of_elaboration();
 }
 
-/// Where nothing speaks against the merge, a world that both valid graphs have imports the same interfaces under
+/// Where no cause holds against the merge, a world that both valid graphs have imports the same interfaces under
 /// their own keys in both, and in what is made of them.
 pub fn shared_worlds_keep_imports()
     ensures { SharedWorldsKeepImports }

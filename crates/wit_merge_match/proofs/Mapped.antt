@@ -1,7 +1,7 @@
 -- Lists of what is found of each of some things.
 use Rattle.std.proofs.Common.{◌≡◌, ◌∙◌, ℕ, suc, zero, List, [], ◌∷◌, Option, None, Some, get_or, length, map, option_and_then, slice_get, refl, ap}
 use Rattle.std.proofs.lemmas.List.{length-map}
-use Rattle.wit_merge_match.specs.steps.Found.{AreFound}
+use Rattle.wit_merge_match.specs.steps.Matched.{AreFound}
 
 -- what stands at a place of such a list
 pub get_or-map : {X : Type 0} (f : X → Option ℕ) (xs : List X) (i : ℕ) → get_or (map f xs) i None ≡ option_and_then f (slice_get xs i)

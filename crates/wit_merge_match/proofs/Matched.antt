@@ -13,28 +13,28 @@ use Rattle.wit_data.specs.declared.types.TypeOwner.TheVariants as owner
 use Rattle.wit_data.specs.declared.world.World.{World}
 use Rattle.wit_graph_data.specs.declared.graph.Graph.{Graph}
 use Rattle.wit_graph_data.specs.declared.graph.Package.{Package}
-use Rattle.wit_link_spec.specs.Lookup.{listed_type}
-use Rattle.wit_merge_spec.specs.Matches.{Merging, found_as, found_at_spot, found_by, found_in, found_interface, found_package, found_type, found_world, spots}
-use Rattle.wit_merge_match.specs.steps.Found.{AreFound, AreSpotted, interface_under, merging, owned_under, type_under, under, world_under}
+use Rattle.wit_link_spec.specs.Lookup.{interface_type}
+use Rattle.wit_merge_spec.specs.Matches.{GraphMerge, counterpart_at_label, counterpart_interface, counterpart_interface_by, counterpart_package, counterpart_type, counterpart_type_by, counterpart_world, named_in_counterpart, world_labels}
+use Rattle.wit_merge_match.specs.steps.Matched.{AreFound, AreLabelled, interface_under, merge_of_graphs, owned_under, type_under, under, world_under}
 use Rattle.wit_merge_match.proofs.Mapped.{found_mapped, get_or-map, same_of}
 
 module _ (g other : Graph) where
-  abbrev m : Merging
-  m = merging g other
+  abbrev m : GraphMerge
+  m = merge_of_graphs g other
 
-  pub packages_found : (packages : List (Option ℕ)) → packages ≡ map (λ (home : Package). lookup (same_package home.name) g.package_names) other.packages → AreFound (found_package m) (length other.packages) packages
-  packages_found packages is = found_mapped (λ (home : Package). lookup (same_package home.name) g.package_names) (found_package m) other.packages packages is (λ p. refl)
+  pub packages_found : (packages : List (Option ℕ)) → packages ≡ map (λ (home : Package). lookup (same_package home.name) g.package_names) other.packages → AreFound (counterpart_package m) (length other.packages) packages
+  packages_found packages is = found_mapped (λ (home : Package). lookup (same_package home.name) g.package_names) (counterpart_package m) other.packages packages is (λ p. refl)
 
-  module _ (packages : List (Option ℕ)) (known : AreFound (found_package m) (length other.packages) packages) where
+  module _ (packages : List (Option ℕ)) (known : AreFound (counterpart_package m) (length other.packages) packages) where
     -- what stands under a name in a table
-    same_under : (table : Package → List (List ℕ × ℕ)) (home : Option ℕ) (name : List ℕ) → under table g packages home name ≡ found_in table m home name
+    same_under : (table : Package → List (List ℕ × ℕ)) (home : Option ℕ) (name : List ℕ) → under table g packages home name ≡ named_in_counterpart table m home name
     same_under table home name =
-        ap (option_and_then (λ p'. option_and_then (λ (there : Package). lookup (bytes_eq name) (table there)) (slice_get g.packages p'))) (same_of (λ p. get_or packages p None) (found_package m) home known.each)
+        ap (option_and_then (λ p'. option_and_then (λ (there : Package). lookup (bytes_eq name) (table there)) (slice_get g.packages p'))) (same_of (λ p. get_or packages p None) (counterpart_package m) home known.each)
 
-    pub worlds_found : (worlds : List (Option ℕ)) → worlds ≡ map (world_under g packages) other.worlds → AreFound (found_world m) (length other.worlds) worlds
+    pub worlds_found : (worlds : List (Option ℕ)) → worlds ≡ map (world_under g packages) other.worlds → AreFound (counterpart_world m) (length other.worlds) worlds
     worlds_found worlds is =
-        found_mapped (world_under g packages) (found_world m) other.worlds worlds is
-        (λ w. same_of (world_under g packages) (λ (world : World). found_in (λ (there : Package). there.worlds) m world.package world.name) (slice_get other.worlds w)
+        found_mapped (world_under g packages) (counterpart_world m) other.worlds worlds is
+        (λ w. same_of (world_under g packages) (λ (world : World). named_in_counterpart (λ (there : Package). there.worlds) m world.package world.name) (slice_get other.worlds w)
         (λ world. same_under (λ (there : Package). there.worlds) world.package world.name))
 
     -- interfaces by name
@@ -53,35 +53,35 @@ module _ (g other : Graph) where
           by None off = refl
           by (Some interface) off = none interface.package interface.name off
 
-      pub interfaces_found : (found : List (Option ℕ)) → AreSpotted g other named (spots other.worlds) found → AreFound (found_interface m) (length other.interfaces) found
+      pub interfaces_found : (found : List (Option ℕ)) → AreLabelled g other named (world_labels other.worlds) found → AreFound (counterpart_interface m) (length other.interfaces) found
       interfaces_found found spotted = record { long = spotted.long; each = each }
         where
           by_name : (i : ℕ) (home : Option ℕ) (name : Option (List ℕ))
-              → (if not (is_some name) then option_and_then (found_at_spot m) (lookup (nat_eq i) (spots other.worlds)) else option_and_then (under (λ (there : Package). there.interfaces) g packages home) name) ≡ found_as m i home name
+              → (if not (is_some name) then option_and_then (counterpart_at_label m) (lookup (nat_eq i) (world_labels other.worlds)) else option_and_then (under (λ (there : Package). there.interfaces) g packages home) name) ≡ counterpart_interface_by m i home name
           by_name i home None = refl
           by_name i home (Some name) = same_under (λ (there : Package). there.interfaces) home name
 
           by : (i : ℕ) (o : Option Interface)
-              → (if option_map_or (λ (interface : Interface). not (is_some interface.name)) o false then option_and_then (found_at_spot m) (lookup (nat_eq i) (spots other.worlds)) else option_and_then (interface_under g packages) o)
-              ≡ option_and_then (λ (interface : Interface). found_as m i interface.package interface.name) o
+              → (if option_map_or (λ (interface : Interface). not (is_some interface.name)) o false then option_and_then (counterpart_at_label m) (lookup (nat_eq i) (world_labels other.worlds)) else option_and_then (interface_under g packages) o)
+              ≡ option_and_then (λ (interface : Interface). counterpart_interface_by m i interface.package interface.name) o
           by i None = refl
           by i (Some interface) = by_name i interface.package interface.name
 
-          each : (i : ℕ) → get_or found i None ≡ found_interface m i
+          each : (i : ℕ) → get_or found i None ≡ counterpart_interface m i
           each i =
               spotted.each i
-              ∙ ap (λ (n : Option ℕ). if is_unnamed other.interfaces i then option_and_then (found_at_spot m) (lookup (nat_eq i) (spots other.worlds)) else n) (named_at i)
+              ∙ ap (λ (n : Option ℕ). if is_unnamed other.interfaces i then option_and_then (counterpart_at_label m) (lookup (nat_eq i) (world_labels other.worlds)) else n) (named_at i)
               ∙ by i (slice_get other.interfaces i)
 
   -- types by name and owner
-  pub types_found : (worlds interfaces types : List (Option ℕ)) → AreFound (found_world m) (length other.worlds) worlds → AreFound (found_interface m) (length other.interfaces) interfaces
-      → types ≡ map (type_under g worlds interfaces) other.types → AreFound (found_type m) (length other.types) types
+  pub types_found : (worlds interfaces types : List (Option ℕ)) → AreFound (counterpart_world m) (length other.worlds) worlds → AreFound (counterpart_interface m) (length other.interfaces) interfaces
+      → types ≡ map (type_under g worlds interfaces) other.types → AreFound (counterpart_type m) (length other.types) types
   types_found worlds interfaces types known_worlds known_interfaces is =
-      found_mapped (type_under g worlds interfaces) (found_type m) other.types types is
-      (λ t. same_of (type_under g worlds interfaces) (λ (def : TypeDef). found_by m def.name def.owner) (slice_get other.types t) (λ def. by def.name def.owner))
+      found_mapped (type_under g worlds interfaces) (counterpart_type m) other.types types is
+      (λ t. same_of (type_under g worlds interfaces) (λ (def : TypeDef). counterpart_type_by m def.name def.owner) (slice_get other.types t) (λ def. by def.name def.owner))
     where
-      by : (name : Option (List ℕ)) (owned : TypeOwner) → option_and_then (λ n. owned_under g worlds interfaces n owned) name ≡ found_by m name owned
+      by : (name : Option (List ℕ)) (owned : TypeOwner) → option_and_then (λ n. owned_under g worlds interfaces n owned) name ≡ counterpart_type_by m name owned
       by None owned = refl
-      by (Some n) (owner.Interface i) = ap (option_and_then (listed_type g n)) (known_interfaces.each i)
+      by (Some n) (owner.Interface i) = ap (option_and_then (interface_type g n)) (known_interfaces.each i)
       by (Some n) (owner.World w) = ap (λ (o : Option ℕ). option_and_then (λ (there : World). lookup (bytes_eq n) (world_types there)) (option_and_then (slice_get g.worlds) o)) (known_worlds.each w)
       by (Some n) owner.None = refl

@@ -4,8 +4,8 @@ use Rattle.std.specs.List.{range_with_len}
 use Rattle.wit_link_spec.specs.facts.RankFacts.{after, rank-suc}
 use Rattle.wit_link_spec.specs.facts.RangeFacts.{range-same}
 use Rattle.wit_link_spec.specs.Ranks.{rank}
-use Rattle.wit_merge_match.specs.steps.Found.{AreFound}
-use Rattle.wit_merge_match.specs.steps.Going.{moves, place_from}
+use Rattle.wit_merge_match.specs.steps.Matched.{AreFound}
+use Rattle.wit_merge_match.specs.steps.MergeRemaps.{moves, place_from}
 
 module _ (found : List (Option ℕ)) (first i : ℕ) where
   -- where it goes
@@ -22,7 +22,7 @@ module _ (found : List (Option ℕ)) (first i : ℕ) where
       inside true m n = omega arith
       inside false m n = refl
 
--- where things go by a list of what is found is where they go by what is found of each
+-- what things are remapped to by a list of what is found is where they go by what is found of each
 module _ (found : ℕ → Option ℕ) (count first : ℕ) (list : List (Option ℕ)) (known : AreFound found count list) where
   rank_same : (i : ℕ) → rank (moves list) i ≡ rank (λ (j : ℕ). not (is_some (found j))) i
   rank_same zero = refl

@@ -9,23 +9,23 @@ use Rattle.std.proofs.lemmas.List.Concat.{flat_map-append}
 use Rattle.std.proofs.lemmas.List.Elements.{Contains-append_cases}
 use Rattle.wit_values.specs.facts.Lists.{take-next_at}
 use Rattle.wit_data.specs.Entries.{Entry, is_unnamed}
-use Rattle.wit_link_spec.specs.Gates.{Place}
+use Rattle.wit_link_spec.specs.Gates.{OptionalSpan}
 use Rattle.wit_data.specs.declared.interface.Interface.{Interface}
 use Rattle.wit_data.specs.declared.world.World.{World}
 use Rattle.wit_data.specs.declared.world.WorldItem.{WorldItem}
 use Rattle.wit_data.specs.declared.world.WorldItem.TheVariants as item
 use Rattle.wit_data.specs.declared.world.WorldKey.{WorldKey}
 use Rattle.wit_data.specs.declared.world.WorldKey.TheVariants as key
-use Rattle.wit_graph_data.specs.Questions.{topological_packages}
+use Rattle.wit_graph_data.specs.Queries.{topological_packages}
 use Rattle.wit_graph_data.specs.declared.graph.Package.{Package}
 use Rattle.wit_digraph.specs.facts.MemberFacts.{Contains-cons_cases, Contains-nil}
 use Rattle.wit_merge_spec.specs.Agreement.{StructuresDiffer}
-use Rattle.wit_merge_spec.specs.Matches.{Merging, found_item, interface_beside, world_beside}
+use Rattle.wit_merge_spec.specs.Matches.{GraphMerge, counterpart_item, matched_interface, matched_world}
 use Rattle.wit_merge_spec.specs.MismatchText.{entry_link, linked, type_link}
 use Rattle.wit_merge_spec.specs.TypePairs.{TypePair, common_entries, common_types, entry_pairs, in_package_order, interface_pairs, item_pairs, paired, type_pairs, world_pairs}
-use Rattle.wit_merge_match.specs.steps.Structures.{FirstTold, NoneDiffer, common_pair, interface_part, of_package, package_interface_pairs, package_world_pairs, side_pairs, unnamed_pairs, world_part}
+use Rattle.wit_merge_match.specs.steps.Structures.{FirstMismatch, NoneDiffer, common_pair, interface_part, of_package, package_interface_pairs, package_world_pairs, side_pairs, unnamed_pairs, world_part}
 
-module _ (m : Merging) where
+module _ (m : GraphMerge) where
   -- ---- end to end
 
   pub none_of_none : NoneDiffer m []
@@ -34,7 +34,7 @@ module _ (m : Merging) where
   pub none_append : (ps qs : List TypePair) → NoneDiffer m ps → NoneDiffer m qs → NoneDiffer m (ps ++ qs)
   none_append ps qs none none' p ending among differ = elim (Contains-append_cases ps qs p among) [ inl front ↦ none p ending front differ | inr back ↦ none' p ending back differ ]
 
-  pub first_front : (ps qs : List TypePair) (text : List ℕ) → FirstTold m ps text → FirstTold m (ps ++ qs) text
+  pub first_front : (ps qs : List TypePair) (text : List ℕ) → FirstMismatch m ps text → FirstMismatch m (ps ++ qs) text
   first_front ps qs text d = record {
     before = d.before;
     pair = d.pair;
@@ -46,7 +46,7 @@ module _ (m : Merging) where
     message_is = d.message_is;
   }
 
-  pub first_back : (ps qs : List TypePair) (text : List ℕ) → NoneDiffer m ps → FirstTold m qs text → FirstTold m (ps ++ qs) text
+  pub first_back : (ps qs : List TypePair) (text : List ℕ) → NoneDiffer m ps → FirstMismatch m qs text → FirstMismatch m (ps ++ qs) text
   first_back ps qs text none d = record {
     before = ps ++ d.before;
     pair = d.pair;
@@ -72,11 +72,11 @@ module _ (m : Merging) where
     split (y ∷ ys) zero is = let same : y ≡ x = cc in (ys, ap (λ (z : X). z ∷ ys) same)
     split (y ∷ ys) (suc k) is = let more = split ys k is in (more.0, ap (λ (l : List X). y ∷ l) more.1)
 
-    pub first_next : (text : List ℕ) → NoneDiffer m (flat_map pairs (take i xs)) → FirstTold m (pairs x) text → FirstTold m (flat_map pairs xs) text
+    pub first_next : (text : List ℕ) → NoneDiffer m (flat_map pairs (take i xs)) → FirstMismatch m (pairs x) text → FirstMismatch m (flat_map pairs xs) text
     first_next text none d =
         let whole = split xs i at in
         let are : flat_map pairs xs ≡ flat_map pairs (take i xs) ++ (pairs x ++ flat_map pairs whole.0) = ap (flat_map pairs) whole.1 ∙ flat_map-append pairs (take i xs) (x ∷ whole.0) in
-        subst (λ (l : List TypePair). FirstTold m l text) (sym are) (first_back (flat_map pairs (take i xs)) (pairs x ++ flat_map pairs whole.0) text none (first_front (pairs x) (flat_map pairs whole.0) text d))
+        subst (λ (l : List TypePair). FirstMismatch m l text) (sym are) (first_back (flat_map pairs (take i xs)) (pairs x ++ flat_map pairs whole.0) text none (first_front (pairs x) (flat_map pairs whole.0) text d))
 
   -- ---- behind links
 
@@ -95,7 +95,7 @@ module _ (m : Merging) where
         | inr there ↦ none_behind links ps (λ r e has. none r e (suc has.0, omega (arith, has.1), has.2)) p ending there differ
       ]
 
-  pub first_behind : (links : List (List ℕ)) (ps : List TypePair) (text : List ℕ) → FirstTold m ps text → FirstTold m (behind links ps) (linked links text)
+  pub first_behind : (links : List (List ℕ)) (ps : List TypePair) (text : List ℕ) → FirstMismatch m ps text → FirstMismatch m (behind links ps) (linked links text)
   first_behind links ps text d = record {
     before = behind links d.before;
     pair = record d.pair { links = links ++ d.pair.links };
@@ -122,7 +122,7 @@ module _ (m : Merging) where
           ∙ ap (λ (l : List TypePair). (let p : TypePair = record { from = e.1; into = t'; links = links ++ (more ++ (type_link e.0 ∷ [])) } in p) ∷ l) rest
 
   pub interface_behind : (links more : List (List ℕ)) (i : ℕ) → interface_pairs m (links ++ more) i ≡ behind links (interface_pairs m more i)
-  interface_behind links more i = by (slice_get m.other.interfaces i) (interface_beside m i)
+  interface_behind links more i = by (slice_get m.other.interfaces i) (matched_interface m i)
     where
       by : (o o' : Option Interface) → option_map_or (λ (from : Interface). option_map_or (common_types (links ++ more) from) o' []) o [] ≡ behind links (option_map_or (λ (from : Interface). option_map_or (common_types more from) o' []) o [])
       by None o' = refl
@@ -150,7 +150,7 @@ module _ (m : Merging) where
 
   pub entry_behind : (links more : List (List ℕ)) (word : List ℕ) (into : List Entry) (e : Entry) → entry_pairs m (links ++ more) word into e ≡ behind links (entry_pairs m more word into e)
   entry_behind links more word into (key.Interface i, held) = refl
-  entry_behind links more word into (key.Name label, held) = by (found_item m into (key.Name label))
+  entry_behind links more word into (key.Name label, held) = by (counterpart_item m into (key.Name label))
     where
       by : (o : Option WorldItem) → option_map_or (item_pairs m ((links ++ more) ++ (entry_link word label ∷ [])) label held) o [] ≡ behind links (option_map_or (item_pairs m (more ++ (entry_link word label ∷ [])) label held) o [])
       by None = refl
@@ -165,7 +165,7 @@ module _ (m : Merging) where
       ∙ sym (map-append (λ (p : TypePair). record p { links = links ++ p.links }) (entry_pairs m [] word into e) (flat_map (entry_pairs m [] word into) from)))
 
   pub world_behind : (links : List (List ℕ)) (w : ℕ) → world_pairs m (links ++ []) w ≡ behind links (world_pairs m [] w)
-  world_behind links w = by (slice_get m.other.worlds w) (world_beside m w)
+  world_behind links w = by (slice_get m.other.worlds w) (matched_world m w)
     where
       by : (o o' : Option World) → option_map_or (λ (from : World). option_map_or (common_entries m (links ++ []) from) o' []) o [] ≡ behind links (option_map_or (λ (from : World). option_map_or (common_entries m [] from) o' []) o [])
       by None o' = refl
@@ -196,8 +196,8 @@ module _ (m : Merging) where
   -- ---- parts of packages
 
   -- of an interface or a world of a package, behind the links that lead there
-  pub first_part : (links : List (List ℕ)) (pairs outer : List TypePair) → outer ≡ behind links pairs → (text message : List ℕ) → FirstTold m pairs text → message ≡ linked links text → FirstTold m outer message
-  first_part links pairs outer is text message d message_is = subst (λ (l : List TypePair). FirstTold m l message) (sym is) (subst (FirstTold m (behind links pairs)) (sym message_is) (first_behind links pairs text d))
+  pub first_part : (links : List (List ℕ)) (pairs outer : List TypePair) → outer ≡ behind links pairs → (text message : List ℕ) → FirstMismatch m pairs text → message ≡ linked links text → FirstMismatch m outer message
+  first_part links pairs outer is text message d message_is = subst (λ (l : List TypePair). FirstMismatch m l message) (sym is) (subst (FirstMismatch m (behind links pairs)) (sym message_is) (first_behind links pairs text d))
 
   pub none_part : (links : List (List ℕ)) (pairs outer : List TypePair) → outer ≡ behind links pairs → NoneDiffer m pairs → NoneDiffer m outer
   none_part links pairs outer is none = subst (NoneDiffer m) (sym is) (none_behind links pairs none)
@@ -217,8 +217,8 @@ module _ (m : Merging) where
   none_all {X} pairs xs i done none = subst (λ (l : List X). NoneDiffer m (flat_map pairs l)) (take_all i xs done) none
 
   -- what is told of the same pairs
-  pub first_is : (pairs pairs' : List TypePair) → pairs ≡ pairs' → (text : List ℕ) → FirstTold m pairs' text → FirstTold m pairs text
-  first_is pairs pairs' is text first = subst (λ (l : List TypePair). FirstTold m l text) (sym is) first
+  pub first_is : (pairs pairs' : List TypePair) → pairs ≡ pairs' → (text : List ℕ) → FirstMismatch m pairs' text → FirstMismatch m pairs text
+  first_is pairs pairs' is text first = subst (λ (l : List TypePair). FirstMismatch m l text) (sym is) first
 
   pub none_same : (pairs pairs' : List TypePair) → pairs ≡ pairs' → NoneDiffer m pairs' → NoneDiffer m pairs
   none_same pairs pairs' is none = subst (NoneDiffer m) (sym is) none
@@ -226,16 +226,16 @@ module _ (m : Merging) where
   -- ---- what the pairs of a thing are, by what it is
 
   -- of interfaces
-  pub interface_is : (i : ℕ) (from into : Interface) → Some from ≡ slice_get m.other.interfaces i → Some into ≡ interface_beside m i → interface_pairs m [] i ≡ flat_map (common_pair into.types) from.types
+  pub interface_is : (i : ℕ) (from into : Interface) → Some from ≡ slice_get m.other.interfaces i → Some into ≡ matched_interface m i → interface_pairs m [] i ≡ flat_map (common_pair into.types) from.types
   interface_is i from into from_is into_is =
-      ap (λ (o : Option Interface). option_map_or (λ (f : Interface). option_map_or (common_types [] f) (interface_beside m i) []) o []) (sym from_is) ∙ ap (λ (o : Option Interface). option_map_or (common_types [] from) o []) (sym into_is)
+      ap (λ (o : Option Interface). option_map_or (λ (f : Interface). option_map_or (common_types [] f) (matched_interface m i) []) o []) (sym from_is) ∙ ap (λ (o : Option Interface). option_map_or (common_types [] from) o []) (sym into_is)
 
   pub interface_absent : (i : ℕ) → None ≡ slice_get m.other.interfaces i → interface_pairs m [] i ≡ []
-  interface_absent i is = ap (λ (o : Option Interface). option_map_or (λ (f : Interface). option_map_or (common_types [] f) (interface_beside m i) []) o []) (sym is)
+  interface_absent i is = ap (λ (o : Option Interface). option_map_or (λ (f : Interface). option_map_or (common_types [] f) (matched_interface m i) []) o []) (sym is)
 
-  pub interface_alone : (i : ℕ) (from : Interface) → Some from ≡ slice_get m.other.interfaces i → None ≡ interface_beside m i → interface_pairs m [] i ≡ []
+  pub interface_alone : (i : ℕ) (from : Interface) → Some from ≡ slice_get m.other.interfaces i → None ≡ matched_interface m i → interface_pairs m [] i ≡ []
   interface_alone i from from_is into_is =
-      ap (λ (o : Option Interface). option_map_or (λ (f : Interface). option_map_or (common_types [] f) (interface_beside m i) []) o []) (sym from_is) ∙ ap (λ (o : Option Interface). option_map_or (common_types [] from) o []) (sym into_is)
+      ap (λ (o : Option Interface). option_map_or (λ (f : Interface). option_map_or (common_types [] f) (matched_interface m i) []) o []) (sym from_is) ∙ ap (λ (o : Option Interface). option_map_or (common_types [] from) o []) (sym into_is)
 
   pub common_is : (others : List (List ℕ × ℕ)) (e : List ℕ × ℕ) (t' : ℕ) → Some t' ≡ lookup (bytes_eq e.0) others → common_pair others e ≡ paired [] e.0 e.1 t' ∷ []
   common_is others e t' is = ap (λ (o : Option ℕ). option_map_or (λ t'. paired [] e.0 e.1 t' ∷ []) o []) (sym is)
@@ -258,40 +258,40 @@ module _ (m : Merging) where
   unnamed_absent i is = ap (λ (o : Option Interface). if option_map_or (λ (f : Interface). not (is_some f.name)) o false then interface_pairs m [] i else []) (sym is)
 
   -- of worlds
-  pub world_is : (w : ℕ) (from into : World) → Some from ≡ slice_get m.other.worlds w → Some into ≡ world_beside m w
+  pub world_is : (w : ℕ) (from into : World) → Some from ≡ slice_get m.other.worlds w → Some into ≡ matched_world m w
       → world_pairs m [] w ≡ side_pairs m (codes "import") from.imports into.imports ++ side_pairs m (codes "export") from.exports into.exports
   world_is w from into from_is into_is =
-      ap (λ (o : Option World). option_map_or (λ (f : World). option_map_or (common_entries m [] f) (world_beside m w) []) o []) (sym from_is) ∙ ap (λ (o : Option World). option_map_or (common_entries m [] from) o []) (sym into_is)
+      ap (λ (o : Option World). option_map_or (λ (f : World). option_map_or (common_entries m [] f) (matched_world m w) []) o []) (sym from_is) ∙ ap (λ (o : Option World). option_map_or (common_entries m [] from) o []) (sym into_is)
 
   pub world_absent : (w : ℕ) → None ≡ slice_get m.other.worlds w → world_pairs m [] w ≡ []
-  world_absent w is = ap (λ (o : Option World). option_map_or (λ (f : World). option_map_or (common_entries m [] f) (world_beside m w) []) o []) (sym is)
+  world_absent w is = ap (λ (o : Option World). option_map_or (λ (f : World). option_map_or (common_entries m [] f) (matched_world m w) []) o []) (sym is)
 
-  pub world_alone : (w : ℕ) (from : World) → Some from ≡ slice_get m.other.worlds w → None ≡ world_beside m w → world_pairs m [] w ≡ []
+  pub world_alone : (w : ℕ) (from : World) → Some from ≡ slice_get m.other.worlds w → None ≡ matched_world m w → world_pairs m [] w ≡ []
   world_alone w from from_is into_is =
-      ap (λ (o : Option World). option_map_or (λ (f : World). option_map_or (common_entries m [] f) (world_beside m w) []) o []) (sym from_is) ∙ ap (λ (o : Option World). option_map_or (common_entries m [] from) o []) (sym into_is)
+      ap (λ (o : Option World). option_map_or (λ (f : World). option_map_or (common_entries m [] f) (matched_world m w) []) o []) (sym from_is) ∙ ap (λ (o : Option World). option_map_or (common_entries m [] from) o []) (sym into_is)
 
   -- of entries
-  pub entry_is : (word : List ℕ) (into : List Entry) (k : WorldKey) (label : List ℕ) (held there : WorldItem) → k ≡ key.Name label → Some there ≡ found_item m into k
+  pub entry_is : (word : List ℕ) (into : List Entry) (k : WorldKey) (label : List ℕ) (held there : WorldItem) → k ≡ key.Name label → Some there ≡ counterpart_item m into k
       → entry_pairs m [] word into (k, held) ≡ behind (entry_link word label ∷ []) (item_pairs m [] label held there)
   entry_is word into k label held there k_is is =
       ap (λ (l : WorldKey). entry_pairs m [] word into (l, held)) k_is
-      ∙ (ap (λ (o : Option WorldItem). option_map_or (item_pairs m (entry_link word label ∷ []) label held) o []) (sym (is ∙ ap (found_item m into) k_is)) ∙ item_behind (entry_link word label ∷ []) [] label held there)
+      ∙ (ap (λ (o : Option WorldItem). option_map_or (item_pairs m (entry_link word label ∷ []) label held) o []) (sym (is ∙ ap (counterpart_item m into) k_is)) ∙ item_behind (entry_link word label ∷ []) [] label held there)
 
-  pub entry_absent : (word : List ℕ) (into : List Entry) (k : WorldKey) (label : List ℕ) (held : WorldItem) → k ≡ key.Name label → None ≡ found_item m into k → entry_pairs m [] word into (k, held) ≡ []
+  pub entry_absent : (word : List ℕ) (into : List Entry) (k : WorldKey) (label : List ℕ) (held : WorldItem) → k ≡ key.Name label → None ≡ counterpart_item m into k → entry_pairs m [] word into (k, held) ≡ []
   entry_absent word into k label held k_is is =
-      ap (λ (l : WorldKey). entry_pairs m [] word into (l, held)) k_is ∙ ap (λ (o : Option WorldItem). option_map_or (item_pairs m (entry_link word label ∷ []) label held) o []) (sym (is ∙ ap (found_item m into) k_is))
+      ap (λ (l : WorldKey). entry_pairs m [] word into (l, held)) k_is ∙ ap (λ (o : Option WorldItem). option_map_or (item_pairs m (entry_link word label ∷ []) label held) o []) (sym (is ∙ ap (counterpart_item m into) k_is))
 
   pub entry_keyed : (word : List ℕ) (into : List Entry) (k : WorldKey) (i : ℕ) (held : WorldItem) → k ≡ key.Interface i → entry_pairs m [] word into (k, held) ≡ []
   entry_keyed word into k i held k_is = ap (λ (l : WorldKey). entry_pairs m [] word into (l, held)) k_is
 
   -- of items
-  pub types_is : (label : List ℕ) (from into : WorldItem) (t t' : ℕ) (span span' : Place) → from ≡ item.Type_ t span → into ≡ item.Type_ t' span' → item_pairs m [] label from into ≡ paired [] label t t' ∷ []
+  pub types_is : (label : List ℕ) (from into : WorldItem) (t t' : ℕ) (span span' : OptionalSpan) → from ≡ item.Type_ t span → into ≡ item.Type_ t' span' → item_pairs m [] label from into ≡ paired [] label t t' ∷ []
   types_is label from into t t' span span' from_is into_is = ap (λ (held : WorldItem). item_pairs m [] label held into) from_is ∙ ap (item_pairs m [] label (item.Type_ t span)) into_is
 
-  pub type_alone : (label : List ℕ) (from into : WorldItem) (t : ℕ) (span : Place) → from ≡ item.Type_ t span → ((t' : ℕ) (span' : Place) → into ≡ item.Type_ t' span' → ⊥) → item_pairs m [] label from into ≡ []
+  pub type_alone : (label : List ℕ) (from into : WorldItem) (t : ℕ) (span : OptionalSpan) → from ≡ item.Type_ t span → ((t' : ℕ) (span' : OptionalSpan) → into ≡ item.Type_ t' span' → ⊥) → item_pairs m [] label from into ≡ []
   type_alone label from into t span from_is other = ap (λ (held : WorldItem). item_pairs m [] label held into) from_is ∙ by into other
     where
-      by : (into : WorldItem) → ((t' : ℕ) (span' : Place) → into ≡ item.Type_ t' span' → ⊥) → item_pairs m [] label (item.Type_ t span) into ≡ []
+      by : (into : WorldItem) → ((t' : ℕ) (span' : OptionalSpan) → into ≡ item.Type_ t' span' → ⊥) → item_pairs m [] label (item.Type_ t span) into ≡ []
       by (item.Type_ t' span') other = absurd (other t' span' refl)
       by (item.Interface i stability docs span' external_id) other = refl
       by (item.Function f) other = refl

@@ -15,13 +15,13 @@ use Rattle.wit_graph_theory.specs.facts.ListFacts.{contained_at, place_of}
 use Rattle.wit_graph_theory.specs.facts.OptionFacts.{some_parts, some_same, some_whole}
 use Rattle.wit_merge_spec.specs.Agreement as agreement
 use Rattle.wit_merge_spec.specs.Agreement.{EntriesDiffer, GraphsDiffer, ItemsDiffer, same_sort}
-use Rattle.wit_merge_spec.specs.Matches.{Merging, Pair, found_interface, found_world}
+use Rattle.wit_merge_spec.specs.Matches.{GraphMerge, Pair, counterpart_interface, counterpart_world}
 use Rattle.wit_merge_spec.specs.MismatchText.{entry_count_text, entry_link, linked, other_interface_text, other_sort_text, part_links, type_link}
-use Rattle.wit_merge_spec.specs.Reasons.{AreOne}
+use Rattle.wit_merge_spec.specs.Reasons.{HasNoMismatch}
 use Rattle.wit_merge_spec.specs.TypePairs.{TypePair, type_pairs}
 use Rattle.wit_merge_match.specs.Differing as differing
 use Rattle.wit_merge_match.specs.Differing.{DifferAt, EntryDiffers, HeldDiffer, InterfaceDiffersAt, InterfacesDiffer, PartDiffers, WorldDiffersAt, WorldsDiffer}
-use Rattle.wit_merge_match.specs.steps.Structures.{FirstTold, NoneDiffer}
+use Rattle.wit_merge_match.specs.steps.Structures.{FirstMismatch, NoneDiffer}
 
 -- what follows where there is nothing
 pub if_none : {X P Q : Type 0} → (P → Q) → (o : Option X) → IfNone o P → IfNone o Q
@@ -80,8 +80,8 @@ part_alike packages sort home name Differ none message d = none d.text d.differ
 
 -- ---- interfaces of entries
 
-module _ (m : Merging) (i i' : ℕ) where
-  pub held_alike : found_interface m i ≡ Some i' → (a b : Interface) → Some a ≡ slice_get m.other.interfaces i → Some b ≡ slice_get m.graph.interfaces i'
+module _ (m : GraphMerge) (i i' : ℕ) where
+  pub held_alike : counterpart_interface m i ≡ Some i' → (a b : Interface) → Some a ≡ slice_get m.other.interfaces i → Some b ≡ slice_get m.graph.interfaces i'
       → (a.name ≡ None → (text : List ℕ) → HaveFunctionMismatch a b text → ⊥) → (text : List ℕ) → HeldDiffer m i i' text → ⊥
   held_alike matched a b a_is b_is none text (differing.apart not_matched told) = not_matched matched
   held_alike matched a b a_is b_is none text (differing.unnamed from into from_is into_is same nameless apart) =
@@ -92,7 +92,7 @@ module _ (m : Merging) (i i' : ℕ) where
 
 -- ---- items
 
-module _ (m : Merging) (from into : WorldItem) where
+module _ (m : GraphMerge) (from into : WorldItem) where
   pub sorts_differ : same_sort from into ≡ false → (text : List ℕ) → text ≡ other_sort_text → ItemsDiffer m from into text
   sorts_differ off text told = subst (ItemsDiffer m from into) (sym told) (agreement.sorts off)
 
@@ -108,18 +108,18 @@ module _ (m : Merging) (from into : WorldItem) where
         let first : j ≡ i = cc in
         let second : j' ≡ i' = cc in
         none other_interface_text
-        (differing.apart (subst (λ (k : ℕ). found_interface m i ≢ Some k) second (subst (λ (k : ℕ). found_interface m k ≢ Some j') first not_matched)) refl)
+        (differing.apart (subst (λ (k : ℕ). counterpart_interface m i ≢ Some k) second (subst (λ (k : ℕ). counterpart_interface m k ≢ Some j') first not_matched)) refl)
     interfaces_alike one none _ (agreement.unnamed text p j_is j'_is nameless apart) =
         let first : p.x ≡ i = cc in
         let second : p.x' ≡ i' = cc in
         none text
         (differing.unnamed p.from p.into (subst (λ (k : ℕ). slice_get m.other.interfaces k ≡ Some p.from) first p.from_is)
         (subst (λ (k : ℕ). slice_get m.graph.interfaces k ≡ Some p.into) second p.into_is)
-        (subst (λ (k : ℕ). found_interface m i ≡ Some k) second (subst (λ (k : ℕ). found_interface m k ≡ Some p.x') first p.matched)) nameless apart)
+        (subst (λ (k : ℕ). counterpart_interface m i ≡ Some k) second (subst (λ (k : ℕ). counterpart_interface m k ≡ Some p.x') first p.matched)) nameless apart)
 
 -- ---- entries
 
-module _ (m : Merging) (word : List ℕ) (into : List Entry) where
+module _ (m : GraphMerge) (word : List ℕ) (into : List Entry) where
   module _ (from : List Entry) where
     -- what differs in the entry at a place
     abbrev pub EntryDiffersAt : ℕ → List ℕ → Type 0
@@ -151,17 +151,17 @@ module _ (m : Merging) (word : List ℕ) (into : List Entry) where
 
 -- ---- graphs
 
-module _ (m : Merging) where
+module _ (m : GraphMerge) where
   pub interface_differs : (i : ℕ) (message : List ℕ) → InterfaceDiffersAt m i message → GraphsDiffer m message
   interface_differs i message at =
-      let pair = to_pair (found_interface m) m.other.interfaces m.graph.interfaces (InterfacesDiffer m) i message at in
+      let pair = to_pair (counterpart_interface m) m.other.interfaces m.graph.interfaces (InterfacesDiffer m) i message at in
       let d = pair.1 in
       let home = some_parts (slice_get m.other.packages) pair.0.from.package d.there d.there_is in
       subst (GraphsDiffer m) (sym d.message_is) (agreement.interfaces pair.0 home.0 d.there d.called d.text d.called_is home.1 home.2 d.differ)
 
   pub world_differs : (w : ℕ) (message : List ℕ) → WorldDiffersAt m w message → GraphsDiffer m message
   world_differs w message at =
-      let pair = to_pair (found_world m) m.other.worlds m.graph.worlds (WorldsDiffer m) w message at in
+      let pair = to_pair (counterpart_world m) m.other.worlds m.graph.worlds (WorldsDiffer m) w message at in
       let d = pair.1 in
       let home = some_parts (slice_get m.other.packages) pair.0.from.package d.there d.there_is in
       let called : d.called ≡ pair.0.from.name = some_same d.called pair.0.from.name (sym d.called_is) in
@@ -169,17 +169,17 @@ module _ (m : Merging) where
       (agreement.worlds pair.0 home.0 d.there d.differ.exported d.text home.1 home.2 d.differ.differ)
 
   -- of matched types the first that differ
-  pub types_differ : (message : List ℕ) → FirstTold m (type_pairs m) message → GraphsDiffer m message
+  pub types_differ : (message : List ℕ) → FirstMismatch m (type_pairs m) message → GraphsDiffer m message
   types_differ message first = agreement.types message first
 
-  pub are_one : ((i : ℕ) (message : List ℕ) → InterfaceDiffersAt m i message → ⊥) → ((w : ℕ) (message : List ℕ) → WorldDiffersAt m w message → ⊥) → NoneDiffer m (type_pairs m) → AreOne m
+  pub are_one : ((i : ℕ) (message : List ℕ) → InterfaceDiffersAt m i message → ⊥) → ((w : ℕ) (message : List ℕ) → WorldDiffersAt m w message → ⊥) → NoneDiffer m (type_pairs m) → HasNoMismatch m
   are_one interfaces worlds types _ (agreement.interfaces p home there name text named of is apart) =
       interfaces p.x _
-      (from_pair (found_interface m) m.other.interfaces m.graph.interfaces (InterfacesDiffer m) p _
+      (from_pair (counterpart_interface m) m.other.interfaces m.graph.interfaces (InterfacesDiffer m) p _
       (record { there = there; there_is = some_whole (slice_get m.other.packages) p.from.package home there of is; called = name; called_is = named; text = text; differ = apart; message_is = refl }))
   are_one interfaces worlds types _ (agreement.worlds p home there exported text of is d) =
       worlds p.x _
-      (from_pair (found_world m) m.other.worlds m.graph.worlds (WorldsDiffer m) p _
+      (from_pair (counterpart_world m) m.other.worlds m.graph.worlds (WorldsDiffer m) p _
       (record {
         there = there;
         there_is = some_whole (slice_get m.other.packages) p.from.package home there of is;

@@ -22,26 +22,26 @@ use Rattle.wit_elaboration.specs.Entries.{same_key}
 use Rattle.wit_graph_theory.specs.facts.ListFacts.{found_at, place_of}
 use Rattle.wit_graph_theory.specs.facts.OptionFacts.{some_parts}
 use Rattle.wit_merge_spec.specs.Agreement.{StructuresDiffer}
-use Rattle.wit_merge_spec.specs.Matches.{Merging, found_interface, found_item, found_key, found_type, found_world, interface_beside, world_beside}
+use Rattle.wit_merge_spec.specs.Matches.{GraphMerge, counterpart_interface, counterpart_item, counterpart_key, counterpart_type, counterpart_world, matched_interface, matched_world}
 use Rattle.wit_merge_spec.specs.MismatchText.{linked, type_link}
 use Rattle.wit_merge_spec.specs.TypePairs.{TypePair, paired}
-use Rattle.wit_merge_structure.specs.steps.Comparing.{IsSound, from_structure, into_structure, matched_by}
+use Rattle.wit_merge_structure.specs.steps.ComparisonSteps.{IsSound, from_structure, into_structure, matched_by}
 use Rattle.wit_merge_structure.specs.facts.DifferenceFacts.{same_no_first}
 use Rattle.wit_merge_structure.specs.Structure.{DifferInStructure}
 use Rattle.wit_merge_structure.specs.declared.comparison.Comparison.{Comparison}
 use Rattle.wit_merge_structure.specs.declared.comparison.Sides.{Sides}
 use Rattle.wit_merge_match.specs.Differing.{merging_of}
-use Rattle.wit_merge_match.specs.steps.Structures.{AreComparable, FirstTold, IsOf, IsThere, ListsThere, NoneDiffer, TypesThere}
-use Rattle.wit_merge_match.specs.declared.comparing.Comparing.{Comparing}
+use Rattle.wit_merge_match.specs.steps.Structures.{AreComparable, FirstMismatch, IsOf, IsThere, ListsThere, NoneDiffer, TypesThere}
+use Rattle.wit_merge_match.specs.declared.matched_graphs.MatchedGraphs.{MatchedGraphs}
 
 -- ---- what a comparison tells of two types
 
-module _ (c : Comparing) (comparable : AreComparable c) (comparison : Comparison) (of : IsOf c comparison) where
-  matched_same : matched_by comparison.sides ≡ found_type (merging_of c)
+module _ (c : MatchedGraphs) (comparable : AreComparable c) (comparison : Comparison) (of : IsOf c comparison) where
+  matched_same : matched_by comparison.sides ≡ counterpart_type (merging_of c)
   matched_same = λ i t. (ap (λ (l : List (Option ℕ)). get_or l t None) of.matches ∙ comparable.known.types.each t) i
 
   pub named_told : (name : List ℕ) (t t' : ℕ) (ending text : List ℕ) → DifferInStructure comparison.sides.from.now comparison.sides.into.now (matched_by comparison.sides) t t' ending → text ≡ linked (type_link name ∷ []) ending
-      → FirstTold (merging_of c) (paired [] name t t' ∷ []) text
+      → FirstMismatch (merging_of c) (paired [] name t t' ∷ []) text
   named_told name t t' ending text d text_is = record {
     before = [];
     pair = paired [] name t t';
@@ -68,7 +68,7 @@ module _ (c : Comparing) (comparable : AreComparable c) (comparison : Comparison
   ]
 
 -- it stays one of these two graphs
-pub is_of : (c : Comparing) (old new : Comparison) → IsOf c old → new.sides ≡ old.sides → IsSound new → IsOf c new
+pub is_of : (c : MatchedGraphs) (old new : Comparison) → IsOf c old → new.sides ≡ old.sides → IsSound new → IsOf c new
 is_of c old new of same sound = record {
   from = ap (λ (s : Sides). s.from.now) same ∙ of.from;
   into = ap (λ (s : Sides). s.into.now) same ∙ of.into;
@@ -83,9 +83,9 @@ pub found_there : (types : List TypeDef) (listed : List (List ℕ × ℕ)) → L
 found_there types listed there name t found = there (name, t) (Contains-from_lookup (λ a b. (bytes_eq-Decides a b).0) name t listed (sym found))
 
 -- and what under a key
-pub item_there : (m : Merging) (types : List TypeDef) (entries : List Entry) → TypesThere types entries → (k : WorldKey) (held : WorldItem) → Some held ≡ found_item m entries k → IsThere types held
+pub item_there : (m : GraphMerge) (types : List TypeDef) (entries : List Entry) → TypesThere types entries → (k : WorldKey) (held : WorldItem) → Some held ≡ counterpart_item m entries k → IsThere types held
 item_there m types entries there k held found =
-    let parts = some_parts (λ k'. lookup (same_key k') entries) (found_key m k) held (sym found) in there (parts.0, held) (Contains-from_lookup same_key-true parts.0 held entries parts.2)
+    let parts = some_parts (λ k'. lookup (same_key k') entries) (counterpart_key m k) held (sym found) in there (parts.0, held) (Contains-from_lookup same_key-true parts.0 held entries parts.2)
 
 module _ (g : Graph) (valid : IsValid g) where
   -- the types of an interface
@@ -123,12 +123,12 @@ module _ (g : Graph) (valid : IsValid g) where
   exports_there w world at e among = let place = place_of world.exports e among in export_there e.0 e.1 (valid.well_formed.worlds.exports w world at place.0 e place.1)
 
 -- those of what is matched
-module _ (m : Merging) (valid : IsValid m.graph) where
-  pub beside_lists : (i : ℕ) (into : Interface) → Some into ≡ interface_beside m i → ListsThere m.graph.types into.types
-  beside_lists i into is = let parts = some_parts (slice_get m.graph.interfaces) (found_interface m i) into (sym is) in lists_there m.graph valid parts.0 into parts.2
+module _ (m : GraphMerge) (valid : IsValid m.graph) where
+  pub beside_lists : (i : ℕ) (into : Interface) → Some into ≡ matched_interface m i → ListsThere m.graph.types into.types
+  beside_lists i into is = let parts = some_parts (slice_get m.graph.interfaces) (counterpart_interface m i) into (sym is) in lists_there m.graph valid parts.0 into parts.2
 
-  pub beside_imports : (w : ℕ) (into : World) → Some into ≡ world_beside m w → TypesThere m.graph.types into.imports
-  beside_imports w into is = let parts = some_parts (slice_get m.graph.worlds) (found_world m w) into (sym is) in imports_there m.graph valid parts.0 into parts.2
+  pub beside_imports : (w : ℕ) (into : World) → Some into ≡ matched_world m w → TypesThere m.graph.types into.imports
+  beside_imports w into is = let parts = some_parts (slice_get m.graph.worlds) (counterpart_world m w) into (sym is) in imports_there m.graph valid parts.0 into parts.2
 
-  pub beside_exports : (w : ℕ) (into : World) → Some into ≡ world_beside m w → TypesThere m.graph.types into.exports
-  beside_exports w into is = let parts = some_parts (slice_get m.graph.worlds) (found_world m w) into (sym is) in exports_there m.graph valid parts.0 into parts.2
+  pub beside_exports : (w : ℕ) (into : World) → Some into ≡ matched_world m w → TypesThere m.graph.types into.exports
+  beside_exports w into is = let parts = some_parts (slice_get m.graph.worlds) (counterpart_world m w) into (sym is) in exports_there m.graph valid parts.0 into parts.2

@@ -6,7 +6,7 @@ use Rattle.std.specs.Map.{lookup}
 use Rattle.std.specs.Str.{bytes_eq}
 use Rattle.wit_values.specs.Table.{HasDistinctKeys}
 use Rattle.wit_data.specs.Entries.{Entry}
-use Rattle.wit_data.specs.Ownership.{listed_type, world_types}
+use Rattle.wit_data.specs.Ownership.{entry_type, world_types}
 use Rattle.wit_data.specs.declared.world.WorldItem.{WorldItem}
 use Rattle.wit_data.specs.declared.world.WorldItem.TheVariants as item
 use Rattle.wit_data.specs.declared.world.WorldKey.{WorldKey}
@@ -18,10 +18,10 @@ use Rattle.wit_elaboration.specs.Entries.{same_key}
 use Rattle.wit_elaboration.specs.Valid.{IsValid}
 use Rattle.wit_graph_data.specs.declared.graph.Graph.{Graph}
 use Rattle.wit_transform.proofs.Distinct.{tail_distinct}
-use Rattle.wit_merge_match.specs.steps.Found.{type_item}
+use Rattle.wit_merge_match.specs.steps.Matched.{type_item}
 
 abbrev types_in : List Entry → List (List ℕ × ℕ)
-types_in es = flat_map (λ (e : Entry). listed_type e.0 e.1) es
+types_in es = flat_map (λ (e : Entry). entry_type e.0 e.1) es
 
 module _ (n : List ℕ) where
   -- where no entry has the label no type is listed under it

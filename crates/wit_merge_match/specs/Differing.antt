@@ -9,23 +9,23 @@ use Rattle.wit_graph_data.specs.IdText.{key_text}
 use Rattle.wit_graph_data.specs.declared.graph.Graph.{Graph}
 use Rattle.wit_graph_data.specs.declared.graph.Package.{Package}
 use Rattle.wit_graph_theory.specs.FunctionMismatch.{HaveFunctionMismatch}
-use Rattle.wit_graph_theory.specs.steps.OnePlace.{entries_of}
+use Rattle.wit_graph_theory.specs.steps.UnnamedOnce.{entries_of}
 use Rattle.wit_merge_spec.specs.Agreement.{EntriesDiffer, ItemsDiffer}
-use Rattle.wit_merge_spec.specs.Matches.{Merging, found_interface, found_item, found_world}
+use Rattle.wit_merge_spec.specs.Matches.{GraphMerge, counterpart_interface, counterpart_item, counterpart_world}
 use Rattle.wit_merge_spec.specs.MismatchText.{absent_text, entry_link, linked, other_interface_text, part_links, side_word}
-use Rattle.wit_merge_match.specs.steps.Found.{AreMatches, merging}
-use Rattle.wit_merge_match.specs.declared.comparing.Comparing.{Comparing}
+use Rattle.wit_merge_match.specs.steps.Matched.{AreMatches, merge_of_graphs}
+use Rattle.wit_merge_match.specs.declared.matched_graphs.MatchedGraphs.{MatchedGraphs}
 
 -- the other graph goes into the graph, and its spans move by this offset
-abbrev pub merging_by : Graph → Graph → ℕ → Merging
-merging_by g other offset = record { graph = g; other = other; offset = offset }
+abbrev pub merge_of_graphs_by : Graph → Graph → ℕ → GraphMerge
+merge_of_graphs_by g other offset = record { graph = g; other = other; offset = offset }
 
 -- the merge of the two graphs that are compared
-abbrev pub merging_of : Comparing → Merging
-merging_of c = merging c.graph.now c.other.now
+abbrev pub merging_of : MatchedGraphs → GraphMerge
+merging_of c = merge_of_graphs c.graph.now c.other.now
 
 -- what is matched of them is known
-abbrev pub AreKnown : Comparing → Type 0
+abbrev pub AreKnown : MatchedGraphs → Type 0
 AreKnown c = AreMatches c.graph.now c.other.now c.matches.now
 
 -- thing i of a list and the one of another list with which it is matched differ, which y tells
@@ -39,19 +39,19 @@ pub record DifferAt {X Y : Type 0} (found : ℕ → Option ℕ) (others ours : L
 -- ---- entries
 
 -- interface i of the other graph isn't matched with interface i', or it is, has no name and disagrees in a function
-pub data HeldDiffer (m : Merging) (i i' : ℕ) (text : List ℕ) : Type 0 where
-  apart : found_interface m i ≢ Some i' → text ≡ other_interface_text → HeldDiffer m i i' text
-  unnamed : (from into : Interface) → slice_get m.other.interfaces i ≡ Some from → slice_get m.graph.interfaces i' ≡ Some into → found_interface m i ≡ Some i'
+pub data HeldDiffer (m : GraphMerge) (i i' : ℕ) (text : List ℕ) : Type 0 where
+  apart : counterpart_interface m i ≢ Some i' → text ≡ other_interface_text → HeldDiffer m i i' text
+  unnamed : (from into : Interface) → slice_get m.other.interfaces i ≡ Some from → slice_get m.graph.interfaces i' ≡ Some into → counterpart_interface m i ≡ Some i'
       → from.name ≡ None → HaveFunctionMismatch from into text → HeldDiffer m i i' text
 
 -- there is no entry under a key among those of the matched world, or there is one that differs
-pub data EntryDiffers (m : Merging) (word : List ℕ) (into : List Entry) (k : WorldKey) (held : WorldItem) (text : List ℕ) : Type 0 where
-  absent : found_item m into k ≡ None → text ≡ absent_text word (key_text m.other.packages m.other.interfaces k) → EntryDiffers m word into k held text
-  apart : (there : WorldItem) (ending : List ℕ) → found_item m into k ≡ Some there → ItemsDiffer m held there ending
+pub data EntryDiffers (m : GraphMerge) (word : List ℕ) (into : List Entry) (k : WorldKey) (held : WorldItem) (text : List ℕ) : Type 0 where
+  absent : counterpart_item m into k ≡ None → text ≡ absent_text word (key_text m.other.packages m.other.interfaces k) → EntryDiffers m word into k held text
+  apart : (there : WorldItem) (ending : List ℕ) → counterpart_item m into k ≡ Some there → ItemsDiffer m held there ending
       → text ≡ linked (entry_link word (key_text m.other.packages m.other.interfaces k) ∷ []) ending → EntryDiffers m word into k held text
 
 -- the imports or the exports of two worlds differ
-pub record SidesDiffer (m : Merging) (from into : World) (text : List ℕ) : Type 0 where
+pub record SidesDiffer (m : GraphMerge) (from into : World) (text : List ℕ) : Type 0 where
   pub exported : Bool
   pub differ : EntriesDiffer m (side_word exported) (entries_of exported from) (entries_of exported into) text
 
@@ -68,17 +68,17 @@ pub record PartDiffers (packages : List Package) (sort : List ℕ) (home : Optio
   pub message_is : message ≡ linked (part_links there.name sort called) text
 
 -- two interfaces, the first of which has a name, disagree in a function
-abbrev pub InterfacesDiffer : Merging → Interface → Interface → List ℕ → Type 0
+abbrev pub InterfacesDiffer : GraphMerge → Interface → Interface → List ℕ → Type 0
 InterfacesDiffer m from into = PartDiffers m.other.packages (codes "interface") from.package from.name (HaveFunctionMismatch from into)
 
 -- two worlds differ in their entries
-abbrev pub WorldsDiffer : Merging → World → World → List ℕ → Type 0
+abbrev pub WorldsDiffer : GraphMerge → World → World → List ℕ → Type 0
 WorldsDiffer m from into = PartDiffers m.other.packages (codes "world") from.package (Some from.name) (SidesDiffer m from into)
 
 -- interface i of the other graph differs from the one with which it is matched
-abbrev pub InterfaceDiffersAt : Merging → ℕ → List ℕ → Type 0
-InterfaceDiffersAt m = DifferAt (found_interface m) m.other.interfaces m.graph.interfaces (InterfacesDiffer m)
+abbrev pub InterfaceDiffersAt : GraphMerge → ℕ → List ℕ → Type 0
+InterfaceDiffersAt m = DifferAt (counterpart_interface m) m.other.interfaces m.graph.interfaces (InterfacesDiffer m)
 
 -- and so world w
-abbrev pub WorldDiffersAt : Merging → ℕ → List ℕ → Type 0
-WorldDiffersAt m = DifferAt (found_world m) m.other.worlds m.graph.worlds (WorldsDiffer m)
+abbrev pub WorldDiffersAt : GraphMerge → ℕ → List ℕ → Type 0
+WorldDiffersAt m = DifferAt (counterpart_world m) m.other.worlds m.graph.worlds (WorldsDiffer m)

@@ -1,4 +1,4 @@
-pub mod Found
-pub mod Going
+pub mod Matched
+pub mod MergeRemaps
 pub mod Stabilities
 pub mod Structures

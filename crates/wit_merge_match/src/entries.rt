@@ -1,17 +1,17 @@
 //! What differs in the entries of matched worlds.
 ghost use Rattle.std.specs.Prelude.{◌≡◌, ◌↔◌, ℕ, IfNone, IfOk, IfSome, IsTrue, List, Some, string_bytes};
 ghost use Rattle.wit_merge_spec.specs.Agreement.{EntriesDiffer, ItemsDiffer, same_sort};
-ghost use Rattle.wit_merge_spec.specs.Matches.{found_interface};
+ghost use Rattle.wit_merge_spec.specs.Matches.{counterpart_interface};
 ghost use Rattle.wit_merge_match.specs.Differing.{AreKnown, EntryDiffers, HeldDiffer, SidesDiffer, merging_of};
 
-use crate::comparing::Comparing;
+use crate::matched_graphs::MatchedGraphs;
 use crate::messages::{absent, in_entry, key_text, other_count};
 use std::alloc::{AllocError, Global};
 use wit_data::{Table, World, WorldItem, WorldKey};
 use wit_elaboration::item_interface;
 use wit_unite_common::interface_mismatch;
 
-impl<'a> Comparing<'a> {
+impl<'a> MatchedGraphs<'a> {
     /// What differs in the imports of matched worlds, or else in their exports. None where nothing does.
     pub(crate) fn sides_mismatch(
         &self,
@@ -68,7 +68,7 @@ impl<'a> Comparing<'a> {
         ensures some { IfOk result (λ found. IfSome found (λ text. EntryDiffers (merging_of self.now) word.now into.now key.now item.now (string_bytes text))) }
         ensures none { IfOk result (λ found. IfNone found ((text : List ℕ) → EntryDiffers (merging_of self.now) word.now into.now key.now item.now text → ⊥)) }
     {
-        let Some(there) = self.item_beside(key, into) else {
+        let Some(there) = self.matched_item(key, into) else {
             let name = key_text(alloc, self.other, key)?;
             return Ok(Some(absent(alloc, word, &name)?));
         };
@@ -134,7 +134,7 @@ impl<'a> Comparing<'a> {
     /// Whether an interface is matched with this one.
     fn are_matched(&self, id: usize, there: usize) -> bool
         requires { AreKnown self.now }
-        ensures { IsTrue result ↔ (found_interface (merging_of self.now) id ≡ Some there) }
+        ensures { IsTrue result ↔ (counterpart_interface (merging_of self.now) id ≡ Some there) }
     {
         match self.interface_match(id) {
             Some(found) => found.index() == there,

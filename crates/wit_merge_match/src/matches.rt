@@ -1,9 +1,9 @@
 //! All matches of two graphs.
 ghost use Rattle.std.specs.Prelude.{IfOk};
 ghost use Rattle.wit_elaboration.specs.Valid.{IsValid};
-ghost use Rattle.wit_merge_match.specs.steps.Found.{AreMatches};
+ghost use Rattle.wit_merge_match.specs.steps.Matched.{AreMatches};
 
-use crate::spots::Spotting;
+use crate::world_labels::LabelNotes;
 use crate::tables::{named_interfaces, package_matches, world_matches};
 use crate::types::type_matches;
 use std::alloc::{AllocError, Global};
@@ -32,7 +32,7 @@ pub fn find_matches(alloc: Global, graph: &Graph, other: &Graph) -> Result<Match
     let packages = package_matches(alloc, graph, other)?;
     let worlds = world_matches(alloc, graph, other, &packages)?;
     let mut interfaces = named_interfaces(alloc, graph, other, &packages)?;
-    let spotting = Spotting {
+    let spotting = LabelNotes {
         graph,
         other,
         worlds: &worlds,

@@ -2,11 +2,11 @@
 ghost use Rattle.std.specs.Prelude.{ℕ, IfNone, IfOk, IfSome, List, string_bytes};
 ghost use Rattle.wit_elaboration.specs.Valid.{IsValid};
 ghost use Rattle.wit_merge_spec.specs.Agreement.{GraphsDiffer};
-ghost use Rattle.wit_merge_spec.specs.Reasons.{AreOne};
-ghost use Rattle.wit_merge_match.specs.steps.Found.{AreMatches, merging};
+ghost use Rattle.wit_merge_spec.specs.Reasons.{HasNoMismatch};
+ghost use Rattle.wit_merge_match.specs.steps.Matched.{AreMatches, merge_of_graphs};
 ghost use Rattle.wit_merge_match.specs.Differing.{AreKnown, InterfaceDiffersAt, WorldDiffersAt, merging_of};
 
-use crate::comparing::{Comparing, package_at};
+use crate::matched_graphs::{MatchedGraphs, package_at};
 use crate::matches::Matches;
 use crate::messages::in_part;
 use std::alloc::{AllocError, Global};
@@ -29,10 +29,10 @@ pub fn find_mismatch(
     requires graph { IsValid graph.now }
     requires other { IsValid other.now }
     requires matches { AreMatches graph.now other.now matches.now }
-    ensures some { IfOk result (λ found. IfSome found (λ message. GraphsDiffer (merging graph.now other.now) (string_bytes message))) }
-    ensures none { IfOk result (λ found. IfNone found (AreOne (merging graph.now other.now))) }
+    ensures some { IfOk result (λ found. IfSome found (λ message. GraphsDiffer (merge_of_graphs graph.now other.now) (string_bytes message))) }
+    ensures none { IfOk result (λ found. IfNone found (HasNoMismatch (merge_of_graphs graph.now other.now))) }
 {
-    let comparing = Comparing {
+    let comparing = MatchedGraphs {
         graph,
         other,
         matches,
@@ -46,7 +46,7 @@ pub fn find_mismatch(
     }
 }
 
-impl<'a> Comparing<'a> {
+impl<'a> MatchedGraphs<'a> {
     /// What differs in the first interface of a name that disagrees with the one with which it is matched.
     fn interfaces_mismatch(&self, alloc: Global) -> Result<Option<String>, AllocError>
         requires { AreKnown self.now }
@@ -71,7 +71,7 @@ impl<'a> Comparing<'a> {
         let Some(from) = self.other.interfaces.get(index) else {
             return Ok(None);
         };
-        let Some(into) = self.interface_beside(index) else {
+        let Some(into) = self.matched_interface(index) else {
             return Ok(None);
         };
         let Some(home) = package_at(self.other, from.package) else {
@@ -112,7 +112,7 @@ impl<'a> Comparing<'a> {
         let Some(from) = self.other.worlds.get(index) else {
             return Ok(None);
         };
-        let Some(into) = self.world_beside(index) else {
+        let Some(into) = self.matched_world(index) else {
             return Ok(None);
         };
         let Some(home) = package_at(self.other, from.package) else {

@@ -2,12 +2,12 @@
 ghost use Rattle.std.specs.Prelude.{◌≡◌, ℕ, IfNone, IfOk, IfSome};
 ghost use Rattle.std.specs.Option.{option_copied};
 ghost use Rattle.wit_data.specs.declared.stability.Stability.{Stability};
-ghost use Rattle.wit_merge_spec.specs.Reasons.{Mismatches};
-ghost use Rattle.wit_merge_match.specs.steps.Found.{AreMatches, merging};
+ghost use Rattle.wit_merge_spec.specs.Reasons.{StabilitiesMismatch};
+ghost use Rattle.wit_merge_match.specs.steps.Matched.{AreMatches, merge_of_graphs};
 ghost use Rattle.wit_merge_match.specs.Differing.{AreKnown, merging_of};
-ghost use Rattle.wit_merge_match.specs.steps.Stabilities.{AreApart, EntriesApart, EntryApart, InterfacesApartAt, TypesApartAt, WorldsApart, WorldsApartAt, own_stability, stability_beside};
+ghost use Rattle.wit_merge_match.specs.steps.Stabilities.{AreApart, EntriesApart, EntryApart, InterfacesApartAt, TypesApartAt, WorldsApart, WorldsApartAt, matched_stability, own_stability};
 
-use crate::comparing::Comparing;
+use crate::matched_graphs::MatchedGraphs;
 use crate::matches::Matches;
 use std::alloc::{AllocError, Global};
 use wit_data::{Stability, Table, TryClone, World, WorldItem, WorldKey};
@@ -41,10 +41,10 @@ pub fn find_stability_mismatch(
     matches: &Matches,
 ) -> Result<Option<StabilityPair>, AllocError>
     requires { AreMatches graph.now other.now matches.now }
-    ensures some { IfOk result (λ found. IfSome found (λ pair. Mismatches (merging graph.now other.now) pair.from pair.into)) }
-    ensures none { IfOk result (λ found. IfNone found ((from into : Stability) → Mismatches (merging graph.now other.now) from into → ⊥)) }
+    ensures some { IfOk result (λ found. IfSome found (λ pair. StabilitiesMismatch (merge_of_graphs graph.now other.now) pair.from pair.into)) }
+    ensures none { IfOk result (λ found. IfNone found ((from into : Stability) → StabilitiesMismatch (merge_of_graphs graph.now other.now) from into → ⊥)) }
 {
-    let comparing = Comparing {
+    let comparing = MatchedGraphs {
         graph,
         other,
         matches,
@@ -59,12 +59,12 @@ pub fn find_stability_mismatch(
     }
 }
 
-impl<'a> Comparing<'a> {
+impl<'a> MatchedGraphs<'a> {
     /// The first two that can't be joined.
     fn disagreement(&self) -> Option<Disagreement<'a>>
         requires { AreKnown self.now }
-        ensures some { IfSome result (λ d. Mismatches (merging_of self.now) d.from.now d.into.now) }
-        ensures none { IfNone result ((from into : Stability) → Mismatches (merging_of self.now) from into → ⊥) }
+        ensures some { IfSome result (λ d. StabilitiesMismatch (merging_of self.now) d.from.now d.into.now) }
+        ensures none { IfNone result ((from into : Stability) → StabilitiesMismatch (merging_of self.now) from into → ⊥) }
     {
         match self.types_apart() {
             Some(found) => return Some(found),
@@ -99,7 +99,7 @@ impl<'a> Comparing<'a> {
         ensures none { IfNone result ((s : Stability × Stability) → TypesApartAt (merging_of self.now) index s → ⊥) }
     {
         let from = self.other.types.get(index)?;
-        let into = self.type_beside(index)?;
+        let into = self.matched_type(index)?;
         compare(&from.stability, &into.stability)
     }
 
@@ -125,7 +125,7 @@ impl<'a> Comparing<'a> {
         ensures none { IfNone result ((s : Stability × Stability) → InterfacesApartAt (merging_of self.now) index s → ⊥) }
     {
         let from = self.other.interfaces.get(index)?;
-        let into = self.interface_beside(index)?;
+        let into = self.matched_interface(index)?;
         compare(&from.stability, &into.stability)
     }
 
@@ -151,7 +151,7 @@ impl<'a> Comparing<'a> {
         ensures none { IfNone result ((s : Stability × Stability) → WorldsApartAt (merging_of self.now) index s → ⊥) }
     {
         let from = self.other.worlds.get(index)?;
-        let into = self.world_beside(index)?;
+        let into = self.matched_world(index)?;
         self.lists_apart(from, into)
     }
 
@@ -205,18 +205,18 @@ impl<'a> Comparing<'a> {
         ensures none { IfNone result ((s : Stability × Stability) → EntryApart (merging_of self.now) entries.now key.now item.now s → ⊥) }
     {
         let from = own_stability(key, item)?;
-        let into = self.stability_beside(key, entries)?;
+        let into = self.matched_stability(key, entries)?;
         compare(from, into)
     }
 
     /// The stability of the interface that is matched with the one of a key, where it stands under its own key.
-    fn stability_beside(
+    fn matched_stability(
         &self,
         key: &WorldKey,
         entries: &'a Table<WorldKey, WorldItem>,
     ) -> Option<&'a Stability>
         requires { AreKnown self.now }
-        ensures { option_copied result ≡ stability_beside (merging_of self.now) entries.now key.now }
+        ensures { option_copied result ≡ matched_stability (merging_of self.now) entries.now key.now }
     {
         match key {
             WorldKey::Name(_) => None,

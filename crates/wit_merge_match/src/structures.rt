@@ -1,14 +1,14 @@
 //! What differs in the structure of matched types, in the order in which they are compared.
 ghost use Rattle.std.specs.Prelude.{◌≡◌, ◌∷◌, ◌<◌, [], IfNone, IfOk, IfSome, length, string_bytes};
 ghost use Rattle.std.specs.List.{flat_map};
-ghost use Rattle.wit_graph_data.specs.Questions.{topological_packages};
+ghost use Rattle.wit_graph_data.specs.Queries.{topological_packages};
 ghost use Rattle.wit_digraph.specs.Relation.{IsAcyclic};
 ghost use Rattle.wit_graph_data.specs.Relations.{package_uses};
 ghost use Rattle.wit_merge_spec.specs.TypePairs.{entry_pairs, interface_pairs, item_pairs, paired, type_pairs, world_pairs};
 ghost use Rattle.wit_merge_match.specs.Differing.{merging_of};
-ghost use Rattle.wit_merge_match.specs.steps.Structures.{AreComparable, FirstTold, IsOf, IsThere, ListsThere, NoneDiffer, TypesThere, common_pair, package_interface_pairs, package_world_pairs, side_pairs, unnamed_pairs};
+ghost use Rattle.wit_merge_match.specs.steps.Structures.{AreComparable, FirstMismatch, IsOf, IsThere, ListsThere, NoneDiffer, TypesThere, common_pair, package_interface_pairs, package_world_pairs, side_pairs, unnamed_pairs};
 
-use crate::comparing::Comparing;
+use crate::matched_graphs::MatchedGraphs;
 use crate::messages::{in_entry, in_part, in_type};
 use std::alloc::{AllocError, Global};
 use wit_data::{InterfaceId, Items, Names, PackageId, Table, TypeId, WorldId, WorldItem, WorldKey};
@@ -16,12 +16,12 @@ use wit_graph_data::Graph;
 use wit_merge_structure::Comparison;
 use wit_queries::topological_packages;
 
-impl<'a> Comparing<'a> {
+impl<'a> MatchedGraphs<'a> {
     /// The first two matched types that differ in structure: those of interfaces, package by package, each after those
     /// that it depends on, and then those of worlds.
     pub(crate) fn structures_mismatch(&self, alloc: Global) -> Result<Option<String>, AllocError>
         requires { AreComparable self.now }
-        ensures some { IfOk result (λ found. IfSome found (λ message. FirstTold (merging_of self.now) (type_pairs (merging_of self.now)) (string_bytes message))) }
+        ensures some { IfOk result (λ found. IfSome found (λ message. FirstMismatch (merging_of self.now) (type_pairs (merging_of self.now)) (string_bytes message))) }
         ensures none { IfOk result (λ found. IfNone found (NoneDiffer (merging_of self.now) (type_pairs (merging_of self.now)))) }
     {
         let order = package_order(alloc, self.other)?;
@@ -43,7 +43,7 @@ impl<'a> Comparing<'a> {
         requires comparable { AreComparable self.now }
         requires of { IsOf self.now comparison.old }
         ensures of { IsOf self.now comparison.new }
-        ensures some { IfOk result (λ found. IfSome found (λ message. FirstTold (merging_of self.now) (flat_map (package_interface_pairs (merging_of self.now)) order.now) (string_bytes message))) }
+        ensures some { IfOk result (λ found. IfSome found (λ message. FirstMismatch (merging_of self.now) (flat_map (package_interface_pairs (merging_of self.now)) order.now) (string_bytes message))) }
         ensures none { IfOk result (λ found. IfNone found (NoneDiffer (merging_of self.now) (flat_map (package_interface_pairs (merging_of self.now)) order.now))) }
     {
         for index in 0..order.len() {
@@ -65,7 +65,7 @@ impl<'a> Comparing<'a> {
         requires comparable { AreComparable self.now }
         requires of { IsOf self.now comparison.old }
         ensures of { IsOf self.now comparison.new }
-        ensures some { IfOk result (λ found. IfSome found (λ message. FirstTold (merging_of self.now) (flat_map (package_world_pairs (merging_of self.now)) order.now) (string_bytes message))) }
+        ensures some { IfOk result (λ found. IfSome found (λ message. FirstMismatch (merging_of self.now) (flat_map (package_world_pairs (merging_of self.now)) order.now) (string_bytes message))) }
         ensures none { IfOk result (λ found. IfNone found (NoneDiffer (merging_of self.now) (flat_map (package_world_pairs (merging_of self.now)) order.now))) }
     {
         for index in 0..order.len() {
@@ -87,7 +87,7 @@ impl<'a> Comparing<'a> {
         requires comparable { AreComparable self.now }
         requires of { IsOf self.now comparison.old }
         ensures of { IsOf self.now comparison.new }
-        ensures some { IfOk result (λ found. IfSome found (λ message. FirstTold (merging_of self.now) (package_interface_pairs (merging_of self.now) id) (string_bytes message))) }
+        ensures some { IfOk result (λ found. IfSome found (λ message. FirstMismatch (merging_of self.now) (package_interface_pairs (merging_of self.now) id) (string_bytes message))) }
         ensures none { IfOk result (λ found. IfNone found (NoneDiffer (merging_of self.now) (package_interface_pairs (merging_of self.now) id))) }
     {
         let Some(home) = self.other.packages.get(id.index()) else {
@@ -115,13 +115,13 @@ impl<'a> Comparing<'a> {
         requires comparable { AreComparable self.now }
         requires of { IsOf self.now comparison.old }
         ensures of { IsOf self.now comparison.new }
-        ensures some { IfOk result (λ found. IfSome found (λ text. FirstTold (merging_of self.now) (interface_pairs (merging_of self.now) [] id) (string_bytes text))) }
+        ensures some { IfOk result (λ found. IfSome found (λ text. FirstMismatch (merging_of self.now) (interface_pairs (merging_of self.now) [] id) (string_bytes text))) }
         ensures none { IfOk result (λ found. IfNone found (NoneDiffer (merging_of self.now) (interface_pairs (merging_of self.now) [] id))) }
     {
         let Some(from) = self.other.interfaces.get(id.index()) else {
             return Ok(None);
         };
-        let Some(into) = self.interface_beside(id.index()) else {
+        let Some(into) = self.matched_interface(id.index()) else {
             return Ok(None);
         };
         for index in 0..from.types.len() {
@@ -148,7 +148,7 @@ impl<'a> Comparing<'a> {
         requires from { from < length self.now.other.now.types }
         requires others { ListsThere self.now.graph.now.types others.now }
         ensures of { IsOf self.now comparison.new }
-        ensures some { IfOk result (λ found. IfSome found (λ text. FirstTold (merging_of self.now) (common_pair others.now (name.now, from)) (string_bytes text))) }
+        ensures some { IfOk result (λ found. IfSome found (λ text. FirstMismatch (merging_of self.now) (common_pair others.now (name.now, from)) (string_bytes text))) }
         ensures none { IfOk result (λ found. IfNone found (NoneDiffer (merging_of self.now) (common_pair others.now (name.now, from)))) }
     {
         match others.get(name) {
@@ -171,7 +171,7 @@ impl<'a> Comparing<'a> {
         requires from { from < length self.now.other.now.types }
         requires into { into < length self.now.graph.now.types }
         ensures of { IsOf self.now comparison.new }
-        ensures some { IfOk result (λ found. IfSome found (λ text. FirstTold (merging_of self.now) (paired [] name.now from into ∷ []) (string_bytes text))) }
+        ensures some { IfOk result (λ found. IfSome found (λ text. FirstMismatch (merging_of self.now) (paired [] name.now from into ∷ []) (string_bytes text))) }
         ensures none { IfOk result (λ found. IfNone found (NoneDiffer (merging_of self.now) (paired [] name.now from into ∷ []))) }
     {
         match comparison.difference(alloc, from.index(), into.index())? {
@@ -190,7 +190,7 @@ impl<'a> Comparing<'a> {
         requires comparable { AreComparable self.now }
         requires of { IsOf self.now comparison.old }
         ensures of { IsOf self.now comparison.new }
-        ensures some { IfOk result (λ found. IfSome found (λ message. FirstTold (merging_of self.now) (package_world_pairs (merging_of self.now) id) (string_bytes message))) }
+        ensures some { IfOk result (λ found. IfSome found (λ message. FirstMismatch (merging_of self.now) (package_world_pairs (merging_of self.now) id) (string_bytes message))) }
         ensures none { IfOk result (λ found. IfNone found (NoneDiffer (merging_of self.now) (package_world_pairs (merging_of self.now) id))) }
     {
         let Some(home) = self.other.packages.get(id.index()) else {
@@ -218,13 +218,13 @@ impl<'a> Comparing<'a> {
         requires comparable { AreComparable self.now }
         requires of { IsOf self.now comparison.old }
         ensures of { IsOf self.now comparison.new }
-        ensures some { IfOk result (λ found. IfSome found (λ text. FirstTold (merging_of self.now) (world_pairs (merging_of self.now) [] id) (string_bytes text))) }
+        ensures some { IfOk result (λ found. IfSome found (λ text. FirstMismatch (merging_of self.now) (world_pairs (merging_of self.now) [] id) (string_bytes text))) }
         ensures none { IfOk result (λ found. IfNone found (NoneDiffer (merging_of self.now) (world_pairs (merging_of self.now) [] id))) }
     {
         let Some(from) = self.other.worlds.get(id.index()) else {
             return Ok(None);
         };
-        let Some(into) = self.world_beside(id.index()) else {
+        let Some(into) = self.matched_world(id.index()) else {
             return Ok(None);
         };
         match self.entries_differ(alloc, comparison, "import", &from.imports, &into.imports)? {
@@ -247,7 +247,7 @@ impl<'a> Comparing<'a> {
         requires from { TypesThere self.now.other.now.types from.now }
         requires into { TypesThere self.now.graph.now.types into.now }
         ensures of { IsOf self.now comparison.new }
-        ensures some { IfOk result (λ found. IfSome found (λ text. FirstTold (merging_of self.now) (side_pairs (merging_of self.now) word.now from.now into.now) (string_bytes text))) }
+        ensures some { IfOk result (λ found. IfSome found (λ text. FirstMismatch (merging_of self.now) (side_pairs (merging_of self.now) word.now from.now into.now) (string_bytes text))) }
         ensures none { IfOk result (λ found. IfNone found (NoneDiffer (merging_of self.now) (side_pairs (merging_of self.now) word.now from.now into.now))) }
     {
         for index in 0..from.len() {
@@ -275,14 +275,14 @@ impl<'a> Comparing<'a> {
         requires from { IsThere self.now.other.now.types from.now }
         requires into { TypesThere self.now.graph.now.types into.now }
         ensures of { IsOf self.now comparison.new }
-        ensures some { IfOk result (λ found. IfSome found (λ text. FirstTold (merging_of self.now) (entry_pairs (merging_of self.now) [] word.now into.now (key.now, from.now)) (string_bytes text))) }
+        ensures some { IfOk result (λ found. IfSome found (λ text. FirstMismatch (merging_of self.now) (entry_pairs (merging_of self.now) [] word.now into.now (key.now, from.now)) (string_bytes text))) }
         ensures none { IfOk result (λ found. IfNone found (NoneDiffer (merging_of self.now) (entry_pairs (merging_of self.now) [] word.now into.now (key.now, from.now)))) }
     {
         match key {
             WorldKey::Interface(_) => Ok(None),
             WorldKey::Name(label) => {
                 let label = label.as_str();
-                let Some(there) = self.item_beside(key, into) else {
+                let Some(there) = self.matched_item(key, into) else {
                     return Ok(None);
                 };
                 match self.items_differ(alloc, comparison, label, from, there)? {
@@ -308,7 +308,7 @@ impl<'a> Comparing<'a> {
         requires from { IsThere self.now.other.now.types from.now }
         requires into { IsThere self.now.graph.now.types into.now }
         ensures of { IsOf self.now comparison.new }
-        ensures some { IfOk result (λ found. IfSome found (λ text. FirstTold (merging_of self.now) (item_pairs (merging_of self.now) [] label.now from.now into.now) (string_bytes text))) }
+        ensures some { IfOk result (λ found. IfSome found (λ text. FirstMismatch (merging_of self.now) (item_pairs (merging_of self.now) [] label.now from.now into.now) (string_bytes text))) }
         ensures none { IfOk result (λ found. IfNone found (NoneDiffer (merging_of self.now) (item_pairs (merging_of self.now) [] label.now from.now into.now))) }
     {
         match from {
@@ -333,7 +333,7 @@ impl<'a> Comparing<'a> {
         requires comparable { AreComparable self.now }
         requires of { IsOf self.now comparison.old }
         ensures of { IsOf self.now comparison.new }
-        ensures some { IfOk result (λ found. IfSome found (λ text. FirstTold (merging_of self.now) (unnamed_pairs (merging_of self.now) id) (string_bytes text))) }
+        ensures some { IfOk result (λ found. IfSome found (λ text. FirstMismatch (merging_of self.now) (unnamed_pairs (merging_of self.now) id) (string_bytes text))) }
         ensures none { IfOk result (λ found. IfNone found (NoneDiffer (merging_of self.now) (unnamed_pairs (merging_of self.now) id))) }
     {
         let Some(interface) = self.other.interfaces.get(id.index()) else {

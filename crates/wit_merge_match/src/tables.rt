@@ -4,7 +4,7 @@ ghost use Rattle.std.specs.Map.{lookup};
 ghost use Rattle.std.specs.Str.{bytes_eq};
 ghost use Rattle.wit_data.specs.PackageOrder.{same_package};
 ghost use Rattle.wit_graph_data.specs.declared.graph.Package.{Package};
-ghost use Rattle.wit_merge_match.specs.steps.Found.{interface_under, world_under};
+ghost use Rattle.wit_merge_match.specs.steps.Matched.{interface_under, world_under};
 
 use std::alloc::{AllocError, Global};
 use wit_data::{Interface, InterfaceId, Items, PackageId, WorldId};
@@ -37,7 +37,7 @@ pub(crate) fn match_at<T: Copy>(found: &Items<Option<T>>, place: usize) -> Optio
 }
 
 /// The package that is matched with one of the other graph.
-fn package_beside(packages: &Items<Option<PackageId>>, home: Option<PackageId>) -> Option<PackageId>
+fn matched_package(packages: &Items<Option<PackageId>>, home: Option<PackageId>) -> Option<PackageId>
     ensures { result ≡ option_and_then (λ p. get_or packages.now p None) home }
 {
     match_at(packages, home?.index())
@@ -55,7 +55,7 @@ pub(crate) fn world_matches(
     let mut found = Items::new(alloc);
     for index in 0..other.worlds.len() {
         let world = other.worlds.at(index);
-        let home = package_beside(packages, world.package);
+        let home = matched_package(packages, world.package);
         found.push(world_in(graph, home, world.name.as_str()))?;
     }
     Ok(found)
@@ -98,7 +98,7 @@ fn interface_match(
     match &interface.name {
         Some(name) => interface_in(
             graph,
-            package_beside(packages, interface.package),
+            matched_package(packages, interface.package),
             name.as_str(),
         ),
         None => None,

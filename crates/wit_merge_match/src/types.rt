@@ -5,8 +5,8 @@ ghost use Rattle.std.specs.Str.{bytes_eq};
 ghost use Rattle.wit_elaboration.specs.Valid.{IsValid};
 ghost use Rattle.wit_data.specs.Ownership.{world_types};
 ghost use Rattle.wit_data.specs.declared.world.World.{World};
-ghost use Rattle.wit_link_spec.specs.Lookup.{listed_type};
-ghost use Rattle.wit_merge_match.specs.steps.Found.{type_item, type_under};
+ghost use Rattle.wit_link_spec.specs.Lookup.{interface_type};
+ghost use Rattle.wit_merge_match.specs.steps.Matched.{type_item, type_under};
 
 use crate::tables::match_at;
 use std::alloc::{AllocError, Global};
@@ -59,7 +59,7 @@ fn type_match(
 
 /// The type of a name that an interface lists.
 fn type_of_interface(graph: &Graph, id: Option<InterfaceId>, name: &str) -> Option<TypeId>
-    ensures { result ≡ option_and_then (listed_type graph.now name.now) id }
+    ensures { result ≡ option_and_then (interface_type graph.now name.now) id }
 {
     let interface = graph.interfaces.get(id?.index())?;
     let listed = interface.types.get(name)?;

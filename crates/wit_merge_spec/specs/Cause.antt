@@ -11,23 +11,23 @@ use Rattle.wit_data.specs.declared.stability.Stability.{Stability}
 use Rattle.wit_graph_data.specs.declared.cause.Cause.TheVariants as cause
 use Rattle.wit_graph_data.specs.declared.error_kind.ResolveErrorKind.{ResolveErrorKind}
 use Rattle.wit_graph_data.specs.declared.error_kind.ResolveErrorKind.TheVariants.{InvalidTransitiveDependency, PackageCycle, StabilityMismatch, Semantic, OffsetOverflow}
-use Rattle.wit_graph_theory.specs.AllElaborated.{DependsOnItself, IsInConflict, UsesItself}
-use Rattle.wit_link_spec.specs.Gates.{Place}
+use Rattle.wit_graph_theory.specs.AllElaborated.{DependsOnItself, HasWorldInConflict, UsesItself}
+use Rattle.wit_link_spec.specs.Gates.{OptionalSpan}
 use Rattle.wit_merge_spec.specs.Agreement.{GraphsDiffer}
-use Rattle.wit_merge_spec.specs.Matches.{Merging}
-use Rattle.wit_merge_spec.specs.Reasons.{AreOne, Mismatches, PassesTheEnd, ReturnsBorrow}
+use Rattle.wit_merge_spec.specs.Matches.{GraphMerge}
+use Rattle.wit_merge_spec.specs.Reasons.{HasNoMismatch, MergeOverflows, MergeReturnsBorrow, StabilitiesMismatch}
 use Rattle.wit_merge_spec.specs.United.{joined_graph}
 
 -- why the two graphs of a merge can't be made one
-pub data IsMergeCause (m : Merging) : ResolveErrorKind → Type 0 where
-  conflict_4 : (span : Place) (name : List ℕ) → AreOne m → IsInConflict (joined_graph m) span name → IsMergeCause m (InvalidTransitiveDependency span name)
-  package_cycle_6 : (home : PackageName) → AreOne m → DependsOnItself (joined_graph m) home → IsMergeCause m (PackageCycle None home)
-  mismatch_8 : (from into : Stability) → Mismatches m from into → IsMergeCause m (StabilityMismatch None from into)
-  borrow_in_result_15 : (message : List ℕ) → AreOne m → ReturnsBorrow m message → IsMergeCause m (Semantic None message cause.BorrowInResult)
-  interface_cycle_22 : (message : List ℕ) → AreOne m → UsesItself (joined_graph m) message → IsMergeCause m (Semantic None message cause.InterfaceCycle)
+pub data IsMergeCause (m : GraphMerge) : ResolveErrorKind → Type 0 where
+  conflict_4 : (span : OptionalSpan) (name : List ℕ) → HasNoMismatch m → HasWorldInConflict (joined_graph m) span name → IsMergeCause m (InvalidTransitiveDependency span name)
+  package_cycle_6 : (home : PackageName) → HasNoMismatch m → DependsOnItself (joined_graph m) home → IsMergeCause m (PackageCycle None home)
+  mismatch_8 : (from into : Stability) → StabilitiesMismatch m from into → IsMergeCause m (StabilityMismatch None from into)
+  borrow_in_result_15 : (message : List ℕ) → HasNoMismatch m → MergeReturnsBorrow m message → IsMergeCause m (Semantic None message cause.BorrowInResult)
+  interface_cycle_22 : (message : List ℕ) → HasNoMismatch m → UsesItself (joined_graph m) message → IsMergeCause m (Semantic None message cause.InterfaceCycle)
   merge_mismatch_24 : (message : List ℕ) → GraphsDiffer m message → IsMergeCause m (Semantic None message cause.MergeMismatch)
-  offset_overflow_27 : PassesTheEnd m → IsMergeCause m OffsetOverflow
+  offset_overflow_27 : MergeOverflows m → IsMergeCause m OffsetOverflow
 
--- nothing speaks against the merge
-abbrev pub CanMerge : Merging → Type 0
-CanMerge m = (error : ResolveErrorKind) → IsMergeCause m error → ⊥
+-- no cause holds against the merge
+abbrev pub MergeIsAccepted : GraphMerge → Type 0
+MergeIsAccepted m = (error : ResolveErrorKind) → IsMergeCause m error → ⊥

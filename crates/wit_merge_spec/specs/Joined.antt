@@ -13,8 +13,8 @@ use Rattle.wit_data.specs.declared.world.WorldKey.TheVariants as key
 use Rattle.wit_graph_data.specs.declared.graph.Package.{Package}
 use Rattle.wit_graph_theory.specs.Image.{entry_image, function_image}
 use Rattle.wit_link_spec.specs.Include.{joined_entry, joined_stability}
-use Rattle.wit_merge_spec.specs.Matches.{Merging, found_interface, found_package, found_type, found_world, partner}
-use Rattle.wit_merge_spec.specs.Moved.{brought_functions, brought_types, interface_place, merge_maps, moves_interface, moves_world, type_place, world_place}
+use Rattle.wit_merge_spec.specs.Matches.{GraphMerge, counterpart_interface, counterpart_of, counterpart_package, counterpart_type, counterpart_world}
+use Rattle.wit_merge_spec.specs.Remapped.{brought_functions, brought_types, merge_maps, merged_interface, merged_type, merged_world, moves_interface, moves_world}
 
 -- ---- types
 
@@ -23,56 +23,58 @@ abbrev pub with_type : TypeDef → TypeDef → TypeDef
 with_type from into = record into { stability = joined_stability from.stability into.stability }
 
 -- a type of the graph, by its place and what it is: with what is matched with it, if something is
-abbrev pub joined_type : Merging → ℕ × TypeDef → TypeDef
-joined_type m e = option_map_or (λ (p : ℕ × TypeDef). with_type p.1 e.1) (partner (found_type m) m.other.types e.0) e.1
+abbrev pub joined_type : GraphMerge → ℕ × TypeDef → TypeDef
+joined_type m e = option_map_or (λ (p : ℕ × TypeDef). with_type p.1 e.1) (counterpart_of (counterpart_type m) m.other.types e.0) e.1
 
 -- ---- interfaces
 
 -- an interface, with what another brings behind what it has
-abbrev pub with_interface : Merging → Interface → Interface → Interface
+abbrev pub with_interface : GraphMerge → Interface → Interface → Interface
 with_interface m from into = record into {
-  types = into.types ++ map (λ (e : List ℕ × ℕ). (e.0, type_place m e.1)) (brought_types m from);
+  types = into.types ++ map (λ (e : List ℕ × ℕ). (e.0, merged_type m e.1)) (brought_types m from);
   functions = into.functions ++ map (λ (e : List ℕ × Function). (e.0, function_image (merge_maps m) e.1)) (brought_functions from into);
   stability = joined_stability from.stability into.stability;
 }
 
--- so an interface of the graph
-abbrev pub joined_interface : Merging → ℕ × Interface → Interface
-joined_interface m e = option_map_or (λ (p : ℕ × Interface). with_interface m p.1 e.1) (partner (found_interface m) m.other.interfaces e.0) e.1
+-- an interface of the graph, by its id and what it is: with what its counterpart brings, if it has one
+abbrev pub joined_interface : GraphMerge → ℕ × Interface → Interface
+joined_interface m e = option_map_or (λ (p : ℕ × Interface). with_interface m p.1 e.1) (counterpart_of (counterpart_interface m) m.other.interfaces e.0) e.1
 
 -- ---- worlds
 
--- is it the key of an interface?
+-- the entry stands under the key of an interface
 abbrev pub is_under_id : WorldKey → Bool
 is_under_id (key.Name label) = false
 is_under_id (key.Interface i) = true
 
 -- entries of a world, each with the stability joined to it of the entry under its key among those of world w of the
--- graph that is handed in; so under keys of interfaces alone
-abbrev pub with_entries : Merging → ℕ → List Entry → List Entry → List Entry
+-- graph that comes in; so under keys of interfaces alone
+abbrev pub with_entries : GraphMerge → ℕ → List Entry → List Entry → List Entry
 with_entries m w from into = map (joined_entry false (map (entry_image (merge_maps m) w) (filter (λ (e : Entry). is_under_id e.0) from))) into
 
 -- a world, with the stabilities of another, which comes with its place, joined to its own
-abbrev pub with_world : Merging → ℕ × World → World → World
+abbrev pub with_world : GraphMerge → ℕ × World → World → World
 with_world m p into = record into {
   imports = with_entries m p.0 p.1.imports into.imports;
   exports = with_entries m p.0 p.1.exports into.exports;
   stability = joined_stability p.1.stability into.stability;
 }
 
--- so a world of the graph
-abbrev pub joined_world : Merging → ℕ × World → World
-joined_world m e = option_map_or (λ (p : ℕ × World). with_world m p e.1) (partner (found_world m) m.other.worlds e.0) e.1
+-- a world of the graph, by its id and what it is: with the stabilities of its counterpart joined to its own, if it
+-- has one
+abbrev pub joined_world : GraphMerge → ℕ × World → World
+joined_world m e = option_map_or (λ (p : ℕ × World). with_world m p e.1) (counterpart_of (counterpart_world m) m.other.worlds e.0) e.1
 
 -- ---- packages
 
 -- a package, with the interfaces and worlds of another that move behind its own
-abbrev pub with_package : Merging → Package → Package → Package
+abbrev pub with_package : GraphMerge → Package → Package → Package
 with_package m from into = record into {
-  interfaces = into.interfaces ++ map (λ (e : List ℕ × ℕ). (e.0, interface_place m e.1)) (filter (λ (e : List ℕ × ℕ). moves_interface m e.1) from.interfaces);
-  worlds = into.worlds ++ map (λ (e : List ℕ × ℕ). (e.0, world_place m e.1)) (filter (λ (e : List ℕ × ℕ). moves_world m e.1) from.worlds);
+  interfaces = into.interfaces ++ map (λ (e : List ℕ × ℕ). (e.0, merged_interface m e.1)) (filter (λ (e : List ℕ × ℕ). moves_interface m e.1) from.interfaces);
+  worlds = into.worlds ++ map (λ (e : List ℕ × ℕ). (e.0, merged_world m e.1)) (filter (λ (e : List ℕ × ℕ). moves_world m e.1) from.worlds);
 }
 
--- so a package of the graph
-abbrev pub joined_package : Merging → ℕ × Package → Package
-joined_package m e = option_map_or (λ (p : ℕ × Package). with_package m p.1 e.1) (partner (found_package m) m.other.packages e.0) e.1
+-- a package of the graph, by its id and what it is: with the interfaces and worlds that its counterpart brings, if it
+-- has one
+abbrev pub joined_package : GraphMerge → ℕ × Package → Package
+joined_package m e = option_map_or (λ (p : ℕ × Package). with_package m p.1 e.1) (counterpart_of (counterpart_package m) m.other.packages e.0) e.1

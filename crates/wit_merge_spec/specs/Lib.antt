@@ -3,8 +3,8 @@ pub mod Cause
 pub mod Joined
 pub mod Matches
 pub mod MismatchText
-pub mod Moved
 pub mod Reasons
+pub mod Remapped
 pub mod TypePairs
 pub mod United
 pub mod facts

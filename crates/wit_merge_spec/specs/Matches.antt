@@ -1,5 +1,5 @@
 -- Which things of two graphs a merge makes one: those of the same names, and interfaces without a name that stand
--- under one label of worlds of the same name. Each look-up takes a thing of the graph that is handed in to that of the
+-- under one label of worlds of the same name. Each look-up takes a thing of the incoming graph to that of the
 -- graph into which it goes, if that is there.
 -- Source: `MergeMap` of wit-parser 0.263.0.
 use Rattle.std.specs.Prelude.{◌≡◌, ℕ, Bool, true, false, List, [], ◌∷◌, ◌++◌, nat_eq, find, slice_get, Option, None, Some, option_and_then, if◌then◌else◌}
@@ -22,54 +22,54 @@ use Rattle.wit_data.specs.declared.world.WorldKey.TheVariants as key
 use Rattle.wit_elaboration.specs.Entries.{same_key}
 use Rattle.wit_graph_data.specs.declared.graph.Graph.{Graph}
 use Rattle.wit_graph_data.specs.declared.graph.Package.{Package}
-use Rattle.wit_graph_theory.specs.steps.OnePlace.{entries_of}
-use Rattle.wit_link_spec.specs.Lookup.{listed_type}
+use Rattle.wit_graph_theory.specs.steps.UnnamedOnce.{entries_of}
+use Rattle.wit_link_spec.specs.Lookup.{interface_type}
 
 -- a graph, another one that goes into it, and an offset by which the spans of that move
-pub record Merging : Type 0 where
+pub record GraphMerge : Type 0 where
   pub graph : Graph
   pub other : Graph
   pub offset : ℕ
 
 -- ---- packages, and what stands in their tables
 
--- the package of the graph that has the name of package p of the other one
-abbrev pub found_package : Merging → ℕ → Option ℕ
-found_package m p = option_and_then (λ (home : Package). lookup (same_package home.name) m.graph.package_names) (slice_get m.other.packages p)
+-- the counterpart of package p of the incoming graph: the package of that name
+abbrev pub counterpart_package : GraphMerge → ℕ → Option ℕ
+counterpart_package m p = option_and_then (λ (home : Package). lookup (same_package home.name) m.graph.package_names) (slice_get m.other.packages p)
 
 -- what stands under a name in a table of the package that is matched with this one
-abbrev pub found_in : (Package → List (List ℕ × ℕ)) → Merging → Option ℕ → List ℕ → Option ℕ
-found_in table m home name =
-    option_and_then (λ p'. option_and_then (λ (there : Package). lookup (bytes_eq name) (table there)) (slice_get m.graph.packages p')) (option_and_then (found_package m) home)
+abbrev pub named_in_counterpart : (Package → List (List ℕ × ℕ)) → GraphMerge → Option ℕ → List ℕ → Option ℕ
+named_in_counterpart table m home name =
+    option_and_then (λ p'. option_and_then (λ (there : Package). lookup (bytes_eq name) (table there)) (slice_get m.graph.packages p')) (option_and_then (counterpart_package m) home)
 
--- the world of the graph that has the name of world w, in the package that is matched
-abbrev pub found_world : Merging → ℕ → Option ℕ
-found_world m w = option_and_then (λ (world : World). found_in (λ (there : Package). there.worlds) m world.package world.name) (slice_get m.other.worlds w)
+-- the counterpart of world w of the incoming graph: the world of that name in the counterpart of its package
+abbrev pub counterpart_world : GraphMerge → ℕ → Option ℕ
+counterpart_world m w = option_and_then (λ (world : World). named_in_counterpart (λ (there : Package). there.worlds) m world.package world.name) (slice_get m.other.worlds w)
 
--- the world that is matched with world w
-abbrev pub world_beside : Merging → ℕ → Option World
-world_beside m w = option_and_then (slice_get m.graph.worlds) (found_world m w)
+-- the counterpart of world w as the graph has it
+abbrev pub matched_world : GraphMerge → ℕ → Option World
+matched_world m w = option_and_then (slice_get m.graph.worlds) (counterpart_world m w)
 
 -- ---- interfaces
 
--- a label among the exports or the imports of a world
-pub record Spot : Type 0 where
+-- a label of a world, on the side of its imports or of its exports
+pub record WorldLabel : Type 0 where
   pub world : ℕ
   pub exported : Bool
   pub label : List ℕ
 
--- the interface that stands under a label, with its spot
-abbrev pub spotted : ℕ → Bool → WorldKey → WorldItem → List (ℕ × Spot)
-spotted w exported (key.Name label) (item.Interface i stability docs span external_id) = (i, record { world = w; exported = exported; label = label }) ∷ []
-spotted w exported k held = []
+-- the interface that stands under a label, if one does, with that label of the world
+abbrev pub interface_at_label : ℕ → Bool → WorldKey → WorldItem → List (ℕ × WorldLabel)
+interface_at_label w exported (key.Name label) (item.Interface i stability docs span external_id) = (i, record { world = w; exported = exported; label = label }) ∷ []
+interface_at_label w exported k held = []
 
--- the interfaces under labels of a world, with their spots
-abbrev pub world_spots : ℕ → World → List (ℕ × Spot)
-world_spots w world = flat_map (λ (e : Entry). spotted w false e.0 e.1) world.imports ++ flat_map (λ (e : Entry). spotted w true e.0 e.1) world.exports
+-- the interfaces under labels of world w, each with its label
+abbrev pub labels_of_world : ℕ → World → List (ℕ × WorldLabel)
+labels_of_world w world = flat_map (λ (e : Entry). interface_at_label w false e.0 e.1) world.imports ++ flat_map (λ (e : Entry). interface_at_label w true e.0 e.1) world.exports
 
--- and of all worlds
-abbrev pub spots : List World → List (ℕ × Spot)
-spots worlds = flat_map (λ (e : ℕ × World). world_spots e.0 e.1) (enumerate_from 0 worlds)
+-- the interfaces under labels of all worlds, each with its label
+abbrev pub world_labels : List World → List (ℕ × WorldLabel)
+world_labels worlds = flat_map (λ (e : ℕ × World). labels_of_world e.0 e.1) (enumerate_from 0 worlds)
 
 -- the interface without a name that an item is
 abbrev pub unnamed_item : List Interface → WorldItem → Option ℕ
@@ -77,48 +77,49 @@ unnamed_item interfaces (item.Interface i stability docs span external_id) = if 
 unnamed_item interfaces (item.Function f) = None
 unnamed_item interfaces (item.Type_ t span) = None
 
--- the interface without a name at the same spot of the world that is matched with that of the spot
-abbrev pub found_at_spot : Merging → Spot → Option ℕ
-found_at_spot m spot =
-    option_and_then (λ (there : World). option_and_then (unnamed_item m.graph.interfaces) (lookup (same_key (key.Name spot.label)) (entries_of spot.exported there))) (world_beside m spot.world)
+-- the unnamed interface under the same label of the counterpart of the world
+abbrev pub counterpart_at_label : GraphMerge → WorldLabel → Option ℕ
+counterpart_at_label m world_label =
+    option_and_then (λ (there : World). option_and_then (unnamed_item m.graph.interfaces) (lookup (same_key (key.Name world_label.label)) (entries_of world_label.exported there))) (matched_world m world_label.world)
 
--- an interface by its name, one without a name by the spot where it stands
-abbrev pub found_as : Merging → ℕ → Option ℕ → Option (List ℕ) → Option ℕ
-found_as m i home (Some name) = found_in (λ (there : Package). there.interfaces) m home name
-found_as m i home None = option_and_then (found_at_spot m) (lookup (nat_eq i) (spots m.other.worlds))
+-- the counterpart of an interface: by its name in the counterpart of its package, or, unnamed, under the same label
+-- of the counterpart of the world where it stands
+abbrev pub counterpart_interface_by : GraphMerge → ℕ → Option ℕ → Option (List ℕ) → Option ℕ
+counterpart_interface_by m i home (Some name) = named_in_counterpart (λ (there : Package). there.interfaces) m home name
+counterpart_interface_by m i home None = option_and_then (counterpart_at_label m) (lookup (nat_eq i) (world_labels m.other.worlds))
 
--- so of interface i
-abbrev pub found_interface : Merging → ℕ → Option ℕ
-found_interface m i = option_and_then (λ (interface : Interface). found_as m i interface.package interface.name) (slice_get m.other.interfaces i)
+-- the counterpart of interface i of the incoming graph
+abbrev pub counterpart_interface : GraphMerge → ℕ → Option ℕ
+counterpart_interface m i = option_and_then (λ (interface : Interface). counterpart_interface_by m i interface.package interface.name) (slice_get m.other.interfaces i)
 
--- the interface that is matched with interface i
-abbrev pub interface_beside : Merging → ℕ → Option Interface
-interface_beside m i = option_and_then (slice_get m.graph.interfaces) (found_interface m i)
+-- the counterpart of interface i as the graph has it
+abbrev pub matched_interface : GraphMerge → ℕ → Option Interface
+matched_interface m i = option_and_then (slice_get m.graph.interfaces) (counterpart_interface m i)
 
 -- ---- types
 
 -- a type by its name, in the interface or the world that is matched with its owner; one without a name nowhere
-abbrev pub found_by : Merging → Option (List ℕ) → TypeOwner → Option ℕ
-found_by m (Some name) (owner.Interface i) = option_and_then (listed_type m.graph name) (found_interface m i)
-found_by m (Some name) (owner.World w) = option_and_then (λ (there : World). lookup (bytes_eq name) (world_types there)) (world_beside m w)
-found_by m (Some name) owner.None = None
-found_by m None by = None
+abbrev pub counterpart_type_by : GraphMerge → Option (List ℕ) → TypeOwner → Option ℕ
+counterpart_type_by m (Some name) (owner.Interface i) = option_and_then (interface_type m.graph name) (counterpart_interface m i)
+counterpart_type_by m (Some name) (owner.World w) = option_and_then (λ (there : World). lookup (bytes_eq name) (world_types there)) (matched_world m w)
+counterpart_type_by m (Some name) owner.None = None
+counterpart_type_by m None by = None
 
--- so of type t
-abbrev pub found_type : Merging → ℕ → Option ℕ
-found_type m t = option_and_then (λ (def : TypeDef). found_by m def.name def.owner) (slice_get m.other.types t)
+-- the counterpart of type t of the incoming graph
+abbrev pub counterpart_type : GraphMerge → ℕ → Option ℕ
+counterpart_type m t = option_and_then (λ (def : TypeDef). counterpart_type_by m def.name def.owner) (slice_get m.other.types t)
 
 -- ---- entries
 
 -- the key under which a key of the other graph is looked for: a label is itself, an interface that which it is
 -- matched with
-abbrev pub found_key : Merging → WorldKey → Option WorldKey
-found_key m (key.Name label) = Some (key.Name label)
-found_key m (key.Interface i) = option_map (λ i'. key.Interface i') (found_interface m i)
+abbrev pub counterpart_key : GraphMerge → WorldKey → Option WorldKey
+counterpart_key m (key.Name label) = Some (key.Name label)
+counterpart_key m (key.Interface i) = option_map (λ i'. key.Interface i') (counterpart_interface m i)
 
 -- what stands under it among some entries
-abbrev pub found_item : Merging → List Entry → WorldKey → Option WorldItem
-found_item m entries k = option_and_then (λ k'. lookup (same_key k') entries) (found_key m k)
+abbrev pub counterpart_item : GraphMerge → List Entry → WorldKey → Option WorldItem
+counterpart_item m entries k = option_and_then (λ k'. lookup (same_key k') entries) (counterpart_key m k)
 
 -- ---- pairs
 
@@ -132,6 +133,6 @@ pub record Pair {X : Type 0} (found : ℕ → Option ℕ) (others ours : List X)
   pub matched : found x ≡ Some x'
   pub into_is : slice_get ours x' ≡ Some into
 
--- the first of a list that is matched with thing x', with its place
-abbrev pub partner : {X : Type 0} → (ℕ → Option ℕ) → List X → ℕ → Option (ℕ × X)
-partner {X} found others x' = find (λ (e : ℕ × X). option_eq nat_eq (found e.0) (Some x')) (enumerate_from 0 others)
+-- the first thing of a list whose counterpart is thing x', with its index
+abbrev pub counterpart_of : {X : Type 0} → (ℕ → Option ℕ) → List X → ℕ → Option (ℕ × X)
+counterpart_of {X} found others x' = find (λ (e : ℕ × X). option_eq nat_eq (found e.0) (Some x')) (enumerate_from 0 others)

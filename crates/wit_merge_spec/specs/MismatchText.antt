@@ -17,7 +17,7 @@ linked (link ∷ links) rest = link ++ (codes ": " ++ linked links rest)
 abbrev pub part_links : PackageName → List ℕ → List ℕ → List (List ℕ)
 part_links home sort name = (codes "failed to merge package `" ++ (package_name_text home ++ codes "` into existing copy")) ∷ (codes "failed to merge " ++ (sort ++ (codes " `" ++ (name ++ codes "`")))) ∷ []
 
--- in an entry of a world, by what names its key in the graph that is handed in; word is `import` or `export`
+-- in an entry of a world, by what names its key in the incoming graph; word is `import` or `export`
 abbrev pub entry_link : List ℕ → List ℕ → List ℕ
 entry_link word k = word ++ (codes " `" ++ (k ++ codes "` didn't match target world"))
 
@@ -36,7 +36,7 @@ side_word true = codes "export"
 abbrev pub entry_count_text : List ℕ → List ℕ
 entry_count_text word = codes "world contains different number of " ++ (word ++ codes "s than expected")
 
--- no such entry, by what names its key in the graph that is handed in; word is `import` or `export`
+-- no such entry, by what names its key in the incoming graph; word is `import` or `export`
 abbrev pub absent_text : List ℕ → List ℕ → List ℕ
 absent_text word k = word ++ (codes " `" ++ (k ++ codes "` not found in target world"))
 

@@ -8,41 +8,41 @@ use Rattle.wit_data.specs.declared.function.Function.{Function}
 use Rattle.wit_data.specs.declared.stability.Stability.{Stability}
 use Rattle.wit_graph_data.specs.declared.graph.Graph.{Graph}
 use Rattle.wit_graph_theory.specs.Image.{function_image}
-use Rattle.wit_graph_theory.specs.steps.OnePlace.{entries_of}
+use Rattle.wit_graph_theory.specs.steps.UnnamedOnce.{entries_of}
 use Rattle.wit_link_spec.specs.CauseText.{borrow_text}
-use Rattle.wit_link_spec.specs.Gates.{Place}
+use Rattle.wit_link_spec.specs.Gates.{OptionalSpan}
 use Rattle.wit_link_spec.specs.Reasons.{HoldsBorrow}
 use Rattle.wit_link_spec.specs.Spans.{interface_spans, type_spans, world_spans}
 use Rattle.wit_link_spec.specs.WorldReasons.{Disagree, HasStability}
 use Rattle.wit_merge_spec.specs.Agreement.{GraphsDiffer}
-use Rattle.wit_merge_spec.specs.Matches.{Merging, Pair, found_interface, found_type, found_world}
-use Rattle.wit_merge_spec.specs.Moved.{merge_maps, moved_functions}
+use Rattle.wit_merge_spec.specs.Matches.{GraphMerge, Pair, counterpart_interface, counterpart_type, counterpart_world}
+use Rattle.wit_merge_spec.specs.Remapped.{merge_maps, moved_functions}
 use Rattle.wit_merge_spec.specs.United.{joined_graph}
 
--- nothing differs of what has to agree (24), so there are the two graphs as one
-abbrev pub AreOne : Merging → Type 0
-AreOne m = (message : List ℕ) → GraphsDiffer m message → ⊥
+-- nothing differs that has to agree, so no mismatch (24) is told, and there is a union
+abbrev pub HasNoMismatch : GraphMerge → Type 0
+HasNoMismatch m = (message : List ℕ) → GraphsDiffer m message → ⊥
 
 -- ---- 8: stabilities
 
 -- a stability of a matched thing, and the one to which it is joined: of types, interfaces, worlds, and of entries of
 -- matched worlds under the keys of matched interfaces
-pub data AreJoined (m : Merging) : Stability → Stability → Type 0 where
-  types : (p : Pair (found_type m) m.other.types m.graph.types) → AreJoined m p.from.stability p.into.stability
-  interfaces : (p : Pair (found_interface m) m.other.interfaces m.graph.interfaces) → AreJoined m p.from.stability p.into.stability
-  worlds : (p : Pair (found_world m) m.other.worlds m.graph.worlds) → AreJoined m p.from.stability p.into.stability
-  entries : (p : Pair (found_world m) m.other.worlds m.graph.worlds) (exported : Bool) (i i' : ℕ) (from into : Stability) → found_interface m i ≡ Some i'
+pub data AreJoined (m : GraphMerge) : Stability → Stability → Type 0 where
+  types : (p : Pair (counterpart_type m) m.other.types m.graph.types) → AreJoined m p.from.stability p.into.stability
+  interfaces : (p : Pair (counterpart_interface m) m.other.interfaces m.graph.interfaces) → AreJoined m p.from.stability p.into.stability
+  worlds : (p : Pair (counterpart_world m) m.other.worlds m.graph.worlds) → AreJoined m p.from.stability p.into.stability
+  entries : (p : Pair (counterpart_world m) m.other.worlds m.graph.worlds) (exported : Bool) (i i' : ℕ) (from into : Stability) → counterpart_interface m i ≡ Some i'
       → HasStability (entries_of exported p.from) i from → HasStability (entries_of exported p.into) i' into → AreJoined m from into
 
 -- 8: two that are joined are known and differ
-pub record Mismatches (m : Merging) (from into : Stability) : Type 0 where
+pub record StabilitiesMismatch (m : GraphMerge) (from into : Stability) : Type 0 where
   pub joined : AreJoined m from into
   pub apart : Disagree from into
 
 -- ---- 15: a borrow in a result
 
 -- 15: the result of a function that moves holds a borrow
-pub record ReturnsBorrow (m : Merging) (message : List ℕ) : Type 0 where
+pub record MergeReturnsBorrow (m : GraphMerge) (message : List ℕ) : Type 0 where
   pub f : Function
   pub t' : ℕ
   pub moved : Contains (moved_functions m) f
@@ -53,11 +53,11 @@ pub record ReturnsBorrow (m : Merging) (message : List ℕ) : Type 0 where
 -- ---- 27: a position that is too large
 
 -- all the spans of a graph
-abbrev pub graph_spans : Graph → List Place
+abbrev pub graph_spans : Graph → List OptionalSpan
 graph_spans g = flat_map type_spans g.types ++ (flat_map interface_spans g.interfaces ++ flat_map world_spans g.worlds)
 
--- 27: a span of the graph that is handed in would end past 4294967295, whether it moves or not
-pub record PassesTheEnd (m : Merging) : Type 0 where
+-- 27: a span of the incoming graph would end past 4294967295, whether it moves or not
+pub record MergeOverflows (m : GraphMerge) : Type 0 where
   pub from : ℕ
   pub to : ℕ
   pub known : Contains (graph_spans m.other) (Some (from, to))

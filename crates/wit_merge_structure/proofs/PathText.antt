@@ -2,7 +2,7 @@
 use Rattle.std.proofs.Common.{◌≡◌, ◌∙◌, ℕ, ◌<◌, ◌+◌, zero, suc, List, [], ◌∷◌, ◌++◌, length, map, take, codes, Some, slice_get, refl, sym, ap, arith, append_assoc}
 use Rattle.std.proofs.lemmas.List.{append-nil, length-map, map-append, take_all}
 use Rattle.wit_values.specs.facts.Lists.{take-next_at}
-use Rattle.wit_merge_structure.specs.steps.Comparing.{frame_step, path_of}
+use Rattle.wit_merge_structure.specs.steps.ComparisonSteps.{frame_step, path_of}
 use Rattle.wit_merge_structure.specs.Structure.{dotted, path_text}
 use Rattle.wit_merge_structure.specs.declared.comparison.Sides.{Sides}
 use Rattle.wit_merge_structure.specs.declared.frames.Frame.{Frame}
@@ -18,10 +18,10 @@ dotted_more : (steps : List (List ℕ)) (step : List ℕ) → 0 < length steps �
 dotted_more [] step some = absurd (omega (arith, some))
 dotted_more (first ∷ steps) step some = dotted_push first steps step
 
-taken_long : {X : Type 0} (xs : List X) (i : ℕ) (x : X) → slice_get xs i ≡ Some x → length (take i xs) ≡ i
-taken_long [] i x at = cc
-taken_long (z ∷ zs) zero x at = refl
-taken_long (z ∷ zs) (suc i) x at = ap suc (taken_long zs i x at)
+selected_long : {X : Type 0} (xs : List X) (i : ℕ) (x : X) → slice_get xs i ≡ Some x → length (take i xs) ≡ i
+selected_long [] i x at = cc
+selected_long (z ∷ zs) zero x at = refl
+selected_long (z ∷ zs) (suc i) x at = ap suc (selected_long zs i x at)
 
 module _ (s : Sides) (stack : List Frame) (i : ℕ) (f : Frame) (at : slice_get stack i ≡ Some f) where
   path_next : path_of s (take (i + 1) stack) ≡ path_of s (take i stack) ++ frame_step s f ∷ []
@@ -36,7 +36,7 @@ module _ (s : Sides) (stack : List Frame) (i : ℕ) (f : Frame) (at : slice_get 
   -- a step behind others
   pub step_behind : 0 < i → dotted (path_of s (take (i + 1) stack)) ≡ dotted (path_of s (take i stack)) ++ (codes "." ++ frame_step s f)
   step_behind some =
-      ap dotted path_next ∙ dotted_more (path_of s (take i stack)) (frame_step s f) (omega (arith, some, taken_long stack i f at, length-map (take i stack) (frame_step s)))
+      ap dotted path_next ∙ dotted_more (path_of s (take i stack)) (frame_step s f) (omega (arith, some, selected_long stack i f at, length-map (take i stack) (frame_step s)))
 
 module _ (s : Sides) (stack : List Frame) (i : ℕ) (f : Frame) (at : slice_get stack i ≡ Some f) (old mid new : List ℕ) where
   -- the text with one step more

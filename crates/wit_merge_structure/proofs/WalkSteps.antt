@@ -15,7 +15,7 @@ use Rattle.wit_data.specs.declared.types.TypeDefKind.{TypeDefKind}
 use Rattle.wit_data.specs.declared.types.TypeDefKind.TheVariants as kind
 use Rattle.wit_data.specs.declared.types.Type_.{Type_}
 use Rattle.wit_data.specs.declared.types.Type_.TheVariants as type
-use Rattle.wit_merge_structure.specs.steps.Comparing.{AreAtParts, AreSides, AreThere, IsAtPart, frame_step, from_held, from_structure, into_held, into_structure, kind_at, matched_by, path_of}
+use Rattle.wit_merge_structure.specs.steps.ComparisonSteps.{AreAtParts, AreSides, AreThere, IsAtPart, frame_step, from_held, from_structure, into_held, into_structure, kind_at, matched_by, path_of}
 use Rattle.wit_merge_structure.specs.facts.DifferenceFacts.{first_behind, first_front, first_within}
 use Rattle.wit_merge_structure.specs.steps.Kinds.{step_at, steps_of}
 use Rattle.wit_merge_structure.specs.Structure.{Content, Feature, FirstDifference, Part, absent, head_features, held_features, here, is_named, kind_features, named, names, part_features, parts_of, structure, within}
@@ -311,9 +311,9 @@ module _ (s : Sides) where
       → IsWalking r r' (record { from = r; into = r'; next = 0 } ∷ [])
   walk_start r r' below below' heads = walking r r' [] (record { from = r; into = r'; next = 0 }) (refl, refl) (agree_none r r' below below' heads)
 
-  module _ (r r' : ℕ) (fs : List Frame) (f : Frame) (walk : IsWalking r r' (fs ++ f ∷ [])) where
+  module _ (r r' : ℕ) (fs : List Frame) (f : Frame) (post_order : IsWalking r r' (fs ++ f ∷ [])) where
     abbrev pub led : Leads fs r r' f.from f.into × AgreeBefore f
-    led = walk.some fs f refl
+    led = post_order.some fs f refl
 
     -- the part is the same
     pub walk_same : (p : NextPart f) → from_held s p.one.ty ≡ into_held s p.other.ty → IsWalking r r' (fs ++ next_frame f ∷ [])

@@ -3,7 +3,7 @@ use Rattle.std.proofs.Common.{◌≡◌, ◌∙◌, ℕ, ◌<◌, ◌≤◌, ◌
 use Rattle.wit_data.specs.declared.types.TypeDef.{TypeDef}
 use Rattle.wit_data.specs.declared.types.TypeDefKind.{TypeDefKind}
 use Rattle.wit_data.specs.declared.types.Type_.{Type_}
-use Rattle.wit_merge_structure.specs.steps.Comparing.{AreAtParts, AreSides, AreThere, Compares, DifferHere, from_held, from_structure, into_held, into_structure, kind_at, matched_by, path_of, structure_of}
+use Rattle.wit_merge_structure.specs.steps.ComparisonSteps.{AreAtParts, AreSides, AreThere, Compares, DifferHere, from_held, from_structure, into_held, into_structure, kind_at, matched_by, path_of, structure_of}
 use Rattle.wit_merge_structure.specs.facts.DifferenceFacts.{first_front}
 use Rattle.wit_merge_structure.specs.steps.Kinds.{HeadsDiffer, ending_text}
 use Rattle.wit_merge_structure.specs.Structure.{Content, DifferInStructure, Feature, FirstDifference, Part, head_features, here, kind_features, parts_of, path_text}
@@ -27,9 +27,9 @@ heads_told s sides t t' below below' e heads text text_is = record {
   text_is = text_is ∙ heads.text_is;
 }
 
-module _ (s : Sides) (sides : AreSides s) (r r' : ℕ) (fs : List Frame) (f : Frame) (walk : IsWalking s r r' (fs ++ f ∷ [])) where
+module _ (s : Sides) (sides : AreSides s) (r r' : ℕ) (fs : List Frame) (f : Frame) (post_order : IsWalking s r r' (fs ++ f ∷ [])) where
   agree : AgreeBefore s f
-  agree = (walk.some fs f refl).1
+  agree = (post_order.some fs f refl).1
 
   pub turn_from : f.from < length s.from.now
   turn_from = agree.from
@@ -65,7 +65,7 @@ module _ (s : Sides) (sides : AreSides s) (r r' : ℕ) (fs : List Frame) (f : Fr
     other_there = subst (λ (o : Option Type_). AreThere s.into.now o) (sym other_held) (parts_there s.into.now sides.into f.into f.next next.other agree.into next.other_is)
 
     pub turn_same : from_held s one ≡ into_held s other → IsWalking s r r' (fs ++ next_frame s f ∷ [])
-    turn_same same = walk_same s r r' fs f walk next (ap (from_held s) (sym one_held) ∙ (same ∙ ap (into_held s) other_held))
+    turn_same same = walk_same s r r' fs f post_order next (ap (from_held s) (sym one_held) ∙ (same ∙ ap (into_held s) other_held))
 
     pub smaller_same : turns s (fs ++ next_frame s f ∷ []) < turns s (fs ++ f ∷ [])
     smaller_same = turns_same s sides fs f next agree.from
@@ -76,7 +76,7 @@ module _ (s : Sides) (sides : AreSides s) (r r' : ℕ) (fs : List Frame) (f : Fr
       x = record { path = path_of s (fs ++ next_frame s f ∷ []); content = d.a };
       y = record { path = path_of s (fs ++ next_frame s f ∷ []); content = d.b };
       first =
-          walk_differs s r r' fs f walk sides next d.a d.b
+          walk_differs s r r' fs f post_order sides next d.a d.b
           (subst (λ (o : Option Type_). FirstDifference (from_held s o) (into_held s next.other.ty) (here d.a) (here d.b)) one_held
           (subst (λ (o : Option Type_). FirstDifference (from_held s one) (into_held s o) (here d.a) (here d.b)) other_held d.first));
       text_is = text_is ∙ ap (λ (l : List ℕ). path_text (path_of s (fs ++ next_frame s f ∷ [])) ++ l) d.text_is;
@@ -84,13 +84,13 @@ module _ (s : Sides) (sides : AreSides s) (r r' : ℕ) (fs : List Frame) (f : Fr
 
     pub turn_enter : (v v' : ℕ) → Compares s one other (held.Unnamed v v') → IsWalking s r r' ((fs ++ next_frame s f ∷ []) ++ record { from = v; into = v'; next = 0 } ∷ [])
     turn_enter v v' enters =
-        walk_enter s r r' fs f walk next v v' enters.0 enters.1 (ap (from_held s) (sym one_held) ∙ enters.2) (ap (into_held s) (sym other_held) ∙ enters.3) enters.4
+        walk_enter s r r' fs f post_order next v v' enters.0 enters.1 (ap (from_held s) (sym one_held) ∙ enters.2) (ap (into_held s) (sym other_held) ∙ enters.3) enters.4
 
     pub smaller_enter : (v v' : ℕ) → Compares s one other (held.Unnamed v v') → turns s ((fs ++ next_frame s f ∷ []) ++ record { from = v; into = v'; next = 0 } ∷ []) < turns s (fs ++ f ∷ [])
     smaller_enter v v' enters = turns_enter s sides fs f next v v' enters.0 (ap (from_held s) (sym one_held) ∙ enters.2)
 
     pub turn_parts : AreAtParts s (fs ++ next_frame s f ∷ [])
-    turn_parts = walk_at_parts s r r' fs f walk more_parts
+    turn_parts = walk_at_parts s r r' fs f post_order more_parts
 
   -- ---- there is none
 
@@ -99,13 +99,13 @@ module _ (s : Sides) (sides : AreSides s) (r r' : ℕ) (fs : List Frame) (f : Fr
     done = subst (λ (k : TypeDefKind). length (parts_of k) ≤ f.next) (sym (kind_is s.from.now f.from def at)) none_left
 
     pub turn_done : IsWalking s r r' fs
-    turn_done = walk_done s r r' fs f walk sides done
+    turn_done = walk_done s r r' fs f post_order sides done
 
     -- so the two are of one class
     pub turn_alike : (count : ℕ) → count ≡ length s.from.now → structure_of s f.from ≡ structure_of s (count + f.into)
     turn_alike count count_is =
         of_from s sides f.from f.into agree.from
-        ∙ (walk_same_types s r r' fs f walk sides done ∙ (sym (of_into s sides f.from f.into) ∙ sym (ap (λ (n : ℕ). structure_of s (n + f.into)) count_is)))
+        ∙ (walk_same_types s r r' fs f post_order sides done ∙ (sym (of_into s sides f.from f.into) ∙ sym (ap (λ (n : ℕ). structure_of s (n + f.into)) count_is)))
 
     pub smaller_done : turns s fs < turns s (fs ++ f ∷ [])
     smaller_done = turns_done s fs f

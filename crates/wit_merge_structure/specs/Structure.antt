@@ -69,7 +69,7 @@ parts_of (kind.Stream ty) = part (codes "element") ty ∷ []
 parts_of (kind.Type_ ty) = part (codes "alias") (Some ty) ∷ []
 parts_of kind.Unknown = []
 
--- its length, if that is fixed
+-- the length of a kind, if that is fixed
 abbrev pub fixed_length : TypeDefKind → Option ℕ
 fixed_length (kind.FixedLengthList ty len) = Some len
 fixed_length _ = None
@@ -100,7 +100,7 @@ here content = record { path = []; content = content }
 abbrev pub within : List ℕ → Feature → Feature
 within step f = record { path = step ∷ f.path; content = f.content }
 
--- those of a kind itself
+-- the features of a kind itself, without its parts
 abbrev pub head_features : TypeDefKind → List Feature
 head_features k = here (variant (variant_of k)) ∷ here (names (map (λ (p : Part). p.step) (parts_of k))) ∷ option_map_or (λ len. here (fixed len) ∷ []) (fixed_length k) []
 
@@ -108,21 +108,21 @@ head_features k = here (variant (variant_of k)) ∷ here (names (map (λ (p : Pa
 abbrev pub is_named : List TypeDef → ℕ → Bool
 is_named types t = option_map_or (λ (def : TypeDef). is_some def.name) (slice_get types t) false
 
--- those of what a part holds, where `inner` has those of types without a name
+-- the features of what a part holds, where `inner` has those of types without a name
 abbrev pub held_features : List TypeDef → (ℕ → Option ℕ) → (ℕ → List Feature) → Option Type_ → List Feature
 held_features types matched inner None = here absent ∷ []
 held_features types matched inner (Some (type.Id t)) = if is_named types t then here (named (matched t)) ∷ [] else inner t
 held_features types matched inner (Some ty) = here (primitive ty) ∷ []
 
--- those of a part
+-- the features of a part
 abbrev pub part_features : List TypeDef → (ℕ → Option ℕ) → (ℕ → List Feature) → Part → List Feature
 part_features types matched inner p = map (within p.step) (held_features types matched inner p.ty)
 
--- those of a kind with its parts
+-- the features of a kind with its parts
 abbrev pub kind_features : List TypeDef → (ℕ → Option ℕ) → (ℕ → List Feature) → TypeDefKind → List Feature
 kind_features types matched inner k = head_features k ++ flat_map (part_features types matched inner) (parts_of k)
 
--- those of type t along paths of at most `members` types
+-- the structure of type t along paths of at most `members` types
 unfoldable pub structure_within : List TypeDef → (ℕ → Option ℕ) → ℕ → ℕ → List Feature
 structure_within types matched zero t = []
 structure_within types matched (suc members) t = option_map_or (λ (def : TypeDef). kind_features types matched (structure_within types matched members) def.kind) (slice_get types t) []

@@ -1,3 +1,3 @@
 pub mod Classes
-pub mod Comparing
+pub mod ComparisonSteps
 pub mod Kinds

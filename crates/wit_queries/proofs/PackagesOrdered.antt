@@ -3,9 +3,9 @@ use Rattle.std.proofs.Common.{◌≡◌, ℕ, ◌+◌, ◌<◌, List, [], ◌∷
 use Rattle.std.specs.List.{flat_map, range_with_len}
 use Rattle.std.proofs.lemmas.List.FromFn.{get_or-range_with_len, length-range_with_len}
 use Rattle.std.proofs.lemmas.List.Elements.{All-contains}
-use Rattle.wit_digraph.specs.laws.Laws.{FirstsAreOnce, WalksKeepOrder, WalksReach}
+use Rattle.wit_digraph.specs.laws.Laws.{FirstsAreOnce, PostOrdersKeepOrder, PostOrdersReach}
 use Rattle.wit_digraph.specs.Relation.{IsAcyclic, IsPath, direct}
-use Rattle.wit_digraph.specs.Walks.{first_of_each, walk}
+use Rattle.wit_digraph.specs.PostOrder.{first_of_each, post_order}
 use Rattle.wit_graph_data.specs.Relations.{package_uses}
 use Rattle.wit_queries.specs.laws.PackageOrder.{IsOrder, PackagesAreInOrder}
 use Rattle.wit_queries.proofs.PackageRows.{length-rows, range-below}
@@ -23,8 +23,8 @@ module _ (uses : List (List ℕ)) (acyclic : IsAcyclic uses) where
   reached_within i [] j here is = subst (λ k. k < length uses) is here
   reached_within i (k ∷ path) j here steps = reached_within k path j (All-contains (λ l. l < length uses) (direct uses i) k (acyclic.in_range i) steps.0) steps.1
 
-  module _ (reach : WalksReach) (keep : WalksKeepOrder) (once : (xs : List ℕ) → FirstsAreOnce xs) where
-    in_order : (count : ℕ) → length uses ≡ count → IsOrder uses count (first_of_each (flat_map (walk uses) (range_with_len 0 count)))
+  module _ (reach : PostOrdersReach) (keep : PostOrdersKeepOrder) (once : (xs : List ℕ) → FirstsAreOnce xs) where
+    in_order : (count : ℕ) → length uses ≡ count → IsOrder uses count (first_of_each (flat_map (post_order uses) (range_with_len 0 count)))
     in_order count long =
         let below : All (λ i. i < length uses) (range_with_len 0 count) = subst (λ n. All (λ i. i < n) (range_with_len 0 count)) (sym long) (range-below count) in
         record {
@@ -33,10 +33,10 @@ module _ (uses : List (List ℕ)) (acyclic : IsAcyclic uses) where
                 subst (λ n. i < n) long (reached_within from.0 from.2.0 i (All-contains (λ l. l < length uses) (range_with_len 0 count) from.0 below from.1) from.2.1),
             λ here. (reach uses (range_with_len 0 count) i acyclic below).1 (i, among_range count i here, ([], refl)),
           );
-          once = (once (flat_map (walk uses) (range_with_len 0 count))).distinct;
+          once = (once (flat_map (post_order uses) (range_with_len 0 count))).distinct;
           dependencies_first = keep uses (range_with_len 0 count) acyclic below;
         }
 
-pub packages_are_in_order : WalksReach → WalksKeepOrder → ((xs : List ℕ) → FirstsAreOnce xs) → PackagesAreInOrder
+pub packages_are_in_order : PostOrdersReach → PostOrdersKeepOrder → ((xs : List ℕ) → FirstsAreOnce xs) → PackagesAreInOrder
 packages_are_in_order reach keep once types interfaces worlds packages acyclic =
     in_order (package_uses types interfaces worlds packages) acyclic reach keep once (length packages) (length-rows types interfaces worlds packages)

@@ -10,10 +10,10 @@ use Rattle.std.proofs.lemmas.List.Elements.{All-contains, Contains-append_cases,
 use Rattle.wit_digraph.specs.facts.FreshFacts.{any_from_contains, contains_from_any, fresh_all, fresh_in, no_any_from, UsesFirst-fresh}
 use Rattle.wit_digraph.specs.facts.MemberFacts.{Contains-nil, Contains-here, Contains-there, Contains-cons_cases, Contains-flat_map, Contains-flat_map_cases}
 use Rattle.wit_digraph.specs.Relation.{direct, IsAcyclic, IsPath}
-use Rattle.wit_digraph.specs.Walks.{first_of_each, walk, walk_within, UsesFirst}
-use Rattle.wit_digraph.specs.facts.WalkFacts.{walk_is, Contains-walk_end, Reaches-from_walk, UsesFirst-flat_map, UsesFirst-use, UsesFirst-walk}
+use Rattle.wit_digraph.specs.PostOrder.{first_of_each, post_order, post_order_within, UsesFirst}
+use Rattle.wit_digraph.specs.facts.PostOrderFacts.{post_order_is, Contains-post_order_end, Reaches-from_post_order, UsesFirst-flat_map, UsesFirst-use, UsesFirst-post_order}
 use Rattle.wit_data.specs.declared.types.TypeDef.{TypeDef}
-use Rattle.wit_graph_data.specs.Questions.{is_future, is_future_kind}
+use Rattle.wit_graph_data.specs.Queries.{is_future, is_future_kind}
 use Rattle.wit_queries.specs.steps.Unfolding.{futures_of, IsUnfolding, KeepsOthers, OthersHoldNone, places_within}
 
 -- ---- the order of what roots reach
@@ -28,28 +28,28 @@ module _ (uses : List (List ℕ)) (acyclic : IsAcyclic uses) (roots : List ℕ) 
   root_below t has = All-contains (λ n. n < length uses) roots t in_range has
 
   -- a root is in the order
-  pub root_reached : (t : ℕ) → Contains roots t → Contains (first_of_each (flat_map (walk uses) roots)) t
-  root_reached t has = fresh_all [] (flat_map (walk uses) roots) t (Contains-flat_map (walk uses) roots t t has (Contains-walk_end uses acyclic t (root_below t has)))
+  pub root_reached : (t : ℕ) → Contains roots t → Contains (first_of_each (flat_map (post_order uses) roots)) t
+  root_reached t has = fresh_all [] (flat_map (post_order uses) roots) t (Contains-flat_map (post_order uses) roots t t has (Contains-post_order_end uses acyclic t (root_below t has)))
 
   -- each stands there after what it uses
-  pub order_uses_first : UsesFirst uses [] (first_of_each (flat_map (walk uses) roots))
+  pub order_uses_first : UsesFirst uses [] (first_of_each (flat_map (post_order uses) roots))
   order_uses_first =
-      UsesFirst-fresh uses (flat_map (walk uses) roots) [] [] (λ j has. has)
-      (UsesFirst-flat_map uses roots [] (λ j has more. UsesFirst-walk uses acyclic j (root_below j has) more))
+      UsesFirst-fresh uses (flat_map (post_order uses) roots) [] [] (λ j has. has)
+      (UsesFirst-flat_map uses roots [] (λ j has more. UsesFirst-post_order uses acyclic j (root_below j has) more))
 
   -- so what one in the order uses is in it
-  pub use_reached : (t u : ℕ) → Contains (first_of_each (flat_map (walk uses) roots)) t → Contains (direct uses t) u → Contains (first_of_each (flat_map (walk uses) roots)) u
-  use_reached t u among edge = UsesFirst-use uses (first_of_each (flat_map (walk uses) roots)) [] t u order_uses_first among edge
+  pub use_reached : (t u : ℕ) → Contains (first_of_each (flat_map (post_order uses) roots)) t → Contains (direct uses t) u → Contains (first_of_each (flat_map (post_order uses) roots)) u
+  use_reached t u among edge = UsesFirst-use uses (first_of_each (flat_map (post_order uses) roots)) [] t u order_uses_first among edge
 
   -- and each is there
-  pub reached_below : (t : ℕ) → Contains (first_of_each (flat_map (walk uses) roots)) t → t < length uses
+  pub reached_below : (t : ℕ) → Contains (first_of_each (flat_map (post_order uses) roots)) t → t < length uses
   reached_below t has =
-      let from = Contains-flat_map_cases (walk uses) roots t (fresh_in [] (flat_map (walk uses) roots) t has) in
-      let on = Reaches-from_walk uses acyclic from.0 (root_below from.0 from.1.0) t from.1.1 in
+      let from = Contains-flat_map_cases (post_order uses) roots t (fresh_in [] (flat_map (post_order uses) roots) t has) in
+      let on = Reaches-from_post_order uses acyclic from.0 (root_below from.0 from.1.0) t from.1.1 in
       path_below uses acyclic from.0 on.0 t (root_below from.0 from.1.0) on.1
 
-  pub order_below : All (λ t. t < length uses) (first_of_each (flat_map (walk uses) roots))
-  order_below k d below = reached_below (get_or (first_of_each (flat_map (walk uses) roots)) k d) (Contains-get_or (first_of_each (flat_map (walk uses) roots)) k d below)
+  pub order_below : All (λ t. t < length uses) (first_of_each (flat_map (post_order uses) roots))
+  order_below k d below = reached_below (get_or (first_of_each (flat_map (post_order uses) roots)) k d) (Contains-get_or (first_of_each (flat_map (post_order uses) roots)) k d below)
 
 -- ---- lists that a test picks from
 
@@ -121,9 +121,9 @@ picked_once p xs x pass =
       | inr none ↦ none ∙ sym (no_any_from x (filter p xs) (λ has. false≢true (sym none ∙ any_from_contains x (first_of_each xs) (fresh_all [] xs x (Contains-filter p xs x has)))))
     ]
 
-pub filter-walks : (p : ℕ → Bool) (f : ℕ → List ℕ) (ts : List ℕ) → filter p (flat_map f ts) ≡ flat_map (λ t. filter p (f t)) ts
-filter-walks p f [] = refl
-filter-walks p f (t ∷ ts) = filter-append p (f t) (flat_map f ts) ∙ ap (λ us. filter p (f t) ++ us) (filter-walks p f ts)
+pub filter-post_orders : (p : ℕ → Bool) (f : ℕ → List ℕ) (ts : List ℕ) → filter p (flat_map f ts) ≡ flat_map (λ t. filter p (f t)) ts
+filter-post_orders p f [] = refl
+filter-post_orders p f (t ∷ ts) = filter-append p (f t) (flat_map f ts) ∙ ap (λ us. filter p (f t) ++ us) (filter-post_orders p f ts)
 
 -- what gives nothing may be left out
 pub flat_map-kept : (f : ℕ → List ℕ) (keep : ℕ → Bool) (ts : List ℕ) → ((t : ℕ) → Contains ts t → keep t ≡ false → f t ≡ []) → flat_map f (filter keep ts) ≡ flat_map f ts
@@ -162,9 +162,9 @@ module _ (types : List TypeDef) (held : List (List ℕ)) (acyclic : IsAcyclic he
   -- what a type holds: what is held by what it holds, and then the type itself
   futures_is : (t : ℕ) → t < length held → futures_of types held t ≡ flat_map (futures_of types held) (direct held t) ++ filter (is_future types) (t ∷ [])
   futures_is t here =
-      ap (filter (is_future types)) (walk_is held acyclic t here)
-      ∙ filter-append (is_future types) (flat_map (walk held) (direct held t)) (t ∷ [])
-      ∙ ap (λ (us : List ℕ). us ++ filter (is_future types) (t ∷ [])) (filter-walks (is_future types) (walk held) (direct held t))
+      ap (filter (is_future types)) (post_order_is held acyclic t here)
+      ∙ filter-append (is_future types) (flat_map (post_order held) (direct held t)) (t ∷ [])
+      ∙ ap (λ (us : List ℕ). us ++ filter (is_future types) (t ∷ [])) (filter-post_orders (is_future types) (post_order held) (direct held t))
 
   nothing : (us : List ℕ) → ((u : ℕ) → Contains us u → futures_of types held u ≡ []) → flat_map (futures_of types held) us ≡ []
   nothing [] each = refl
@@ -203,7 +203,7 @@ module _ (types : List TypeDef) (held : List (List ℕ)) (acyclic : IsAcyclic he
   -- ---- the steps of unfolding
 
   module _ (roots : List ℕ) (in_range : All (λ t. t < length held) roots) (marked : List ℕ)
-      (others : OthersHoldNone types held (first_of_each (flat_map (walk held) roots)) marked) where
+      (others : OthersHoldNone types held (first_of_each (flat_map (post_order held) roots)) marked) where
     -- the roots, but those that hold none
     pub IsUnfolding-begun : (stack : List ℕ) → stack ≡ filter (λ t. list_any (nat_eq t) marked) roots → IsUnfolding types held roots stack []
     IsUnfolding-begun stack is = record {
@@ -266,20 +266,20 @@ module _ (types : List TypeDef) (held : List (List ℕ)) (acyclic : IsAcyclic he
 
     -- and has a shorter walk
     pub step-shorter : (stack rest row new : List ℕ) (t : ℕ) → stack ≡ rest ++ t ∷ [] → row ≡ direct held t → new ≡ rest ++ filter (λ u. list_any (nat_eq u) marked) row → t < length held
-        → length (flat_map (walk held) new) < length (flat_map (walk held) stack)
+        → length (flat_map (post_order held) new) < length (flat_map (post_order held) stack)
     step-shorter stack rest row new t stack_is row_is new_is here =
         let p : ℕ → Bool = λ u. list_any (nat_eq u) marked in
         let used : List ℕ = direct held t in
-        let below = flat_map-shorter (walk held) p used in
-        let after : length (flat_map (walk held) new) ≡ length (flat_map (walk held) rest) + length (flat_map (walk held) (filter p used)) =
-        ap (λ (us : List ℕ). length (flat_map (walk held) us)) (new_is ∙ ap (λ (us : List ℕ). rest ++ filter p us) row_is)
-        ∙ ap length (flat_map-append (walk held) rest (filter p used)) ∙ length-append (flat_map (walk held) rest) (flat_map (walk held) (filter p used)) in
-        let before : length (flat_map (walk held) stack) ≡ length (flat_map (walk held) rest) + length (walk held t ++ []) =
-        ap (λ (us : List ℕ). length (flat_map (walk held) us)) stack_is
-        ∙ ap length (flat_map-append (walk held) rest (t ∷ [])) ∙ length-append (flat_map (walk held) rest) (walk held t ++ []) in
-        let one : length (walk held t ++ []) ≡ length (walk held t) = ap length (append-nil (walk held t)) in
-        let own : length (walk held t) ≡ length (flat_map (walk held) used) + 1 =
-        ap length (walk_is held acyclic t here) ∙ length-append (flat_map (walk held) used) (t ∷ []) in
+        let below = flat_map-shorter (post_order held) p used in
+        let after : length (flat_map (post_order held) new) ≡ length (flat_map (post_order held) rest) + length (flat_map (post_order held) (filter p used)) =
+        ap (λ (us : List ℕ). length (flat_map (post_order held) us)) (new_is ∙ ap (λ (us : List ℕ). rest ++ filter p us) row_is)
+        ∙ ap length (flat_map-append (post_order held) rest (filter p used)) ∙ length-append (flat_map (post_order held) rest) (flat_map (post_order held) (filter p used)) in
+        let before : length (flat_map (post_order held) stack) ≡ length (flat_map (post_order held) rest) + length (post_order held t ++ []) =
+        ap (λ (us : List ℕ). length (flat_map (post_order held) us)) stack_is
+        ∙ ap length (flat_map-append (post_order held) rest (t ∷ [])) ∙ length-append (flat_map (post_order held) rest) (post_order held t ++ []) in
+        let one : length (post_order held t ++ []) ≡ length (post_order held t) = ap length (append-nil (post_order held t)) in
+        let own : length (post_order held t) ≡ length (flat_map (post_order held) used) + 1 =
+        ap length (post_order_is held acyclic t here) ∙ length-append (flat_map (post_order held) used) (t ∷ []) in
         omega (arith, below, after, before, one, own)
 
 -- one more is told, last first
@@ -294,24 +294,24 @@ told-same types t told more not more_is =
 -- ---- what isn't there holds none
 
 module _ (types : List TypeDef) (held : List (List ℕ)) where
-  outside_within : (members t : ℕ) → direct held t ≡ [] → is_future types t ≡ false → filter (is_future types) (walk_within held members t) ≡ []
-  unfolding walk_within
+  outside_within : (members t : ℕ) → direct held t ≡ [] → is_future types t ≡ false → filter (is_future types) (post_order_within held members t) ≡ []
+  unfolding post_order_within
   outside_within zero t none fails = refl
   outside_within (suc members) t none fails =
-      ap (λ (us : List ℕ). filter (is_future types) (flat_map (walk_within held members) us ++ t ∷ [])) none ∙ cond-false (is_future types t) (t ∷ []) [] fails
+      ap (λ (us : List ℕ). filter (is_future types) (flat_map (post_order_within held members) us ++ t ∷ [])) none ∙ cond-false (is_future types t) (t ∷ []) [] fails
 
   outside : (t : ℕ) → length types ≤ t → length held ≤ t → futures_of types held t ≡ []
-  unfolding walk
+  unfolding post_order
   outside t no_type no_row =
       outside_within (length held) t (get_or_past held t [] no_row)
       (ap (λ (o : Option TypeDef). option_map_or (λ (def : TypeDef). is_future_kind def.kind) o false) (slice_get_past types t no_type))
 
   -- so only those that are there are told
-  pub told_within : (ts : List ℕ) → length held ≡ length types → flat_map (futures_of types held) (places_within (length types) ts) ≡ filter (is_future types) (flat_map (walk held) ts)
+  pub told_within : (ts : List ℕ) → length held ≡ length types → flat_map (futures_of types held) (places_within (length types) ts) ≡ filter (is_future types) (flat_map (post_order held) ts)
   told_within ts same =
       flat_map-kept (futures_of types held) (λ t. nat_lt t (length types)) ts
       (λ t has fails. let past : length types ≤ t = ltb-false t (length types) fails in outside t past (omega arith))
-      ∙ sym (filter-walks (is_future types) (walk held) ts)
+      ∙ sym (filter-post_orders (is_future types) (post_order held) ts)
 
   -- and they are in range
   pub within_below : (ts : List ℕ) → All (λ t. t < length types) (places_within (length types) ts)

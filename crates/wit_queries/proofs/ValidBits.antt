@@ -9,9 +9,9 @@ use Rattle.wit_values.specs.facts.Lists.{set-cases}
 use Rattle.wit_data.specs.Each.{SomeAt}
 use Rattle.wit_data.specs.declared.types.TypeDef.{TypeDef}
 use Rattle.wit_data.specs.declared.types.Type_.TheVariants as type
-use Rattle.wit_graph_data.specs.facts.HeldFacts.{held_row}
-use Rattle.wit_graph_data.specs.Questions.{HasAllBitsValid, has_fixed_parts, held_rows}
-use Rattle.wit_queries.specs.ValidBits.{Agrees, AreRightBelow, AreRightOff, AreValidBits, TellValidBits, has_valid_parts, on_count}
+use Rattle.wit_graph_data.specs.facts.ContentFacts.{content_row}
+use Rattle.wit_graph_data.specs.Queries.{HasAllBitsValid, has_fixed_parts, type_contents}
+use Rattle.wit_queries.specs.ValidBits.{Agrees, AreRightBelow, AreRightOff, AreValidBits, AreValidBitsOf, has_valid_parts, on_count}
 use Rattle.wit_queries.specs.facts.ValidBitsFacts.{no_flag, no_type}
 use Rattle.wit_queries.proofs.ValidParts.{is_on, parts_fixed, parts_off, parts_on}
 
@@ -36,7 +36,7 @@ not_fixed types t def at fails valid =
     false≢true (sym fails ∙ subst (λ o. IsSomeAnd o (λ (d : TypeDef). has_fixed_parts d.kind ≡ true)) at (valid t ([], refl)))
 
 -- a use of what the values of a type hold leads on
-valid_onward : (types : List TypeDef) (t u : ℕ) → Contains (direct (held_rows types) t) u → HasAllBitsValid types (type.Id t) → HasAllBitsValid types (type.Id u)
+valid_onward : (types : List TypeDef) (t u : ℕ) → Contains (direct (type_contents types) t) u → HasAllBitsValid types (type.Id t) → HasAllBitsValid types (type.Id u)
 valid_onward types t u has valid s reached = valid s (u ∷ reached.0, (has, reached.1))
 
 by_flag : (types : List TypeDef) (flags : List Bool) → length flags ≡ length types → AreRightOff types flags → (u : ℕ) (o : Option Bool) → slice_get flags u ≡ o
@@ -51,7 +51,7 @@ wrong : (types : List TypeDef) (flags : List Bool) → length flags ≡ length t
 wrong types flags long off t def at is valid = elim (parts_off flags def.kind is) [
   | inl fails ↦ not_fixed types t def at fails valid
   | inr held ↦ by_flag types flags long off held.0 (slice_get flags held.0) refl held.1.1
-      (valid_onward types t held.0 (subst (λ (us : List ℕ). Contains us held.0) (sym (held_row types t def at)) held.1.0) valid)
+      (valid_onward types t held.0 (subst (λ (us : List ℕ). Contains us held.0) (sym (content_row types t def at)) held.1.0) valid)
 ]
 
 -- one flag is taken back: all that are off are right where it was wrong,
@@ -70,12 +70,12 @@ taken_below types flags first t below u low at-u = elim (set-cases flags t false
 ]
 
 -- and one less is on
-taken_fewer : (flags : List Bool) (t : ℕ) → slice_get flags t ≡ Some true → on_count (slice_set flags t false) + 1 ≡ on_count flags
-taken_fewer [] t at = cc
-taken_fewer (true ∷ flags) zero at = add-one (on_count flags)
-taken_fewer (false ∷ flags) zero at = cc
-taken_fewer (true ∷ flags) (suc t) at = omega (arith, taken_fewer flags t at)
-taken_fewer (false ∷ flags) (suc t) at = taken_fewer flags t at
+selected_fewer : (flags : List Bool) (t : ℕ) → slice_get flags t ≡ Some true → on_count (slice_set flags t false) + 1 ≡ on_count flags
+selected_fewer [] t at = cc
+selected_fewer (true ∷ flags) zero at = add-one (on_count flags)
+selected_fewer (false ∷ flags) zero at = cc
+selected_fewer (true ∷ flags) (suc t) at = omega (arith, selected_fewer flags t at)
+selected_fewer (false ∷ flags) (suc t) at = selected_fewer flags t at
 
 -- flags that are gone over up to a place: they are right as before, and the parts agree with those so far, or fewer are on
 abbrev pub IsSettling : List TypeDef → ℕ → List Bool → Bool → List Bool → ℕ → Type 0
@@ -95,8 +95,8 @@ settling_taken types first old settled flags place def state on at is = (
       inr (
         refl,
         elim state.1.1.1 [
-          | inl same ↦ (let one = taken_fewer flags place on in let is-old = ap on_count same.1.0 in omega (arith, one, is-old))
-          | inr fewer ↦ (let one = taken_fewer flags place on in let less = fewer.1 in omega (arith, one, less))
+          | inl same ↦ (let one = selected_fewer flags place on in let is-old = ap on_count same.1.0 in omega (arith, one, is-old))
+          | inr fewer ↦ (let one = selected_fewer flags place on in let less = fewer.1 in omega (arith, one, less))
         ],
       ),
     ),
@@ -151,7 +151,7 @@ module _ (types : List TypeDef) (flags : List Bool) (first : ℕ) (below : AreRi
   parts_of : (t : ℕ) → slice_get flags t ≡ Some true → first ≤ t → (def : TypeDef) × ((slice_get types t ≡ Some def) × (has_valid_parts flags def.kind ≡ true))
   parts_of t on high = at_some (λ (def : TypeDef). has_valid_parts flags def.kind ≡ true) (slice_get types t) (settled t high on)
 
-  onward : (t : ℕ) (path : List ℕ) (s : ℕ) → slice_get flags t ≡ Some true → IsPath (held_rows types) t path s
+  onward : (t : ℕ) (path : List ℕ) (s : ℕ) → slice_get flags t ≡ Some true → IsPath (type_contents types) t path s
       → SomeAt types s (λ (def : TypeDef). has_fixed_parts def.kind ≡ true)
   onward t [] s on leads = elim (cases_lt t first) [
     | inl low ↦ below t low on s ([], leads)
@@ -165,14 +165,14 @@ module _ (types : List TypeDef) (flags : List Bool) (first : ℕ) (below : AreRi
     | inr high ↦
         let here = parts_of t on high in
         onward u path s (on_at (slice_get flags u)
-        (parts_on flags here.0.kind here.1.1 u (subst (λ (us : List ℕ). Contains us u) (held_row types t here.0 here.1.0) leads.0))) leads.1
+        (parts_on flags here.0.kind here.1.1 u (subst (λ (us : List ℕ). Contains us u) (content_row types t here.0 here.1.0) leads.0))) leads.1
   ]
 
   exact : AreRightOff types flags → AreValidBits types flags
   exact off t true at = (λ is s reached. onward t reached.0 s at reached.1, λ valid. refl)
   exact off t false at = (λ is. absurd (false≢true is), λ valid. absurd (off t at valid))
 
-  pub told : length flags ≡ length types → AreRightOff types flags → TellValidBits types flags
+  pub told : length flags ≡ length types → AreRightOff types flags → AreValidBitsOf types flags
   told long off = record {
     each = long;
     exact = exact off;

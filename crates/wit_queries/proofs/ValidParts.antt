@@ -10,7 +10,7 @@ use Rattle.wit_data.specs.declared.types.TypeDefKind.{TypeDefKind}
 use Rattle.wit_data.specs.declared.types.TypeDefKind.TheVariants as kind
 use Rattle.wit_data.specs.declared.types.Type_.{Type_}
 use Rattle.wit_data.specs.declared.types.Type_.TheVariants as type
-use Rattle.wit_graph_data.specs.Questions.{has_fixed_parts, held_types, is_number_or_listed}
+use Rattle.wit_graph_data.specs.Queries.{content_types, has_fixed_parts, is_number_or_listed}
 use Rattle.wit_queries.specs.ValidBits.{has_valid_parts, is_valid_by}
 
 -- flag u is on
@@ -125,7 +125,7 @@ parts_fixed flags (kind.Tuple types) is = all_listed flags (λ (ty : Type_). ty)
 parts_fixed flags other is = is
 
 -- and the flag of each type that its values hold is on;
-pub parts_on : (flags : List Bool) (k : TypeDefKind) → has_valid_parts flags k ≡ true → (u : ℕ) → Contains (held_types k) u → is_on flags u ≡ true
+pub parts_on : (flags : List Bool) (k : TypeDefKind) → has_valid_parts flags k ≡ true → (u : ℕ) → Contains (content_types k) u → is_on flags u ≡ true
 parts_on flags (kind.Handle handle) is u has = absurd (Contains-nil has)
 parts_on flags (kind.Type_ ty) is u has = named_on flags ty is u has
 parts_on flags (kind.FixedLengthList ty len) is u has = named_on flags ty is u has
@@ -135,7 +135,7 @@ parts_on flags other is u has = absurd (false≢true is)
 
 -- one whose parts aren't has none, or holds a type whose flag is off
 pub parts_off : (flags : List Bool) (k : TypeDefKind) → has_valid_parts flags k ≡ false
-    → (has_fixed_parts k ≡ false) ⊎ ((u : ℕ) × (Contains (held_types k) u × (is_on flags u ≡ false)))
+    → (has_fixed_parts k ≡ false) ⊎ ((u : ℕ) × (Contains (content_types k) u × (is_on flags u ≡ false)))
 parts_off flags (kind.Handle handle) is = absurd (false≢true (sym is))
 parts_off flags (kind.Type_ ty) is = unlisted flags ty is
 parts_off flags (kind.FixedLengthList ty len) is = unlisted flags ty is

@@ -1,4 +1,4 @@
-pub mod Left
+pub mod RemainingUses
 pub mod ValidBits
 pub mod facts
 pub mod laws

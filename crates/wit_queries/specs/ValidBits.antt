@@ -9,14 +9,14 @@ use Rattle.wit_data.specs.declared.types.TypeDefKind.{TypeDefKind}
 use Rattle.wit_data.specs.declared.types.TypeDefKind.TheVariants as kind
 use Rattle.wit_data.specs.declared.types.Type_.{Type_}
 use Rattle.wit_data.specs.declared.types.Type_.TheVariants as type
-use Rattle.wit_graph_data.specs.Questions.{HasAllBitsValid, is_number}
+use Rattle.wit_graph_data.specs.Queries.{HasAllBitsValid, is_number}
 
 -- each flag that is there says whether all bits of its type are valid
 abbrev pub AreValidBits : List TypeDef → List Bool → Type 0
 AreValidBits types flags = (t : ℕ) (flag : Bool) → slice_get flags t ≡ Some flag → IsTrue flag ↔ HasAllBitsValid types (type.Id t)
 
 -- and each type has one
-pub record TellValidBits (types : List TypeDef) (flags : List Bool) : Type 0 where
+pub record AreValidBitsOf (types : List TypeDef) (flags : List Bool) : Type 0 where
   pub each : length flags ≡ length types
   pub exact : AreValidBits types flags
 
@@ -34,15 +34,16 @@ has_valid_parts flags (kind.Record fields) = list_all (λ (f : Field). is_valid_
 has_valid_parts flags (kind.Tuple types) = list_all (is_valid_by flags) types
 has_valid_parts flags _ = false
 
--- The states of flags on their way, on which stand those that are too many: a flag that is off is right,
+-- while flags are being set, too many may be on: each flag that is off is right, as not all bits of its type are
+-- valid
 abbrev pub AreRightOff : List TypeDef → List Bool → Type 0
 AreRightOff types flags = (t : ℕ) → slice_get flags t ≡ Some false → HasAllBitsValid types (type.Id t) → ⊥
 
--- one of the first so many that is on, too,
+-- each of the first `first` flags that is on is right: all bits of its type are valid
 abbrev pub AreRightBelow : ℕ → List TypeDef → List Bool → Type 0
 AreRightBelow first types flags = (t : ℕ) → t < first → slice_get flags t ≡ Some true → HasAllBitsValid types (type.Id t)
 
--- and flag t is off, or the parts of its type agree with it
+-- flag t is off, or the parts of its type agree with it
 abbrev pub Agrees : List TypeDef → List Bool → ℕ → Type 0
 Agrees types flags t = slice_get flags t ≡ Some true → SomeAt types t (λ (def : TypeDef). has_valid_parts flags def.kind ≡ true)
 

@@ -1,7 +1,7 @@
 //! What is asked of the entries of a world.
 ghost use Rattle.std.specs.Prelude.{◌≡◌, IfErr, IfOk, string_bytes};
 ghost use Rattle.std.specs.Option.{option_map};
-ghost use Rattle.wit_graph_data.specs.Questions.{external_id_value, implements_interface, named_interface};
+ghost use Rattle.wit_graph_data.specs.Queries.{external_id_value, implements_interface, named_interface};
 ghost use Rattle.wit_graph_data.specs.declared.error_kind.ResolveErrorKind.TheVariants.{OutOfMemory};
 
 use std::alloc::Global;

@@ -1,17 +1,17 @@
 //! The futures and streams of a function.
 ghost use Rattle.std.specs.Prelude.{◌≡◌, ◌++◌, ◌<◌, [], All, Contains, IfErr, IfOk, OnOk, ℕ, false, filter, length, nat_eq};
 ghost use Rattle.std.specs.List.{flat_map, list_any};
-ghost use Rattle.wit_graph_data.specs.Questions.{futures_and_streams, is_future, signature_types};
+ghost use Rattle.wit_graph_data.specs.Queries.{futures_and_streams, is_future, signature_types};
 ghost use Rattle.wit_graph_data.specs.declared.error_kind.ResolveErrorKind.TheVariants.{OutOfMemory};
 ghost use Rattle.wit_data.specs.Reference.{named_type, type_references};
 ghost use Rattle.wit_queries.specs.steps.Unfolding.{KeepsOthers, OthersHoldNone, futures_of, places_within};
 ghost use Rattle.wit_digraph.specs.Relation.{IsAcyclic};
-ghost use Rattle.wit_digraph.specs.Walks.{UsesFirst, first_of_each, walk};
+ghost use Rattle.wit_digraph.specs.PostOrder.{UsesFirst, first_of_each, post_order};
 
-use crate::held::held_rows;
+use crate::contents::type_contents;
 use std::alloc::{AllocError, Global};
 use wit_data::{Function, Type_, TypeDef, TypeDefKind, TypeId};
-use wit_digraph::{Listing, direct_uses, walk_order};
+use wit_digraph::{Listing, direct_uses, post_order_of_roots};
 use wit_graph_data::{Graph, ResolveResult};
 use wit_values::Items;
 
@@ -39,7 +39,7 @@ pub fn find_futures_and_streams(
     if places.is_empty() {
         return Ok(Vec::new(alloc));
     }
-    let held = held_rows(alloc, types)?;
+    let held = type_contents(alloc, types)?;
     Ok(futures_below(alloc, types, held.as_slice(), places.as_slice())?)
 }
 
@@ -63,8 +63,8 @@ pub fn holds_future_or_stream(
         return Ok(false);
     }
     let places = signature_places(alloc, types.len(), function)?;
-    let held = held_rows(alloc, types)?;
-    let order = walk_order(alloc, held.as_slice(), places.as_slice())?;
+    let held = type_contents(alloc, types)?;
+    let order = post_order_of_roots(alloc, held.as_slice(), places.as_slice())?;
     Ok(is_among(order.as_slice(), ty.index()))
 }
 
@@ -130,7 +130,7 @@ fn futures_below(
     requires roots { All (λ t. t < length held.now) roots.now }
     ensures { IfOk result (λ found. found.items ≡ flat_map (futures_of types.now held.now) roots.now) }
 {
-    let order = walk_order(alloc, held, roots)?;
+    let order = post_order_of_roots(alloc, held, roots)?;
     let holding = mark_holding(alloc, types, held, order.as_slice())?;
     unfold(alloc, types, held, &holding, roots)
 }
@@ -205,7 +205,7 @@ fn unfold(
     requires acyclic { IsAcyclic held.now }
     requires nodes { holding.now.nodes ≡ length held.now }
     requires roots { All (λ t. t < length held.now) roots.now }
-    requires others { OthersHoldNone types.now held.now (first_of_each (flat_map (walk held.now) roots.now)) holding.now.order }
+    requires others { OthersHoldNone types.now held.now (first_of_each (flat_map (post_order held.now) roots.now)) holding.now.order }
     ensures { IfOk result (λ found. found.items ≡ flat_map (futures_of types.now held.now) roots.now) }
 {
     let mut found = Vec::new(alloc);

@@ -2,7 +2,7 @@
 ghost use Rattle.std.specs.Prelude.{◌≡◌, ◌<◌, length, slice_get};
 ghost use Rattle.std.specs.Iterator.{YieldsFirst, item_count};
 ghost use Rattle.std.specs.Option.{option_map};
-ghost use Rattle.wit_graph_data.specs.Questions.{interface_direct_deps};
+ghost use Rattle.wit_graph_data.specs.Queries.{interface_direct_deps};
 ghost use Rattle.wit_data.specs.Uses.{interface_uses};
 
 use crate::next::next_used;

@@ -5,7 +5,7 @@
 mod canonical;
 mod entries;
 mod futures;
-mod held;
+mod contents;
 mod interface_deps;
 pub mod laws;
 mod next;
@@ -20,7 +20,7 @@ pub use crate::entries::{
     external_id_of, external_id_value, implements_interface, named_interface,
 };
 pub use crate::futures::{find_futures_and_streams, holds_future_or_stream};
-pub use crate::held::held_rows;
+pub use crate::contents::type_contents;
 pub use crate::interface_deps::{InterfaceDirectDeps, interface_direct_deps};
 pub use crate::package_deps::{
     PackageDirectDeps, package_direct_deps, package_uses, topological_packages,

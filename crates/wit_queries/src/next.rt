@@ -2,7 +2,7 @@
 ghost use Rattle.std.specs.Prelude.{◌≡◌, ◌∷◌, ℕ, List, [], MatchOption, filter_map};
 ghost use Rattle.wit_graph_data.specs.Relations.{entry_interface, entry_interfaces, other_package};
 ghost use Rattle.wit_data.specs.Uses.{type_interface_dep};
-ghost use Rattle.wit_queries.specs.Left.{named_left, uses_left};
+ghost use Rattle.wit_queries.specs.RemainingUses.{remaining_interfaces, remaining_uses};
 
 use crate::interface_deps::InterfaceDirectDeps;
 use crate::world_deps::WorldInterfaces;
@@ -64,8 +64,8 @@ pub(crate) fn next_use<'a>(
     rest: &mut NamesIter<'a, InterfaceId>,
 ) -> Option<InterfaceId>
     ensures { MatchOption result
-        ((uses_left graph.now.types graph.now.interfaces begun.old rest.old ≡ []) × (uses_left graph.now.types graph.now.interfaces begun.new rest.new ≡ []))
-        (λ i. uses_left graph.now.types graph.now.interfaces begun.old rest.old ≡ i ∷ uses_left graph.now.types graph.now.interfaces begun.new rest.new) }
+        ((remaining_uses graph.now.types graph.now.interfaces begun.old rest.old ≡ []) × (remaining_uses graph.now.types graph.now.interfaces begun.new rest.new ≡ []))
+        (λ i. remaining_uses graph.now.types graph.now.interfaces begun.old rest.old ≡ i ∷ remaining_uses graph.now.types graph.now.interfaces begun.new rest.new) }
 {
     loop {
         if let Some(uses) = begun
@@ -86,8 +86,8 @@ pub(crate) fn next_world_interface<'a>(
     rest: &mut NamesIter<'a, WorldId>,
 ) -> Option<InterfaceId>
     ensures { MatchOption result
-        ((named_left graph.now.types graph.now.worlds begun.old rest.old ≡ []) × (named_left graph.now.types graph.now.worlds begun.new rest.new ≡ []))
-        (λ i. named_left graph.now.types graph.now.worlds begun.old rest.old ≡ i ∷ named_left graph.now.types graph.now.worlds begun.new rest.new) }
+        ((remaining_interfaces graph.now.types graph.now.worlds begun.old rest.old ≡ []) × (remaining_interfaces graph.now.types graph.now.worlds begun.new rest.new ≡ []))
+        (λ i. remaining_interfaces graph.now.types graph.now.worlds begun.old rest.old ≡ i ∷ remaining_interfaces graph.now.types graph.now.worlds begun.new rest.new) }
 {
     loop {
         if let Some(named) = begun

@@ -2,10 +2,10 @@
 ghost use Rattle.std.specs.Prelude.{◌≡◌, ◌∷◌, [], ◌<◌, IfErr, IfOk, MatchOption, length};
 ghost use Rattle.std.specs.Iterator.{YieldsFirst, item_count};
 ghost use Rattle.std.specs.List.{range_with_len};
-ghost use Rattle.wit_graph_data.specs.Questions.{topological_packages};
+ghost use Rattle.wit_graph_data.specs.Queries.{topological_packages};
 ghost use Rattle.wit_graph_data.specs.Relations.{package_direct_deps, package_interfaces, package_uses};
 ghost use Rattle.wit_graph_data.specs.declared.error_kind.ResolveErrorKind.TheVariants.{OutOfMemory};
-ghost use Rattle.wit_queries.specs.Left.{other_packages};
+ghost use Rattle.wit_queries.specs.RemainingUses.{other_packages};
 ghost use Rattle.wit_digraph.specs.Relation.{IsAcyclic};
 
 use crate::interface_deps::InterfaceDirectDeps;
@@ -14,7 +14,7 @@ use crate::world_deps::WorldInterfaces;
 use std::alloc::{AllocError, Global};
 use std::marker::Model;
 use wit_data::{Interface, InterfaceId, PackageId, WorldId};
-use wit_digraph::walk_order;
+use wit_digraph::post_order_of_roots;
 use wit_graph_data::{Graph, Package, ResolveResult};
 use wit_values::{Items, NamesIter};
 
@@ -31,11 +31,11 @@ struct PackageInterfaces<'a> {
 
 impl<'a> Model for PackageInterfaces<'a> {
     ghost use Rattle.std.specs.Prelude.{List, ℕ, ◌++◌};
-    ghost use Rattle.wit_queries.specs.Left.{named_left, uses_left};
+    ghost use Rattle.wit_queries.specs.RemainingUses.{remaining_interfaces, remaining_uses};
 
     ghost Value = { List ℕ };
 
-    ghost view = { λ a. uses_left a.graph.now.types a.graph.now.interfaces a.uses a.interfaces ++ named_left a.graph.now.types a.graph.now.worlds a.named a.worlds };
+    ghost view = { λ a. remaining_uses a.graph.now.types a.graph.now.interfaces a.uses a.interfaces ++ remaining_interfaces a.graph.now.types a.graph.now.worlds a.named a.worlds };
 }
 
 impl<'a> PackageInterfaces<'a> {
@@ -79,7 +79,7 @@ pub struct PackageDirectDeps<'a> {
 
 impl<'a> Model for PackageDirectDeps<'a> {
     ghost use Rattle.std.specs.Prelude.{List, ℕ};
-    ghost use Rattle.wit_queries.specs.Left.{other_packages};
+    ghost use Rattle.wit_queries.specs.RemainingUses.{other_packages};
 
     ghost Value = { List ℕ };
 
@@ -133,7 +133,7 @@ pub fn package_direct_deps(graph: &Graph, id: PackageId) -> PackageDirectDeps<'_
     }
 }
 
-/// Which package depends on which, as rows: row i has the direct dependencies of package i, both
+/// Which package depends on which, as adjacency lists: list i has the direct dependencies of package i, both
 /// from 0. The only error is want of memory.
 pub fn package_uses(alloc: Global, graph: &Graph) -> Result<Items<Items<usize>>, AllocError>
     ensures { IfOk result (λ rows. rows ≡ package_uses graph.now.types graph.now.interfaces graph.now.worlds graph.now.packages) }
@@ -170,7 +170,7 @@ pub fn topological_packages(alloc: Global, graph: &Graph) -> ResolveResult<Vec<P
 {
     let rows = package_uses(alloc, graph)?;
     let all = numbers_below(alloc, rows.len())?;
-    let order = walk_order(alloc, rows.as_slice(), all.as_slice())?;
+    let order = post_order_of_roots(alloc, rows.as_slice(), all.as_slice())?;
     Ok(package_ids(alloc, order.as_slice())?)
 }
 

@@ -2,8 +2,8 @@
 ghost use Rattle.std.specs.Prelude.{◌≡◌, ◌≤◌, ◌<◌, ◌⊎◌, IsTrue, OnErr, OnOk, length, ℕ};
 ghost use Rattle.std.specs.List.{list_all};
 ghost use Rattle.wit_data.specs.declared.types.Field.{Field};
-ghost use Rattle.wit_graph_data.specs.Questions.{is_number};
-ghost use Rattle.wit_queries.specs.ValidBits.{Agrees, AreRightBelow, AreRightOff, AreValidBits, TellValidBits, has_valid_parts, is_valid_by, on_count};
+ghost use Rattle.wit_graph_data.specs.Queries.{is_number};
+ghost use Rattle.wit_queries.specs.ValidBits.{Agrees, AreRightBelow, AreRightOff, AreValidBits, AreValidBitsOf, has_valid_parts, is_valid_by, on_count};
 
 use std::alloc::{AllocError, Global};
 use wit_data::{Field, Items, Type_, TypeDef, TypeDefKind};
@@ -55,7 +55,7 @@ pub fn add_valid_bits(
 ) -> Result<(), AllocError>
     requires first { length flags.old ≤ length types.now }
     requires known { AreValidBits types.now flags.old }
-    ensures ok { OnOk result (TellValidBits types.now flags.new) }
+    ensures ok { OnOk result (AreValidBitsOf types.now flags.new) }
     ensures err { OnErr result (flags.new ≡ flags.old) }
 {
     let first = flags.len();

@@ -2,7 +2,7 @@
 use Rattle.std.proofs.Common.{◌≡◌, ◌∙◌, ℕ, zero, suc, ◌+◌, Bool, true, false, cond, List, [], ◌∷◌, ◌++◌, map, filter, slice_get, Some, refl, ap, subst, sym, append_assoc}
 use Rattle.std.specs.List.{enumerate_from}
 use Rattle.wit_data.specs.Each.{Each}
-use Rattle.wit_link_spec.specs.Ranks.{taken}
+use Rattle.wit_link_spec.specs.Ranks.{selected}
 
 module _ {X : Type 0} (P : X → Type 0) (kept : X → Bool) where
   pub Each-filter : (xs : List X) → Each P xs → Each P (filter kept xs)
@@ -46,5 +46,5 @@ module _ {X : Type 0} (P : X → Type 0) where
   Each-seconds (e ∷ es) each (suc i) x at = Each-seconds es (λ j. each (suc j)) i x at
 
   -- and of what is taken
-  pub Each-taken : (kept : ℕ → Bool) (xs : List X) → Each P xs → Each P (taken kept xs)
-  Each-taken kept xs each = Each-seconds (filter (λ e. kept e.0) (enumerate_from 0 xs)) (Each-filter (λ (e : ℕ × X). P e.1) (λ e. kept e.0) (enumerate_from 0 xs) (Each-enumerated P 0 xs each))
+  pub Each-selected : (kept : ℕ → Bool) (xs : List X) → Each P xs → Each P (selected kept xs)
+  Each-selected kept xs each = Each-seconds (filter (λ e. kept e.0) (enumerate_from 0 xs)) (Each-filter (λ (e : ℕ × X). P e.1) (λ e. kept e.0) (enumerate_from 0 xs) (Each-enumerated P 0 xs each))

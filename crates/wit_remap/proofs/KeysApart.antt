@@ -1,4 +1,4 @@
--- The keys of what takes part of a world still differ at their places.
+-- The keys of what is active of a world still differ at their places.
 use Rattle.std.proofs.Common.{◌≡◌, ℕ, suc, Bool, true, false, cond, List, [], ◌∷◌, map, filter, Some, slice_get, refl, subst, arith}
 use Rattle.std.specs.List.{AllByRecursion, IsDistinct}
 use Rattle.std.specs.Map.{keys_of}
@@ -16,9 +16,9 @@ use Rattle.wit_elaboration.specs.Valid.{IsValid}
 use Rattle.wit_graph_theory.specs.Cut.{ItemIsKept}
 use Rattle.wit_graph_theory.specs.Image.{entry_image}
 use Rattle.wit_link_spec.specs.Addition.{Addition, active, addition_maps, own_world, part}
-use Rattle.wit_link_spec.specs.facts.ApartFacts.{KeyTakesPart, keys_apart}
+use Rattle.wit_link_spec.specs.facts.ApartFacts.{KeyIsActive, keys_apart}
 use Rattle.wit_link_spec.specs.facts.ClosedCut.{closed_part}
-use Rattle.wit_link_spec.specs.Reasons.{HasImage}
+use Rattle.wit_link_spec.specs.Reasons.{IsResolved}
 use Rattle.wit_remap.specs.steps.Worlds.{HasKeysApart}
 
 module _ (f : Entry → Entry) (kept : Entry → Bool) where
@@ -44,26 +44,26 @@ module _ (f : Entry → Entry) (kept : Entry → Bool) where
       by true is rest = IsDistinct-cons same_key (f x).0 (keys_of (map f (filter kept es))) (others_apart x es (λ j e at on same. let h : 0 ≡ suc j = apart 0 (suc j) x e refl at is on same in absurd (omega arith))) rest
       by false is rest = rest
 
-module _ (a : Addition) (valid : IsValid a.graph) (shaped : IsShaped a.handed) (image : HasImage a) where
-  key_takes : (k : WorldKey) (held : WorldItem) → IsExport a.handed.interfaces k held → ItemIsKept (part a) held → KeyTakesPart a valid shaped image k
+module _ (a : Addition) (valid : IsValid a.graph) (shaped : IsShaped a.unresolved) (image : IsResolved a) where
+  key_takes : (k : WorldKey) (held : WorldItem) → IsExport a.unresolved.interfaces k held → ItemIsKept (part a) held → KeyIsActive a valid shaped image k
   key_takes (key.Name label) held is on = tt
   key_takes (key.Interface f) (item.Interface i stability docs span external_id) is on = subst (λ (g : ℕ). (part a).interfaces g ≡ true) is.0 on
   key_takes (key.Interface f) (item.Function function) is on = absurd is
   key_takes (key.Interface f) (item.Type_ t span) is on = absurd is
 
-  import_takes : (w : ℕ) (k : WorldKey) (held : WorldItem) → IsImport a.handed.interfaces a.handed.types w k held → ItemIsKept (part a) held → KeyTakesPart a valid shaped image k
-  import_takes w (key.Name label) held is on = tt
-  import_takes w (key.Interface f) (item.Interface i stability docs span external_id) is on = subst (λ (g : ℕ). (part a).interfaces g ≡ true) is.0 on
-  import_takes w (key.Interface f) (item.Function function) is on = absurd is
-  import_takes w (key.Interface f) (item.Type_ t span) is on = absurd is
+  import_is_active : (w : ℕ) (k : WorldKey) (held : WorldItem) → IsImport a.unresolved.interfaces a.unresolved.types w k held → ItemIsKept (part a) held → KeyIsActive a valid shaped image k
+  import_is_active w (key.Name label) held is on = tt
+  import_is_active w (key.Interface f) (item.Interface i stability docs span external_id) is on = subst (λ (g : ℕ). (part a).interfaces g ≡ true) is.0 on
+  import_is_active w (key.Interface f) (item.Function function) is on = absurd is
+  import_is_active w (key.Interface f) (item.Type_ t span) is on = absurd is
 
-  pub world_keys_apart : (w : ℕ) (world : World) → slice_get a.handed.worlds w ≡ Some world → own_world a w ≡ true → HasKeysApart (addition_maps a) (active a) world
+  pub world_keys_apart : (w : ℕ) (world : World) → slice_get a.unresolved.worlds w ≡ Some world → own_world a w ≡ true → HasKeysApart (addition_maps a) (active a) world
   world_keys_apart w world at own = record {
     imports = all_apart (entry_image (addition_maps a) 0) (λ (e : Entry). (active a).items e.1) world.imports
         (λ i j d e first second on other same. shaped.keys.imports w world at i j d e first second
         (keys_apart a valid shaped image 0 d.0 e.0
-        (import_takes w d.0 d.1 (shaped.worlds.imports w world at i d first) ((closed_part a shaped image).imports w world at own i d first on))
-        (import_takes w e.0 e.1 (shaped.worlds.imports w world at j e second) ((closed_part a shaped image).imports w world at own j e second other)) same));
+        (import_is_active w d.0 d.1 (shaped.worlds.imports w world at i d first) ((closed_part a shaped image).imports w world at own i d first on))
+        (import_is_active w e.0 e.1 (shaped.worlds.imports w world at j e second) ((closed_part a shaped image).imports w world at own j e second other)) same));
     exports = all_apart (entry_image (addition_maps a) 0) (λ (e : Entry). (active a).items e.1) world.exports
         (λ i j d e first second on other same. shaped.keys.exports w world at i j d e first second
         (keys_apart a valid shaped image 0 d.0 e.0

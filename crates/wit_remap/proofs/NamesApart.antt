@@ -1,10 +1,10 @@
--- The names of what takes part still differ.
+-- The names of what is active still differ.
 use Rattle.std.proofs.Common.{◌≡◌, ◌∙◌, ℕ, zero, suc, ◌+◌, ◌<◌, Bool, true, false, cond, List, [], ◌∷◌, ◌++◌, map, filter, drop, filter_map, Option, None, Some, option_map, refl, sym, ap, subst, arith}
 use Rattle.std.specs.List.{AllByRecursion, IsDistinct, cons_option, enumerate_from, flat_map}
 use Rattle.std.specs.Map.{keys_of}
 use Rattle.std.specs.Option.{option_to_list}
 use Rattle.std.specs.Str.{bytes_eq}
-use Rattle.wit_link_spec.specs.Ranks.{taken_places}
+use Rattle.wit_link_spec.specs.Ranks.{selected_with_index}
 
 module _ {X : Type 0} (name : X → Option (List ℕ)) (kept : ℕ → Bool) where
   -- what is kept from place n on, and its names
@@ -64,8 +64,8 @@ module _ {X : Type 0} (name : X → Option (List ℕ)) (kept : ℕ → Bool) whe
       ap (λ (b : Bool). cond b ((n, x) ∷ kept_from (n + 1) xs) (kept_from (n + 1) xs)) left
       ∙ (without_first (n + 1) f xs (λ i below. let on : (n + 1) + i ≡ n + suc i = omega arith in ap kept on ∙ none (suc i) (omega arith)) ∙ ap (λ (k : ℕ). kept_from k (drop f xs)) past)
 
-  -- the names of what takes part differ where those after the first things do
-  pub names_differ : (f : ℕ) (xs : List X) → ((i : ℕ) → i < f → kept i ≡ false) → IsDistinct bytes_eq (filter_map name (drop f xs)) → IsDistinct bytes_eq (filter_map (λ (e : ℕ × X). name e.1) (taken_places kept xs))
+  -- the names of what is active differ where those after the first things do
+  pub names_differ : (f : ℕ) (xs : List X) → ((i : ℕ) → i < f → kept i ≡ false) → IsDistinct bytes_eq (filter_map name (drop f xs)) → IsDistinct bytes_eq (filter_map (λ (e : ℕ × X). name e.1) (selected_with_index kept xs))
   names_differ f xs none distinct =
       subst (λ (l : List (ℕ × X)). IsDistinct bytes_eq (filter_map (λ (e : ℕ × X). name e.1) l)) (sym (without_first 0 f xs (λ i below. let same : 0 + i ≡ i = omega arith in ap kept same ∙ none i below))) (differ_kept (0 + f) (drop f xs) distinct)
 

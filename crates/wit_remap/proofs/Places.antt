@@ -20,7 +20,7 @@ flag-is f n none = λ j i. each i j
         (λ below. ap (λ (o : Option Bool). unwrap_or o false) (range-at f n i below))
         (λ past. ap (λ (o : Option Bool). unwrap_or o false) (range-past f n i past) ∙ sym (none i past))
 
--- where ids go, where no further one goes anywhere
+-- what ids are remapped to, where no further one goes anywhere
 pub goes-is : (f : ℕ → Option ℕ) (n : ℕ) → ((i : ℕ) → n ≤ i → f i ≡ None) → goes (map f (range_with_len 0 n)) ≡ (λ i. unwrap_or (f i) i)
 goes-is f n none = λ j i. each i j
   where

@@ -16,16 +16,16 @@ use Rattle.wit_graph_data.specs.declared.features.Features.{Features}
 use Rattle.wit_graph_data.specs.declared.graph.Graph.{Graph}
 use Rattle.wit_graph_theory.specs.Cut.{cut_interface, cut_world}
 use Rattle.wit_graph_theory.specs.Image.{Maps, interface_image, type_image, world_image}
-use Rattle.wit_graph_theory.specs.Kept.{Kept}
-use Rattle.wit_link_spec.specs.steps.Adding.{places_of}
-use Rattle.wit_link_spec.specs.Addition.{Addition, active, added_owns, addition_maps, own_interface, own_type, own_world}
+use Rattle.wit_graph_theory.specs.Kept.{KeptIds}
+use Rattle.wit_link_spec.specs.steps.AdditionRefs.{new_ids_of}
+use Rattle.wit_link_spec.specs.Addition.{Addition, active, addition_maps, own_interface, own_type, own_world, owns_of_addition}
 use Rattle.wit_link_spec.specs.Gates.{include_is_active, interface_is_active, world_is_active}
 use Rattle.wit_link_spec.specs.Pushed.{with_parts}
-use Rattle.wit_link_spec.specs.facts.RankFacts.{taken_places-from}
-use Rattle.wit_link_spec.specs.Ranks.{taken, taken_places}
-use Rattle.wit_link_spec.specs.Reasons.{HasImage, PassesTheEnd}
-use Rattle.wit_link_spec.specs.declared.adding.Places.{Places}
-use Rattle.wit_remap.specs.steps.Added.{IsReady, added_world, added_worlds, moved_package, moved_parts}
+use Rattle.wit_link_spec.specs.facts.RankFacts.{selected_with_index-from}
+use Rattle.wit_link_spec.specs.Ranks.{selected, selected_with_index}
+use Rattle.wit_link_spec.specs.Reasons.{AdditionOverflows, IsResolved}
+use Rattle.wit_link_spec.specs.declared.addition.NewIds.{NewIds}
+use Rattle.wit_remap.specs.steps.Added.{CanMoveParts, added_world, added_worlds, moved_package, moved_parts}
 use Rattle.wit_remap.specs.steps.Movers.{maps_with}
 use Rattle.wit_remap.specs.steps.Parts.{is_new, kept_of}
 use Rattle.wit_remap.specs.steps.Tables.{interfaces_at, worlds_at}
@@ -37,53 +37,53 @@ use Rattle.wit_remap.proofs.NamesApart.{keys_all, keys_named, names_all, names_d
 use Rattle.wit_remap.proofs.SpansFit.{interfaces_fit, types_fit, worlds_fit}
 use Rattle.wit_remap.proofs.WhereNew.{new_interfaces, new_types, new_worlds}
 
-module _ (a : Addition) (valid : IsValid a.graph) (shaped : IsShaped a.handed) (image : HasImage a) where
-  interface_names_apart : IsDistinct bytes_eq (keys_of (interfaces_at (addition_maps a) (taken_places (own_interface a) a.handed.interfaces)))
+module _ (a : Addition) (valid : IsValid a.graph) (shaped : IsShaped a.unresolved) (image : IsResolved a) where
+  interface_names_apart : IsDistinct bytes_eq (keys_of (interfaces_at (addition_maps a) (selected_with_index (own_interface a) a.unresolved.interfaces)))
   interface_names_apart =
       let own = own_interface a in
-      let foreign = length (foreign_interfaces a.handed.foreign_deps) in
+      let foreign = length (foreign_interfaces a.unresolved.foreign_deps) in
       let name = λ (interface : Interface). interface.name in
-      subst (λ (l : List (List ℕ)). IsDistinct bytes_eq l) (sym (keys_named (λ (e : ℕ × Interface). e.1.name) (λ (e : ℕ × Interface). (addition_maps a).interfaces e.0) (taken_places own a.handed.interfaces)))
-      (names_differ name own foreign a.handed.interfaces (λ i below. ap (λ (b : Bool). not b && interface_is_active a.features a.handed i) (lt-ltb i foreign below))
-      (subst (λ (l : List (List ℕ)). IsDistinct bytes_eq l) (names_some name (drop foreign a.handed.interfaces)) shaped.names.interfaces_differ))
+      subst (λ (l : List (List ℕ)). IsDistinct bytes_eq l) (sym (keys_named (λ (e : ℕ × Interface). e.1.name) (λ (e : ℕ × Interface). (addition_maps a).interfaces e.0) (selected_with_index own a.unresolved.interfaces)))
+      (names_differ name own foreign a.unresolved.interfaces (λ i below. ap (λ (b : Bool). not b && interface_is_active a.features a.unresolved i) (lt-ltb i foreign below))
+      (subst (λ (l : List (List ℕ)). IsDistinct bytes_eq l) (names_some name (drop foreign a.unresolved.interfaces)) shaped.names.interfaces_differ))
 
-  world_names_apart : IsDistinct bytes_eq (keys_of (worlds_at (addition_maps a) (taken_places (own_world a) a.handed.worlds)))
+  world_names_apart : IsDistinct bytes_eq (keys_of (worlds_at (addition_maps a) (selected_with_index (own_world a) a.unresolved.worlds)))
   world_names_apart =
       let own = own_world a in
-      let foreign = length (foreign_worlds a.handed.foreign_deps) in
-      subst (λ (l : List (List ℕ)). IsDistinct bytes_eq l) (sym (keys_all (λ (e : ℕ × World). e.1.name) (λ (e : ℕ × World). (addition_maps a).worlds e.0) (taken_places own a.handed.worlds)))
-      (names_differ (λ (world : World). Some world.name) own foreign a.handed.worlds (λ w below. ap (λ (b : Bool). not b && world_is_active a.features a.handed w) (lt-ltb w foreign below))
-      (subst (λ (l : List (List ℕ)). IsDistinct bytes_eq l) (names_all (λ (world : World). world.name) (drop foreign a.handed.worlds)) shaped.names.worlds_differ))
+      let foreign = length (foreign_worlds a.unresolved.foreign_deps) in
+      subst (λ (l : List (List ℕ)). IsDistinct bytes_eq l) (sym (keys_all (λ (e : ℕ × World). e.1.name) (λ (e : ℕ × World). (addition_maps a).worlds e.0) (selected_with_index own a.unresolved.worlds)))
+      (names_differ (λ (world : World). Some world.name) own foreign a.unresolved.worlds (λ w below. ap (λ (b : Bool). not b && world_is_active a.features a.unresolved w) (lt-ltb w foreign below))
+      (subst (λ (l : List (List ℕ)). IsDistinct bytes_eq l) (names_all (λ (world : World). world.name) (drop foreign a.unresolved.worlds)) shaped.names.worlds_differ))
 
-  pub is_ready : a.offset < 2 ^ 32 → (PassesTheEnd a → ⊥) → lookup (same_package a.handed.name) a.graph.package_names ≡ None → IsReady (places_of a) (addition_maps a) (active a) a.graph a.handed
+  pub is_ready : a.offset < 2 ^ 32 → (AdditionOverflows a → ⊥) → lookup (same_package a.unresolved.name) a.graph.package_names ≡ None → CanMoveParts (new_ids_of a) (addition_maps a) (active a) a.graph a.unresolved
   is_ready small fit new = record {
     new = new;
     types = types_fit a small fit;
     interfaces = interfaces_fit a small fit;
     worlds = worlds_fit a small fit;
-    interface_names = subst (λ (own : ℕ → Bool). IsDistinct bytes_eq (keys_of (interfaces_at (addition_maps a) (taken_places own a.handed.interfaces)))) (sym (new_interfaces a valid shaped image)) interface_names_apart;
-    world_names = subst (λ (own : ℕ → Bool). IsDistinct bytes_eq (keys_of (worlds_at (addition_maps a) (taken_places own a.handed.worlds)))) (sym (new_worlds a valid shaped image)) world_names_apart;
+    interface_names = subst (λ (own : ℕ → Bool). IsDistinct bytes_eq (keys_of (interfaces_at (addition_maps a) (selected_with_index own a.unresolved.interfaces)))) (sym (new_interfaces a valid shaped image)) interface_names_apart;
+    world_names = subst (λ (own : ℕ → Bool). IsDistinct bytes_eq (keys_of (worlds_at (addition_maps a) (selected_with_index own a.unresolved.worlds)))) (sym (new_worlds a valid shaped image)) world_names_apart;
     keys = λ k e at.
-        let is = taken_places-from (own_world a) a.handed.worlds k e (subst (λ (own : ℕ → Bool). slice_get (taken_places own a.handed.worlds) k ≡ Some e) (new_worlds a valid shaped image) at) in
+        let is = selected_with_index-from (own_world a) a.unresolved.worlds k e (subst (λ (own : ℕ → Bool). slice_get (selected_with_index own a.unresolved.worlds) k ≡ Some e) (new_worlds a valid shaped image) at) in
         world_keys_apart a valid shaped image e.0 e.1 is.0 is.1;
   }
 
   abbrev graph_with : (ℕ → Bool) → (ℕ → Bool) → Graph
   graph_with own_i own_w = record (with_parts a) {
-    interfaces = a.graph.interfaces ++ map (interface_image (addition_maps a)) (map (cut_interface (active a)) (taken own_i a.handed.interfaces));
-    packages = a.graph.packages ++ moved_package (addition_maps a) a.handed own_i own_w ∷ [];
+    interfaces = a.graph.interfaces ++ map (interface_image (addition_maps a)) (map (cut_interface (active a)) (selected own_i a.unresolved.interfaces));
+    packages = a.graph.packages ++ moved_package (addition_maps a) a.unresolved own_i own_w ∷ [];
   }
 
   abbrev graph_of : (ℕ → Bool) → Graph
-  graph_of own = record (moved_parts (places_of a) (addition_maps a) (active a) (added_owns a) a.handed a.graph) { types = a.graph.types ++ (map (type_image (addition_maps a)) (taken own a.handed.types) ++ added_owns a) }
+  graph_of own = record (moved_parts (new_ids_of a) (addition_maps a) (active a) (owns_of_addition a) a.unresolved a.graph) { types = a.graph.types ++ (map (type_image (addition_maps a)) (selected own a.unresolved.types) ++ owns_of_addition a) }
 
   -- the parts that go to new ids are those of the addition
-  pub moved_are : moved_parts (places_of a) (addition_maps a) (active a) (added_owns a) a.handed a.graph ≡ with_parts a
+  pub moved_are : moved_parts (new_ids_of a) (addition_maps a) (active a) (owns_of_addition a) a.unresolved a.graph ≡ with_parts a
   moved_are =
-      let types : graph_of (is_new (length a.graph.types) (places_of a).types) ≡ graph_of (own_type a) = ap graph_of (new_types a valid shaped image) in
-      let interfaces : graph_with (is_new (length a.graph.interfaces) (places_of a).interfaces) (is_new (length a.graph.worlds) (places_of a).worlds) ≡ graph_with (own_interface a) (is_new (length a.graph.worlds) (places_of a).worlds) =
-      ap (λ (own : ℕ → Bool). graph_with own (is_new (length a.graph.worlds) (places_of a).worlds)) (new_interfaces a valid shaped image) in
-      let worlds : graph_with (own_interface a) (is_new (length a.graph.worlds) (places_of a).worlds) ≡ graph_with (own_interface a) (own_world a) = ap (λ (own : ℕ → Bool). graph_with (own_interface a) own) (new_worlds a valid shaped image) in
+      let types : graph_of (is_new (length a.graph.types) (new_ids_of a).types) ≡ graph_of (own_type a) = ap graph_of (new_types a valid shaped image) in
+      let interfaces : graph_with (is_new (length a.graph.interfaces) (new_ids_of a).interfaces) (is_new (length a.graph.worlds) (new_ids_of a).worlds) ≡ graph_with (own_interface a) (is_new (length a.graph.worlds) (new_ids_of a).worlds) =
+      ap (λ (own : ℕ → Bool). graph_with own (is_new (length a.graph.worlds) (new_ids_of a).worlds)) (new_interfaces a valid shaped image) in
+      let worlds : graph_with (own_interface a) (is_new (length a.graph.worlds) (new_ids_of a).worlds) ≡ graph_with (own_interface a) (own_world a) = ap (λ (own : ℕ → Bool). graph_with (own_interface a) own) (new_worlds a valid shaped image) in
       types ∙ (interfaces ∙ worlds)
 
 joined : {X Y Z : Type 0} (f : Y → Z) (g : X → Y) (xs : List X) → map (λ (x : X). f (g x)) xs ≡ map f (map g xs)
@@ -91,27 +91,27 @@ joined f g [] = refl
 joined f g (x ∷ xs) = ap (λ l. f (g x) ∷ l) (joined f g xs)
 
 -- and so are the worlds
-pub worlds_are : (a : Addition) (valid : IsValid a.graph) (shaped : IsShaped a.handed) (image : HasImage a) (part : Part) → part.features.now ≡ a.features → kept_of part ≡ active a
-    → map (placed_world (addition_maps a) part) (taken_places (is_new (length a.graph.worlds) (places_of a).worlds) a.handed.worlds) ≡ added_worlds a
+pub worlds_are : (a : Addition) (valid : IsValid a.graph) (shaped : IsShaped a.unresolved) (image : IsResolved a) (part : Part) → part.features.now ≡ a.features → kept_of part ≡ active a
+    → map (placed_world (addition_maps a) part) (selected_with_index (is_new (length a.graph.worlds) (new_ids_of a).worlds) a.unresolved.worlds) ≡ added_worlds a
 worlds_are a valid shaped image part features kept =
-    let world_of : Kept → (ℕ × World) → PlacedWorld = λ k e. record { place = e.0; world = world_image (addition_maps a) e.0 (cut_world k e.1); includes = filter (include_is_active part.features.now) e.1.includes } in
-    ap (λ (own : ℕ → Bool). map (placed_world (addition_maps a) part) (taken_places own a.handed.worlds)) (new_worlds a valid shaped image)
-    ∙ (ap (λ (k : Kept). map (world_of k) (taken_places (own_world a) a.handed.worlds)) kept
-    ∙ (ap (λ (features : Features). map (λ (e : ℕ × World). let r : PlacedWorld = record { place = e.0; world = world_image (addition_maps a) e.0 (cut_world (active a) e.1); includes = filter (include_is_active features) e.1.includes } in r) (taken_places (own_world a) a.handed.worlds)) features
-    ∙ joined (added_world a) (λ (e : ℕ × World). let r : ℕ × World = (e.0, cut_world (active a) e.1) in r) (taken_places (own_world a) a.handed.worlds)))
+    let world_of : KeptIds → (ℕ × World) → PlacedWorld = λ k e. record { place = e.0; world = world_image (addition_maps a) e.0 (cut_world k e.1); includes = filter (include_is_active part.features.now) e.1.includes } in
+    ap (λ (own : ℕ → Bool). map (placed_world (addition_maps a) part) (selected_with_index own a.unresolved.worlds)) (new_worlds a valid shaped image)
+    ∙ (ap (λ (k : KeptIds). map (world_of k) (selected_with_index (own_world a) a.unresolved.worlds)) kept
+    ∙ (ap (λ (features : Features). map (λ (e : ℕ × World). let r : PlacedWorld = record { place = e.0; world = world_image (addition_maps a) e.0 (cut_world (active a) e.1); includes = filter (include_is_active features) e.1.includes } in r) (selected_with_index (own_world a) a.unresolved.worlds)) features
+    ∙ joined (added_world a) (λ (e : ℕ × World). let r : ℕ × World = (e.0, cut_world (active a) e.1) in r) (selected_with_index (own_world a) a.unresolved.worlds)))
 
 -- what is ready by one account is by an equal one
-pub ready_so : (p q : Places) (m n : Maps) (k l : Kept) (g : Graph) (u : UnresolvedPackage) → p ≡ q → m ≡ n → k ≡ l → IsReady q n l g u → IsReady p m k g u
+pub ready_so : (p q : NewIds) (m n : Maps) (k l : KeptIds) (g : Graph) (u : UnresolvedPackage) → p ≡ q → m ≡ n → k ≡ l → CanMoveParts q n l g u → CanMoveParts p m k g u
 ready_so p q m n k l g u places maps kept ready =
-    subst (λ (x : Places). IsReady x m k g u) (sym places) (subst (λ (x : Maps). IsReady q x k g u) (sym maps) (subst (λ (x : Kept). IsReady q n x g u) (sym kept) ready))
+    subst (λ (x : NewIds). CanMoveParts x m k g u) (sym places) (subst (λ (x : Maps). CanMoveParts q x k g u) (sym maps) (subst (λ (x : KeptIds). CanMoveParts q n x g u) (sym kept) ready))
 
 -- the same of maps, parts and worlds
-pub maps_so : (p q : Places) (v w : List ℕ) (h k offset : ℕ) → p ≡ q → v ≡ w → h ≡ k → maps_with p v h offset ≡ maps_with q w k offset
+pub maps_so : (p q : NewIds) (v w : List ℕ) (h k offset : ℕ) → p ≡ q → v ≡ w → h ≡ k → maps_with p v h offset ≡ maps_with q w k offset
 maps_so p q v w h k offset places values home = λ j. maps_with (places j) (values j) (home j) offset
 
-pub moved_so : (p q : Places) (m n : Maps) (k l : Kept) (o r : List TypeDef) (u : UnresolvedPackage) (g : Graph) → p ≡ q → m ≡ n → k ≡ l → o ≡ r → moved_parts p m k o u g ≡ moved_parts q n l r u g
+pub moved_so : (p q : NewIds) (m n : Maps) (k l : KeptIds) (o r : List TypeDef) (u : UnresolvedPackage) (g : Graph) → p ≡ q → m ≡ n → k ≡ l → o ≡ r → moved_parts p m k o u g ≡ moved_parts q n l r u g
 moved_so p q m n k l o r u g places maps kept owns = λ j. moved_parts (places j) (maps j) (kept j) (owns j) u g
 
-pub placed_so : (p q : Places) (m n : Maps) (part : Part) (first : ℕ) (worlds : List World) → p ≡ q → m ≡ n
-    → map (placed_world m part) (taken_places (is_new first p.worlds) worlds) ≡ map (placed_world n part) (taken_places (is_new first q.worlds) worlds)
-placed_so p q m n part first worlds places maps = λ j. map (placed_world (maps j) part) (taken_places (is_new first (places j).worlds) worlds)
+pub placed_so : (p q : NewIds) (m n : Maps) (part : Part) (first : ℕ) (worlds : List World) → p ≡ q → m ≡ n
+    → map (placed_world m part) (selected_with_index (is_new first p.worlds) worlds) ≡ map (placed_world n part) (selected_with_index (is_new first q.worlds) worlds)
+placed_so p q m n part first worlds places maps = λ j. map (placed_world (maps j) part) (selected_with_index (is_new first (places j).worlds) worlds)

@@ -23,17 +23,17 @@ use Rattle.wit_data.specs.declared.world.WorldItem.{WorldItem}
 use Rattle.wit_data.specs.declared.world.WorldItem.TheVariants as item
 use Rattle.wit_graph_theory.specs.facts.ListFacts.{Contains-map, contained_at}
 use Rattle.wit_link_spec.specs.Addition.{Addition}
-use Rattle.wit_link_spec.specs.Gates.{Place}
-use Rattle.wit_link_spec.specs.Reasons.{PassesTheEnd}
+use Rattle.wit_link_spec.specs.Gates.{OptionalSpan}
+use Rattle.wit_link_spec.specs.Reasons.{AdditionOverflows}
 use Rattle.wit_link_spec.specs.Spans.{function_spans, interface_spans, item_spans, kind_spans, package_spans, type_spans, world_spans}
 use Rattle.wit_remap.specs.steps.Fits.{Fits, FunctionFits, InterfaceFits, ItemFits, KindFits, TypeFits, WorldFits}
 
 -- all places of a list fit
-abbrev pub AllFit : ℕ → List Place → Type 0
-AllFit offset spans = (s : Place) → Contains spans s → Fits offset s
+abbrev pub AllFit : ℕ → List OptionalSpan → Type 0
+AllFit offset spans = (s : OptionalSpan) → Contains spans s → Fits offset s
 
 module _ (offset : ℕ) where
-  of_map : {X : Type 0} (span : X → Place) (xs : List X) → AllFit offset (map span xs) → Each (λ (x : X). Fits offset (span x)) xs
+  of_map : {X : Type 0} (span : X → OptionalSpan) (xs : List X) → AllFit offset (map span xs) → Each (λ (x : X). Fits offset (span x)) xs
   of_map span xs fit i x at = fit (span x) (Contains-map span xs x (contained_at xs i x at))
 
   kind_fits : (k : TypeDefKind) → AllFit offset (kind_spans k) → KindFits (Fits offset) k
@@ -94,8 +94,8 @@ module _ (offset : ℕ) where
         exports = λ i e at. item_fits e.1 (λ s has. fit s (Contains-there world.span s (imports ++ (exports ++ includes)) (Contains-append_right imports (exports ++ includes) s (Contains-append_left exports includes s (Contains-flat_map spans world.exports e s (contained_at world.exports i e at) has)))));
       }
 
-module _ (a : Addition) (offset_fits : a.offset < 2 ^ 32) (fit : PassesTheEnd a → ⊥) where
-  span_fits : (s : Place) → Contains (package_spans a.handed) s → Fits a.offset s
+module _ (a : Addition) (offset_fits : a.offset < 2 ^ 32) (fit : AdditionOverflows a → ⊥) where
+  span_fits : (s : OptionalSpan) → Contains (package_spans a.unresolved) s → Fits a.offset s
   span_fits None has = omega arith
   span_fits (Some range) has = elim (cases_lt (range.1 + a.offset) (2 ^ 32)) [
     | inl below ↦ below
@@ -103,12 +103,12 @@ module _ (a : Addition) (offset_fits : a.offset < 2 ^ 32) (fit : PassesTheEnd a 
   ]
 
   abbrev u : UnresolvedPackage
-  u = a.handed
+  u = a.unresolved
 
   -- the spans of the three lists, in those of the package
-  in_lists : (s : Place) → Contains (flat_map type_spans u.types ++ (flat_map interface_spans u.interfaces ++ flat_map world_spans u.worlds)) s → Fits a.offset s
+  in_lists : (s : OptionalSpan) → Contains (flat_map type_spans u.types ++ (flat_map interface_spans u.interfaces ++ flat_map world_spans u.worlds)) s → Fits a.offset s
   in_lists s has =
-      span_fits s (Contains-there u.package_name_span s _ (Contains-append_right u.foreign_dep_spans _ s (Contains-append_right u.unknown_type_spans _ s (Contains-append_right (map (λ (r : ℕ × Place). r.1) u.required_resource_types) _ s has))))
+      span_fits s (Contains-there u.package_name_span s _ (Contains-append_right u.foreign_dep_spans _ s (Contains-append_right u.unknown_type_spans _ s (Contains-append_right (map (λ (r : ℕ × OptionalSpan). r.1) u.required_resource_types) _ s has))))
 
   pub types_fit : Each (TypeFits (Fits a.offset)) u.types
   types_fit i def at = type_fits a.offset def (λ s has. in_lists s (Contains-append_left (flat_map type_spans u.types) _ s (Contains-flat_map type_spans u.types def s (contained_at u.types i def at) has)))

@@ -1,4 +1,4 @@
-//! What comes into a graph, under its new ids: where ids go, the things moved to the ends of the graph with ids and
+//! What comes into a graph, under its new ids: what ids are remapped to, the things moved to the ends of the graph with ids and
 //! spans mapped, and whether their spans can be moved.
 //!
 //! Adding a package and merging two graphs both stand on it.

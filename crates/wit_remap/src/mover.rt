@@ -1,15 +1,15 @@
-//! Where the things of a package go.
+//! What the things of a package are remapped to.
 
 use crate::moves::Moves;
 use wit_data::{InterfaceId, Items, PackageId, Span, TypeId, WorldId};
-use wit_link_spec::Places;
+use wit_link_spec::NewIds;
 
-/// Where the ids of a package go and how far its spans move. An id that goes nowhere, or is none of the
+/// Where the ids of a package go and how far its spans move. An id that isn't remapped, or is none of the
 /// package, stays.
 #[derive(Clone, Copy)]
 pub struct Mover<'a> {
-    pub places: &'a Places,
-    /// Where types go at value positions.
+    pub places: &'a NewIds,
+    /// What types are remapped to at value positions.
     pub values: &'a Items<TypeId>,
     /// The package that things come to be of.
     pub package: PackageId,

@@ -1,11 +1,11 @@
-//! Where things go, whatever tells it.
+//! What things are remapped to, whatever tells it.
 ghost use Rattle.std.specs.Prelude.{◌≡◌, ℕ, Option, Some};
 ghost use Rattle.wit_graph_theory.specs.Image.{Maps};
 ghost use Rattle.wit_sources.specs.Span.{moved_by};
 
 use wit_data::{InterfaceId, PackageId, Span, TypeId, WorldId};
 
-/// Where ids go and how far spans move. What labels become is no part of it. No call takes memory.
+/// What ids are remapped to and how far spans move. What labels become is no part of it. No call takes memory.
 pub trait Moves {
     /// The maps that it stands for.
     ghost maps: { Self → Maps };
@@ -13,20 +13,20 @@ pub trait Moves {
     /// The spans that it can move.
     ghost fits: { Self → Option (ℕ × ℕ) → Type 0 };
 
-    /// Where a type goes that isn't at a value position: what an alias or a handle names, and a type in
+    /// What a type is remapped to that isn't at a value position: what an alias or a handle names, and a type in
     /// the list of an interface.
     fn type_id(&self, id: TypeId) -> TypeId
         ensures { result ≡ (maps self.now).types id };
 
-    /// Where a type goes at a value position.
+    /// What a type is remapped to at a value position.
     fn value_id(&self, id: TypeId) -> TypeId
         ensures { result ≡ (maps self.now).values id };
 
-    /// Where an interface goes.
+    /// What an interface is remapped to.
     fn interface_id(&self, id: InterfaceId) -> InterfaceId
         ensures { result ≡ (maps self.now).interfaces id };
 
-    /// Where a world goes.
+    /// What a world is remapped to.
     fn world_id(&self, id: WorldId) -> WorldId
         ensures { result ≡ (maps self.now).worlds id };
 

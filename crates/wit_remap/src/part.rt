@@ -1,9 +1,9 @@
-//! What of a package takes part, and what of that is its own.
+//! What of a package is active, and what of that is its own.
 ghost use Rattle.std.specs.Prelude.{◌≡◌, IfOk, drop, filter, slice_get};
 ghost use Rattle.std.specs.Option.{option_copied};
 ghost use Rattle.std.specs.Slice.Iter.{iter_rest};
 ghost use Rattle.wit_link_spec.specs.Gates.{include_is_active, is_active};
-ghost use Rattle.wit_link_spec.specs.Ranks.{taken, taken_places};
+ghost use Rattle.wit_link_spec.specs.Ranks.{selected, selected_with_index};
 ghost use Rattle.wit_graph_theory.specs.Cut.{cut_interface};
 ghost use Rattle.wit_remap.specs.steps.Parts.{is_from, is_new, kept_of};
 
@@ -16,7 +16,7 @@ use wit_data::{
 use wit_graph_data::Features;
 use wit_link_spec::{Activity, is_active};
 
-/// Which features are on, and what of a package takes part for that.
+/// Which features are on, and what of a package is active for that.
 #[derive(Clone, Copy)]
 pub struct Part<'a> {
     pub features: &'a Features,
@@ -24,14 +24,14 @@ pub struct Part<'a> {
 }
 
 impl<'a> Part<'a> {
-    /// Whether a note lets its item take part.
+    /// Whether a gate lets its item be active.
     fn is_active(&self, note: &Stability) -> bool
         ensures { result ≡ is_active self.now.features.now note.now }
     {
         is_active(self.features, note)
     }
 
-    /// Whether a type takes part.
+    /// Whether a type is active.
     fn has_type(&self, id: TypeId) -> bool
         ensures { result ≡ (kept_of self.now).types id }
     {
@@ -41,7 +41,7 @@ impl<'a> Part<'a> {
         }
     }
 
-    /// Whether an entry of a world that takes part does.
+    /// Whether an entry of a world that is active does.
     fn has_item(&self, item: &WorldItem) -> bool
         ensures { result ≡ (kept_of self.now).items item.now }
     {
@@ -52,7 +52,7 @@ impl<'a> Part<'a> {
         }
     }
 
-    /// Leaves of an interface what takes part.
+    /// Leaves of an interface what is active.
     pub(crate) fn cut_interface(&self, interface: &mut Interface)
         ensures { interface.new ≡ cut_interface (kept_of self.now) interface.old }
     {
@@ -86,7 +86,7 @@ impl<'a> Part<'a> {
         *functions = Names::from_map(map);
     }
 
-    /// The entries that take part.
+    /// The entries that are active.
     pub(crate) fn cut_entries(
         &self,
         entries: Table<WorldKey, WorldItem>,
@@ -102,7 +102,7 @@ impl<'a> Part<'a> {
         Table::from_map(map)
     }
 
-    /// The includes that take part.
+    /// The includes that are active.
     pub(crate) fn cut_includes(&self, includes: Items<WorldInclude>) -> Items<WorldInclude>
         ensures { result ≡ filter (include_is_active self.now.features.now) includes }
     {
@@ -116,7 +116,7 @@ impl<'a> Part<'a> {
     }
 }
 
-/// Whether where a thing goes is an id from the first one on.
+/// Whether what a thing is remapped to is an id from the first one on.
 fn is_from<S>(place: Option<&Option<Id<S>>>, first: &Id<S>) -> bool
     ensures { result ≡ is_from first.now (option_copied place.entry) }
 {
@@ -134,12 +134,12 @@ fn is_new<S>(places: &[Option<Id<S>>], first: &Id<S>, index: usize) -> bool
 }
 
 /// What goes to ids from the first one on.
-pub(crate) fn taken<S, T: Drop>(
+pub(crate) fn selected<S, T: Drop>(
     items: Items<T>,
     places: &[Option<Id<S>>],
     first: &Id<S>,
 ) -> Items<T>
-    ensures { result ≡ taken (is_new first.now places.now) items }
+    ensures { result ≡ selected (is_new first.now places.now) items }
 {
     let mut items = items.into_vec();
     let mut places = places.iter();
@@ -153,19 +153,19 @@ pub(crate) fn taken<S, T: Drop>(
 }
 
 /// What goes to ids from the first one on, each with its place.
-pub(crate) fn taken_places<S, T: Drop>(
+pub(crate) fn selected_with_index<S, T: Drop>(
     alloc: Global,
     items: Items<T>,
     places: &[Option<Id<S>>],
     first: &Id<S>,
 ) -> Result<Items<(usize, T)>, AllocError>
-    ensures { IfOk result (λ taken. taken ≡ taken_places (is_new first.now places.now) items) }
+    ensures { IfOk result (λ selected. selected ≡ selected_with_index (is_new first.now places.now) items) }
 {
-    let mut taken = Items::new(alloc);
+    let mut selected = Items::new(alloc);
     for (index, item) in items.into_vec().into_iter().enumerate() {
         if is_new(places, first, index) {
-            taken.push((index, item))?;
+            selected.push((index, item))?;
         }
     }
-    Ok(taken)
+    Ok(selected)
 }

@@ -3,17 +3,17 @@ ghost use Rattle.std.specs.Prelude.{◌≡◌, ◌++◌, ◌∷◌, [], IfOk, No
 ghost use Rattle.std.specs.List.{IsDistinct};
 ghost use Rattle.std.specs.Map.{keys_of, lookup};
 ghost use Rattle.std.specs.Str.{bytes_eq};
-ghost use Rattle.wit_link_spec.specs.steps.Adding.{activity_of, places_of, values_of};
+ghost use Rattle.wit_link_spec.specs.steps.AdditionRefs.{activity_of, new_ids_of, values_of};
 ghost use Rattle.wit_link_spec.specs.Pushed.{with_parts};
-ghost use Rattle.wit_link_spec.specs.Ranks.{taken, taken_places};
-ghost use Rattle.wit_link_spec.specs.Reasons.{HasImage, PassesTheEnd};
+ghost use Rattle.wit_link_spec.specs.Ranks.{selected, selected_with_index};
+ghost use Rattle.wit_link_spec.specs.Reasons.{AdditionOverflows, IsResolved};
 ghost use Rattle.wit_elaboration.specs.Valid.{IsValid};
 ghost use Rattle.wit_graph_theory.specs.Cut.{cut_interface};
 ghost use Rattle.wit_graph_theory.specs.Image.{interface_image, type_image};
 ghost use Rattle.wit_data.specs.Each.{Each};
 ghost use Rattle.wit_data.specs.PackageOrder.{same_package};
 ghost use Rattle.wit_data.specs.Shape.{IsShaped};
-ghost use Rattle.wit_remap.specs.steps.Added.{IsReady, added_worlds, addition, moved_parts, with_interfaces};
+ghost use Rattle.wit_remap.specs.steps.Added.{CanMoveParts, added_worlds, addition, moved_parts, with_interfaces};
 ghost use Rattle.wit_remap.specs.steps.Fits.{Fits, InterfaceFits, TypeFits};
 ghost use Rattle.wit_remap.specs.Grown.{Grown};
 ghost use Rattle.wit_remap.specs.steps.Movers.{maps_of};
@@ -22,7 +22,7 @@ ghost use Rattle.wit_remap.specs.steps.Tables.{interfaces_at};
 ghost use Rattle.wit_remap.specs.steps.Worlds.{placed_world};
 
 use crate::mover::Mover;
-use crate::part::{Part, taken, taken_places};
+use crate::part::{Part, selected, selected_with_index};
 use crate::place::Place;
 use crate::tables::{interface_table, world_table};
 use crate::worlds::{PlacedWorld, placed_worlds};
@@ -33,7 +33,7 @@ use wit_data::{
     UnresolvedPackage, WorldId,
 };
 use wit_graph_data::{Graph, Package};
-use wit_link_spec::{Places, Values};
+use wit_link_spec::{NewIds, Values};
 
 /// Adds the types of a package that are its own, at their places, and the `own`s. Where there is no memory some of
 /// them may be there.
@@ -44,18 +44,18 @@ fn add_types(
     owns: Items<TypeDef>,
 ) -> Result<(), AllocError>
     requires { Each (TypeFits (Fits mover.now.offset)) types }
-    ensures ok { OnOk result (graph.new ≡ record graph.old { types = graph.old.types ++ (map (type_image (maps_of mover.now)) (taken (is_new (length graph.old.types) mover.now.places.now.types) types) ++ owns) }) }
+    ensures ok { OnOk result (graph.new ≡ record graph.old { types = graph.old.types ++ (map (type_image (maps_of mover.now)) (selected (is_new (length graph.old.types) mover.now.places.now.types) types) ++ owns) }) }
     ensures grown { Grown graph.old graph.new }
 {
     let first = TypeId::from_index(graph.types.len());
-    let mut own = taken(types, mover.places.types.as_slice(), &first);
+    let mut own = selected(types, mover.places.types.as_slice(), &first);
     own.place(mover);
     own.append(owns)?;
     graph.types.append(own)?;
     Ok(())
 }
 
-/// Adds the interfaces of a package that are its own, of each what takes part, at their places, and answers the
+/// Adds the interfaces of a package that are its own, of each what is active, at their places, and answers the
 /// table of those that have names.
 fn add_interfaces(
     alloc: Global,
@@ -65,21 +65,21 @@ fn add_interfaces(
     interfaces: Items<Interface>,
 ) -> Result<Names<InterfaceId>, AllocError>
     requires fits { Each (InterfaceFits (Fits mover.now.offset)) interfaces }
-    requires names { IsDistinct bytes_eq (keys_of (interfaces_at (maps_of mover.now) (taken_places (is_new (length graph.old.interfaces) mover.now.places.now.interfaces) interfaces))) }
-    ensures ok { OnOk result (graph.new ≡ record graph.old { interfaces = graph.old.interfaces ++ map (interface_image (maps_of mover.now)) (map (cut_interface (kept_of part.now)) (taken (is_new (length graph.old.interfaces) mover.now.places.now.interfaces) interfaces)) }) }
-    ensures table { IfOk result (λ table. table ≡ interfaces_at (maps_of mover.now) (taken_places (is_new (length graph.old.interfaces) mover.now.places.now.interfaces) interfaces)) }
+    requires names { IsDistinct bytes_eq (keys_of (interfaces_at (maps_of mover.now) (selected_with_index (is_new (length graph.old.interfaces) mover.now.places.now.interfaces) interfaces))) }
+    ensures ok { OnOk result (graph.new ≡ record graph.old { interfaces = graph.old.interfaces ++ map (interface_image (maps_of mover.now)) (map (cut_interface (kept_of part.now)) (selected (is_new (length graph.old.interfaces) mover.now.places.now.interfaces) interfaces)) }) }
+    ensures table { IfOk result (λ table. table ≡ interfaces_at (maps_of mover.now) (selected_with_index (is_new (length graph.old.interfaces) mover.now.places.now.interfaces) interfaces)) }
     ensures grown { Grown graph.old graph.new }
 {
     let first = InterfaceId::from_index(graph.interfaces.len());
     let places = mover.places.interfaces.as_slice();
-    let own = taken_places(alloc, interfaces, places, &first)?;
+    let own = selected_with_index(alloc, interfaces, places, &first)?;
     let table = interface_table(alloc, mover, own.as_slice())?;
     let placed = placed_interfaces(alloc, mover, part, own)?;
     graph.interfaces.append(placed)?;
     Ok(table)
 }
 
-/// Interfaces at their places, of each what takes part.
+/// Interfaces at their places, of each what is active.
 fn placed_interfaces(
     alloc: Global,
     mover: &Mover<'_>,
@@ -117,21 +117,21 @@ fn add_with_worlds(
     graph: &mut Graph,
     mover: &Mover<'_>,
     part: &Part<'_>,
-    handed: UnresolvedPackage,
+    unresolved: UnresolvedPackage,
     worlds: Names<WorldId>,
 ) -> Result<(), AllocError>
-    requires new { lookup (same_package handed.name) graph.old.package_names ≡ None }
-    requires fits { Each (InterfaceFits (Fits mover.now.offset)) handed.interfaces }
-    requires names { IsDistinct bytes_eq (keys_of (interfaces_at (maps_of mover.now) (taken_places (is_new (length graph.old.interfaces) mover.now.places.now.interfaces) handed.interfaces))) }
-    ensures ok { OnOk result (graph.new ≡ with_interfaces mover.now.places.now (maps_of mover.now) (kept_of part.now) handed worlds graph.old) }
+    requires new { lookup (same_package unresolved.name) graph.old.package_names ≡ None }
+    requires fits { Each (InterfaceFits (Fits mover.now.offset)) unresolved.interfaces }
+    requires names { IsDistinct bytes_eq (keys_of (interfaces_at (maps_of mover.now) (selected_with_index (is_new (length graph.old.interfaces) mover.now.places.now.interfaces) unresolved.interfaces))) }
+    ensures ok { OnOk result (graph.new ≡ with_interfaces mover.now.places.now (maps_of mover.now) (kept_of part.now) unresolved worlds graph.old) }
     ensures grown { Grown graph.old graph.new }
 {
-    let mut handed = handed;
-    let interfaces = mem::replace(&mut handed.interfaces, Items::new(alloc));
+    let mut unresolved = unresolved;
+    let interfaces = mem::replace(&mut unresolved.interfaces, Items::new(alloc));
     let interfaces = add_interfaces(alloc, graph, mover, part, interfaces)?;
-    let docs = mem::replace(&mut handed.docs, Docs::none());
+    let docs = mem::replace(&mut unresolved.docs, Docs::none());
     let package = Package {
-        name: handed.into_name(),
+        name: unresolved.into_name(),
         docs,
         interfaces,
         worlds,
@@ -147,30 +147,30 @@ fn move_parts(
     mover: &Mover<'_>,
     part: &Part<'_>,
     owns: Items<TypeDef>,
-    handed: UnresolvedPackage,
+    unresolved: UnresolvedPackage,
 ) -> Result<Items<PlacedWorld>, AllocError>
-    requires { IsReady mover.now.places.now (maps_of mover.now) (kept_of part.now) graph.old handed }
-    ensures ok { OnOk result (graph.new ≡ moved_parts mover.now.places.now (maps_of mover.now) (kept_of part.now) owns handed graph.old) }
-    ensures worlds { IfOk result (λ worlds. worlds ≡ map (placed_world (maps_of mover.now) part.now) (taken_places (is_new (length graph.old.worlds) mover.now.places.now.worlds) handed.worlds)) }
+    requires { CanMoveParts mover.now.places.now (maps_of mover.now) (kept_of part.now) graph.old unresolved }
+    ensures ok { OnOk result (graph.new ≡ moved_parts mover.now.places.now (maps_of mover.now) (kept_of part.now) owns unresolved graph.old) }
+    ensures worlds { IfOk result (λ worlds. worlds ≡ map (placed_world (maps_of mover.now) part.now) (selected_with_index (is_new (length graph.old.worlds) mover.now.places.now.worlds) unresolved.worlds)) }
     ensures grown { Grown graph.old graph.new }
 {
-    let mut handed = handed;
-    let types = mem::replace(&mut handed.types, Items::new(alloc));
+    let mut unresolved = unresolved;
+    let types = mem::replace(&mut unresolved.types, Items::new(alloc));
     add_types(graph, mover, types, owns)?;
-    let worlds = mem::replace(&mut handed.worlds, Items::new(alloc));
+    let worlds = mem::replace(&mut unresolved.worlds, Items::new(alloc));
     let first = WorldId::from_index(graph.worlds.len());
-    let own = taken_places(alloc, worlds, mover.places.worlds.as_slice(), &first)?;
+    let own = selected_with_index(alloc, worlds, mover.places.worlds.as_slice(), &first)?;
     let table = world_table(alloc, mover, own.as_slice())?;
-    add_with_worlds(alloc, graph, mover, part, handed, table)?;
+    add_with_worlds(alloc, graph, mover, part, unresolved, table)?;
     placed_worlds(alloc, mover, part, own)
 }
 
-/// Adds the parts of a package to a graph: the types and interfaces that are its own and take part, the `own`s that
+/// Adds the parts of a package to a graph: the types and interfaces that are its own and are active, the `own`s that
 /// values ask for, and the package with its tables. Answers its worlds at their places, each with what it includes;
 /// none of them is in the graph yet.
 ///
 /// For an `is_shaped` package and a valid graph that has none of its name, where nothing leaves the package without
-/// an image (1 to 3, 9 to 13) and its spans can be moved by the offset. What takes part, where ids go and what values
+/// an image (1 to 3, 9 to 13) and its spans can be moved by the offset. What is active, what ids are remapped to and what values
 /// ask for are those of this addition.
 ///
 /// The only error is want of memory. Some parts may be there then: the graph begins as it was, and a mark cuts it
@@ -181,21 +181,21 @@ pub fn add_parts(
     alloc: Global,
     graph: &mut Graph,
     part: &Part<'_>,
-    places: &Places,
+    places: &NewIds,
     values: Values,
-    handed: UnresolvedPackage,
+    unresolved: UnresolvedPackage,
     offset: u32,
 ) -> Result<Items<PlacedWorld>, AllocError>
-    requires shaped { IsShaped handed }
+    requires shaped { IsShaped unresolved }
     requires valid { IsValid graph.old }
-    requires image { HasImage (addition part.now graph.old handed offset) }
-    requires new { lookup (same_package handed.name) graph.old.package_names ≡ None }
-    requires fits { PassesTheEnd (addition part.now graph.old handed offset) → ⊥ }
-    requires activity { part.now.activity.now ≡ activity_of (addition part.now graph.old handed offset) }
-    requires places { places.now ≡ places_of (addition part.now graph.old handed offset) }
-    requires values { values ≡ values_of (addition part.now graph.old handed offset) }
-    ensures ok { OnOk result (graph.new ≡ with_parts (addition part.now graph.old handed offset)) }
-    ensures worlds { IfOk result (λ worlds. worlds ≡ added_worlds (addition part.now graph.old handed offset)) }
+    requires image { IsResolved (addition part.now graph.old unresolved offset) }
+    requires new { lookup (same_package unresolved.name) graph.old.package_names ≡ None }
+    requires fits { AdditionOverflows (addition part.now graph.old unresolved offset) → ⊥ }
+    requires activity { part.now.activity.now ≡ activity_of (addition part.now graph.old unresolved offset) }
+    requires places { places.now ≡ new_ids_of (addition part.now graph.old unresolved offset) }
+    requires values { values ≡ values_of (addition part.now graph.old unresolved offset) }
+    ensures ok { OnOk result (graph.new ≡ with_parts (addition part.now graph.old unresolved offset)) }
+    ensures worlds { IfOk result (λ worlds. worlds ≡ added_worlds (addition part.now graph.old unresolved offset)) }
     ensures grown { Grown graph.old graph.new }
 {
     let Values {
@@ -209,5 +209,5 @@ pub fn add_parts(
         package: id,
         offset,
     };
-    move_parts(alloc, graph, &mover, part, owns, handed)
+    move_parts(alloc, graph, &mover, part, owns, unresolved)
 }

@@ -1,4 +1,4 @@
-//! Images in place: what is handed in takes its new ids and moves its spans, and keeps all else.
+//! Images in place: what comes in takes its new ids and moves its spans, and keeps all else.
 ghost use Rattle.std.specs.Prelude.{◌≡◌, ℕ, Option};
 ghost use Rattle.wit_graph_theory.specs.Image.{Maps};
 

@@ -40,7 +40,7 @@ impl Remap {
         }
     }
 
-    /// For each type that was handed in, by its id there, its id now; None where it is left out.
+    /// For each type that came in, by its id there, its id now; None where it is left out.
     ///
     /// Source: `Remap::types` of wit-parser 0.263.0.
     pub fn types(&self) -> &[Option<TypeId>]
@@ -49,7 +49,7 @@ impl Remap {
         self.types.as_slice()
     }
 
-    /// For each interface that was handed in, by its id there, its id now; None where it is left out.
+    /// For each interface that came in, by its id there, its id now; None where it is left out.
     ///
     /// Source: `Remap::interfaces` of wit-parser 0.263.0.
     pub fn interfaces(&self) -> &[Option<InterfaceId>]
@@ -58,7 +58,7 @@ impl Remap {
         self.interfaces.as_slice()
     }
 
-    /// For each world that was handed in, by its id there, its id now; None where it is left out.
+    /// For each world that came in, by its id there, its id now; None where it is left out.
     ///
     /// Source: `Remap::worlds` of wit-parser 0.263.0.
     pub fn worlds(&self) -> &[Option<WorldId>]
@@ -67,7 +67,7 @@ impl Remap {
         self.worlds.as_slice()
     }
 
-    /// For each package that was handed in, by its id there, its id now.
+    /// For each package that came in, by its id there, its id now.
     ///
     /// Source: `Remap::packages` of wit-parser 0.263.0.
     pub fn packages(&self) -> &[PackageId]
@@ -78,8 +78,8 @@ impl Remap {
 }
 
 impl Remap {
-    /// Where a type that was handed in is; the id is one of those that `types` lists. Where there is an id, that is
-    /// answered, and no memory is taken. Refused with the handed span where the type is left out (11), and for memory
+    /// Where an incoming type is; the id is one of those that `types` lists. Where there is an id, that is
+    /// answered, and no memory is taken. Refused with the span as it is given where the type is left out (11), and for memory
     /// (28).
     ///
     /// Source: `map_type` of wit-parser 0.263.0.
@@ -92,7 +92,7 @@ impl Remap {
         new_id(alloc, *self.types.at(id.index()), "type", span)
     }
 
-    /// Where an interface that was handed in is: as `map_type`, with `interfaces`.
+    /// Where an incoming interface is: as `map_type`, with `interfaces`.
     ///
     /// Source: `map_interface` of wit-parser 0.263.0.
     pub fn map_interface(
@@ -109,7 +109,7 @@ impl Remap {
         new_id(alloc, *self.interfaces.at(id.index()), "interface", span)
     }
 
-    /// Where a world that was handed in is: as `map_type`, with `worlds`.
+    /// Where an incoming world is: as `map_type`, with `worlds`.
     ///
     /// Source: `map_world` of wit-parser 0.263.0.
     pub fn map_world(&self, alloc: Global, id: WorldId, span: Span) -> ResolveResult<WorldId>

@@ -28,7 +28,7 @@ pub struct PlacedWorld {
     pub includes: Items<WorldInclude>,
 }
 
-/// Worlds at their places, of each what takes part.
+/// Worlds at their places, of each what is active.
 pub(crate) fn placed_worlds(
     alloc: Global,
     mover: &Mover<'_>,
@@ -47,7 +47,7 @@ pub(crate) fn placed_worlds(
     Ok(placed)
 }
 
-/// A world at its place, of it what takes part.
+/// A world at its place, of it what is active.
 fn placed_world(
     alloc: Global,
     mover: &Mover<'_>,

@@ -10,7 +10,7 @@ use Rattle.wit_values.specs.facts.Lists.{AllByRecursion-at, lookup-append, looku
 use Rattle.wit_digraph.specs.facts.FreshFacts.{fresh_all}
 use Rattle.wit_digraph.specs.facts.MemberFacts.{Contains-cons_cases, Contains-flat_map, Contains-nil}
 use Rattle.wit_digraph.specs.Relation.{direct}
-use Rattle.wit_digraph.specs.Walks.{walk, walk_within}
+use Rattle.wit_digraph.specs.PostOrder.{post_order, post_order_within}
 use Rattle.wit_sources.specs.SourceMap.{AreLaidOut, Sources, moved_file, with_sources}
 use Rattle.wit_sources.specs.Span.{moved_by}
 use Rattle.wit_data.specs.Each.{Each}
@@ -25,9 +25,9 @@ use Rattle.wit_graph_data.specs.declared.error_kind.ResolveErrorKind.TheVariants
 use Rattle.wit_graph_data.specs.declared.features.Features.{Features}
 use Rattle.wit_graph_data.specs.declared.graph.Graph.{Graph}
 use Rattle.wit_graph_theory.specs.facts.ListFacts.{at_map, contained_at, from_map, place_of, some_at}
-use Rattle.wit_link_order.specs.Sorting.{AreSorted, Handed, IsGroupOrder, IsSortCause, handed_deps, handed_uses, names_of}
+use Rattle.wit_link_order.specs.GroupOrder.{AreSorted, IsGroupOrder, IsSortCause, Unresolved, group_deps, group_uses, names_of}
 use Rattle.wit_link_spec.specs.Addition.{own_worlds}
-use Rattle.wit_link_spec.specs.Cause.{IsAccepted, duplicate_5}
+use Rattle.wit_link_spec.specs.Cause.{AdditionIsAccepted, duplicate_5}
 use Rattle.wit_link_spec.specs.Pushed.{pushed, with_parts}
 use Rattle.wit_link.specs.Appending.{IsAdded, addition}
 use Rattle.wit_link.specs.Groups.{FilesPassTheEnd, IsGroupsCause, IsPushCause, files_end, packages_of}
@@ -67,7 +67,7 @@ pub packages-push : (at : ℕ) (groups : List Group) (group : Group) → package
 packages-push at [] group = refl
 packages-push at (g ∷ groups) group =
     let front = map (λ (u : UnresolvedPackage). (u, at)) (g.nested ++ g.main ∷ []) in
-    ap (λ (l : List Handed). front ++ l) (packages-push (at + g.source_map.end) groups group)
+    ap (λ (l : List Unresolved). front ++ l) (packages-push (at + g.source_map.end) groups group)
     ∙ sym (append_assoc front (packages_of (at + g.source_map.end) groups) (packages_of (files_end (at + g.source_map.end) groups) (group ∷ [])))
 
 -- where the files of one group pass the end, so do those of all
@@ -96,9 +96,9 @@ module _ (old now : Sources) (groups : List Group) (group : Group) (placed : now
   pub more_files : (new : Sources) → new ≡ with_sources now group.source_map → new ≡ with_files old (groups ++ group ∷ [])
   more_files new is = is ∙ ap (λ (s : Sources). with_sources s group.source_map) placed ∙ sym (with_files-push old groups group)
 
-  pub more_taken : (packages taken : List Handed) → packages ≡ packages_of old.end groups → taken ≡ packages ++ packages_of now.end (group ∷ []) → taken ≡ packages_of old.end (groups ++ group ∷ [])
+  pub more_taken : (packages taken : List Unresolved) → packages ≡ packages_of old.end groups → taken ≡ packages ++ packages_of now.end (group ∷ []) → taken ≡ packages_of old.end (groups ++ group ∷ [])
   more_taken packages taken before is =
-      is ∙ ap (λ (l : List Handed). l ++ packages_of now.end (group ∷ [])) before ∙ ap (λ (e : ℕ). packages_of old.end groups ++ packages_of e (group ∷ [])) ends_there ∙ sym (packages-push old.end groups group)
+      is ∙ ap (λ (l : List Unresolved). l ++ packages_of now.end (group ∷ [])) before ∙ ap (λ (e : ℕ). packages_of old.end groups ++ packages_of e (group ∷ [])) ends_there ∙ sym (packages-push old.end groups group)
 
   pub more_fits : now.end + group.source_map.end < 2 ^ 32 → files_end old.end (groups ++ group ∷ []) < 2 ^ 32
   more_fits fits =
@@ -116,7 +116,7 @@ module _ (old now : Sources) (groups : List Group) (group : Group) (placed : now
 
 -- ---- what can be added
 
-group_can : (at : ℕ) (main : UnresolvedPackage) (nested : List UnresolvedPackage) → IsShaped main → Each IsShaped nested → (rest : List Handed) → AllByRecursion CanAppend rest
+group_can : (at : ℕ) (main : UnresolvedPackage) (nested : List UnresolvedPackage) → IsShaped main → Each IsShaped nested → (rest : List Unresolved) → AllByRecursion CanAppend rest
     → AllByRecursion CanAppend (map (λ (u : UnresolvedPackage). (u, at)) (nested ++ main ∷ []) ++ rest)
 group_can at main [] shaped all_shaped rest can = (shaped, can)
 group_can at main (u ∷ nested) shaped all_shaped rest can = (all_shaped 0 u refl, group_can at main nested shaped (λ i x there. all_shaped (suc i) x there) rest can)
@@ -125,25 +125,25 @@ pub packages_can : (at : ℕ) (groups : List Group) → AllByRecursion IsGroupSh
 packages_can at [] shaped = tt
 packages_can at (g ∷ groups) shaped = group_can at g.main g.nested shaped.0.main shaped.0.nested (packages_of (at + g.source_map.end) groups) (packages_can (at + g.source_map.end) groups shaped.1)
 
-sorted_are : (handed : List Handed) (order : List ℕ) (sorted : List Handed) → AllByRecursion CanAppend handed → AllZip (λ i (p : Handed). slice_get handed i ≡ Some p) order sorted → AllByRecursion CanAppend sorted
-sorted_are handed [] [] can are = tt
-sorted_are handed [] (p ∷ sorted) can are = absurd are
-sorted_are handed (i ∷ order) [] can are = absurd are
-sorted_are handed (i ∷ order) (p ∷ sorted) can are = (AllByRecursion-at CanAppend handed i p can are.0, sorted_are handed order sorted can are.1)
+sorted_are : (unresolved : List Unresolved) (order : List ℕ) (sorted : List Unresolved) → AllByRecursion CanAppend unresolved → AllZip (λ i (p : Unresolved). slice_get unresolved i ≡ Some p) order sorted → AllByRecursion CanAppend sorted
+sorted_are unresolved [] [] can are = tt
+sorted_are unresolved [] (p ∷ sorted) can are = absurd are
+sorted_are unresolved (i ∷ order) [] can are = absurd are
+sorted_are unresolved (i ∷ order) (p ∷ sorted) can are = (AllByRecursion-at CanAppend unresolved i p can are.0, sorted_are unresolved order sorted can are.1)
 
-pub sorted_can : (handed sorted : List Handed) → AllByRecursion CanAppend handed → (order : List ℕ) × AreSorted handed order sorted → AllByRecursion CanAppend sorted
-sorted_can handed sorted can is = sorted_are handed is.0 sorted can is.1.are
+pub sorted_can : (unresolved sorted : List Unresolved) → AllByRecursion CanAppend unresolved → (order : List ℕ) × AreSorted unresolved order sorted → AllByRecursion CanAppend sorted
+sorted_can unresolved sorted can is = sorted_are unresolved is.0 sorted can is.1.are
 
 -- ---- the main package among those of the groups
 
-nested_before : (at : ℕ) (main : UnresolvedPackage) (nested : List UnresolvedPackage) (rest : List Handed) → slice_get (map (λ (u : UnresolvedPackage). (u, at)) (nested ++ main ∷ []) ++ rest) (length nested) ≡ Some (main, at)
+nested_before : (at : ℕ) (main : UnresolvedPackage) (nested : List UnresolvedPackage) (rest : List Unresolved) → slice_get (map (λ (u : UnresolvedPackage). (u, at)) (nested ++ main ∷ []) ++ rest) (length nested) ≡ Some (main, at)
 nested_before at main [] rest = refl
 nested_before at main (u ∷ nested) rest = nested_before at main nested rest
 
 pub main_at : (at : ℕ) (main : Group) (deps : List Group) → slice_get (packages_of at (main ∷ deps)) (length main.nested) ≡ Some (main.main, at)
 main_at at main deps = nested_before at main.main main.nested (packages_of (at + main.source_map.end) deps)
 
-abbrev name_in : Handed → PackageName
+abbrev name_in : Unresolved → PackageName
 name_in p = p.0.name
 
 main_name : (at : ℕ) (main : Group) (deps : List Group) → slice_get (names_of (packages_of at (main ∷ deps))) (length main.nested) ≡ Some main.main.name
@@ -154,89 +154,89 @@ main_named at main deps = contained_at (names_of (packages_of at (main ∷ deps)
 
 -- ---- packages that can be sorted
 
-pub differ : (handed : List Handed) → ((error : ResolveErrorKind) → IsSortCause handed error → ⊥) → Differ handed
-differ handed sortable i j name before first second =
-    let p = from_map name_in handed i name first in
-    let q = from_map name_in handed j name second in
+pub differ : (unresolved : List Unresolved) → ((error : ResolveErrorKind) → IsSortCause unresolved error → ⊥) → Differ unresolved
+differ unresolved sortable i j name before first second =
+    let p = from_map name_in unresolved i name first in
+    let q = from_map name_in unresolved j name second in
     sortable (DuplicatePackage name (moved_by q.0.1 q.0.0.package_name_span) (moved_by p.0.1 p.0.0.package_name_span)) (record {
       earlier = i;
       later = j;
       before = before;
-      first = some_at _ handed i p.0 p.1 (p.2, refl);
-      second = some_at _ handed j q.0 q.1 (q.2, refl);
+      first = some_at _ unresolved i p.0 p.1 (p.2, refl);
+      second = some_at _ unresolved j q.0 q.1 (q.2, refl);
     })
 
 -- each place is in an order
-walks_to_itself : (uses : List (List ℕ)) (members i : ℕ) → 0 < members → Contains (walk_within uses members i) i
-unfolding walk_within
+walks_to_itself : (uses : List (List ℕ)) (members i : ℕ) → 0 < members → Contains (post_order_within uses members i) i
+unfolding post_order_within
 walks_to_itself uses zero i some = absurd (omega (arith, some))
 walks_to_itself uses (suc members) i some =
-    contained_at (flat_map (walk_within uses members) (direct uses i) ++ i ∷ []) (length (flat_map (walk_within uses members) (direct uses i))) i (slice_get-push (flat_map (walk_within uses members) (direct uses i)) i)
+    contained_at (flat_map (post_order_within uses members) (direct uses i) ++ i ∷ []) (length (flat_map (post_order_within uses members) (direct uses i))) i (slice_get-push (flat_map (post_order_within uses members) (direct uses i)) i)
 
-order_has : (handed : List Handed) (order : List ℕ) (i : ℕ) → IsGroupOrder handed order → i < length handed → Contains order i
-unfolding walk
-order_has handed order i is within =
-    let n = length handed in
+order_has : (unresolved : List Unresolved) (order : List ℕ) (i : ℕ) → IsGroupOrder unresolved order → i < length unresolved → Contains order i
+unfolding post_order
+order_has unresolved order i is within =
+    let n = length unresolved in
     let long : length (range_with_len 0 n) ≡ n = length-range_with_len 0 n in
-    let rows : length (handed_uses handed) ≡ n = length-map handed (λ (p : Handed). handed_deps (names_of handed) p.0) in
+    let rows : length (group_uses unresolved) ≡ n = length-map unresolved (λ (p : Unresolved). group_deps (names_of unresolved) p.0) in
     let here : get_or (range_with_len 0 n) i i ≡ 0 + i = get_or-range_with_len 0 n i i within in
     let ranged : Contains (range_with_len 0 n) i = (i, omega (arith, long, within), omega (arith, here)) in
     let rooted : Contains is.roots i = Contains-permutation (range_with_len 0 n) is.roots i is.all ranged in
-    let walked : Contains (walk (handed_uses handed) i) i = walks_to_itself (handed_uses handed) (length (handed_uses handed)) i (omega (arith, rows, within)) in
+    let walked : Contains (post_order (group_uses unresolved) i) i = walks_to_itself (group_uses unresolved) (length (group_uses unresolved)) i (omega (arith, rows, within)) in
     subst (λ (l : List ℕ). Contains l i) (sym is.is)
-    (fresh_all [] (flat_map (walk (handed_uses handed)) is.roots) i (Contains-flat_map (walk (handed_uses handed)) is.roots i i rooted walked))
+    (fresh_all [] (flat_map (post_order (group_uses unresolved)) is.roots) i (Contains-flat_map (post_order (group_uses unresolved)) is.roots i i rooted walked))
 
 -- what stands at a place of the order stands there among the sorted ones
-sorted_at : (handed : List Handed) (order : List ℕ) (sorted : List Handed) (place i : ℕ) (p : Handed) → AllZip (λ i (p : Handed). slice_get handed i ≡ Some p) order sorted → slice_get order place ≡ Some i → slice_get handed i ≡ Some p
+sorted_at : (unresolved : List Unresolved) (order : List ℕ) (sorted : List Unresolved) (place i : ℕ) (p : Unresolved) → AllZip (λ i (p : Unresolved). slice_get unresolved i ≡ Some p) order sorted → slice_get order place ≡ Some i → slice_get unresolved i ≡ Some p
     → slice_get sorted place ≡ Some p
-sorted_at handed [] sorted place i p are at there = cc
-sorted_at handed (j ∷ order) [] place i p are at there = absurd are
-sorted_at handed (j ∷ order) (q ∷ sorted) zero i p are at there =
+sorted_at unresolved [] sorted place i p are at there = cc
+sorted_at unresolved (j ∷ order) [] place i p are at there = absurd are
+sorted_at unresolved (j ∷ order) (q ∷ sorted) zero i p are at there =
     let same : j ≡ i = cc in
-    sym are.0 ∙ ap (slice_get handed) same ∙ there
-sorted_at handed (j ∷ order) (q ∷ sorted) (suc place) i p are at there = sorted_at handed order sorted place i p are.1 at there
+    sym are.0 ∙ ap (slice_get unresolved) same ∙ there
+sorted_at unresolved (j ∷ order) (q ∷ sorted) (suc place) i p are at there = sorted_at unresolved order sorted place i p are.1 at there
 
-order_at : (handed : List Handed) (order : List ℕ) (sorted : List Handed) (place : ℕ) (p : Handed) → AllZip (λ i (p : Handed). slice_get handed i ≡ Some p) order sorted → slice_get sorted place ≡ Some p
-    → (i : ℕ) × (slice_get order place ≡ Some i) × (slice_get handed i ≡ Some p)
-order_at handed [] [] place p are at = cc
-order_at handed [] (q ∷ sorted) place p are at = absurd are
-order_at handed (j ∷ order) [] place p are at = absurd are
-order_at handed (j ∷ order) (q ∷ sorted) zero p are at =
-    let same : q ≡ p = cc in (j, refl, are.0 ∙ ap (λ (x : Handed). Some x) same)
-order_at handed (j ∷ order) (q ∷ sorted) (suc place) p are at = order_at handed order sorted place p are.1 at
+order_at : (unresolved : List Unresolved) (order : List ℕ) (sorted : List Unresolved) (place : ℕ) (p : Unresolved) → AllZip (λ i (p : Unresolved). slice_get unresolved i ≡ Some p) order sorted → slice_get sorted place ≡ Some p
+    → (i : ℕ) × (slice_get order place ≡ Some i) × (slice_get unresolved i ≡ Some p)
+order_at unresolved [] [] place p are at = cc
+order_at unresolved [] (q ∷ sorted) place p are at = absurd are
+order_at unresolved (j ∷ order) [] place p are at = absurd are
+order_at unresolved (j ∷ order) (q ∷ sorted) zero p are at =
+    let same : q ≡ p = cc in (j, refl, are.0 ∙ ap (λ (x : Unresolved). Some x) same)
+order_at unresolved (j ∷ order) (q ∷ sorted) (suc place) p are at = order_at unresolved order sorted place p are.1 at
 
 below_length : {X : Type 0} (xs : List X) (i : ℕ) (x : X) → slice_get xs i ≡ Some x → i < length xs
 below_length [] i x at = cc
 below_length (y ∷ ys) zero x at = omega arith
 below_length (y ∷ ys) (suc i) x at = let rest = below_length ys i x at in omega (arith, rest)
 
--- a name among handed packages is one among the sorted ones
-named_sorted : (handed : List Handed) (order : List ℕ) (sorted : List Handed) (name : PackageName) → AreSorted handed order sorted → Contains (names_of handed) name → Contains (names_of sorted) name
-named_sorted handed order sorted name is has =
-    let there = place_of (names_of handed) name has in
-    let p = from_map name_in handed there.0 name there.1 in
-    let listed = place_of order there.0 (order_has handed order there.0 is.is_order (below_length handed there.0 p.0 p.1)) in
-    let at = sorted_at handed order sorted listed.0 there.0 p.0 is.are listed.1 p.1 in
+-- a name among unresolved packages is one among the sorted ones
+named_sorted : (unresolved : List Unresolved) (order : List ℕ) (sorted : List Unresolved) (name : PackageName) → AreSorted unresolved order sorted → Contains (names_of unresolved) name → Contains (names_of sorted) name
+named_sorted unresolved order sorted name is has =
+    let there = place_of (names_of unresolved) name has in
+    let p = from_map name_in unresolved there.0 name there.1 in
+    let listed = place_of order there.0 (order_has unresolved order there.0 is.is_order (below_length unresolved there.0 p.0 p.1)) in
+    let at = sorted_at unresolved order sorted listed.0 there.0 p.0 is.are listed.1 p.1 in
     contained_at (names_of sorted) listed.0 name (at_map name_in sorted listed.0 p.0 at ∙ ap (λ (x : PackageName). Some x) p.2)
 
 -- ---- packages that are added
 
 -- where a package of a name went
-record IsFound (ps : List Handed) (ids : List ℕ) (new : Graph) (name : PackageName) : Type 0 where
+record IsFound (ps : List Unresolved) (ids : List ℕ) (new : Graph) (name : PackageName) : Type 0 where
   place : ℕ
   id : ℕ
   name_is : slice_get (names_of ps) place ≡ Some name
   id_is : slice_get ids place ≡ Some id
   listed : lookup (same_package name) new.package_names ≡ Some id
 
-absent : (features : Features) (g : Graph) (p : Handed) → IsAccepted (addition features g p.0 p.1) → lookup (same_package p.0.name) g.package_names ≡ None
+absent : (features : Features) (g : Graph) (p : Unresolved) → AdditionIsAccepted (addition features g p.0 p.1) → lookup (same_package p.0.name) g.package_names ≡ None
 absent features g p accepted = by (lookup (same_package p.0.name) g.package_names) refl
   where
     by : (o : Option ℕ) → lookup (same_package p.0.name) g.package_names ≡ o → o ≡ None
     by None is = refl
     by (Some id) is = absurd (accepted (DuplicatePackage p.0.name (moved_by p.1 p.0.package_name_span) None) (duplicate_5 p.0.name (moved_by p.1 p.0.package_name_span) None (record { there = ap is_some is; name_is = refl; span1_is = refl; span2_is = refl })))
 
-listed_here : (features : Features) (g mid new : Graph) (p : Handed) (ps : List Handed) (id : ℕ) (ids : List ℕ) → IsAdded (addition features g p.0 p.1) mid id → ArePushed features mid ps new ids
+listed_here : (features : Features) (g mid new : Graph) (p : Unresolved) (ps : List Unresolved) (id : ℕ) (ids : List ℕ) → IsAdded (addition features g p.0 p.1) mid id → ArePushed features mid ps new ids
     → lookup (same_package p.0.name) new.package_names ≡ Some id
 listed_here features g mid new p ps id ids added later =
     let a = addition features g p.0 p.1 in
@@ -250,7 +250,7 @@ listed_here features g mid new p ps id ids added later =
     let third : lookup same mid.package_names ≡ Some (length g.packages) = ap (λ (x : Graph). lookup same x.package_names) added.graph_is ∙ second in
     ap (lookup same) others.names.1 ∙ lookup-append same mid.package_names others.names.0 (length g.packages) third ∙ ap (λ (i : ℕ). Some i) (sym added.id_is)
 
-found : (features : Features) (g : Graph) (ps : List Handed) (new : Graph) (ids : List ℕ) (name : PackageName) → ArePushed features g ps new ids → Contains (names_of ps) name → IsFound ps ids new name
+found : (features : Features) (g : Graph) (ps : List Unresolved) (new : Graph) (ids : List ℕ) (name : PackageName) → ArePushed features g ps new ids → Contains (names_of ps) name → IsFound ps ids new name
 found features g [] new ids name pushed has = absurd (Contains-nil has)
 found features g (p ∷ ps) new [] name pushed has = absurd pushed
 found features g (p ∷ ps) new (id ∷ ids) name pushed has = elim (Contains-cons_cases p.0.name name (names_of ps) has) [
@@ -266,15 +266,15 @@ found features g (p ∷ ps) new (id ∷ ids) name pushed has = elim (Contains-co
       record { place = suc rest.place; id = rest.id; name_is = rest.name_is; id_is = rest.id_is; listed = rest.listed }
 ]
 
-module _ (features : Features) (g : Graph) (handed sorted : List Handed) (name : PackageName) (named : Contains (names_of handed) name) (is : (order : List ℕ) × AreSorted handed order sorted) (new : Graph) (ids : List ℕ) (pushed : ArePushed features g sorted new ids) where
+module _ (features : Features) (g : Graph) (unresolved sorted : List Unresolved) (name : PackageName) (named : Contains (names_of unresolved) name) (is : (order : List ℕ) × AreSorted unresolved order sorted) (new : Graph) (ids : List ℕ) (pushed : ArePushed features g sorted new ids) where
   in_table : IsFound sorted ids new name
-  in_table = found features g sorted new ids name pushed (named_sorted handed is.0 sorted name is.1 named)
+  in_table = found features g sorted new ids name pushed (named_sorted unresolved is.0 sorted name is.1 named)
 
   -- the one of the name is in the table
   pub never_none : lookup (same_package name) new.package_names ≡ None → ⊥
   never_none none = let both : Some in_table.id ≡ None = sym in_table.listed ∙ none in cc
 
-  pub are_added : ((error : ResolveErrorKind) → IsSortCause handed error → ⊥) → (id : ℕ) → lookup (same_package name) new.package_names ≡ Some id → AreAdded features g handed name id new
+  pub are_added : ((error : ResolveErrorKind) → IsSortCause unresolved error → ⊥) → (id : ℕ) → lookup (same_package name) new.package_names ≡ Some id → AreAdded features g unresolved name id new
   are_added sortable id listed = record {
     order = is.0;
     sorted = sorted;
@@ -287,12 +287,12 @@ module _ (features : Features) (g : Graph) (handed sorted : List Handed) (name :
     id_is = in_table.id_is ∙ sym in_table.listed ∙ listed;
   }
 
--- what speaks against adding packages speaks against adding the sorted ones one after another
-pub one_refused : (features : Features) (g : Graph) (handed sorted : List Handed) → ((error : ResolveErrorKind) → IsSortCause handed error → ⊥) → (order : List ℕ) × AreSorted handed order sorted → (kind : ResolveErrorKind)
-    → IsSortCause handed kind ⊎ IsPushCause features g handed kind → IsOneRefused features g sorted kind
-one_refused features g handed sorted sortable is kind (inl cause) = absurd (sortable kind cause)
-one_refused features g handed sorted sortable is kind (inr cause) =
-    subst (λ (l : List Handed). IsOneRefused features g l kind) (one_sorted handed (differ handed sortable) cause.order is.0 cause.sorted sorted cause.are_sorted is.1) cause.refused
+-- what holds against adding packages holds against adding the sorted ones one after another
+pub one_refused : (features : Features) (g : Graph) (unresolved sorted : List Unresolved) → ((error : ResolveErrorKind) → IsSortCause unresolved error → ⊥) → (order : List ℕ) × AreSorted unresolved order sorted → (kind : ResolveErrorKind)
+    → IsSortCause unresolved kind ⊎ IsPushCause features g unresolved kind → IsOneRefused features g sorted kind
+one_refused features g unresolved sorted sortable is kind (inl cause) = absurd (sortable kind cause)
+one_refused features g unresolved sorted sortable is kind (inr cause) =
+    subst (λ (l : List Unresolved). IsOneRefused features g l kind) (one_sorted unresolved (differ unresolved sortable) cause.order is.0 cause.sorted sorted cause.are_sorted is.1) cause.refused
 
 -- ---- files that pass the end
 
@@ -314,7 +314,7 @@ module _ (old now : Sources) (groups : List Group) (placed : now ≡ with_files 
 -- ---- the steps of adding groups
 
 -- what is told of a graph is told of the same graph elsewhere
-pub added_to : {new now : Graph} (r : Result ℕ ResolveErrorKind) (features : Features) (g : Graph) (packages : List Handed) (name : PackageName) → new ≡ now → IfOk r (λ id. AreAdded features g packages name id new) → IfOk r (λ id. AreAdded features g packages name id now)
+pub added_to : {new now : Graph} (r : Result ℕ ResolveErrorKind) (features : Features) (g : Graph) (packages : List Unresolved) (name : PackageName) → new ≡ now → IfOk r (λ id. AreAdded features g packages name id new) → IfOk r (λ id. AreAdded features g packages name id now)
 added_to (Ok id) features g packages name same added = subst (λ (x : Graph). AreAdded features g packages name id x) same added
 added_to (Err kind) features g packages name same added = tt
 
@@ -323,35 +323,35 @@ same_after old new now (Ok id) is same = tt
 same_after old new now (Err kind) is same = is ∙ same
 
 -- the packages and the name are those of the groups
-module _ (old : State) (main : Group) (deps : List Group) (packages : List Handed) (taken : packages ≡ packages_of old.source_map.end (main ∷ deps)) (name : PackageName) (named : name ≡ main.main.name) where
-  abbrev handed : List Handed
-  handed = packages_of old.source_map.end (main ∷ deps)
+module _ (old : State) (main : Group) (deps : List Group) (packages : List Unresolved) (taken : packages ≡ packages_of old.source_map.end (main ∷ deps)) (name : PackageName) (named : name ≡ main.main.name) where
+  abbrev unresolved : List Unresolved
+  unresolved = packages_of old.source_map.end (main ∷ deps)
 
-  abbrev Speaks : List Handed → ResolveErrorKind → Type 0
-  Speaks l kind = IsSortCause l kind ⊎ IsPushCause old.features old.graph l kind
+  abbrev IsCauseOf : List Unresolved → ResolveErrorKind → Type 0
+  IsCauseOf l kind = IsSortCause l kind ⊎ IsPushCause old.features old.graph l kind
 
-  groups_cause : (kind : ResolveErrorKind) → (kind ≡ OutOfMemory) ⊎ Speaks packages kind → (kind ≡ OutOfMemory) ⊎ IsGroupsCause old.features old.graph old.source_map.end (main ∷ deps) kind
+  groups_cause : (kind : ResolveErrorKind) → (kind ≡ OutOfMemory) ⊎ IsCauseOf packages kind → (kind ≡ OutOfMemory) ⊎ IsGroupsCause old.features old.graph old.source_map.end (main ∷ deps) kind
   groups_cause kind (inl memory) = inl memory
-  groups_cause kind (inr cause) = inr (elim (subst (λ (l : List Handed). Speaks l kind) taken cause) [
+  groups_cause kind (inr cause) = inr (elim (subst (λ (l : List Unresolved). IsCauseOf l kind) taken cause) [
     | inl sorting ↦ inl sorting
     | inr pushing ↦ inr (inl pushing)
   ])
 
-  main_first : (order : List ℕ) (sorted : List Handed) (place : ℕ) → ((error : ResolveErrorKind) → IsSortCause handed error → ⊥) → AreSorted handed order sorted → slice_get (names_of sorted) place ≡ Some main.main.name
+  main_first : (order : List ℕ) (sorted : List Unresolved) (place : ℕ) → ((error : ResolveErrorKind) → IsSortCause unresolved error → ⊥) → AreSorted unresolved order sorted → slice_get (names_of sorted) place ≡ Some main.main.name
       → slice_get order place ≡ Some (length main.nested)
   main_first order sorted place sortable is there =
       let p = from_map name_in sorted place main.main.name there in
-      let from = order_at handed order sorted place p.0 is.are p.1 in
-      let own : slice_get (names_of handed) from.0 ≡ Some main.main.name = at_map name_in handed from.0 p.0 from.2 ∙ ap (λ (x : PackageName). Some x) p.2 in
-      from.1 ∙ ap (λ (i : ℕ). Some i) (one_place handed (differ handed sortable) from.0 (length main.nested) main.main.name own (main_name old.source_map.end main deps))
+      let from = order_at unresolved order sorted place p.0 is.are p.1 in
+      let own : slice_get (names_of unresolved) from.0 ≡ Some main.main.name = at_map name_in unresolved from.0 p.0 from.2 ∙ ap (λ (x : PackageName). Some x) p.2 in
+      from.1 ∙ ap (λ (i : ℕ). Some i) (one_place unresolved (differ unresolved sortable) from.0 (length main.nested) main.main.name own (main_name old.source_map.end main deps))
 
   -- the packages are added
   pub pushes : (new : State) (r : Result ℕ ResolveErrorKind) → files_end old.source_map.end (main ∷ deps) < 2 ^ 32 → new.features ≡ old.features → new.track_rule ≡ old.track_rule → new.source_map ≡ with_files old.source_map (main ∷ deps)
       → IfOk r (λ id. AreAdded old.features old.graph packages name id new.graph) → IfOk r (λ id. PushesGroups old main deps id new)
   pushes new (Err kind) fits features rule files are = tt
   pushes new (Ok id) fits features rule files are =
-      let added : AreAdded old.features old.graph handed main.main.name id new.graph =
-      subst (λ (l : List Handed). AreAdded old.features old.graph l main.main.name id new.graph) taken (subst (λ (n : PackageName). AreAdded old.features old.graph packages n id new.graph) named are) in
+      let added : AreAdded old.features old.graph unresolved main.main.name id new.graph =
+      subst (λ (l : List Unresolved). AreAdded old.features old.graph l main.main.name id new.graph) taken (subst (λ (n : PackageName). AreAdded old.features old.graph packages n id new.graph) named are) in
       record {
         order = added.order;
         sorted = added.sorted;
@@ -374,7 +374,7 @@ module _ (old : State) (main : Group) (deps : List Group) (packages : List Hande
 
   -- they are refused, and the files stay
   pub refuses : (new : State) (r : Result ℕ ResolveErrorKind) → files_end old.source_map.end (main ∷ deps) < 2 ^ 32 → (r ≡ Err OffsetOverflow → ⊥) → OnErr r (new.graph ≡ old.graph) → new.features ≡ old.features → new.track_rule ≡ old.track_rule → new.source_map ≡ with_files old.source_map (main ∷ deps)
-      → IfErr r (λ kind. (kind ≡ OutOfMemory) ⊎ Speaks packages kind) → IfErr r (λ kind. RefusesGroups old main deps kind new)
+      → IfErr r (λ kind. (kind ≡ OutOfMemory) ⊎ IsCauseOf packages kind) → IfErr r (λ kind. RefusesGroups old main deps kind new)
   refuses new (Ok id) fits other graph features rule files cause = tt
   refuses new (Err kind) fits other graph features rule files cause = record {
     cause = groups_cause kind cause;
@@ -387,15 +387,15 @@ module _ (old : State) (main : Group) (deps : List Group) (packages : List Hande
 
   -- or they are taken back
   pub takes_back : (new : State) (r : Result ℕ ResolveErrorKind) → r ≡ Err OffsetOverflow → OnErr r (new.graph ≡ old.graph) → new.features ≡ old.features → new.track_rule ≡ old.track_rule → new.source_map ≡ old.source_map
-      → IfErr r (λ kind. (kind ≡ OutOfMemory) ⊎ Speaks packages kind) → IfErr r (λ kind. RefusesGroups old main deps kind new)
+      → IfErr r (λ kind. (kind ≡ OutOfMemory) ⊎ IsCauseOf packages kind) → IfErr r (λ kind. RefusesGroups old main deps kind new)
   takes_back new (Ok id) far graph features rule files cause = tt
   takes_back new (Err kind) far graph features rule files cause =
       let overflow : kind ≡ OffsetOverflow = cc in
       record { cause = groups_cause kind cause; past_end = λ past. inr overflow; graph = graph; features = features; rule = rule; files = files_stay kind old.source_map (with_files old.source_map (main ∷ deps)) new.source_map (inr overflow) files }
 
-  -- what speaks against the groups refuses them
-  pub must_refuse : (P : Type 0) → files_end old.source_map.end (main ∷ deps) < 2 ^ 32 → ((kind : ResolveErrorKind) → Speaks packages kind → P)
+  -- what holds against the groups refuses them
+  pub must_refuse : (P : Type 0) → files_end old.source_map.end (main ∷ deps) < 2 ^ 32 → ((kind : ResolveErrorKind) → IsCauseOf packages kind → P)
       → (kind : ResolveErrorKind) → IsGroupsCause old.features old.graph old.source_map.end (main ∷ deps) kind → P
-  must_refuse P fits all kind (inl cause) = all kind (subst (λ (l : List Handed). Speaks l kind) (sym taken) (inl cause))
-  must_refuse P fits all kind (inr (inl cause)) = all kind (subst (λ (l : List Handed). Speaks l kind) (sym taken) (inr cause))
+  must_refuse P fits all kind (inl cause) = all kind (subst (λ (l : List Unresolved). IsCauseOf l kind) (sym taken) (inl cause))
+  must_refuse P fits all kind (inr (inl cause)) = all kind (subst (λ (l : List Unresolved). IsCauseOf l kind) (sym taken) (inr cause))
   must_refuse P fits all kind (inr (inr far)) = let past = (passing_is old.source_map.end (main ∷ deps) kind far).1 in absurd (omega (arith, fits, past))

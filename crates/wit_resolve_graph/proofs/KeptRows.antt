@@ -1,4 +1,4 @@
--- What is kept beside a graph, after a turn of a world and after packages came.
+-- What is kept beside a graph, after a transformation of a world and after packages came.
 use Rattle.std.proofs.Common.{◌≡◌, ◌∙◌, ℕ, List, [], Bool, Option, None, Some, length, take, slice_get, OnOk, OnErr, Result, Ok, Err, refl, sym, ap, subst}
 use Rattle.std.specs.Option.{option_map_or}
 use Rattle.wit_data.specs.declared.types.TypeDef.{TypeDef}
@@ -9,21 +9,21 @@ use Rattle.wit_graph_data.specs.declared.graph.Graph.{Graph}
 use Rattle.wit_remap.specs.Grown.{Begins, Grown, cut_at, mark_of}
 use Rattle.wit_remap.specs.facts.GrownFacts.{cut_back}
 use Rattle.wit_remap.specs.declared.mark.Mark.{Mark}
-use Rattle.wit_queries.specs.ValidBits.{AreValidBits, TellValidBits}
+use Rattle.wit_queries.specs.ValidBits.{AreValidBits, AreValidBitsOf}
 use Rattle.wit_queries.specs.facts.ValidBitsFacts.{flags_stay}
-use Rattle.wit_transform.specs.Turned.{Turn, turned, turned_at}
+use Rattle.wit_transform.specs.Transformed.{WorldLists, transformed, transformed_at}
 use Rattle.wit_resolve_graph.specs.Kept.{AreKept}
 use Rattle.wit_resolve_graph.specs.declared.kept.Kept.{Kept}
 
--- a turn leaves types and interfaces as they are
+-- a transformation leaves types and interfaces as they are
 pub record LeavesTypes (g new : Graph) : Type 0 where
   pub uses : graph_uses new ≡ graph_uses g
   pub types : new.types ≡ g.types
 
-pub turned_leaves : (g : Graph) (w : ℕ) (turn : World → Turn) → LeavesTypes g (turned g w turn)
-turned_leaves g w turn = of (slice_get g.worlds w)
+pub transformed_leaves : (g : Graph) (w : ℕ) (turn : World → WorldLists) → LeavesTypes g (transformed g w turn)
+transformed_leaves g w turn = of (slice_get g.worlds w)
   where
-    of : (found : Option World) → LeavesTypes g (option_map_or (λ (world : World). turned_at g w world (turn world)) found g)
+    of : (found : Option World) → LeavesTypes g (option_map_or (λ (world : World). transformed_at g w world (turn world)) found g)
     of None = record { uses = refl; types = refl }
     of (Some world) = record { uses = refl; types = refl }
 
@@ -32,16 +32,16 @@ same_kept : (g new : Graph) (kept : Kept) → AreKept g kept → IsValid new →
 same_kept g new kept of valid leaves = record {
   valid = valid;
   uses = of.uses ∙ sym leaves.uses;
-  bits = subst (λ (types : List TypeDef). TellValidBits types kept.valid_bits) (sym leaves.types) of.bits;
+  bits = subst (λ (types : List TypeDef). AreValidBitsOf types kept.valid_bits) (sym leaves.types) of.bits;
 }
 
--- and so where it is turned or the turn is refused
+-- and so where it is transformed or the turn is refused
 pub kept_after : {T E P : Type 0} (r : Result T E) (g new : Graph) (kept : Kept) → AreKept g kept → IsValid new → OnOk r P → (P → LeavesTypes g new) → OnErr r (new ≡ g) → AreKept new kept
 kept_after (Ok x) g new kept of valid told leaves same = same_kept g new kept of valid (leaves told)
 kept_after (Err e) g new kept of valid told leaves same = same_kept g new kept of valid (record { uses = ap graph_uses same; types = ap (λ (h : Graph). h.types) same })
 
-pub kept_turned : {T E : Type 0} (r : Result T E) (g new : Graph) (kept : Kept) (w : ℕ) (turn : World → Turn) → AreKept g kept → IsValid new → OnOk r (new ≡ turned g w turn) → OnErr r (new ≡ g) → AreKept new kept
-kept_turned r g new kept w turn of valid ok = kept_after r g new kept of valid ok (λ is. subst (λ (h : Graph). LeavesTypes g h) (sym is) (turned_leaves g w turn))
+pub kept_transformed : {T E : Type 0} (r : Result T E) (g new : Graph) (kept : Kept) (w : ℕ) (turn : World → WorldLists) → AreKept g kept → IsValid new → OnOk r (new ≡ transformed g w turn) → OnErr r (new ≡ g) → AreKept new kept
+kept_transformed r g new kept w turn of valid ok = kept_after r g new kept of valid ok (λ is. subst (λ (h : Graph). LeavesTypes g h) (sym is) (transformed_leaves g w turn))
 
 -- no flags tell nothing
 pub none_known : (types : List TypeDef) (flags : List Bool) → flags ≡ [] → AreValidBits types flags
@@ -59,9 +59,9 @@ pub kept_cut : (g new after : Graph) (kept left : Kept) (mark : Mark) (count : �
     → (after ≡ cut_at mark new) × ((left.elaborator ≡ take count rows) × (left.valid_bits ≡ kept.valid_bits)) → AreKept after left
 kept_cut g new after kept left mark count rows of grown marked counted begins cut =
     let back : after ≡ g = cut.0 ∙ ap (λ (m : Mark). cut_at m new) marked ∙ cut_back g new grown in
-    let flags : TellValidBits g.types left.valid_bits = subst (λ (flags : List Bool). TellValidBits g.types flags) (sym cut.1.1) of.bits in
+    let flags : AreValidBitsOf g.types left.valid_bits = subst (λ (flags : List Bool). AreValidBitsOf g.types flags) (sym cut.1.1) of.bits in
     record {
       valid = subst IsValid (sym back) of.valid;
       uses = cut.1.0 ∙ ap (λ (n : ℕ). take n rows) counted ∙ begins ∙ of.uses ∙ ap graph_uses (sym back);
-      bits = subst (λ (h : Graph). TellValidBits h.types left.valid_bits) (sym back) flags;
+      bits = subst (λ (h : Graph). AreValidBitsOf h.types left.valid_bits) (sym back) flags;
     }

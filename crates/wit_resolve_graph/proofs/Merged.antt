@@ -8,12 +8,12 @@ use Rattle.wit_graph_data.specs.declared.error_kind.ResolveErrorKind.TheVariants
 use Rattle.wit_graph_data.specs.declared.graph.Graph.{Graph}
 use Rattle.wit_remap.specs.declared.remap.Remap.{Remap}
 use Rattle.wit_merge_spec.specs.Cause.{IsMergeCause}
-use Rattle.wit_merge_spec.specs.Matches.{Merging}
-use Rattle.wit_merge_spec.specs.Moved.{going}
+use Rattle.wit_merge_spec.specs.Matches.{GraphMerge}
+use Rattle.wit_merge_spec.specs.Remapped.{merge_remap}
 use Rattle.wit_merge_spec.specs.United.{united}
-use Rattle.wit_merge_match.specs.Differing.{merging_by}
+use Rattle.wit_merge_match.specs.Differing.{merge_of_graphs_by}
 use Rattle.wit_merge.specs.Remapped.{remap_of}
-use Rattle.wit_resolve_graph.specs.Merging.{FilesPass, Merges, RefusesMerge, merging}
+use Rattle.wit_resolve_graph.specs.Merging.{FilesPass, Merges, RefusesMerge, merge_of}
 use Rattle.wit_resolve_graph.specs.State.{State}
 use Rattle.wit_resolve_graph.proofs.FilesAfter.{files_after, files_stay}
 
@@ -41,26 +41,26 @@ made_one made new now (Err kind) is same = tt
 
 -- the other graph and the offset are those of the states
 module _ (old other : State) (g : Graph) (offset : ℕ) (same : g ≡ other.graph) (starts : offset ≡ old.source_map.end) where
-  one : merging_by old.graph g offset ≡ merging old other
+  one : merge_of_graphs_by old.graph g offset ≡ merge_of old other
   one = rw (same, starts) refl
 
-  caused : (kind : ResolveErrorKind) → (kind ≡ OutOfMemory) ⊎ IsMergeCause (merging_by old.graph g offset) kind → (kind ≡ OutOfMemory) ⊎ (IsMergeCause (merging old other) kind ⊎ FilesPass old other kind)
+  caused : (kind : ResolveErrorKind) → (kind ≡ OutOfMemory) ⊎ IsMergeCause (merge_of_graphs_by old.graph g offset) kind → (kind ≡ OutOfMemory) ⊎ (IsMergeCause (merge_of old other) kind ⊎ FilesPass old other kind)
   caused kind (inl memory) = inl memory
-  caused kind (inr cause) = inr (inl (subst (λ (m : Merging). IsMergeCause m kind) one cause))
+  caused kind (inr cause) = inr (inl (subst (λ (m : GraphMerge). IsMergeCause m kind) one cause))
 
   -- the states are merged
-  pub merges : (new : State) (r : Result Remap ResolveErrorKind) → old.source_map.end + other.source_map.end < 2 ^ 32 → OnOk r (new.graph ≡ united (merging_by old.graph g offset))
-      → IfOk r (λ remap. remap ≡ remap_of (going (merging_by old.graph g offset))) → new.features ≡ old.features → new.track_rule ≡ old.track_rule → new.source_map ≡ with_sources old.source_map other.source_map
-      → ((kind : ResolveErrorKind) → IsMergeCause (merging_by old.graph g offset) kind → OnOk r ⊥) → IfOk r (λ remap. Merges old other remap new)
+  pub merges : (new : State) (r : Result Remap ResolveErrorKind) → old.source_map.end + other.source_map.end < 2 ^ 32 → OnOk r (new.graph ≡ united (merge_of_graphs_by old.graph g offset))
+      → IfOk r (λ remap. remap ≡ remap_of (merge_remap (merge_of_graphs_by old.graph g offset))) → new.features ≡ old.features → new.track_rule ≡ old.track_rule → new.source_map ≡ with_sources old.source_map other.source_map
+      → ((kind : ResolveErrorKind) → IsMergeCause (merge_of_graphs_by old.graph g offset) kind → OnOk r ⊥) → IfOk r (λ remap. Merges old other remap new)
   merges new (Err kind) fits graph remap features rule files refuses = tt
   merges new (Ok remap) fits graph is features rule files refuses = record {
     fits = fits;
-    accepted = λ kind cause. refuses kind (subst (λ (m : Merging). IsMergeCause m kind) (sym one) cause);
+    accepted = λ kind cause. refuses kind (subst (λ (m : GraphMerge). IsMergeCause m kind) (sym one) cause);
     graph = graph ∙ ap united one;
     features = features;
     rule = rule;
     files = files;
-    remap_is = is ∙ ap (λ (m : Merging). remap_of (going m)) one;
+    remap_is = is ∙ ap (λ (m : GraphMerge). remap_of (merge_remap m)) one;
   }
 
   pub never_merged : (new : State) (r : Result Remap ResolveErrorKind) → r ≡ Err OffsetOverflow → IfOk r (λ remap. Merges old other remap new)
@@ -69,7 +69,7 @@ module _ (old other : State) (g : Graph) (offset : ℕ) (same : g ≡ other.grap
 
   -- they are refused, and the files stay at the end
   pub refuses : (new : State) (r : Result Remap ResolveErrorKind) → old.source_map.end + other.source_map.end < 2 ^ 32 → (r ≡ Err OffsetOverflow → ⊥) → OnErr r (new.graph ≡ old.graph) → new.features ≡ old.features → new.track_rule ≡ old.track_rule
-      → new.source_map ≡ with_sources old.source_map other.source_map → IfErr r (λ kind. (kind ≡ OutOfMemory) ⊎ IsMergeCause (merging_by old.graph g offset) kind) → IfErr r (λ kind. RefusesMerge old other kind new)
+      → new.source_map ≡ with_sources old.source_map other.source_map → IfErr r (λ kind. (kind ≡ OutOfMemory) ⊎ IsMergeCause (merge_of_graphs_by old.graph g offset) kind) → IfErr r (λ kind. RefusesMerge old other kind new)
   refuses new (Ok remap) fits apart graph features rule files cause = tt
   refuses new (Err kind) fits apart graph features rule files cause = record {
     cause = caused kind cause;
@@ -82,7 +82,7 @@ module _ (old other : State) (g : Graph) (offset : ℕ) (same : g ≡ other.grap
 
   -- or they are taken back
   pub takes_back : (new : State) (r : Result Remap ResolveErrorKind) → r ≡ Err OffsetOverflow → OnErr r (new.graph ≡ old.graph) → new.features ≡ old.features → new.track_rule ≡ old.track_rule
-      → new.source_map ≡ old.source_map → IfErr r (λ kind. (kind ≡ OutOfMemory) ⊎ IsMergeCause (merging_by old.graph g offset) kind) → IfErr r (λ kind. RefusesMerge old other kind new)
+      → new.source_map ≡ old.source_map → IfErr r (λ kind. (kind ≡ OutOfMemory) ⊎ IsMergeCause (merge_of_graphs_by old.graph g offset) kind) → IfErr r (λ kind. RefusesMerge old other kind new)
   takes_back new (Ok remap) far graph features rule files cause = tt
   takes_back new (Err kind) far graph features rule files cause =
       let overflow : kind ≡ OffsetOverflow = cc in

@@ -18,11 +18,11 @@ use Rattle.std.specs.declared.cmp.Ordering.{Ordering}
 use Rattle.std.specs.declared.cmp.Ordering.TheVariants.{Less, Equal, Greater}
 use Rattle.wit_values.specs.Version.{Parts, version_cmp, version_cmp_total, version_eq, version_ties}
 use Rattle.wit_digraph.specs.facts.MemberFacts.{Contains-cons_cases, Contains-here, Contains-nil, Contains-there}
-use Rattle.wit_digraph.specs.Walks.{first_of_each, walk}
+use Rattle.wit_digraph.specs.PostOrder.{first_of_each, post_order}
 use Rattle.wit_data.specs.facts.PackageNameFacts.{same_name}
 use Rattle.wit_data.specs.PackageOrder.{package_cmp, same_package}
 use Rattle.wit_data.specs.declared.package_name.PackageName.{PackageName}
-use Rattle.wit_link_order.specs.Sorting.{AreSorted, Handed, IsGroupOrder, handed_uses, names_of}
+use Rattle.wit_link_order.specs.GroupOrder.{AreSorted, IsGroupOrder, Unresolved, group_uses, names_of}
 
 -- ---- lists that rise
 
@@ -122,15 +122,15 @@ name_ties a b first second = same_name a b (names_tie a b ∙ neither (package_c
 
 -- ---- one order
 
--- no two handed packages have one name
-abbrev pub Differ : List Handed → Type 0
-Differ handed = (i j : ℕ) (name : PackageName) → i < j → slice_get (names_of handed) i ≡ Some name → slice_get (names_of handed) j ≡ Some name → ⊥
+-- no two unresolved packages have one name
+abbrev pub Differ : List Unresolved → Type 0
+Differ unresolved = (i j : ℕ) (name : PackageName) → i < j → slice_get (names_of unresolved) i ≡ Some name → slice_get (names_of unresolved) j ≡ Some name → ⊥
 
-module _ (handed : List Handed) (differ : Differ handed) where
+module _ (unresolved : List Unresolved) (differ : Differ unresolved) where
   abbrev before : ℕ → ℕ → Bool
-  before x y = is_lt (option_cmp package_cmp (slice_get (names_of handed) x) (slice_get (names_of handed) y))
+  before x y = is_lt (option_cmp package_cmp (slice_get (names_of unresolved) x) (slice_get (names_of unresolved) y))
 
-  pub one_place : (i j : ℕ) (name : PackageName) → slice_get (names_of handed) i ≡ Some name → slice_get (names_of handed) j ≡ Some name → i ≡ j
+  pub one_place : (i j : ℕ) (name : PackageName) → slice_get (names_of unresolved) i ≡ Some name → slice_get (names_of unresolved) j ≡ Some name → i ≡ j
   one_place i j name first second = elim (cases_lt i j) [
     | inl earlier ↦ absurd (differ i j name earlier first second)
     | inr later ↦ elim (cases_lt j i) [
@@ -139,7 +139,7 @@ module _ (handed : List Handed) (differ : Differ handed) where
     ]
   ]
 
-  by_names : (x y : ℕ) (a b : PackageName) → slice_get (names_of handed) x ≡ Some a → slice_get (names_of handed) y ≡ Some b → before x y ≡ false → before y x ≡ false → x ≡ y
+  by_names : (x y : ℕ) (a b : PackageName) → slice_get (names_of unresolved) x ≡ Some a → slice_get (names_of unresolved) y ≡ Some b → before x y ≡ false → before y x ≡ false → x ≡ y
   by_names x y a b x_is y_is first second =
       let one : is_lt (package_cmp a b) ≡ false = rw (x_is, y_is) at first in
       let two : is_lt (package_cmp b a) ≡ false = rw (x_is, y_is) at second in
@@ -150,11 +150,11 @@ module _ (handed : List Handed) (differ : Differ handed) where
   named_at (name ∷ names) zero within = (name, refl)
   named_at (name ∷ names) (suc i) within = named_at names i (omega (arith, within))
 
-  ties : (x y : ℕ) → x < length handed → y < length handed → before x y ≡ false → before y x ≡ false → x ≡ y
+  ties : (x y : ℕ) → x < length unresolved → y < length unresolved → before x y ≡ false → before y x ≡ false → x ≡ y
   ties x y x_in y_in first second =
-      let wide : length (names_of handed) ≡ length handed = length-map handed (λ (p : Handed). p.0.name) in
-      let a = named_at (names_of handed) x (omega (arith, wide, x_in)) in
-      let b = named_at (names_of handed) y (omega (arith, wide, y_in)) in
+      let wide : length (names_of unresolved) ≡ length unresolved = length-map unresolved (λ (p : Unresolved). p.0.name) in
+      let a = named_at (names_of unresolved) x (omega (arith, wide, x_in)) in
+      let b = named_at (names_of unresolved) y (omega (arith, wide, y_in)) in
       by_names x y a.0 b.0 a.1 b.1 first second
 
   range_once : (n k : ℕ) → IsDistinct nat_eq (range_with_len k n)
@@ -166,18 +166,18 @@ module _ (handed : List Handed) (differ : Differ handed) where
       differs zero from k low = tt
       differs (suc n) from k low = (search arith, differs n (from + 1) k (omega (arith, low)))
 
-  roots_rise : (roots : List ℕ) → IsSortedByKey (slice_get (names_of handed)) (option_cmp package_cmp) roots → Rises before roots
-  roots_rise roots sorted = rises before roots (λ i j d low within. sorted_far before (ranks_by (options_total package_total) (slice_get (names_of handed))) roots sorted i j d low within)
+  roots_rise : (roots : List ℕ) → IsSortedByKey (slice_get (names_of unresolved)) (option_cmp package_cmp) roots → Rises before roots
+  roots_rise roots sorted = rises before roots (λ i j d low within. sorted_far before (ranks_by (options_total package_total) (slice_get (names_of unresolved))) roots sorted i j d low within)
 
-  roots_once : (roots : List ℕ) → IsPermutation (range_with_len 0 (length handed)) roots → AreOnce roots
-  roots_once roots all = once roots (IsDistinct-IsPermutation nat_eq nat_eq_equiv.symm (range_with_len 0 (length handed)) roots all (range_once (length handed) 0))
+  roots_once : (roots : List ℕ) → IsPermutation (range_with_len 0 (length unresolved)) roots → AreOnce roots
+  roots_once roots all = once roots (IsDistinct-IsPermutation nat_eq nat_eq_equiv.symm (range_with_len 0 (length unresolved)) roots all (range_once (length unresolved) 0))
 
-  pub one_roots : (xs ys : List ℕ) → IsPermutation (range_with_len 0 (length handed)) xs → IsPermutation (range_with_len 0 (length handed)) ys
-      → IsSortedByKey (slice_get (names_of handed)) (option_cmp package_cmp) xs → IsSortedByKey (slice_get (names_of handed)) (option_cmp package_cmp) ys → xs ≡ ys
+  pub one_roots : (xs ys : List ℕ) → IsPermutation (range_with_len 0 (length unresolved)) xs → IsPermutation (range_with_len 0 (length unresolved)) ys
+      → IsSortedByKey (slice_get (names_of unresolved)) (option_cmp package_cmp) xs → IsSortedByKey (slice_get (names_of unresolved)) (option_cmp package_cmp) ys → xs ≡ ys
   one_roots xs ys all_xs all_ys by_xs by_ys =
-      let range = range_with_len 0 (length handed) in
-      one_list (length handed) before ties xs ys
-      (λ z has. let low = below (length handed) 0 z (Contains-permutation xs range z (IsPermutation-sym range xs all_xs) has) in omega (arith, low))
+      let range = range_with_len 0 (length unresolved) in
+      one_list (length unresolved) before ties xs ys
+      (λ z has. let low = below (length unresolved) 0 z (Contains-permutation xs range z (IsPermutation-sym range xs all_xs) has) in omega (arith, low))
       (λ z has. Contains-permutation range ys z all_ys (Contains-permutation xs range z (IsPermutation-sym range xs all_xs) has))
       (λ z has. Contains-permutation range xs z all_xs (Contains-permutation ys range z (IsPermutation-sym range ys all_ys) has))
       (roots_once xs all_xs) (roots_once ys all_ys) (roots_rise xs by_xs) (roots_rise ys by_ys)
@@ -189,12 +189,12 @@ module _ (handed : List Handed) (differ : Differ handed) where
           omega (arith, long, is, has.1, has.2)
 
   -- the order
-  pub one_order : (xs ys : List ℕ) → IsGroupOrder handed xs → IsGroupOrder handed ys → xs ≡ ys
+  pub one_order : (xs ys : List ℕ) → IsGroupOrder unresolved xs → IsGroupOrder unresolved ys → xs ≡ ys
   one_order xs ys first second =
-      first.is ∙ ap (λ (roots : List ℕ). first_of_each (flat_map (walk (handed_uses handed)) roots)) (one_roots first.roots second.roots first.all second.all first.by_name second.by_name) ∙ sym second.is
+      first.is ∙ ap (λ (roots : List ℕ). first_of_each (flat_map (post_order (group_uses unresolved)) roots)) (one_roots first.roots second.roots first.all second.all first.by_name second.by_name) ∙ sym second.is
 
   -- and the packages in it
-  one_listing : (order : List ℕ) (xs ys : List Handed) → AllZip (λ i (p : Handed). slice_get handed i ≡ Some p) order xs → AllZip (λ i (p : Handed). slice_get handed i ≡ Some p) order ys → xs ≡ ys
+  one_listing : (order : List ℕ) (xs ys : List Unresolved) → AllZip (λ i (p : Unresolved). slice_get unresolved i ≡ Some p) order xs → AllZip (λ i (p : Unresolved). slice_get unresolved i ≡ Some p) order ys → xs ≡ ys
   one_listing [] [] [] first second = refl
   one_listing [] (x ∷ xs) ys first second = absurd first
   one_listing [] [] (y ∷ ys) first second = absurd second
@@ -203,8 +203,8 @@ module _ (handed : List Handed) (differ : Differ handed) where
   one_listing (i ∷ order) (x ∷ xs) (y ∷ ys) first second =
       let both : Some x ≡ Some y = sym first.0 ∙ second.0 in
       let same : x ≡ y = cc in
-      ap (λ (h : Handed). h ∷ xs) same ∙ ap (λ (l : List Handed). y ∷ l) (one_listing order xs ys first.1 second.1)
+      ap (λ (h : Unresolved). h ∷ xs) same ∙ ap (λ (l : List Unresolved). y ∷ l) (one_listing order xs ys first.1 second.1)
 
-  pub one_sorted : (order other : List ℕ) (xs ys : List Handed) → AreSorted handed order xs → AreSorted handed other ys → xs ≡ ys
+  pub one_sorted : (order other : List ℕ) (xs ys : List Unresolved) → AreSorted unresolved order xs → AreSorted unresolved other ys → xs ≡ ys
   one_sorted order other xs ys first second =
-      one_listing order xs ys first.are (subst (λ (l : List ℕ). AllZip (λ i (p : Handed). slice_get handed i ≡ Some p) l ys) (one_order other order second.is_order first.is_order) second.are)
+      one_listing order xs ys first.are (subst (λ (l : List ℕ). AllZip (λ i (p : Unresolved). slice_get unresolved i ≡ Some p) l ys) (one_order other order second.is_order first.is_order) second.are)

@@ -14,25 +14,25 @@ use Rattle.wit_data.specs.declared.world.WorldInclude.{WorldInclude}
 use Rattle.wit_graph_data.specs.declared.graph.Graph.{Graph}
 use Rattle.wit_graph_data.specs.declared.graph.Package.{Package}
 use Rattle.wit_graph_theory.specs.facts.ListFacts.{found_at, same_at, some_at}
-use Rattle.wit_link_order.specs.Sorting.{Handed}
-use Rattle.wit_link_spec.specs.Addition.{Addition, active_includes, addition_maps, own_worlds, world_place}
-use Rattle.wit_link_spec.specs.Include.{Begun, lists_of, with_copies, with_world_included}
-use Rattle.wit_link_spec.specs.Pushed.{begun, finished, new_package, pushed, with_include, with_parts, with_world}
+use Rattle.wit_link_order.specs.GroupOrder.{Unresolved}
+use Rattle.wit_link_spec.specs.Addition.{Addition, active_includes, addition_maps, own_worlds, remapped_world}
+use Rattle.wit_link_spec.specs.Include.{PartiallyLinked, lists_of, with_copies, with_world_included}
+use Rattle.wit_link_spec.specs.Pushed.{linked_world, new_package, pushed, with_all_includes, with_include, with_parts, with_world}
 use Rattle.wit_graph_theory.specs.Image.{Maps, world_image}
 use Rattle.wit_link.specs.Appending.{addition}
 use Rattle.wit_link.specs.Several.{ArePushed}
-use Rattle.wit_merge_spec.specs.Matches.{Merging}
-use Rattle.wit_merge_spec.specs.facts.Staying.{SameHome, SameInterface, SamePackage, SameType}
+use Rattle.wit_merge_spec.specs.Matches.{GraphMerge}
+use Rattle.wit_merge_spec.specs.facts.Unchanged.{SameHome, SameInterface, SamePackage, SameType}
 use Rattle.wit_merge_spec.specs.United.{united}
 use Rattle.wit_merge_laws.specs.facts.KeptFacts.{interfaces_stay, names_stay, packages_stay, types_stay, worlds_stay}
 use Rattle.wit_semver_spec.specs.Rewritten.{rewritten}
-use Rattle.wit_semver_spec.specs.laws.Staying.{IsAlias, SameButLists, SameButTarget, SameKind}
+use Rattle.wit_semver_spec.specs.laws.Unchanged.{IsAlias, SameButLists, SameButTarget, SameKind}
 use Rattle.wit_semver_laws.specs.laws.TrackLaws.{KeepsThings, RewrittenKeep}
-use Rattle.wit_resolve_graph.specs.Merging.{merging}
+use Rattle.wit_resolve_graph.specs.Merging.{merge_of}
 use Rattle.wit_resolve_graph.specs.laws.RunLaws.{Keeps, KeepsType, RunsKeep}
 use Rattle.wit_resolve_graph.specs.State.{State}
 use Rattle.wit_resolve_graph.specs.Step.{Step, answers_at}
-use Rattle.wit_transform.specs.Turned.{Turn, exportized, importized, put_last, turned, turned_at, turned_world, with_renamed}
+use Rattle.wit_transform.specs.Transformed.{WorldLists, exportized, importized, put_last, transformed, transformed_at, transformed_world, with_renamed}
 use Rattle.wit_resolve_graph.specs.declared.command.Command.{Command}
 use Rattle.wit_resolve_graph.specs.declared.command.Command.TheVariants.{AddFeature, SetAllFeatures, SetTrackRule, PushGroups, Merge, Importize, Exportize, Semver}
 use Rattle.wit_resolve_graph.specs.declared.command.Reply.{Reply}
@@ -126,22 +126,22 @@ keeps_copies g from world m = record {
 }
 
 module _ (a : Addition) where
-  keeps_include : (into : ℕ) (b : Begun) (include : WorldInclude) → Keeps b.graph (with_include a into b include).graph
-  keeps_include into b include = by (slice_get b.graph.worlds (world_place a include.id))
+  keeps_include : (into : ℕ) (b : PartiallyLinked) (include : WorldInclude) → Keeps b.graph (with_include a into b include).graph
+  keeps_include into b include = by (slice_get b.graph.worlds (remapped_world a include.id))
     where
-      by : (o : Option World) → Keeps b.graph (option_map_or (λ (world : World). with_world_included (length a.graph.packages) into include.names (world_place a include.id) world b) o b).graph
+      by : (o : Option World) → Keeps b.graph (option_map_or (λ (world : World). with_world_included (length a.graph.packages) into include.names (remapped_world a include.id) world b) o b).graph
       by None = keeps_all b.graph
-      by (Some world) = keeps_copies b.graph (world_place a include.id) world _
+      by (Some world) = keeps_copies b.graph (remapped_world a include.id) world _
 
-  keeps_includes : (into : ℕ) (includes : List WorldInclude) (b : Begun) → Keeps b.graph (fold (with_include a into) b includes).graph
+  keeps_includes : (into : ℕ) (includes : List WorldInclude) (b : PartiallyLinked) → Keeps b.graph (fold (with_include a into) b includes).graph
   keeps_includes into [] b = keeps_all b.graph
   keeps_includes into (include ∷ includes) b =
       keeps_on b.graph (with_include a into b include).graph (fold (with_include a into) (with_include a into b include) includes).graph (keeps_include into b include) (keeps_includes into includes (with_include a into b include))
 
   keeps_world : (g : Graph) (e : ℕ × World) → Keeps g (with_world a g e)
   keeps_world g e =
-      let b = begun a e.0 e.1 g in
-      keeps_on g b.graph (with_world a g e) (keeps_includes (length g.worlds) (active_includes a e.1) (record { graph = g; lists = lists_of (world_image (addition_maps a) e.0 e.1) })) (keeps_with_worlds b.graph (finished a e.0 e.1 b ∷ []))
+      let b = with_all_includes a e.0 e.1 g in
+      keeps_on g b.graph (with_world a g e) (keeps_includes (length g.worlds) (active_includes a e.1) (record { graph = g; lists = lists_of (world_image (addition_maps a) e.0 e.1) })) (keeps_with_worlds b.graph (linked_world a e.0 e.1 b ∷ []))
 
   pub keeps_worlds : (es : List (ℕ × World)) (g : Graph) → Keeps g (fold (with_world a) g es)
   keeps_worlds [] g = keeps_all g
@@ -160,7 +160,7 @@ module _ (a : Addition) where
         names = (_, refl);
       }
 
-pub keeps_pushes : (features : Features) (g : Graph) (ps : List Handed) (new : Graph) (ids : List ℕ) → ArePushed features g ps new ids → Keeps g new
+pub keeps_pushes : (features : Features) (g : Graph) (ps : List Unresolved) (new : Graph) (ids : List ℕ) → ArePushed features g ps new ids → Keeps g new
 keeps_pushes features g [] new [] same = subst (Keeps g) (sym same) (keeps_all g)
 keeps_pushes features g (p ∷ ps) new (id ∷ ids) pushed =
     keeps_on g pushed.0 new (subst (Keeps g) (sym pushed.1.graph_is) (keeps_pushed (addition features g p.0 p.1))) (keeps_pushes features pushed.0 ps new ids pushed.2)
@@ -168,15 +168,15 @@ keeps_pushes features g [] new (id ∷ ids) pushed = absurd pushed
 keeps_pushes features g (p ∷ ps) new [] pushed = absurd pushed
 
 -- a turn keeps it
-module _ (g : Graph) (w : ℕ) (old : World) (turn : Turn) (there : slice_get g.worlds w ≡ Some old) where
-  worlds_turned : (v : ℕ) (world : World) → slice_get g.worlds v ≡ Some world → SomeAt (slice_set g.worlds w (turned_world g old turn)) v (SameHome world)
-  worlds_turned v world at =
-      elim (kept-cases g.worlds w (turned_world g old turn) v world at) [
+module _ (g : Graph) (w : ℕ) (old : World) (turn : WorldLists) (there : slice_get g.worlds w ≡ Some old) where
+  worlds_transformed : (v : ℕ) (world : World) → slice_get g.worlds v ≡ Some world → SomeAt (slice_set g.worlds w (transformed_world g old turn)) v (SameHome world)
+  worlds_transformed v world at =
+      elim (kept-cases g.worlds w (transformed_world g old turn) v world at) [
         | inl same ↦
             let one : world ≡ old = same_at g.worlds v w world old same at there in
-            subst (λ (u : ℕ). SomeAt (slice_set g.worlds w (turned_world g old turn)) u (SameHome world)) (sym same)
-            (some_at (SameHome world) (slice_set g.worlds w (turned_world g old turn)) w (turned_world g old turn) (slice_get-set g.worlds w old (turned_world g old turn) there) (ap (λ (x : World). x.package) (sym one)))
-        | inr stays ↦ some_at (SameHome world) (slice_set g.worlds w (turned_world g old turn)) v world stays refl
+            subst (λ (u : ℕ). SomeAt (slice_set g.worlds w (transformed_world g old turn)) u (SameHome world)) (sym same)
+            (some_at (SameHome world) (slice_set g.worlds w (transformed_world g old turn)) w (transformed_world g old turn) (slice_get-set g.worlds w old (transformed_world g old turn) there) (ap (λ (x : World). x.package) (sym one)))
+        | inr stays ↦ some_at (SameHome world) (slice_set g.worlds w (transformed_world g old turn)) v world stays refl
       ]
 
   packages_renamed : (o : Option ℕ) (i : ℕ) (home : Package) → slice_get g.packages i ≡ Some home → SomeAt (with_renamed g.packages o w turn.name) i (SamePackage home)
@@ -195,21 +195,21 @@ module _ (g : Graph) (w : ℕ) (old : World) (turn : Turn) (there : slice_get g.
             | inr stays ↦ some_at (SamePackage home) (slice_set g.packages p renamed) i home stays (refl, nothing_more home.interfaces)
           ]
 
-  keeps_turned_at : Keeps g (turned_at g w old turn)
-  keeps_turned_at = record {
+  keeps_transformed_at : Keeps g (transformed_at g w old turn)
+  keeps_transformed_at = record {
     types = (keeps_all g).types;
     interfaces = (keeps_all g).interfaces;
-    worlds = worlds_turned;
+    worlds = worlds_transformed;
     packages = packages_renamed old.package;
     names = nothing_more g.package_names;
   }
 
-pub keeps_turned : (g : Graph) (w : ℕ) (f : World → Turn) → Keeps g (turned g w f)
-keeps_turned g w f = by (slice_get g.worlds w) refl
+pub keeps_transformed : (g : Graph) (w : ℕ) (f : World → WorldLists) → Keeps g (transformed g w f)
+keeps_transformed g w f = by (slice_get g.worlds w) refl
   where
-    by : (o : Option World) → slice_get g.worlds w ≡ o → Keeps g (option_map_or (λ (world : World). turned_at g w world (f world)) o g)
+    by : (o : Option World) → slice_get g.worlds w ≡ o → Keeps g (option_map_or (λ (world : World). transformed_at g w world (f world)) o g)
     by None none = keeps_all g
-    by (Some old) there = keeps_turned_at g w old (f old) there
+    by (Some old) there = keeps_transformed_at g w old (f old) there
 
 -- all but the stability, or all but what an alias names, is kept
 but_stability : (old new : TypeDef) → SameType old new → KeepsType old new
@@ -223,7 +223,7 @@ but_target old new same =
     record { rest = same.0 ∙ ap (λ (s : Stability). record old { kind = new.kind; stability = s }) (sym stabilities); kind = same.1 }
 
 -- a merge keeps it
-pub keeps_united : (m : Merging) → Keeps m.graph (united m)
+pub keeps_united : (m : GraphMerge) → Keeps m.graph (united m)
 keeps_united m = record {
   types = λ t def at.
       let there = found_at (SameType def) (united m).types t (types_stay m t def at) in
@@ -277,17 +277,17 @@ keeps_step kept old (PushGroups main deps) reply.NoWorld new step = absurd step
 keeps_step kept old (PushGroups main deps) (reply.Refused error) new step = same_graph old new step.graph
 keeps_step kept old (Merge other) reply.Done new step = absurd step
 keeps_step kept old (Merge other) (reply.Pushed id) new step = absurd step
-keeps_step kept old (Merge other) (reply.Merged remap) new step = subst (Keeps old.graph) (sym step.graph) (keeps_united (merging old other))
+keeps_step kept old (Merge other) (reply.Merged remap) new step = subst (Keeps old.graph) (sym step.graph) (keeps_united (merge_of old other))
 keeps_step kept old (Merge other) reply.NoWorld new step = absurd step
 keeps_step kept old (Merge other) (reply.Refused error) new step = same_graph old new step.graph
 keeps_step kept old (Importize home world out) reply.Done new step =
-    subst (λ (s : State). Keeps old.graph s.graph) (sym step.is_changed) (keeps_turned old.graph step.w (importized out))
+    subst (λ (s : State). Keeps old.graph s.graph) (sym step.is_changed) (keeps_transformed old.graph step.w (importized out))
 keeps_step kept old (Importize home world out) (reply.Pushed id) new step = absurd step
 keeps_step kept old (Importize home world out) (reply.Merged remap) new step = absurd step
 keeps_step kept old (Importize home world out) reply.NoWorld new step = unchanged old new step.1
 keeps_step kept old (Importize home world out) (reply.Refused error) new step = unchanged old new step.same
 keeps_step kept old (Exportize home world out keys) reply.Done new step =
-    subst (λ (s : State). Keeps old.graph s.graph) (sym step.is_changed) (keeps_turned old.graph step.w (exportized (answers_at old keys step.w) out))
+    subst (λ (s : State). Keeps old.graph s.graph) (sym step.is_changed) (keeps_transformed old.graph step.w (exportized (answers_at old keys step.w) out))
 keeps_step kept old (Exportize home world out keys) (reply.Pushed id) new step = absurd step
 keeps_step kept old (Exportize home world out keys) (reply.Merged remap) new step = absurd step
 keeps_step kept old (Exportize home world out keys) reply.NoWorld new step = unchanged old new step.1

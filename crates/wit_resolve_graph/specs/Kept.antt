@@ -3,11 +3,11 @@ use Rattle.std.specs.Prelude.{◌≡◌}
 use Rattle.wit_elaboration.specs.Elaboration.{graph_uses}
 use Rattle.wit_elaboration.specs.Valid.{IsValid}
 use Rattle.wit_graph_data.specs.declared.graph.Graph.{Graph}
-use Rattle.wit_queries.specs.ValidBits.{TellValidBits}
+use Rattle.wit_queries.specs.ValidBits.{AreValidBitsOf}
 use Rattle.wit_resolve_graph.specs.declared.kept.Kept.{Kept}
 
 -- a valid graph, which of its interfaces use which, and of which of its types all bits are valid
 pub record AreKept (graph : Graph) (kept : Kept) : Type 0 where
   pub valid : IsValid graph
   pub uses : kept.elaborator ≡ graph_uses graph
-  pub bits : TellValidBits graph.types kept.valid_bits
+  pub bits : AreValidBitsOf graph.types kept.valid_bits

@@ -5,31 +5,31 @@ use Rattle.wit_graph_data.specs.declared.error_kind.ResolveErrorKind.{ResolveErr
 use Rattle.wit_graph_data.specs.declared.error_kind.ResolveErrorKind.TheVariants.{OffsetOverflow, OutOfMemory}
 use Rattle.wit_remap.specs.declared.remap.Remap.{Remap}
 use Rattle.wit_merge.specs.Remapped.{remap_of}
-use Rattle.wit_merge_spec.specs.Cause.{CanMerge, IsMergeCause}
-use Rattle.wit_merge_spec.specs.Matches.{Merging}
-use Rattle.wit_merge_spec.specs.Moved.{going}
+use Rattle.wit_merge_spec.specs.Cause.{IsMergeCause, MergeIsAccepted}
+use Rattle.wit_merge_spec.specs.Matches.{GraphMerge}
+use Rattle.wit_merge_spec.specs.Remapped.{merge_remap}
 use Rattle.wit_merge_spec.specs.United.{united}
 use Rattle.wit_resolve_graph.specs.State.{State}
 
 -- the graph of another state goes into that of a state; its spans move to the end of the sources, as its files do
-abbrev pub merging : State → State → Merging
-merging old other = record { graph = old.graph; other = other.graph; offset = old.source_map.end }
+abbrev pub merge_of : State → State → GraphMerge
+merge_of old other = record { graph = old.graph; other = other.graph; offset = old.source_map.end }
 
 -- 27: the files of both end past 4294967295
 abbrev pub FilesPass : State → State → ResolveErrorKind → Type 0
 FilesPass old other OffsetOverflow = 2 ^ 32 ≤ old.source_map.end + other.source_map.end
 FilesPass old other _ = ⊥
 
--- another state is merged: its files fit and nothing speaks against it, the graphs are one, its files stand at the end,
+-- another state is merged: its files fit and no cause holds against it, the graphs are one, its files stand at the end,
 -- the features and the rule of tracks stay, and the answer is where its things went
 pub record Merges (old other : State) (remap : Remap) (new : State) : Type 0 where
   pub fits : old.source_map.end + other.source_map.end < 2 ^ 32
-  pub accepted : CanMerge (merging old other)
-  pub graph : new.graph ≡ united (merging old other)
+  pub accepted : MergeIsAccepted (merge_of old other)
+  pub graph : new.graph ≡ united (merge_of old other)
   pub features : new.features ≡ old.features
   pub rule : new.track_rule ≡ old.track_rule
   pub files : new.source_map ≡ with_sources old.source_map other.source_map
-  pub remap_is : remap ≡ remap_of (going (merging old other))
+  pub remap_is : remap ≡ remap_of (merge_remap (merge_of old other))
 
 -- where files are after a refusal, given the sources with those that come: at the end, but after a position that is too
 -- large nowhere, and after want of memory there or not
@@ -40,7 +40,7 @@ HasSourcesAfter _ old added new = new ≡ added
 
 -- a merge is refused with this error
 pub record RefusesMerge (old other : State) (error : ResolveErrorKind) (new : State) : Type 0 where
-  pub cause : (error ≡ OutOfMemory) ⊎ (IsMergeCause (merging old other) error ⊎ FilesPass old other error)
+  pub cause : (error ≡ OutOfMemory) ⊎ (IsMergeCause (merge_of old other) error ⊎ FilesPass old other error)
   -- where the files of both end past 4294967295, no other cause is told
   pub past_end : 2 ^ 32 ≤ old.source_map.end + other.source_map.end → (error ≡ OutOfMemory) ⊎ (error ≡ OffsetOverflow)
   pub graph : new.graph ≡ old.graph

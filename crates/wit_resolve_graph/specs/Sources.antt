@@ -1,5 +1,5 @@
 -- Sources that are parsed and pushed in one call, what comes of them, and how their faults are told.
--- Source: `push_source` and `render_error` of wit-parser 0.263.0; that a parse is handed in, and what is
+-- Source: `push_source` and `render_error` of wit-parser 0.263.0; that a parse comes in, and what is
 -- refused by position, are rules of this project.
 use Rattle.std.specs.Prelude.{◌≡◌, ◌⊎◌, ◌<◌, ◌≤◌, ◌+◌, ◌^◌, ℕ, List, [], ◌∷◌, Option, Result, Ok, Err}
 use Rattle.std.specs.Fn.{Once}
@@ -7,7 +7,7 @@ use Rattle.wit_sources.specs.SourceMap.{Sources, end_after, with_file, with_sour
 use Rattle.wit_sources.specs.Span.{end_of, moved_by}
 use Rattle.wit_sources.specs.declared.source_map.SourceFile.{SourceFile}
 use Rattle.wit_data.specs.declared.unresolved.UnresolvedPackageGroup.{UnresolvedPackageGroup}
-use Rattle.wit_graph_data.specs.Rendered.{rendered, text_at}
+use Rattle.wit_graph_data.specs.RenderedText.{rendered_text, text_at}
 use Rattle.wit_graph_data.specs.declared.error_kind.ResolveErrorKind.{ResolveErrorKind}
 use Rattle.wit_graph_data.specs.declared.error_kind.ResolveErrorKind.TheVariants.{OffsetOverflow, OutOfMemory}
 use Rattle.wit_link.specs.Groups.{IsGroupsCause}
@@ -25,23 +25,23 @@ only_file path contents = with_file (record { files = []; end = 0 }) path conten
 -- a fault as it is told: at its place, or as the error that it is
 abbrev pub fault_rendered : List SourceFile → SourceFault → List ℕ
 fault_rendered files (fault.Parse span message) = text_at files span message
-fault_rendered files (fault.Resolve kind) = rendered files kind
+fault_rendered files (fault.Resolve kind) = rendered_text files kind
 
 -- ---- a text that can't be read
 
 -- its files, or its place in them, would go past the last position where they follow what is there
-abbrev pub PassesTheEnd : State → Sources → Option (ℕ × ℕ) → Type 0
-PassesTheEnd old files span = (2 ^ 32 ≤ old.source_map.end + files.end) ⊎ (2 ^ 32 ≤ end_of span + old.source_map.end)
+abbrev pub FaultOverflows : State → Sources → Option (ℕ × ℕ) → Type 0
+FaultOverflows old files span = (2 ^ 32 ≤ old.source_map.end + files.end) ⊎ (2 ^ 32 ≤ end_of span + old.source_map.end)
 
 -- its files follow what is there, and its place is moved with them
 pub record IsPlaced (old : State) (files : Sources) (span : Option (ℕ × ℕ)) (message : List ℕ) (told : SourceFault) (new : State) : Type 0 where
   pub told_is : told ≡ fault.Parse (moved_by old.source_map.end span) message
   pub placed : new ≡ record old { source_map = with_sources old.source_map files }
-  pub fits : PassesTheEnd old files span → ⊥
+  pub fits : FaultOverflows old files span → ⊥
 
 -- there is no room for its files (27, and 28 for memory), and nothing has changed
 pub record IsNotPlaced (old : State) (files : Sources) (span : Option (ℕ × ℕ)) (told : SourceFault) (new : State) : Type 0 where
-  pub cause : (told ≡ fault.Resolve OutOfMemory) ⊎ ((told ≡ fault.Resolve OffsetOverflow) × PassesTheEnd old files span)
+  pub cause : (told ≡ fault.Resolve OutOfMemory) ⊎ ((told ≡ fault.Resolve OffsetOverflow) × FaultOverflows old files span)
   pub same : new ≡ old
 
 -- ---- what comes of what a parse answered
@@ -58,10 +58,10 @@ pub record RefusesAnswer (old : State) (group : UnresolvedPackageGroup) (told : 
   pub refuses : RefusesGroups old group [] kind new
 
 -- what is told of an answer, where no package comes of it
-abbrev pub TellsAnswer : State → Result UnresolvedPackageGroup ParseFault → SourceFault → State → Type 0
-TellsAnswer old (Ok group) told new = RefusesAnswer old group told new
-TellsAnswer old (Err (parse.Text files span message)) told new = IsPlaced old files span message told new ⊎ IsNotPlaced old files span told new
-TellsAnswer old (Err parse.OutOfMemory) told new = (told ≡ fault.Resolve OutOfMemory) × (new ≡ old)
+abbrev pub RefusesParse : State → Result UnresolvedPackageGroup ParseFault → SourceFault → State → Type 0
+RefusesParse old (Ok group) told new = RefusesAnswer old group told new
+RefusesParse old (Err (parse.Text files span message)) told new = IsPlaced old files span message told new ⊎ IsNotPlaced old files span told new
+RefusesParse old (Err parse.OutOfMemory) told new = (told ≡ fault.Resolve OutOfMemory) × (new ≡ old)
 
 -- there is no source for the parse: it would go past the last position (27), or memory is wanted (28)
 abbrev pub IsNoSource : List ℕ → SourceFault → Type 0
@@ -83,7 +83,7 @@ module _ {F : Type 0} (calls : Once F (Sources × Unit {0}) (Result UnresolvedPa
   pub record RefusesParsed (old : State) (path contents : List ℕ) (told : SourceFault) (new : State) : Type 0 where
     pub answer : Result UnresolvedPackageGroup ParseFault
     pub given : MayParse path contents answer
-    pub tells : TellsAnswer old answer told new
+    pub tells : RefusesParse old answer told new
 
   -- a source is refused, before the parse or after it
   abbrev pub RefusesSource : State → List ℕ → List ℕ → SourceFault → State → Type 0

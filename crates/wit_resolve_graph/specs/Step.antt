@@ -16,13 +16,13 @@ use Rattle.wit_graph_data.specs.declared.error_kind.ResolveErrorKind.TheVariants
 use Rattle.wit_graph_data.specs.declared.features.Features.{Features}
 use Rattle.wit_link.specs.Groups.{IsGroupsCause, files_end, packages_of}
 use Rattle.wit_link.specs.Several.{ArePushed}
-use Rattle.wit_link_order.specs.Sorting.{AreSorted, Handed, IsSortCause}
+use Rattle.wit_link_order.specs.GroupOrder.{AreSorted, IsSortCause, Unresolved}
 use Rattle.wit_resolve_graph.specs.Merging.{HasSourcesAfter, Merges, RefusesMerge}
 use Rattle.wit_resolve_graph.specs.Named.{HasWorld}
 use Rattle.wit_semver_spec.specs.Rewritten.{rewritten}
 use Rattle.wit_semver_spec.specs.TrackCause.{IsTrackCause}
-use Rattle.wit_transform.specs.TurnCause.{IsExportizeCause, IsImportizeCause, imports_at}
-use Rattle.wit_transform.specs.Turned.{exportized, importized, turned}
+use Rattle.wit_transform.specs.TransformCause.{IsExportizeCause, IsImportizeCause, imports_at}
+use Rattle.wit_transform.specs.Transformed.{exportized, importized, transformed}
 use Rattle.wit_resolve_graph.specs.State.{State}
 use Rattle.wit_resolve_graph.specs.declared.command.Command.{Command}
 use Rattle.wit_resolve_graph.specs.declared.command.Command.TheVariants.{AddFeature, SetAllFeatures, SetTrackRule, PushGroups, Merge, Importize, Exportize, Semver}
@@ -43,11 +43,11 @@ with_files sources [] = sources
 with_files sources (group ∷ groups) = with_files (with_sources sources group.source_map) groups
 
 -- groups are added: their packages in order, dependencies first, their files at the end, main group first,
--- and the answer is the id of the main group's main package; nothing speaks against their order, against
+-- and the answer is the id of the main group's main package; no cause holds against their order, against
 -- the end of their files or against a package
 pub record PushesGroups (old : State) (main : UnresolvedPackageGroup) (deps : List UnresolvedPackageGroup) (id : ℕ) (new : State) : Type 0 where
   pub order : List ℕ
-  pub sorted : List Handed
+  pub sorted : List Unresolved
   pub ids : List ℕ
   pub place : ℕ
   pub sortable : (error : ResolveErrorKind) → IsSortCause (packages_of old.source_map.end (main ∷ deps)) error → ⊥
@@ -76,19 +76,19 @@ pub record RefusesGroups (old : State) (main : UnresolvedPackageGroup) (deps : L
 abbrev pub IsAbsent : State → PackageName → List ℕ → Type 0
 IsAbsent state home name = (w : ℕ) → HasWorld state.graph home name w → ⊥
 
--- the graph is changed at the world of a name in a package of a name: nothing speaks against it, and all else is as
+-- the graph is changed at the world of a name in a package of a name: no cause holds against it, and all else is as
 -- it was
-pub record Changes (old : State) (home : PackageName) (world : List ℕ) (changed : ℕ → Graph) (Speaks : ℕ → ResolveErrorKind → Type 0) (new : State) : Type 0 where
+pub record Transforms (old : State) (home : PackageName) (world : List ℕ) (changed : ℕ → Graph) (IsCauseOf : ℕ → ResolveErrorKind → Type 0) (new : State) : Type 0 where
   pub w : ℕ
   pub there : HasWorld old.graph home world w
-  pub accepted : (error : ResolveErrorKind) → Speaks w error → ⊥
+  pub accepted : (error : ResolveErrorKind) → IsCauseOf w error → ⊥
   pub is_changed : new ≡ record old { graph = changed w }
 
 -- a change is refused, and nothing has changed
-pub record RefusesChange (old : State) (home : PackageName) (world : List ℕ) (Speaks : ℕ → ResolveErrorKind → Type 0) (error : ResolveErrorKind) (new : State) : Type 0 where
+pub record RefusesTransform (old : State) (home : PackageName) (world : List ℕ) (IsCauseOf : ℕ → ResolveErrorKind → Type 0) (error : ResolveErrorKind) (new : State) : Type 0 where
   pub w : ℕ
   pub there : HasWorld old.graph home world w
-  pub cause : (error ≡ OutOfMemory) ⊎ Speaks w error
+  pub cause : (error ≡ OutOfMemory) ⊎ IsCauseOf w error
   pub same : new ≡ old
 
 -- what names a key is listed; without a list all are
@@ -96,11 +96,11 @@ abbrev pub is_listed_key : Graph → Option (List (List ℕ)) → WorldKey → B
 is_listed_key g None k = true
 is_listed_key g (Some keys) k = list_any (bytes_eq (key_text g.packages g.interfaces k)) keys
 
--- so of each of some entries
+-- for each of some entries, whether what names its key is listed
 abbrev pub listed_answers : Graph → Option (List (List ℕ)) → List Entry → List Bool
 listed_answers g keys entries = map (λ (e : Entry). is_listed_key g keys e.0) entries
 
--- and of the imports of world w
+-- for each import of world w, whether what names its key is listed
 abbrev pub answers_at : State → Option (List (List ℕ)) → ℕ → List Bool
 answers_at state keys w = listed_answers state.graph keys (imports_at state.graph w)
 
@@ -126,17 +126,17 @@ Step old (Merge other) (Merged remap) new = Merges old other remap new
 Step old (Merge other) (Refused error) new = RefusesMerge old other error new
 Step old (Merge other) _ new = ⊥
 Step old (Importize home world out) NoWorld new = IsAbsent old home world × (new ≡ old)
-Step old (Importize home world out) Done new = Changes old home world (λ w. turned old.graph w (importized out)) (λ w. IsImportizeCause old.graph w out) new
-Step old (Importize home world out) (Refused error) new = RefusesChange old home world (λ w. IsImportizeCause old.graph w out) error new
+Step old (Importize home world out) Done new = Transforms old home world (λ w. transformed old.graph w (importized out)) (λ w. IsImportizeCause old.graph w out) new
+Step old (Importize home world out) (Refused error) new = RefusesTransform old home world (λ w. IsImportizeCause old.graph w out) error new
 Step old (Importize home world out) _ new = ⊥
 Step old (Exportize home world out keys) NoWorld new = IsAbsent old home world × (new ≡ old)
 Step old (Exportize home world out keys) Done new =
-    Changes old home world (λ w. turned old.graph w (exportized (answers_at old keys w) out)) (λ w. IsExportizeCause old.graph w (answers_at old keys w) out) new
-Step old (Exportize home world out keys) (Refused error) new = RefusesChange old home world (λ w. IsExportizeCause old.graph w (answers_at old keys w) out) error new
+    Transforms old home world (λ w. transformed old.graph w (exportized (answers_at old keys w) out)) (λ w. IsExportizeCause old.graph w (answers_at old keys w) out) new
+Step old (Exportize home world out keys) (Refused error) new = RefusesTransform old home world (λ w. IsExportizeCause old.graph w (answers_at old keys w) out) error new
 Step old (Exportize home world out keys) _ new = ⊥
 Step old (Semver home world) NoWorld new = IsAbsent old home world × (new ≡ old)
-Step old (Semver home world) Done new = Changes old home world (rewritten old.track_rule old.graph) (IsTrackCause old.track_rule old.graph) new
-Step old (Semver home world) (Refused error) new = RefusesChange old home world (IsTrackCause old.track_rule old.graph) error new
+Step old (Semver home world) Done new = Transforms old home world (rewritten old.track_rule old.graph) (IsTrackCause old.track_rule old.graph) new
+Step old (Semver home world) (Refused error) new = RefusesTransform old home world (IsTrackCause old.track_rule old.graph) error new
 Step old (Semver home world) _ new = ⊥
 
 -- one step after another, with one reply to each command

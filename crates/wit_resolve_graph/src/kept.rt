@@ -7,7 +7,7 @@ ghost use Rattle.wit_data.specs.Shape.{IsShaped};
 ghost use Rattle.wit_link_spec.specs.Cause.{IsCause};
 ghost use Rattle.wit_link.specs.Appending.{IsAdded, addition};
 ghost use Rattle.wit_remap.specs.Grown.{cut_at};
-ghost use Rattle.wit_queries.specs.ValidBits.{AreValidBits, TellValidBits};
+ghost use Rattle.wit_queries.specs.ValidBits.{AreValidBits, AreValidBitsOf};
 ghost use Rattle.wit_resolve_graph.specs.Kept.{AreKept};
 
 use std::alloc::{AllocError, Global};
@@ -63,7 +63,7 @@ impl Kept {
     ) -> Result<(), AllocError>
         requires first { length self.old.valid_bits ≤ length graph.old.types }
         requires known { AreValidBits graph.old.types self.old.valid_bits }
-        ensures ok { OnOk result ((graph.new ≡ graph.old) × ((self.new.elaborator ≡ self.old.elaborator) × TellValidBits graph.new.types self.new.valid_bits)) }
+        ensures ok { OnOk result ((graph.new ≡ graph.old) × ((self.new.elaborator ≡ self.old.elaborator) × AreValidBitsOf graph.new.types self.new.valid_bits)) }
         ensures err { OnErr result ((graph.new ≡ cut_at mark graph.old) × ((self.new.elaborator ≡ take rows self.old.elaborator) × (self.new.valid_bits ≡ self.old.valid_bits))) }
     {
         let added = add_valid_bits(alloc, &mut self.valid_bits, graph.types.as_slice());

@@ -23,11 +23,11 @@ mod groups;
 mod kept;
 pub mod laws;
 mod push_source;
-mod questions;
+mod queries;
 mod resolve;
 mod running;
 mod sources;
-mod turning;
+mod transformations;
 mod uniting;
 
 pub use crate::command::{Command, Reply};

@@ -26,7 +26,7 @@ impl Resolve {
     /// packages are as before after a fault, and so are the sources but for files that are added so or stay as
     /// `push_group` says.
     ///
-    /// Source: `push_source` of wit-parser 0.263.0; that a parse is handed in is a rule of this project.
+    /// Source: `push_source` of wit-parser 0.263.0; that a parse comes in is a rule of this project.
     pub fn push_source<F: FnOnce(SourceMap) -> Result<UnresolvedPackageGroup, ParseFault> + Drop>(
         &mut self,
         alloc: Global,

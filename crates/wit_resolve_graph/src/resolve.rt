@@ -12,15 +12,15 @@ ghost use Rattle.wit_link_spec.specs.Cause.{IsCause};
 ghost use Rattle.wit_link.specs.Appending.{IsAdded, addition};
 ghost use Rattle.wit_link.specs.Groups.{IsGroupsCause};
 ghost use Rattle.wit_merge_spec.specs.Cause.{IsMergeCause};
-ghost use Rattle.wit_queries.specs.ValidBits.{TellValidBits};
-ghost use Rattle.wit_selection.specs.Selection.{IsSaid, selected_world};
-ghost use Rattle.wit_resolve_graph.specs.Merging.{FilesPass, Merges, RefusesMerge, merging};
+ghost use Rattle.wit_queries.specs.ValidBits.{AreValidBitsOf};
+ghost use Rattle.wit_selection.specs.Selection.{IsSelectionError, selected_world};
+ghost use Rattle.wit_resolve_graph.specs.Merging.{FilesPass, Merges, RefusesMerge, merge_of};
 ghost use Rattle.wit_resolve_graph.specs.State.{new_state};
 ghost use Rattle.wit_resolve_graph.specs.Step.{PushesGroups, RefusesGroups, with_feature};
 ghost use Rattle.wit_semver_spec.specs.Rewritten.{rewritten};
 ghost use Rattle.wit_semver_spec.specs.TrackCause.{IsTrackCause};
-ghost use Rattle.wit_transform.specs.TurnCause.{AreAnswers, Exportizes, IsExportizeCause, IsImportizeCause, RefusesExportize, imports_at};
-ghost use Rattle.wit_transform.specs.Turned.{exportized, importized, turned};
+ghost use Rattle.wit_transform.specs.TransformCause.{AreAnswers, Exportizes, IsExportizeCause, IsImportizeCause, RefusesExportize, imports_at};
+ghost use Rattle.wit_transform.specs.Transformed.{exportized, importized, transformed};
 
 use crate::groups::{add_packages, place_groups};
 use crate::kept::{Kept, append_kept};
@@ -180,7 +180,7 @@ impl Resolve {
 
     /// Of which types all bits are valid, a flag for each.
     pub(crate) fn valid_bits(&self) -> &[bool]
-        ensures { TellValidBits self.now.graph.types result.now }
+        ensures { AreValidBitsOf self.now.graph.types result.now }
     {
         self.kept.valid_bits.as_slice()
     }
@@ -333,7 +333,7 @@ impl Resolve {
     pub fn merge(&mut self, alloc: Global, mut other: Resolve) -> ResolveResult<Remap>
         ensures ok { IfOk result (λ remap. Merges self.old other remap self.new) }
         ensures err { IfErr result (λ kind. RefusesMerge self.old other kind self.new) }
-        ensures refuses { (kind : ResolveErrorKind) → IsMergeCause (merging self.old other) kind ⊎ FilesPass self.old other kind → OnOk result ⊥ }
+        ensures refuses { (kind : ResolveErrorKind) → IsMergeCause (merge_of self.old other) kind ⊎ FilesPass self.old other kind → OnOk result ⊥ }
     {
         let len = self.source_map.len();
         let end = self.source_map.end();
@@ -363,7 +363,7 @@ impl Resolve {
     ) -> ResolveResult<WorldId>
         ensures ok { IfOk result (λ id. selected_world self.now.graph main_packages.now (option_copied world.entry) ≡ Ok id) }
         ensures within { IfOk result (λ id. id < length self.now.graph.worlds) }
-        ensures err { IfErr result (IsSaid (selected_world self.now.graph main_packages.now (option_copied world.entry))) }
+        ensures err { IfErr result (IsSelectionError (selected_world self.now.graph main_packages.now (option_copied world.entry))) }
     {
         select_world(alloc, self.graph(), main_packages, world)
     }
@@ -413,7 +413,7 @@ impl Resolve {
         out: Option<String>,
     ) -> ResolveResult<()>
         requires { world < length self.old.graph.worlds }
-        ensures ok { OnOk result (self.new ≡ record self.old { graph = turned self.old.graph world (importized (option_map string_bytes out)) }) }
+        ensures ok { OnOk result (self.new ≡ record self.old { graph = transformed self.old.graph world (importized (option_map string_bytes out)) }) }
         ensures err { OnErr result (self.new ≡ self.old) }
         ensures cause { IfErr result (λ kind. (kind ≡ OutOfMemory) ⊎ IsImportizeCause self.old.graph world (option_map string_bytes out) kind) }
         ensures refuses { (kind : ResolveErrorKind) → IsImportizeCause self.old.graph world (option_map string_bytes out) kind → OnOk result ⊥ }
@@ -456,7 +456,7 @@ impl Resolve {
     ) -> ResolveResult<()>
         requires world { world < length self.old.graph.worlds }
         requires answers { length answers.now ≡ length (imports_at self.old.graph world) }
-        ensures ok { OnOk result (self.new ≡ record self.old { graph = turned self.old.graph world (exportized answers.now (option_map string_bytes out)) }) }
+        ensures ok { OnOk result (self.new ≡ record self.old { graph = transformed self.old.graph world (exportized answers.now (option_map string_bytes out)) }) }
         ensures err { OnErr result (self.new ≡ self.old) }
         ensures cause { IfErr result (λ kind. (kind ≡ OutOfMemory) ⊎ IsExportizeCause self.old.graph world answers.now (option_map string_bytes out) kind) }
         ensures refuses { (kind : ResolveErrorKind) → IsExportizeCause self.old.graph world answers.now (option_map string_bytes out) kind → OnOk result ⊥ }

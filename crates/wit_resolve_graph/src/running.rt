@@ -8,7 +8,7 @@ ghost use Rattle.wit_resolve_graph.specs.declared.command.Command.TheVariants.{A
 
 use crate::command::{Command, Reply};
 use crate::resolve::Resolve;
-use crate::turning::{exportize, importize, merge_world_imports};
+use crate::transformations::{exportize, importize, merge_world_imports};
 use std::alloc::Global;
 use wit_data::Text;
 use wit_graph_data::ResolveResult;

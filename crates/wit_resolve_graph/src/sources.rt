@@ -2,7 +2,7 @@
 ghost use Rattle.std.specs.Prelude.{◌≡◌, IfErr, IfOk, string_bytes};
 ghost use Rattle.wit_graph_data.specs.declared.error_kind.ResolveErrorKind.TheVariants.{OutOfMemory};
 ghost use Rattle.wit_resolve_graph.specs.Sources.{fault_rendered};
-ghost use Rattle.wit_sources.specs.Shown.{location_of};
+ghost use Rattle.wit_sources.specs.Locations.{location_of};
 
 use crate::resolve::Resolve;
 use std::alloc::Global;

@@ -1,11 +1,11 @@
 //! Another graph that goes into the one that a `Resolve` keeps.
 ghost use Rattle.std.specs.Prelude.{◌≡◌, ◌⊎◌, IfErr, IfOk, OnErr, OnOk};
-ghost use Rattle.wit_merge_match.specs.Differing.{merging_by};
+ghost use Rattle.wit_merge_match.specs.Differing.{merge_of_graphs_by};
 ghost use Rattle.wit_elaboration.specs.Valid.{IsValid};
 ghost use Rattle.wit_graph_data.specs.declared.error_kind.ResolveErrorKind.{ResolveErrorKind};
 ghost use Rattle.wit_graph_data.specs.declared.error_kind.ResolveErrorKind.TheVariants.{OutOfMemory};
 ghost use Rattle.wit_merge_spec.specs.Cause.{IsMergeCause};
-ghost use Rattle.wit_merge_spec.specs.Moved as moved;
+ghost use Rattle.wit_merge_spec.specs.Remapped as moved;
 ghost use Rattle.wit_merge_spec.specs.United.{united};
 ghost use Rattle.wit_merge.specs.Remapped.{remap_of};
 ghost use Rattle.wit_resolve_graph.specs.Kept.{AreKept};
@@ -28,12 +28,12 @@ pub(crate) fn unite_kept(
 ) -> ResolveResult<Remap>
     requires kept { AreKept graph.old kept.old }
     requires other { IsValid other.now }
-    ensures graph { OnOk result (graph.new ≡ united (merging_by graph.old other.now offset)) }
-    ensures remap { IfOk result (λ remap. remap ≡ remap_of (moved.going (merging_by graph.old other.now offset))) }
+    ensures graph { OnOk result (graph.new ≡ united (merge_of_graphs_by graph.old other.now offset)) }
+    ensures remap { IfOk result (λ remap. remap ≡ remap_of (moved.merge_remap (merge_of_graphs_by graph.old other.now offset))) }
     ensures kept { AreKept graph.new kept.new }
     ensures err { OnErr result (graph.new ≡ graph.old) }
-    ensures cause { IfErr result (λ kind. (kind ≡ OutOfMemory) ⊎ IsMergeCause (merging_by graph.old other.now offset) kind) }
-    ensures refuses { (kind : ResolveErrorKind) → IsMergeCause (merging_by graph.old other.now offset) kind → OnOk result ⊥ }
+    ensures cause { IfErr result (λ kind. (kind ≡ OutOfMemory) ⊎ IsMergeCause (merge_of_graphs_by graph.old other.now offset) kind) }
+    ensures refuses { (kind : ResolveErrorKind) → IsMergeCause (merge_of_graphs_by graph.old other.now offset) kind → OnOk result ⊥ }
 {
     let made = union_of(alloc, graph, other, offset)?;
     let rows = Kept::of(alloc, &made.graph)?;

@@ -1,5 +1,5 @@
 //! Calls beside any `Resolve`, each once with ample memory: packages are added to a bare graph, and labels are renamed.
-use crate::parts::{assert_told, package, text};
+use crate::parts::{assert_text, package, text};
 use std::alloc::Global;
 use std::fmt::Write;
 use std::process::Abort;
@@ -35,7 +35,7 @@ fn places(rt: &impl Abort, alloc: Global) -> String {
 
 #[test]
 fn a_bare_graph_takes_packages(rt: HostRuntime) {
-    assert_told(&rt, places(&rt, rt.alloc()), "0 1 2 of 3");
+    assert_text(&rt, places(&rt, rt.alloc()), "0 1 2 of 3");
 }
 
 /// What labels are after `k` was renamed to `key`, with a dash for those that it isn't of.
@@ -57,7 +57,7 @@ fn labels(rt: &impl Abort, alloc: Global) -> String {
 
 #[test]
 fn a_label_is_renamed_by_its_word(rt: HostRuntime) {
-    assert_told(
+    assert_text(
         &rt,
         labels(&rt, rt.alloc()),
         " key [set]key [method]key.go - -",

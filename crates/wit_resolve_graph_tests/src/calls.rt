@@ -1,6 +1,6 @@
-//! Calls that nothing else makes, each once with ample memory: what was handed in is asked for by its place, and what
+//! Calls that nothing else makes, each once with ample memory: what came in is asked for by its place, and what
 //! an error is, is written.
-use crate::parts::{assert_told, list, package, string, text, world};
+use crate::parts::{assert_text, list, package, string, text, world};
 use std::alloc::Global;
 use std::fmt::Write;
 use std::process::Abort;
@@ -93,7 +93,7 @@ fn answers(rt: &impl Abort, alloc: Global) -> String {
 
 #[test]
 fn what_was_handed_in_is_found_or_left_out(rt: HostRuntime) {
-    assert_told(
+    assert_text(
         &rt,
         answers(&rt, rt.alloc()),
         "5 11 at 3-4 11 at 3-4 12 at 3-4 11 at 3-4 12 at 3-4",
@@ -129,7 +129,7 @@ fn version_parts(rt: &impl Abort, alloc: Global) -> String {
 
 #[test]
 fn versions_have_their_parts(rt: HostRuntime) {
-    assert_told(
+    assert_text(
         &rt,
         version_parts(&rt, rt.alloc()),
         "1.2.3-rc.1+b 1 2 3 rc.1 b",
@@ -183,5 +183,5 @@ fn written_error(rt: &impl Abort, alloc: Global) -> String {
 
 #[test]
 fn errors_are_written_anew(rt: HostRuntime) {
-    assert_told(&rt, written_error(&rt, rt.alloc()), "26 worse");
+    assert_text(&rt, written_error(&rt, rt.alloc()), "26 worse");
 }

@@ -1,7 +1,7 @@
 //! Refused merges of two graphs, and of the imports of a world, where something would depend on itself or doesn't
 //! agree: what is told, and that all but the files is as before. Of those on a cycle any may be named; here stands the
 //! one that is.
-use crate::parts::{assert_told, string};
+use crate::parts::{assert_text, string};
 use crate::scripts::pushed;
 use crate::shown::shown;
 use crate::told::told;
@@ -96,7 +96,7 @@ const MERGES: [(&str, &str, &str); 4] = [
 #[test]
 fn refused_merges_change_only_the_files(rt: HostRuntime) {
     for &(script, other, wanted) in &MERGES {
-        assert_told(&rt, refused_merge(&rt, rt.alloc(), script, other), wanted);
+        assert_text(&rt, refused_merge(&rt, rt.alloc(), script, other), wanted);
     }
 }
 
@@ -233,6 +233,6 @@ const UPGRADES: [(&str, &str); 5] = [
 #[test]
 fn refused_upgrades_change_nothing(rt: HostRuntime) {
     for &(script, wanted) in &UPGRADES {
-        assert_told(&rt, refused_upgrade(&rt, rt.alloc(), script), wanted);
+        assert_text(&rt, refused_upgrade(&rt, rt.alloc(), script), wanted);
     }
 }

@@ -1,6 +1,6 @@
 //! The last position, and one past it: of spans that move with their package, and of files.
 use crate::groups::push_two;
-use crate::parts::{assert_told, file, group, interface, interface_list, package};
+use crate::parts::{assert_text, file, group, interface, interface_list, package};
 use crate::shown::shown;
 use crate::told::{first, told, write_files};
 use std::alloc::Global;
@@ -10,7 +10,7 @@ use wit_data::{SourceMap, Span, UnresolvedPackage};
 use wit_resolve_graph::{Resolve, Shape};
 
 /// A package with an interface that has this span.
-fn spanned(rt: &impl Abort, alloc: Global, name: &str, span: Span) -> UnresolvedPackage {
+fn text_between(rt: &impl Abort, alloc: Global, name: &str, span: Span) -> UnresolvedPackage {
     let mut i = interface(rt, alloc, "i", &[]);
     i.span = span;
     let mut made = package(rt, alloc, name, "");
@@ -22,7 +22,7 @@ fn spanned(rt: &impl Abort, alloc: Global, name: &str, span: Span) -> Unresolved
 fn pushed_at(rt: &impl Abort, alloc: Global, span: Span, offset: u32) -> String {
     let mut resolve = Resolve::new(alloc);
     let before = shown(rt, alloc, resolve.graph());
-    let made = spanned(rt, alloc, "main", span);
+    let made = text_between(rt, alloc, "main", span);
     assert!(rt; made.is_shaped(alloc).expect(rt, "memory"));
     match resolve.push(alloc, made, offset) {
         Ok(_) => shown(rt, alloc, resolve.graph()),
@@ -37,7 +37,7 @@ const PASSED: &str = "27 at 0-0\n\
 #[test]
 fn spans_move_up_to_the_last_position(rt: HostRuntime) {
     let alloc = rt.alloc();
-    assert_told(
+    assert_text(
         &rt,
         pushed_at(&rt, alloc, Span::new(8, 10), 4294967285),
         "package 0 foo:main\n\
@@ -45,12 +45,12 @@ fn spans_move_up_to_the_last_position(rt: HostRuntime) {
         named foo:main 0\n\
         interface 0 i of package 0 at 4294967293-4294967295\n",
     );
-    assert_told(
+    assert_text(
         &rt,
         pushed_at(&rt, alloc, Span::new(8, 10), 4294967286),
         PASSED,
     );
-    assert_told(
+    assert_text(
         &rt,
         pushed_at(&rt, alloc, Span::unknown(), 4294967295),
         "package 0 foo:main\n\
@@ -80,12 +80,12 @@ fn file_at_the_end(rt: &impl Abort, alloc: Global, contents: &str) -> String {
 
 #[test]
 fn files_stand_up_to_the_last_position(rt: HostRuntime) {
-    assert_told(
+    assert_text(
         &rt,
         file_at_the_end(&rt, rt.alloc(), "1234"),
         "at 4294967290, files m.wit to 4294967295;27, files m.wit to 4294967295;",
     );
-    assert_told(
+    assert_text(
         &rt,
         file_at_the_end(&rt, rt.alloc(), "12345"),
         "27, files to 4294967290;27, files to 4294967290;",
@@ -96,9 +96,9 @@ fn files_stand_up_to_the_last_position(rt: HostRuntime) {
 fn groups_up_to(rt: &impl Abort, alloc: Global, end: u32, contents: &str) -> String {
     let mut resolve = first(rt, alloc);
     let before = shown(rt, alloc, resolve.graph());
-    let mut main = group(rt, alloc, "", "", spanned(rt, alloc, "a", Span::unknown()));
+    let mut main = group(rt, alloc, "", "", text_between(rt, alloc, "a", Span::unknown()));
     main.source_map = SourceMap::with_base(alloc, end);
-    let dep = spanned(rt, alloc, "b", Span::unknown());
+    let dep = text_between(rt, alloc, "b", Span::unknown());
     let dep = group(rt, alloc, "dep.wit", contents, dep);
     match push_two(rt, alloc, &mut resolve, main, dep) {
         Ok(id) => {
@@ -112,12 +112,12 @@ fn groups_up_to(rt: &impl Abort, alloc: Global, end: u32, contents: &str) -> Str
 
 #[test]
 fn files_of_a_second_group_fit_or_none_stays(rt: HostRuntime) {
-    assert_told(
+    assert_text(
         &rt,
         groups_up_to(&rt, rt.alloc(), 4294967231, "1234"),
         "package 1, files first.wit dep.wit to 4294967295",
     );
-    assert_told(
+    assert_text(
         &rt,
         groups_up_to(&rt, rt.alloc(), 4294967231, "12345"),
         "27 at 0-0\n\

@@ -1,5 +1,5 @@
-//! Files of groups: a group whose package hands in the same file twice.
-use crate::parts::{assert_told, file, group, interface, package, place, push_group};
+//! Files of groups: a group whose package brings the same file twice.
+use crate::parts::{assert_text, file, group, interface, package, place, push_group};
 use crate::shown::shown;
 use crate::told::told;
 use std::alloc::Global;
@@ -64,7 +64,7 @@ fn starts(rt: &impl Abort, alloc: Global, resolve: &Resolve) -> String {
 
 #[test]
 fn a_file_may_be_handed_in_twice(rt: HostRuntime) {
-    assert_told(
+    assert_text(
         &rt,
         outcome(&rt, rt.alloc()),
         "29\n\

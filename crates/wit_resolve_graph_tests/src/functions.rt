@@ -1,6 +1,6 @@
 //! Functions of each kind, async ones among them, in an interface and in a world.
 use crate::parts::{
-    assert_told, docs, entries, first_package, function, function_entry, functions, interface,
+    assert_text, docs, entries, first_package, function, function_entry, functions, interface,
     interface_list, list, named, of_world, package, param, push, shown_copy, since, text, type_at,
     type_entry, type_list, unnamed, unstable, world, world_list,
 };
@@ -151,7 +151,7 @@ const IN_AN_INTERFACE: &str = "package 0 foo:first\n\
 
 #[test]
 fn functions_of_each_kind_are_added(rt: HostRuntime) {
-    assert_told(&rt, pushed_interface(&rt, rt.alloc()), IN_AN_INTERFACE);
+    assert_text(&rt, pushed_interface(&rt, rt.alloc()), IN_AN_INTERFACE);
 }
 
 /// A setter before its getter, async functions, and the resource of one of them, which is type 0.
@@ -226,5 +226,5 @@ const IN_A_WORLD: &str = "package 0 foo:first\n\
 
 #[test]
 fn functions_of_a_world_are_sorted(rt: HostRuntime) {
-    assert_told(&rt, pushed_world(&rt, rt.alloc()), IN_A_WORLD);
+    assert_text(&rt, pushed_world(&rt, rt.alloc()), IN_A_WORLD);
 }

@@ -1,7 +1,7 @@
 //! Refused pushes of packages built by hand: gates and what needs what is left out, borrows in results, and what a
 //! world holds. Each package is what its file says, as far as the refusal needs it.
 use crate::parts::{
-    assert_told, entries, function, function_entry, functions, inline_interface, interface,
+    assert_text, entries, function, function_entry, functions, inline_interface, interface,
     interface_entry, interface_list, list, named, of_world, package, place, since, text, type_at,
     type_entry, type_list, unnamed, unstable, world, world_list,
 };
@@ -52,7 +52,7 @@ fn unreleased(rt: &impl Abort, alloc: Global) -> String {
 
 #[test]
 fn versions_of_gates_are_told(rt: HostRuntime) {
-    assert_told(
+    assert_text(
         &rt,
         without_version(&rt, rt.alloc()),
         "9 at 120-123 message package [foo:main] contains a feature gate with a version specifier, so it must have a version\n\
@@ -63,7 +63,7 @@ fn versions_of_gates_are_told(rt: HostRuntime) {
         \x20     |   ^--\n\
         graph as before, files first.wit main.wit to 142",
     );
-    assert_told(
+    assert_text(
         &rt,
         unreleased(&rt, rt.alloc()),
         "10 at 126-129 message feature gate cannot reference unreleased version 1.1.0 of package [foo:main@1.0.0] (current version 1.0.0)\n\
@@ -129,7 +129,7 @@ fn excluded_owner(rt: &impl Abort, alloc: Global) -> String {
 
 #[test]
 fn what_is_left_out_is_told(rt: HostRuntime) {
-    assert_told(
+    assert_text(
         &rt,
         excluded(&rt, rt.alloc()),
         "11 at 146-150 message found a reference to a type which is excluded due to its feature not being activated\n\
@@ -140,7 +140,7 @@ fn what_is_left_out_is_told(rt: HostRuntime) {
         \x20     |           ^---\n\
         graph as before, files first.wit main.wit to 169",
     );
-    assert_told(
+    assert_text(
         &rt,
         excluded_owner(&rt, rt.alloc()),
         "12 at 118-122 message found a reference to a world which is excluded due to its feature not being activated; this type is not gated by a feature but its world is\n\
@@ -174,7 +174,7 @@ fn borrow_in_result(rt: &impl Abort, alloc: Global) -> String {
 
 #[test]
 fn a_borrow_in_a_result_is_told(rt: HostRuntime) {
-    assert_told(
+    assert_text(
         &rt,
         borrow_in_result(&rt, rt.alloc()),
         "15 at 140-143 message function `run` returns a type which contains a `borrow<T>` which is not supported\n\
@@ -222,7 +222,7 @@ fn twice(rt: &impl Abort, alloc: Global) -> String {
 
 #[test]
 fn conflicts_and_duplicates_are_told(rt: HostRuntime) {
-    assert_told(
+    assert_text(
         &rt,
         conflict(&rt, rt.alloc()),
         "4 at 142-145 name out\n\
@@ -233,7 +233,7 @@ fn conflicts_and_duplicates_are_told(rt: HostRuntime) {
         \x20     |       ^--\n\
         graph as before, files first.wit main.wit to 200",
     );
-    assert_told(
+    assert_text(
         &rt,
         twice(&rt, rt.alloc()),
         "5 at 67-76 name foo:first also at 0-0\n\
@@ -244,7 +244,7 @@ fn conflicts_and_duplicates_are_told(rt: HostRuntime) {
     );
 }
 
-/// A world that exports two functions of names too alike.
+/// A world that exports two functions of names not strongly unique.
 fn alike(rt: &impl Abort, alloc: Global) -> String {
     let contents =
         "package foo:main;\n\nworld w {\n  export run: async func();\n  export RUN: func();\n}\n";
@@ -289,14 +289,14 @@ fn setter_alone(rt: &impl Abort, alloc: Global) -> String {
 
 #[test]
 fn labels_are_told(rt: HostRuntime) {
-    assert_told(
+    assert_text(
         &rt,
         alike(&rt, rt.alloc()),
         "17 at 0-0 message export `RUN` in world `w` conflicts with export `run` (names must be strongly unique)\n\
         export `RUN` in world `w` conflicts with export `run` (names must be strongly unique)\n\
         graph as before, files first.wit main.wit to 141",
     );
-    assert_told(
+    assert_text(
         &rt,
         setter_alone(&rt, rt.alloc()),
         "18 at 103-109 message import `[method][set]r.p` in world `w` has no corresponding getter `[method][get]r.p`\n\

@@ -1,6 +1,6 @@
-//! Deprecations are never asked: what takes part is what the version and the features say, and ids close up.
+//! Deprecations are never asked: what is active is what the version and the features say, and ids close up.
 use crate::parts::{
-    assert_told, entries, function, function_entry, functions, interface, interface_entry,
+    assert_text, entries, function, function_entry, functions, interface, interface_entry,
     interface_list, named, of_world, package, push, shown_copy, since, type_entry, type_list,
     unstable, world, world_list,
 };
@@ -12,7 +12,7 @@ use wit_data::{
 };
 use wit_resolve_graph::Resolve;
 
-/// What takes part, deprecated long since.
+/// What is active, deprecated long since.
 fn kept(rt: &impl Abort, alloc: Global) -> Stability {
     since(rt, alloc, "1.0.0", "0.1.0")
 }
@@ -22,7 +22,7 @@ fn asking(rt: &impl Abort, alloc: Global) -> Stability {
     unstable(rt, alloc, "f", "9.0.0")
 }
 
-/// Types `gone` and `t` of interface `i`, `g` of interface `h`, and `k` and `l` of world `w`; `t` and `l` take part.
+/// Types `gone` and `t` of interface `i`, `g` of interface `h`, and `k` and `l` of world `w`; `t` and `l` are active.
 fn types(rt: &impl Abort, alloc: Global) -> Items<TypeDef> {
     let mut gone = named(rt, alloc, 0, "gone", TypeDefKind::Type_(Type_::U8));
     gone.stability = asking(rt, alloc);
@@ -56,7 +56,7 @@ fn interfaces(rt: &impl Abort, alloc: Global) -> Items<Interface> {
     )
 }
 
-/// Interface `i`, with a function that takes no part and one that does.
+/// Interface `i`, with a function that isn't active and one that does.
 fn first_interface(rt: &impl Abort, alloc: Global) -> Interface {
     let left = gated(rt, alloc, "left", asking(rt, alloc));
     let stays = gated(rt, alloc, "stays", kept(rt, alloc));
@@ -66,7 +66,7 @@ fn first_interface(rt: &impl Abort, alloc: Global) -> Interface {
     i
 }
 
-/// World `lost`, and world `w` with a type and a function that take part.
+/// World `lost`, and world `w` with a type and a function that are active.
 fn worlds(rt: &impl Abort, alloc: Global) -> Items<World> {
     let mut lost = world(rt, alloc, "lost");
     lost.stability = asking(rt, alloc);
@@ -151,6 +151,6 @@ const WITH_ALL_FEATURES: &str = "package 0 foo:gated@1.0.0\n\
 
 #[test]
 fn deprecations_are_never_asked(rt: HostRuntime) {
-    assert_told(&rt, pushed(&rt, rt.alloc(), false), WITHOUT_FEATURES);
-    assert_told(&rt, pushed(&rt, rt.alloc(), true), WITH_ALL_FEATURES);
+    assert_text(&rt, pushed(&rt, rt.alloc(), false), WITHOUT_FEATURES);
+    assert_text(&rt, pushed(&rt, rt.alloc(), true), WITH_ALL_FEATURES);
 }

@@ -1,5 +1,5 @@
 //! Groups of several packages, built by hand: in which order they are added, and how they are refused.
-use crate::parts::{assert_told, interface, interface_list, name_foreign, package};
+use crate::parts::{assert_text, interface, interface_list, name_foreign, package};
 use crate::shown::shown;
 use crate::{parts, told};
 use std::alloc::Global;
@@ -138,7 +138,7 @@ const PAIRS: [(Made, Made, &str); 5] = [
 #[test]
 fn packages_are_added_all_or_none(rt: HostRuntime) {
     for &(main, dep, wanted) in &PAIRS {
-        assert_told(&rt, pushed(&rt, rt.alloc(), main, dep), wanted);
+        assert_text(&rt, pushed(&rt, rt.alloc(), main, dep), wanted);
     }
 }
 
@@ -155,7 +155,7 @@ fn pushed_nested(rt: &impl Abort, alloc: Global) -> String {
 
 #[test]
 fn a_nested_package_is_added_too(rt: HostRuntime) {
-    assert_told(&rt, pushed_nested(&rt, rt.alloc()), "package 1 of 2 to 16");
+    assert_text(&rt, pushed_nested(&rt, rt.alloc()), "package 1 of 2 to 16");
 }
 
 /// What comes of files that end at this position, and of a second file.
@@ -170,12 +170,12 @@ fn pushed_files(rt: &impl Abort, alloc: Global, end: u32) -> String {
 
 #[test]
 fn files_that_pass_the_end_are_taken_back(rt: HostRuntime) {
-    assert_told(
+    assert_text(
         &rt,
         pushed_files(&rt, rt.alloc(), 4294967279),
         "package 0 of 2 to 4294967295",
     );
-    assert_told(
+    assert_text(
         &rt,
         pushed_files(&rt, rt.alloc(), 4294967280),
         "refused by 27, 0 to 0",
@@ -193,7 +193,7 @@ fn twice(rt: &impl Abort, alloc: Global) -> String {
 
 #[test]
 fn a_name_twice_is_told_at_both_places(rt: HostRuntime) {
-    assert_told(
+    assert_text(
         &rt,
         twice(&rt, rt.alloc()),
         "5 at 24-29 name foo:a also at 8-13\n\
@@ -227,7 +227,7 @@ fn naming_itself(rt: &impl Abort, alloc: Global) -> String {
 
 #[test]
 fn packages_that_name_themselves_are_told(rt: HostRuntime) {
-    assert_told(
+    assert_text(
         &rt,
         naming_each_other(&rt, rt.alloc()),
         "6 at 77-79 package foo:a\n\
@@ -238,7 +238,7 @@ fn packages_that_name_themselves_are_told(rt: HostRuntime) {
         \x20     |   ^-\n\
         graph as before, files first.wit a.wit b.wit to 91",
     );
-    assert_told(
+    assert_text(
         &rt,
         naming_itself(&rt, rt.alloc()),
         "3 at 0-0 interface i package foo:a\n\

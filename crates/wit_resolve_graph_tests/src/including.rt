@@ -1,5 +1,5 @@
 //! Entries of a world of another package that is included: what was stable there is unknown here.
-use crate::parts::assert_told;
+use crate::parts::assert_text;
 use crate::scripts::pushed;
 use crate::shown::shown;
 use std::alloc::Global;
@@ -47,5 +47,5 @@ const INCLUDED: &str = "package 0 foo:base@1.0.0\n\
 
 #[test]
 fn what_is_stable_elsewhere_is_unknown_where_it_is_included(rt: HostRuntime) {
-    assert_told(&rt, included(&rt, rt.alloc()), INCLUDED);
+    assert_text(&rt, included(&rt, rt.alloc()), INCLUDED);
 }

@@ -2,7 +2,7 @@
 //! imported before them, and an include copies them. What entries keep that are listed, and what those have that come
 //! before them, is told of these and of interfaces under their own keys.
 use crate::parts::{
-    assert_told, docs, entries, first_package, function, function_entry, functions,
+    assert_text, docs, entries, first_package, function, function_entry, functions,
     inline_interface, interface, interface_list, list, named, of_world, package, param, push,
     shown_copy, since, text, type_at, type_entry, type_list, unstable, world, world_list,
 };
@@ -180,7 +180,7 @@ const INLINE: &str = "package 0 foo:first\n\
 
 #[test]
 fn listed_entries_keep_what_is_told_of_them(rt: HostRuntime) {
-    assert_told(&rt, pushed(&rt, rt.alloc()), INLINE);
+    assert_text(&rt, pushed(&rt, rt.alloc()), INLINE);
 }
 
 // ---- includes
@@ -274,5 +274,5 @@ const INCLUDED: &str = "package 0 foo:inline@1.2.0\n\
 
 #[test]
 fn interfaces_without_a_name_are_copied(rt: HostRuntime) {
-    assert_told(&rt, pushed_include(&rt, rt.alloc()), INCLUDED);
+    assert_text(&rt, pushed_include(&rt, rt.alloc()), INCLUDED);
 }

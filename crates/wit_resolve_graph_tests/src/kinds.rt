@@ -2,7 +2,7 @@
 //! and their spans move by 100: what is added is the same at the next ids, and where a value is a resource stands
 //! an `own` of it, behind all types. Of a map and a result it is told which futures and streams they hold.
 use crate::parts::{
-    assert_told, docs, first_package, function, interface, interface_list, list, named, package,
+    assert_text, docs, first_package, function, interface, interface_list, list, named, package,
     param, push, shown_copy, since, text, type_at, type_list, unnamed, unstable,
 };
 use std::alloc::Global;
@@ -283,5 +283,5 @@ const KINDS: &str = "package 0 foo:first\n\
 
 #[test]
 fn types_of_each_kind_are_added(rt: HostRuntime) {
-    assert_told(&rt, pushed(&rt, rt.alloc()), KINDS);
+    assert_text(&rt, pushed(&rt, rt.alloc()), KINDS);
 }

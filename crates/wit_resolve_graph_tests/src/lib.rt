@@ -51,6 +51,6 @@ mod taken_back;
 #[cfg(test)]
 mod told;
 #[cfg(test)]
-mod turning;
+mod transformations;
 #[cfg(test)]
 mod upgrading;

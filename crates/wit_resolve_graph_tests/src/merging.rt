@@ -3,7 +3,7 @@
 use crate::functions::run;
 use crate::kinds::{color, permissions, shape};
 use crate::parts::{
-    assert_told, functions, group, interface, interface_list, list, named, package, push_group,
+    assert_text, functions, group, interface, interface_list, list, named, package, push_group,
     text, type_at, type_list, world, world_list,
 };
 use crate::shown::shown;
@@ -178,15 +178,15 @@ fn merged_near_the_end(rt: &impl Abort, alloc: Global, contents: &str) -> String
 
 #[test]
 fn another_graph_goes_into_one_where_its_files_fit(rt: HostRuntime) {
-    assert_told(&rt, merged(&rt, rt.alloc()), MERGED);
-    assert_told(
+    assert_text(&rt, merged(&rt, rt.alloc()), MERGED);
+    assert_text(
         &rt,
         merged_near_the_end(&rt, rt.alloc(), "12345"),
         "27 at 0-0\n\
         source positions would pass 4294967295\n\
         graph as before, files first.wit to 4294967290",
     );
-    assert_told(
+    assert_text(
         &rt,
         merged_near_the_end(&rt, rt.alloc(), "1234"),
         "files to 4294967295",

@@ -1,7 +1,7 @@
 //! Merges of two graphs in all their names: with a copy of itself, in either order, and where a package comes to use a
 //! later one.
 use crate::merging::write_remap;
-use crate::parts::assert_told;
+use crate::parts::assert_text;
 use crate::scripts::pushed;
 use crate::shown::shown;
 use crate::told::write_files;
@@ -65,7 +65,7 @@ const MERGED_WITH_ITSELF: &str =
 
 #[test]
 fn a_graph_goes_into_itself(rt: HostRuntime) {
-    assert_told(&rt, merged_with_itself(&rt, rt.alloc()), MERGED_WITH_ITSELF);
+    assert_text(&rt, merged_with_itself(&rt, rt.alloc()), MERGED_WITH_ITSELF);
 }
 
 /// A graph after another one went in.
@@ -173,8 +173,8 @@ const NAMES: &str = "func f func g func h type t type u type v of 3 and 3\n\
 
 #[test]
 fn either_order_gives_the_same_names(rt: HostRuntime) {
-    assert_told(&rt, names(&rt, rt.alloc(), ONE, OTHER), NAMES);
-    assert_told(&rt, names(&rt, rt.alloc(), OTHER, ONE), NAMES);
+    assert_text(&rt, names(&rt, rt.alloc(), ONE, OTHER), NAMES);
+    assert_text(&rt, names(&rt, rt.alloc(), OTHER, ONE), NAMES);
 }
 
 /// Which packages each package depends on, and the packages, dependencies first.
@@ -201,7 +201,7 @@ fn dependencies(rt: &impl Abort, alloc: Global) -> String {
 
 #[test]
 fn a_package_that_comes_to_use_a_later_one_is_listed_behind_it(rt: HostRuntime) {
-    assert_told(
+    assert_text(
         &rt,
         dependencies(&rt, rt.alloc()),
         "0 depends on 1;0 depends on 1;1;0;",

@@ -14,7 +14,7 @@ use wit_graph_data::ResolveResult;
 use wit_resolve_graph::{Resolve, Shape};
 
 /// Ends the test where a text isn't the one that is wanted.
-pub fn assert_told(rt: &impl Abort, told: String, wanted: &str) {
+pub fn assert_text(rt: &impl Abort, told: String, wanted: &str) {
     assert_eq!(rt; told.as_str(), wanted);
 }
 

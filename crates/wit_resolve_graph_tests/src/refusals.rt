@@ -1,7 +1,7 @@
 //! Refused pushes of packages built by hand: what they use of other packages, what they include, and a place that
 //! passes the end. Each package is what its file says, as far as the refusal needs it.
 use crate::parts::{
-    assert_told, entries, function, function_entry, group, interface, interface_list, list,
+    assert_text, entries, function, function_entry, group, interface, interface_list, list,
     name_foreign, named, package, place, push_group, since, text, type_at, type_list, unnamed,
     world, world_list,
 };
@@ -57,7 +57,7 @@ fn refused_use(
 #[test]
 fn a_package_that_is_not_there_is_told(rt: HostRuntime) {
     let contents = "package foo:main;\n\ninterface i {\n  use foo:gone/things.{item};\n}\n";
-    assert_told(
+    assert_text(
         &rt,
         refused_use(&rt, rt.alloc(), contents, "gone", "things", "item"),
         "1 at 94-101 requested foo:gone known foo:first foo:main\n\
@@ -75,7 +75,7 @@ fn a_package_that_is_not_there_is_told(rt: HostRuntime) {
 #[test]
 fn an_interface_that_is_not_there_is_told(rt: HostRuntime) {
     let contents = "package foo:main;\n\ninterface i {\n  use foo:first/others.{item};\n}\n";
-    assert_told(
+    assert_text(
         &rt,
         refused_use(&rt, rt.alloc(), contents, "first", "others", "item"),
         "3 at 108-114 interface others package foo:first\n\
@@ -91,7 +91,7 @@ fn an_interface_that_is_not_there_is_told(rt: HostRuntime) {
 #[test]
 fn a_package_that_uses_itself_is_told(rt: HostRuntime) {
     let contents = "package foo:main;\n\ninterface i {\n  use foo:main/things.{item};\n}\n";
-    assert_told(
+    assert_text(
         &rt,
         refused_use(&rt, rt.alloc(), contents, "main", "things", "item"),
         "6 at 94-101 package foo:main\n\
@@ -107,7 +107,7 @@ fn a_package_that_uses_itself_is_told(rt: HostRuntime) {
 #[test]
 fn a_type_that_is_not_defined_is_told(rt: HostRuntime) {
     let contents = "package foo:main;\n\ninterface i {\n  use foo:first/things.{tool};\n}\n";
-    assert_told(
+    assert_text(
         &rt,
         refused_use(&rt, rt.alloc(), contents, "first", "things", "tool"),
         "13 at 116-120 message type `tool` not defined in interface\n\
@@ -140,7 +140,7 @@ fn borrowing(rt: &impl Abort, alloc: Global) -> String {
 
 #[test]
 fn a_borrow_of_no_resource_is_told(rt: HostRuntime) {
-    assert_told(
+    assert_text(
         &rt,
         borrowing(&rt, rt.alloc()),
         "14 at 142-154 message type used in a handle must be a resource\n\
@@ -183,7 +183,7 @@ fn foreign_include(rt: &impl Abort, alloc: Global) -> String {
 
 #[test]
 fn a_world_that_is_not_there_is_told(rt: HostRuntime) {
-    assert_told(
+    assert_text(
         &rt,
         foreign_include(&rt, rt.alloc()),
         "2 at 108-115 world service package foo:first\n\
@@ -216,7 +216,7 @@ fn shadowing(rt: &impl Abort, alloc: Global) -> String {
 
 #[test]
 fn a_label_that_is_there_is_told(rt: HostRuntime) {
-    assert_told(
+    assert_text(
         &rt,
         shadowing(&rt, rt.alloc()),
         "7 at 148-160 item_type export name run\n\
@@ -261,7 +261,7 @@ fn mismatching(rt: &impl Abort, alloc: Global) -> String {
 
 #[test]
 fn deprecations_that_differ_are_told(rt: HostRuntime) {
-    assert_told(
+    assert_text(
         &rt,
         mismatching(&rt, rt.alloc()),
         "8 at 235-247 from since 1.0.0 deprecated 1.1.0 into since 1.0.0\n\
@@ -298,7 +298,7 @@ fn renaming(rt: &impl Abort, alloc: Global) -> String {
 
 #[test]
 fn a_renaming_of_nothing_is_told(rt: HostRuntime) {
-    assert_told(
+    assert_text(
         &rt,
         renaming(&rt, rt.alloc()),
         "16 at 126-143 message no import or export kebab-name `stop`. Note that an ID does not support renaming\n\
@@ -332,7 +332,7 @@ fn passing(rt: &impl Abort, alloc: Global) -> String {
 
 #[test]
 fn a_place_that_passes_the_end_is_told(rt: HostRuntime) {
-    assert_told(
+    assert_text(
         &rt,
         passing(&rt, rt.alloc()),
         "27 at 0-0\n\

@@ -1,5 +1,5 @@
 //! Runs of commands: of none, and of some that are carried out, refused, or ask for what isn't there.
-use crate::parts::{assert_told, package_name, text};
+use crate::parts::{assert_text, package_name, text};
 use crate::scripts::pushed;
 use crate::shown::shown;
 use crate::told::{kept, write_files};
@@ -100,7 +100,7 @@ fn run_some(rt: &impl Abort, alloc: Global) -> String {
 
 #[test]
 fn no_commands_change_nothing(rt: HostRuntime) {
-    assert_told(
+    assert_text(
         &rt,
         run_none(&rt, rt.alloc()),
         "graph as before, feature f, all false, WithPrereleases, files foo:bar to 74",
@@ -109,7 +109,7 @@ fn no_commands_change_nothing(rt: HostRuntime) {
 
 #[test]
 fn each_command_has_its_reply(rt: HostRuntime) {
-    assert_told(
+    assert_text(
         &rt,
         run_some(&rt, rt.alloc()),
         "done, refused 20, no world, done, done, graph as before, feature f, feature g, all true, Published, files foo:bar to 74",

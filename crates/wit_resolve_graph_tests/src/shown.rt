@@ -70,7 +70,7 @@ fn write_interfaces(out: &mut String, interfaces: &[Interface]) -> Result<(), Al
         write!(out, "interface {place}")?;
         write_name(out, &interface.name)?;
         write_home(out, interface.package)?;
-        write_note(out, interface.span, &interface.stability, &interface.docs)?;
+        write_gate(out, interface.span, &interface.stability, &interface.docs)?;
         write_type_ids(out, &interface.types)?;
         write_functions(out, &interface.functions)?;
         out.push_str("\n")?;
@@ -84,7 +84,7 @@ fn write_worlds(out: &mut String, worlds: &[World]) -> Result<(), AllocError> {
         let includes = world.includes.len();
         write!(out, "world {place} {name}")?;
         write_home(out, world.package)?;
-        write_note(out, world.span, &world.stability, &world.docs)?;
+        write_gate(out, world.span, &world.stability, &world.docs)?;
         write!(out, " includes {includes}")?;
         write_entries(out, "import", &world.imports)?;
         write_entries(out, "export", &world.exports)?;
@@ -100,7 +100,7 @@ fn write_types(out: &mut String, types: &[TypeDef]) -> Result<(), AllocError> {
         write_owner(out, def.owner)?;
         out.push_str(":")?;
         write_kind(out, &def.kind)?;
-        write_note(out, def.span, &def.stability, &def.docs)?;
+        write_gate(out, def.span, &def.stability, &def.docs)?;
         write_external_id(out, &def.external_id)?;
         out.push_str("\n")?;
     }
@@ -149,7 +149,7 @@ fn write_item(out: &mut String, item: &WorldItem) -> Result<(), AllocError> {
         } => {
             let place = id.index();
             write!(out, "interface {place}")?;
-            write_note(out, *span, stability, docs)?;
+            write_gate(out, *span, stability, docs)?;
             write_external_id(out, external_id)
         }
         WorldItem::Function(function) => write_function(out, function),
@@ -174,7 +174,7 @@ fn write_function(out: &mut String, function: &Function) -> Result<(), AllocErro
     }
     out.push_str(")")?;
     write_result(out, function.result_)?;
-    write_note(out, function.span, &function.stability, &function.docs)?;
+    write_gate(out, function.span, &function.stability, &function.docs)?;
     write_external_id(out, &function.external_id)
 }
 
@@ -402,7 +402,7 @@ fn write_home(out: &mut String, package: Option<PackageId>) -> Result<(), AllocE
 }
 
 /// The place, the gate and the docs of a thing; nothing of what is unknown.
-fn write_note(
+fn write_gate(
     out: &mut String,
     span: Span,
     stability: &Stability,

@@ -1,5 +1,5 @@
 //! Pushes that are refused late: what came before is taken back, and the files stay.
-use crate::parts::assert_told;
+use crate::parts::assert_text;
 use crate::scripts::{group, push_script, pushed};
 use crate::shown::shown;
 use crate::told::told;
@@ -89,7 +89,7 @@ fn second_world_refused(rt: &impl Abort, alloc: Global) -> String {
 
 #[test]
 fn what_came_before_a_refusal_is_taken_back(rt: HostRuntime) {
-    assert_told(
+    assert_text(
         &rt,
         third_refused(&rt, rt.alloc()),
         "13 at 158-173 message type `nope` not defined in interface\n\
@@ -101,7 +101,7 @@ fn what_came_before_a_refusal_is_taken_back(rt: HostRuntime) {
         graph as before, files foo:bar aa:a aa:b aa:c to 175\n\
         next 1 of 2, worlds 2",
     );
-    assert_told(
+    assert_text(
         &rt,
         second_world_refused(&rt, rt.alloc()),
         "4 at 164-171 name foo:baz/c\n\

@@ -1,5 +1,5 @@
 //! The imports of a world merged by tracks: what the graph then holds, once and again, and by which rule.
-use crate::parts::assert_told;
+use crate::parts::assert_text;
 use crate::scripts::{push_script, pushed};
 use crate::shown::shown;
 use std::alloc::Global;
@@ -77,7 +77,7 @@ const UPGRADED: &str = "package 0 foo:x@0.2.0\n\
 #[test]
 fn a_second_upgrade_changes_nothing(rt: HostRuntime) {
     for times in 1..3 {
-        assert_told(&rt, upgraded(&rt, rt.alloc(), EXPORTED, times), UPGRADED);
+        assert_text(&rt, upgraded(&rt, rt.alloc(), EXPORTED, times), UPGRADED);
     }
 }
 
@@ -160,12 +160,12 @@ fn rule_after_a_push(rt: &impl Abort, alloc: Global) -> String {
 
 #[test]
 fn the_rule_of_tracks_is_set_copied_and_kept(rt: HostRuntime) {
-    assert_told(
+    assert_text(
         &rt,
         rules_set(&rt, rt.alloc()),
         "published 2;with pre-releases 1;with pre-releases 1;published 2;",
     );
-    assert_told(
+    assert_text(
         &rt,
         rule_kept(
             &rt,
@@ -175,7 +175,7 @@ fn the_rule_of_tracks_is_set_copied_and_kept(rt: HostRuntime) {
         ),
         "merged published 2;refused published 2;",
     );
-    assert_told(
+    assert_text(
         &rt,
         rule_kept(
             &rt,
@@ -185,7 +185,7 @@ fn the_rule_of_tracks_is_set_copied_and_kept(rt: HostRuntime) {
         ),
         "merged with pre-releases 1;refused with pre-releases 1;",
     );
-    assert_told(
+    assert_text(
         &rt,
         rule_after_a_push(&rt, rt.alloc()),
         "5 with pre-releases 1;",

@@ -1,11 +1,11 @@
-pub mod Known
-pub mod Pieces
-pub mod Scripts
 pub mod Answered
-pub mod Told
+pub mod Known
+pub mod OneOutcome
+pub mod Pieces
 pub mod Pushed
+pub mod Scripts
 pub mod Staged
-pub mod Stepped
 pub mod Stays
-pub mod ToldOnce
+pub mod Stepped
+pub mod Told
 pub mod Waiting

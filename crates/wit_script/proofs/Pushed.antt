@@ -5,7 +5,7 @@ use Rattle.wit_values.specs.facts.Lists.{AllByRecursion-at}
 use Rattle.wit_data.specs.Each.{Each}
 use Rattle.wit_data.specs.Shape.{IsGroupShaped}
 use Rattle.wit_data.specs.declared.unresolved.UnresolvedPackageGroup.{UnresolvedPackageGroup}
-use Rattle.wit_script_package.specs.Draft.{grouped}
+use Rattle.wit_script_package.specs.Draft.{as_group}
 use Rattle.wit_script_package.specs.declared.draft.Draft.{Draft}
 use Rattle.wit_script_lines.specs.Signature.{each_of}
 use Rattle.wit_script.specs.Ready.{AreReady, AreShaped, IsReady}
@@ -36,9 +36,9 @@ nothing None = refl
 nothing (Some y) = refl
 
 -- one that isn't read
-pub each-fails : (packages : List Draft) (p : Draft) (after : List Draft) → grouped p ≡ None → each_of grouped (packages ++ p ∷ after) ≡ None
+pub each-fails : (packages : List Draft) (p : Draft) (after : List Draft) → as_group p ≡ None → each_of as_group (packages ++ p ∷ after) ≡ None
 each-fails [] p after fails = rw fails refl
-each-fails (q ∷ packages) p after fails = rw (each-fails packages p after fails) (nothing (grouped q))
+each-fails (q ∷ packages) p after fails = rw (each-fails packages p after fails) (nothing (as_group q))
 
 -- one more
 one-more : (o : Option UnresolvedPackageGroup) (rest : Option (List UnresolvedPackageGroup)) (longer : Option (List UnresolvedPackageGroup)) (groups : List UnresolvedPackageGroup) (group : UnresolvedPackageGroup)
@@ -51,11 +51,11 @@ one-more (Some y) (Some others) longer groups group had next =
     let same : groups ≡ y ∷ others = cc in
     rw (next others refl, same) refl
 
-pub each-next : (packages : List Draft) (p : Draft) (groups : List UnresolvedPackageGroup) (group : UnresolvedPackageGroup) → each_of grouped packages ≡ Some groups → grouped p ≡ Some group
-    → each_of grouped (packages ++ p ∷ []) ≡ Some (groups ++ group ∷ [])
+pub each-next : (packages : List Draft) (p : Draft) (groups : List UnresolvedPackageGroup) (group : UnresolvedPackageGroup) → each_of as_group packages ≡ Some groups → as_group p ≡ Some group
+    → each_of as_group (packages ++ p ∷ []) ≡ Some (groups ++ group ∷ [])
 each-next [] p groups group had next = let none : groups ≡ [] = cc in rw (next, none) refl
 each-next (q ∷ packages) p groups group had next =
-    one-more (grouped q) (each_of grouped packages) (each_of grouped (packages ++ p ∷ [])) groups group had (λ others is. each-next packages p others group is next)
+    one-more (as_group q) (each_of as_group packages) (each_of as_group (packages ++ p ∷ [])) groups group had (λ others is. each-next packages p others group is next)
 
 -- ---- a push
 

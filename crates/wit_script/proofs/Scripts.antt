@@ -5,8 +5,8 @@ use Rattle.std.proofs.lemmas.List.{drop-map, length-map, map-append, reverse-app
 use Rattle.std.specs.List.{prefix_len}
 use Rattle.std.specs.Option.{option_and_then, option_map}
 use Rattle.std.proofs.Math.ListN.{get_or-map}
-use Rattle.wit_script_lines.specs.Line.{is_comment, is_silent, is_silent_of, last_said_of}
-use Rattle.wit_script_lines.specs.Statement.{said_of_tokens, statement_by}
+use Rattle.wit_script_lines.specs.Line.{is_blank_or_comment, is_blank_or_comment_of, is_comment, last_statement_line}
+use Rattle.wit_script_lines.specs.Statement.{statement_by, statement_of_tokens}
 use Rattle.wit_script_lines.specs.declared.statement.Statement.{Statement}
 use Rattle.wit_script.specs.Ready.{AreReady}
 use Rattle.wit_script.specs.Script.{IsBad, IsBadLine, after_first, after_line, after_lines, new_reading, reading_before, reading_of}
@@ -48,7 +48,7 @@ pub before-whole : (lines : List (List ℕ)) → reading_before (length lines) l
 before-whole lines = first-whole new_reading lines
 
 -- a line says nothing where nothing is read from it
-pub said_nothing : (tokens : List (List ℕ)) → said_of_tokens tokens ≡ Some None → false ≡ not (is_silent_of tokens)
+pub said_nothing : (tokens : List (List ℕ)) → statement_of_tokens tokens ≡ Some None → false ≡ not (is_blank_or_comment_of tokens)
 said_nothing [] read = refl
 said_nothing (word ∷ arguments) read = by (is_comment word) (statement_by word arguments) read where
   by : (b : Bool) (said : Option Statement) → cond b (Some None) (option_map Some said) ≡ Some None → false ≡ not b
@@ -57,7 +57,7 @@ said_nothing (word ∷ arguments) read = by (is_comment word) (statement_by word
   by false (Some s) read = cc
 
 -- and something where something is
-pub said_something : (tokens : List (List ℕ)) (said : Statement) → said_of_tokens tokens ≡ Some (Some said) → true ≡ not (is_silent_of tokens)
+pub said_something : (tokens : List (List ℕ)) (said : Statement) → statement_of_tokens tokens ≡ Some (Some said) → true ≡ not (is_blank_or_comment_of tokens)
 said_something [] said read = cc
 said_something (word ∷ arguments) said read = by (is_comment word) (statement_by word arguments) read where
   by : (b : Bool) (o : Option Statement) → cond b (Some None) (option_map Some o) ≡ Some (Some said) → true ≡ not b
@@ -70,23 +70,23 @@ left_of true n s = omega arith
 left_of false n s = omega arith
 
 -- the last line that says something, after one more line
-pub last_said_of-more : (lines : List (List ℕ)) (line : List ℕ) → last_said_of (lines ++ line ∷ []) ≡ cond (is_silent line) (last_said_of lines) (length lines + 1)
-last_said_of-more lines line =
-    let turned : reverse (lines ++ line ∷ []) ≡ line ∷ reverse lines = reverse-append lines (line ∷ []) in
+pub last_statement_line-more : (lines : List (List ℕ)) (line : List ℕ) → last_statement_line (lines ++ line ∷ []) ≡ cond (is_blank_or_comment line) (last_statement_line lines) (length lines + 1)
+last_statement_line-more lines line =
+    let transformed : reverse (lines ++ line ∷ []) ≡ line ∷ reverse lines = reverse-append lines (line ∷ []) in
     let longer : length (lines ++ line ∷ []) ≡ length lines + 1 = length-append lines (line ∷ []) in
-    rw (turned, longer) (left_of (is_silent line) (length lines) (prefix_len is_silent (reverse lines)))
+    rw (transformed, longer) (left_of (is_blank_or_comment line) (length lines) (prefix_len is_blank_or_comment (reverse lines)))
 
 -- the last line that says something, after a line that says nothing
-pub last_said_of-silent : (lines : List (List ℕ)) (line : List ℕ) → false ≡ not (is_silent line) → last_said_of (lines ++ line ∷ []) ≡ last_said_of lines
-last_said_of-silent lines line silent = last_said_of-more lines line ∙ kept (is_silent line) silent where
-  kept : (b : Bool) → false ≡ not b → cond b (last_said_of lines) (length lines + 1) ≡ last_said_of lines
+pub last_statement_line-silent : (lines : List (List ℕ)) (line : List ℕ) → false ≡ not (is_blank_or_comment line) → last_statement_line (lines ++ line ∷ []) ≡ last_statement_line lines
+last_statement_line-silent lines line silent = last_statement_line-more lines line ∙ kept (is_blank_or_comment line) silent where
+  kept : (b : Bool) → false ≡ not b → cond b (last_statement_line lines) (length lines + 1) ≡ last_statement_line lines
   kept true h = refl
   kept false h = cc
 
 -- the last line that says something, after a line that says something
-pub last_said_of-said : (lines : List (List ℕ)) (line : List ℕ) → true ≡ not (is_silent line) → last_said_of (lines ++ line ∷ []) ≡ length lines + 1
-last_said_of-said lines line said = last_said_of-more lines line ∙ now (is_silent line) said where
-  now : (b : Bool) → true ≡ not b → cond b (last_said_of lines) (length lines + 1) ≡ length lines + 1
+pub last_statement_line-said : (lines : List (List ℕ)) (line : List ℕ) → true ≡ not (is_blank_or_comment line) → last_statement_line (lines ++ line ∷ []) ≡ length lines + 1
+last_statement_line-said lines line said = last_statement_line-more lines line ∙ now (is_blank_or_comment line) said where
+  now : (b : Bool) → true ≡ not b → cond b (last_statement_line lines) (length lines + 1) ≡ length lines + 1
   now true h = cc
   now false h = refl
 
@@ -129,15 +129,15 @@ module _ (xs : List (Bor (List ℕ))) (i : ℕ) (d : Bor (List ℕ)) where
       sym (before-whole texts) ∙ ap (λ (n : ℕ). reading_before n texts) end ∙ read
 
   -- the last line that says something stays
-  pub last-silent : (last : ℕ) → i < length xs → last ≡ last_said_of (map (λ (x : Bor (List ℕ)). x.now) (take i xs)) → false ≡ not (is_silent (get_or xs i d).now)
-      → last ≡ last_said_of (map (λ (x : Bor (List ℕ)). x.now) (take (i + 1) xs))
-  last-silent last within known silent = rw (texts-next within) (known ∙ sym (last_said_of-silent (map (λ (x : Bor (List ℕ)). x.now) (take i xs)) (get_or xs i d).now silent))
+  pub last-silent : (last : ℕ) → i < length xs → last ≡ last_statement_line (map (λ (x : Bor (List ℕ)). x.now) (take i xs)) → false ≡ not (is_blank_or_comment (get_or xs i d).now)
+      → last ≡ last_statement_line (map (λ (x : Bor (List ℕ)). x.now) (take (i + 1) xs))
+  last-silent last within known silent = rw (texts-next within) (known ∙ sym (last_statement_line-silent (map (λ (x : Bor (List ℕ)). x.now) (take i xs)) (get_or xs i d).now silent))
 
   -- the last line that says something is this one
-  pub last-said : i < length xs → true ≡ not (is_silent (get_or xs i d).now) → i + 1 ≡ last_said_of (map (λ (x : Bor (List ℕ)). x.now) (take (i + 1) xs))
+  pub last-said : i < length xs → true ≡ not (is_blank_or_comment (get_or xs i d).now) → i + 1 ≡ last_statement_line (map (λ (x : Bor (List ℕ)). x.now) (take (i + 1) xs))
   last-said within said =
       let count : length (map (λ (x : Bor (List ℕ)). x.now) (take i xs)) ≡ i = grind (arith, common_steps) in
-      rw (texts-next within) (ap (λ (n : ℕ). n + 1) (sym count) ∙ sym (last_said_of-said (map (λ (x : Bor (List ℕ)). x.now) (take i xs)) (get_or xs i d).now said))
+      rw (texts-next within) (ap (λ (n : ℕ). n + 1) (sym count) ∙ sym (last_statement_line-said (map (λ (x : Bor (List ℕ)). x.now) (take i xs)) (get_or xs i d).now said))
 
   -- the first line that isn't understood
   pub bad-line : (reading : Reading) → d.now ≡ [] → i < length xs → reading_before i texts ≡ Some reading → AreReady reading.commands

@@ -7,32 +7,32 @@ use Rattle.wit_resolve_graph.specs.State.{State}
 use Rattle.wit_resolve_graph.specs.Step.{Run}
 use Rattle.wit_resolve_graph.specs.declared.command.Command.{Command}
 use Rattle.wit_resolve_graph.specs.declared.command.Reply.{Reply}
-use Rattle.wit_script.specs.Answer.{IsAnswered, Works, active_of, with_active_of}
+use Rattle.wit_script.specs.Answer.{AnswersByRun, AnswersCommand, with_working_state_of, working_state_of}
 use Rattle.wit_script.specs.declared.answer.Stage.{Stage}
 
 module _ {E : Type 0} (line : Graph → Reply → List ℕ) (stage : Stage) (command : Command) (told : Result (String Global) E) where
   -- on the second graph
-  pub works-second : (second new : State) → stage.second ≡ Some second → IfOk told (λ text. IsAnswered Run line second command (string_bytes text) new)
-      → IfOk told (λ text. Works Run line stage command (string_bytes text) (record stage { second = Some new }))
-  works-second second new open_graph answered = at told answered where
-    at : (r : Result (String Global) E) → IfOk r (λ text. IsAnswered Run line second command (string_bytes text) new)
-        → IfOk r (λ text. Works Run line stage command (string_bytes text) (record stage { second = Some new }))
-    at (Ok text) answered = (
+  pub works-second : (second new : State) → stage.second ≡ Some second → IfOk told (λ text. AnswersCommand Run line second command (string_bytes text) new)
+      → IfOk told (λ text. AnswersByRun Run line stage command (string_bytes text) (record stage { second = Some new }))
+  works-second second new open_graph entries_by_answer = at told entries_by_answer where
+    at : (r : Result (String Global) E) → IfOk r (λ text. AnswersCommand Run line second command (string_bytes text) new)
+        → IfOk r (λ text. AnswersByRun Run line stage command (string_bytes text) (record stage { second = Some new }))
+    at (Ok text) entries_by_answer = (
       new,
-      subst (λ (s : State). IsAnswered Run line s command (string_bytes text) new) (sym (ap (active_of stage.first) open_graph)) answered,
-      sym (ap (λ (o : Option State). with_active_of stage.first o new) open_graph),
+      subst (λ (s : State). AnswersCommand Run line s command (string_bytes text) new) (sym (ap (working_state_of stage.first) open_graph)) entries_by_answer,
+      sym (ap (λ (o : Option State). with_working_state_of stage.first o new) open_graph),
     )
-    at (Err e) answered = tt
+    at (Err e) entries_by_answer = tt
 
   -- on the only graph
-  pub works-first : (new : State) → stage.second ≡ None → IfOk told (λ text. IsAnswered Run line stage.first command (string_bytes text) new)
-      → IfOk told (λ text. Works Run line stage command (string_bytes text) (record stage { first = new }))
-  works-first new closed answered = at told answered where
-    at : (r : Result (String Global) E) → IfOk r (λ text. IsAnswered Run line stage.first command (string_bytes text) new)
-        → IfOk r (λ text. Works Run line stage command (string_bytes text) (record stage { first = new }))
-    at (Ok text) answered = (
+  pub works-first : (new : State) → stage.second ≡ None → IfOk told (λ text. AnswersCommand Run line stage.first command (string_bytes text) new)
+      → IfOk told (λ text. AnswersByRun Run line stage command (string_bytes text) (record stage { first = new }))
+  works-first new closed entries_by_answer = at told entries_by_answer where
+    at : (r : Result (String Global) E) → IfOk r (λ text. AnswersCommand Run line stage.first command (string_bytes text) new)
+        → IfOk r (λ text. AnswersByRun Run line stage command (string_bytes text) (record stage { first = new }))
+    at (Ok text) entries_by_answer = (
       new,
-      subst (λ (s : State). IsAnswered Run line s command (string_bytes text) new) (sym (ap (active_of stage.first) closed)) answered,
-      ap (λ (o : Option State). let made : Stage = record { first = new; second = o } in made) closed ∙ sym (ap (λ (o : Option State). with_active_of stage.first o new) closed),
+      subst (λ (s : State). AnswersCommand Run line s command (string_bytes text) new) (sym (ap (working_state_of stage.first) closed)) entries_by_answer,
+      ap (λ (o : Option State). let made : Stage = record { first = new; second = o } in made) closed ∙ sym (ap (λ (o : Option State). with_working_state_of stage.first o new) closed),
     )
-    at (Err e) answered = tt
+    at (Err e) entries_by_answer = tt

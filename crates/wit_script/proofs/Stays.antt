@@ -2,12 +2,12 @@
 use Rattle.std.proofs.Common.{◌≡◌, ℕ, suc, zero, ◌+◌, ◌<◌, ◌≤◌, List, [], ◌∷◌, ◌++◌, length, drop, get_or, Option, None, Some, refl, sym, ap, subst, ◌∙◌, inl, inr, arith}
 use Rattle.std.proofs.lemmas.Bool.{cases_order}
 use Rattle.std.specs.Option.{option_and_then}
-use Rattle.wit_script_lines.specs.Statement.{said_of}
+use Rattle.wit_script_lines.specs.Statement.{statement_of}
 use Rattle.wit_script_lines.specs.declared.statement.Statement.{Statement}
 use Rattle.wit_script.proofs.Scripts.{before-more, step_at}
 use Rattle.wit_script.proofs.Stepped.{adds, said-makes, stays}
 use Rattle.wit_script.specs.Ready.{AreReady}
-use Rattle.wit_script.specs.Script.{IsBad, IsBadLine, after_line, after_said, new_reading, reading_before}
+use Rattle.wit_script.specs.Script.{IsBad, IsBadLine, after_line, after_statement_in, new_reading, reading_before}
 use Rattle.wit_script.specs.declared.reader.Reading.{Reading}
 use Rattle.wit_script.specs.declared.ready.ScriptCommand.{ScriptCommand}
 
@@ -17,7 +17,7 @@ front-ready : (commands more : List ScriptCommand) → AreReady (commands ++ mor
 front-ready [] more ready = tt
 front-ready (first ∷ commands) more ready = (ready.0, front-ready commands more ready.1)
 
-said-stays : (r : Reading) (text : List ℕ) (ahead : List (List ℕ)) (o : Option (Option Statement)) (next : Reading) → after_said r text ahead o ≡ Some next → AreReady next.commands → AreReady r.commands
+said-stays : (r : Reading) (text : List ℕ) (ahead : List (List ℕ)) (o : Option (Option Statement)) (next : Reading) → after_statement_in r text ahead o ≡ Some next → AreReady next.commands → AreReady r.commands
 said-stays r text ahead o next made ready = elim (said-makes r text ahead o next made) [
   | stays commands other ↦ subst AreReady commands ready
   | adds command commands waits ↦ front-ready r.commands (command ∷ []) (subst AreReady commands ready)
@@ -29,7 +29,7 @@ line-stays : (r : Reading) (text : List ℕ) (ahead : List (List ℕ)) → ¬ Ar
 line-stays r text ahead bad = at (after_line r text ahead) refl where
   at : (o : Option Reading) → after_line r text ahead ≡ o → IsBad o
   at None made = tt
-  at (Some next) made = λ ready. bad (said-stays r text ahead (said_of text) next made ready)
+  at (Some next) made = λ ready. bad (said-stays r text ahead (statement_of text) next made ready)
 
 bad-step : (lines : List (List ℕ)) (k : ℕ) (o : Option Reading) → IsBad o → IsBad (option_and_then (step_at lines k) o)
 bad-step lines k None bad = tt

@@ -2,16 +2,16 @@
 use Rattle.std.proofs.Common.{◌≡◌, ◌∙◌, ℕ, ◌+◌, length, Bool, true, false, cond, List, [], ◌∷◌, ◌++◌, Option, None, Some, refl, sym, ap, is_some}
 use Rattle.std.specs.Option.{option_and_then, option_map}
 use Rattle.wit_data.specs.declared.unresolved.UnresolvedPackageGroup.{UnresolvedPackageGroup}
-use Rattle.wit_script_package.specs.Draft.{begun, grouped}
+use Rattle.wit_script_package.specs.Draft.{as_group, new_draft}
 use Rattle.wit_script_package.specs.Lines.{with_line}
 use Rattle.wit_script_package.specs.declared.draft.Draft.{Draft}
 use Rattle.wit_script_lines.specs.Signature.{each_of}
 use Rattle.wit_script_lines.specs.declared.request.Request.{Request}
 use Rattle.wit_script_lines.specs.declared.statement.Statement.{Statement}
 use Rattle.wit_script_lines.specs.declared.statement.Statement.TheVariants as says
-use Rattle.wit_script.specs.Ahead.{mentions_ahead}
+use Rattle.wit_script.specs.LinesAhead.{mentions_ahead}
 use Rattle.wit_script.specs.Ready.{other_after, waits_after}
-use Rattle.wit_script.specs.Script.{after_said, with_asked, with_begun, with_current, with_groups, with_statement}
+use Rattle.wit_script.specs.Script.{after_statement_in, with_asked, with_begun, with_current, with_groups, with_statement}
 use Rattle.wit_script.specs.declared.reader.Reading.{Reading}
 use Rattle.wit_script.specs.declared.ready.ScriptCommand.{ScriptCommand}
 use Rattle.wit_script.specs.declared.ready.ScriptCommand.TheVariants as asks
@@ -53,20 +53,20 @@ asked-makes r asked next made =
 
 statement-makes : (r : Reading) (said : Statement) (text : List ℕ) (ahead : List (List ℕ)) (next : Reading) → with_statement r said text ahead ≡ Some next → Makes r next
 statement-makes r (says.Package name) text ahead next made =
-    let p = map-of (with_begun r) (begun name text (mentions_ahead (length text + 1) ahead)) next made in
+    let p = map-of (with_begun r) (new_draft name text (mentions_ahead (length text + 1) ahead)) next made in
     stays (sym (ap (λ (t : Reading). t.commands) p.2)) (sym (ap (λ (t : Reading). t.other) p.2))
 statement-makes r (says.Line said gate) text ahead next made =
     let p = step-of (λ (p : Draft). option_map (with_current r) (with_line p said gate text)) r.current next made in
     let q = map-of (with_current r) (with_line p.0 said gate text) next p.2 in
     stays (sym (ap (λ (t : Reading). t.commands) q.2)) (sym (ap (λ (t : Reading). t.other) q.2))
 statement-makes r says.Push text ahead next made =
-    let p = step-of (λ (p : Draft). option_and_then (with_groups r) (each_of grouped (r.finished ++ p ∷ []))) r.current next made in
-    let groups = step-of (with_groups r) (each_of grouped (r.finished ++ p.0 ∷ [])) next p.2 in
+    let p = step-of (λ (p : Draft). option_and_then (with_groups r) (each_of as_group (r.finished ++ p ∷ []))) r.current next made in
+    let groups = step-of (with_groups r) (each_of as_group (r.finished ++ p.0 ∷ [])) next p.2 in
     groups-make r groups.0 next groups.2
 statement-makes r (says.Request asked) text ahead next made =
     asked-makes r asked next (else-of (is_some r.current) (option_map (with_asked r asked) (other_after asked r.other)) next made)
 
-pub said-makes : (r : Reading) (text : List ℕ) (ahead : List (List ℕ)) (o : Option (Option Statement)) (next : Reading) → after_said r text ahead o ≡ Some next → Makes r next
+pub said-makes : (r : Reading) (text : List ℕ) (ahead : List (List ℕ)) (o : Option (Option Statement)) (next : Reading) → after_statement_in r text ahead o ≡ Some next → Makes r next
 said-makes r text ahead None next made = cc
 said-makes r text ahead (Some None) next made =
     let same : r ≡ next = same-some r next made in stays (sym (ap (λ (t : Reading). t.commands) same)) (sym (ap (λ (t : Reading). t.other) same))

@@ -10,13 +10,13 @@ use Rattle.wit_resolve_graph.specs.State.{State}
 use Rattle.wit_resolve_graph.specs.Step.{Run}
 use Rattle.wit_resolve_graph.specs.declared.command.Command.{Command}
 use Rattle.wit_resolve_graph.specs.declared.command.Reply.{Reply}
-use Rattle.wit_script.specs.Answer.{IsAnswered, IsChoice, IsPrinted, IsSelected, IsTold, package_named, refusal_text, selected_text, world_named}
+use Rattle.wit_script.specs.Answer.{AnswersCommand, AnswersPrint, AnswersSelect, IsChoice, IsResultLine, package_named, refusal_text, selected_text, world_named}
 use Rattle.wit_script.specs.World.{world_text_at}
 
 -- a world that is there
 pub printed_some : {E : Type 0} (g : Graph) (owner : PackageName) (world : List ℕ) (id : ℕ) (answer : Result (String Global) ResolveErrorKind) (told : Result (String Global) E)
     → world_named g owner world ≡ Some id → IfOk answer (λ text. string_bytes text ≡ world_text_at g id) → IfErr answer (λ e. e ≡ OutOfMemory)
-    → IfOk told (λ text. IsTold answer (string_bytes text)) → IfOk told (λ text. IsPrinted g owner world (string_bytes text))
+    → IfOk told (λ text. IsResultLine answer (string_bytes text)) → IfOk told (λ text. AnswersPrint g owner world (string_bytes text))
 printed_some g owner world id (Ok text) (Ok line) there shown lacks said = rw there (inl (said ∙ shown))
 printed_some g owner world id (Err kind) (Ok line) there shown lacks said = rw there (inr (said ∙ ap refusal_text lacks))
 printed_some g owner world id answer (Err e) there shown lacks said = tt
@@ -25,13 +25,13 @@ printed_some g owner world id answer (Err e) there shown lacks said = tt
 pub selected_some : {E : Type 0} (g : Graph) (owner : PackageName) (text : Option (List ℕ)) (id : ℕ) (answer : Result (String Global) ResolveErrorKind) (told : Result (String Global) E)
     → package_named g owner ≡ Some id → IfOk answer (λ out. (world : ℕ) × IsChoice g id text (Ok world) × (string_bytes out ≡ selected_text g world))
     → IfErr answer (λ kind. IsChoice g id text (Err kind))
-    → IfOk told (λ out. IsTold answer (string_bytes out)) → IfOk told (λ out. IsSelected IsChoice g owner text (string_bytes out))
+    → IfOk told (λ out. IsResultLine answer (string_bytes out)) → IfOk told (λ out. AnswersSelect IsChoice g owner text (string_bytes out))
 selected_some g owner text id (Ok out) (Ok line) there shown refused said = rw there (Ok shown.0, shown.1, said ∙ shown.2)
 selected_some g owner text id (Err kind) (Ok line) there shown refused said = rw there (Err kind, refused, said)
 selected_some g owner text id answer (Err e) there shown refused said = tt
 
 -- a run that lacks memory for its replies
 pub answered_lacks : {E : Type 0} (line : Graph → Reply → List ℕ) (before after : State) (command : Command) (kind : ResolveErrorKind) (told : Result (String Global) E)
-    → kind ≡ OutOfMemory → after ≡ before → IfOk told (λ text. string_bytes text ≡ refusal_text kind) → IfOk told (λ text. IsAnswered Run line before command (string_bytes text) after)
+    → kind ≡ OutOfMemory → after ≡ before → IfOk told (λ text. string_bytes text ≡ refusal_text kind) → IfOk told (λ text. AnswersCommand Run line before command (string_bytes text) after)
 answered_lacks line before after command kind (Ok text) lacks same said = inr (same, said ∙ ap refusal_text lacks)
 answered_lacks line before after command kind (Err e) lacks same said = tt

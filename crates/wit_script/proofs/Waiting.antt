@@ -3,7 +3,7 @@
 use Rattle.std.proofs.Common.{◌≡◌, ◌∙◌, ℕ, Bool, false, List, [], ◌∷◌, ◌++◌, Option, None, Some, IsTrue, refl, sym, ap, subst, is_some}
 use Rattle.std.specs.Option.{option_and_then}
 use Rattle.wit_script_lines.specs.Line.{lines_of}
-use Rattle.wit_script_lines.specs.Statement.{said_of}
+use Rattle.wit_script_lines.specs.Statement.{statement_of}
 use Rattle.wit_script_lines.specs.declared.request.Request.{Request}
 use Rattle.wit_script_lines.specs.declared.request.Request.TheVariants as request
 use Rattle.wit_graph_data.specs.declared.graph.Graph.{Graph}
@@ -12,8 +12,8 @@ use Rattle.wit_resolve_graph.specs.declared.command.Command.{Command}
 use Rattle.wit_resolve_graph.specs.declared.command.Reply.{Reply}
 use Rattle.wit_script.proofs.Scripts.{and_then_both}
 use Rattle.wit_script.proofs.Stepped.{Makes, adds, said-makes, same-some, stays, step-of}
-use Rattle.wit_script.specs.Answer.{Answers, Chooses, IsMerged, IsOpened, Replies, Runs, Works, with_active_of}
-use Rattle.wit_script.specs.Ready.{MayAllCome, MayCome, other_after, waits_after, waits_after_all}
+use Rattle.wit_script.specs.Answer.{Answers, AnswersByRun, AnswersMerge, AnswersOther, Chooses, Replies, Runs, with_working_state_of}
+use Rattle.wit_script.specs.Ready.{CanAllBeAsked, CanBeAsked, other_after, waits_after, waits_after_all}
 use Rattle.wit_script.specs.Script.{IsUnderstood, after_line, after_lines, new_reading}
 use Rattle.wit_script.specs.declared.answer.Stage.{Stage}
 use Rattle.wit_script.specs.declared.reader.Reading.{Reading}
@@ -45,9 +45,9 @@ told-after : (r : Reading) (lines : List (List ℕ)) (next : Reading) → after_
 told-after r [] next made told = subst (λ (t : Reading). IsTold t) (same-some r next made) told
 told-after r (text ∷ lines) next made told =
     let p = step-of (λ (t : Reading). after_lines t lines) (after_line r text lines) next made in
-    told-after p.0 lines next p.2 (told-next r p.0 (said-makes r text lines (said_of text) p.0 p.1) told)
+    told-after p.0 lines next p.2 (told-next r p.0 (said-makes r text lines (statement_of text) p.0 p.1) told)
 
-pub understood-come : (text : List ℕ) (commands : List ScriptCommand) → IsUnderstood text commands → MayAllCome commands false
+pub understood-come : (text : List ℕ) (commands : List ScriptCommand) → IsUnderstood text commands → CanAllBeAsked commands false
 understood-come text commands understood =
     let told : IsTold understood.reading = told-after new_reading (lines_of text) understood.reading understood.read refl in
     ap (λ (l : List ScriptCommand). is_some (waits_after_all l false)) (sym understood.asked) ∙ ap is_some told
@@ -55,24 +55,24 @@ understood-come text commands understood =
 -- ---- commands that are answered
 
 -- one can be asked, and then those after it
-pub first-comes : (command : ScriptCommand) (commands : List ScriptCommand) (other : Bool) → MayAllCome (command ∷ commands) other → MayCome command other
+pub first-comes : (command : ScriptCommand) (commands : List ScriptCommand) (other : Bool) → CanAllBeAsked (command ∷ commands) other → CanBeAsked command other
 first-comes command commands other come = of (waits_after command other) come where
   of : (o : Option Bool) → IsTrue (is_some (option_and_then (waits_after_all commands) o)) → IsTrue (is_some o)
   of None come = cc
   of (Some next) come = refl
 
 -- a command on the graph that is open leaves both graphs there
-works-wait : (runs : Runs) (told : Graph → Reply → List ℕ) (before after : Stage) (command : Command) (text : List ℕ) → Works runs told before command text after → is_some before.second ≡ is_some after.second
+works-wait : (runs : Runs) (told : Graph → Reply → List ℕ) (before after : Stage) (command : Command) (text : List ℕ) → AnswersByRun runs told before command text after → is_some before.second ≡ is_some after.second
 works-wait runs told before after command text works = sym (ap (λ (s : Stage). is_some s.second) works.2 ∙ kept before.first before.second works.0) where
-  kept : (first : State) (second : Option State) (new : State) → is_some (with_active_of first second new).second ≡ is_some second
+  kept : (first : State) (second : Option State) (new : State) → is_some (with_working_state_of first second new).second ≡ is_some second
   kept first None new = refl
   kept first (Some second) new = refl
 
-opened-waits : (before after : Stage) (second : Option State) (text : List ℕ) → IsOpened before second text after → other_after request.Other (is_some second) ≡ Some (is_some after.second)
+opened-waits : (before after : Stage) (second : Option State) (text : List ℕ) → AnswersOther before second text after → other_after request.Other (is_some second) ≡ Some (is_some after.second)
 opened-waits before after None text opened = ap (λ (s : Stage). Some (is_some s.second)) (sym opened.1)
 opened-waits before after (Some second) text opened = absurd opened
 
-merged-waits : (runs : Runs) (before after : Stage) (second : Option State) (text : List ℕ) → IsMerged runs before second text after → other_after request.Merge (is_some second) ≡ Some (is_some after.second)
+merged-waits : (runs : Runs) (before after : Stage) (second : Option State) (text : List ℕ) → AnswersMerge runs before second text after → other_after request.Merge (is_some second) ≡ Some (is_some after.second)
 merged-waits runs before after None text merged = absurd merged
 merged-waits runs before after (Some second) text merged = ap (λ (s : Stage). Some (is_some s.second)) (sym merged.2)
 
@@ -93,6 +93,6 @@ module _ (runs : Runs) (chooses : Chooses) (before after : Stage) where
   answers-wait (asks.Push main deps) text works = ap Some (works-wait runs _ before after _ text works)
   answers-wait (asks.Request asked) text replies = replies-wait asked text replies
 
-  pub others-come : (command : ScriptCommand) (commands : List ScriptCommand) (text : List ℕ) → Answers runs chooses before command text after → MayAllCome (command ∷ commands) (is_some before.second)
-      → MayAllCome commands (is_some after.second)
+  pub others-come : (command : ScriptCommand) (commands : List ScriptCommand) (text : List ℕ) → Answers runs chooses before command text after → CanAllBeAsked (command ∷ commands) (is_some before.second)
+      → CanAllBeAsked commands (is_some after.second)
   others-come command commands text answers come = subst (λ (o : Option Bool). IsTrue (is_some (option_and_then (waits_after_all commands) o))) (answers-wait command text answers) come

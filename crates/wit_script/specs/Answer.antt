@@ -25,8 +25,8 @@ use Rattle.wit_resolve_graph.specs.declared.command.Reply.{Reply}
 use Rattle.wit_resolve_graph.specs.declared.command.Reply.TheVariants as reply
 use Rattle.wit_script.specs.World.{world_id_text_at, world_text_at}
 use Rattle.wit_script.specs.declared.answer.Stage.{Stage}
-use Rattle.wit_script.specs.declared.answer.Telling.{Telling}
-use Rattle.wit_script.specs.declared.answer.Telling.TheVariants.{Aloud, Quietly}
+use Rattle.wit_script.specs.declared.answer.ReplyStyle.{ReplyStyle}
+use Rattle.wit_script.specs.declared.answer.ReplyStyle.TheVariants.{Aloud, Quietly}
 use Rattle.wit_script.specs.declared.ready.ScriptCommand.{ScriptCommand}
 use Rattle.wit_script.specs.declared.ready.ScriptCommand.TheVariants as asks
 
@@ -35,9 +35,9 @@ abbrev pub refusal_text : ResolveErrorKind → List ℕ
 refusal_text kind = codes "refused " ++ (decimal (error_number kind) ++ (codes " " ++ (kind_text kind ++ codes "\n")))
 
 -- an answer, or its refusal
-abbrev pub IsTold : Result (String Global) ResolveErrorKind → List ℕ → Type 0
-IsTold (Ok answer) text = text ≡ string_bytes answer
-IsTold (Err kind) text = text ≡ refusal_text kind
+abbrev pub IsResultLine : Result (String Global) ResolveErrorKind → List ℕ → Type 0
+IsResultLine (Ok answer) text = text ≡ string_bytes answer
+IsResultLine (Err kind) text = text ≡ refusal_text kind
 
 -- `pushed PKG`
 abbrev pub pushed_text : Graph → ℕ → List ℕ
@@ -60,58 +60,58 @@ abbrev pub Chooses : Type 1
 Chooses = Graph → ℕ → Option (List ℕ) → Result ℕ ResolveErrorKind → Type 0
 
 -- a graph, and no other
-abbrev pub alone : State → Stage
-alone state = record { first = state; second = None }
+abbrev pub only_first : State → Stage
+only_first state = record { first = state; second = None }
 
 -- the graph on which commands work
-abbrev pub active_of : State → Option State → State
-active_of first None = first
-active_of first (Some second) = second
+abbrev pub working_state_of : State → Option State → State
+working_state_of first None = first
+working_state_of first (Some second) = second
 
-abbrev pub active : Stage → State
-active stage = active_of stage.first stage.second
+abbrev pub working_state : Stage → State
+working_state stage = working_state_of stage.first stage.second
 
 -- the stage after that graph has become another
-abbrev pub with_active_of : State → Option State → State → Stage
-with_active_of first None new = alone new
-with_active_of first (Some second) new = record { first = first; second = Some new }
+abbrev pub with_working_state_of : State → Option State → State → Stage
+with_working_state_of first None new = only_first new
+with_working_state_of first (Some second) new = record { first = first; second = Some new }
 
-abbrev pub with_active : Stage → State → Stage
-with_active stage new = with_active_of stage.first stage.second new
+abbrev pub with_working_state : Stage → State → Stage
+with_working_state stage new = with_working_state_of stage.first stage.second new
 
 -- the line of a reply, where a command that is carried out may answer nothing
-abbrev pub quiet_text : Graph → Reply → List ℕ
-quiet_text g reply.Done = []
-quiet_text g (reply.Pushed id) = reply_text g (reply.Pushed id)
-quiet_text g (reply.Merged remap) = reply_text g (reply.Merged remap)
-quiet_text g reply.NoWorld = reply_text g reply.NoWorld
-quiet_text g (reply.Refused kind) = reply_text g (reply.Refused kind)
+abbrev pub line_unless_done : Graph → Reply → List ℕ
+line_unless_done g reply.Done = []
+line_unless_done g (reply.Pushed id) = reply_text g (reply.Pushed id)
+line_unless_done g (reply.Merged remap) = reply_text g (reply.Merged remap)
+line_unless_done g reply.NoWorld = reply_text g reply.NoWorld
+line_unless_done g (reply.Refused kind) = reply_text g (reply.Refused kind)
 
 -- the line of a reply that is told so
-abbrev pub line_of : Telling → Graph → Reply → List ℕ
+abbrev pub line_of : ReplyStyle → Graph → Reply → List ℕ
 line_of Aloud = reply_text
-line_of Quietly = quiet_text
+line_of Quietly = line_unless_done
 
 -- a run of one command: its replies are told, or the refusal of the run itself, which is want of memory, after
 -- which all is as before
-abbrev pub IsAnswered : Runs → (Graph → Reply → List ℕ) → State → Command → List ℕ → State → Type 0
-IsAnswered runs told before command text after =
+abbrev pub AnswersCommand : Runs → (Graph → Reply → List ℕ) → State → Command → List ℕ → State → Type 0
+AnswersCommand runs told before command text after =
     ((replies : List Reply) × runs before (command ∷ []) replies after × (text ≡ flat_map (told after.graph) replies))
     ⊎ ((after ≡ before) × (text ≡ refusal_text OutOfMemory))
 
--- the same on the graph on which commands work
-abbrev pub Works : Runs → (Graph → Reply → List ℕ) → Stage → Command → List ℕ → Stage → Type 0
-Works runs told before command text after = (new : State) × IsAnswered runs told (active before) command text new × (after ≡ with_active before new)
+-- the answer to a command, on the graph on which commands work
+abbrev pub AnswersByRun : Runs → (Graph → Reply → List ℕ) → Stage → Command → List ℕ → Stage → Type 0
+AnswersByRun runs told before command text after = (new : State) × AnswersCommand runs told (working_state before) command text new × (after ≡ with_working_state before new)
 
 -- `merge`: the second graph goes into the first, and is no longer there
-abbrev pub IsMerged : Runs → Stage → Option State → List ℕ → Stage → Type 0
-IsMerged runs before None text after = ⊥
-IsMerged runs before (Some second) text after = (new : State) × IsAnswered runs reply_text before.first (Merge second) text new × (after ≡ alone new)
+abbrev pub AnswersMerge : Runs → Stage → Option State → List ℕ → Stage → Type 0
+AnswersMerge runs before None text after = ⊥
+AnswersMerge runs before (Some second) text after = (new : State) × AnswersCommand runs reply_text before.first (Merge second) text new × (after ≡ only_first new)
 
 -- `other`: a second graph, which is empty
-abbrev pub IsOpened : Stage → Option State → List ℕ → Stage → Type 0
-IsOpened before None text after = (text ≡ []) × (after ≡ record { first = before.first; second = Some new_state })
-IsOpened before (Some second) text after = ⊥
+abbrev pub AnswersOther : Stage → Option State → List ℕ → Stage → Type 0
+AnswersOther before None text after = (text ≡ []) × (after ≡ record { first = before.first; second = Some new_state })
+AnswersOther before (Some second) text after = ⊥
 
 -- the package of this name
 abbrev pub package_named : Graph → PackageName → Option ℕ
@@ -126,8 +126,8 @@ abbrev pub world_named : Graph → PackageName → List ℕ → Option ℕ
 world_named g owner world = option_and_then (world_in g world) (package_named g owner)
 
 -- `print`: the world, or want of memory; `no world` where it isn't there
-abbrev pub IsPrinted : Graph → PackageName → List ℕ → List ℕ → Type 0
-IsPrinted g owner world text =
+abbrev pub AnswersPrint : Graph → PackageName → List ℕ → List ℕ → Type 0
+AnswersPrint g owner world text =
     MatchOption (world_named g owner world) (text ≡ codes "no world\n") (λ id. (text ≡ world_text_at g id) ⊎ (text ≡ refusal_text OutOfMemory))
 
 -- `selected ID`
@@ -140,30 +140,30 @@ choice_text g (Ok world) = selected_text g world
 choice_text g (Err kind) = refusal_text kind
 
 -- a choice that may be made of a package, told
-abbrev pub IsChoiceTold : Chooses → Graph → ℕ → Option (List ℕ) → List ℕ → Type 0
-IsChoiceTold chooses g id said text = (choice : Result ℕ ResolveErrorKind) × chooses g id said choice × (text ≡ choice_text g choice)
+abbrev pub PrintsChoice : Chooses → Graph → ℕ → Option (List ℕ) → List ℕ → Type 0
+PrintsChoice chooses g id said text = (choice : Result ℕ ResolveErrorKind) × chooses g id said choice × (text ≡ choice_text g choice)
 
 -- `select`: a choice; `no package` where the package isn't there
-abbrev pub IsSelected : Chooses → Graph → PackageName → Option (List ℕ) → List ℕ → Type 0
-IsSelected chooses g owner said text =
-    MatchOption (package_named g owner) (text ≡ codes "no package\n") (λ id. IsChoiceTold chooses g id said text)
+abbrev pub AnswersSelect : Chooses → Graph → PackageName → Option (List ℕ) → List ℕ → Type 0
+AnswersSelect chooses g owner said text =
+    MatchOption (package_named g owner) (text ≡ codes "no package\n") (λ id. PrintsChoice chooses g id said text)
 
--- the answer to a command that hands in no packages, and the stage after it
+-- the answer to a command that brings no packages, and the stage after it
 abbrev pub Replies : Runs → Chooses → Stage → Request → List ℕ → Stage → Type 0
-Replies runs chooses before (request.Feature name) text after = Works runs quiet_text before (AddFeature name) text after
-Replies runs chooses before request.AllFeatures text after = Works runs quiet_text before (SetAllFeatures true) text after
-Replies runs chooses before (request.Tracks rule) text after = Works runs quiet_text before (SetTrackRule rule) text after
-Replies runs chooses before request.Other text after = IsOpened before before.second text after
-Replies runs chooses before request.Merge text after = IsMerged runs before before.second text after
-Replies runs chooses before (request.Importize owner world out) text after = Works runs reply_text before (Importize owner world out) text after
-Replies runs chooses before (request.Exportize owner world out keys) text after = Works runs reply_text before (Exportize owner world out keys) text after
-Replies runs chooses before (request.Semver owner world) text after = Works runs reply_text before (Semver owner world) text after
-Replies runs chooses before (request.Print owner world) text after = (after ≡ before) × IsPrinted (active before).graph owner world text
-Replies runs chooses before (request.Select owner said) text after = (after ≡ before) × IsSelected chooses (active before).graph owner said text
+Replies runs chooses before (request.Feature name) text after = AnswersByRun runs line_unless_done before (AddFeature name) text after
+Replies runs chooses before request.AllFeatures text after = AnswersByRun runs line_unless_done before (SetAllFeatures true) text after
+Replies runs chooses before (request.Tracks rule) text after = AnswersByRun runs line_unless_done before (SetTrackRule rule) text after
+Replies runs chooses before request.Other text after = AnswersOther before before.second text after
+Replies runs chooses before request.Merge text after = AnswersMerge runs before before.second text after
+Replies runs chooses before (request.Importize owner world out) text after = AnswersByRun runs reply_text before (Importize owner world out) text after
+Replies runs chooses before (request.Exportize owner world out keys) text after = AnswersByRun runs reply_text before (Exportize owner world out keys) text after
+Replies runs chooses before (request.Semver owner world) text after = AnswersByRun runs reply_text before (Semver owner world) text after
+Replies runs chooses before (request.Print owner world) text after = (after ≡ before) × AnswersPrint (working_state before).graph owner world text
+Replies runs chooses before (request.Select owner said) text after = (after ≡ before) × AnswersSelect chooses (working_state before).graph owner said text
 
 -- the answer to a command, and the stage after it
 abbrev pub Answers : Runs → Chooses → Stage → ScriptCommand → List ℕ → Stage → Type 0
-Answers runs chooses before (asks.Push main deps) text after = Works runs reply_text before (PushGroups main deps) text after
+Answers runs chooses before (asks.Push main deps) text after = AnswersByRun runs reply_text before (PushGroups main deps) text after
 Answers runs chooses before (asks.Request asked) text after = Replies runs chooses before asked text after
 
 -- the answers to commands, one after another

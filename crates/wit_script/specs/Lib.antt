@@ -1,8 +1,8 @@
+pub mod Answer
+pub mod LinesAhead
+pub mod Prints
+pub mod Ready
+pub mod Script
 pub mod Watched
 pub mod World
-pub mod Ready
-pub mod Ahead
-pub mod Script
-pub mod Answer
-pub mod Prints
 pub mod laws

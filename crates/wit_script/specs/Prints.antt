@@ -4,7 +4,7 @@ use Rattle.std.specs.Fmt.{decimal}
 use Rattle.std.specs.Str.{IsUtf8}
 use Rattle.wit_resolve_graph.specs.State.{new_state}
 use Rattle.wit_resolve_graph.specs.Step.{Run}
-use Rattle.wit_script.specs.Answer.{AnswersAll, Chooses, IsChoice, Runs, alone}
+use Rattle.wit_script.specs.Answer.{AnswersAll, Chooses, IsChoice, Runs, only_first}
 use Rattle.wit_script.specs.Script.{IsNotUnderstood, IsUnderstood}
 use Rattle.wit_script.specs.declared.answer.Stage.{Stage}
 use Rattle.wit_script.specs.declared.ready.ScriptCommand.{ScriptCommand}
@@ -19,7 +19,7 @@ pub record PrintsAnswers (runs : Runs) (chooses : Chooses) (input text : List â„
   pub commands : List ScriptCommand
   pub understood : IsUnderstood input commands
   pub after : Stage
-  pub answered : AnswersAll runs chooses (alone new_state) commands text after
+  pub entries_by_answer : AnswersAll runs chooses (only_first new_state) commands text after
 
 -- what a script prints that isn't understood: the one line
 pub record PrintsLine (input text : List â„•) : Type 0 where

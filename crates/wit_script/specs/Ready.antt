@@ -24,7 +24,7 @@ AreReady commands = AllByRecursion IsReady commands
 
 -- ---- `other` and `merge`
 
--- whether an `other` waits for its `merge` after a command that hands in no packages, where one waited before or none did;
+-- whether an `other` waits for its `merge` after a command that brings no packages, where one waited before or none did;
 -- None where it can't be asked then: `other` once more, or `merge` without it
 abbrev pub other_after : Request → Bool → Option Bool
 other_after request.Other true = None
@@ -33,20 +33,20 @@ other_after request.Merge true = Some false
 other_after request.Merge false = None
 other_after asked other = Some other
 
--- the same of any command
+-- whether an `other` waits for its `merge` after a command, where one waited or none did before it
 abbrev pub waits_after : ScriptCommand → Bool → Option Bool
 waits_after (asks.Push main deps) other = Some other
 waits_after (asks.Request asked) other = other_after asked other
 
--- and of commands, one after another
+-- whether an `other` waits for its `merge` after some commands
 abbrev pub waits_after_all : List ScriptCommand → Bool → Option Bool
 waits_after_all [] other = Some other
 waits_after_all (command ∷ commands) other = option_and_then (waits_after_all commands) (waits_after command other)
 
 -- a command can be asked where an `other` waits or none does
-abbrev pub MayCome : ScriptCommand → Bool → Type 0
-MayCome command other = IsTrue (is_some (waits_after command other))
+abbrev pub CanBeAsked : ScriptCommand → Bool → Type 0
+CanBeAsked command other = IsTrue (is_some (waits_after command other))
 
 -- commands can be asked, each after those before it
-abbrev pub MayAllCome : List ScriptCommand → Bool → Type 0
-MayAllCome commands other = IsTrue (is_some (waits_after_all commands other))
+abbrev pub CanAllBeAsked : List ScriptCommand → Bool → Type 0
+CanAllBeAsked commands other = IsTrue (is_some (waits_after_all commands other))

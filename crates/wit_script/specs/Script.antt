@@ -5,19 +5,19 @@ use Rattle.std.specs.Option.{option_map, option_to_list}
 use Rattle.wit_data.specs.declared.package_name.PackageName.{PackageName}
 use Rattle.wit_data.specs.declared.stability.Stability.{Stability}
 use Rattle.wit_data.specs.declared.unresolved.UnresolvedPackageGroup.{UnresolvedPackageGroup}
-use Rattle.wit_script_package.specs.Draft.{begun, grouped}
+use Rattle.wit_script_package.specs.Draft.{as_group, new_draft}
 use Rattle.wit_script_package.specs.Lines.{with_line}
 use Rattle.wit_script_package.specs.declared.draft.Draft.{Draft}
-use Rattle.wit_script_lines.specs.Line.{last_said_of, lines_of}
+use Rattle.wit_script_lines.specs.Line.{last_statement_line, lines_of}
 use Rattle.wit_script_lines.specs.Signature.{each_of}
-use Rattle.wit_script_lines.specs.Statement.{said_of}
+use Rattle.wit_script_lines.specs.Statement.{statement_of}
 use Rattle.wit_script_lines.specs.declared.fault.LineFault.{LineFault}
 use Rattle.wit_script_lines.specs.declared.fault.LineFault.TheVariants as line_fault
 use Rattle.wit_script_lines.specs.declared.package_line.PackageLine.{PackageLine}
 use Rattle.wit_script_lines.specs.declared.request.Request.{Request}
 use Rattle.wit_script_lines.specs.declared.statement.Statement.{Statement}
 use Rattle.wit_script_lines.specs.declared.statement.Statement.TheVariants as says
-use Rattle.wit_script.specs.Ahead.{mentions_ahead}
+use Rattle.wit_script.specs.LinesAhead.{mentions_ahead}
 use Rattle.wit_script.specs.Ready.{AreReady, other_after}
 use Rattle.wit_script.specs.declared.fault.ReadFault.{ReadFault}
 use Rattle.wit_script.specs.declared.fault.ReadFault.TheVariants as read_fault
@@ -35,7 +35,7 @@ with_begun r p = record r { finished = r.finished ++ option_to_list r.current; c
 
 -- `package PKG`, with what the lines ahead mention
 abbrev pub with_package : Reading → PackageName → List ℕ → List (List ℕ) → Option Reading
-with_package r name line ahead = option_map (with_begun r) (begun name line (mentions_ahead (length line + 1) ahead))
+with_package r name line ahead = option_map (with_begun r) (new_draft name line (mentions_ahead (length line + 1) ahead))
 
 -- a line of the package that gets the lines
 abbrev pub with_current : Reading → Draft → Reading
@@ -55,7 +55,7 @@ with_groups r (main ∷ deps) = Some (record (with_command r (asks.Push main dep
 
 -- `push`, after a package or several, whose files fit into source maps
 abbrev pub with_push : Reading → Option Reading
-with_push r = option_and_then (λ p. option_and_then (with_groups r) (each_of grouped (r.finished ++ p ∷ []))) r.current
+with_push r = option_and_then (λ p. option_and_then (with_groups r) (each_of as_group (r.finished ++ p ∷ []))) r.current
 
 -- another command, after which an `other` waits for its `merge` or none does
 abbrev pub with_asked : Reading → Request → Bool → Reading
@@ -73,14 +73,14 @@ with_statement r says.Push line ahead = with_push r
 with_statement r (says.Request asked) line ahead = with_request r asked
 
 -- what a line says, where it is understood, added: nothing for a line that says nothing
-abbrev pub after_said : Reading → List ℕ → List (List ℕ) → Option (Option Statement) → Option Reading
-after_said r line ahead None = None
-after_said r line ahead (Some None) = Some r
-after_said r line ahead (Some (Some said)) = with_statement r said line ahead
+abbrev pub after_statement_in : Reading → List ℕ → List (List ℕ) → Option (Option Statement) → Option Reading
+after_statement_in r line ahead None = None
+after_statement_in r line ahead (Some None) = Some r
+after_statement_in r line ahead (Some (Some said)) = with_statement r said line ahead
 
 -- a line, before the lines ahead, added
 abbrev pub after_line : Reading → List ℕ → List (List ℕ) → Option Reading
-after_line r line ahead = after_said r line ahead (said_of line)
+after_line r line ahead = after_statement_in r line ahead (statement_of line)
 
 -- lines, one after another
 abbrev pub after_lines : Reading → List (List ℕ) → Option Reading
@@ -133,7 +133,7 @@ pub record IsLeftOpen (lines : List (List ℕ)) (number : ℕ) : Type 0 where
   pub read : reading_of lines ≡ Some reading
   pub ready : AreReady reading.commands
   pub waits : IsTrue (is_some reading.current || reading.other)
-  pub counted : number ≡ last_said_of lines
+  pub counted : number ≡ last_statement_line lines
 
 -- the script isn't understood, and this line is named
 abbrev pub IsNotUnderstood : List ℕ → ℕ → Type 0
@@ -150,10 +150,10 @@ HasReadFault text (read_fault.NotUnderstood number) = IsNotUnderstood text numbe
 HasReadFault text read_fault.OutOfMemory = Unit {0}
 
 -- a state that is reached where there is one
-abbrev pub Leads : {A : Type 0} → Option Reading → Result A LineFault → Reading → Type 0
-Leads expected (Ok done) new = expected ≡ Some new
-Leads expected (Err line_fault.NotUnderstood) new = expected ≡ None
-Leads expected (Err line_fault.OutOfMemory) new = Unit {0}
+abbrev pub IsReadingResult : {A : Type 0} → Option Reading → Result A LineFault → Reading → Type 0
+IsReadingResult expected (Ok done) new = expected ≡ Some new
+IsReadingResult expected (Err line_fault.NotUnderstood) new = expected ≡ None
+IsReadingResult expected (Err line_fault.OutOfMemory) new = Unit {0}
 
 -- a reading that goes on with commands that are ready, or ends at a bad line
 abbrev pub GoesOn : {A : Type 0} → Option Reading → Result A LineFault → Reading → Type 0

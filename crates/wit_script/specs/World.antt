@@ -34,7 +34,7 @@ entry_line g word entry = codes "  " ++ (word ++ (codes " " ++ (entry_text g ent
 abbrev pub world_id_text : Graph → World → List ℕ
 world_id_text g world = option_map_or (λ owner. id_text g.packages owner world.name) world.package []
 
--- the same of a world by its place
+-- the id text of world w, where it is there and has a package
 abbrev pub world_id_text_at : Graph → ℕ → List ℕ
 world_id_text_at g w = option_map_or (world_id_text g) (slice_get g.worlds w) []
 
@@ -44,6 +44,6 @@ world_text g world =
     codes "world " ++ (world_id_text g world ++ (codes "\n" ++
     (flat_map (entry_line g (codes "import")) world.imports ++ flat_map (entry_line g (codes "export")) world.exports)))
 
--- the same of a world by its place
+-- the lines of world w: its id text, its imports, its exports
 abbrev pub world_text_at : Graph → ℕ → List ℕ
 world_text_at g w = option_map_or (world_text g) (slice_get g.worlds w) []

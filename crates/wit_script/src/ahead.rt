@@ -2,10 +2,10 @@
 ghost use Rattle.std.specs.Option.{option_to_list};
 ghost use Rattle.std.specs.Prelude.{◌≡◌, ◌++◌, List, ℕ, map, IfOk, OnOk};
 ghost use Rattle.wit_script_package.specs.declared.mention.Mention.{Mention};
-ghost use Rattle.wit_script_lines.specs.Statement.{said_of};
+ghost use Rattle.wit_script_lines.specs.Statement.{statement_of};
 ghost use Rattle.wit_script_lines.specs.declared.fault.LineFault.TheVariants.{NotUnderstood};
 ghost use Rattle.wit_script_lines.specs.declared.statement.Statement.TheVariants as says;
-ghost use Rattle.wit_script.specs.Ahead.{mentions_ahead, mentions_by, mentions_then, mentions_with};
+ghost use Rattle.wit_script.specs.LinesAhead.{mentions_ahead, mentions_by, mentions_then, mentions_with};
 ghost use Rattle.wit_script.specs.declared.ahead.Ahead.TheVariants as comes;
 
 use std::alloc::{AllocError, Global};
@@ -56,7 +56,7 @@ fn line_ahead(
 }
 
 /// What a line says, where the file of the package has so many bytes before it.
-fn said_ahead(at: usize, line: &str, said: Statement) -> Result<Ahead, AllocError>
+fn statement_ahead(at: usize, line: &str, said: Statement) -> Result<Ahead, AllocError>
     ensures { IfOk result (λ ahead. (after : ℕ → List Mention) → mentions_then ahead at after ≡ mentions_by at line.now after said) }
 {
     match said {
@@ -69,10 +69,10 @@ fn said_ahead(at: usize, line: &str, said: Statement) -> Result<Ahead, AllocErro
 
 /// What a line ahead is, where the file of the package has so many bytes before it.
 fn look_ahead(alloc: Global, at: usize, line: &str) -> Result<Ahead, AllocError>
-    ensures { IfOk result (λ next. (after : ℕ → List Mention) → mentions_then next at after ≡ mentions_with at line.now after (said_of line.now)) }
+    ensures { IfOk result (λ next. (after : ℕ → List Mention) → mentions_then next at after ≡ mentions_with at line.now after (statement_of line.now)) }
 {
     match read_line(alloc, line) {
-        Ok(Some(said)) => said_ahead(at, line, said),
+        Ok(Some(said)) => statement_ahead(at, line, said),
         Ok(None) => Ok(Ahead::Silent),
         Err(fault) => ended(fault),
     }

@@ -5,8 +5,8 @@ ghost use Rattle.wit_resolve_graph.specs.State.{new_state};
 ghost use Rattle.wit_resolve_graph.specs.Step.{Run};
 ghost use Rattle.wit_resolve_graph.specs.CommandShape.{IsCommandShaped};
 ghost use Rattle.wit_resolve_graph.specs.declared.command.Command.TheVariants.{Exportize};
-ghost use Rattle.wit_script.specs.Answer.{IsAnswered, IsChoice, Answers, AnswersAll, IsMerged, IsPrinted, IsSelected, IsTold, Replies, Works, active, alone, line_of, refusal_text, selected_text, pushed_text, quiet_text, reply_text, world_named};
-ghost use Rattle.wit_script.specs.Ready.{MayAllCome, MayCome};
+ghost use Rattle.wit_script.specs.Answer.{AnswersCommand, IsChoice, Answers, AnswersAll, AnswersMerge, AnswersPrint, AnswersSelect, IsResultLine, Replies, AnswersByRun, working_state, only_first, line_of, refusal_text, selected_text, pushed_text, line_unless_done, reply_text, world_named};
+ghost use Rattle.wit_script.specs.Ready.{CanAllBeAsked, CanBeAsked};
 ghost use Rattle.wit_script.specs.declared.answer.Stage.{Stage};
 ghost use Rattle.wit_script.specs.declared.ready.ScriptCommand.TheVariants as asks;
 
@@ -26,7 +26,7 @@ pub struct Stage {
 
 /// How a reply is told.
 #[derive(Clone, Copy)]
-enum Telling {
+enum ReplyStyle {
     /// With a line, whatever it is.
     Aloud,
     /// With nothing where the command is carried out.
@@ -36,7 +36,7 @@ enum Telling {
 impl Stage {
     /// An empty graph, and no other.
     fn new(alloc: Global) -> Stage
-        ensures { result ≡ alone new_state }
+        ensures { result ≡ only_first new_state }
     {
         Stage {
             first: Resolve::new(alloc),
@@ -45,8 +45,8 @@ impl Stage {
     }
 
     /// The graph on which commands work.
-    fn active(&self) -> &Resolve
-        ensures { result.now ≡ active self.now }
+    fn working_state(&self) -> &Resolve
+        ensures { result.now ≡ working_state self.now }
     {
         match &self.second {
             Some(second) => second,
@@ -59,14 +59,14 @@ impl Stage {
         &mut self,
         alloc: Global,
         command: Command,
-        telling: Telling,
+        telling: ReplyStyle,
     ) -> Result<String, AllocError>
         requires { IsCommandShaped command }
-        ensures { IfOk result (λ text. Works Run (line_of telling) self.old command (string_bytes text) self.new) }
+        ensures { IfOk result (λ text. AnswersByRun Run (line_of telling) self.old command (string_bytes text) self.new) }
     {
         match &mut self.second {
-            Some(second) => answered(alloc, second, command, telling),
-            None => answered(alloc, &mut self.first, command, telling),
+            Some(second) => entries_by_answer(alloc, second, command, telling),
+            None => entries_by_answer(alloc, &mut self.first, command, telling),
         }
     }
 
@@ -81,12 +81,12 @@ impl Stage {
     /// `merge`: the second graph goes into the first, and is no longer there, whether it is refused or not.
     fn merge(&mut self, alloc: Global) -> Result<String, AllocError>
         requires { self.old.second ≢ None }
-        ensures { IfOk result (λ text. IsMerged Run self.old self.old.second (string_bytes text) self.new) }
+        ensures { IfOk result (λ text. AnswersMerge Run self.old self.old.second (string_bytes text) self.new) }
     {
         match self.second.take() {
             Some(second) => {
                 let command = Command::Merge(second);
-                answered(alloc, &mut self.first, command, Telling::Aloud)
+                entries_by_answer(alloc, &mut self.first, command, ReplyStyle::Aloud)
             }
             None => unreachable!(),
         }
@@ -96,8 +96,8 @@ impl Stage {
 /// The answers to commands on an empty graph, in order, of which each can be asked after those before it, as
 /// `other_after` tells. Want of memory in a command is told as its answer (28); elsewhere it is the only error.
 pub fn answers_to(alloc: Global, commands: Items<ReadyCommand>) -> Result<String, AllocError>
-    requires { MayAllCome commands false }
-    ensures { IfOk result (λ text. (after : Stage) × AnswersAll Run IsChoice (alone new_state) commands (string_bytes text) after) }
+    requires { CanAllBeAsked commands false }
+    ensures { IfOk result (λ text. (after : Stage) × AnswersAll Run IsChoice (only_first new_state) commands (string_bytes text) after) }
 {
     let mut stage = Stage::new(alloc);
     let mut answers = String::new(alloc);
@@ -110,29 +110,29 @@ pub fn answers_to(alloc: Global, commands: Items<ReadyCommand>) -> Result<String
 
 /// The answer to a command.
 fn answer_to(alloc: Global, stage: &mut Stage, command: ReadyCommand) -> Result<String, AllocError>
-    requires { MayCome command (is_some stage.old.second) }
+    requires { CanBeAsked command (is_some stage.old.second) }
     ensures { IfOk result (λ text. Answers Run IsChoice stage.old command (string_bytes text) stage.new) }
 {
     match command.into_command() {
         ScriptCommand::Push { main, deps } => {
-            stage.work(alloc, Command::PushGroups { main, deps }, Telling::Aloud)
+            stage.work(alloc, Command::PushGroups { main, deps }, ReplyStyle::Aloud)
         }
         ScriptCommand::Request(request) => reply_to(alloc, stage, request),
     }
 }
 
-/// The answer to a command that hands in no packages.
+/// The answer to a command that brings no packages.
 fn reply_to(alloc: Global, stage: &mut Stage, request: Request) -> Result<String, AllocError>
-    requires { MayCome (asks.Request request) (is_some stage.old.second) }
+    requires { CanBeAsked (asks.Request request) (is_some stage.old.second) }
     ensures { IfOk result (λ text. Replies Run IsChoice stage.old request (string_bytes text) stage.new) }
 {
     match request {
-        Request::Feature(name) => stage.work(alloc, Command::AddFeature(name), Telling::Quietly),
+        Request::Feature(name) => stage.work(alloc, Command::AddFeature(name), ReplyStyle::Quietly),
         Request::AllFeatures => {
-            stage.work(alloc, Command::SetAllFeatures(true), Telling::Quietly)
+            stage.work(alloc, Command::SetAllFeatures(true), ReplyStyle::Quietly)
         }
         Request::Tracks(rule) => {
-            stage.work(alloc, Command::SetTrackRule(rule), Telling::Quietly)
+            stage.work(alloc, Command::SetTrackRule(rule), ReplyStyle::Quietly)
         }
         Request::Other => {
             stage.open(alloc);
@@ -149,7 +149,7 @@ fn reply_to(alloc: Global, stage: &mut Stage, request: Request) -> Result<String
                 world,
                 out,
             };
-            stage.work(alloc, command, Telling::Aloud)
+            stage.work(alloc, command, ReplyStyle::Aloud)
         }
         Request::Exportize {
             package,
@@ -158,10 +158,10 @@ fn reply_to(alloc: Global, stage: &mut Stage, request: Request) -> Result<String
             keys,
         } => exportize(alloc, stage, package, world, out, keys),
         Request::Semver { package, world } => {
-            stage.work(alloc, Command::Semver { package, world }, Telling::Aloud)
+            stage.work(alloc, Command::Semver { package, world }, ReplyStyle::Aloud)
         }
-        Request::Print { package, world } => print(alloc, stage.active(), &package, &world),
-        Request::Select { package, text } => select(alloc, stage.active(), &package, &text),
+        Request::Print { package, world } => print(alloc, stage.working_state(), &package, &world),
+        Request::Select { package, text } => select(alloc, stage.working_state(), &package, &text),
     }
 }
 
@@ -174,7 +174,7 @@ fn exportize(
     out: Option<Text>,
     keys: Option<Items<Text>>,
 ) -> Result<String, AllocError>
-    ensures { IfOk result (λ text. Works Run reply_text stage.old (Exportize «package» world out keys) (string_bytes text) stage.new) }
+    ensures { IfOk result (λ text. AnswersByRun Run reply_text stage.old (Exportize «package» world out keys) (string_bytes text) stage.new) }
 {
     let command = Command::Exportize {
         package,
@@ -182,18 +182,18 @@ fn exportize(
         out,
         keys,
     };
-    stage.work(alloc, command, Telling::Aloud)
+    stage.work(alloc, command, ReplyStyle::Aloud)
 }
 
 /// The reply to a command, or the refusal of the run itself.
-fn answered(
+fn entries_by_answer(
     alloc: Global,
     resolve: &mut Resolve,
     command: Command,
-    telling: Telling,
+    telling: ReplyStyle,
 ) -> Result<String, AllocError>
     requires { IsCommandShaped command }
-    ensures { IfOk result (λ text. IsAnswered Run (line_of telling) resolve.old command (string_bytes text) resolve.new) }
+    ensures { IfOk result (λ text. AnswersCommand Run (line_of telling) resolve.old command (string_bytes text) resolve.new) }
 {
     let commands = vec![in alloc; command]?;
     match run(alloc, resolve, commands) {
@@ -207,15 +207,15 @@ fn replies_text(
     alloc: Global,
     resolve: &Resolve,
     replies: &[Reply],
-    telling: Telling,
+    telling: ReplyStyle,
 ) -> Result<String, AllocError>
     ensures { IfOk result (λ text. string_bytes text ≡ flat_map (line_of telling resolve.now.graph) replies.now) }
 {
     let mut text = String::new(alloc);
     for reply in replies {
         let line = match telling {
-            Telling::Aloud => reply_text(alloc, resolve, reply)?,
-            Telling::Quietly => quiet_text(alloc, resolve, reply)?,
+            ReplyStyle::Aloud => reply_text(alloc, resolve, reply)?,
+            ReplyStyle::Quietly => line_unless_done(alloc, resolve, reply)?,
         };
         text.push_str(&line)?;
     }
@@ -236,8 +236,8 @@ fn reply_text(alloc: Global, resolve: &Resolve, reply: &Reply) -> Result<String,
 }
 
 /// The line of a reply, where a command that is carried out answers nothing.
-fn quiet_text(alloc: Global, resolve: &Resolve, reply: &Reply) -> Result<String, AllocError>
-    ensures { IfOk result (λ text. string_bytes text ≡ quiet_text resolve.now.graph reply.now) }
+fn line_unless_done(alloc: Global, resolve: &Resolve, reply: &Reply) -> Result<String, AllocError>
+    ensures { IfOk result (λ text. string_bytes text ≡ line_unless_done resolve.now.graph reply.now) }
 {
     match reply {
         Reply::Done => Ok(String::new(alloc)),
@@ -268,7 +268,7 @@ fn refused(alloc: Global, refusal: &ResolveError) -> Result<String, AllocError>
 
 /// The text of an answer that may be refused.
 fn told(alloc: Global, answer: ResolveResult<String>) -> Result<String, AllocError>
-    ensures { IfOk result (λ text. IsTold answer (string_bytes text)) }
+    ensures { IfOk result (λ text. IsResultLine answer (string_bytes text)) }
 {
     match answer {
         Ok(text) => Ok(text),
@@ -283,7 +283,7 @@ fn print(
     owner: &PackageName,
     world: &Text,
 ) -> Result<String, AllocError>
-    ensures { IfOk result (λ text. IsPrinted resolve.now.graph owner.now world.now (string_bytes text)) }
+    ensures { IfOk result (λ text. AnswersPrint resolve.now.graph owner.now world.now (string_bytes text)) }
 {
     match world_named(resolve, owner, world) {
         Some(id) => told(alloc, print_world(alloc, resolve, id)),
@@ -308,7 +308,7 @@ fn select(
     owner: &PackageName,
     text: &Option<Text>,
 ) -> Result<String, AllocError>
-    ensures { IfOk result (λ out. IsSelected IsChoice resolve.now.graph owner.now text.now (string_bytes out)) }
+    ensures { IfOk result (λ out. AnswersSelect IsChoice resolve.now.graph owner.now text.now (string_bytes out)) }
 {
     match resolve.package_names().get(owner) {
         Some(id) => told(alloc, selected(alloc, resolve, *id, text)),

@@ -1,13 +1,13 @@
 //! From the text of a script to its commands.
 ghost use Rattle.std.specs.Prelude.{◌≡◌, ◌↔◌, ◌||◌, [], ◌∷◌, is_some, map, None, Some, IfOk, IfErr, IfSome, IsTrue, OnOk, not};
-ghost use Rattle.wit_script_package.specs.Draft.{grouped};
-ghost use Rattle.wit_script_lines.specs.steps.IsRead.{IsRead};
+ghost use Rattle.wit_script_package.specs.Draft.{as_group};
+ghost use Rattle.wit_script_lines.specs.steps.ReadResult.{IsRead};
 ghost use Rattle.wit_script_lines.specs.Signature.{each_of};
 ghost use Rattle.wit_data.specs.Each.{Each};
 ghost use Rattle.wit_data.specs.Shape.{IsGroupShaped};
-ghost use Rattle.wit_script_lines.specs.Line.{is_silent, last_said_of};
+ghost use Rattle.wit_script_lines.specs.Line.{is_blank_or_comment, last_statement_line};
 ghost use Rattle.wit_script.specs.Ready.{AreReady};
-ghost use Rattle.wit_script.specs.Script.{GoesOn, HasLineFault, HasReadFault, IsUnderstood, Leads, after_line, after_said, new_reading, reading_of, with_groups, with_package, with_package_line, with_push, with_request};
+ghost use Rattle.wit_script.specs.Script.{GoesOn, HasLineFault, HasReadFault, IsReadingResult, IsUnderstood, after_line, after_statement_in, new_reading, reading_of, with_groups, with_package, with_package_line, with_push, with_request};
 
 use crate::ahead::mentions_ahead;
 use crate::fault::ReadFault;
@@ -48,7 +48,7 @@ fn into_groups(
     alloc: Global,
     packages: Items<Draft>,
 ) -> Result<Items<UnresolvedPackageGroup>, LineFault>
-    ensures { IsRead (each_of grouped packages) result }
+    ensures { IsRead (each_of as_group packages) result }
 {
     let mut groups = Items::new(alloc);
     for package in packages.into_vec() {
@@ -104,7 +104,7 @@ impl Reading {
         ahead: &[&str],
     ) -> Result<(), LineFault>
         requires { AreReady self.old.commands }
-        ensures { GoesOn (after_said self.old line.now (map (λ line. line.now) ahead.now) (Some (Some said))) result self.new }
+        ensures { GoesOn (after_statement_in self.old line.now (map (λ line. line.now) ahead.now) (Some (Some said))) result self.new }
     {
         match said {
             Statement::Package(name) => self.add_package(alloc, name, line, ahead),
@@ -122,7 +122,7 @@ impl Reading {
         line: &str,
         ahead: &[&str],
     ) -> Result<(), LineFault>
-        ensures next { Leads (with_package self.old name line.now (map (λ line. line.now) ahead.now)) result self.new }
+        ensures next { IsReadingResult (with_package self.old name line.now (map (λ line. line.now) ahead.now)) result self.new }
         ensures commands { self.new.commands ≡ self.old.commands }
     {
         let mentions = mentions_ahead(alloc, line.len() + 1, ahead)?;
@@ -141,7 +141,7 @@ impl Reading {
         gate: Stability,
         line: &str,
     ) -> Result<(), LineFault>
-        ensures next { Leads (with_package_line self.old said gate line.now) result self.new }
+        ensures next { IsReadingResult (with_package_line self.old said gate line.now) result self.new }
         ensures commands { self.new.commands ≡ self.old.commands }
     {
         let Some(package) = self.current.take() else {
@@ -217,7 +217,7 @@ fn add_line(
 ) -> Result<bool, LineFault>
     requires { AreReady reading.old.commands }
     ensures next { GoesOn (after_line reading.old line.now (map (λ line. line.now) ahead.now)) result reading.new }
-    ensures told { IfOk result (λ said. said ≡ not (is_silent line.now)) }
+    ensures told { IfOk result (λ said. said ≡ not (is_blank_or_comment line.now)) }
 {
     match read_line(alloc, line)? {
         None => Ok(false),
@@ -233,7 +233,7 @@ fn add_lines(alloc: Global, reading: &mut Reading, lines: &[&str]) -> Result<usi
     requires { reading.old ≡ new_reading }
     ensures read { OnOk result (reading_of (map (λ line. line.now) lines.now) ≡ Some reading.new) }
     ensures ready { OnOk result (AreReady reading.new.commands) }
-    ensures last { IfOk result (λ last. last ≡ last_said_of (map (λ line. line.now) lines.now)) }
+    ensures last { IfOk result (λ last. last ≡ last_statement_line (map (λ line. line.now) lines.now)) }
     ensures fault { IfErr result (λ fault. HasLineFault (map (λ line. line.now) lines.now) fault) }
 {
     let mut last = 0;

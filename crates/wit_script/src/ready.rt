@@ -18,7 +18,7 @@ pub enum ScriptCommand {
     Request(Request),
 }
 
-/// Whether an `other` waits for its `merge` after a command that hands in no package, where one waited before or none
+/// Whether an `other` waits for its `merge` after a command that brings no package, where one waited before or none
 /// did. None where the command can't be asked then: `other` once more, or `merge` without it.
 pub fn other_after(request: &Request, other: bool) -> Option<bool>
     ensures { result ≡ other_after request.now other }

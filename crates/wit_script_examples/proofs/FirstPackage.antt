@@ -6,9 +6,9 @@ use Rattle.std.specs.Map.{lookup}
 use Rattle.std.specs.Prelude.{is_some}
 use Rattle.wit_digraph.specs.facts.MemberFacts.{Contains-nil}
 use Rattle.wit_digraph.specs.Relation.{direct}
-use Rattle.wit_digraph.specs.Walks.{first_of_each, walk, walk_within}
+use Rattle.wit_digraph.specs.PostOrder.{first_of_each, post_order, post_order_within}
 use Rattle.wit_sources.specs.SourceMap.{Sources}
-use Rattle.wit_sources.specs.Span.{Place, moved_by}
+use Rattle.wit_sources.specs.Span.{OptionalSpan, moved_by}
 use Rattle.wit_data.specs.Each.{SomeAt}
 use Rattle.wit_data.specs.PackageOrder.{same_package}
 use Rattle.wit_data.specs.declared.function.Function.{Function}
@@ -24,15 +24,15 @@ use Rattle.wit_graph_data.specs.declared.features.Features.{Features}
 use Rattle.wit_graph_data.specs.declared.graph.Graph.{Graph}
 use Rattle.wit_graph_theory.specs.facts.OptionFacts.{some_same}
 use Rattle.wit_graph_theory.specs.examples.TestFacts.{none_in, none_some, not_passed, only_one}
-use Rattle.wit_link_order.specs.Sorting.{AreSorted, Handed, IsGroupOrder, IsHandedTwice, IsSortCause, handed_uses}
+use Rattle.wit_link_order.specs.GroupOrder.{AreSorted, IsDefinedTwice, IsGroupOrder, IsSortCause, Unresolved, group_uses}
 use Rattle.wit_link_spec.specs.Addition.{Addition}
-use Rattle.wit_link_spec.specs.Cause.{IsAccepted, IsCause}
+use Rattle.wit_link_spec.specs.Cause.{AdditionIsAccepted, IsCause}
 use Rattle.wit_link_spec.specs.Cause as reason
 use Rattle.wit_link_spec.specs.Gates.{IsAsked}
 use Rattle.wit_link_spec.specs.Gates as asked
-use Rattle.wit_link_spec.specs.Include.{Lists}
+use Rattle.wit_link_spec.specs.Include.{EntryLists}
 use Rattle.wit_link_spec.specs.Pushed.{pushed}
-use Rattle.wit_link_spec.specs.Reasons.{HasImage, IsActiveFunction, RefersTo, Thing}
+use Rattle.wit_link_spec.specs.Reasons.{IsActiveFunction, IsResolved, RefersTo, Thing}
 use Rattle.wit_link_spec.specs.Reasons as part
 use Rattle.wit_link_spec.specs.WorldReasons.{AtWorld, HaveLists}
 use Rattle.wit_link_spec.specs.WorldReasons as reached
@@ -49,19 +49,19 @@ module _ (features : Features) (g : Graph) (offset : ℕ) where
   abbrev pub of_first : Addition
   of_first = addition features g first_package offset
 
-  abbrev pub alone : List Handed
+  abbrev pub alone : List Unresolved
   alone = (first_package, offset) ∷ []
 
   -- ---- one package can always be sorted
 
-  not_twice : (name : PackageName) (span1 span2 : Place) → IsHandedTwice alone name span1 span2 → ⊥
+  not_twice : (name : PackageName) (span1 span2 : OptionalSpan) → IsDefinedTwice alone name span1 span2 → ⊥
   not_twice name span1 span2 t = not_later t.earlier t.later t.before t.second
     where
-      not_later : (earlier later : ℕ) → earlier < later → SomeAt alone later (λ (p : Handed). (p.0.name ≡ name) × (span1 ≡ moved_by p.1 p.0.package_name_span)) → ⊥
+      not_later : (earlier later : ℕ) → earlier < later → SomeAt alone later (λ (p : Unresolved). (p.0.name ≡ name) × (span1 ≡ moved_by p.1 p.0.package_name_span)) → ⊥
       not_later earlier zero before second = absurd (omega (arith, before))
       not_later earlier (suc later) before second = second
 
-  uses_none : (user used : ℕ) → Contains (direct (handed_uses alone) user) used → ⊥
+  uses_none : (user used : ℕ) → Contains (direct (group_uses alone) user) used → ⊥
   uses_none zero used inside = none_in used inside
   uses_none (suc user) used inside = none_in used inside
 
@@ -73,7 +73,7 @@ module _ (features : Features) (g : Graph) (offset : ℕ) where
   sortable _ none = none
 
   in_order : IsGroupOrder alone (0 ∷ [])
-  unfolding walk walk_within
+  unfolding post_order post_order_within
   in_order = record { roots = 0 ∷ []; all = record { moves = []; below = tt; is = refl }; by_name = λ k d low high. absurd (omega (arith, high)); is = refl }
 
   pub sorted : AreSorted alone (0 ∷ []) alone
@@ -85,21 +85,21 @@ module _ (features : Features) (g : Graph) (offset : ℕ) where
   roots_are (a ∷ []) moved = ap (λ (x : ℕ). x ∷ []) (sym (only_one a 0 (Contains-permutation (0 ∷ []) (a ∷ []) 0 moved (0, lit< tt, refl))))
   roots_are (a ∷ b ∷ roots) moved = absurd (omega (arith, length_permutation (0 ∷ []) (a ∷ b ∷ roots) moved))
 
-  order_is : (roots order : List ℕ) → IsPermutation (0 ∷ []) roots → order ≡ first_of_each (flat_map (walk (handed_uses alone)) roots) → 0 ∷ [] ≡ order
-  unfolding walk walk_within
-  order_is roots order moved = subst (λ (r : List ℕ). order ≡ first_of_each (flat_map (walk (handed_uses alone)) r) → 0 ∷ [] ≡ order) (roots_are roots moved) (λ is. sym is)
+  order_is : (roots order : List ℕ) → IsPermutation (0 ∷ []) roots → order ≡ first_of_each (flat_map (post_order (group_uses alone)) roots) → 0 ∷ [] ≡ order
+  unfolding post_order post_order_within
+  order_is roots order moved = subst (λ (r : List ℕ). order ≡ first_of_each (flat_map (post_order (group_uses alone)) r) → 0 ∷ [] ≡ order) (roots_are roots moved) (λ is. sym is)
 
-  ordered : (handed : List Handed) → AllZip (λ (i : ℕ) (p : Handed). slice_get alone i ≡ Some p) (0 ∷ []) handed → alone ≡ handed
+  ordered : (unresolved : List Unresolved) → AllZip (λ (i : ℕ) (p : Unresolved). slice_get alone i ≡ Some p) (0 ∷ []) unresolved → alone ≡ unresolved
   ordered [] are = absurd are
-  ordered (p ∷ []) are = ap (λ (q : Handed). q ∷ []) (some_same _ p are.0)
-  ordered (p ∷ q ∷ handed) are = absurd are.1
+  ordered (p ∷ []) are = ap (λ (q : Unresolved). q ∷ []) (some_same _ p are.0)
+  ordered (p ∷ q ∷ unresolved) are = absurd are.1
 
-  pub order_alone : (order : List ℕ) (handed : List Handed) → AreSorted alone order handed → 0 ∷ [] ≡ order
-  order_alone order handed are = order_is are.is_order.roots order are.is_order.all are.is_order.is
+  pub order_alone : (order : List ℕ) (unresolved : List Unresolved) → AreSorted alone order unresolved → 0 ∷ [] ≡ order
+  order_alone order unresolved are = order_is are.is_order.roots order are.is_order.all are.is_order.is
 
-  pub sorted_alone : (order : List ℕ) (handed : List Handed) → AreSorted alone order handed → alone ≡ handed
-  sorted_alone order handed are =
-      ordered handed (subst (λ (o : List ℕ). AllZip (λ (i : ℕ) (p : Handed). slice_get alone i ≡ Some p) o handed) (sym (order_alone order handed are)) are.are)
+  pub sorted_alone : (order : List ℕ) (unresolved : List Unresolved) → AreSorted alone order unresolved → alone ≡ unresolved
+  sorted_alone order unresolved are =
+      ordered unresolved (subst (λ (o : List ℕ). AllZip (λ (i : ℕ) (p : Unresolved). slice_get alone i ≡ Some p) o unresolved) (sym (order_alone order unresolved are)) are.are)
 
   -- ---- adding it
 
@@ -114,11 +114,11 @@ module _ (features : Features) (g : Graph) (offset : ℕ) where
   no_function f (part.of_interface i interface name _ at active inside on) = nowhere i interface at
   no_function f (part.of_world w world k _ at active inside on) = nowhere w world at
 
-  world_of_lists : (k : ℕ) (world : World) (lists : Lists) (moves : ℕ) → HaveLists of_first k world lists moves → ⊥
+  world_of_lists : (k : ℕ) (world : World) (lists : EntryLists) (moves : ℕ) → HaveLists of_first k world lists moves → ⊥
   world_of_lists k _ _ _ (reached.made at image fine) = no_world k at
   world_of_lists k _ _ _ (reached.written at none) = no_world k at
 
-  asks_nothing : (note : Stability) (place : Place) → IsAsked features first_package note place → ⊥
+  asks_nothing : (note : Stability) (place : OptionalSpan) → IsAsked features first_package note place → ⊥
   asks_nothing _ _ (asked.of_type t def at) = nowhere t def at
   asks_nothing _ _ (asked.of_interface i interface note at inside) = nowhere i interface at
   asks_nothing _ _ (asked.of_world w world note at inside) = nowhere w world at
@@ -126,14 +126,14 @@ module _ (features : Features) (g : Graph) (offset : ℕ) where
   asks_nothing _ _ (asked.of_entry w world e note place at active has notes) = nowhere w world at
   asks_nothing _ _ (asked.of_include w world i at active inside) = nowhere w world at
 
-  refers_to_nothing : (thing : Thing) (place : Place) → RefersTo of_first thing place → ⊥
+  refers_to_nothing : (thing : Thing) (place : OptionalSpan) → RefersTo of_first thing place → ⊥
   refers_to_nothing _ _ (part.of_type t def named place at active inside) = nowhere t def at
   refers_to_nothing _ _ (part.of_foreign_type t def i at foreign active owned) = nowhere t def at
   refers_to_nothing _ _ (part.of_function f named active inside) = no_function f active
   refers_to_nothing _ _ (part.of_entry w world k i note docs place external_id at active has on) = nowhere w world at
   refers_to_nothing _ _ (part.of_include w world i at active inside on) = nowhere w world at
 
-  has_image : HasImage of_first
+  has_image : IsResolved of_first
   has_image = record {
     packages = λ span requested known c. nowhere c.at (requested, c.items) c.names;
     worlds = λ span requested home c. Contains-nil c.names;
@@ -152,7 +152,7 @@ module _ (features : Features) (g : Graph) (offset : ℕ) where
   pushed_alone new (id ∷ id' ∷ ids) (mid, added, more) = absurd more
 
   module _ (absent : is_some (lookup (same_package foo_bar) g.package_names) ≡ false) where
-    pub accepted : IsAccepted of_first
+    pub accepted : AdditionIsAccepted of_first
     accepted _ (reason.package_not_found_1 span requested known c) = has_image.packages span requested known c
     accepted _ (reason.world_not_found_2 span requested home c) = has_image.worlds span requested home c
     accepted _ (reason.interface_not_found_3 span requested home c) = has_image.interfaces span requested home c
@@ -173,21 +173,21 @@ module _ (features : Features) (g : Graph) (offset : ℕ) where
     accepted _ (reason.offset_overflow_27 c) = none_some _ (only_one None (Some (c.from, c.to)) c.known)
 
     -- so no package of the one is refused
-    no_more : (before after : List Handed) (p : Handed) → [] ≡ before ++ p ∷ after → ⊥
+    no_more : (before after : List Unresolved) (p : Unresolved) → [] ≡ before ++ p ∷ after → ⊥
     no_more [] after p is = cc
     no_more (x ∷ xs) after p is = cc
 
-    tail_is : (x y : Handed) (xs ys : List Handed) → x ∷ xs ≡ y ∷ ys → xs ≡ ys
+    tail_is : (x y : Unresolved) (xs ys : List Unresolved) → x ∷ xs ≡ y ∷ ys → xs ≡ ys
     tail_is x y xs ys same = cc
 
-    head_is : (x y : Handed) (xs ys : List Handed) → x ∷ xs ≡ y ∷ ys → x ≡ y
+    head_is : (x y : Unresolved) (xs ys : List Unresolved) → x ∷ xs ≡ y ∷ ys → x ≡ y
     head_is x y xs ys same = cc
 
-    none_refused : (before after : List Handed) (p : Handed) (mid : Graph) (ids : List ℕ) (error : ResolveErrorKind) → alone ≡ before ++ p ∷ after → ArePushed features g before mid ids
+    none_refused : (before after : List Unresolved) (p : Unresolved) (mid : Graph) (ids : List ℕ) (error : ResolveErrorKind) → alone ≡ before ++ p ∷ after → ArePushed features g before mid ids
         → IsCause (addition features mid p.0 p.1) error → ⊥
     none_refused [] after p mid [] error is same cause =
         let of_it : IsCause (addition features mid first_package offset) error =
-        subst (λ (q : Handed). IsCause (addition features mid q.0 q.1) error) (sym (head_is (first_package, offset) p [] after is)) cause in
+        subst (λ (q : Unresolved). IsCause (addition features mid q.0 q.1) error) (sym (head_is (first_package, offset) p [] after is)) cause in
         accepted error (subst (λ (m : Graph). IsCause (addition features m first_package offset) error) same of_it)
     none_refused [] after p mid (id ∷ ids) error is pushes cause = absurd pushes
     none_refused (x ∷ xs) after p mid ids error is pushes cause = no_more xs after p (tail_is (first_package, offset) x [] (xs ++ p ∷ after) is)

@@ -1,7 +1,7 @@
--- Small merges against which nothing speaks, and one that is refused for what its interfaces are under.
+-- Small merges against which no cause holds, and one that is refused for what its interfaces are under.
 use Rattle.std.proofs.Common.{◌≡◌, ◌∙◌, ℕ, zero, suc, true, List, [], ◌∷◌, ◌++◌, Option, Some, None, slice_get, refl, sym, ap, subst, Contains}
 use Rattle.wit_digraph.specs.facts.MemberFacts.{Contains-nil}
-use Rattle.wit_sources.specs.Span.{Place}
+use Rattle.wit_sources.specs.Span.{OptionalSpan}
 use Rattle.wit_data.specs.declared.interface.Interface.{Interface}
 use Rattle.wit_data.specs.declared.package_name.PackageName.{PackageName}
 use Rattle.wit_data.specs.declared.stability.Stability.{Stability}
@@ -13,10 +13,10 @@ use Rattle.wit_graph_theory.specs.FunctionMismatch.{HaveFunctionMismatch}
 use Rattle.wit_graph_theory.specs.examples.TestFacts.{all_uses, falls, no_cycle, none_some, only_one}
 use Rattle.wit_merge_spec.specs.Agreement.{GraphsDiffer}
 use Rattle.wit_merge_spec.specs.Agreement as differ
-use Rattle.wit_merge_spec.specs.Cause.{CanMerge, IsMergeCause}
+use Rattle.wit_merge_spec.specs.Cause.{IsMergeCause, MergeIsAccepted}
 use Rattle.wit_merge_spec.specs.Cause as reason
-use Rattle.wit_merge_spec.specs.Matches.{Merging, Pair, found_interface, found_type, found_world}
-use Rattle.wit_merge_spec.specs.Reasons.{AreJoined, Mismatches}
+use Rattle.wit_merge_spec.specs.Matches.{GraphMerge, Pair, counterpart_interface, counterpart_type, counterpart_world}
+use Rattle.wit_merge_spec.specs.Reasons.{AreJoined, StabilitiesMismatch}
 use Rattle.wit_merge_spec.specs.Reasons as joins
 use Rattle.wit_merge_spec.specs.United.{joined_graph}
 use Rattle.wit_merge_structure.specs.Structure.{DifferInStructure, Feature, structure, structure_within}
@@ -41,22 +41,22 @@ no_types found t t' text d = in_front d.first.before d.first.after d.x d.first.x
 -- ---- packages alone
 
 module _ (ps : List Package) (ns : List (PackageName × ℕ)) (qs : List Package) (ms : List (PackageName × ℕ)) (offset : ℕ) where
-  abbrev of_packages : Merging
+  abbrev of_packages : GraphMerge
   of_packages = record { graph = bare ps ns; other = bare qs ms; offset = offset }
 
   none_joined : (from into : Stability) → AreJoined of_packages from into → ⊥
-  none_joined from into (joins.types p) = no_pair (found_type of_packages) [] p
-  none_joined from into (joins.interfaces p) = no_pair (found_interface of_packages) [] p
-  none_joined from into (joins.worlds p) = no_pair (found_world of_packages) [] p
-  none_joined from into (joins.entries p exported i i' _ _ matched comes there) = no_pair (found_world of_packages) [] p
+  none_joined from into (joins.types p) = no_pair (counterpart_type of_packages) [] p
+  none_joined from into (joins.interfaces p) = no_pair (counterpart_interface of_packages) [] p
+  none_joined from into (joins.worlds p) = no_pair (counterpart_world of_packages) [] p
+  none_joined from into (joins.entries p exported i i' _ _ matched comes there) = no_pair (counterpart_world of_packages) [] p
 
   none_differ : (message : List ℕ) → GraphsDiffer of_packages message → ⊥
-  none_differ _ (differ.interfaces p home there name text named of is told) = no_pair (found_interface of_packages) [] p
-  none_differ _ (differ.worlds p home there exported text of is told) = no_pair (found_world of_packages) [] p
-  none_differ _ (differ.types message first) = no_types (found_type of_packages) first.pair.from first.pair.into first.ending first.differs
+  none_differ _ (differ.interfaces p home there name text named of is told) = no_pair (counterpart_interface of_packages) [] p
+  none_differ _ (differ.worlds p home there exported text of is told) = no_pair (counterpart_world of_packages) [] p
+  none_differ _ (differ.types message first) = no_types (counterpart_type of_packages) first.pair.from first.pair.into first.ending first.differs
 
   module _ (falling : all_uses (falls (λ p. p)) (graph_package_uses (joined_graph of_packages)) ≡ true) where
-    pub packages_merge : CanMerge of_packages
+    pub packages_merge : MergeIsAccepted of_packages
     packages_merge _ (reason.conflict_4 span name one c) = Contains-nil c.there
     packages_merge _ (reason.package_cycle_6 home one c) = no_cycle (λ p. p) (graph_package_uses (joined_graph of_packages)) falling c.p c.q c.on_cycle
     packages_merge _ (reason.mismatch_8 from into c) = none_joined from into c.joined
@@ -68,21 +68,21 @@ module _ (ps : List Package) (ns : List (PackageName × ℕ)) (qs : List Package
 -- ---- one interface under a gate
 
 module _ (f g : List ℕ) (offset : ℕ) where
-  abbrev of_gates : Merging
+  abbrev of_gates : GraphMerge
   of_gates = record { graph = gated f; other = gated g; offset = offset }
 
   -- the two gates alone are joined
   gates_joined : (from into : Stability) → AreJoined of_gates from into → (gate g ≡ from) × (gate f ≡ into)
-  gates_joined _ _ (joins.types p) = absurd (no_pair (found_type of_gates) [] p)
+  gates_joined _ _ (joins.types p) = absurd (no_pair (counterpart_type of_gates) [] p)
   gates_joined _ _ (joins.interfaces p) = (ap (λ (i : Interface). i.stability) (the_one _ p.from p.x p.from_is), ap (λ (i : Interface). i.stability) (the_one _ p.into p.x' p.into_is))
-  gates_joined _ _ (joins.worlds p) = absurd (no_pair (found_world of_gates) [] p)
-  gates_joined _ _ (joins.entries p exported i i' from into matched comes there) = absurd (no_pair (found_world of_gates) [] p)
+  gates_joined _ _ (joins.worlds p) = absurd (no_pair (counterpart_world of_gates) [] p)
+  gates_joined _ _ (joins.entries p exported i i' from into matched comes there) = absurd (no_pair (counterpart_world of_gates) [] p)
 
-  of_mismatch : (span : Place) (from into : Stability) → IsMergeCause of_gates (StabilityMismatch span from into) → Mismatches of_gates from into
+  of_mismatch : (span : OptionalSpan) (from into : Stability) → IsMergeCause of_gates (StabilityMismatch span from into) → StabilitiesMismatch of_gates from into
   of_mismatch _ _ _ (reason.mismatch_8 from into c) = c
 
   -- 8 is told of these, in this order
-  pub told_gates : (span : Place) (from into : Stability) → IsMergeCause of_gates (StabilityMismatch span from into) → (gate g ≡ from) × (gate f ≡ into)
+  pub told_gates : (span : OptionalSpan) (from into : Stability) → IsMergeCause of_gates (StabilityMismatch span from into) → (gate g ≡ from) × (gate f ≡ into)
   told_gates span from into c = gates_joined from into (of_mismatch span from into c).joined
 
   -- where they differ it is told
@@ -97,14 +97,14 @@ module _ (f g : List ℕ) (offset : ℕ) where
 
   agree : (message : List ℕ) → GraphsDiffer of_gates message → ⊥
   agree _ (differ.interfaces p home there name text named of is told) = no_function p.from p.into p.x text p.from_is told
-  agree _ (differ.worlds p home there exported text of is told) = no_pair (found_world of_gates) [] p
-  agree _ (differ.types message first) = no_types (found_type of_gates) first.pair.from first.pair.into first.ending first.differs
+  agree _ (differ.worlds p home there exported text of is told) = no_pair (counterpart_world of_gates) [] p
+  agree _ (differ.types message first) = no_types (counterpart_type of_gates) first.pair.from first.pair.into first.ending first.differs
 
   module _ (same : gate g ≡ gate f) where
-    join : (from into : Stability) → Mismatches of_gates from into → ⊥
+    join : (from into : Stability) → StabilitiesMismatch of_gates from into → ⊥
     join from into c = let gates = gates_joined from into c.joined in c.apart.differ (sym gates.0 ∙ (same ∙ gates.1))
 
-    pub gates_merge : CanMerge of_gates
+    pub gates_merge : MergeIsAccepted of_gates
     gates_merge _ (reason.conflict_4 span name one c) = Contains-nil c.there
     gates_merge _ (reason.package_cycle_6 home one c) = no_cycle (λ p. p) (graph_package_uses (joined_graph of_gates)) refl c.p c.q c.on_cycle
     gates_merge _ (reason.mismatch_8 from into c) = join from into c

@@ -15,11 +15,11 @@ use Rattle.wit_graph_data.specs.declared.graph.Graph.{Graph}
 use Rattle.wit_graph_theory.specs.examples.TestFacts.{feature_of}
 use Rattle.wit_remap.specs.declared.remap.Remap.{Remap}
 use Rattle.wit_merge.specs.Remapped.{remap_of}
-use Rattle.wit_merge_spec.specs.Cause.{CanMerge}
-use Rattle.wit_merge_spec.specs.Matches.{Merging}
-use Rattle.wit_merge_spec.specs.Moved.{going}
+use Rattle.wit_merge_spec.specs.Cause.{MergeIsAccepted}
+use Rattle.wit_merge_spec.specs.Matches.{GraphMerge}
+use Rattle.wit_merge_spec.specs.Remapped.{merge_remap}
 use Rattle.wit_merge_spec.specs.United.{united}
-use Rattle.wit_resolve_graph.specs.Merging.{FilesPass, Merges, merging}
+use Rattle.wit_resolve_graph.specs.Merging.{FilesPass, Merges, merge_of}
 use Rattle.wit_resolve_graph.specs.State.{State, new_state}
 use Rattle.wit_resolve_graph.specs.declared.command.Reply.TheVariants.{Merged}
 use Rattle.wit_script_examples.proofs.Mergeable.{gates_apart, gates_merge, packages_merge, told_gates}
@@ -47,11 +47,11 @@ g_not_f = differ (codes "g") (codes "f") refl
 
 -- ---- what is done
 
-abbrev of_states : Graph → Graph → Merging
-of_states g other = merging (first_of g) (second_of other)
+abbrev of_states : Graph → Graph → GraphMerge
+of_states g other = merge_of_graphs (first_of g) (second_of other)
 
--- a merge is done where nothing speaks against it
-merges : (g other made : Graph) (remap : Remap) → CanMerge (of_states g other) → made ≡ united (of_states g other) → remap ≡ remap_of (going (of_states g other)) → MayMerge g other (Merged remap) (after made)
+-- a merge is done where no cause holds against it
+merges : (g other made : Graph) (remap : Remap) → MergeIsAccepted (of_states g other) → made ≡ united (of_states g other) → remap ≡ remap_of (merge_remap (of_states g other)) → MayMerge g other (Merged remap) (after made)
 merges g other made remap accepted graph remap_is =
     (after made, record { fits = lit< tt; accepted = accepted; graph = graph; features = refl; rule = refl; files = refl; remap_is = remap_is }, refl)
 
@@ -114,7 +114,7 @@ refused_are = record {
   not_its_features = λ run. false≢true (sym (ap (λ (s : State). s.features.all) run.2 ∙ ap (λ (f : Features). f.all) run.1.features));
   not_its_rule = λ run. false≢true (sym (ap is_other_rule run.2 ∙ ap is_with_prereleases run.1.rule));
   not_without_file = λ run. let ends : 10 ≡ 20 = ap (λ (s : State). s.source_map.end) run.2 ∙ ap (λ (f : Sources). f.end) run.1.files in absurd (omega (arith, ends));
-  not_turned = λ new run.
+  not_transformed = λ new run.
       elim run.1.cause [
         | inl memory ↦ cc
         | inr told ↦ elim told [ inl cause ↦ gates_f_g (told_gates (codes "f") (codes "g") 10 _ _ _ cause).0 | inr far ↦ far ]

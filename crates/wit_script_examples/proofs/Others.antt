@@ -6,15 +6,15 @@ use Rattle.std.specs.List.{flat_map}
 use Rattle.std.specs.Prelude.{codes}
 use Rattle.wit_data.specs.declared.track.TrackRule.TheVariants.{WithPrereleases}
 use Rattle.wit_graph_data.specs.declared.graph.Graph.{Graph}
-use Rattle.wit_merge_spec.specs.Cause.{CanMerge}
+use Rattle.wit_merge_spec.specs.Cause.{MergeIsAccepted}
 use Rattle.wit_merge_spec.specs.United.{united}
-use Rattle.wit_resolve_graph.specs.Merging.{merging}
+use Rattle.wit_resolve_graph.specs.Merging.{merge_of}
 use Rattle.wit_resolve_graph.specs.State.{State, new_state}
 use Rattle.wit_resolve_graph.specs.Step.{Run}
 use Rattle.wit_resolve_graph.specs.declared.command.Command.TheVariants.{Merge}
 use Rattle.wit_resolve_graph.specs.declared.command.Reply.{Reply}
 use Rattle.wit_resolve_graph.specs.declared.command.Reply.TheVariants as reply
-use Rattle.wit_script.specs.Answer.{IsAnswered as IsAnswer, IsMerged, alone, reply_text, with_active}
+use Rattle.wit_script.specs.Answer.{AnswersCommand as IsAnswer, AnswersMerge, only_first, reply_text, with_working_state}
 use Rattle.wit_script.specs.declared.answer.Stage.{Stage}
 use Rattle.wit_script_examples.proofs.Mergeable.{gates_apart, packages_merge}
 use Rattle.wit_script_examples.proofs.Merges.{gate_in, gates_f_g, merges_are, packages_in, g_not_f, refused_are}
@@ -28,8 +28,8 @@ use Rattle.wit_script_examples.specs.StepExamples.{both}
 -- merged or refused, by the first letter of the text, and what becomes of the first graph
 record IsDone (old other new : State) (text : List ℕ) : Type 0 where
   says : letter text ≡ 109
-  accepted : CanMerge (merging old other)
-  graph : new.graph ≡ united (merging old other)
+  accepted : MergeIsAccepted (merge_of_graphs old other)
+  graph : new.graph ≡ united (merge_of_graphs old other)
   rule : new.track_rule ≡ old.track_rule
 
 record IsRefused (old new : State) (text : List ℕ) : Type 0 where
@@ -125,7 +125,7 @@ merge_lines = record {
       codes "merged\n",
       (with_rule, inl (reply.Done ∷ [], (with_rule, refl, refl), refl), refl),
       (
-        alone bar,
+        only_first bar,
         codes "merged\n",
         [],
         (
@@ -146,8 +146,8 @@ merge_lines = record {
   );
   lines_not_set = λ all.
       let set = all.4.3 in
-      let opens : all.4.0 ≡ both bar set.0 = set.2 ∙ ap (λ (s : Stage). with_active s set.0) all.3.1 in
-      let last : IsMerged Run (both bar set.0) (both bar set.0).second all.4.4.1 all.4.4.0 = subst (λ (s : Stage). IsMerged Run s s.second all.4.4.1 all.4.4.0) opens all.4.4.3 in
+      let opens : all.4.0 ≡ both bar set.0 = set.2 ∙ ap (λ (s : Stage). with_working_state s set.0) all.3.1 in
+      let last : AnswersMerge Run (both bar set.0) (both bar set.0).second all.4.4.1 all.4.4.0 = subst (λ (s : Stage). AnswersMerge Run s s.second all.4.4.1 all.4.4.0) opens all.4.4.3 in
       let same : true ≡ is_with_prereleases last.0.track_rule = ap (λ (s : Stage). is_other_rule s.first) (all.4.4.4.1 ∙ last.2) in
       false≢true (sym (same ∙ ap is_with_prereleases (rule_stays bar set.0 last.0 all.4.4.1 last.1)));
 }

@@ -3,21 +3,21 @@ use Rattle.std.proofs.Common.{◌≡◌, ◌∙◌, ◌⊎◌, ◌≤◌, ◌<�
 use Rattle.std.specs.Map.{lookup}
 use Rattle.std.specs.Prelude.{Result, Ok, Err, is_some}
 use Rattle.wit_sources.specs.SourceMap.{Sources}
-use Rattle.wit_sources.specs.Span.{Place, start_of}
+use Rattle.wit_sources.specs.Span.{OptionalSpan, start_of}
 use Rattle.wit_data.specs.PackageOrder.{same_package}
 use Rattle.wit_data.specs.declared.unresolved.UnresolvedPackageGroup.{UnresolvedPackageGroup}
 use Rattle.wit_graph_data.specs.examples.Samples.{foo_bar}
 use Rattle.wit_graph_data.specs.declared.error_kind.ResolveErrorKind.{ResolveErrorKind}
 use Rattle.wit_graph_data.specs.declared.error_kind.ResolveErrorKind.TheVariants.{DuplicatePackage, OffsetOverflow, OutOfMemory}
 use Rattle.wit_graph_data.specs.declared.graph.Graph.{Graph}
-use Rattle.wit_link_order.specs.Sorting.{Handed}
+use Rattle.wit_link_order.specs.GroupOrder.{Unresolved}
 use Rattle.wit_link_spec.specs.Pushed.{pushed}
 use Rattle.wit_link.specs.Groups.{IsGroupsCause, files_end}
 use Rattle.wit_link.specs.Several.{ArePushed}
 use Rattle.wit_resolve_graph.specs.examples.Examples.{first_package}
 use Rattle.wit_resolve_graph.specs.examples.FilesExamples.{ending}
 use Rattle.wit_resolve_graph.specs.Merging.{HasSourcesAfter}
-use Rattle.wit_resolve_graph.specs.Sources.{IsNoSource, IsNotPlaced, PassesTheEnd, PushesAnswer, RefusesAnswer, TellsAnswer}
+use Rattle.wit_resolve_graph.specs.Sources.{FaultOverflows, IsNoSource, IsNotPlaced, PushesAnswer, RefusesAnswer, RefusesParse}
 use Rattle.wit_resolve_graph.specs.examples.SourcesExamples.{bad_at, once, source, twice}
 use Rattle.wit_resolve_graph.specs.State.{State}
 use Rattle.wit_resolve_graph.specs.Step.{PushesGroups}
@@ -39,7 +39,7 @@ just_fits : (contents : List ℕ) → length contents ≡ 4294967294 → IsNoSou
 just_fits contents long (inl memory) = cc
 just_fits contents long (inr (told, far)) = absurd (omega (arith, long, far))
 
-not_read : (contents : List ℕ) (span : Place) (message : List ℕ) → IsNoSource contents (fault.Parse span message) → ⊥
+not_read : (contents : List ℕ) (span : OptionalSpan) (message : List ℕ) → IsNoSource contents (fault.Parse span message) → ⊥
 not_read contents span message (inl memory) = cc
 not_read contents span message (inr (told, far)) = cc
 
@@ -62,27 +62,27 @@ starts (fault.Resolve kind) = 0
 -- ---- texts that can't be read
 
 -- no place is told of what isn't placed
-no_place : (old : State) (files : Sources) (span at : Place) (message : List ℕ) (new : State) → IsNotPlaced old files span (fault.Parse at message) new → ⊥
+no_place : (old : State) (files : Sources) (span at : OptionalSpan) (message : List ℕ) (new : State) → IsNotPlaced old files span (fault.Parse at message) new → ⊥
 no_place old files span at message new p = elim p.cause [ inl memory ↦ cc | inr far ↦ let told = far.0 in cc ]
 
-room : PassesTheEnd once source (Some (13, 18)) → ⊥
+room : FaultOverflows once source (Some (13, 18)) → ⊥
 room (inl far) = absurd (omega (arith, far))
 room (inr far) = absurd (omega (arith, far))
 
-file_room : PassesTheEnd once file (Some (0, 7)) → ⊥
+file_room : FaultOverflows once file (Some (0, 7)) → ⊥
 file_room (inl far) = absurd (omega (arith, far))
 file_room (inr far) = absurd (omega (arith, far))
 
 -- nor is it told at its place without its file, or where it was
-not_left_out : TellsAnswer once (Err bad) (bad_at 38 43) once → ⊥
+not_left_out : RefusesParse once (Err bad) (bad_at 38 43) once → ⊥
 not_left_out (inl p) = let ends : 25 ≡ 50 = end_is twice once p.placed in absurd (omega (arith, ends))
 not_left_out (inr p) = no_place once source (Some (13, 18)) _ _ once p
 
-not_moved : TellsAnswer once (Err bad) (bad_at 13 18) twice → ⊥
+not_moved : RefusesParse once (Err bad) (bad_at 13 18) twice → ⊥
 not_moved (inl p) = let start : 13 ≡ 38 = ap starts p.told_is in absurd (omega (arith, start))
 not_moved (inr p) = no_place once source (Some (13, 18)) _ _ twice p
 
-memory_not_added : TellsAnswer once (Err bad) (fault.Resolve OutOfMemory) twice → ⊥
+memory_not_added : RefusesParse once (Err bad) (fault.Resolve OutOfMemory) twice → ⊥
 memory_not_added (inl p) = let told = p.told_is in cc
 memory_not_added (inr p) = let ends : 50 ≡ 25 = end_is once twice p.same in absurd (omega (arith, ends))
 
@@ -153,7 +153,7 @@ pushes_are : (old : State) (id : ℕ) (new : State) → PushesGroups old (made_o
 pushes_are old id new p =
     let same = sorted_alone old.features old.graph old.source_map.end p.order p.sorted p.are_sorted in
     let are =
-    pushed_alone old.features old.graph old.source_map.end new.graph p.ids (subst (λ (s : List Handed). ArePushed old.features old.graph s new.graph p.ids) (sym same) p.are_pushed) in
+    pushed_alone old.features old.graph old.source_map.end new.graph p.ids (subst (λ (s : List Unresolved). ArePushed old.features old.graph s new.graph p.ids) (sym same) p.are_pushed) in
     (sym (the_one (length old.graph.packages) id p.place (subst (λ (ids : List ℕ). slice_get ids p.place ≡ Some id) are.0 p.id_is)), are.1)
 
 pub parsed : ExamplesOfParsed
@@ -207,14 +207,14 @@ fitting told (inl memory) = memory
 fitting told (inr (is, far)) = let past : 4294967296 ≤ 18 = far in absurd (omega (arith, past))
 
 -- what is told of a source that is refused: before the parse, or of its answer
-told_of : (f : Parse) (g : Graph) (told : SourceFault) (new : State) → Refuses f g told new → (IsNoSource text told × (new ≡ before g)) ⊎ TellsAnswer (before g) (f file) told new
+told_of : (f : Parse) (g : Graph) (told : SourceFault) (new : State) → Refuses f g told new → (IsNoSource text told × (new ≡ before g)) ⊎ RefusesParse (before g) (f file) told new
 told_of f g told new (inl none) = inl none
-told_of f g told new (inr r) = inr (subst (λ (answer : Result UnresolvedPackageGroup ParseFault). TellsAnswer (before g) answer told new) r.given r.tells)
+told_of f g told new (inr r) = inr (subst (λ (answer : Result UnresolvedPackageGroup ParseFault). RefusesParse (before g) answer told new) r.given r.tells)
 
 wants_memory : (told : SourceFault) (new : State) → Refuses wanting nothing told new → (told ≡ fault.Resolve OutOfMemory) × (new ≡ before nothing)
 wants_memory told new refused = elim (told_of wanting nothing told new refused) [ inl none ↦ (fitting told none.0, none.1) | inr tells ↦ tells ]
 
-failing_is : (at : Place) (message : List ℕ) (new : State) → Refuses failing nothing (fault.Parse at message) new → (fault.Parse at message ≡ bad_at 25 32) × (new ≡ behind nothing)
+failing_is : (at : OptionalSpan) (message : List ℕ) (new : State) → Refuses failing nothing (fault.Parse at message) new → (fault.Parse at message ≡ bad_at 25 32) × (new ≡ behind nothing)
 failing_is at message new refused =
     elim (told_of failing nothing (fault.Parse at message) new refused) [
       | inl none ↦ absurd (not_read text at message none.0)

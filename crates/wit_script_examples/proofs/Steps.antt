@@ -24,7 +24,7 @@ use Rattle.wit_semver_spec.specs.TrackCause.{IsTrackCause}
 use Rattle.wit_semver_examples.specs.CauseExamples.{ExamplesOfCauses, failed, without_type}
 use Rattle.wit_semver_examples.specs.Releases.{called, foo_main, foo_x}
 use Rattle.wit_semver_examples.specs.RewrittenExamples.{ExamplesOfRewriting, ExamplesOfRules, first_release, of_three, three}
-use Rattle.wit_script.specs.Answer.{quiet_text}
+use Rattle.wit_script.specs.Answer.{line_unless_done}
 use Rattle.wit_script.specs.declared.answer.Stage.{Stage}
 use Rattle.wit_script_examples.specs.StepExamples.{ExamplesOfAnswers, ExamplesOfSteps, by_prereleases, published}
 
@@ -133,9 +133,9 @@ module _ (rewriting : ExamplesOfRewriting) (rules : ExamplesOfRules) (causes : E
     by_rule = (
       by_prereleases releases,
       refl,
-      (by_prereleases (first_release (1 ∷ [])), record { w = 0; there = w_of_releases; accepted = causes.fine_together; is_changed = ap by_prereleases (sym rules.together) }, refl),
+      (by_prereleases (first_release (1 ∷ [])), record { w = 0; there = w_of_releases; accepted = causes.accepted_together; is_changed = ap by_prereleases (sym rules.together) }, refl),
     );
-    before = (published releases, record { w = 0; there = w_of_releases; accepted = causes.fine_apart; is_changed = ap published (sym rules.apart) }, refl);
+    before = (published releases, record { w = 0; there = w_of_releases; accepted = causes.accepted_apart; is_changed = ap published (sym rules.apart) }, refl);
     not_ignored = λ run.
         rules.not_ignored
         (graph_of_step run.0 (by_prereleases releases) (rewritten WithPrereleases releases) run.1.w (only_w run.1.w (in_releases (codes "w") run.1.w run.1.there))
@@ -149,7 +149,7 @@ module _ (rewriting : ExamplesOfRewriting) (rules : ExamplesOfRules) (causes : E
   first_rule s = is_other_rule s.first
 
   -- the rule is set without a word
-  quiet : (replies : List Reply) (new : State) → Run new_state (SetTrackRule WithPrereleases ∷ []) replies new → flat_map (quiet_text new.graph) replies ≡ []
+  quiet : (replies : List Reply) (new : State) → Run new_state (SetTrackRule WithPrereleases ∷ []) replies new → flat_map (line_unless_done new.graph) replies ≡ []
   quiet [] new run = absurd run
   quiet (reply.Done ∷ []) new run = refl
   quiet (reply.Pushed id ∷ []) new run = absurd run.1

@@ -3,7 +3,7 @@ use Rattle.std.specs.Prelude.{◌≡◌, ℕ, List, [], ◌∷◌, Some, None, c
 use Rattle.wit_data.specs.declared.package_name.PackageName.{PackageName}
 use Rattle.wit_data.specs.declared.stability.Stability.TheVariants.{Unknown, Unstable}
 use Rattle.wit_data.specs.declared.use_path.ParsedUsePath.TheVariants as path
-use Rattle.wit_script_lines.specs.Statement.{said_of}
+use Rattle.wit_script_lines.specs.Statement.{statement_of}
 use Rattle.wit_script_lines.specs.declared.package_line.PackageLine.TheVariants as line
 use Rattle.wit_script_lines.specs.declared.request.Request.TheVariants as request
 use Rattle.wit_data.specs.declared.track.TrackRule.TheVariants as rule
@@ -22,19 +22,19 @@ a_b = package_of (codes "a") (codes "b")
 
 -- a line that says this
 abbrev pub Says : List ℕ → Statement → Type 0
-Says text said = said_of text ≡ Some (Some said)
+Says text said = statement_of text ≡ Some (Some said)
 
 -- a line that isn't understood, wherever it stands
 abbrev pub IsNeverUnderstood : List ℕ → Type 0
-IsNeverUnderstood text = said_of text ≡ None
+IsNeverUnderstood text = statement_of text ≡ None
 
 -- a type by its name
 abbrev pub named : List ℕ → TypeText
 named name = record { wraps = []; core = written.Named name }
 
 pub record ExamplesOfLines : Type 0 where
-  pub nothing : said_of (codes "   ") ≡ Some None
-  pub comment : said_of (codes "  # push") ≡ Some None
+  pub nothing : statement_of (codes "   ") ≡ Some None
+  pub comment : statement_of (codes "  # push") ≡ Some None
   pub package_line : Says (codes " package  a:b ") (says.Package a_b)
   pub gated : Says (codes "interface i @unstable=f") (says.Line (line.Interface (codes "i")) (Unstable (codes "f") None))
   pub world_line : Says (codes "world w") (says.Line (line.World (codes "w")) Unknown)

@@ -1,6 +1,6 @@
 -- Another state that goes into one, as a step: merges that are done, merges that are refused, and what neither does.
 use Rattle.std.specs.Prelude.{◌≡◌, ℕ, List, [], ◌∷◌, Some, None, codes}
-use Rattle.wit_sources.specs.Span.{Place}
+use Rattle.wit_sources.specs.Span.{OptionalSpan}
 use Rattle.wit_data.specs.declared.stability.Stability.{Stability}
 use Rattle.wit_data.specs.declared.track.TrackRule.TheVariants.{WithPrereleases}
 use Rattle.wit_graph_data.specs.examples.Samples.{foo_bar}
@@ -62,7 +62,7 @@ pub record ExamplesOfMerges : Type 0 where
   pub not_its_id : MayMerge (one foo_bar) (one foo_baz) (Merged (at (0 ∷ []))) (after (two foo_bar foo_baz)) → ⊥
   -- an interface under the same gate is there already
   pub interface_there : MayMerge (gated (codes "f")) (gated (codes "f")) (Merged (interface_at 0 (0 ∷ []))) (after (gated (codes "f")))
-  -- nothing but want of memory is told where nothing speaks against the merge
+  -- nothing but want of memory is told where no cause holds against the merge
   pub not_refused : (error : ResolveErrorKind) (new : State) → MayMerge (one foo_bar) (one foo_baz) (Refused error) new → error ≡ OutOfMemory
   -- a rule that was set before stays, whatever that of the other
   pub rule_stays : Run new_state (SetTrackRule WithPrereleases ∷ Merge new_state ∷ []) (Done ∷ Merged (at []) ∷ []) (record new_state { track_rule = WithPrereleases })
@@ -86,10 +86,10 @@ pub record ExamplesOfRefusedMerges : Type 0 where
   pub not_its_rule : MayMerge (gated (codes "f")) (gated (codes "g")) (gates_differ (codes "g") (codes "f")) (record (after (gated (codes "f"))) { track_rule = WithPrereleases }) → ⊥
   pub not_without_file : MayMerge (gated (codes "f")) (gated (codes "g")) (gates_differ (codes "g") (codes "f")) (first_of (gated (codes "f"))) → ⊥
   -- nor is it told the other way round, or done
-  pub not_turned : (new : State) → MayMerge (gated (codes "f")) (gated (codes "g")) (gates_differ (codes "f") (codes "g")) new → ⊥
+  pub not_transformed : (new : State) → MayMerge (gated (codes "f")) (gated (codes "g")) (gates_differ (codes "f") (codes "g")) new → ⊥
   pub not_done : (remap : Remap) (new : State) → MayMerge (gated (codes "f")) (gated (codes "g")) (Merged remap) new → ⊥
   -- under one gate nothing is refused for it
-  pub no_cause : (span : Place) (from into : Stability) (new : State) → MayMerge (gated (codes "f")) (gated (codes "f")) (Refused (StabilityMismatch span from into)) new → ⊥
+  pub no_cause : (span : OptionalSpan) (from into : Stability) (new : State) → MayMerge (gated (codes "f")) (gated (codes "f")) (Refused (StabilityMismatch span from into)) new → ⊥
   -- 27: the files of both would end past the last position, so they are left out; up to it they come
   pub too_far : Takes (ending 4294967290) (ending 6) (Refused OffsetOverflow) (ending 4294967290)
   pub not_placed : Takes (ending 4294967290) (ending 6) (Refused OffsetOverflow) (ending 4294967296) → ⊥

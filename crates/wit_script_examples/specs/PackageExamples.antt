@@ -17,9 +17,9 @@ use Rattle.wit_data.specs.declared.world.WorldKey.TheVariants as key
 use Rattle.wit_script_lines.specs.Line.{lines_of}
 use Rattle.wit_script_lines.specs.declared.request.Request.TheVariants as request
 use Rattle.wit_script_package.specs.Adding.{empty_interface, empty_world, type_with}
-use Rattle.wit_script_package.specs.Lines.{entry_of}
-use Rattle.wit_script_package.specs.Naming.{Place}
-use Rattle.wit_script_package.specs.declared.draft.Standing.{Standing}
+use Rattle.wit_script_package.specs.Lines.{interface_entry}
+use Rattle.wit_script_package.specs.Naming.{OptionalSpan}
+use Rattle.wit_script_package.specs.declared.draft.LineContext.{LineContext}
 use Rattle.wit_script.specs.Script.{reading_of}
 use Rattle.wit_script.specs.declared.ready.ScriptCommand.{ScriptCommand}
 use Rattle.wit_script.specs.declared.ready.ScriptCommand.TheVariants as asks
@@ -34,20 +34,20 @@ abbrev pub IsNeverRead : List ℕ → Type 0
 IsNeverRead text = reading_of (lines_of text) ≡ None
 
 -- the place of a line, without a gate and with the gate of a feature
-abbrev pub at : ℕ → ℕ → Place
+abbrev pub at : ℕ → ℕ → OptionalSpan
 at start end = Some (start, end)
 
-abbrev pub here : ℕ → ℕ → Standing
+abbrev pub here : ℕ → ℕ → LineContext
 here start end = record { gate = Unknown; span = at start end }
 
-abbrev pub under : List ℕ → ℕ → ℕ → Standing
+abbrev pub under : List ℕ → ℕ → ℕ → LineContext
 under feature start end = record { gate = Unstable feature None; span = at start end }
 
 -- a type of an owner, and one without
-abbrev pub named : List ℕ → TypeDefKind → TypeOwner → Standing → TypeDef
+abbrev pub named : List ℕ → TypeDefKind → TypeOwner → LineContext → TypeDef
 named name made owned stands = type_with (Some name) made owned stands
 
-abbrev pub unnamed : TypeDefKind → Standing → TypeDef
+abbrev pub unnamed : TypeDefKind → LineContext → TypeDef
 unnamed made stands = type_with None made owner.None stands
 
 -- a package with this file, as a group of its own
@@ -67,8 +67,8 @@ first_package = record {
   docs = record { contents = None };
   worlds =
       record (empty_world (codes "w") (here 112 119)) {
-        imports = (key.Interface 0, entry_of 0 (here 120 132)) ∷ [];
-        exports = (key.Name (codes "lab"), entry_of 1 (here 133 145)) ∷ [];
+        imports = (key.Interface 0, interface_entry 0 (here 120 132)) ∷ [];
+        exports = (key.Name (codes "lab"), interface_entry 1 (here 133 145)) ∷ [];
       }
       ∷ [];
   interfaces =
@@ -117,7 +117,7 @@ gates_package = record {
   name = a_b;
   package_name_span = at 0 11;
   docs = record { contents = None };
-  worlds = record (empty_world (codes "w") (here 90 97)) { imports = (key.Interface 0, entry_of 0 (under (codes "g") 98 122)) ∷ [] } ∷ [];
+  worlds = record (empty_world (codes "w") (here 90 97)) { imports = (key.Interface 0, interface_entry 0 (under (codes "g") 98 122)) ∷ [] } ∷ [];
   interfaces =
       record (empty_interface (codes "e") (here 24 49)) { types = (codes "t", 0) ∷ [] }
       ∷ record (empty_interface (codes "i") (here 12 23)) { types = (codes "u", 1) ∷ (codes "v", 2) ∷ (codes "h", 3) ∷ [] }
@@ -129,7 +129,7 @@ gates_package = record {
       ∷ named (codes "v") (kind.Type_ (type.Id 0)) (owner.Interface 1) (here 50 63)
       ∷ named (codes "h") (kind.Handle (handle.Own 2)) (owner.Interface 1) (under (codes "k") 64 89)
       ∷ [];
-  -- the foreign interface has a note for each line that names it
+  -- the foreign interface has a gate for each line that names it
   foreign_deps =
       (package_of (codes "c") (codes "d"), (codes "e", (foreign.Interface 0, Unstable (codes "f") None ∷ Unknown ∷ Unstable (codes "g") None ∷ [])) ∷ []) ∷ [];
   foreign_dep_spans = at 24 49 ∷ [];
@@ -214,7 +214,7 @@ main_package = record {
   name = a_b;
   package_name_span = at 0 11;
   docs = record { contents = None };
-  worlds = record (empty_world (codes "w") (here 12 19)) { imports = (key.Interface 0, entry_of 0 (here 20 32)) ∷ [] } ∷ [];
+  worlds = record (empty_world (codes "w") (here 12 19)) { imports = (key.Interface 0, interface_entry 0 (here 20 32)) ∷ [] } ∷ [];
   interfaces = empty_interface (codes "e") (here 20 32) ∷ [];
   types = [];
   foreign_deps = (package_of (codes "c") (codes "d"), (codes "e", (foreign.Interface 0, Unknown ∷ [])) ∷ []) ∷ [];
@@ -270,7 +270,7 @@ pub record ExamplesOfPackages : Type 0 where
   pub no_name : IsNeverRead (codes "package a:b\ninterface i\nfunc [get]()")
   pub unknown_group : IsNeverRead (codes "package a:b\ninterface i\nfunc [x]p()")
   pub group_twice : IsNeverRead (codes "package a:b\ninterface i\nfunc [get][set]p()")
-  pub groups_turned : IsNeverRead (codes "package a:b\ninterface i\nresource r\nfunc [set][method]r.p()")
+  pub groups_transformed : IsNeverRead (codes "package a:b\ninterface i\nresource r\nfunc [set][method]r.p()")
   -- no dot, no such resource
   pub no_dot : IsNeverRead (codes "package a:b\ninterface i\nresource r\nfunc [method]r()")
   pub no_resource : IsNeverRead (codes "package a:b\ninterface i\nfunc [method]r.m()")

@@ -11,7 +11,7 @@ use Rattle.wit_data.specs.declared.unresolved.UnresolvedPackageGroup.{Unresolved
 use Rattle.wit_data.specs.declared.world.WorldKey.TheVariants as key
 use Rattle.wit_script_lines.specs.declared.request.Request.TheVariants as request
 use Rattle.wit_script_package.specs.Adding.{empty_interface, empty_world}
-use Rattle.wit_script_package.specs.Lines.{entry_of}
+use Rattle.wit_script_package.specs.Lines.{interface_entry}
 use Rattle.wit_script.specs.Script.{IsNotUnderstood, IsUnderstood}
 use Rattle.wit_script.specs.declared.ready.ScriptCommand.TheVariants as asks
 use Rattle.wit_script_examples.specs.LineExamples.{package_of}
@@ -35,7 +35,7 @@ first_group = group_of (record {
   name = foo_bar;
   package_name_span = at 0 15;
   docs = record { contents = None };
-  worlds = record (empty_world (codes "w") (here 90 97)) { imports = (key.Interface 2, entry_of 2 (here 98 106)) ∷ [] } ∷ [];
+  worlds = record (empty_world (codes "w") (here 90 97)) { imports = (key.Interface 2, interface_entry 2 (here 98 106)) ∷ [] } ∷ [];
   interfaces =
       record (empty_interface (codes "a") (here 16 27)) { types = (codes "t", 0) ∷ [] }
       ∷ record (empty_interface (codes "b") (here 39 50)) { types = (codes "t", 1) ∷ [] }
@@ -84,7 +84,7 @@ pub record ExamplesOfScripts : Type 0 where
   pub foreign_twice : IsNotUnderstood (codes "package a:b\nworld w\nimport c:d/e\nimport c:d/e\n") 4
   -- one thing of another package as an interface and as a world
   pub foreign_twofold : IsNotUnderstood (codes "package a:b\nworld w\nimport c:d/e\ninclude c:d/e\n") 4
-  -- another graph that goes nowhere, a third one, one that is not there
+  -- another graph that isn't remapped, a third one, one that is not there
   pub unmerged : IsNotUnderstood (codes "other\nfeature f\n\n# end\n") 2
   pub other_twice : IsNotUnderstood (codes "feature f\nother\nother\nmerge\n") 3
   pub merge_twice : IsNotUnderstood (codes "other\nmerge\nmerge\n") 3

@@ -2,14 +2,14 @@
 use Rattle.std.specs.Prelude.{◌≡◌, ◌⊎◌, ℕ, List, [], Some, None, Result, Ok, Err, codes, length, ⊤}
 use Rattle.std.specs.Fn.{Once}
 use Rattle.wit_sources.specs.SourceMap.{Sources, with_sources}
-use Rattle.wit_sources.specs.Span.{Place}
+use Rattle.wit_sources.specs.Span.{OptionalSpan}
 use Rattle.wit_data.specs.declared.unresolved.UnresolvedPackageGroup.{UnresolvedPackageGroup}
 use Rattle.wit_graph_data.specs.examples.Samples.{foo_bar}
 use Rattle.wit_graph_data.specs.declared.error_kind.ResolveErrorKind.TheVariants.{DuplicatePackage, OffsetOverflow, OutOfMemory}
 use Rattle.wit_graph_data.specs.declared.graph.Graph.{Graph}
 use Rattle.wit_resolve_graph.specs.examples.Examples.{first_package}
 use Rattle.wit_resolve_graph.specs.examples.FilesExamples.{ending}
-use Rattle.wit_resolve_graph.specs.Sources.{IsNoSource, PushesAnswer, PushesSource, RefusesAnswer, RefusesSource, TellsAnswer, only_file}
+use Rattle.wit_resolve_graph.specs.Sources.{IsNoSource, PushesAnswer, PushesSource, RefusesAnswer, RefusesParse, RefusesSource, only_file}
 use Rattle.wit_resolve_graph.specs.examples.SourcesExamples.{bad_at, full, once, source, twice}
 use Rattle.wit_resolve_graph.specs.State.{State}
 use Rattle.wit_resolve_graph.specs.declared.sources.ParseFault.{ParseFault}
@@ -27,7 +27,7 @@ pub record ExamplesOfNoSources : Type 0 where
   -- memory may be wanted for any
   pub memory : (contents : List ℕ) → IsNoSource contents (fault.Resolve OutOfMemory)
   -- nothing else is told before a parse
-  pub not_read : (contents : List ℕ) (span : Place) (message : List ℕ) → IsNoSource contents (fault.Parse span message) → ⊥
+  pub not_read : (contents : List ℕ) (span : OptionalSpan) (message : List ℕ) → IsNoSource contents (fault.Parse span message) → ⊥
   pub not_there : (contents : List ℕ) → IsNoSource contents (fault.Resolve (DuplicatePackage foo_bar None None)) → ⊥
 
 -- ---- what comes of an answer
@@ -60,20 +60,20 @@ is_there = fault.Resolve (DuplicatePackage foo_bar None None)
 
 pub record ExamplesOfParsed : Type 0 where
   -- a parse that wants memory: 28, and all is as it was
-  pub memory : TellsAnswer once (Err parse.OutOfMemory) (fault.Resolve OutOfMemory) once
-  pub memory_not_added : TellsAnswer once (Err parse.OutOfMemory) (fault.Resolve OutOfMemory) twice → ⊥
-  pub memory_alone : (told : SourceFault) (new : State) → TellsAnswer once (Err parse.OutOfMemory) told new → told ≡ fault.Resolve OutOfMemory
+  pub memory : RefusesParse once (Err parse.OutOfMemory) (fault.Resolve OutOfMemory) once
+  pub memory_not_added : RefusesParse once (Err parse.OutOfMemory) (fault.Resolve OutOfMemory) twice → ⊥
+  pub memory_alone : (told : SourceFault) (new : State) → RefusesParse once (Err parse.OutOfMemory) told new → told ≡ fault.Resolve OutOfMemory
   -- a text that can't be read is told at its place, with its file at the end
-  pub placed : TellsAnswer once (Err bad) (bad_at 38 43) twice
-  pub not_left_out : TellsAnswer once (Err bad) (bad_at 38 43) once → ⊥
-  pub not_moved : TellsAnswer once (Err bad) (bad_at 13 18) twice → ⊥
+  pub placed : RefusesParse once (Err bad) (bad_at 38 43) twice
+  pub not_left_out : RefusesParse once (Err bad) (bad_at 38 43) once → ⊥
+  pub not_moved : RefusesParse once (Err bad) (bad_at 13 18) twice → ⊥
   -- or for want of memory or of room as that, without its file
-  pub no_memory : TellsAnswer once (Err bad) (fault.Resolve OutOfMemory) once
-  pub no_memory_not_added : TellsAnswer once (Err bad) (fault.Resolve OutOfMemory) twice → ⊥
-  pub no_room : TellsAnswer full (Err bad) (fault.Resolve OffsetOverflow) full
+  pub no_memory : RefusesParse once (Err bad) (fault.Resolve OutOfMemory) once
+  pub no_memory_not_added : RefusesParse once (Err bad) (fault.Resolve OutOfMemory) twice → ⊥
+  pub no_room : RefusesParse full (Err bad) (fault.Resolve OffsetOverflow) full
   -- a package that is there: 5, with its file at the end; not without it, and not where it isn't there
   pub there : RefusesAnswer (before (one foo_bar)) (made_of file) is_there (behind (one foo_bar))
-  pub there_told : TellsAnswer (before (one foo_bar)) (Ok (made_of file)) is_there (behind (one foo_bar))
+  pub there_told : RefusesParse (before (one foo_bar)) (Ok (made_of file)) is_there (behind (one foo_bar))
   pub there_not_left_out : RefusesAnswer (before (one foo_bar)) (made_of file) is_there (before (one foo_bar)) → ⊥
   pub not_there : (new : State) → RefusesAnswer once (made_of file) is_there new → ⊥
   -- its file past the end: 27, and all is as it was; a byte before it fits, and nothing but memory is told
@@ -123,7 +123,7 @@ pub record ExamplesOfPushedSources : Type 0 where
   pub pushed : Pushes making nothing 0 (behind (one foo_bar))
   -- so where the parse may answer otherwise, too
   pub may_push : PushesSource either tt (before nothing) (codes "f.wit") text 0 (behind (one foo_bar))
-  -- not: its file left out, another parse than the one that is handed in, a file that is too long for any
+  -- not: its file left out, another parse than the incoming one, a file that is too long for any
   pub not_left_out : Pushes making nothing 0 (before (one foo_bar)) → ⊥
   pub not_failing : (id : ℕ) (new : State) → Pushes failing nothing id new → ⊥
   pub not_wanting : (id : ℕ) (new : State) → Pushes wanting nothing id new → ⊥

@@ -15,7 +15,7 @@ use Rattle.wit_resolve_graph.specs.declared.command.Reply.TheVariants.{Done, NoW
 use Rattle.wit_semver_examples.specs.CauseExamples.{failed, without_type}
 use Rattle.wit_semver_examples.specs.Releases.{foo_main}
 use Rattle.wit_semver_examples.specs.RewrittenExamples.{first_release, of_three, three}
-use Rattle.wit_script.specs.Answer.{Answers, IsChoice, alone}
+use Rattle.wit_script.specs.Answer.{Answers, IsChoice, only_first}
 use Rattle.wit_script.specs.declared.answer.Stage.{Stage}
 use Rattle.wit_script.specs.declared.ready.ScriptCommand.{ScriptCommand}
 use Rattle.wit_script.specs.declared.ready.ScriptCommand.TheVariants as asks
@@ -74,13 +74,13 @@ abbrev pub both : State → State → Stage
 both first second = record { first = first; second = Some second }
 
 pub record ExamplesOfAnswers : Type 0 where
-  pub merged : IsAnswered (alone (published of_three)) semver_line (codes "done\n") (alone (published (three 1 (1 ∷ 3 ∷ 2 ∷ []))))
-  pub missing : IsAnswered (alone (published without_type)) semver_line
-      (codes "refused 25 failed to upgrade `foo:x/x@0.2.0` to `foo:x/x@0.2.1`, was this semver-compatible update not semver compatible?: type `t` is missing\n") (alone (published without_type))
-  pub absent : IsAnswered (alone new_state) semver_line (codes "no world\n") (alone new_state)
-  pub tracks : IsAnswered (alone new_state) tracks_line [] (alone (by_prereleases new_state.graph))
+  pub merged : IsAnswered (only_first (published of_three)) semver_line (codes "done\n") (only_first (published (three 1 (1 ∷ 3 ∷ 2 ∷ []))))
+  pub missing : IsAnswered (only_first (published without_type)) semver_line
+      (codes "refused 25 failed to upgrade `foo:x/x@0.2.0` to `foo:x/x@0.2.1`, was this semver-compatible update not semver compatible?: type `t` is missing\n") (only_first (published without_type))
+  pub absent : IsAnswered (only_first new_state) semver_line (codes "no world\n") (only_first new_state)
+  pub tracks : IsAnswered (only_first new_state) tracks_line [] (only_first (by_prereleases new_state.graph))
   -- between `other` and `merge` the rule is that of the second graph
   pub tracks_of_second : IsAnswered (both new_state new_state) tracks_line [] (both new_state (by_prereleases new_state.graph))
   pub not_of_first : IsAnswered (both new_state new_state) tracks_line [] (both (by_prereleases new_state.graph) new_state) → ⊥
   -- and it is told by nothing
-  pub not_aloud : IsAnswered (alone new_state) tracks_line (codes "done\n") (alone (by_prereleases new_state.graph)) → ⊥
+  pub not_aloud : IsAnswered (only_first new_state) tracks_line (codes "done\n") (only_first (by_prereleases new_state.graph)) → ⊥

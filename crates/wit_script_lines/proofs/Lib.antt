@@ -1,5 +1,5 @@
+pub mod Each
+pub mod Forms
+pub mod Gated
 pub mod Spaces
 pub mod Words
-pub mod Each
-pub mod Gated
-pub mod Forms

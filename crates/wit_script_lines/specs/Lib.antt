@@ -1,9 +1,9 @@
-pub mod Line
-pub mod Token
 pub mod Gate
-pub mod Signature
-pub mod TypeText
+pub mod Line
 pub mod PackageLine
 pub mod Request
+pub mod Signature
 pub mod Statement
+pub mod Token
+pub mod TypeText
 pub mod steps

@@ -16,25 +16,25 @@ is_comment [] = false
 is_comment (b ∷ bs) = b == 35
 
 -- whether a line says nothing: it has no token, or is a comment
-abbrev pub is_silent_of : List (List ℕ) → Bool
-is_silent_of [] = true
-is_silent_of (token ∷ tokens) = is_comment token
+abbrev pub is_blank_or_comment_of : List (List ℕ) → Bool
+is_blank_or_comment_of [] = true
+is_blank_or_comment_of (token ∷ tokens) = is_comment token
 
-abbrev pub is_silent : List ℕ → Bool
-is_silent line = is_silent_of (tokens_of line)
+abbrev pub is_blank_or_comment : List ℕ → Bool
+is_blank_or_comment line = is_blank_or_comment_of (tokens_of line)
 
 -- how many lines there are up to the last that says something, that one included
-abbrev pub last_said_of : List (List ℕ) → ℕ
-last_said_of lines = length lines - suffix_len is_silent lines
+abbrev pub last_statement_line : List (List ℕ) → ℕ
+last_statement_line lines = length lines - suffix_len is_blank_or_comment lines
 
 -- where what a line says begins: after the spaces that lead it
-abbrev pub ink_start_of : List ℕ → ℕ
-ink_start_of line = prefix_len (λ b. b == 32) line
+abbrev pub content_start_of : List ℕ → ℕ
+content_start_of line = prefix_len (λ b. b == 32) line
 
 -- how many bytes a line has without the spaces at its end
 abbrev pub trimmed_len_of : List ℕ → ℕ
 trimmed_len_of line = length line - suffix_len (λ b. b == 32) line
 
 -- where what a line says ends: after its last byte that isn't a space, or at its end where it has spaces alone
-abbrev pub ink_end_of : List ℕ → ℕ
-ink_end_of line = max (trimmed_len_of line) (ink_start_of line)
+abbrev pub content_end_of : List ℕ → ℕ
+content_end_of line = max (trimmed_len_of line) (content_start_of line)

@@ -55,10 +55,10 @@ entry_by token None = option_map (λ path. (None, path)) (path_of token)
 entry_by token (Some parts) = option_and_then (λ label. option_map (λ path. (Some label, path)) (path_of parts.1)) (part_of parts.0)
 
 -- `PATH` or `LABEL=PATH`; the label ends at the first `=`
-abbrev pub entry_of : List (List ℕ) → Option (Option (List ℕ) × ParsedUsePath)
-entry_of [] = None
-entry_of (token ∷ []) = entry_by token (split_at 61 token)
-entry_of (token ∷ next ∷ arguments) = None
+abbrev pub entry_tokens : List (List ℕ) → Option (Option (List ℕ) × ParsedUsePath)
+entry_tokens [] = None
+entry_tokens (token ∷ []) = entry_by token (split_at 61 token)
+entry_tokens (token ∷ next ∷ arguments) = None
 
 -- another name for a label
 abbrev pub rename_with : List ℕ → List ℕ → Option IncludeName
@@ -83,8 +83,8 @@ package_line_by word arguments =
     else if bytes_eq word (codes "resource") then option_map line.Resource (named_line_of arguments)
     else if bytes_eq word (codes "use") then use_line_of arguments
     else if bytes_eq word (codes "func") then option_map line.Function (signed_line_of arguments)
-    else if bytes_eq word (codes "import") then option_map (λ entry. line.Import entry.0 entry.1) (entry_of arguments)
-    else if bytes_eq word (codes "export") then option_map (λ entry. line.Export entry.0 entry.1) (entry_of arguments)
+    else if bytes_eq word (codes "import") then option_map (λ entry. line.Import entry.0 entry.1) (entry_tokens arguments)
+    else if bytes_eq word (codes "export") then option_map (λ entry. line.Export entry.0 entry.1) (entry_tokens arguments)
     else if bytes_eq word (codes "import-func") then option_map line.ImportFunction (signed_line_of arguments)
     else if bytes_eq word (codes "export-func") then option_map line.ExportFunction (signed_line_of arguments)
     else if bytes_eq word (codes "include") then include_line_of arguments

@@ -1,4 +1,4 @@
--- What a command of a script that hands in no package says by its tokens alone.
+-- What a command of a script that brings no package says by its tokens alone.
 use Rattle.std.specs.Prelude.{ℕ, ◌||◌, Bool, List, [], ◌∷◌, Option, Some, None, option_and_then, codes, if◌then◌else◌}
 use Rattle.std.specs.Option.{option_map}
 use Rattle.std.specs.Str.{bytes_eq}
@@ -54,7 +54,7 @@ abbrev pub world_of : List (List ℕ) → Option (PackageName × List ℕ)
 world_of [] = None
 world_of (name ∷ arguments) = world_only name arguments
 
--- the turning of a world, which then has this name
+-- the transformation of a world, which then has this name
 abbrev pub importize_to : List ℕ → List ℕ → Option (List ℕ) → Option Request
 importize_to name world out = option_map (λ (of_package : PackageName × List ℕ). request.Importize of_package.0 of_package.1 out) (world_in name world)
 
@@ -79,12 +79,12 @@ importize_of (name ∷ arguments) = importize_in name arguments
 abbrev pub new_name_of : List ℕ → Option (List ℕ)
 new_name_of token = if bytes_eq token (codes "-") then None else Some token
 
--- the keys of `exportize`; without any, all imports are turned
+-- the keys of `exportize`; without any, all imports are transformed
 abbrev pub keys_of : List (List ℕ) → Option (List (List ℕ))
 keys_of [] = None
 keys_of (key ∷ keys) = Some (key ∷ keys)
 
--- the turning of a world by these keys, which then has this name
+-- the transformation of a world by these keys, which then has this name
 abbrev pub exportize_to : List ℕ → List ℕ → List ℕ → List (List ℕ) → Option Request
 exportize_to name world out keys =
     option_map (λ (of_package : PackageName × List ℕ). request.Exportize of_package.0 of_package.1 (new_name_of out) (keys_of keys)) (world_in name world)

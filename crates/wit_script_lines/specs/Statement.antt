@@ -34,10 +34,10 @@ statement_by word arguments =
     else gated_line_by word arguments
 
 -- what the tokens of a line say: None where they aren't understood, and inside it None where they say nothing
-abbrev pub said_of_tokens : List (List ℕ) → Option (Option Statement)
-said_of_tokens [] = Some None
-said_of_tokens (word ∷ arguments) = if is_comment word then Some None else option_map Some (statement_by word arguments)
+abbrev pub statement_of_tokens : List (List ℕ) → Option (Option Statement)
+statement_of_tokens [] = Some None
+statement_of_tokens (word ∷ arguments) = if is_comment word then Some None else option_map Some (statement_by word arguments)
 
 -- what a line says
-abbrev pub said_of : List ℕ → Option (Option Statement)
-said_of line = said_of_tokens (tokens_of line)
+abbrev pub statement_of : List ℕ → Option (Option Statement)
+statement_of line = statement_of_tokens (tokens_of line)

@@ -32,13 +32,13 @@ written_of text =
     else or_written written.Own (inside (codes "own<") text) (or_written written.Borrow (inside (codes "borrow<") text) (written.Named text))
 
 -- forms around what a text says
-abbrev pub wrapped : List Wrap → TypeText → TypeText
-wrapped wraps text = record { wraps = wraps ++ text.wraps; core = text.core }
+abbrev pub in_forms : List Wrap → TypeText → TypeText
+in_forms wraps text = record { wraps = wraps ++ text.wraps; core = text.core }
 
 -- a text by its outermost form, where it has one, and by what the text inside it says
 abbrev pub type_text_by : (List ℕ → TypeText) → List ℕ → Option (Wrap × List ℕ) → TypeText
 type_text_by read text None = record { wraps = []; core = written_of text }
-type_text_by read text (Some form) = wrapped (form.0 ∷ []) (read form.1)
+type_text_by read text (Some form) = in_forms (form.0 ∷ []) (read form.1)
 
 -- the same, where at most so many forms stand in each other
 abbrev pub type_text_within : ℕ → List ℕ → TypeText

@@ -1,1 +1,1 @@
-pub mod IsRead
+pub mod ReadResult

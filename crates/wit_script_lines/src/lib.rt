@@ -12,7 +12,7 @@ mod token;
 mod type_text;
 
 pub use crate::fault::LineFault;
-pub use crate::line::{ink, is_comment, lines, tokens};
+pub use crate::line::{content_range, is_comment, lines, tokens};
 pub use crate::package_line::PackageLine;
 pub use crate::request::Request;
 pub use crate::signature::{Signature, TypedName};

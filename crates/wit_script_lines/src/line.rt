@@ -1,7 +1,7 @@
 //! The lines of a script, and the tokens of a line.
 ghost use Rattle.std.specs.Prelude.{◌≡◌, ◌≤◌, ◌<◌, ◌==◌, map, length, IfOk};
 ghost use Rattle.std.specs.List.{slice_split};
-ghost use Rattle.wit_script_lines.specs.Line.{tokens_of, lines_of, ink_start_of, ink_end_of, trimmed_len_of, is_comment};
+ghost use Rattle.wit_script_lines.specs.Line.{tokens_of, lines_of, content_start_of, content_end_of, trimmed_len_of, is_comment};
 
 use std::alloc::{AllocError, Global};
 
@@ -54,9 +54,9 @@ pub fn is_comment(token: &str) -> bool
 
 /// Where what a line says begins and ends, in bytes from 0: at its first byte that isn't a space, and
 /// after its last. In a line of spaces alone both are its length.
-pub fn ink(line: &str) -> (usize, usize)
-    ensures start { result.0 ≡ ink_start_of line.now }
-    ensures end { result.1 ≡ ink_end_of line.now }
+pub fn content_range(line: &str) -> (usize, usize)
+    ensures start { result.0 ≡ content_start_of line.now }
+    ensures end { result.1 ≡ content_end_of line.now }
     ensures ordered { result.0 ≤ result.1 }
     ensures within { result.1 ≤ length line.now }
 {
@@ -67,7 +67,7 @@ pub fn ink(line: &str) -> (usize, usize)
 
 /// How many spaces lead a line.
 fn leading_spaces(line: &str) -> usize
-    ensures value { result ≡ ink_start_of line.now }
+    ensures value { result ≡ content_start_of line.now }
     ensures within { result ≤ length line.now }
 {
     for (index, byte) in line.as_bytes().iter().enumerate() {

@@ -1,7 +1,7 @@
 //! What a line of a package says by its tokens alone.
 ghost use Rattle.std.specs.Prelude.{map};
-ghost use Rattle.wit_script_lines.specs.steps.IsRead.{IsRead};
-ghost use Rattle.wit_script_lines.specs.PackageLine.{entry_by, entry_of, include_line_of, named_line_of, package_line_by, record_line_of, rename_of, signed_line_of, type_line_of, use_line_of, use_line_with};
+ghost use Rattle.wit_script_lines.specs.steps.ReadResult.{IsRead};
+ghost use Rattle.wit_script_lines.specs.PackageLine.{entry_by, entry_tokens, include_line_of, named_line_of, package_line_by, record_line_of, rename_of, signed_line_of, type_line_of, use_line_of, use_line_with};
 ghost use Rattle.wit_script_lines.specs.Signature.{each_of};
 ghost use Rattle.wit_script_lines.specs.Token.{split_at};
 
@@ -166,7 +166,7 @@ fn use_of(alloc: Global, path: &str, name: &str, new: &str) -> Result<PackageLin
 
 /// `PATH` or `LABEL=PATH`; the label ends at the first `=`.
 fn entry_line(alloc: Global, arguments: &[&str]) -> Result<(Option<Text>, ParsedUsePath), LineFault>
-    ensures { IsRead (entry_of (map (λ t. t.now) arguments.now)) result }
+    ensures { IsRead (entry_tokens (map (λ t. t.now) arguments.now)) result }
 {
     match arguments {
         [token] => entry(alloc, token),

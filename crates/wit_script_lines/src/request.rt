@@ -1,6 +1,6 @@
-//! What a command of a script that hands in no package says by its tokens alone.
+//! What a command of a script that brings no package says by its tokens alone.
 ghost use Rattle.std.specs.Prelude.{◌≡◌, map, IfOk};
-ghost use Rattle.wit_script_lines.specs.steps.IsRead.{IsRead};
+ghost use Rattle.wit_script_lines.specs.steps.ReadResult.{IsRead};
 ghost use Rattle.wit_script_lines.specs.Request.{alone_of, exportize_in, exportize_of, exportize_to, exportize_world, feature_of, importize_as, importize_in, importize_of, importize_to, importize_world, is_request, keys_of, new_name_of, request_by, select_of, select_text, select_with, track_rule_of, tracks_of, world_in, world_of, world_only};
 
 use crate::fault::LineFault;
@@ -8,7 +8,7 @@ use crate::token::{read_package_name, read_part};
 use std::alloc::{AllocError, Global};
 use wit_data::{Items, PackageName, Text, TrackRule};
 
-/// A command that hands in no package.
+/// A command that brings no package.
 #[derive(Drop)]
 pub enum Request {
     /// `feature NAME`
@@ -51,7 +51,7 @@ pub enum Request {
     },
 }
 
-/// Whether a first token begins a command that hands in no package.
+/// Whether a first token begins a command that brings no package.
 pub fn is_request(word: &str) -> bool
     ensures { result ≡ is_request word.now }
 {
@@ -215,7 +215,7 @@ fn importize_world(
     }
 }
 
-/// The turning of a world that gets a name.
+/// The transformation of a world that gets a name.
 fn importize_as(alloc: Global, owner: &str, world: &str, out: &str) -> Result<Request, LineFault>
     ensures { IsRead (importize_as owner.now world.now out.now) result }
 {
@@ -223,7 +223,7 @@ fn importize_as(alloc: Global, owner: &str, world: &str, out: &str) -> Result<Re
     importize_to(alloc, owner, world, Some(out))
 }
 
-/// The turning of a world, which then has this name.
+/// The transformation of a world, which then has this name.
 fn importize_to(
     alloc: Global,
     owner: &str,
@@ -275,7 +275,7 @@ fn exportize_world(
     }
 }
 
-/// The turning of a world by these keys, which then has this name.
+/// The transformation of a world by these keys, which then has this name.
 fn exportize_to(
     alloc: Global,
     owner: &str,
@@ -296,7 +296,7 @@ fn exportize_to(
     })
 }
 
-/// The new name of a turned world, where `-` stands for none.
+/// The new name of a transformed world, where `-` stands for none.
 fn new_name(alloc: Global, token: &str) -> Result<Option<Text>, AllocError>
     ensures { IfOk result (λ name. name ≡ new_name_of token.now) }
 {
@@ -306,7 +306,7 @@ fn new_name(alloc: Global, token: &str) -> Result<Option<Text>, AllocError>
     Ok(Some(Text::try_from_str(alloc, token)?))
 }
 
-/// The keys of imports that are turned; without any, all are.
+/// The keys of imports that are transformed; without any, all are.
 fn read_keys(alloc: Global, tokens: &[&str]) -> Result<Option<Items<Text>>, AllocError>
     ensures { IfOk result (λ keys. keys ≡ keys_of (map (λ t. t.now) tokens.now)) }
 {

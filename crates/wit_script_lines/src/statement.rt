@@ -1,7 +1,7 @@
 //! What a line of a script says by its tokens alone.
 ghost use Rattle.std.specs.Prelude.{map};
-ghost use Rattle.wit_script_lines.specs.steps.IsRead.{IsRead};
-ghost use Rattle.wit_script_lines.specs.Statement.{gated_line_by, package_statement_of, push_statement_of, said_of, statement_by};
+ghost use Rattle.wit_script_lines.specs.steps.ReadResult.{IsRead};
+ghost use Rattle.wit_script_lines.specs.Statement.{gated_line_by, package_statement_of, push_statement_of, statement_by, statement_of};
 
 use crate::fault::LineFault;
 use crate::gate::{read_gate, ungated};
@@ -28,7 +28,7 @@ pub enum Statement {
 /// What a line says by its tokens alone, or None for a line without tokens or a comment. Not understood
 /// where its tokens are no statement of a script. Else only want of memory is an error.
 pub fn read_line(alloc: Global, line: &str) -> Result<Option<Statement>, LineFault>
-    ensures { IsRead (said_of line.now) result }
+    ensures { IsRead (statement_of line.now) result }
 {
     let tokens = tokens(alloc, line)?;
     match tokens.split_first() {

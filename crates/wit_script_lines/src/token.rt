@@ -1,7 +1,7 @@
 //! What single tokens say.
 ghost use Rattle.std.specs.Option.{option_copied};
 ghost use Rattle.std.specs.Prelude.{◌≡◌, ◌+◌, ◌<◌, length, IfSome};
-ghost use Rattle.wit_script_lines.specs.steps.IsRead.{IsRead};
+ghost use Rattle.wit_script_lines.specs.steps.ReadResult.{IsRead};
 ghost use Rattle.wit_script_lines.specs.Token.{after_prefix, inside, name_after, package_name_of, package_with, part_of, path_of, primitive_of, version_of};
 
 use crate::fault::LineFault;

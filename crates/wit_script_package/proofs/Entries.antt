@@ -7,23 +7,23 @@ use Rattle.wit_data.specs.declared.world.WorldKey.TheVariants as key
 use Rattle.wit_script_lines.specs.declared.fault.LineFault.{LineFault}
 use Rattle.wit_script_lines.specs.declared.signature.Signature.{Signature}
 use Rattle.wit_script_package.specs.Adding.{with_export, with_import}
-use Rattle.wit_script_package.specs.steps.Leads.{Leads}
+use Rattle.wit_script_package.specs.steps.DraftResult.{DraftResult}
 use Rattle.wit_script_package.specs.Lines.{with_exported_function, with_imported_function}
 use Rattle.wit_script_package.specs.Making.{function_made}
 use Rattle.wit_script_package.specs.declared.draft.Draft.{Draft}
-use Rattle.wit_script_package.specs.declared.draft.Standing.{Standing}
+use Rattle.wit_script_package.specs.declared.draft.LineContext.{LineContext}
 
-module _ {A : Type 0} (p q new : Draft) (said : Signature) (here : Standing) (f : Function) (name : List ℕ) (answer : Result A LineFault) where
-  pub imported : function_made p said here ≡ Some (f, q) → name ≡ f.name → Leads (with_import q (key.Name name) (item.Function f)) answer new → Leads (with_imported_function p said here) answer new
+module _ {A : Type 0} (p q new : Draft) (said : Signature) (here : LineContext) (f : Function) (name : List ℕ) (answer : Result A LineFault) where
+  pub imported : function_made p said here ≡ Some (f, q) → name ≡ f.name → DraftResult (with_import q (key.Name name) (item.Function f)) answer new → DraftResult (with_imported_function p said here) answer new
   imported made same leads =
       let whole : with_import q (key.Name name) (item.Function f) ≡ with_imported_function p said here =
       ap (λ (n : List ℕ). with_import q (key.Name n) (item.Function f)) same
       ∙ sym (ap (option_and_then (λ (m : Function × Draft). with_import m.1 (key.Name m.0.name) (item.Function m.0))) made) in
-      subst (λ (o : Option Draft). Leads o answer new) whole leads
+      subst (λ (o : Option Draft). DraftResult o answer new) whole leads
 
-  pub exported : function_made p said here ≡ Some (f, q) → name ≡ f.name → Leads (with_export q (key.Name name) (item.Function f)) answer new → Leads (with_exported_function p said here) answer new
+  pub exported : function_made p said here ≡ Some (f, q) → name ≡ f.name → DraftResult (with_export q (key.Name name) (item.Function f)) answer new → DraftResult (with_exported_function p said here) answer new
   exported made same leads =
       let whole : with_export q (key.Name name) (item.Function f) ≡ with_exported_function p said here =
       ap (λ (n : List ℕ). with_export q (key.Name n) (item.Function f)) same
       ∙ sym (ap (option_and_then (λ (m : Function × Draft). with_export m.1 (key.Name m.0.name) (item.Function m.0))) made) in
-      subst (λ (o : Option Draft). Leads o answer new) whole leads
+      subst (λ (o : Option Draft). DraftResult o answer new) whole leads

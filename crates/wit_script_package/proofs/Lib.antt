@@ -1,9 +1,9 @@
-pub mod Keys
-pub mod Steps
-pub mod Wrapped
+pub mod Changing
 pub mod Entries
 pub mod Firsts
-pub mod Tables
-pub mod Same
+pub mod Keys
 pub mod Mentions
-pub mod Changing
+pub mod Same
+pub mod Steps
+pub mod Tables
+pub mod Wrapped

@@ -17,19 +17,19 @@ use Rattle.wit_data.specs.declared.types.TypeOwner.TheVariants as owner
 use Rattle.wit_data.specs.declared.unresolved.AstItem.{AstItem}
 use Rattle.wit_data.specs.declared.unresolved.AstItem.TheVariants as item
 use Rattle.wit_script_package.specs.Adding.{empty_interface, empty_world, type_with, with_interface_type, with_type, with_type_name_in}
-use Rattle.wit_script_package.specs.Draft.{begun_at, with_newline}
-use Rattle.wit_script_package.specs.Mention.{first_interfaces, first_role, keeps_role, known, first_packages, first_types, first_worlds, firsts, foreign_type, foreign_world, interface_id_of, is_world, mentioned_at, same_item, same_name, same_parent, same_type, type_id_of, used_name, used_type_name, uses_type, world_id_of}
-use Rattle.wit_script_package.specs.steps.Mentioning.{fits, is_world_item, with_counted, with_dep_span, with_foreign, with_foreign_as, with_foreign_type, with_gate, with_item_note, with_mention, with_mention_of, with_note, with_package_note, with_type_span, with_use_as}
-use Rattle.wit_script_package.specs.Naming.{Place, foreign_named}
+use Rattle.wit_script_package.specs.Draft.{new_draft_at, with_newline}
+use Rattle.wit_script_package.specs.Mention.{first_interfaces, first_role, agrees_on_role, known_mentions, first_packages, first_types, first_worlds, firsts, foreign_type, foreign_world, interface_id_of, is_world, mentioned_at, same_item, same_name, same_parent, same_type, type_id_of, used_name, used_type_name, uses_type, world_id_of}
+use Rattle.wit_script_package.specs.steps.Mentioning.{fits, is_world_item, with_counted, with_dep_span, with_foreign, with_foreign_as, with_foreign_gate, with_foreign_type, with_gate, with_item_gate, with_mention, with_mention_of, with_package_gate, with_type_span, with_use_as}
+use Rattle.wit_script_package.specs.Naming.{OptionalSpan, foreign_named}
 use Rattle.wit_script_package.specs.declared.draft.Draft.{Draft}
 use Rattle.wit_script_package.specs.declared.draft.Scope.TheVariants as scope
-use Rattle.wit_script_package.specs.declared.draft.Standing.{Standing}
+use Rattle.wit_script_package.specs.declared.draft.LineContext.{LineContext}
 use Rattle.wit_script_package.specs.declared.mention.Mention.{Mention}
 use Rattle.wit_script_package.specs.declared.mention.MentionKind.{MentionKind}
 use Rattle.wit_script_package.specs.declared.mention.MentionKind.TheVariants as taken
 use Rattle.wit_script_package.proofs.Firsts.{each, each-first, each-kept, filter-none, find-filter, find-firsts, find-kept, found-passes, none-first, find-last, find-same, firsts-apart, firsts-new, firsts-old, map-each, none-filter, place-new, place-old, position-same}
 use Rattle.wit_script_package.proofs.Same.{item-parent, item-through, item-turn, own-item, own-text, parent-through, parent-turn, type-through, type-turn}
-use Rattle.wit_script_package.proofs.Tables.{Changes, Tells, item-at, item-changed, lookup-rows, rows-same, value-changed, value-last}
+use Rattle.wit_script_package.proofs.Tables.{Tells, Transforms, item-at, item-changed, lookup-rows, rows-same, value-changed, value-last}
 
 -- one more, kept or not
 filter-in : (q : Mention → Bool) (ks : List Mention) (m : Mention) → q m ≡ true → filter q (ks ++ m ∷ []) ≡ filter q ks ++ m ∷ []
@@ -73,8 +73,8 @@ module _ (all : List Mention) where
   abbrev deps_by : List Mention → ForeignItems
   deps_by ks = map (λ (p : Mention). (p.parent, items_by ks p)) (first_packages ks)
 
-  module _ (name : PackageName) (line : List ℕ) (span : Place) where
-    -- the package by these types, the interfaces and worlds of these mentions, and the notes of these
+  module _ (name : PackageName) (line : List ℕ) (span : OptionalSpan) where
+    -- the package by these types, the interfaces and worlds of these mentions, and the gates of these
     abbrev made_by : List Mention → List Mention → List Mention → Draft
     made_by ts is ns = record {
       name = name;
@@ -164,7 +164,7 @@ module _ (all : List Mention) where
           gates-same m (own-item m) ∙ ap (λ (l : List Mention). with_gate m.gate (item_of m, map (λ (n : Mention). n.gate) l)) (filter-none (same_item m) ks none)
 
       abbrev ItemChanges : Mention → Type 0
-      ItemChanges = Changes same_item item-through (bytes_eq m.name) m (λ (i : Mention). i.name) (gates_by ks) (gates_by more) m.name (item_of m, []) (with_gate m.gate)
+      ItemChanges = Transforms same_item item-through (bytes_eq m.name) m (λ (i : Mention). i.name) (gates_by ks) (gates_by more) m.name (item_of m, []) (with_gate m.gate)
 
       items-change : (p : Mention) → same_parent m p ≡ true → AllByRecursion ItemChanges (firsts same_item (filter (same_parent p) ks))
       items-change p same =
@@ -172,7 +172,7 @@ module _ (all : List Mention) where
           (each-kept ItemChanges (same_parent p) (λ i there. record { told = item-told p i same there; other = gates-other i; changed = gates-same i }) ks)
 
       -- the items of the package of the mention
-      items-more : (p : Mention) → same_parent m p ≡ true → with_item_note m.name (item_of m) m.gate (items_by ks p) ≡ items_by more p
+      items-more : (p : Mention) → same_parent m p ≡ true → with_item_gate m.name (item_of m) m.gate (items_by ks p) ≡ items_by more p
       items-more p same = by (find (same_item m) ks) refl where
         among : List Mention
         among = filter (same_parent p) ks
@@ -180,7 +180,7 @@ module _ (all : List Mention) where
         grown : filter (same_parent p) more ≡ filter (same_parent p) ks ++ m ∷ []
         grown = filter-in (same_parent p) ks m (parent-turn p m ∙ same)
 
-        by : (o : Option Mention) → find (same_item m) ks ≡ o → with_item_note m.name (item_of m) m.gate (items_by ks p) ≡ items_by more p
+        by : (o : Option Mention) → find (same_item m) ks ≡ o → with_item_gate m.name (item_of m) m.gate (items_by ks p) ≡ items_by more p
         by None none =
             let absent : find (same_item m) (filter (same_parent p) ks) ≡ None = in-package p same ∙ none in
             let absent_first : find (same_item m) (firsts same_item (filter (same_parent p) ks)) ≡ None = find-firsts same_item item-turn item-through m (filter (same_parent p) ks) ∙ absent in
@@ -212,7 +212,7 @@ module _ (all : List Mention) where
 
       abbrev PackageChanges : Mention → Type 0
       PackageChanges =
-          Changes same_parent parent-through (same_package m.parent) m (λ (p : Mention). p.parent) (items_by ks) (items_by more) m.parent [] (with_item_note m.name (item_of m) m.gate)
+          Transforms same_parent parent-through (same_package m.parent) m (λ (p : Mention). p.parent) (items_by ks) (items_by more) m.parent [] (with_item_gate m.name (item_of m) m.gate)
 
       packages-change : AllByRecursion PackageChanges (first_packages ks)
       packages-change = each PackageChanges (λ p. record { told = refl; other = items-other p; changed = λ same. sym (items-more p same) }) (first_packages ks)
@@ -221,22 +221,22 @@ module _ (all : List Mention) where
       own-parent = item-parent m m (own-item m)
 
       -- what is named of other packages
-      deps-more : with_package_note m.parent m.name (item_of m) m.gate (deps_by ks) ≡ deps_by more
+      deps-more : with_package_gate m.parent m.name (item_of m) m.gate (deps_by ks) ≡ deps_by more
       deps-more = by (find (same_parent m) ks) refl where
-        by : (o : Option Mention) → find (same_parent m) ks ≡ o → with_package_note m.parent m.name (item_of m) m.gate (deps_by ks) ≡ deps_by more
+        by : (o : Option Mention) → find (same_parent m) ks ≡ o → with_package_gate m.parent m.name (item_of m) m.gate (deps_by ks) ≡ deps_by more
         by None none =
             let absent : find (same_parent m) (first_packages ks) ≡ None = find-firsts same_parent parent-turn parent-through m ks ∙ none in
-            let first : with_item_note m.name (item_of m) m.gate [] ≡ items_by more m =
-            ap (λ (l : List Mention). with_item_note m.name (item_of m) m.gate (map (λ (i : Mention). (i.name, gates_by ks i)) (firsts same_item l))) (sym (filter-none (same_parent m) ks none))
+            let first : with_item_gate m.name (item_of m) m.gate [] ≡ items_by more m =
+            ap (λ (l : List Mention). with_item_gate m.name (item_of m) m.gate (map (λ (i : Mention). (i.name, gates_by ks i)) (firsts same_item l))) (sym (filter-none (same_parent m) ks none))
             ∙ items-more m own-parent in
-            value-last same_parent parent-through (same_package m.parent) m (λ (p : Mention). p.parent) (items_by ks) m.parent [] (with_item_note m.name (item_of m) m.gate) (first_packages ks) parents-told absent
-            ∙ ap (λ (l : ForeignItems). l ++ (m.parent, with_item_note m.name (item_of m) m.gate []) ∷ [])
-            (sym (rows-same same_parent parent-through (same_package m.parent) m (λ (p : Mention). p.parent) (items_by ks) (items_by more) m.parent [] (with_item_note m.name (item_of m) m.gate) (first_packages ks) packages-change absent))
+            value-last same_parent parent-through (same_package m.parent) m (λ (p : Mention). p.parent) (items_by ks) m.parent [] (with_item_gate m.name (item_of m) m.gate) (first_packages ks) parents-told absent
+            ∙ ap (λ (l : ForeignItems). l ++ (m.parent, with_item_gate m.name (item_of m) m.gate []) ∷ [])
+            (sym (rows-same same_parent parent-through (same_package m.parent) m (λ (p : Mention). p.parent) (items_by ks) (items_by more) m.parent [] (with_item_gate m.name (item_of m) m.gate) (first_packages ks) packages-change absent))
             ∙ ap (λ (l : List ForeignItem). map (λ (p : Mention). (p.parent, items_by more p)) (first_packages ks) ++ (m.parent, l) ∷ []) first
             ∙ sym (map-append (λ (p : Mention). (p.parent, items_by more p)) (first_packages ks) (m ∷ []))
             ∙ ap (map (λ (p : Mention). (p.parent, items_by more p))) (sym (firsts-new same_parent parent-turn parent-through ks m none))
         by (Some n) found =
-            value-changed same_parent parent-through (same_package m.parent) m (λ (p : Mention). p.parent) (items_by ks) (items_by more) m.parent [] (with_item_note m.name (item_of m) m.gate) (first_packages ks) n
+            value-changed same_parent parent-through (same_package m.parent) m (λ (p : Mention). p.parent) (items_by ks) (items_by more) m.parent [] (with_item_gate m.name (item_of m) m.gate) (first_packages ks) n
             packages-change (firsts-apart same_parent ks) (find-firsts same_parent parent-turn parent-through m ks ∙ found)
             ∙ ap (map (λ (p : Mention). (p.parent, items_by more p))) (sym (firsts-old same_parent parent-turn parent-through ks m n found))
 
@@ -250,7 +250,7 @@ module _ (all : List Mention) where
             ∙ ap (map (λ (n : Mention). n.span)) (sym (firsts-new same_parent parent-turn parent-through ks m none))
         by (Some n) found = ap (map (λ (n : Mention). n.span)) (sym (firsts-old same_parent parent-turn parent-through ks m n found))
 
-      noted : (ts is : List Mention) → with_note (made_by ts is ks) m (item_of m) ≡ made_by ts is more
+      noted : (ts is : List Mention) → with_foreign_gate (made_by ts is ks) m (item_of m) ≡ made_by ts is more
       noted ts is = λ i. record (made_by ts is ks) {
         foreign = record { deps = deps-more i; dep_spans = spans-more i; type_spans = map (λ (n : Mention). n.span) ts };
       }
@@ -454,7 +454,7 @@ module _ (all : List Mention) where
           looked : lookup (bytes_eq n) (interface_by ts the_one).types ≡ option_map (type_id_of all) (find (same_type m) ts)
           looked = types-found the_one the-one-same ts all-use
 
-          abbrev here : Standing
+          abbrev here : LineContext
           here = record { gate = m.gate; span = m.span }
 
           -- with the name of the type
@@ -583,42 +583,42 @@ module _ (ms before after : List Mention) (m : Mention) (split : ms ≡ before +
   kept-itself false false same = refl
 
   -- it counts
-  found-known : find (same_item m) (filter (keeps_role ms) before) ≡ find (same_item m) before
-  found-known = by (find (same_item m) before) refl where
-    by : (o : Option Mention) → find (same_item m) before ≡ o → find (same_item m) (filter (keeps_role ms) before) ≡ o
-    by None none = none-filter (same_item m) (keeps_role ms) before none
-    by (Some n) found = find-kept (same_item m) (keeps_role ms) before n found (kept-itself (is_world n.kind) (first_role n ms) (role-same n found))
+  found-known_mentions : find (same_item m) (filter (agrees_on_role ms) before) ≡ find (same_item m) before
+  found-known_mentions = by (find (same_item m) before) refl where
+    by : (o : Option Mention) → find (same_item m) before ≡ o → find (same_item m) (filter (agrees_on_role ms) before) ≡ o
+    by None none = none-filter (same_item m) (agrees_on_role ms) before none
+    by (Some n) found = find-kept (same_item m) (agrees_on_role ms) before n found (kept-itself (is_world n.kind) (first_role n ms) (role-same n found))
 
-  pub role-fits : role_fits m (find (same_item m) (filter (keeps_role ms) before)) ≡ keeps_role ms m
-  role-fits = ap (role_fits m) found-known ∙ by (find (same_item m) before) role-before where
-    by : (o : Option Mention) → first_role m ms ≡ role_by m o → role_fits m o ≡ keeps_role ms m
+  pub role-fits : role_fits m (find (same_item m) (filter (agrees_on_role ms) before)) ≡ agrees_on_role ms m
+  role-fits = ap (role_fits m) found-known_mentions ∙ by (find (same_item m) before) role-before where
+    by : (o : Option Mention) → first_role m ms ≡ role_by m o → role_fits m o ≡ agrees_on_role ms m
     by None is = sym (kept-itself (is_world m.kind) (first_role m ms) is)
     by (Some n) is = rw is refl
 
   -- the mentions that count, with this one or without
-  known-split : keeps_role ms m ≡ true → known ms ≡ filter (keeps_role ms) before ++ m ∷ filter (keeps_role ms) after
-  known-split kept = ap (filter (keeps_role ms)) split ∙ filter-append (keeps_role ms) before (m ∷ after) ∙ rw kept refl
+  known_mentions-split : agrees_on_role ms m ≡ true → known_mentions ms ≡ filter (agrees_on_role ms) before ++ m ∷ filter (agrees_on_role ms) after
+  known_mentions-split kept = ap (filter (agrees_on_role ms)) split ∙ filter-append (agrees_on_role ms) before (m ∷ after) ∙ rw kept refl
 
-  module _ (name : PackageName) (line : List ℕ) (span : Place) where
+  module _ (name : PackageName) (line : List ℕ) (span : OptionalSpan) where
     -- the package of the mentions before it, with it
-    pub next : with_mention (so_far (known ms) name line span (filter (keeps_role ms) before)) m ≡ so_far (known ms) name line span (filter (keeps_role ms) (before ++ m ∷ []))
-    next = by (keeps_role ms m) refl where
-      by : (b : Bool) → keeps_role ms m ≡ b
-          → with_mention (so_far (known ms) name line span (filter (keeps_role ms) before)) m ≡ so_far (known ms) name line span (filter (keeps_role ms) (before ++ m ∷ []))
+    pub next : with_mention (so_far (known_mentions ms) name line span (filter (agrees_on_role ms) before)) m ≡ so_far (known_mentions ms) name line span (filter (agrees_on_role ms) (before ++ m ∷ []))
+    next = by (agrees_on_role ms m) refl where
+      by : (b : Bool) → agrees_on_role ms m ≡ b
+          → with_mention (so_far (known_mentions ms) name line span (filter (agrees_on_role ms) before)) m ≡ so_far (known_mentions ms) name line span (filter (agrees_on_role ms) (before ++ m ∷ []))
       by true kept =
-          counts (known ms) name line span (filter (keeps_role ms) before) m (filter (keeps_role ms) after) (known-split kept) (role-fits ∙ kept)
-          ∙ ap (so_far (known ms) name line span) (sym (filter-in (keeps_role ms) before m kept))
+          counts (known_mentions ms) name line span (filter (agrees_on_role ms) before) m (filter (agrees_on_role ms) after) (known_mentions-split kept) (role-fits ∙ kept)
+          ∙ ap (so_far (known_mentions ms) name line span) (sym (filter-in (agrees_on_role ms) before m kept))
       by false kept =
-          passed (known ms) name line span (filter (keeps_role ms) before) m (role-fits ∙ kept)
-          ∙ ap (so_far (known ms) name line span) (sym (filter-out (keeps_role ms) before m kept))
+          passed (known_mentions ms) name line span (filter (agrees_on_role ms) before) m (role-fits ∙ kept)
+          ∙ ap (so_far (known_mentions ms) name line span) (sym (filter-out (agrees_on_role ms) before m kept))
 
 -- all mentions, one after another
-module _ (ms : List Mention) (name : PackageName) (line : List ℕ) (span : Place) where
-  from : (before after : List Mention) → ms ≡ before ++ after → fold with_mention (so_far (known ms) name line span (filter (keeps_role ms) before)) after ≡ so_far (known ms) name line span (known ms)
-  from before [] split = ap (λ (l : List Mention). so_far (known ms) name line span (filter (keeps_role ms) l)) (sym (split ∙ append-nil before))
+module _ (ms : List Mention) (name : PackageName) (line : List ℕ) (span : OptionalSpan) where
+  from : (before after : List Mention) → ms ≡ before ++ after → fold with_mention (so_far (known_mentions ms) name line span (filter (agrees_on_role ms) before)) after ≡ so_far (known_mentions ms) name line span (known_mentions ms)
+  from before [] split = ap (λ (l : List Mention). so_far (known_mentions ms) name line span (filter (agrees_on_role ms) l)) (sym (split ∙ append-nil before))
   from before (m ∷ after) split =
       ap (λ (p : Draft). fold with_mention p after) (next ms before after m split name line span) ∙ from (before ++ m ∷ []) after (split ∙ sym (append_assoc before (m ∷ []) after))
 
   -- what is foreign, made of the mentions one after another
-  pub all-mentions : fold with_mention (begun_at name line [] span) ms ≡ begun_at name line (known ms) span
+  pub all-mentions : fold with_mention (new_draft_at name line [] span) ms ≡ new_draft_at name line (known_mentions ms) span
   all-mentions = from [] ms refl

@@ -10,8 +10,8 @@ use Rattle.wit_script_package.specs.declared.mention.Mention.{Mention}
 -- ---- tests that tell equal things alone
 
 module _ {K : Type 0} (s : K → K → Bool) (is : (a b : K) → s a b ≡ true → a ≡ b) where
-  turned : (a b : K) → s a b ≡ s b a
-  turned a b = by (s a b) (s b a) refl refl where
+  transformed : (a b : K) → s a b ≡ s b a
+  transformed a b = by (s a b) (s b a) refl refl where
     by : (c d : Bool) → s a b ≡ c → s b a ≡ d → c ≡ d
     by true true there back = refl
     by true false there back = let e : a ≡ b = is a b there in cc
@@ -40,7 +40,7 @@ own-text a = by (bytes_eq a a) (bytes_eq-Decides a a) where
 -- ---- packages
 
 pub parent-turn : (a b : Mention) → same_parent a b ≡ same_parent b a
-parent-turn a b = turned same_package same_package-is a.parent b.parent
+parent-turn a b = transformed same_package same_package-is a.parent b.parent
 
 pub parent-through : (a b c : Mention) → same_parent a b ≡ true → same_parent a c ≡ same_parent b c
 parent-through a b c same = ap (λ (p : PackageName). same_package p c.parent) (same_package-is a.parent b.parent same)
@@ -61,7 +61,7 @@ item-is a b same =
     λ i. (first i, second i)
 
 pub item-turn : (a b : Mention) → same_item a b ≡ same_item b a
-item-turn a b = turned item_eq item-is (a.parent, a.name) (b.parent, b.name)
+item-turn a b = transformed item_eq item-is (a.parent, a.name) (b.parent, b.name)
 
 pub item-through : (a b c : Mention) → same_item a b ≡ true → same_item a c ≡ same_item b c
 item-through a b c same = ap (λ (i : Item). item_eq i (c.parent, c.name)) (item-is (a.parent, a.name) (b.parent, b.name) same)
@@ -97,7 +97,7 @@ abbrev used : Mention → Used
 used m = ((m.parent, m.name), used_type_name m.kind)
 
 pub type-turn : (a b : Mention) → same_type a b ≡ same_type b a
-type-turn a b = turned used_eq used-is (used a) (used b)
+type-turn a b = transformed used_eq used-is (used a) (used b)
 
 pub type-through : (a b c : Mention) → same_type a b ≡ true → same_type a c ≡ same_type b c
 type-through a b c same = ap (λ (u : Used). used_eq u (used c)) (used-is (used a) (used b) same)

@@ -48,13 +48,13 @@ module _ {X : Type 0} (same : X → X → Bool) (through : (a b c : X) → same 
 
     module _ (w : X → V) (k : K) (first : V) (change : V → V) where
       -- what is the same is changed, and nothing else
-      pub record Changes (p : X) : Type 0 where
+      pub record Transforms (p : X) : Type 0 where
         pub told : test (key p) ≡ same x p
         pub other : same x p ≡ false → w p ≡ v p
         pub changed : same x p ≡ true → w p ≡ change (v p)
 
       -- nothing is changed
-      pub rows-same : (ps : List X) → AllByRecursion Changes ps → find (same x) ps ≡ None → map {B = K × V} (λ p. (key p, w p)) ps ≡ map {B = K × V} (λ p. (key p, v p)) ps
+      pub rows-same : (ps : List X) → AllByRecursion Transforms ps → find (same x) ps ≡ None → map {B = K × V} (λ p. (key p, w p)) ps ≡ map {B = K × V} (λ p. (key p, v p)) ps
       rows-same [] all none = refl
       rows-same (p ∷ ps) all none = by (same x p) refl none (λ n. rows-same ps all.1 n) where
         by : (b : Bool) → same x p ≡ b → cond b (Some p) (find (same x) ps) ≡ None → (find (same x) ps ≡ None → map {B = K × V} (λ q. (key q, w q)) ps ≡ map {B = K × V} (λ q. (key q, v q)) ps)
@@ -63,7 +63,7 @@ module _ {X : Type 0} (same : X → X → Bool) (through : (a b c : X) → same 
         by false is none rest = rw (all.0.other is, rest none) refl
 
       -- the value of one key is changed
-      pub value-changed : (ps : List X) (y : X) → AllByRecursion Changes ps → AreApart same ps → find (same x) ps ≡ Some y
+      pub value-changed : (ps : List X) (y : X) → AllByRecursion Transforms ps → AreApart same ps → find (same x) ps ≡ Some y
           → with_value test k first change (map {B = K × V} (λ p. (key p, v p)) ps) ≡ map {B = K × V} (λ p. (key p, w p)) ps
       value-changed [] y all apart found = cc
       value-changed (p ∷ ps) y all apart found = rw all.0.told (by (same x p) refl found (λ f. value-changed ps y all.1 apart.1 f)) where

@@ -21,18 +21,18 @@ use Rattle.wit_script_package.specs.Naming.{open_interface, open_world, same_key
 use Rattle.wit_script_package.specs.declared.draft.Draft.{Draft}
 use Rattle.wit_script_package.specs.declared.draft.Scope.{Scope}
 use Rattle.wit_script_package.specs.declared.draft.Scope.TheVariants as scope
-use Rattle.wit_script_package.specs.declared.draft.Standing.{Standing}
+use Rattle.wit_script_package.specs.declared.draft.LineContext.{LineContext}
 
 -- an interface with nothing in it
-abbrev pub empty_interface : List ℕ → Standing → Interface
+abbrev pub empty_interface : List ℕ → LineContext → Interface
 empty_interface name here = record { name = Some name; types = []; functions = []; docs = record { contents = None }; stability = here.gate; «package» = None; span = here.span }
 
 -- a world with nothing in it
-abbrev pub empty_world : List ℕ → Standing → World
+abbrev pub empty_world : List ℕ → LineContext → World
 empty_world name here = record { name = name; imports = []; exports = []; docs = record { contents = None }; stability = here.gate; «package» = None; includes = []; span = here.span }
 
 -- one more interface, under a name that none has yet; the next lines go into it
-abbrev pub with_interface : Draft → List ℕ → Standing → Option Draft
+abbrev pub with_interface : Draft → List ℕ → LineContext → Option Draft
 with_interface p name here =
     if is_some (lookup (bytes_eq name) p.interface_ids) then None
     else Some (record p {
@@ -42,7 +42,7 @@ with_interface p name here =
     })
 
 -- one more world, under a name that none has yet; the next lines go into it
-abbrev pub with_world : Draft → List ℕ → Standing → Option Draft
+abbrev pub with_world : Draft → List ℕ → LineContext → Option Draft
 with_world p name here =
     if is_some (lookup (bytes_eq name) p.world_ids) then None
     else Some (record p {
@@ -52,7 +52,7 @@ with_world p name here =
     })
 
 -- a type with a name, or without one
-abbrev pub type_with : Option (List ℕ) → TypeDefKind → TypeOwner → Standing → TypeDef
+abbrev pub type_with : Option (List ℕ) → TypeDefKind → TypeOwner → LineContext → TypeDef
 type_with name made owned here =
     record { name = name; kind = made; owner = owned; docs = record { contents = None }; stability = here.gate; span = here.span; external_id = None }
 
@@ -75,7 +75,7 @@ abbrev pub with_type_name : Draft → List ℕ → ℕ → Option Draft
 with_type_name p name at = option_and_then (with_type_name_in p name at) (slice_get p.interfaces at)
 
 -- one more type of the interface at a place
-abbrev pub with_interface_type : Draft → List ℕ → TypeDefKind → Standing → ℕ → Option Draft
+abbrev pub with_interface_type : Draft → List ℕ → TypeDefKind → LineContext → ℕ → Option Draft
 with_interface_type p name made here at =
     option_map (λ (q : Draft). with_type q (type_with (Some name) made (owner.Interface at) here)) (with_type_name p name at)
 
@@ -106,17 +106,17 @@ abbrev pub with_export : Draft → WorldKey → WorldItem → Option Draft
 with_export p k entry = option_and_then (with_export_at p k entry) (open_world p)
 
 -- one more type of the world at a place: an import of it under its name
-abbrev pub with_world_type : Draft → List ℕ → TypeDefKind → Standing → ℕ → Option Draft
+abbrev pub with_world_type : Draft → List ℕ → TypeDefKind → LineContext → ℕ → Option Draft
 with_world_type p name made here at =
     option_map (λ (q : Draft). with_type q (type_with (Some name) made (owner.World at) here)) (with_import_at p (key.Name name) (item.Type_ (length p.types) here.span) at)
 
 -- one more type of the interface or the world into which lines go
-abbrev pub with_named_in : Draft → Scope → List ℕ → TypeDefKind → Standing → Option Draft
+abbrev pub with_named_in : Draft → Scope → List ℕ → TypeDefKind → LineContext → Option Draft
 with_named_in p scope.Package name made here = None
 with_named_in p scope.Interface name made here = option_and_then (with_interface_type p name made here) (open_interface p)
 with_named_in p scope.World name made here = option_and_then (with_world_type p name made here) (open_world p)
 
-abbrev pub with_named : Draft → List ℕ → TypeDefKind → Standing → Option Draft
+abbrev pub with_named : Draft → List ℕ → TypeDefKind → LineContext → Option Draft
 with_named p name made here = with_named_in p p.scope name made here
 
 -- one more function of the interface at a place, where it has no function of that name
@@ -134,9 +134,9 @@ with_function p f = option_and_then (with_function_at p f) (open_interface p)
 
 -- one more include of the world at a place
 abbrev pub with_include_at : Draft → WorldInclude → ℕ → Option Draft
-with_include_at p included at =
-    option_map (λ (world : World). record p { worlds = slice_set p.worlds at (record world { includes = world.includes ++ included ∷ [] }) }) (slice_get p.worlds at)
+with_include_at p include_item at =
+    option_map (λ (world : World). record p { worlds = slice_set p.worlds at (record world { includes = world.includes ++ include_item ∷ [] }) }) (slice_get p.worlds at)
 
 -- one more include of the world into which lines go
 abbrev pub with_include : Draft → WorldInclude → Option Draft
-with_include p included = option_and_then (with_include_at p included) (open_world p)
+with_include p include_item = option_and_then (with_include_at p include_item) (open_world p)

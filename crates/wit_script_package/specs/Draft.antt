@@ -5,9 +5,9 @@ use Rattle.wit_data.specs.PackageName.{package_name_text}
 use Rattle.wit_sources.specs.SourceMap.{Sources, with_file}
 use Rattle.wit_data.specs.declared.package_name.PackageName.{PackageName}
 use Rattle.wit_data.specs.declared.unresolved.UnresolvedPackageGroup.{UnresolvedPackageGroup}
-use Rattle.wit_script_lines.specs.Line.{ink_start_of, ink_end_of}
-use Rattle.wit_script_package.specs.Mention.{first_interfaces, first_types, first_worlds, foreign_interface, foreign_of, foreign_type, foreign_world, known, type_id_of}
-use Rattle.wit_script_package.specs.Naming.{Place}
+use Rattle.wit_script_lines.specs.Line.{content_start_of, content_end_of}
+use Rattle.wit_script_package.specs.Mention.{first_interfaces, first_types, first_worlds, foreign_interface, foreign_of, foreign_type, foreign_world, known_mentions, type_id_of}
+use Rattle.wit_script_package.specs.Naming.{OptionalSpan}
 use Rattle.wit_script_package.specs.declared.draft.Draft.{Draft}
 use Rattle.wit_script_package.specs.declared.draft.Scope.TheVariants as scope
 use Rattle.wit_script_package.specs.declared.mention.Mention.{Mention}
@@ -18,8 +18,8 @@ longest_file = 4294967294
 
 -- the span of a line that goes, with a newline, to the end of a file of so many bytes: from its first to its last byte
 -- that isn't a space. The file may not grow past the positions of a source map
-abbrev pub span_after : ℕ → List ℕ → Option Place
-span_after len line = if nat_le (len + length line + 1) longest_file then Some (Some (len + ink_start_of line, len + ink_end_of line)) else None
+abbrev pub span_after : ℕ → List ℕ → Option OptionalSpan
+span_after len line = if nat_le (len + length line + 1) longest_file then Some (Some (len + content_start_of line, len + content_end_of line)) else None
 
 -- a line with its newline
 abbrev pub with_newline : List ℕ → List ℕ
@@ -31,8 +31,8 @@ with_text p line = record p { contents = p.contents ++ with_newline line }
 
 -- the package of which a first line gives the name, and whose lines mention this of other packages. What is foreign stands
 -- in its lists before all that is its own
-abbrev pub begun_at : PackageName → List ℕ → List Mention → Place → Draft
-begun_at name line ms span = record {
+abbrev pub new_draft_at : PackageName → List ℕ → List Mention → OptionalSpan → Draft
+new_draft_at name line ms span = record {
   name = name;
   name_span = span;
   contents = with_newline line;
@@ -47,12 +47,12 @@ begun_at name line ms span = record {
   foreign = foreign_of ms;
 }
 
-abbrev pub begun : PackageName → List ℕ → List Mention → Option Draft
-begun name line ms = option_map (begun_at name line (known ms)) (span_after 0 line)
+abbrev pub new_draft : PackageName → List ℕ → List Mention → Option Draft
+new_draft name line ms = option_map (new_draft_at name line (known_mentions ms)) (span_after 0 line)
 
 -- a source map of one file
-abbrev pub file_of : List ℕ → List ℕ → Option Sources
-file_of path contents = if nat_le (length contents) longest_file then Some (with_file (record { files = []; end = 0 }) path contents) else None
+abbrev pub one_file : List ℕ → List ℕ → Option Sources
+one_file path contents = if nat_le (length contents) longest_file then Some (with_file (record { files = []; end = 0 }) path contents) else None
 
 -- the package as a group of its own, with these sources
 abbrev pub group_with : Draft → Sources → UnresolvedPackageGroup
@@ -74,5 +74,5 @@ group_with p sources = record {
 }
 
 -- the package as a group of its own, where its file fits. The file has the text of the package's name as its path
-abbrev pub grouped : Draft → Option UnresolvedPackageGroup
-grouped p = option_map (group_with p) (file_of (package_name_text p.name) p.contents)
+abbrev pub as_group : Draft → Option UnresolvedPackageGroup
+as_group p = option_map (group_with p) (one_file (package_name_text p.name) p.contents)

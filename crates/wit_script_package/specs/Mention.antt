@@ -18,9 +18,9 @@ use Rattle.wit_data.specs.declared.world.World.{World}
 use Rattle.wit_script_lines.specs.declared.package_line.PackageLine.{PackageLine}
 use Rattle.wit_script_lines.specs.declared.package_line.PackageLine.TheVariants as says
 use Rattle.wit_script_package.specs.Adding.{empty_interface, empty_world, type_with}
-use Rattle.wit_script_package.specs.Naming.{Place}
+use Rattle.wit_script_package.specs.Naming.{OptionalSpan}
 use Rattle.wit_script_package.specs.declared.draft.Foreign.{Foreign}
-use Rattle.wit_script_package.specs.declared.draft.Standing.{Standing}
+use Rattle.wit_script_package.specs.declared.draft.LineContext.{LineContext}
 use Rattle.wit_script_package.specs.declared.mention.Mention.{Mention}
 use Rattle.wit_script_package.specs.declared.mention.MentionKind.{MentionKind}
 use Rattle.wit_script_package.specs.declared.mention.MentionKind.TheVariants as taken
@@ -38,24 +38,24 @@ used_type_name (taken.Type_ name) = Some name
 used_type_name taken.World = None
 
 -- what a path mentions: a name of the same package is no mention
-abbrev pub mentioned : ParsedUsePath → MentionKind → Stability → Place → List Mention
-mentioned (path.Name own) takes gate span = []
-mentioned (path.Package parent name) takes gate span = record { parent = parent; name = name; kind = takes; gate = gate; span = span } ∷ []
+abbrev pub path_mention : ParsedUsePath → MentionKind → Stability → OptionalSpan → List Mention
+path_mention (path.Name own) takes gate span = []
+path_mention (path.Package parent name) takes gate span = record { parent = parent; name = name; kind = takes; gate = gate; span = span } ∷ []
 
 -- what a line mentions
-abbrev pub mentions_of : PackageLine → Stability → Place → List Mention
+abbrev pub mentions_of : PackageLine → Stability → OptionalSpan → List Mention
 mentions_of (says.Interface name) gate span = []
 mentions_of (says.World name) gate span = []
 mentions_of (says.Type_ name text) gate span = []
 mentions_of (says.Record name fields) gate span = []
 mentions_of (says.Resource name) gate span = []
-mentions_of (says.Use from name new) gate span = mentioned from (taken.Type_ name) gate span
+mentions_of (says.Use from name new) gate span = path_mention from (taken.Type_ name) gate span
 mentions_of (says.Function said) gate span = []
-mentions_of (says.Import label from) gate span = mentioned from taken.Interface gate span
-mentions_of (says.Export label from) gate span = mentioned from taken.Interface gate span
+mentions_of (says.Import label from) gate span = path_mention from taken.Interface gate span
+mentions_of (says.Export label from) gate span = path_mention from taken.Interface gate span
 mentions_of (says.ImportFunction said) gate span = []
 mentions_of (says.ExportFunction said) gate span = []
-mentions_of (says.Include from names) gate span = mentioned from taken.World gate span
+mentions_of (says.Include from names) gate span = path_mention from taken.World gate span
 
 -- two mentions of one package
 abbrev pub same_parent : Mention → Mention → Bool
@@ -109,7 +109,7 @@ world_id_of ms m = position_or_len (same_item m) (first_worlds ms)
 abbrev pub type_id_of : List Mention → Mention → ℕ
 type_id_of ms m = position_or_len (same_type m) (first_types ms)
 
--- a foreign interface or world, with a note for each line that names it: the gate of that line
+-- a foreign interface or world, with a gate for each line that names it: the gate of that line
 abbrev pub foreign_item : List Mention → Mention → ForeignItem
 foreign_item ms m =
     (m.name, ((if is_world m.kind then item.World (world_id_of ms m) else item.Interface (interface_id_of ms m)), map (λ (n : Mention). n.gate) (filter (same_item m) ms)))
@@ -124,7 +124,7 @@ used_name None = []
 used_name (Some name) = name
 
 -- where an interface or a world of another package stands: at its first mention, without a gate
-abbrev pub mentioned_at : Mention → Standing
+abbrev pub mentioned_at : Mention → LineContext
 mentioned_at m = record { gate = Unknown; span = m.span }
 
 -- a foreign interface: its name, and those of its types that lines use
@@ -154,9 +154,9 @@ first_role m [] = is_world m.kind
 first_role m (n ∷ ms) = if same_item m n then is_world n.kind else first_role m ms
 
 -- the first line that names it takes it for what this line does
-abbrev pub keeps_role : List Mention → Mention → Bool
-keeps_role ms m = if is_world m.kind then first_role m ms else not (first_role m ms)
+abbrev pub agrees_on_role : List Mention → Mention → Bool
+agrees_on_role ms m = if is_world m.kind then first_role m ms else not (first_role m ms)
 
 -- the mentions that count: a line that takes an item for what its first mention doesn't isn't understood
-abbrev pub known : List Mention → List Mention
-known ms = filter (keeps_role ms) ms
+abbrev pub known_mentions : List Mention → List Mention
+known_mentions ms = filter (agrees_on_role ms) ms

@@ -18,7 +18,7 @@ use Rattle.wit_data.specs.declared.world.WorldItem.{WorldItem}
 use Rattle.wit_data.specs.declared.world.WorldItem.TheVariants as item
 use Rattle.wit_data.specs.declared.world.WorldKey.TheVariants as key
 pub use Rattle.wit_data.specs.facts.WorldKeyFacts.{same_key}
-pub use Rattle.wit_sources.specs.Span.{Place}
+pub use Rattle.wit_sources.specs.Span.{OptionalSpan}
 use Rattle.wit_script_lines.specs.Token.{primitive_of}
 use Rattle.wit_script_package.specs.declared.draft.Draft.{Draft}
 use Rattle.wit_script_package.specs.declared.draft.Scope.{Scope}
@@ -29,22 +29,22 @@ abbrev pub last_place : ℕ → Option ℕ
 last_place count = if count == 0 then None else Some (count - 1)
 
 -- the place of the interface into which lines go: the last, where an interface was begun last
-abbrev pub interface_place : Draft → Scope → Option ℕ
-interface_place p scope.Package = None
-interface_place p scope.Interface = last_place (length p.interfaces)
-interface_place p scope.World = None
+abbrev pub open_interface_index : Draft → Scope → Option ℕ
+open_interface_index p scope.Package = None
+open_interface_index p scope.Interface = last_place (length p.interfaces)
+open_interface_index p scope.World = None
 
 abbrev pub open_interface : Draft → Option ℕ
-open_interface p = interface_place p p.scope
+open_interface p = open_interface_index p p.scope
 
 -- the place of the world into which lines go: the last, where a world was begun last
-abbrev pub world_place : Draft → Scope → Option ℕ
-world_place p scope.Package = None
-world_place p scope.Interface = None
-world_place p scope.World = last_place (length p.worlds)
+abbrev pub open_world_index : Draft → Scope → Option ℕ
+open_world_index p scope.Package = None
+open_world_index p scope.Interface = None
+open_world_index p scope.World = last_place (length p.worlds)
 
 abbrev pub open_world : Draft → Option ℕ
-open_world p = world_place p p.scope
+open_world p = open_world_index p p.scope
 
 -- the type of this name in the interface at a place
 abbrev pub type_at : Draft → List ℕ → ℕ → Option ℕ

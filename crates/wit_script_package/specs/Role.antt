@@ -15,16 +15,16 @@ is_plain [] = false
 is_plain (b ∷ bs) = not (b == 91)
 
 -- the resource of a constructor: an earlier type
-abbrev pub resource_of : Draft → List ℕ → Option ℕ
-resource_of p rest = if is_plain rest then earlier p rest else None
+abbrev pub constructor_resource : Draft → List ℕ → Option ℕ
+constructor_resource p rest = if is_plain rest then earlier p rest else None
 
 -- the resource of a member, which is the part before the first dot: an earlier type
 abbrev pub member_of : Draft → List ℕ → Option ℕ
 member_of p rest = if is_plain rest then option_and_then (λ (parts : List ℕ × List ℕ). earlier p parts.0) (split_at 46 rest) else None
 
 -- a function that belongs to no resource
-abbrev pub loose : FunctionKind → List ℕ → Option FunctionKind
-loose does rest = if is_plain rest then Some does else None
+abbrev pub freestanding : FunctionKind → List ℕ → Option FunctionKind
+freestanding does rest = if is_plain rest then Some does else None
 
 -- what comes of what follows a group, where there is that group, or else another thing
 abbrev pub or_group : Option (List ℕ) → (List ℕ → Option FunctionKind) → Option FunctionKind → Option FunctionKind
@@ -44,10 +44,10 @@ static_role p rest =
     (or_group (after_prefix (codes "[set]") rest) (λ more. option_map role.StaticSetter (member_of p more)) (option_map role.Static (member_of p rest)))
 
 -- a name without the groups of a resource
-abbrev pub loose_role : List ℕ → Option FunctionKind
-loose_role name = or_group (after_prefix (codes "[get]") name) (loose role.Getter) (or_group (after_prefix (codes "[set]") name) (loose role.Setter) (loose role.Freestanding name))
+abbrev pub freestanding_kind : List ℕ → Option FunctionKind
+freestanding_kind name = or_group (after_prefix (codes "[get]") name) (freestanding role.Getter) (or_group (after_prefix (codes "[set]") name) (freestanding role.Setter) (freestanding role.Freestanding name))
 
-abbrev pub role_of : Draft → List ℕ → Option FunctionKind
-role_of p name =
-    or_group (after_prefix (codes "[constructor]") name) (λ rest. option_map role.Constructor (resource_of p rest))
-    (or_group (after_prefix (codes "[method]") name) (method_role p) (or_group (after_prefix (codes "[static]") name) (static_role p) (loose_role name)))
+abbrev pub function_kind_of : Draft → List ℕ → Option FunctionKind
+function_kind_of p name =
+    or_group (after_prefix (codes "[constructor]") name) (λ rest. option_map role.Constructor (constructor_resource p rest))
+    (or_group (after_prefix (codes "[method]") name) (method_role p) (or_group (after_prefix (codes "[static]") name) (static_role p) (freestanding_kind name)))

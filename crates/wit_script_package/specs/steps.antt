@@ -1,2 +1,2 @@
-pub mod Leads
+pub mod DraftResult
 pub mod Mentioning

@@ -1,9 +1,9 @@
 //! What a line adds to the interfaces, worlds and types of a package.
 ghost use Rattle.std.specs.Prelude.{◌≡◌, ◌<◌, length, IfOk, OnOk};
 ghost use Rattle.wit_script_package.specs.Adding.{empty_interface, empty_world, root_of, type_with, with_export, with_export_at, with_function, with_function_at, with_import, with_import_at, with_include, with_include_at, with_interface, with_interface_type, with_named, with_type, with_type_name, with_world, with_world_type};
-ghost use Rattle.wit_script_package.specs.steps.Leads.{Leads};
+ghost use Rattle.wit_script_package.specs.steps.DraftResult.{DraftResult};
 
-use crate::draft::{Draft, Scope, Standing};
+use crate::draft::{Draft, Scope, LineContext};
 use std::alloc::{AllocError, Global};
 use wit_data::{
     Docs, Function, Interface, InterfaceId, Items, Names, Table, Text, TryClone, Type_, TypeDef,
@@ -13,7 +13,7 @@ use wit_script_lines::LineFault;
 
 /// The interface of a line that stands here, without types and functions. The only error is want of
 /// memory.
-pub fn new_interface(alloc: Global, name: Text, here: &Standing) -> Result<Interface, AllocError>
+pub fn new_interface(alloc: Global, name: Text, here: &LineContext) -> Result<Interface, AllocError>
     ensures { IfOk result (λ interface. interface ≡ empty_interface name here.now) }
 {
     let stability = here.gate.try_clone()?;
@@ -30,7 +30,7 @@ pub fn new_interface(alloc: Global, name: Text, here: &Standing) -> Result<Inter
 
 /// The world of a line that stands here, without imports, exports and includes. The only error is want
 /// of memory.
-pub fn new_world(alloc: Global, name: Text, here: &Standing) -> Result<World, AllocError>
+pub fn new_world(alloc: Global, name: Text, here: &LineContext) -> Result<World, AllocError>
     ensures { IfOk result (λ world. world ≡ empty_world name here.now) }
 {
     let stability = here.gate.try_clone()?;
@@ -51,7 +51,7 @@ pub fn new_type(
     name: Option<Text>,
     kind: TypeDefKind,
     owner: TypeOwner,
-    here: &Standing,
+    here: &LineContext,
 ) -> Result<TypeDef, AllocError>
     ensures { IfOk result (λ def. def ≡ type_with name kind owner here.now) }
 {
@@ -75,9 +75,9 @@ impl Draft {
         &mut self,
         alloc: Global,
         name: Text,
-        here: &Standing,
+        here: &LineContext,
     ) -> Result<(), LineFault>
-        ensures { Leads (with_interface self.old name here.now) result self.new }
+        ensures { DraftResult (with_interface self.old name here.now) result self.new }
     {
         if self.interface_ids.contains_key(name.as_str()) {
             return Err(LineFault::NotUnderstood);
@@ -127,8 +127,8 @@ impl Draft {
     /// Begins a world; the next lines go into it. Not understood where the package has one of its own
     /// of that name. Else only want of memory is an error. After a fault nothing is told of the
     /// package.
-    pub fn add_world(&mut self, alloc: Global, name: Text, here: &Standing) -> Result<(), LineFault>
-        ensures { Leads (with_world self.old name here.now) result self.new }
+    pub fn add_world(&mut self, alloc: Global, name: Text, here: &LineContext) -> Result<(), LineFault>
+        ensures { DraftResult (with_world self.old name here.now) result self.new }
     {
         if self.world_ids.contains_key(name.as_str()) {
             return Err(LineFault::NotUnderstood);
@@ -170,7 +170,7 @@ impl Draft {
     /// Gives the next type a name in the interface at a place, where it has no type of that name.
     fn add_type_name(&mut self, alloc: Global, name: &Text, at: usize) -> Result<(), LineFault>
         requires { at < length self.old.interfaces }
-        ensures { Leads (with_type_name self.old name.now at) result self.new }
+        ensures { DraftResult (with_type_name self.old name.now at) result self.new }
     {
         let id = TypeId::from_index(self.types.len());
         let key = String::from_str(alloc, name.as_str())?;
@@ -188,11 +188,11 @@ impl Draft {
         alloc: Global,
         name: Text,
         kind: TypeDefKind,
-        here: &Standing,
+        here: &LineContext,
         at: usize,
     ) -> Result<(), LineFault>
         requires { at < length self.old.interfaces }
-        ensures { Leads (with_interface_type self.old name kind here.now at) result self.new }
+        ensures { DraftResult (with_interface_type self.old name kind here.now at) result self.new }
     {
         self.add_type_name(alloc, &name, at)?;
         let owner = TypeOwner::Interface(InterfaceId::from_index(at));
@@ -206,11 +206,11 @@ impl Draft {
         &mut self,
         name: Text,
         kind: TypeDefKind,
-        here: &Standing,
+        here: &LineContext,
         at: usize,
     ) -> Result<(), LineFault>
         requires { at < length self.old.worlds }
-        ensures { Leads (with_world_type self.old name kind here.now at) result self.new }
+        ensures { DraftResult (with_world_type self.old name kind here.now at) result self.new }
     {
         let id = TypeId::from_index(self.types.len());
         let key = WorldKey::Name(name.try_clone()?);
@@ -236,9 +236,9 @@ impl Draft {
         alloc: Global,
         name: Text,
         kind: TypeDefKind,
-        here: &Standing,
+        here: &LineContext,
     ) -> Result<(), LineFault>
-        ensures { Leads (with_named self.old name kind here.now) result self.new }
+        ensures { DraftResult (with_named self.old name kind here.now) result self.new }
     {
         match self.scope {
             Scope::Package => Err(LineFault::NotUnderstood),
@@ -256,7 +256,7 @@ impl Draft {
     /// Adds an import to the world at a place, where it imports nothing under that key yet.
     fn add_import_at(&mut self, key: WorldKey, item: WorldItem, at: usize) -> Result<(), LineFault>
         requires { at < length self.old.worlds }
-        ensures { Leads (with_import_at self.old key item at) result self.new }
+        ensures { DraftResult (with_import_at self.old key item at) result self.new }
     {
         let imports = &mut self.worlds.at_mut(at).imports;
         if imports.contains_key(&key) {
@@ -270,7 +270,7 @@ impl Draft {
     /// it imports something under this key. Else only want of memory is an error. After a fault nothing
     /// is told of the package.
     pub fn add_import(&mut self, key: WorldKey, item: WorldItem) -> Result<(), LineFault>
-        ensures { Leads (with_import self.old key item) result self.new }
+        ensures { DraftResult (with_import self.old key item) result self.new }
     {
         match self.open_world() {
             Some(at) => self.add_import_at(key, item, at),
@@ -281,7 +281,7 @@ impl Draft {
     /// Adds an export to the world at a place, where it exports nothing under that key yet.
     fn add_export_at(&mut self, key: WorldKey, item: WorldItem, at: usize) -> Result<(), LineFault>
         requires { at < length self.old.worlds }
-        ensures { Leads (with_export_at self.old key item at) result self.new }
+        ensures { DraftResult (with_export_at self.old key item at) result self.new }
     {
         let exports = &mut self.worlds.at_mut(at).exports;
         if exports.contains_key(&key) {
@@ -295,7 +295,7 @@ impl Draft {
     /// it exports something under this key. Else only want of memory is an error. After a fault nothing
     /// is told of the package.
     pub fn add_export(&mut self, key: WorldKey, item: WorldItem) -> Result<(), LineFault>
-        ensures { Leads (with_export self.old key item) result self.new }
+        ensures { DraftResult (with_export self.old key item) result self.new }
     {
         match self.open_world() {
             Some(at) => self.add_export_at(key, item, at),
@@ -311,7 +311,7 @@ impl Draft {
         at: usize,
     ) -> Result<(), LineFault>
         requires { at < length self.old.interfaces }
-        ensures { Leads (with_function_at self.old function at) result self.new }
+        ensures { DraftResult (with_function_at self.old function at) result self.new }
     {
         let key = String::from_str(alloc, function.name.as_str())?;
         let functions = &mut self.interfaces.at_mut(at).functions;
@@ -326,7 +326,7 @@ impl Draft {
     /// interface, or it has a function of this name. Else only want of memory is an error. After a
     /// fault nothing is told of the package.
     pub fn add_function(&mut self, alloc: Global, function: Function) -> Result<(), LineFault>
-        ensures { Leads (with_function self.old function) result self.new }
+        ensures { DraftResult (with_function self.old function) result self.new }
     {
         match self.open_interface() {
             Some(at) => self.add_function_at(alloc, function, at),
@@ -337,7 +337,7 @@ impl Draft {
     /// Adds an include to the world at a place.
     fn add_include_at(&mut self, include: WorldInclude, at: usize) -> Result<(), LineFault>
         requires { at < length self.old.worlds }
-        ensures { Leads (with_include_at self.old include at) result self.new }
+        ensures { DraftResult (with_include_at self.old include at) result self.new }
     {
         let includes = &mut self.worlds.at_mut(at).includes;
         includes.push(include)?;
@@ -347,7 +347,7 @@ impl Draft {
     /// Adds an include to the world into which lines go. Not understood where they go into no world.
     /// Else only want of memory is an error. After a fault nothing is told of the package.
     pub fn add_include(&mut self, include: WorldInclude) -> Result<(), LineFault>
-        ensures { Leads (with_include self.old include) result self.new }
+        ensures { DraftResult (with_include self.old include) result self.new }
     {
         match self.open_world() {
             Some(at) => self.add_include_at(include, at),

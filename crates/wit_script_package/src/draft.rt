@@ -1,9 +1,9 @@
 //! A package of which some lines are read.
 ghost use Rattle.std.specs.Option.{option_map};
 ghost use Rattle.std.specs.Prelude.{◌≡◌, ◌++◌, [], length, IfOk};
-ghost use Rattle.wit_script_package.specs.Draft.{begun, begun_at, file_of, grouped, span_after, with_newline, with_text};
+ghost use Rattle.wit_script_package.specs.Draft.{as_group, new_draft, new_draft_at, one_file, span_after, with_newline, with_text};
 ghost use Rattle.wit_script_package.specs.Lines.{with_line};
-ghost use Rattle.wit_script_lines.specs.steps.IsRead.{IsRead};
+ghost use Rattle.wit_script_lines.specs.steps.ReadResult.{IsRead};
 
 use crate::mention::Mention;
 use std::alloc::{AllocError, Global};
@@ -13,7 +13,7 @@ use wit_data::{
     Stability, Table, Text, TypeDef, TypeId, UnresolvedPackage, UnresolvedPackageGroup, World,
     WorldId,
 };
-use wit_script_lines::{LineFault, PackageLine, ink};
+use wit_script_lines::{LineFault, PackageLine, content_range};
 
 /// Into what the next lines of a package go.
 #[derive(Clone, Copy, Debug, PartialEq, Eq)]
@@ -28,7 +28,7 @@ pub enum Scope {
 
 /// The gate of a line, and its span in the file of its package, in bytes from 0.
 #[derive(Drop)]
-pub struct Standing {
+pub struct LineContext {
     pub gate: Stability,
     pub span: Span,
 }
@@ -109,7 +109,7 @@ pub fn span_of(file_len: usize, line: &str) -> Result<Span, LineFault>
     if file_len > LONGEST_FILE || line.len() >= LONGEST_FILE - file_len {
         return Err(LineFault::NotUnderstood);
     }
-    let (start, end) = ink(line);
+    let (start, end) = content_range(line);
     Ok(Span::new((file_len + start) as u32, (file_len + end) as u32))
 }
 
@@ -134,7 +134,7 @@ impl Draft {
         line: &str,
         mentions: Items<Mention>,
     ) -> Result<Draft, LineFault>
-        ensures { IsRead (begun name line.now mentions) result }
+        ensures { IsRead (new_draft name line.now mentions) result }
     {
         let span = span_of(0, line)?;
         let mut draft = Draft::empty(alloc, name, line, span)?;
@@ -144,7 +144,7 @@ impl Draft {
 
     /// The package of a first line that stands here, which knows nothing of other packages.
     fn empty(alloc: Global, name: PackageName, line: &str, span: Span) -> Result<Draft, AllocError>
-        ensures { IfOk result (λ draft. draft ≡ begun_at name line.now [] span) }
+        ensures { IfOk result (λ draft. draft ≡ new_draft_at name line.now [] span) }
     {
         let contents = with_newline(Text::new(alloc), line)?;
         Ok(Draft {
@@ -180,7 +180,7 @@ impl Draft {
         ensures { IsRead (with_line self said gate line.now) result }
     {
         let (mut draft, span) = self.with_text(alloc, line)?;
-        draft.add(alloc, said, &Standing { gate, span })?;
+        draft.add(alloc, said, &LineContext { gate, span })?;
         Ok(draft)
     }
 
@@ -198,7 +198,7 @@ impl Draft {
     /// The package as a group of its own, with its file, whose path is the package's name. Not
     /// understood where the file doesn't fit into a source map. Else only want of memory is an error.
     pub fn into_group(self, alloc: Global) -> Result<UnresolvedPackageGroup, LineFault>
-        ensures { IsRead (grouped self) result }
+        ensures { IsRead (as_group self) result }
     {
         let mut draft = self;
         draft.close();
@@ -207,7 +207,7 @@ impl Draft {
 
     /// The same, where nothing more comes into what lines went into.
     fn into_closed_group(self, alloc: Global) -> Result<UnresolvedPackageGroup, LineFault>
-        ensures { IsRead (grouped self) result }
+        ensures { IsRead (as_group self) result }
     {
         let path = self.name.to_string(alloc)?;
         let Draft {
@@ -247,14 +247,14 @@ impl Draft {
         Ok(UnresolvedPackageGroup {
             main,
             nested: Items::new(alloc),
-            source_map: file_of(alloc, &path, contents)?,
+            source_map: one_file(alloc, &path, contents)?,
         })
     }
 }
 
 /// A source map of one file.
-fn file_of(alloc: Global, path: &str, contents: Text) -> Result<SourceMap, LineFault>
-    ensures { IsRead (file_of path.now contents) result }
+fn one_file(alloc: Global, path: &str, contents: Text) -> Result<SourceMap, LineFault>
+    ensures { IsRead (one_file path.now contents) result }
 {
     let mut source_map = SourceMap::new(alloc);
     match source_map.push_str(alloc, path, contents.into_string()) {

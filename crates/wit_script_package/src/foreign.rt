@@ -3,10 +3,10 @@ ghost use Rattle.std.specs.Prelude.{◌≡◌, [], OnOk, IfOk, Some};
 ghost use Rattle.std.specs.List.{fold};
 ghost use Rattle.std.specs.Str.{bytes_eq};
 ghost use Rattle.wit_data.specs.PackageOrder.{same_package};
-ghost use Rattle.wit_script_package.specs.steps.Mentioning.{changed_at, with_counted, with_foreign, with_foreign_type, with_gate, with_item_note, with_key, with_mention, with_mention_of, with_note, with_package_note, with_use_as};
+ghost use Rattle.wit_script_package.specs.steps.Mentioning.{changed_at, with_counted, with_foreign, with_foreign_gate, with_foreign_type, with_gate, with_item_gate, with_key, with_mention, with_mention_of, with_package_gate, with_use_as};
 
 use crate::adding::{new_interface, new_type, new_world};
-use crate::draft::{Draft, Standing};
+use crate::draft::{Draft, LineContext};
 use crate::mention::{Mention, MentionKind};
 use std::alloc::{AllocError, Global};
 use std::mem;
@@ -51,13 +51,13 @@ fn with_gate(items: ForeignNames, name: &Text, gate: Stability) -> Result<Foreig
 }
 
 /// The interfaces and worlds of a foreign package, with one more gate of one.
-fn with_item_note(
+fn with_item_gate(
     alloc: Global,
     items: ForeignNames,
     mention: &Mention,
     item: AstItem,
 ) -> Result<ForeignNames, AllocError>
-    ensures { IfOk result (λ new. new ≡ with_item_note mention.now.name item mention.now.gate items) }
+    ensures { IfOk result (λ new. new ≡ with_item_gate mention.now.name item mention.now.gate items) }
 {
     let gate = mention.gate.try_clone()?;
     let items = with_item(alloc, items, &mention.name, item)?;
@@ -65,16 +65,16 @@ fn with_item_note(
 }
 
 /// Adds one more gate of an interface or world of a foreign package.
-fn add_item_note(
+fn add_item_gate(
     alloc: Global,
     items: &mut ForeignNames,
     mention: &Mention,
     item: AstItem,
 ) -> Result<(), AllocError>
-    ensures { OnOk result (items.new ≡ with_item_note mention.now.name item mention.now.gate items.old) }
+    ensures { OnOk result (items.new ≡ with_item_gate mention.now.name item mention.now.gate items.old) }
 {
     let before = mem::replace(items, Names::new(alloc));
-    *items = with_item_note(alloc, before, mention, item)?;
+    *items = with_item_gate(alloc, before, mention, item)?;
     Ok(())
 }
 
@@ -96,18 +96,18 @@ fn with_package(
 }
 
 /// What is named of other packages, with one more gate of an item of a package that is there.
-fn with_note_there(
+fn with_foreign_gate_there(
     alloc: Global,
     deps: Table<PackageName, ForeignNames>,
     mention: &Mention,
     item: AstItem,
 ) -> Result<Table<PackageName, ForeignNames>, AllocError>
-    ensures { IfOk result (λ new. new ≡ changed_at (same_package mention.now.parent) (with_item_note mention.now.name item mention.now.gate) deps) }
+    ensures { IfOk result (λ new. new ≡ changed_at (same_package mention.now.parent) (with_item_gate mention.now.name item mention.now.gate) deps) }
 {
     let mut map = deps.into_map();
     match map.get_index_of(&mention.parent) {
         Some(at) => {
-            add_item_note(alloc, &mut map[at], mention, item)?;
+            add_item_gate(alloc, &mut map[at], mention, item)?;
             Ok(Table::from_map(map))
         }
         None => Ok(Table::from_map(map)),
@@ -115,33 +115,33 @@ fn with_note_there(
 }
 
 /// What is named of other packages, with one more gate of an item.
-fn with_package_note(
+fn with_package_gate(
     alloc: Global,
     deps: Table<PackageName, ForeignNames>,
     mention: &Mention,
     item: AstItem,
 ) -> Result<Table<PackageName, ForeignNames>, AllocError>
-    ensures { IfOk result (λ new. new ≡ with_package_note mention.now.parent mention.now.name item mention.now.gate deps) }
+    ensures { IfOk result (λ new. new ≡ with_package_gate mention.now.parent mention.now.name item mention.now.gate deps) }
 {
     let deps = with_package(alloc, deps, &mention.parent)?;
-    with_note_there(alloc, deps, mention, item)
+    with_foreign_gate_there(alloc, deps, mention, item)
 }
 
 impl Draft {
     /// Notes the gate of a line that names an item.
-    fn add_note(
+    fn add_foreign_gate(
         &mut self,
         alloc: Global,
         mention: &Mention,
         item: &AstItem,
     ) -> Result<(), AllocError>
-        ensures { OnOk result (self.new ≡ with_note self.old mention.now item.now) }
+        ensures { OnOk result (self.new ≡ with_foreign_gate self.old mention.now item.now) }
     {
         if !self.foreign.deps.contains_key(&mention.parent) {
             self.foreign.dep_spans.push(mention.span)?;
         }
         let deps = mem::replace(&mut self.foreign.deps, Table::new(alloc));
-        self.foreign.deps = with_package_note(alloc, deps, mention, *item)?;
+        self.foreign.deps = with_package_gate(alloc, deps, mention, *item)?;
         Ok(())
     }
 
@@ -150,7 +150,7 @@ impl Draft {
         ensures { IfOk result (λ item. (item, self.new) ≡ with_foreign self.old mention.now) }
     {
         let name = mention.name.try_clone()?;
-        let here = Standing {
+        let here = LineContext {
             gate: Stability::Unknown,
             span: mention.span,
         };
@@ -173,7 +173,7 @@ impl Draft {
         &mut self,
         alloc: Global,
         name: Text,
-        here: &Standing,
+        here: &LineContext,
         at: usize,
     ) -> Result<(), AllocError>
         ensures { OnOk result (self.new ≡ with_foreign_type self.old name here.now at) }
@@ -209,7 +209,7 @@ impl Draft {
         } = mention;
         match (kind, item) {
             (MentionKind::Type_(name), AstItem::Interface(id)) => {
-                self.add_foreign_type(alloc, name, &Standing { gate, span }, id.index())
+                self.add_foreign_type(alloc, name, &LineContext { gate, span }, id.index())
             }
             _ => Ok(()),
         }
@@ -224,7 +224,7 @@ impl Draft {
     ) -> Result<(), AllocError>
         ensures { OnOk result (self.new ≡ with_counted self.old mention item.now) }
     {
-        self.add_note(alloc, &mention, item)?;
+        self.add_foreign_gate(alloc, &mention, item)?;
         self.add_foreign_use(alloc, mention, item)
     }
 

@@ -1,9 +1,9 @@
 //! What each line makes of a package.
 ghost use Rattle.std.specs.Prelude.{◌≡◌, IfOk};
-ghost use Rattle.wit_script_package.specs.steps.Leads.{Leads};
-ghost use Rattle.wit_script_package.specs.Lines.{entry_of, included, key_of, with_export_line, with_exported_function, with_function_line, with_import_line, with_imported_function, with_include_line, with_record, with_said, with_type_line, with_use};
+ghost use Rattle.wit_script_package.specs.steps.DraftResult.{DraftResult};
+ghost use Rattle.wit_script_package.specs.Lines.{include_item, interface_entry, key_of, with_export_line, with_exported_function, with_function_line, with_gated_line, with_import_line, with_imported_function, with_include_line, with_record, with_type_line, with_use};
 
-use crate::draft::{Draft, Standing};
+use crate::draft::{Draft, LineContext};
 use std::alloc::{AllocError, Global};
 use wit_data::{
     Docs, IncludeName, InterfaceId, Items, ParsedUsePath, Text, TryClone, Type_, TypeDefKind,
@@ -22,8 +22,8 @@ fn key_of(label: Option<Text>, id: InterfaceId) -> WorldKey
 }
 
 /// The entry of an interface.
-fn entry_of(id: InterfaceId, here: &Standing) -> Result<WorldItem, AllocError>
-    ensures { IfOk result (λ entry. entry ≡ entry_of id here.now) }
+fn interface_entry(id: InterfaceId, here: &LineContext) -> Result<WorldItem, AllocError>
+    ensures { IfOk result (λ entry. entry ≡ interface_entry id here.now) }
 {
     let stability = here.gate.try_clone()?;
     Ok(WorldItem::Interface {
@@ -36,12 +36,12 @@ fn entry_of(id: InterfaceId, here: &Standing) -> Result<WorldItem, AllocError>
 }
 
 /// The include of a world.
-fn included(
+fn include_item(
     id: WorldId,
     names: Items<IncludeName>,
-    here: &Standing,
+    here: &LineContext,
 ) -> Result<WorldInclude, AllocError>
-    ensures { IfOk result (λ include. include ≡ included id names here.now) }
+    ensures { IfOk result (λ include. include ≡ include_item id names here.now) }
 {
     let stability = here.gate.try_clone()?;
     Ok(WorldInclude {
@@ -55,15 +55,15 @@ fn included(
 impl Draft {
     /// Adds what a line says that stands here. Not understood where what it names isn't there, or isn't
     /// what it is named for; where a name or a key that it adds is there; where a function's name isn't
-    /// understood, as `role_of` says; and where lines go into no interface or world that takes it. Else
+    /// understood, as `function_kind_of` says; and where lines go into no interface or world that takes it. Else
     /// only want of memory is an error. After a fault nothing is told of the package.
     pub fn add(
         &mut self,
         alloc: Global,
         said: PackageLine,
-        here: &Standing,
+        here: &LineContext,
     ) -> Result<(), LineFault>
-        ensures { Leads (with_said self.old said here.now) result self.new }
+        ensures { DraftResult (with_gated_line self.old said here.now) result self.new }
     {
         match said {
             PackageLine::Interface(name) => self.add_interface(alloc, name, here),
@@ -92,9 +92,9 @@ impl Draft {
         alloc: Global,
         name: Text,
         ty: &TypeText,
-        here: &Standing,
+        here: &LineContext,
     ) -> Result<(), LineFault>
-        ensures { Leads (with_type_line self.old name ty.now here.now) result self.new }
+        ensures { DraftResult (with_type_line self.old name ty.now here.now) result self.new }
     {
         let kind = self.make_kind(alloc, ty, here)?;
         self.add_named(alloc, name, kind, here)
@@ -106,9 +106,9 @@ impl Draft {
         alloc: Global,
         name: Text,
         fields: &[TypedName],
-        here: &Standing,
+        here: &LineContext,
     ) -> Result<(), LineFault>
-        ensures { Leads (with_record self.old name fields.now here.now) result self.new }
+        ensures { DraftResult (with_record self.old name fields.now here.now) result self.new }
     {
         let fields = self.make_fields(alloc, fields, here)?;
         self.add_named(alloc, name, TypeDefKind::Record { fields }, here)
@@ -121,9 +121,9 @@ impl Draft {
         path: &ParsedUsePath,
         name: &Text,
         new: Text,
-        here: &Standing,
+        here: &LineContext,
     ) -> Result<(), LineFault>
-        ensures { Leads (with_use self.old path.now name.now new here.now) result self.new }
+        ensures { DraftResult (with_use self.old path.now name.now new here.now) result self.new }
     {
         match self.used_type(path, name.as_str()) {
             Some(id) => self.add_named(alloc, new, TypeDefKind::Type_(Type_::Id(id)), here),
@@ -136,9 +136,9 @@ impl Draft {
         &mut self,
         alloc: Global,
         said: &Signature,
-        here: &Standing,
+        here: &LineContext,
     ) -> Result<(), LineFault>
-        ensures { Leads (with_function_line self.old said.now here.now) result self.new }
+        ensures { DraftResult (with_function_line self.old said.now here.now) result self.new }
     {
         let function = self.make_function(alloc, said, here)?;
         self.add_function(alloc, function)
@@ -149,13 +149,13 @@ impl Draft {
         &mut self,
         label: Option<Text>,
         path: &ParsedUsePath,
-        here: &Standing,
+        here: &LineContext,
     ) -> Result<(), LineFault>
-        ensures { Leads (with_import_line self.old label path.now here.now) result self.new }
+        ensures { DraftResult (with_import_line self.old label path.now here.now) result self.new }
     {
         match self.interface_named(path) {
             Some(id) => {
-                let entry = entry_of(id, here)?;
+                let entry = interface_entry(id, here)?;
                 self.add_import(key_of(label, id), entry)
             }
             None => Err(LineFault::NotUnderstood),
@@ -167,13 +167,13 @@ impl Draft {
         &mut self,
         label: Option<Text>,
         path: &ParsedUsePath,
-        here: &Standing,
+        here: &LineContext,
     ) -> Result<(), LineFault>
-        ensures { Leads (with_export_line self.old label path.now here.now) result self.new }
+        ensures { DraftResult (with_export_line self.old label path.now here.now) result self.new }
     {
         match self.interface_named(path) {
             Some(id) => {
-                let entry = entry_of(id, here)?;
+                let entry = interface_entry(id, here)?;
                 self.add_export(key_of(label, id), entry)
             }
             None => Err(LineFault::NotUnderstood),
@@ -185,9 +185,9 @@ impl Draft {
         &mut self,
         alloc: Global,
         said: &Signature,
-        here: &Standing,
+        here: &LineContext,
     ) -> Result<(), LineFault>
-        ensures { Leads (with_imported_function self.old said.now here.now) result self.new }
+        ensures { DraftResult (with_imported_function self.old said.now here.now) result self.new }
     {
         let function = self.make_function(alloc, said, here)?;
         let key = WorldKey::Name(function.name.try_clone()?);
@@ -199,9 +199,9 @@ impl Draft {
         &mut self,
         alloc: Global,
         said: &Signature,
-        here: &Standing,
+        here: &LineContext,
     ) -> Result<(), LineFault>
-        ensures { Leads (with_exported_function self.old said.now here.now) result self.new }
+        ensures { DraftResult (with_exported_function self.old said.now here.now) result self.new }
     {
         let function = self.make_function(alloc, said, here)?;
         let key = WorldKey::Name(function.name.try_clone()?);
@@ -213,13 +213,13 @@ impl Draft {
         &mut self,
         path: &ParsedUsePath,
         names: Items<IncludeName>,
-        here: &Standing,
+        here: &LineContext,
     ) -> Result<(), LineFault>
-        ensures { Leads (with_include_line self.old path.now names here.now) result self.new }
+        ensures { DraftResult (with_include_line self.old path.now names here.now) result self.new }
     {
         match self.world_named(path) {
             Some(id) => {
-                let include = included(id, names, here)?;
+                let include = include_item(id, names, here)?;
                 self.add_include(include)
             }
             None => Err(LineFault::NotUnderstood),

@@ -1,10 +1,10 @@
 //! What the texts of types make, and functions with them.
 ghost use Rattle.std.specs.Prelude.{◌≡◌, Some, IfOk};
-ghost use Rattle.wit_script_package.specs.steps.Leads.{Leads, Makes};
-ghost use Rattle.wit_script_package.specs.Making.{answer_made, around, each_made, field_made, forms_made, function_by, function_made, function_with, handled, kind_made, param_made, type_made, type_of, with_resource, with_root_at, written_made};
+ghost use Rattle.wit_script_package.specs.steps.DraftResult.{DraftResult, Makes};
+ghost use Rattle.wit_script_package.specs.Making.{answer_made, around, each_made, field_made, forms_made, function_by, function_made, function_with, handle_argument, kind_made, param_made, type_made, type_of, with_resource, with_root_at, written_made};
 
 use crate::adding::new_type;
-use crate::draft::{Draft, Standing};
+use crate::draft::{Draft, LineContext};
 use std::alloc::{AllocError, Global};
 use wit_data::{
     Docs, Field, Function, FunctionKind, Handle, Items, Param, Span, Text, TryClone, Type_,
@@ -30,7 +30,7 @@ fn function_with(
     kind: FunctionKind,
     params: Items<Param>,
     result_: Option<Type_>,
-    here: &Standing,
+    here: &LineContext,
 ) -> Result<Function, AllocError>
     ensures { IfOk result (λ function. function ≡ function_with name kind params result_ here.now) }
 {
@@ -50,7 +50,7 @@ fn function_with(
 impl Draft {
     /// Has the type at a place, which is no alias, be a resource, where that can be.
     fn require_root(&mut self, span: Span, root: TypeId) -> Result<(), LineFault>
-        ensures { Leads (with_root_at self.old span root) result self.new }
+        ensures { DraftResult (with_root_at self.old span root) result self.new }
     {
         let Some(def) = self.types.get(root.index()) else {
             return Err(LineFault::NotUnderstood);
@@ -67,7 +67,7 @@ impl Draft {
 
     /// Has a type lead to a resource, where that can be.
     fn require_resource(&mut self, id: TypeId, span: Span) -> Result<(), LineFault>
-        ensures { Leads (with_resource self.old id span) result self.new }
+        ensures { DraftResult (with_resource self.old id span) result self.new }
     {
         match self.roots.get(id.index()) {
             Some(root) => {
@@ -80,7 +80,7 @@ impl Draft {
 
     /// The earlier type that a handle names.
     fn make_handled(&mut self, alloc: Global, name: &str, span: Span) -> Result<TypeId, LineFault>
-        ensures { Makes (handled self.old name.now span) result self.new }
+        ensures { Makes (handle_argument self.old name.now span) result self.new }
     {
         match self.earlier(alloc, name)? {
             Some(id) => {
@@ -116,7 +116,7 @@ impl Draft {
     }
 
     /// A type of this kind: of an alias what it is an alias of, of another kind a type without a name.
-    fn make_of(&mut self, kind: TypeDefKind, here: &Standing) -> Result<Type_, LineFault>
+    fn make_of(&mut self, kind: TypeDefKind, here: &LineContext) -> Result<Type_, LineFault>
         ensures { Makes (Some (type_of self.old kind here.now)) result self.new }
     {
         match kind {
@@ -135,7 +135,7 @@ impl Draft {
         &mut self,
         forms: &[Wrap],
         kind: TypeDefKind,
-        here: &Standing,
+        here: &LineContext,
     ) -> Result<TypeDefKind, LineFault>
         ensures { Makes (Some (forms_made self.old forms.now kind here.now)) result self.new }
     {
@@ -158,7 +158,7 @@ impl Draft {
         &mut self,
         alloc: Global,
         text: &TypeText,
-        here: &Standing,
+        here: &LineContext,
     ) -> Result<TypeDefKind, LineFault>
         ensures { Makes (kind_made self.old text.now here.now) result self.new }
     {
@@ -171,7 +171,7 @@ impl Draft {
         &mut self,
         alloc: Global,
         text: &TypeText,
-        here: &Standing,
+        here: &LineContext,
     ) -> Result<Type_, LineFault>
         ensures { Makes (type_made self.old text.now here.now) result self.new }
     {
@@ -184,7 +184,7 @@ impl Draft {
         &mut self,
         alloc: Global,
         field: &TypedName,
-        here: &Standing,
+        here: &LineContext,
     ) -> Result<Field, LineFault>
         ensures { Makes (field_made here.now field.now self.old) result self.new }
     {
@@ -205,7 +205,7 @@ impl Draft {
         &mut self,
         alloc: Global,
         fields: &[TypedName],
-        here: &Standing,
+        here: &LineContext,
     ) -> Result<Items<Field>, LineFault>
         ensures { Makes (each_made (field_made here.now) fields.now self.old) result self.new }
     {
@@ -224,7 +224,7 @@ impl Draft {
         &mut self,
         alloc: Global,
         param: &TypedName,
-        here: &Standing,
+        here: &LineContext,
     ) -> Result<Param, LineFault>
         ensures { Makes (param_made here.now param.now self.old) result self.new }
     {
@@ -242,7 +242,7 @@ impl Draft {
         &mut self,
         alloc: Global,
         params: &[TypedName],
-        here: &Standing,
+        here: &LineContext,
     ) -> Result<Items<Param>, LineFault>
         ensures { Makes (each_made (param_made here.now) params.now self.old) result self.new }
     {
@@ -261,7 +261,7 @@ impl Draft {
         &mut self,
         alloc: Global,
         text: &Option<TypeText>,
-        here: &Standing,
+        here: &LineContext,
     ) -> Result<Option<Type_>, LineFault>
         ensures { Makes (answer_made self.old text.now here.now) result self.new }
     {
@@ -276,7 +276,7 @@ impl Draft {
         &mut self,
         alloc: Global,
         said: &Signature,
-        here: &Standing,
+        here: &LineContext,
         kind: FunctionKind,
     ) -> Result<Function, LineFault>
         ensures { Makes (function_by self.old said.now here.now kind) result self.new }
@@ -287,18 +287,18 @@ impl Draft {
         Ok(function_with(name, kind, params, result_, here)?)
     }
 
-    /// The function that a line says which stands here: what its name makes of it, as `role_of` says,
+    /// The function that a line says which stands here: what its name makes of it, as `function_kind_of` says,
     /// and its types, as by `make_kind`. Not understood where one of these isn't. Else only want of
     /// memory is an error. After a fault nothing is told of the package.
     pub fn make_function(
         &mut self,
         alloc: Global,
         said: &Signature,
-        here: &Standing,
+        here: &LineContext,
     ) -> Result<Function, LineFault>
         ensures { Makes (function_made self.old said.now here.now) result self.new }
     {
-        let kind = self.role_of(alloc, said.name.as_str())?;
+        let kind = self.function_kind_of(alloc, said.name.as_str())?;
         self.make_by(alloc, said, here, kind)
     }
 }

@@ -1,7 +1,7 @@
 //! What a line of a package mentions of other packages.
 ghost use Rattle.std.specs.Option.{option_to_list};
 ghost use Rattle.std.specs.Prelude.{◌≡◌};
-ghost use Rattle.wit_script_package.specs.Mention.{mentioned, mentions_of};
+ghost use Rattle.wit_script_package.specs.Mention.{mentions_of, path_mention};
 ghost use Rattle.wit_script_package.specs.steps.Mentioning.{fits};
 
 use wit_data::{AstItem, PackageName, ParsedUsePath, Span, Stability, Text};
@@ -41,8 +41,8 @@ impl MentionKind {
 }
 
 /// What a path mentions: a name of the same package is no mention.
-fn mentioned(path: ParsedUsePath, kind: MentionKind, gate: Stability, span: Span) -> Option<Mention>
-    ensures { option_to_list result ≡ mentioned path kind gate span }
+fn path_mention(path: ParsedUsePath, kind: MentionKind, gate: Stability, span: Span) -> Option<Mention>
+    ensures { option_to_list result ≡ path_mention path kind gate span }
 {
     match path {
         ParsedUsePath::Name(_) => None,
@@ -63,11 +63,11 @@ pub fn mention_of(said: PackageLine, gate: Stability, span: Span) -> Option<Ment
 {
     match said {
         PackageLine::Use { path, name, .. } => {
-            mentioned(path, MentionKind::Type_(name), gate, span)
+            path_mention(path, MentionKind::Type_(name), gate, span)
         }
-        PackageLine::Import { path, .. } => mentioned(path, MentionKind::Interface, gate, span),
-        PackageLine::Export { path, .. } => mentioned(path, MentionKind::Interface, gate, span),
-        PackageLine::Include { path, .. } => mentioned(path, MentionKind::World, gate, span),
+        PackageLine::Import { path, .. } => path_mention(path, MentionKind::Interface, gate, span),
+        PackageLine::Export { path, .. } => path_mention(path, MentionKind::Interface, gate, span),
+        PackageLine::Include { path, .. } => path_mention(path, MentionKind::World, gate, span),
         _ => None,
     }
 }

@@ -1,7 +1,7 @@
 //! What the groups that lead a function's name make of it.
 ghost use Rattle.std.specs.Prelude.{◌≡◌};
-ghost use Rattle.wit_script_package.specs.Role.{is_plain, loose, loose_role, member_of, method_role, resource_of, role_of, static_role};
-ghost use Rattle.wit_script_lines.specs.steps.IsRead.{IsRead};
+ghost use Rattle.wit_script_package.specs.Role.{constructor_resource, freestanding, freestanding_kind, function_kind_of, is_plain, member_of, method_role, static_role};
+ghost use Rattle.wit_script_lines.specs.steps.ReadResult.{IsRead};
 
 use crate::draft::Draft;
 use std::alloc::Global;
@@ -19,8 +19,8 @@ fn is_plain(rest: &str) -> bool
 }
 
 /// A function that belongs to no resource.
-fn loose(kind: FunctionKind, rest: &str) -> Result<FunctionKind, LineFault>
-    ensures { IsRead (loose kind rest.now) result }
+fn freestanding(kind: FunctionKind, rest: &str) -> Result<FunctionKind, LineFault>
+    ensures { IsRead (freestanding kind rest.now) result }
 {
     if !is_plain(rest) {
         return Err(LineFault::NotUnderstood);
@@ -29,22 +29,22 @@ fn loose(kind: FunctionKind, rest: &str) -> Result<FunctionKind, LineFault>
 }
 
 /// What a name without the groups of a resource makes of a function.
-fn loose_role(name: &str) -> Result<FunctionKind, LineFault>
-    ensures { IsRead (loose_role name.now) result }
+fn freestanding_kind(name: &str) -> Result<FunctionKind, LineFault>
+    ensures { IsRead (freestanding_kind name.now) result }
 {
     if let Some(rest) = after_prefix("[get]", name) {
-        return loose(FunctionKind::Getter, rest);
+        return freestanding(FunctionKind::Getter, rest);
     }
     match after_prefix("[set]", name) {
-        Some(rest) => loose(FunctionKind::Setter, rest),
-        None => loose(FunctionKind::Freestanding, name),
+        Some(rest) => freestanding(FunctionKind::Setter, rest),
+        None => freestanding(FunctionKind::Freestanding, name),
     }
 }
 
 impl Draft {
     /// The resource of a constructor.
-    fn resource_of(&self, alloc: Global, rest: &str) -> Result<TypeId, LineFault>
-        ensures { IsRead (resource_of self.now rest.now) result }
+    fn constructor_resource(&self, alloc: Global, rest: &str) -> Result<TypeId, LineFault>
+        ensures { IsRead (constructor_resource self.now rest.now) result }
     {
         if !is_plain(rest) {
             return Err(LineFault::NotUnderstood);
@@ -100,18 +100,18 @@ impl Draft {
     /// What the groups that lead a function's name make of it. Not understood where what follows them
     /// is empty or begins with `[`, and where a constructor, method or static names no earlier type.
     /// Else only want of memory is an error.
-    pub fn role_of(&self, alloc: Global, name: &str) -> Result<FunctionKind, LineFault>
-        ensures { IsRead (role_of self.now name.now) result }
+    pub fn function_kind_of(&self, alloc: Global, name: &str) -> Result<FunctionKind, LineFault>
+        ensures { IsRead (function_kind_of self.now name.now) result }
     {
         if let Some(rest) = after_prefix("[constructor]", name) {
-            return Ok(FunctionKind::Constructor(self.resource_of(alloc, rest)?));
+            return Ok(FunctionKind::Constructor(self.constructor_resource(alloc, rest)?));
         }
         if let Some(rest) = after_prefix("[method]", name) {
             return self.method_role(alloc, rest);
         }
         match after_prefix("[static]", name) {
             Some(rest) => self.static_role(alloc, rest),
-            None => loose_role(name),
+            None => freestanding_kind(name),
         }
     }
 }

@@ -156,14 +156,14 @@ abbrev pub selection_error : List ℕ → ResolveErrorKind
 selection_error message = Semantic None message WorldSelection
 
 -- the refusal of a choice: what is said instead, or want of memory
-abbrev pub IsSaid : Choice → ResolveErrorKind → Type 0
-IsSaid choice kind = (kind ≡ OutOfMemory) ⊎ ((message : List ℕ) × (choice ≡ Err message) × (kind ≡ selection_error message))
+abbrev pub IsSelectionError : Choice → ResolveErrorKind → Type 0
+IsSelectionError choice kind = (kind ≡ OutOfMemory) ⊎ ((message : List ℕ) × (choice ≡ Err message) × (kind ≡ selection_error message))
 
 -- what comes of a choice: the id, or its refusal
-abbrev pub ComesOf : Choice → Result ℕ ResolveErrorKind → Type 0
-ComesOf choice (Ok id) = choice ≡ Ok id
-ComesOf choice (Err kind) = IsSaid choice kind
+abbrev pub IsSelectionResult : Choice → Result ℕ ResolveErrorKind → Type 0
+IsSelectionResult choice (Ok id) = choice ≡ Ok id
+IsSelectionResult choice (Err kind) = IsSelectionError choice kind
 
 -- what comes of a selection among the main packages
 abbrev pub IsSelection : Graph → List ℕ → Option (List ℕ) → Result ℕ ResolveErrorKind → Type 0
-IsSelection g mains text = ComesOf (selected_world g mains text)
+IsSelection g mains text = IsSelectionResult (selected_world g mains text)

@@ -3,7 +3,7 @@ ghost use Rattle.std.specs.Prelude.{◌≡◌, ◌⊎◌, ◌≤◌, ◌<◌, �
 ghost use Rattle.std.specs.Option.{option_copied};
 ghost use Rattle.wit_data.specs.UsePath.{use_path_of};
 ghost use Rattle.wit_graph_data.specs.declared.error_kind.ResolveErrorKind.TheVariants as kinds;
-ghost use Rattle.wit_selection.specs.Selection.{ComesOf, IsSelection, selection_error, no_path_text, no_main_text, several_versions_text, several_worlds_text, all_world_lines, package_world_lines, version_part, is_version_of, versions_of, only_version, named_package, named_world, only_world, only_main, in_package, by_path};
+ghost use Rattle.wit_selection.specs.Selection.{IsSelectionResult, IsSelection, selection_error, no_path_text, no_main_text, several_versions_text, several_worlds_text, all_world_lines, package_world_lines, version_part, is_version_of, versions_of, only_version, named_package, named_world, only_world, only_main, in_package, by_path};
 
 use std::alloc::{AllocError, Global};
 use std::fmt;
@@ -47,7 +47,7 @@ fn by_path(
     main_packages: &[PackageId],
     path: Option<ParsedUsePath>,
 ) -> ResolveResult<WorldId>
-    ensures { ComesOf (by_path graph.now main_packages.now path) result }
+    ensures { IsSelectionResult (by_path graph.now main_packages.now path) result }
 {
     if main_packages.is_empty() {
         return Err(no_package(alloc)?);
@@ -105,7 +105,7 @@ fn only_package(
     main_packages: &[PackageId],
 ) -> ResolveResult<PackageId>
     requires { 0 < length main_packages.now }
-    ensures { ComesOf (only_main graph.now main_packages.now) result }
+    ensures { IsSelectionResult (only_main graph.now main_packages.now) result }
 {
     if main_packages.len() == 1 {
         return Ok(main_packages[0]);
@@ -118,7 +118,7 @@ fn only_package(
 
 /// The package of a name; without a version also the one package of that name with a version.
 fn package_named(alloc: Global, graph: &Graph, name: &PackageName) -> ResolveResult<PackageId>
-    ensures { ComesOf (named_package graph.now.package_names name.now) result }
+    ensures { IsSelectionResult (named_package graph.now.package_names name.now) result }
 {
     match graph.package_names.get(name) {
         Some(id) => Ok(*id),
@@ -132,7 +132,7 @@ fn only_version(
     names: &Table<PackageName, PackageId>,
     name: &PackageName,
 ) -> ResolveResult<PackageId>
-    ensures { ComesOf (only_version name.now (versions_of name.now names.now)) result }
+    ensures { IsSelectionResult (only_version name.now (versions_of name.now names.now)) result }
 {
     let Some(first) = version_from(names, name, 0) else {
         return Err(refusal(format!(in alloc; "unknown package `{name}`")?));
@@ -208,7 +208,7 @@ impl<'a> fmt::Display for VersionPart<'a> {
 
 /// The world of a name in the package at a place.
 fn world_in(alloc: Global, graph: &Graph, id: PackageId, name: &str) -> ResolveResult<WorldId>
-    ensures { ComesOf (in_package graph.now id (named_world name.now)) result }
+    ensures { IsSelectionResult (in_package graph.now id (named_world name.now)) result }
 {
     match graph.packages.get(id.index()) {
         Some(package) => world_named(alloc, package, name),
@@ -217,7 +217,7 @@ fn world_in(alloc: Global, graph: &Graph, id: PackageId, name: &str) -> ResolveR
 }
 
 fn world_named(alloc: Global, package: &Package, name: &str) -> ResolveResult<WorldId>
-    ensures { ComesOf (named_world name.now «package».now) result }
+    ensures { IsSelectionResult (named_world name.now «package».now) result }
 {
     match package.worlds.get(name) {
         Some(id) => Ok(*id),
@@ -230,7 +230,7 @@ fn world_named(alloc: Global, package: &Package, name: &str) -> ResolveResult<Wo
 
 /// The only world of the package at a place.
 fn only_world(alloc: Global, graph: &Graph, id: PackageId) -> ResolveResult<WorldId>
-    ensures { ComesOf (in_package graph.now id (λ home. only_world graph.now id home home.worlds)) result }
+    ensures { IsSelectionResult (in_package graph.now id (λ home. only_world graph.now id home home.worlds)) result }
 {
     match graph.packages.get(id.index()) {
         Some(package) => only_world_of(alloc, graph, id, package),
@@ -244,7 +244,7 @@ fn only_world_of(
     id: PackageId,
     package: &Package,
 ) -> ResolveResult<WorldId>
-    ensures { ComesOf (only_world graph.now id «package».now «package».now.worlds) result }
+    ensures { IsSelectionResult (only_world graph.now id «package».now «package».now.worlds) result }
 {
     match package.worlds.len() {
         0 => {

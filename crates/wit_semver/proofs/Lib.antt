@@ -1,7 +1,7 @@
+mod Elaborates
 mod Filled
+mod KeptTold
 mod Keyed
+mod NewEntries
 mod NewestTold
-mod Relisted
-mod Settles
-mod StaysTold
 mod Used

@@ -19,11 +19,11 @@ use Rattle.wit_data.specs.PackageOrder.{same_package}
 use Rattle.wit_data.specs.declared.track.TrackRule.{TrackRule}
 use Rattle.wit_elaboration.specs.Valid.{IsValid}
 use Rattle.wit_graph_data.specs.declared.graph.Graph.{Graph}
-use Rattle.wit_semver_spec.specs.Tracks.{Versioned, both, have_one_track, is_below, is_outdone_by, versioned}
+use Rattle.wit_semver_spec.specs.Tracks.{Versioned, both, have_one_track, is_below, is_older_than, versioned}
 use Rattle.wit_semver_spec.specs.Upgrade.{Upgrade, imported, is_replaced, newest}
 use Rattle.wit_semver_laws.proofs.Greatest.{any_of, any_with, below_itself, below_trans, both_from, both_into, both_true, inside, newest_stays, stays_from, track_into}
 use Rattle.wit_semver_laws.proofs.Merged.{equal_versions, one_track}
-use Rattle.wit_semver.specs.steps.Replacing.{TellsNewest, is_newer, is_smaller, key_at, key_of, replacement, same_track}
+use Rattle.wit_semver.specs.steps.Replacing.{IsNewestTable, is_newer, is_smaller, key_at, key_of, replacement, same_track}
 use Rattle.wit_semver.specs.declared.tracks.TrackKey.{TrackKey}
 
 -- ---- keys of tracks
@@ -80,9 +80,9 @@ module _ (rule : TrackRule) (g : Graph) where
     here : Contains (ids ++ id ∷ []) id
     here = Contains-append_right ids (id ∷ []) id (Contains-here id [])
 
-    module _ (old new : List (TrackKey × ℕ)) (tells : TellsNewest rule g ids old) where
+    module _ (old new : List (TrackKey × ℕ)) (tells : IsNewestTable rule g ids old) where
       -- what has no version changes nothing
-      pub tells_unversioned : at id ≡ None → TellsNewest rule g (ids ++ id ∷ []) old
+      pub tells_unversioned : at id ≡ None → IsNewestTable rule g (ids ++ id ∷ []) old
       tells_unversioned none = record {
         from = λ k j is. let it = tells.from k j is in (grown it.0, it.1);
         into = λ i k has is. elim (Contains-append_cases ids (id ∷ []) i has) [
@@ -102,7 +102,7 @@ module _ (rule : TrackRule) (g : Graph) where
         key = key_of rule v
 
         -- where it is of no greater version, nothing changes
-        pub tells_smaller : is_newer g (lookup (same_track key) old) v ≡ false → TellsNewest rule g (ids ++ id ∷ []) old
+        pub tells_smaller : is_newer g (lookup (same_track key) old) v ≡ false → IsNewestTable rule g (ids ++ id ∷ []) old
         tells_smaller stays = record {
           from = λ k j is. let it = tells.from k j is in (grown it.0, it.1);
           into = λ i k has is. elim (Contains-append_cases ids (id ∷ []) i has) [
@@ -123,7 +123,7 @@ module _ (rule : TrackRule) (g : Graph) where
 
         -- where it is, it takes the place of what was known
         pub tells_newer : is_newer g (lookup (same_track key) old) v ≡ true
-            → ((q : TrackKey) → lookup (same_track q) new ≡ cond (same_track key q) (Some id) (lookup (same_track q) old)) → TellsNewest rule g (ids ++ id ∷ []) new
+            → ((q : TrackKey) → lookup (same_track q) new ≡ cond (same_track key q) (Some id) (lookup (same_track q) old)) → IsNewestTable rule g (ids ++ id ∷ []) new
         tells_newer newer put = record {
           from = λ k j is. told_from k j (same_track key k) refl is;
           into = λ i k has is. elim (Contains-append_cases ids (id ∷ []) i has) [
@@ -180,12 +180,12 @@ above_level g valid v w x up level = by (version_cmp w.version x.version) refl
         subst (λ (n : _). is_lt (version_cmp v.version n) ≡ true) (sym same) up
     by Greater is = below_trans v x w up (ap is_lt (version_cmp_total.antisymm x.version w.version ∙ ap ordering_reverse is))
 
-module _ (u : Upgrade) (valid : IsValid u.graph) (table : List (TrackKey × ℕ)) (tells : TellsNewest u.rule u.graph (imported u) table) (i : ℕ) (has : Contains (imported u) i) where
+module _ (u : Upgrade) (valid : IsValid u.graph) (table : List (TrackKey × ℕ)) (tells : IsNewestTable u.rule u.graph (imported u) table) (i : ℕ) (has : Contains (imported u) i) where
   abbrev at_ : ℕ → Option Versioned
   at_ j = versioned u.graph.packages u.graph.interfaces j
 
   abbrev outdone : ℕ → ℕ → Bool
-  outdone = is_outdone_by u.rule u.graph.packages u.graph.interfaces
+  outdone = is_older_than u.rule u.graph.packages u.graph.interfaces
 
   abbrev test : Versioned → Versioned → Bool
   test v w = have_one_track u.rule v w && is_below v w

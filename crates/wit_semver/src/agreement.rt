@@ -3,20 +3,20 @@ ghost use Rattle.std.specs.Prelude.{◌≡◌, ◌⊎◌, ℕ, List, IfErr, None
 ghost use Rattle.wit_graph_data.specs.declared.cause.Cause.TheVariants as cause;
 ghost use Rattle.wit_graph_data.specs.declared.error_kind.ResolveErrorKind.TheVariants.{OutOfMemory, Semantic};
 ghost use Rattle.wit_semver_spec.specs.TrackCause.{Disagrees};
-ghost use Rattle.wit_semver.specs.steps.Replacing.{DisagreesAt, IsReady, upgrade_of};
+ghost use Rattle.wit_semver.specs.steps.Replacing.{DisagreesAt, IsUpgradeReady, upgrade_of};
 
 use crate::refusal::functions_disagree;
-use crate::upgrading::{Upgrading, replacement_of};
+use crate::upgrade_plan::{UpgradePlan, replacement_of};
 use std::alloc::Global;
 use wit_data::InterfaceId;
 use wit_graph_data::ResolveResult;
 use wit_unite_common::interface_mismatch;
 
-impl<'a> Upgrading<'a> {
+impl<'a> UpgradePlan<'a> {
     /// Refused where an interface that is replaced disagrees with the one that replaces it in a function
     /// that both have (25).
     pub(crate) fn check_functions(&self, alloc: Global) -> ResolveResult<()>
-        requires ready { IsReady self.now }
+        requires ready { IsUpgradeReady self.now }
         ensures agree { OnOk result ((message : List ℕ) → Disagrees (upgrade_of self.now) message → ⊥) }
         ensures cause { IfErr result (λ e. (e ≡ OutOfMemory) ⊎ ((message : List ℕ) × Disagrees (upgrade_of self.now) message × (e ≡ Semantic None message cause.UpgradeMismatch))) }
     {
@@ -28,7 +28,7 @@ impl<'a> Upgrading<'a> {
 
     /// The same of one interface.
     fn check_interface(&self, alloc: Global, old: InterfaceId) -> ResolveResult<()>
-        requires ready { IsReady self.now }
+        requires ready { IsUpgradeReady self.now }
         ensures agree { OnOk result ((message : List ℕ) → DisagreesAt (upgrade_of self.now) old message → ⊥) }
         ensures cause { IfErr result (λ e. (e ≡ OutOfMemory) ⊎ ((message : List ℕ) × DisagreesAt (upgrade_of self.now) old message × (e ≡ Semantic None message cause.UpgradeMismatch))) }
     {

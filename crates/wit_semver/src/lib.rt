@@ -6,11 +6,11 @@ mod agreement;
 mod merging;
 mod newest;
 mod refusal;
-mod relisting;
+mod new_entries;
 mod replaced;
-mod staying;
+mod kept_imports;
 mod targets;
 mod tracks;
-mod upgrading;
+mod upgrade_plan;
 
 pub use crate::merging::{merge_by_track, merged_by_track};

@@ -5,21 +5,21 @@ ghost use Rattle.wit_graph_data.specs.declared.error_kind.ResolveErrorKind.{Reso
 ghost use Rattle.wit_graph_data.specs.declared.error_kind.ResolveErrorKind.TheVariants.{OutOfMemory};
 ghost use Rattle.wit_semver_spec.specs.Rewritten.{rewritten};
 ghost use Rattle.wit_semver_spec.specs.TrackCause.{IsTrackCause};
-ghost use Rattle.wit_semver.specs.steps.Replacing.{IsRelisted};
+ghost use Rattle.wit_semver.specs.steps.Replacing.{HasNewEntries};
 
-use crate::relisting::relisted;
-use crate::staying::types_of_entries;
-use crate::upgrading::Upgrading;
+use crate::new_entries::with_new_entries;
+use crate::kept_imports::types_of_entries;
+use crate::upgrade_plan::UpgradePlan;
 use std::alloc::Global;
 use wit_data::{TrackRule, WorldId};
 use wit_graph_data::{Graph, ResolveResult};
 use wit_semver_laws::laws::rewritten_stay_valid;
-use wit_unite_common::settle;
+use wit_unite_common::check_and_elaborate;
 
 /// A copy of a graph in which a world lists its replaced imports no more, and what its other entries use
 /// of replaced interfaces they use of the newest. Refused where the newest lacks what is used, or a
 /// function isn't the same there (25).
-fn relisted_world(
+fn world_with_new_entries(
     alloc: Global,
     graph: &Graph,
     world: WorldId,
@@ -27,16 +27,16 @@ fn relisted_world(
 ) -> ResolveResult<Graph>
     requires valid { IsValid graph.now }
     requires world { world < length graph.now.worlds }
-    ensures ok { IfOk result (λ made. IsRelisted rule graph.now world made) }
+    ensures ok { IfOk result (λ made. HasNewEntries rule graph.now world made) }
     ensures cause { IfErr result (λ e. (e ≡ OutOfMemory) ⊎ IsTrackCause rule graph.now world e) }
 {
     let current = graph.worlds.at(world.index());
-    let upgrading = Upgrading::new(alloc, graph, current, rule)?;
+    let upgrading = UpgradePlan::new(alloc, graph, current, rule)?;
     upgrading.check_functions(alloc)?;
-    let imports = upgrading.staying(alloc)?;
-    let following = types_of_entries(alloc, graph, &imports, &current.exports)?;
-    let targets = upgrading.new_targets(alloc, &following)?;
-    Ok(relisted(alloc, graph, world, imports, &targets)?)
+    let imports = upgrading.kept_imports(alloc)?;
+    let rewritable_types = types_of_entries(alloc, graph, &imports, &current.exports)?;
+    let targets = upgrading.new_targets(alloc, &rewritable_types)?;
+    Ok(with_new_entries(alloc, graph, world, imports, &targets)?)
 }
 
 /// A copy of a valid graph in which the imports of a world of it are merged by a rule of tracks: of the interfaces
@@ -63,8 +63,8 @@ pub fn merged_by_track(
     ensures refuses { (e : ResolveErrorKind) → IsTrackCause rule graph.now world e → OnOk result ⊥ }
 {
     rewritten_stay_valid();
-    let mut merged = relisted_world(alloc, graph, world, rule)?;
-    settle(alloc, &mut merged)?;
+    let mut merged = world_with_new_entries(alloc, graph, world, rule)?;
+    check_and_elaborate(alloc, &mut merged)?;
     Ok(merged)
 }
 

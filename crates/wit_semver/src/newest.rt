@@ -2,7 +2,7 @@
 ghost use Rattle.std.specs.Prelude.{◌≡◌, ◌++◌, ◌∷◌, [], ℕ, List, IfOk, OnOk};
 ghost use Rattle.std.specs.Option.{option_copied};
 ghost use Rattle.wit_elaboration.specs.Entries.{keyed_interfaces};
-ghost use Rattle.wit_semver.specs.steps.Replacing.{TellsNewest, is_newer, told};
+ghost use Rattle.wit_semver.specs.steps.Replacing.{IsNewestTable, is_newer, told};
 
 use crate::tracks::{TrackKey, VersionedInterface, versioned};
 use indexmap::IndexMap;
@@ -17,7 +17,7 @@ pub(crate) fn newest_by_track(
     rule: TrackRule,
     entries: &Table<WorldKey, WorldItem>,
 ) -> Result<IndexMap<TrackKey, InterfaceId>, AllocError>
-    ensures { IfOk result (λ newest. TellsNewest rule graph.now (keyed_interfaces entries.now) newest.entries) }
+    ensures { IfOk result (λ newest. IsNewestTable rule graph.now (keyed_interfaces entries.now) newest.entries) }
 {
     let mut newest = IndexMap::new(alloc);
     for index in 0..entries.len() {
@@ -38,7 +38,7 @@ fn note(
     newest: &mut IndexMap<TrackKey, InterfaceId>,
     id: InterfaceId,
 ) -> Result<(), AllocError>
-    ensures { OnOk result ((ids : List ℕ) → TellsNewest rule graph.now ids newest.old.entries → TellsNewest rule graph.now (ids ++ id ∷ []) newest.new.entries) }
+    ensures { OnOk result ((ids : List ℕ) → IsNewestTable rule graph.now ids newest.old.entries → IsNewestTable rule graph.now (ids ++ id ∷ []) newest.new.entries) }
 {
     match versioned(graph, id) {
         Some(interface) => {

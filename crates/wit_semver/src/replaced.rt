@@ -5,7 +5,7 @@ ghost use Rattle.wit_elaboration.specs.Valid.{IsValid};
 ghost use Rattle.wit_elaboration.specs.Entries.{keyed_interfaces};
 ghost use Rattle.wit_data.specs.declared.world.World.{World};
 ghost use Rattle.wit_semver_spec.specs.Tracks.{is_below, versioned};
-ghost use Rattle.wit_semver.specs.steps.Replacing.{AreReplacements, TellsNewest, replacement, told, upgrade};
+ghost use Rattle.wit_semver.specs.steps.Replacing.{AreReplacements, IsNewestTable, replacement, told, upgrade};
 
 use crate::newest::newest_by_track;
 use crate::tracks::{TrackKey, VersionedInterface, versioned};
@@ -50,7 +50,7 @@ fn replacement(
     id: InterfaceId,
 ) -> Result<Option<InterfaceId>, AllocError>
     requires valid { IsValid graph.now }
-    ensures { IfOk result (λ by. (world : World) → TellsNewest rule graph.now (keyed_interfaces world.imports) newest.now.entries → Contains (keyed_interfaces world.imports) id → by ≡ replacement (upgrade rule graph.now world) id) }
+    ensures { IfOk result (λ by. (world : World) → IsNewestTable rule graph.now (keyed_interfaces world.imports) newest.now.entries → Contains (keyed_interfaces world.imports) id → by ≡ replacement (upgrade rule graph.now world) id) }
 {
     let Some(interface) = versioned(graph, id) else {
         return Ok(None);

@@ -3,34 +3,34 @@ ghost use Rattle.std.specs.Prelude.{◌≡◌, ◌⊎◌, ◌<◌, ℕ, List, Co
 ghost use Rattle.std.specs.Option.{option_copied};
 ghost use Rattle.wit_graph_data.specs.declared.cause.Cause.TheVariants as cause;
 ghost use Rattle.wit_graph_data.specs.declared.error_kind.ResolveErrorKind.TheVariants.{OutOfMemory, Semantic};
-ghost use Rattle.wit_semver_spec.specs.Rewritten.{type_named};
-ghost use Rattle.wit_semver.specs.steps.Replacing.{IsFilled, IsReady, LackTypes, LacksTypeAt, name_used, upgrade_of, used_target};
+ghost use Rattle.wit_semver_spec.specs.Rewritten.{interface_type};
+ghost use Rattle.wit_semver.specs.steps.Replacing.{IsFilled, IsUpgradeReady, LackTypes, LacksTypeAt, name_used, upgrade_of, used_target};
 
 use crate::refusal::type_missing;
-use crate::upgrading::{Upgrading, replacement_of};
+use crate::upgrade_plan::{UpgradePlan, replacement_of};
 use std::alloc::Global;
 use wit_data::{
     Interface, InterfaceId, Items, Text, TypeDef, TypeId, alias_target, type_interface_dep,
 };
 use wit_graph_data::ResolveResult;
 
-impl<'a> Upgrading<'a> {
+impl<'a> UpgradePlan<'a> {
     /// Of each type what it names after the rewriting, None where it stays as it is: of some types that
     /// follow, each that uses a replaced interface names the type of the same name in the one that
     /// replaces it. Refused where that has none (25).
     pub(crate) fn new_targets(
         &self,
         alloc: Global,
-        following: &Items<TypeId>,
+        rewritable_types: &Items<TypeId>,
     ) -> ResolveResult<Items<Option<TypeId>>>
-        requires ready { IsReady self.now }
-        requires in_range { (t : ℕ) → Contains following.now t → t < length self.now.graph.now.types }
-        ensures ok { IfOk result (λ targets. IsFilled (used_target (upgrade_of self.now)) following.now (length self.now.graph.now.types) targets) }
-        ensures complete { OnOk result ((message : List ℕ) → LackTypes (upgrade_of self.now) following.now message → ⊥) }
-        ensures cause { IfErr result (λ e. (e ≡ OutOfMemory) ⊎ ((message : List ℕ) × LackTypes (upgrade_of self.now) following.now message × (e ≡ Semantic None message cause.UpgradeMismatch))) }
+        requires ready { IsUpgradeReady self.now }
+        requires in_range { (t : ℕ) → Contains rewritable_types.now t → t < length self.now.graph.now.types }
+        ensures ok { IfOk result (λ targets. IsFilled (used_target (upgrade_of self.now)) rewritable_types.now (length self.now.graph.now.types) targets) }
+        ensures complete { OnOk result ((message : List ℕ) → LackTypes (upgrade_of self.now) rewritable_types.now message → ⊥) }
+        ensures cause { IfErr result (λ e. (e ≡ OutOfMemory) ⊎ ((message : List ℕ) × LackTypes (upgrade_of self.now) rewritable_types.now message × (e ≡ Semantic None message cause.UpgradeMismatch))) }
     {
         let mut targets = Items::from_vec(vec![in alloc; None; self.graph.types.len()]?);
-        for id in following.as_slice() {
+        for id in rewritable_types.as_slice() {
             let target = self.new_target(alloc, *id)?;
             targets.set(id.index(), target);
         }
@@ -39,7 +39,7 @@ impl<'a> Upgrading<'a> {
 
     /// What a type that follows names after the rewriting, None where it stays as it is.
     fn new_target(&self, alloc: Global, id: TypeId) -> ResolveResult<Option<TypeId>>
-        requires ready { IsReady self.now }
+        requires ready { IsUpgradeReady self.now }
         ensures ok { IfOk result (λ target. target ≡ used_target (upgrade_of self.now) id) }
         ensures complete { OnOk result ((message : List ℕ) → LacksTypeAt (upgrade_of self.now) id message → ⊥) }
         ensures cause { IfErr result (λ e. (e ≡ OutOfMemory) ⊎ ((message : List ℕ) × LacksTypeAt (upgrade_of self.now) id message × (e ≡ Semantic None message cause.UpgradeMismatch))) }
@@ -54,7 +54,7 @@ impl<'a> Upgrading<'a> {
         let Some(name) = name_used(types, id) else {
             return Ok(None);
         };
-        match type_named(self.graph.interfaces.as_slice(), new, name) {
+        match interface_type(self.graph.interfaces.as_slice(), new, name) {
             Some(target) => Ok(Some(target)),
             None => Err(type_missing(alloc, self.graph, old, new, name)?),
         }
@@ -71,8 +71,8 @@ fn name_used(types: &[TypeDef], id: TypeId) -> Option<&Text>
 }
 
 /// The type of a name in an interface.
-fn type_named(interfaces: &[Interface], id: InterfaceId, name: &Text) -> Option<TypeId>
-    ensures { result ≡ type_named interfaces.now id name.now }
+fn interface_type(interfaces: &[Interface], id: InterfaceId, name: &Text) -> Option<TypeId>
+    ensures { result ≡ interface_type interfaces.now id name.now }
 {
     interfaces
         .get(id.index())?

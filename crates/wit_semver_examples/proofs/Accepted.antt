@@ -1,4 +1,4 @@
--- Nothing speaks against the merges that are worked.
+-- No cause holds against the merges that are worked.
 use Rattle.std.proofs.Common.{refl}
 use Rattle.semver.specs.Order.{strip_zeros}
 use Rattle.wit_graph_theory.specs.examples.TestFacts.{none_some}

@@ -1,4 +1,4 @@
--- Merges against which nothing speaks.
+-- Merges against which no cause holds.
 use Rattle.std.proofs.Common.{◌≡◌, ◌∙◌, ℕ, Bool, true, false, List, [], ◌∷◌, Option, Some, is_some, slice_get, sym, ap, subst, Contains}
 use Rattle.std.proofs.lemmas.Bool.{false≢true}
 use Rattle.std.specs.List.{list_all}
@@ -18,14 +18,14 @@ use Rattle.wit_graph_theory.specs.AllElaborated.{graph_package_uses}
 use Rattle.wit_graph_theory.specs.facts.ListFacts.{contained_at}
 use Rattle.wit_graph_theory.specs.facts.OptionFacts.{some_same}
 use Rattle.wit_graph_theory.specs.examples.TestFacts.{all_are, all_uses, falls, is_empty, no_cycle, nothing_in}
-use Rattle.wit_semver_spec.specs.Rewritten.{following, relisted_at, replaced_use, target_name, type_named}
+use Rattle.wit_semver_spec.specs.Rewritten.{interface_type, replaced_use, rewritable_types, target_name, with_new_entries_at}
 use Rattle.wit_semver_spec.specs.TrackCause.{Disagrees, IsComplete, IsTrackCause, UpgradeCause, conflict_4, functions_disagree_25, interface_cycle_22, package_cycle_6, type_cycle_23, type_missing_25}
 use Rattle.wit_semver_spec.specs.Upgrade.{Upgrade, newest}
 
 module _ (u : Upgrade) where
   -- does the newest have the type of this name?
   abbrev has_name : ℕ → List ℕ → Bool
-  has_name f name = is_some (type_named u.graph.interfaces (newest u f) name)
+  has_name f name = is_some (interface_type u.graph.interfaces (newest u f) name)
 
   abbrev has_target_of : TypeDef → ℕ → Bool
   has_target_of def f = option_map_or (has_name f) (target_name u.graph.types def) true
@@ -37,23 +37,23 @@ module _ (u : Upgrade) where
   abbrev pub has_target : ℕ → Bool
   has_target t = option_map_or (has_target_in t) (slice_get u.graph.types t) true
 
-  pub complete : list_all has_target (following u) ≡ true → IsComplete u
+  pub complete : list_all has_target (rewritable_types u) ≡ true → IsComplete u
   complete all message lacks =
       let one : option_map_or (has_target_in lacks.t) (Some lacks.def) true ≡ true =
-      ap (λ (o : Option TypeDef). option_map_or (has_target_in lacks.t) o true) (sym lacks.is) ∙ all_are has_target (following u) all lacks.t lacks.follows in
+      ap (λ (o : Option TypeDef). option_map_or (has_target_in lacks.t) o true) (sym lacks.is) ∙ all_are has_target (rewritable_types u) all lacks.t lacks.follows in
       let two : option_map_or (has_target_of lacks.def) (Some lacks.f) true ≡ true = ap (λ (o : Option ℕ). option_map_or (has_target_of lacks.def) o true) (sym lacks.uses) ∙ one in
       let three : option_map_or (has_name lacks.f) (Some lacks.name) true ≡ true = ap (λ (o : Option (List ℕ)). option_map_or (has_name lacks.f) o true) (sym lacks.named) ∙ two in
       let four : false ≡ true = ap (λ (o : Option ℕ). is_some o) (sym lacks.absent) ∙ three in
       false≢true four
 
--- what nothing speaks against
+-- what no cause holds against
 pub record Clear (u : Upgrade) (w : ℕ) : Type 0 where
   pub is_complete : IsComplete u
   pub agrees : (message : List ℕ) → Disagrees u message → ⊥
-  pub packages : (p q : ℕ) → IsOnCycle (graph_package_uses (relisted_at u w)) p q → ⊥
-  pub interfaces : (i j : ℕ) → IsOnCycle (graph_uses (relisted_at u w)) i j → ⊥
-  pub types : (s t : ℕ) → IsOnCycle (type_references (relisted_at u w).types) s t → ⊥
-  pub exports : (world : World) → Contains (relisted_at u w).worlds world → HasConflict (graph_uses (relisted_at u w)) world.exports → ⊥
+  pub packages : (p q : ℕ) → IsOnCycle (graph_package_uses (with_new_entries_at u w)) p q → ⊥
+  pub interfaces : (i j : ℕ) → IsOnCycle (graph_uses (with_new_entries_at u w)) i j → ⊥
+  pub types : (s t : ℕ) → IsOnCycle (type_references (with_new_entries_at u w).types) s t → ⊥
+  pub exports : (world : World) → Contains (with_new_entries_at u w).worlds world → HasConflict (graph_uses (with_new_entries_at u w)) world.exports → ⊥
 
 clear_is_fine : (u : Upgrade) (w : ℕ) (error : ResolveErrorKind) → Clear u w → UpgradeCause u w error → ⊥
 clear_is_fine u w error clear (conflict_4 span name complete is) = clear.exports is.world is.there is.conflict
@@ -106,20 +106,20 @@ no_conflict uses world all (j, (x, d, shown, used, outside, (path, leads)), expo
 
 pub record Passes (u : Upgrade) : Type 0 where
   pub there : slice_get u.graph.worlds 0 ≡ Some u.world
-  pub targets : list_all (has_target u) (following u) ≡ true
+  pub targets : list_all (has_target u) (rewritable_types u) ≡ true
   pub functions : list_all no_function u.graph.interfaces ≡ true
-  pub packages : all_uses (falls (λ p. p)) (graph_package_uses (relisted_at u 0)) ≡ true
-  pub interfaces : all_uses (falls (λ i. i)) (graph_uses (relisted_at u 0)) ≡ true
-  pub types : all_uses (falls (λ t. t)) (type_references (relisted_at u 0).types) ≡ true
-  pub exports : list_all (exports_pass (graph_uses (relisted_at u 0))) (relisted_at u 0).worlds ≡ true
+  pub packages : all_uses (falls (λ p. p)) (graph_package_uses (with_new_entries_at u 0)) ≡ true
+  pub interfaces : all_uses (falls (λ i. i)) (graph_uses (with_new_entries_at u 0)) ≡ true
+  pub types : all_uses (falls (λ t. t)) (type_references (with_new_entries_at u 0).types) ≡ true
+  pub exports : list_all (exports_pass (graph_uses (with_new_entries_at u 0))) (with_new_entries_at u 0).worlds ≡ true
 
 pub passing : (u : Upgrade) → Passes u → (error : ResolveErrorKind) → IsTrackCause u.rule u.graph 0 error → ⊥
 passing u p =
     is_fine u.rule u.graph 0 u.world p.there (record {
       is_complete = complete u p.targets;
       agrees = no_functions u p.functions;
-      packages = no_cycle (λ p. p) (graph_package_uses (relisted_at u 0)) p.packages;
-      interfaces = no_cycle (λ i. i) (graph_uses (relisted_at u 0)) p.interfaces;
-      types = no_cycle (λ t. t) (type_references (relisted_at u 0).types) p.types;
-      exports = λ world there. no_conflict (graph_uses (relisted_at u 0)) world (all_are (exports_pass (graph_uses (relisted_at u 0))) (relisted_at u 0).worlds p.exports world there);
+      packages = no_cycle (λ p. p) (graph_package_uses (with_new_entries_at u 0)) p.packages;
+      interfaces = no_cycle (λ i. i) (graph_uses (with_new_entries_at u 0)) p.interfaces;
+      types = no_cycle (λ t. t) (type_references (with_new_entries_at u 0).types) p.types;
+      exports = λ world there. no_conflict (graph_uses (with_new_entries_at u 0)) world (all_are (exports_pass (graph_uses (with_new_entries_at u 0))) (with_new_entries_at u 0).worlds p.exports world there);
     })

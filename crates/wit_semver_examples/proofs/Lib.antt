@@ -1,6 +1,6 @@
 mod Accepted
-mod Reasons
 mod Fine
 mod Mismatches
+mod Reasons
 mod Rows
 mod TwoReasons

@@ -3,7 +3,7 @@ use Rattle.std.proofs.Common.{◌≡◌, ℕ, zero, suc, List, [], ◌∷◌, No
 use Rattle.wit_data.specs.declared.function.FunctionKind.TheVariants as function
 use Rattle.wit_data.specs.declared.function.Param.{Param}
 use Rattle.wit_data.specs.declared.types.Type_.TheVariants as type
-use Rattle.wit_graph_theory.specs.examples.AgreementFacts.{functions_fine}
+use Rattle.wit_graph_theory.specs.examples.AgreementFacts.{functions_accepted}
 use Rattle.wit_graph_theory.specs.FunctionMismatch.{AreOfOneSort, FunctionMismatch, kinds_differ, parameter_counts_differ, parameter_names_differ, parameter_names_text, parameter_types_differ, result_counts_differ, results_differ}
 use Rattle.wit_graph_theory.specs.facts.OptionFacts.{some_same}
 use Rattle.wit_semver_examples.specs.CauseExamples.{ExamplesOfMismatches, f_kind, f_of}
@@ -21,11 +21,11 @@ x_of = record { name = codes "x"; ty = type.U32; span = None }
 abbrev pub y_of : Param
 y_of = record { name = codes "y"; ty = type.U32; span = None }
 
-turned : FunctionMismatch (f_of (codes "x") type.U32) (f_of (codes "y") type.U32) (codes "different function parameter names: y != x") → ⊥
+transformed : FunctionMismatch (f_of (codes "x") type.U32) (f_of (codes "y") type.U32) (codes "different function parameter names: y != x") → ⊥
 unfolding letter
-turned (kinds_differ differ is) = differ refl
-turned (parameter_counts_differ differ is) = differ refl
-turned (parameter_names_differ i a b first second differ is) = by i a b first second is
+transformed (kinds_differ differ is) = differ refl
+transformed (parameter_counts_differ differ is) = differ refl
+transformed (parameter_names_differ i a b first second differ is) = by i a b first second is
   where
     by : (i : ℕ) (a b : Param) → slice_get (x_of ∷ []) i ≡ Some a → slice_get (y_of ∷ []) i ≡ Some b → codes "different function parameter names: y != x" ≡ parameter_names_text a.name b.name → ⊥
     by zero a b first second is =
@@ -37,7 +37,7 @@ turned (parameter_names_differ i a b first second differ is) = by i a b first se
         let apart : 121 ≡ 120 = ap letter texts in
         absurd (omega (arith, apart))
     by (suc i) a b first second is = cc
-turned (parameter_types_differ i a b first second differ is) = by i a b first second differ
+transformed (parameter_types_differ i a b first second differ is) = by i a b first second differ
   where
     by : (i : ℕ) (a b : Param) → slice_get (x_of ∷ []) i ≡ Some a → slice_get (y_of ∷ []) i ≡ Some b → (AreOfOneSort a.ty b.ty → ⊥) → ⊥
     by zero a b first second differ =
@@ -45,20 +45,20 @@ turned (parameter_types_differ i a b first second differ is) = by i a b first se
         let y = some_same _ b second in
         differ (subst (λ (p : Param). AreOfOneSort p.ty b.ty) x (subst (λ (p : Param). AreOfOneSort type.U32 p.ty) y refl))
     by (suc i) a b first second differ = cc
-turned (results_differ a b first second differ is) = cc
-turned (result_counts_differ differ is) = differ refl
+transformed (results_differ a b first second differ is) = cc
+transformed (result_counts_differ differ is) = differ refl
 
 pub mismatches : ExamplesOfMismatches
 mismatches = record {
   kinds = kinds_differ (λ same. cc) refl;
   methods = kinds_differ (λ same. cc) refl;
-  resources = functions_fine (f_kind (function.Method 0)) (f_kind (function.Method 1)) refl;
+  resources = functions_accepted (f_kind (function.Method 0)) (f_kind (function.Method 1)) refl;
   number = parameter_counts_differ (λ same. let apart : 1 ≡ 0 = same in absurd (omega (arith, apart))) refl;
   names = parameter_names_differ 0 x_of y_of refl refl x_is_not_y refl;
   types = parameter_types_differ 0 x_of (record x_of { ty = type.U64 }) refl refl (λ same. cc) refl;
   primitive = parameter_types_differ 0 (record x_of { ty = type.Id 0 }) x_of refl refl (λ same. cc) refl;
-  ids = functions_fine (f_of (codes "x") (type.Id 0)) (f_of (codes "x") (type.Id 1)) refl;
+  ids = functions_accepted (f_of (codes "x") (type.Id 0)) (f_of (codes "x") (type.Id 1)) refl;
   results = results_differ type.U32 type.Bool refl refl (λ same. cc) refl;
   result = result_counts_differ (λ same. cc) refl;
-  not_turned = turned;
+  not_transformed = transformed;
 }

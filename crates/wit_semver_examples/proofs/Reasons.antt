@@ -16,7 +16,7 @@ use Rattle.wit_data.specs.declared.world.World.{World}
 use Rattle.wit_elaboration.specs.Elaboration.{graph_uses}
 use Rattle.wit_elaboration.specs.Entries.{Entry}
 use Rattle.wit_elaboration.specs.Imported.{HasConflict, exported_interfaces, exported_keys}
-use Rattle.wit_elaboration.specs.Imported.{IsInConflict as IsEntryInConflict}
+use Rattle.wit_elaboration.specs.Imported.{IsEntryInConflict}
 use Rattle.wit_graph_data.specs.examples.Samples.{entry_of}
 use Rattle.wit_graph_data.specs.declared.cause.Cause.TheVariants.{InterfaceCycle, TypeCycle}
 use Rattle.wit_graph_data.specs.declared.error_kind.ResolveErrorKind.{ResolveErrorKind}
@@ -27,17 +27,17 @@ use Rattle.wit_data.specs.declared.world.WorldKey.TheVariants as key
 use Rattle.wit_graph_theory.specs.facts.ListFacts.{in_row}
 use Rattle.wit_graph_data.specs.declared.graph.Graph.{Graph}
 use Rattle.wit_graph_data.specs.declared.graph.Package.{Package}
-use Rattle.wit_graph_theory.specs.examples.AgreementFacts.{functions_fine}
+use Rattle.wit_graph_theory.specs.examples.AgreementFacts.{functions_accepted}
 use Rattle.wit_graph_theory.specs.AllElaborated.{DependsOnItself, RefersToItself, graph_package_uses}
 use Rattle.wit_graph_theory.specs.FunctionMismatch.{FunctionMismatch, parameter_names_differ}
 use Rattle.wit_graph_theory.specs.facts.OptionFacts.{some_same}
 use Rattle.wit_graph_theory.specs.examples.TestFacts.{all_are, all_uses, falls, is_empty, no_cycle, not_on_cycle, only_one}
-use Rattle.wit_semver_spec.specs.Rewritten.{following, listed_world, relisted_at}
-use Rattle.wit_semver_spec.specs.TrackCause.{Disagrees, IsComplete, IsTrackCause, LacksType, UpgradeCause, conflict_4, functions_disagree_25, interface_cycle_22, package_cycle_6, type_cycle_23, type_missing_25}
+use Rattle.wit_semver_spec.specs.Rewritten.{listed_world, rewritable_types, with_new_entries_at}
+use Rattle.wit_semver_spec.specs.TrackCause.{Disagrees, IsComplete, IsTrackCause, NewestLacksType, UpgradeCause, conflict_4, functions_disagree_25, interface_cycle_22, package_cycle_6, type_cycle_23, type_missing_25}
 use Rattle.wit_semver_spec.specs.Upgrade.{Upgrade, is_replaced, newest}
 use Rattle.wit_semver_examples.proofs.Fine.{Clear, complete, has_target, is_fine, no_functions}
 use Rattle.wit_semver_examples.proofs.Mismatches.{x_is_not_y, x_of, y_of}
-use Rattle.wit_semver_examples.specs.CauseExamples.{ExamplesOfCauses, IsFine, Speaks, around_main, around_z, exporting, f_of, failed, foo_app, newer_x, older_x, with_functions, with_newer, without_type, without_type_but_cycle}
+use Rattle.wit_semver_examples.specs.CauseExamples.{ExamplesOfCauses, IsCauseOf, IsFine, around_main, around_z, exporting, f_of, failed, foo_app, newer_x, older_x, with_functions, with_newer, without_type, without_type_but_cycle}
 use Rattle.wit_semver_examples.specs.Releases.{alias_in, called, foo_main, foo_x, keyed, number_in, package_of, release, with_function, world_in}
 use Rattle.wit_semver_examples.specs.RewrittenExamples.{first_release, of_three}
 
@@ -61,16 +61,16 @@ no_exports : (g : Graph) → list_all no_export g.worlds ≡ true → (world : W
 no_exports g all world there conflict = nothing_exported (graph_uses g) world.exports (all_are no_export g.worlds all world there) conflict
 
 -- a graph is clear whose things fall by ranks
-clear_by : (u : Upgrade) (w : ℕ) (packages interfaces types : List ℕ) → list_all (has_target u) (following u) ≡ true → ((message : List ℕ) → Disagrees u message → ⊥)
-    → all_uses (falls (rank_of packages)) (graph_package_uses (relisted_at u w)) ≡ true → all_uses (falls (rank_of interfaces)) (graph_uses (relisted_at u w)) ≡ true
-    → all_uses (falls (rank_of types)) (type_references (relisted_at u w).types) ≡ true
-    → ((world : World) → Contains (relisted_at u w).worlds world → HasConflict (graph_uses (relisted_at u w)) world.exports → ⊥) → Clear u w
+clear_by : (u : Upgrade) (w : ℕ) (packages interfaces types : List ℕ) → list_all (has_target u) (rewritable_types u) ≡ true → ((message : List ℕ) → Disagrees u message → ⊥)
+    → all_uses (falls (rank_of packages)) (graph_package_uses (with_new_entries_at u w)) ≡ true → all_uses (falls (rank_of interfaces)) (graph_uses (with_new_entries_at u w)) ≡ true
+    → all_uses (falls (rank_of types)) (type_references (with_new_entries_at u w).types) ≡ true
+    → ((world : World) → Contains (with_new_entries_at u w).worlds world → HasConflict (graph_uses (with_new_entries_at u w)) world.exports → ⊥) → Clear u w
 clear_by u w packages interfaces types targets agree package_fall interface_fall type_fall exports = record {
   is_complete = complete u targets;
   agrees = agree;
-  packages = no_cycle (rank_of packages) (graph_package_uses (relisted_at u w)) package_fall;
-  interfaces = no_cycle (rank_of interfaces) (graph_uses (relisted_at u w)) interface_fall;
-  types = no_cycle (rank_of types) (type_references (relisted_at u w).types) type_fall;
+  packages = no_cycle (rank_of packages) (graph_package_uses (with_new_entries_at u w)) package_fall;
+  interfaces = no_cycle (rank_of interfaces) (graph_uses (with_new_entries_at u w)) interface_fall;
+  types = no_cycle (rank_of types) (type_references (with_new_entries_at u w).types) type_fall;
   exports = exports;
 }
 
@@ -98,14 +98,14 @@ w_exporting exports = world_in 2 (codes "w") (keyed (0 ∷ 2 ∷ 1 ∷ [])) (key
 abbrev exporting_both : Upgrade
 exporting_both = upgrade (exporting (1 ∷ 3 ∷ [])) (w_exporting (1 ∷ 3 ∷ []))
 
-conflict : Speaks (exporting (1 ∷ 3 ∷ [])) (InvalidTransitiveDependency None (codes "foo:main/y"))
+conflict : IsCauseOf (exporting (1 ∷ 3 ∷ [])) (InvalidTransitiveDependency None (codes "foo:main/y"))
 unfolding strip_zeros digits
 conflict = (
   w_exporting (1 ∷ 3 ∷ []),
   refl,
   conflict_4 None (codes "foo:main/y") (complete exporting_both refl) (record {
-    interfaces = λ message is. no_cycle (rank_of (0 ∷ 1 ∷ 2 ∷ 3 ∷ [])) (graph_uses (relisted_at exporting_both 0)) refl is.i is.j is.on_cycle;
-    types = λ message is. no_cycle (rank_of (0 ∷ 1 ∷ 2 ∷ 3 ∷ [])) (type_references (relisted_at exporting_both 0).types) refl is.t is.u is.on_cycle;
+    interfaces = λ message is. no_cycle (rank_of (0 ∷ 1 ∷ 2 ∷ 3 ∷ [])) (graph_uses (with_new_entries_at exporting_both 0)) refl is.i is.j is.on_cycle;
+    types = λ message is. no_cycle (rank_of (0 ∷ 1 ∷ 2 ∷ 3 ∷ [])) (type_references (with_new_entries_at exporting_both 0).types) refl is.t is.u is.on_cycle;
     world = listed_world exporting_both;
     there = Contains-here (listed_world exporting_both) [];
     conflict = (1, (3, 2, Contains-there 1 3 (3 ∷ []) (Contains-here 3 []), Contains-here 2 [], two_not_there, (1 ∷ [], (Contains-here 1 [], refl))), Contains-here 1 (3 ∷ []));
@@ -114,11 +114,11 @@ conflict = (
   }),
 )
   where
-    not_before : (f : Entry) → Contains (entry_of 1 ∷ []) f → IsEntryInConflict (graph_uses (relisted_at exporting_both 0)) (keyed (1 ∷ 3 ∷ [])) f → ⊥
+    not_before : (f : Entry) → Contains (entry_of 1 ∷ []) f → IsEntryInConflict (graph_uses (with_new_entries_at exporting_both 0)) (keyed (1 ∷ 3 ∷ [])) f → ⊥
     not_before f has leads =
-        let at_one = subst (λ (e : Entry). IsEntryInConflict (graph_uses (relisted_at exporting_both 0)) (keyed (1 ∷ 3 ∷ [])) e) (sym (only_one (entry_of 1) f has)) leads in
+        let at_one = subst (λ (e : Entry). IsEntryInConflict (graph_uses (with_new_entries_at exporting_both 0)) (keyed (1 ∷ 3 ∷ [])) e) (sym (only_one (entry_of 1) f has)) leads in
         let place : 1 ≡ at_one.0 = only_one 1 at_one.0 at_one.1 in
-        let edge : Contains (direct (graph_uses (relisted_at exporting_both 0)) 1) at_one.2.0 = subst (λ (i : ℕ). Contains (direct (graph_uses (relisted_at exporting_both 0)) i) at_one.2.0) (sym place) at_one.2.2 in
+        let edge : Contains (direct (graph_uses (with_new_entries_at exporting_both 0)) 1) at_one.2.0 = subst (λ (i : ℕ). Contains (direct (graph_uses (with_new_entries_at exporting_both 0)) i) at_one.2.0) (sym place) at_one.2.2 in
         Contains-nil edge
 
 not_exported : IsFine (exporting (3 ∷ []))
@@ -128,8 +128,8 @@ not_exported =
     is_fine Published (exporting (3 ∷ [])) 0 (w_exporting (3 ∷ [])) refl
     (clear_by u 0 (0 ∷ 1 ∷ 2 ∷ []) (0 ∷ 1 ∷ 2 ∷ 3 ∷ []) (0 ∷ 1 ∷ 2 ∷ 3 ∷ []) refl (no_functions u refl) refl refl refl
     (λ world there. let same = only_one (listed_world u) world there in
-    subst (λ (x : World). HasConflict (graph_uses (relisted_at u 0)) x.exports → ⊥) same
-    (one_export (graph_uses (relisted_at u 0)) (keyed (3 ∷ [])) 3 refl refl (no_cycle (rank_of (0 ∷ 1 ∷ 2 ∷ 3 ∷ [])) (graph_uses (relisted_at u 0)) refl))))
+    subst (λ (x : World). HasConflict (graph_uses (with_new_entries_at u 0)) x.exports → ⊥) same
+    (one_export (graph_uses (with_new_entries_at u 0)) (keyed (3 ∷ [])) 3 refl refl (no_cycle (rank_of (0 ∷ 1 ∷ 2 ∷ 3 ∷ [])) (graph_uses (with_new_entries_at u 0)) refl))))
 
 -- ---- 6
 
@@ -139,7 +139,7 @@ w_of_app = world_in 3 (codes "w") (keyed (0 ∷ 2 ∷ 1 ∷ [])) []
 abbrev app_cycle : Upgrade
 app_cycle = upgrade (around_main (alias_in 4 (codes "v") 3)) w_of_app
 
-package_cycle : Speaks (around_main (alias_in 4 (codes "v") 3)) (PackageCycle None foo_main)
+package_cycle : IsCauseOf (around_main (alias_in 4 (codes "v") 3)) (PackageCycle None foo_main)
 unfolding strip_zeros digits
 package_cycle = (
   w_of_app,
@@ -154,7 +154,7 @@ package_cycle = (
   }),
 )
 
-package_cycle_too : Speaks (around_main (alias_in 4 (codes "v") 3)) (PackageCycle None (foo_x (release 0 2 1)))
+package_cycle_too : IsCauseOf (around_main (alias_in 4 (codes "v") 3)) (PackageCycle None (foo_x (release 0 2 1)))
 unfolding strip_zeros digits
 package_cycle_too = (
   w_of_app,
@@ -173,26 +173,26 @@ package_cycle_too = (
 abbrev letter_of : PackageName → ℕ
 letter_of name = slice_index_or name.name 0 0
 
-app_alone : (p q : ℕ) (there : Package) → slice_get (around_main (alias_in 4 (codes "v") 3)).packages p ≡ Some there → foo_app ≡ there.name → IsOnCycle (graph_package_uses (relisted_at app_cycle 0)) p q → ⊥
+app_alone : (p q : ℕ) (there : Package) → slice_get (around_main (alias_in 4 (codes "v") 3)).packages p ≡ Some there → foo_app ≡ there.name → IsOnCycle (graph_package_uses (with_new_entries_at app_cycle 0)) p q → ⊥
 unfolding strip_zeros digits
 app_alone zero q there is name cycle = let same = some_same _ there is in let apart : 97 ≡ 120 = ap letter_of name ∙ ap (λ (x : Package). letter_of x.name) (sym same) in absurd (omega (arith, apart))
 app_alone (suc zero) q there is name cycle = let same = some_same _ there is in let apart : 97 ≡ 120 = ap letter_of name ∙ ap (λ (x : Package). letter_of x.name) (sym same) in absurd (omega (arith, apart))
 app_alone (suc (suc zero)) q there is name cycle = let same = some_same _ there is in let apart : 97 ≡ 109 = ap letter_of name ∙ ap (λ (x : Package). letter_of x.name) (sym same) in absurd (omega (arith, apart))
-app_alone (suc (suc (suc zero))) q there is name cycle = not_on_cycle 3 (graph_package_uses (relisted_at app_cycle 0)) refl q cycle
+app_alone (suc (suc (suc zero))) q there is name cycle = not_on_cycle 3 (graph_package_uses (with_new_entries_at app_cycle 0)) refl q cycle
 app_alone (suc (suc (suc (suc p)))) q there is name cycle = cc
 
 not_app_in : (world : World) (error : ResolveErrorKind) → UpgradeCause (upgrade (around_main (alias_in 4 (codes "v") 3)) world) 0 error → world ≡ w_of_app → error ≡ PackageCycle None foo_app → ⊥
 not_app_in world error (conflict_4 span name complete is) same told = cc
 not_app_in world error (package_cycle_6 home complete is) same told =
     let name : home ≡ foo_app = cc in
-    let at_w = subst (λ (x : World). DependsOnItself (relisted_at (upgrade (around_main (alias_in 4 (codes "v") 3)) x) 0) home) same is in
+    let at_w = subst (λ (x : World). DependsOnItself (with_new_entries_at (upgrade (around_main (alias_in 4 (codes "v") 3)) x) 0) home) same is in
     app_alone at_w.p at_w.q at_w.there at_w.is (sym name ∙ at_w.home_is) at_w.on_cycle
 not_app_in world error (interface_cycle_22 message complete is) same told = cc
 not_app_in world error (type_cycle_23 message complete is) same told = cc
 not_app_in world error (type_missing_25 message lacks) same told = cc
 not_app_in world error (functions_disagree_25 message disagrees) same told = cc
 
-not_of_the_world : Speaks (around_main (alias_in 4 (codes "v") 3)) (PackageCycle None foo_app) → ⊥
+not_of_the_world : IsCauseOf (around_main (alias_in 4 (codes "v") 3)) (PackageCycle None foo_app) → ⊥
 not_of_the_world cause = not_app_in cause.0 (PackageCycle None foo_app) cause.2 (sym (some_same w_of_app cause.0 cause.1)) refl
 
 no_package_cycle : IsFine (around_main (number_in 4 (codes "v")))
@@ -200,7 +200,7 @@ unfolding strip_zeros digits
 no_package_cycle =
     let u = upgrade (around_main (number_in 4 (codes "v"))) w_of_app in
     is_fine Published (around_main (number_in 4 (codes "v"))) 0 w_of_app refl
-    (clear_by u 0 (0 ∷ 1 ∷ 2 ∷ 3 ∷ []) (0 ∷ 1 ∷ 2 ∷ 3 ∷ 4 ∷ []) (0 ∷ 1 ∷ 2 ∷ 3 ∷ 4 ∷ []) refl (no_functions u refl) refl refl refl (no_exports (relisted_at u 0) refl))
+    (clear_by u 0 (0 ∷ 1 ∷ 2 ∷ 3 ∷ []) (0 ∷ 1 ∷ 2 ∷ 3 ∷ 4 ∷ []) (0 ∷ 1 ∷ 2 ∷ 3 ∷ 4 ∷ []) refl (no_functions u refl) refl refl refl (no_exports (with_new_entries_at u 0) refl))
 
 -- ---- 22
 
@@ -210,7 +210,7 @@ w_of_main imports = world_in 2 (codes "w") (keyed imports) []
 abbrev z_cycle : Upgrade
 z_cycle = upgrade (around_z (alias_in 1 (codes "v") 3)) (w_of_main (0 ∷ 2 ∷ 1 ∷ []))
 
-interface_cycle : Speaks (around_z (alias_in 1 (codes "v") 3)) (Semantic None (codes "interface `foo:x/x@0.2.1` would depend on itself") InterfaceCycle)
+interface_cycle : IsCauseOf (around_z (alias_in 1 (codes "v") 3)) (Semantic None (codes "interface `foo:x/x@0.2.1` would depend on itself") InterfaceCycle)
 unfolding strip_zeros digits
 interface_cycle = (
   w_of_main (0 ∷ 2 ∷ 1 ∷ []),
@@ -225,7 +225,7 @@ interface_cycle = (
   }),
 )
 
-interface_cycle_too : Speaks (around_z (alias_in 1 (codes "v") 3)) (Semantic None (codes "interface `foo:x/z@0.2.1` would depend on itself") InterfaceCycle)
+interface_cycle_too : IsCauseOf (around_z (alias_in 1 (codes "v") 3)) (Semantic None (codes "interface `foo:x/z@0.2.1` would depend on itself") InterfaceCycle)
 unfolding strip_zeros digits
 interface_cycle_too = (
   w_of_main (0 ∷ 2 ∷ 1 ∷ []),
@@ -245,7 +245,7 @@ unfolding strip_zeros digits
 no_interface_cycle =
     let u = upgrade (around_z (number_in 1 (codes "v"))) (w_of_main (0 ∷ 2 ∷ 1 ∷ [])) in
     is_fine Published (around_z (number_in 1 (codes "v"))) 0 (w_of_main (0 ∷ 2 ∷ 1 ∷ [])) refl
-    (clear_by u 0 (0 ∷ 1 ∷ 2 ∷ []) (0 ∷ 1 ∷ 2 ∷ []) (0 ∷ 1 ∷ 2 ∷ 3 ∷ 4 ∷ []) refl (no_functions u refl) refl refl refl (no_exports (relisted_at u 0) refl))
+    (clear_by u 0 (0 ∷ 1 ∷ 2 ∷ []) (0 ∷ 1 ∷ 2 ∷ []) (0 ∷ 1 ∷ 2 ∷ 3 ∷ 4 ∷ []) refl (no_functions u refl) refl refl refl (no_exports (with_new_entries_at u 0) refl))
 
 -- ---- 23
 
@@ -265,12 +265,12 @@ t_refers_to_itself g is = record {
 abbrev own_type : Upgrade
 own_type = upgrade (with_newer (alias_in 1 (codes "t") 0)) (w_of_main (0 ∷ 1 ∷ []))
 
-type_cycle : Speaks (with_newer (alias_in 1 (codes "t") 0)) (Semantic None (codes "type `t` would refer to itself") TypeCycle)
+type_cycle : IsCauseOf (with_newer (alias_in 1 (codes "t") 0)) (Semantic None (codes "type `t` would refer to itself") TypeCycle)
 unfolding strip_zeros digits
 type_cycle = (
   w_of_main (0 ∷ 1 ∷ []),
   refl,
-  type_cycle_23 (codes "type `t` would refer to itself") (complete own_type refl) (t_refers_to_itself (relisted_at own_type 0) refl),
+  type_cycle_23 (codes "type `t` would refer to itself") (complete own_type refl) (t_refers_to_itself (with_new_entries_at own_type 0) refl),
 )
 
 no_type_cycle : IsFine (with_newer (number_in 1 (codes "t")))
@@ -278,11 +278,11 @@ unfolding strip_zeros digits
 no_type_cycle =
     let u = upgrade (with_newer (number_in 1 (codes "t"))) (w_of_main (0 ∷ 1 ∷ [])) in
     is_fine Published (with_newer (number_in 1 (codes "t"))) 0 (w_of_main (0 ∷ 1 ∷ [])) refl
-    (clear_by u 0 (0 ∷ 1 ∷ 2 ∷ []) (0 ∷ 1 ∷ []) (0 ∷ 1 ∷ []) refl (no_functions u refl) refl refl refl (no_exports (relisted_at u 0) refl))
+    (clear_by u 0 (0 ∷ 1 ∷ 2 ∷ []) (0 ∷ 1 ∷ []) (0 ∷ 1 ∷ []) refl (no_functions u refl) refl refl refl (no_exports (with_new_entries_at u 0) refl))
 
 -- ---- 25: a type
 
-missing : Speaks without_type (failed (codes "type `t` is missing"))
+missing : IsCauseOf without_type (failed (codes "type `t` is missing"))
 unfolding strip_zeros digits
 missing = (
   w_of_main (0 ∷ 2 ∷ 1 ∷ []),
@@ -307,23 +307,23 @@ not_missing =
     let world = world_in 3 (codes "w") (keyed (0 ∷ 3 ∷ 1 ∷ 2 ∷ [])) [] in
     let u = upgrade of_three world in
     is_fine Published of_three 0 world refl
-    (clear_by u 0 (0 ∷ 1 ∷ 2 ∷ 3 ∷ []) (0 ∷ 1 ∷ 2 ∷ 3 ∷ []) (0 ∷ 1 ∷ 2 ∷ 3 ∷ []) refl (no_functions u refl) refl refl refl (no_exports (relisted_at u 0) refl))
+    (clear_by u 0 (0 ∷ 1 ∷ 2 ∷ 3 ∷ []) (0 ∷ 1 ∷ 2 ∷ 3 ∷ []) (0 ∷ 1 ∷ 2 ∷ 3 ∷ []) refl (no_functions u refl) refl refl refl (no_exports (with_new_entries_at u 0) refl))
 
-fine_apart : IsFine (first_release (0 ∷ 1 ∷ []))
+accepted_apart : IsFine (first_release (0 ∷ 1 ∷ []))
 unfolding strip_zeros digits
-fine_apart =
+accepted_apart =
     let world = world_in 2 (codes "w") (keyed (0 ∷ 1 ∷ [])) [] in
     let u = upgrade (first_release (0 ∷ 1 ∷ [])) world in
     is_fine Published (first_release (0 ∷ 1 ∷ [])) 0 world refl
-    (clear_by u 0 (0 ∷ 1 ∷ 2 ∷ []) (0 ∷ 1 ∷ []) (0 ∷ 1 ∷ []) refl (no_functions u refl) refl refl refl (no_exports (relisted_at u 0) refl))
+    (clear_by u 0 (0 ∷ 1 ∷ 2 ∷ []) (0 ∷ 1 ∷ []) (0 ∷ 1 ∷ []) refl (no_functions u refl) refl refl refl (no_exports (with_new_entries_at u 0) refl))
 
-fine_together : (error : ResolveErrorKind) → IsTrackCause WithPrereleases (first_release (0 ∷ 1 ∷ [])) 0 error → ⊥
+accepted_together : (error : ResolveErrorKind) → IsTrackCause WithPrereleases (first_release (0 ∷ 1 ∷ [])) 0 error → ⊥
 unfolding strip_zeros digits
-fine_together =
+accepted_together =
     let world = world_in 2 (codes "w") (keyed (0 ∷ 1 ∷ [])) [] in
     let u : Upgrade = record { rule = WithPrereleases; graph = first_release (0 ∷ 1 ∷ []); world = world } in
     is_fine WithPrereleases (first_release (0 ∷ 1 ∷ [])) 0 world refl
-    (clear_by u 0 (0 ∷ 1 ∷ 2 ∷ []) (0 ∷ 1 ∷ []) (0 ∷ 1 ∷ []) refl (no_functions u refl) refl refl refl (no_exports (relisted_at u 0) refl))
+    (clear_by u 0 (0 ∷ 1 ∷ 2 ∷ []) (0 ∷ 1 ∷ []) (0 ∷ 1 ∷ []) refl (no_functions u refl) refl refl refl (no_exports (with_new_entries_at u 0) refl))
 
 abbrev u_missing : World → Upgrade
 u_missing world = upgrade without_type_but_cycle world
@@ -331,7 +331,7 @@ u_missing world = upgrade without_type_but_cycle world
 abbrev u_text : List ℕ
 u_text = codes "failed to upgrade `foo:x/x@0.2.0` to `foo:x/x@0.2.1`, was this semver-compatible update not semver compatible?: " ++ codes "type `u` is missing"
 
-lacks_u : LacksType (u_missing (w_of_main (0 ∷ 2 ∷ 1 ∷ []))) u_text
+lacks_u : NewestLacksType (u_missing (w_of_main (0 ∷ 2 ∷ 1 ∷ []))) u_text
 unfolding strip_zeros digits
 lacks_u = record {
   t = 3;
@@ -346,7 +346,7 @@ lacks_u = record {
   message_is = refl;
 }
 
-missing_beside_cycle : Speaks without_type_but_cycle (failed (codes "type `u` is missing"))
+missing_beside_cycle : IsCauseOf without_type_but_cycle (failed (codes "type `u` is missing"))
 unfolding strip_zeros digits
 missing_beside_cycle = (w_of_main (0 ∷ 2 ∷ 1 ∷ []), refl, type_missing_25 u_text lacks_u)
 
@@ -366,7 +366,7 @@ with_x interface = with_function interface (f_of (codes "x") type.U32)
 abbrev with_y : Interface → Interface
 with_y interface = with_function interface (f_of (codes "y") type.U32)
 
-disagreement : Speaks (with_functions (with_x older_x) (with_y newer_x) (number_in 1 (codes "t")))
+disagreement : IsCauseOf (with_functions (with_x older_x) (with_y newer_x) (number_in 1 (codes "t")))
     (failed (codes "failed to merge interfaces: mismatch in function `f`: different function parameter names: x != y"))
 unfolding strip_zeros digits
 disagreement = (
@@ -414,10 +414,10 @@ agreement =
     (λ message d.
     let one = only_one (codes "f", f_of (codes "x") type.U32) (d.have.name, d.have.function) (subst (λ (fs : List (List ℕ × Function)). Contains fs (d.have.name, d.have.function)) (sym (its_functions d.f d.old d.old_is)) d.have.has) in
     let other = only_one (codes "f", f_of (codes "x") type.U32) (d.have.name, d.have.other) (subst (λ (fs : List (List ℕ × Function)). Contains fs (d.have.name, d.have.other)) (sym (its_functions (newest u d.f) d.new d.new_is)) d.have.other_has) in
-    functions_fine (f_of (codes "x") type.U32) (f_of (codes "x") type.U32) refl d.have.ending
+    functions_accepted (f_of (codes "x") type.U32) (f_of (codes "x") type.U32) refl d.have.ending
     (subst (λ (f : Function). FunctionMismatch f (f_of (codes "x") type.U32) d.have.ending) (sym (ap (λ (e : List ℕ × Function). e.1) one))
     (subst (λ (f : Function). FunctionMismatch d.have.function f d.have.ending) (sym (ap (λ (e : List ℕ × Function). e.1) other)) d.have.mismatch)))
-    refl refl refl (no_exports (relisted_at u 0) refl))
+    refl refl refl (no_exports (with_new_entries_at u 0) refl))
 
 abbrev older_alone : Graph
 older_alone = with_functions (with_x older_x) newer_x (number_in 1 (codes "t"))
@@ -437,17 +437,17 @@ not_common =
     let u = upgrade older_alone (w_of_main (0 ∷ 1 ∷ [])) in
     is_fine Published older_alone 0 (w_of_main (0 ∷ 1 ∷ [])) refl
     (clear_by u 0 (0 ∷ 1 ∷ 2 ∷ []) (0 ∷ 1 ∷ []) (0 ∷ 1 ∷ []) refl (λ message d. not_in_newer d.f d.old d.new (d.have.name, d.have.other) d.replaced d.old_is d.new_is d.have.other_has)
-    refl refl refl (no_exports (relisted_at u 0) refl))
+    refl refl refl (no_exports (with_new_entries_at u 0) refl))
 
 abbrev both_wrong : Upgrade
 both_wrong = upgrade (with_functions (with_x older_x) (with_y newer_x) (alias_in 1 (codes "t") 0)) (w_of_main (0 ∷ 1 ∷ []))
 
-cycle_beside : Speaks (with_functions (with_x older_x) (with_y newer_x) (alias_in 1 (codes "t") 0)) (Semantic None (codes "type `t` would refer to itself") TypeCycle)
+cycle_beside : IsCauseOf (with_functions (with_x older_x) (with_y newer_x) (alias_in 1 (codes "t") 0)) (Semantic None (codes "type `t` would refer to itself") TypeCycle)
 unfolding strip_zeros digits
 cycle_beside = (
   w_of_main (0 ∷ 1 ∷ []),
   refl,
-  type_cycle_23 (codes "type `t` would refer to itself") (complete both_wrong refl) (t_refers_to_itself (relisted_at both_wrong 0) refl),
+  type_cycle_23 (codes "type `t` would refer to itself") (complete both_wrong refl) (t_refers_to_itself (with_new_entries_at both_wrong 0) refl),
 )
 
 pub causes : ExamplesOfCauses
@@ -465,8 +465,8 @@ causes = record {
   no_type_cycle = no_type_cycle;
   missing = missing;
   not_missing = not_missing;
-  fine_apart = fine_apart;
-  fine_together = fine_together;
+  accepted_apart = accepted_apart;
+  accepted_together = accepted_together;
   missing_beside_cycle = missing_beside_cycle;
   no_cycle_beside = λ message cause. no_cycle_in cause.0 message (Semantic None message TypeCycle) cause.2 (sym (some_same (w_of_main (0 ∷ 2 ∷ 1 ∷ [])) cause.0 cause.1)) refl;
   disagreement = disagreement;

@@ -4,7 +4,7 @@ use Rattle.std.specs.List.{flat_map}
 use Rattle.std.specs.Option.{option_map_or}
 use Rattle.std.specs.Prelude.{unwrap_or}
 use Rattle.semver.specs.Order.{strip_zeros}
-use Rattle.wit_digraph.specs.Walks.{walk, walk_within}
+use Rattle.wit_digraph.specs.PostOrder.{post_order, post_order_within}
 use Rattle.wit_data.specs.declared.types.TypeDef.{TypeDef}
 use Rattle.wit_data.specs.Uses.{alias_target}
 use Rattle.wit_data.specs.declared.world.World.{World}
@@ -34,7 +34,7 @@ target : ℕ → Graph → ℕ
 target t g = option_map_or (λ (def : TypeDef). unwrap_or (alias_target def.kind) 99) (slice_get g.types t) 99
 
 pub examples_of_rewriting : ExamplesOfRewriting
-unfolding walk walk_within import_steps import_steps_within strip_zeros imports_at import_at import_count export_count target
+unfolding post_order post_order_within import_steps import_steps_within strip_zeros imports_at import_at import_count export_count target
 examples_of_rewriting = record {
   merged = refl;
   again = refl;
@@ -46,7 +46,7 @@ examples_of_rewriting = record {
   exported = refl;
   not_dropped = λ same. let apart : 2 ≡ 1 = ap (export_count) same in absurd (omega (arith, apart));
   own_alias = refl;
-  not_turned = λ same. let apart : 0 ≡ 1 = ap (target 3) same in absurd (omega (arith, apart));
+  not_transformed = λ same. let apart : 0 ≡ 1 = ap (target 3) same in absurd (omega (arith, apart));
   labelled = refl;
   not_relabelled = λ same. let apart : 0 ≡ 1 = ap (import_at 0 1) same in absurd (omega (arith, apart));
   other_world = refl;
@@ -58,7 +58,7 @@ examples_of_rewriting = record {
 }
 
 pub examples_of_rules : ExamplesOfRules
-unfolding walk walk_within import_steps import_steps_within strip_zeros imports_at import_at import_count export_count target
+unfolding post_order post_order_within import_steps import_steps_within strip_zeros imports_at import_at import_count export_count target
 examples_of_rules = record {
   apart = refl;
   apart_from_release = refl;
@@ -81,7 +81,7 @@ examples_of_rules = record {
 }
 
 pub examples_of_tracks : ExamplesOfTracks
-unfolding walk walk_within import_steps import_steps_within strip_zeros imports_at import_at import_count export_count target
+unfolding post_order post_order_within import_steps import_steps_within strip_zeros imports_at import_at import_count export_count target
 examples_of_tracks = record {
   one_name = refl;
   other_interface = refl;
@@ -98,5 +98,5 @@ examples_of_tracks = record {
   nameless_use = refl;
   nameless_not_left = λ same. let apart : 1 ≡ 0 = ap (target 2) same in absurd (omega (arith, apart));
   of_another_world = refl;
-  not_following = λ same. let apart : 0 ≡ 1 = ap (target 2) same in absurd (omega (arith, apart));
+  not_rewritable = λ same. let apart : 0 ≡ 1 = ap (target 2) same in absurd (omega (arith, apart));
 }

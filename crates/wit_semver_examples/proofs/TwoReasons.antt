@@ -12,14 +12,14 @@ use Rattle.wit_data.specs.declared.world.WorldKey.TheVariants as key
 use Rattle.wit_elaboration.specs.Elaboration.{graph_uses}
 use Rattle.wit_elaboration.specs.Entries.{Entry}
 use Rattle.wit_elaboration.specs.Imported.{HasConflict}
-use Rattle.wit_elaboration.specs.Imported.{IsInConflict as IsEntryInConflict}
+use Rattle.wit_elaboration.specs.Imported.{IsEntryInConflict}
 use Rattle.wit_graph_data.specs.examples.Samples.{entry_of}
 use Rattle.wit_graph_data.specs.declared.cause.Cause.TheVariants.{InterfaceCycle}
 use Rattle.wit_graph_data.specs.declared.error_kind.ResolveErrorKind.TheVariants.{InvalidTransitiveDependency, PackageCycle, Semantic}
-use Rattle.wit_graph_theory.specs.AllElaborated.{DependsOnItself, IsInConflict, RefersToItself, UsesItself}
+use Rattle.wit_graph_theory.specs.AllElaborated.{DependsOnItself, HasWorldInConflict, RefersToItself, UsesItself}
 use Rattle.wit_graph_theory.specs.examples.TestFacts.{no_cycle, none_in, one_of_two, only_one}
-use Rattle.wit_semver_spec.specs.Rewritten.{relisted_at}
-use Rattle.wit_semver_spec.specs.TrackCause.{IsComplete, LacksType, UpgradeCause, conflict_4, interface_cycle_22, package_cycle_6, type_cycle_23, type_missing_25}
+use Rattle.wit_semver_spec.specs.Rewritten.{with_new_entries_at}
+use Rattle.wit_semver_spec.specs.TrackCause.{IsComplete, NewestLacksType, UpgradeCause, conflict_4, interface_cycle_22, package_cycle_6, type_cycle_23, type_missing_25}
 use Rattle.wit_semver_spec.specs.Upgrade.{Upgrade}
 use Rattle.wit_semver_examples.proofs.Fine.{complete, of_world, upgrade_of}
 use Rattle.wit_semver_examples.proofs.Reasons.{t_refers_to_itself}
@@ -32,7 +32,7 @@ module _ (u : Upgrade) where
   of_conflict_whole : (span : Option (ℕ × ℕ)) (name : List ℕ) → UpgradeCause u 0 (InvalidTransitiveDependency span name) → IsComplete u
   of_conflict_whole _ _ (conflict_4 span name whole is) = whole
 
-  of_conflict : (span : Option (ℕ × ℕ)) (name : List ℕ) → UpgradeCause u 0 (InvalidTransitiveDependency span name) → IsInConflict (relisted_at u 0) span name
+  of_conflict : (span : Option (ℕ × ℕ)) (name : List ℕ) → UpgradeCause u 0 (InvalidTransitiveDependency span name) → HasWorldInConflict (with_new_entries_at u 0) span name
   of_conflict _ _ (conflict_4 span name whole is) = is
 
   of_package_cycle : (span : Option (ℕ × ℕ)) (home : PackageName) → UpgradeCause u 0 (PackageCycle span home) → IsComplete u
@@ -71,7 +71,7 @@ would_cycle = record { p = 2; q = 1; on_cycle = record { is_used = (0, lit< tt, 
 abbrev u_text : List ℕ
 u_text = codes "failed to upgrade `foo:x/x@0.2.0` to `foo:x/x@0.2.1`, was this semver-compatible update not semver compatible?: " ++ codes "type `u` is missing"
 
-lacks_u : LacksType lacks u_text
+lacks_u : NewestLacksType lacks u_text
 unfolding strip_zeros digits
 lacks_u = record { t = 4; def = alias_in 2 (codes "u") 1; f = 0; name = codes "u"; follows = (1, lit< tt, refl); is = refl; uses = refl; named = refl; absent = refl; message_is = refl }
 
@@ -112,7 +112,7 @@ would_conflict_of_lack : HasConflict (graph_uses (listed exporting_lacking)) (ke
 unfolding strip_zeros
 would_conflict_of_lack = (1, (3, 2, (1, lit< tt, refl), (0, lit< tt, refl), two_not_there, (1 ∷ [], ((0, lit< tt, refl), refl))), (0, lit< tt, refl))
 
-lacks_too : LacksType lacking u_text
+lacks_too : NewestLacksType lacking u_text
 unfolding strip_zeros digits
 lacks_too = record { t = 5; def = alias_in 2 (codes "u") 4; f = 0; name = codes "u"; follows = (1, lit< tt, refl); is = refl; uses = refl; named = refl; absent = refl; message_is = refl }
 
@@ -131,19 +131,19 @@ three_not_there has = elim (one_of_two 1 4 3 has) [
 ]
 
 -- x@0.2.1 leads to none
-not_before : (f : Entry) → Contains (entry_of 1 ∷ []) f → IsEntryInConflict (graph_uses (relisted_at both 0)) (keyed (1 ∷ 4 ∷ [])) f → ⊥
+not_before : (f : Entry) → Contains (entry_of 1 ∷ []) f → IsEntryInConflict (graph_uses (with_new_entries_at both 0)) (keyed (1 ∷ 4 ∷ [])) f → ⊥
 unfolding strip_zeros
 not_before f inside leads =
-    let at_one = subst (λ (e : Entry). IsEntryInConflict (graph_uses (relisted_at both 0)) (keyed (1 ∷ 4 ∷ [])) e) (sym (only_one (entry_of 1) f inside)) leads in
+    let at_one = subst (λ (e : Entry). IsEntryInConflict (graph_uses (with_new_entries_at both 0)) (keyed (1 ∷ 4 ∷ [])) e) (sym (only_one (entry_of 1) f inside)) leads in
     let place : 1 ≡ at_one.0 = only_one 1 at_one.0 at_one.1 in
-    let edge : Contains (direct (graph_uses (relisted_at both 0)) 1) at_one.2.0 = subst (λ (i : ℕ). Contains (direct (graph_uses (relisted_at both 0)) i) at_one.2.0) (sym place) at_one.2.2 in
+    let edge : Contains (direct (graph_uses (with_new_entries_at both 0)) 1) at_one.2.0 = subst (λ (i : ℕ). Contains (direct (graph_uses (with_new_entries_at both 0)) i) at_one.2.0) (sym place) at_one.2.2 in
     none_in at_one.2.0 edge
 
-conflict : IsInConflict (relisted_at both 0) None (codes "foo:x/z@0.2.1")
+conflict : HasWorldInConflict (with_new_entries_at both 0) None (codes "foo:x/z@0.2.1")
 unfolding strip_zeros digits
 conflict = record {
-  interfaces = λ message is. no_cycle (λ i. i) (graph_uses (relisted_at both 0)) refl is.i is.j is.on_cycle;
-  types = λ message is. no_cycle (λ t. t) (type_references (relisted_at both 0).types) refl is.t is.u is.on_cycle;
+  interfaces = λ message is. no_cycle (λ i. i) (graph_uses (with_new_entries_at both 0)) refl is.i is.j is.on_cycle;
+  types = λ message is. no_cycle (λ t. t) (type_references (with_new_entries_at both 0).types) refl is.t is.u is.on_cycle;
   world = _;
   there = (0, lit< tt, refl);
   conflict = (1, (4, 3, (1, lit< tt, refl), (0, lit< tt, refl), three_not_there, (2 ∷ 1 ∷ [], ((0, lit< tt, refl), ((0, lit< tt, refl), refl)))), (0, lit< tt, refl));
@@ -155,7 +155,7 @@ conflict = record {
   span_is = refl;
 }
 
-cycle_both : DependsOnItself (relisted_at both 0) foo_main
+cycle_both : DependsOnItself (with_new_entries_at both 0) foo_main
 unfolding strip_zeros digits
 cycle_both = record { p = 2; q = 1; on_cycle = record { is_used = (0, lit< tt, refl); leads_back = (2 ∷ [], ((0, lit< tt, refl), refl)) }; there = _; is = refl; home_is = refl }
 

@@ -21,12 +21,12 @@ use Rattle.wit_semver_examples.specs.Releases.{Names, alias_in, called, foo_main
 use Rattle.wit_semver_examples.specs.RewrittenExamples.{first_release, of_three}
 
 -- a reason to refuse the merge of the imports of world 0
-abbrev pub Speaks : Graph → ResolveErrorKind → Type 0
-Speaks g error = IsTrackCause Published g 0 error
+abbrev pub IsCauseOf : Graph → ResolveErrorKind → Type 0
+IsCauseOf g error = IsTrackCause Published g 0 error
 
--- nothing speaks against it
+-- no cause holds against it
 abbrev pub IsFine : Graph → Type 0
-IsFine g = (error : ResolveErrorKind) → Speaks g error → ⊥
+IsFine g = (error : ResolveErrorKind) → IsCauseOf g error → ⊥
 
 -- ---- 4
 
@@ -116,37 +116,37 @@ failed reason = Semantic None (codes "failed to upgrade `foo:x/x@0.2.0` to `foo:
 
 pub record ExamplesOfCauses : Type 0 where
   -- 4: y needs z from outside, which now uses x@0.2.1, which is exported
-  pub conflict : Speaks (exporting (1 ∷ 3 ∷ [])) (InvalidTransitiveDependency None (codes "foo:main/y"))
+  pub conflict : IsCauseOf (exporting (1 ∷ 3 ∷ [])) (InvalidTransitiveDependency None (codes "foo:main/y"))
   pub not_exported : IsFine (exporting (3 ∷ []))
   -- 6: z of foo:x@0.2.1 uses foo:main, which now uses foo:x@0.2.1; either may be told
-  pub package_cycle : Speaks (around_main (alias_in 4 (codes "v") 3)) (PackageCycle None foo_main)
-  pub package_cycle_too : Speaks (around_main (alias_in 4 (codes "v") 3)) (PackageCycle None (foo_x (release 0 2 1)))
-  pub not_of_the_world : Speaks (around_main (alias_in 4 (codes "v") 3)) (PackageCycle None foo_app) → ⊥
+  pub package_cycle : IsCauseOf (around_main (alias_in 4 (codes "v") 3)) (PackageCycle None foo_main)
+  pub package_cycle_too : IsCauseOf (around_main (alias_in 4 (codes "v") 3)) (PackageCycle None (foo_x (release 0 2 1)))
+  pub not_of_the_world : IsCauseOf (around_main (alias_in 4 (codes "v") 3)) (PackageCycle None foo_app) → ⊥
   pub no_package_cycle : IsFine (around_main (number_in 4 (codes "v")))
   -- 22: x@0.2.1 uses z, which now uses x@0.2.1; either may be told
-  pub interface_cycle : Speaks (around_z (alias_in 1 (codes "v") 3)) (Semantic None (codes "interface `foo:x/x@0.2.1` would depend on itself") InterfaceCycle)
-  pub interface_cycle_too : Speaks (around_z (alias_in 1 (codes "v") 3)) (Semantic None (codes "interface `foo:x/z@0.2.1` would depend on itself") InterfaceCycle)
+  pub interface_cycle : IsCauseOf (around_z (alias_in 1 (codes "v") 3)) (Semantic None (codes "interface `foo:x/x@0.2.1` would depend on itself") InterfaceCycle)
+  pub interface_cycle_too : IsCauseOf (around_z (alias_in 1 (codes "v") 3)) (Semantic None (codes "interface `foo:x/z@0.2.1` would depend on itself") InterfaceCycle)
   pub no_interface_cycle : IsFine (around_z (number_in 1 (codes "v")))
   -- 23: x@0.2.1 has its type of x@0.2.0
-  pub type_cycle : Speaks (with_newer (alias_in 1 (codes "t") 0)) (Semantic None (codes "type `t` would refer to itself") TypeCycle)
+  pub type_cycle : IsCauseOf (with_newer (alias_in 1 (codes "t") 0)) (Semantic None (codes "type `t` would refer to itself") TypeCycle)
   pub no_type_cycle : IsFine (with_newer (number_in 1 (codes "t")))
   -- 25: x@0.2.1 lacks a type that y uses
-  pub missing : Speaks without_type (failed (codes "type `t` is missing"))
+  pub missing : IsCauseOf without_type (failed (codes "type `t` is missing"))
   pub not_missing : IsFine of_three
-  -- a pre-release and its release are fine by either rule
-  pub fine_apart : IsFine (first_release (0 ∷ 1 ∷ []))
-  pub fine_together : (error : ResolveErrorKind) → IsTrackCause WithPrereleases (first_release (0 ∷ 1 ∷ [])) 0 error → ⊥
+  -- a pre-release and its release are accepted by either rule
+  pub accepted_apart : IsFine (first_release (0 ∷ 1 ∷ []))
+  pub accepted_together : (error : ResolveErrorKind) → IsTrackCause WithPrereleases (first_release (0 ∷ 1 ∷ [])) 0 error → ⊥
   -- and then no cycle is a reason
-  pub missing_beside_cycle : Speaks without_type_but_cycle (failed (codes "type `u` is missing"))
-  pub no_cycle_beside : (message : List ℕ) → Speaks without_type_but_cycle (Semantic None message TypeCycle) → ⊥
+  pub missing_beside_cycle : IsCauseOf without_type_but_cycle (failed (codes "type `u` is missing"))
+  pub no_cycle_beside : (message : List ℕ) → IsCauseOf without_type_but_cycle (Semantic None message TypeCycle) → ⊥
   -- 25: both have a function f, and its parameters differ
-  pub disagreement : Speaks (with_functions (with_function older_x (f_of (codes "x") type.U32)) (with_function newer_x (f_of (codes "y") type.U32)) (number_in 1 (codes "t")))
+  pub disagreement : IsCauseOf (with_functions (with_function older_x (f_of (codes "x") type.U32)) (with_function newer_x (f_of (codes "y") type.U32)) (number_in 1 (codes "t")))
       (failed (codes "failed to merge interfaces: mismatch in function `f`: different function parameter names: x != y"))
   pub agreement : IsFine (with_functions (with_function older_x (f_of (codes "x") type.U32)) (with_function newer_x (f_of (codes "x") type.U32)) (number_in 1 (codes "t")))
   -- a function that one of them alone has is none
   pub not_common : IsFine (with_functions (with_function older_x (f_of (codes "x") type.U32)) newer_x (number_in 1 (codes "t")))
   -- beside it a cycle is a reason too
-  pub cycle_beside : Speaks (with_functions (with_function older_x (f_of (codes "x") type.U32)) (with_function newer_x (f_of (codes "y") type.U32)) (alias_in 1 (codes "t") 0))
+  pub cycle_beside : IsCauseOf (with_functions (with_function older_x (f_of (codes "x") type.U32)) (with_function newer_x (f_of (codes "y") type.U32)) (alias_in 1 (codes "t") 0))
       (Semantic None (codes "type `t` would refer to itself") TypeCycle)
 
 -- ---- functions that disagree
@@ -169,4 +169,4 @@ pub record ExamplesOfMismatches : Type 0 where
   pub results : FunctionMismatch (function_of (codes "f") [] (Some type.U32)) (function_of (codes "f") [] (Some type.Bool)) (codes "different function result types: different kinds of types")
   pub result : FunctionMismatch (function_of (codes "f") [] (Some type.U32)) (function_of (codes "f") [] None) (codes "different number of function results")
   -- the text is that of the disagreement, with the older name first
-  pub not_turned : FunctionMismatch (f_of (codes "x") type.U32) (f_of (codes "y") type.U32) (codes "different function parameter names: y != x") → ⊥
+  pub not_transformed : FunctionMismatch (f_of (codes "x") type.U32) (f_of (codes "y") type.U32) (codes "different function parameter names: y != x") → ⊥

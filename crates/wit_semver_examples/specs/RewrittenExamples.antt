@@ -66,7 +66,7 @@ pub record ExamplesOfRewriting : Type 0 where
   pub not_dropped : rewritten Published (with_worlds 0 (keyed (0 ∷ 1 ∷ [])) (keyed (0 ∷ 2 ∷ [])) []) 0 ≡ with_worlds 1 (keyed (1 ∷ [])) (keyed (2 ∷ [])) [] → ⊥
   -- but an alias of a type of its own interface names it still
   pub own_alias : rewritten Published (with_second_name 0 0 (keyed (0 ∷ 1 ∷ [])) (keyed (0 ∷ 2 ∷ []))) 0 ≡ with_second_name 1 0 (keyed (1 ∷ [])) (keyed (0 ∷ 2 ∷ []))
-  pub not_turned : rewritten Published (with_second_name 0 0 (keyed (0 ∷ 1 ∷ [])) (keyed (0 ∷ 2 ∷ []))) 0 ≡ with_second_name 1 1 (keyed (1 ∷ [])) (keyed (0 ∷ 2 ∷ [])) → ⊥
+  pub not_transformed : rewritten Published (with_second_name 0 0 (keyed (0 ∷ 1 ∷ [])) (keyed (0 ∷ 2 ∷ []))) 0 ≡ with_second_name 1 1 (keyed (1 ∷ [])) (keyed (0 ∷ 2 ∷ [])) → ⊥
   -- under a label a replaced interface stays
   pub labelled : rewritten Published (with_worlds 0 (keyed (0 ∷ 1 ∷ []) ++ old_x ∷ []) [] []) 0 ≡ with_worlds 0 (keyed (1 ∷ []) ++ old_x ∷ []) [] []
   pub not_relabelled : rewritten Published (with_worlds 0 (keyed (0 ∷ 1 ∷ []) ++ old_x ∷ []) [] []) 0 ≡ with_worlds 0 (keyed (1 ∷ []) ++ labelled_entry (codes "old") 1 ∷ []) [] [] → ⊥

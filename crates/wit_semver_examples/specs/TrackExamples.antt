@@ -86,4 +86,4 @@ pub record ExamplesOfTracks : Type 0 where
   pub nameless_not_left : rewritten Published (nameless_at_l 0 (0 ∷ 1 ∷ [])) 0 ≡ nameless_at_l 0 (1 ∷ []) → ⊥
   -- y, which another world alone imports, doesn't
   pub of_another_world : rewritten Published (with_worlds 0 (keyed (0 ∷ 1 ∷ [])) [] (keyed (0 ∷ 2 ∷ []))) 0 ≡ with_worlds 0 (keyed (1 ∷ [])) [] (keyed (0 ∷ 2 ∷ []))
-  pub not_following : rewritten Published (with_worlds 0 (keyed (0 ∷ 1 ∷ [])) [] (keyed (0 ∷ 2 ∷ []))) 0 ≡ with_worlds 1 (keyed (1 ∷ [])) [] (keyed (0 ∷ 1 ∷ 2 ∷ [])) → ⊥
+  pub not_rewritable : rewritten Published (with_worlds 0 (keyed (0 ∷ 1 ∷ [])) [] (keyed (0 ∷ 2 ∷ []))) 0 ≡ with_worlds 1 (keyed (1 ∷ [])) [] (keyed (0 ∷ 1 ∷ 2 ∷ [])) → ⊥

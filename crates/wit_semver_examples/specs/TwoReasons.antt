@@ -9,13 +9,13 @@ use Rattle.wit_graph_data.specs.declared.cause.Cause.TheVariants.{InterfaceCycle
 use Rattle.wit_graph_data.specs.declared.error_kind.ResolveErrorKind.TheVariants.{InvalidTransitiveDependency, PackageCycle, Semantic}
 use Rattle.wit_graph_data.specs.declared.graph.Graph.{Graph}
 use Rattle.wit_graph_theory.specs.AllElaborated.{DependsOnItself, UsesItself}
-use Rattle.wit_semver_spec.specs.Rewritten.{relisted}
-use Rattle.wit_semver_examples.specs.CauseExamples.{Speaks, around_main, around_z, exporting, failed, foo_app}
+use Rattle.wit_semver_spec.specs.Rewritten.{with_new_entries}
+use Rattle.wit_semver_examples.specs.CauseExamples.{IsCauseOf, around_main, around_z, exporting, failed, foo_app}
 use Rattle.wit_semver_examples.specs.Releases.{Names, alias_in, called, foo_main, foo_x, interface_in, keyed, number_in, package_of, release, world_in}
 
 -- the graph as it is listed before its worlds are elaborated
 abbrev pub listed : Graph → Graph
-listed g = relisted Published g 0
+listed g = with_new_entries Published g 0
 
 -- ---- graphs
 
@@ -69,26 +69,26 @@ x_text = codes "interface `foo:x/x@0.2.1` would depend on itself"
 
 pub record ExamplesOfTwoReasons : Type 0 where
   -- x@0.2.1 and y would use one another (22), and so would their packages (6): both are told
-  pub circle : Speaks with_u (Semantic None x_text InterfaceCycle)
-  pub package_cycle : Speaks with_u (PackageCycle None foo_main)
+  pub circle : IsCauseOf with_u (Semantic None x_text InterfaceCycle)
+  pub package_cycle : IsCauseOf with_u (PackageCycle None foo_main)
   -- but neither where x@0.2.1 lacks a type (25), though both would be there
-  pub missing : Speaks without_u (failed (codes "type `u` is missing"))
+  pub missing : IsCauseOf without_u (failed (codes "type `u` is missing"))
   pub would_circle : UsesItself (listed without_u) x_text
   pub would_cycle : DependsOnItself (listed without_u) foo_main
-  pub no_circle : (span : Option (ℕ × ℕ)) (message : List ℕ) → Speaks without_u (Semantic span message InterfaceCycle) → ⊥
-  pub no_package_cycle : (span : Option (ℕ × ℕ)) (home : PackageName) → Speaks without_u (PackageCycle span home) → ⊥
+  pub no_circle : (span : Option (ℕ × ℕ)) (message : List ℕ) → IsCauseOf without_u (Semantic span message InterfaceCycle) → ⊥
+  pub no_package_cycle : (span : Option (ℕ × ℕ)) (home : PackageName) → IsCauseOf without_u (PackageCycle span home) → ⊥
   -- interfaces that use one another (22) spoil a conflict (4)
-  pub circle_told : Speaks exporting_newer (Semantic None x_text InterfaceCycle)
+  pub circle_told : IsCauseOf exporting_newer (Semantic None x_text InterfaceCycle)
   pub would_conflict : HasConflict (graph_uses (listed exporting_newer)) (keyed (1 ∷ []))
-  pub no_conflict : (span : Option (ℕ × ℕ)) (name : List ℕ) → Speaks exporting_newer (InvalidTransitiveDependency span name) → ⊥
+  pub no_conflict : (span : Option (ℕ × ℕ)) (name : List ℕ) → IsCauseOf exporting_newer (InvalidTransitiveDependency span name) → ⊥
   -- and so does a type that refers to itself (23)
-  pub type_told : Speaks exporting_own (Semantic None (codes "type `t` would refer to itself") TypeCycle)
+  pub type_told : IsCauseOf exporting_own (Semantic None (codes "type `t` would refer to itself") TypeCycle)
   pub would_conflict_of_type : HasConflict (graph_uses (listed exporting_own)) (keyed (1 ∷ 3 ∷ []))
-  pub no_conflict_of_type : (span : Option (ℕ × ℕ)) (name : List ℕ) → Speaks exporting_own (InvalidTransitiveDependency span name) → ⊥
+  pub no_conflict_of_type : (span : Option (ℕ × ℕ)) (name : List ℕ) → IsCauseOf exporting_own (InvalidTransitiveDependency span name) → ⊥
   -- and a type that is missing (25)
-  pub lack_told : Speaks exporting_lacking (failed (codes "type `u` is missing"))
+  pub lack_told : IsCauseOf exporting_lacking (failed (codes "type `u` is missing"))
   pub would_conflict_of_lack : HasConflict (graph_uses (listed exporting_lacking)) (keyed (1 ∷ 3 ∷ []))
-  pub no_conflict_of_lack : (span : Option (ℕ × ℕ)) (name : List ℕ) → Speaks exporting_lacking (InvalidTransitiveDependency span name) → ⊥
+  pub no_conflict_of_lack : (span : Option (ℕ × ℕ)) (name : List ℕ) → IsCauseOf exporting_lacking (InvalidTransitiveDependency span name) → ⊥
   -- packages that use one another (6) don't: both are told
-  pub cycle_and_conflict : Speaks exporting_z (PackageCycle None foo_main)
-  pub conflict_and_cycle : Speaks exporting_z (InvalidTransitiveDependency None (codes "foo:x/z@0.2.1"))
+  pub cycle_and_conflict : IsCauseOf exporting_z (PackageCycle None foo_main)
+  pub conflict_and_cycle : IsCauseOf exporting_z (InvalidTransitiveDependency None (codes "foo:x/z@0.2.1"))

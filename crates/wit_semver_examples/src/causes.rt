@@ -3,7 +3,7 @@ ghost use Rattle.wit_semver_examples.specs.AcceptedExamples.{ExamplesOfAccepted}
 ghost use Rattle.wit_semver_examples.specs.CauseExamples.{ExamplesOfCauses, ExamplesOfMismatches};
 ghost use Rattle.wit_semver_examples.specs.TwoReasons.{ExamplesOfTwoReasons};
 
-/// For each reason a graph that has it, and one that lacks it and is fine.
+/// For each reason a graph that has it, and one that lacks it and is accepted.
 pub fn examples_of_causes()
     ensures { ExamplesOfCauses }
 {}
@@ -13,7 +13,7 @@ pub fn examples_of_mismatches()
     ensures { ExamplesOfMismatches }
 {}
 
-/// Merges against which nothing speaks.
+/// Merges against which no cause holds.
 pub fn examples_of_accepted()
     ensures { ExamplesOfAccepted }
 {}

@@ -1,4 +1,4 @@
--- A merge of a valid graph against which nothing speaks: no interface uses itself after it, and no world is in conflict.
+-- A merge of a valid graph against which no cause holds: no interface uses itself after it, and no world is in conflict.
 use Rattle.std.proofs.Common.{◌≡◌, ◌∙◌, ◌⊎◌, inl, inr, ℕ, true, List, [], ◌∷◌, Option, None, Some, IfSome, IsSome, IsSomeAnd, option_and_then, option_map, get_or, length, slice_get, slice_set, refl, sym, ap, subst, arith, Contains}
 use Rattle.std.specs.Option.{option_map_or}
 use Rattle.std.proofs.lemmas.List.{length-map}
@@ -6,7 +6,7 @@ use Rattle.std.proofs.lemmas.List.Elements.{Contains-get_or}
 use Rattle.wit_values.specs.facts.Lists.{slice_get-set}
 use Rattle.wit_digraph.specs.Relation.{IsAcyclic, IsPath, direct}
 use Rattle.wit_data.specs.Each.{Each, SomeAt}
-use Rattle.wit_data.specs.Entries.{HasExports, HasImports, IsImport}
+use Rattle.wit_data.specs.Entries.{ExportsAreAllowed, ImportsAreAllowed, IsImport}
 use Rattle.wit_data.specs.Ownership.{AliasesNamed, IsNamed, IsNamedInterface}
 use Rattle.wit_data.specs.Uses.{alias_target, interface_uses, uses_of}
 use Rattle.wit_data.specs.declared.interface.Interface.{Interface}
@@ -35,14 +35,14 @@ use Rattle.wit_graph_data.specs.declared.graph.Graph.{Graph}
 use Rattle.wit_graph_theory.specs.facts.EntryFacts.{key_entry}
 use Rattle.wit_graph_theory.specs.facts.ListFacts.{at_map, contained_at, found_at, place_of, some_at}
 use Rattle.wit_graph_theory.specs.facts.NamedUses.{used_is_named}
-use Rattle.wit_transform.proofs.OnePlaceTurned.{set_split}
+use Rattle.wit_transform.proofs.UnnamedOnceTransformed.{set_split}
 use Rattle.wit_graph_theory.specs.AllElaborated.{DependsOnItself, RefersToItself, UsesItself, all_elaborated, elaborated_world, interface_cycle_text}
 use Rattle.wit_graph_theory.specs.facts.OptionFacts.{some_same, some_there}
-use Rattle.wit_semver_spec.specs.Rewritten.{listed_world, new_target, relisted_at, retargeted, rewritten, rewritten_types}
-use Rattle.wit_semver_spec.specs.TrackCause.{IsAccepted, IsComplete, conflict_4, interface_cycle_22, package_cycle_6, type_cycle_23, type_missing_25}
+use Rattle.wit_semver_spec.specs.Rewritten.{listed_world, new_target, retargeted, rewritten, rewritten_types, with_new_entries_at}
+use Rattle.wit_semver_spec.specs.TrackCause.{IsComplete, SemverMergeIsAccepted, conflict_4, interface_cycle_22, package_cycle_6, type_cycle_23, type_missing_25}
 use Rattle.wit_semver_spec.specs.Upgrade.{Upgrade, is_replaced, newest}
 use Rattle.wit_semver_laws.proofs.Greatest.{newest_stays}
-use Rattle.wit_semver_laws.proofs.TypesAfter.{retargeted_name, retargeted_owner, turned_from, turned_type, type_after, type_into}
+use Rattle.wit_semver_laws.proofs.TypesAfter.{retargeted_name, retargeted_owner, transformed_from, transformed_type, type_after, type_into}
 
 some_and : (P : ℕ → Type 0) (o : Option ℕ) → IsSomeAnd o P → (p : ℕ) × (o ≡ Some p)
 some_and P None h = absurd h
@@ -99,10 +99,10 @@ module _ (u : Upgrade) (valid : IsValid u.graph) (w : ℕ) (there : slice_get u.
           (λ (s : ℕ). SomeAt new_types s (λ (x : TypeDef). IsSome x.name × ((x.owner ≡ def.owner) ⊎ IsNamedInterface interfaces x.owner))) (alias_target def.kind)
           (λ s h. stays_so (λ name by. IsSome name × ((by ≡ def.owner) ⊎ IsNamedInterface interfaces by)) s h) (valid.well_formed.references.aliases t def there_t)
       by def there_t (Some t') is =
-          let turned = turned_from u t def t' is in
-          let named = turned_type u valid t def t' turned in
+          let transformed = transformed_from u t def t' is in
+          let named = transformed_type u valid t def t' transformed in
           stays_so (λ name by. IsSome name × ((by ≡ def.owner) ⊎ IsNamedInterface interfaces by)) t'
-          (weaken turned.name (newest u turned.f) named (newest_named turned.f turned.replaced))
+          (weaken transformed.name (newest u transformed.f) named (newest_named transformed.f transformed.replaced))
         where
           weaken : (name : List ℕ) (n : ℕ) → SomeAt types t' (λ (x : TypeDef). (x.name ≡ Some name) × (x.owner ≡ owner.Interface n)) → IsNamed interfaces n → SomeAt types t' (λ (x : TypeDef). IsSome x.name × ((x.owner ≡ def.owner) ⊎ IsNamedInterface interfaces x.owner))
           weaken name n h named =
@@ -121,7 +121,7 @@ module _ (u : Upgrade) (valid : IsValid u.graph) (w : ℕ) (there : slice_get u.
   abbrev pub relisted_worlds : List World
   relisted_worlds = slice_set u.graph.worlds w (listed_world u)
 
-  -- a relisted world is that of the place with fewer imports
+  -- a world with its new entries is that of the place with fewer imports
   pub record Relisted (v : ℕ) (world : World) : Type 0 where
     pub before : World
     pub at : slice_get u.graph.worlds v ≡ Some before
@@ -142,16 +142,16 @@ module _ (u : Upgrade) (valid : IsValid u.graph) (w : ℕ) (there : slice_get u.
         | inr stays ↦ record { before = world; at = stays.1; imports = λ e has. has; is = refl; either = inr refl }
       ]
 
-  pub new_imports : (v : ℕ) (world : World) → slice_get relisted_worlds v ≡ Some world → HasImports interfaces new_types v world
+  pub new_imports : (v : ℕ) (world : World) → slice_get relisted_worlds v ≡ Some world → ImportsAreAllowed interfaces new_types v world
   new_imports v world at i e on =
       let from = relisted_from v world at in
       let place = place_of from.before.imports e (from.imports e (contained_at world.imports i e on)) in
       import_after v e.0 e.1 (valid.well_formed.worlds.imports v from.before from.at place.0 e place.1)
 
-  pub new_exports : (v : ℕ) (world : World) → slice_get relisted_worlds v ≡ Some world → HasExports interfaces world
+  pub new_exports : (v : ℕ) (world : World) → slice_get relisted_worlds v ≡ Some world → ExportsAreAllowed interfaces world
   new_exports v world at =
       let from = relisted_from v world at in
-      subst (HasExports interfaces) (sym from.is) (valid.well_formed.worlds.exports v from.before from.at)
+      subst (ExportsAreAllowed interfaces) (sym from.is) (valid.well_formed.worlds.exports v from.before from.at)
 
   pub in_order : (v : ℕ) (world : World) → slice_get relisted_worlds v ≡ Some world → HasSoundEntries new_types (length new_uses) world.imports world.exports
   in_order v world at = lists_in_order new_types interfaces new_aliases v world (new_imports v world at) (new_exports v world at)
@@ -173,17 +173,17 @@ module _ (u : Upgrade) (valid : IsValid u.graph) (w : ℕ) (there : slice_get u.
           ap (option_and_then (interface_id_text u.graph.packages)) at ∙ ap (option_and_then (λ (n : List ℕ). option_map (λ (q : ℕ). id_text u.graph.packages q n) interface.package)) named
           ∙ ap (option_map (λ (q : ℕ). id_text u.graph.packages q name)) of
 
-  module _ (accepted : IsAccepted u.rule u.graph w) where
+  module _ (accepted : SemverMergeIsAccepted u.rule u.graph w) where
     pub complete : IsComplete u
     complete message lacks = accepted (Semantic None message cause.UpgradeMismatch) (u.world, there, type_missing_25 message lacks)
 
-    no_interface_cycle : (message : List ℕ) → UsesItself (relisted_at u w) message → ⊥
+    no_interface_cycle : (message : List ℕ) → UsesItself (with_new_entries_at u w) message → ⊥
     no_interface_cycle message is = accepted (Semantic None message cause.InterfaceCycle) (u.world, there, interface_cycle_22 message complete is)
 
-    pub no_package_cycle : (home : PackageName) → DependsOnItself (relisted_at u w) home → ⊥
+    pub no_package_cycle : (home : PackageName) → DependsOnItself (with_new_entries_at u w) home → ⊥
     no_package_cycle home is = accepted (PackageCycle None home) (u.world, there, package_cycle_6 home complete is)
 
-    pub no_type_cycle : (message : List ℕ) → RefersToItself (relisted_at u w) message → ⊥
+    pub no_type_cycle : (message : List ℕ) → RefersToItself (with_new_entries_at u w) message → ⊥
     no_type_cycle message is = accepted (Semantic None message cause.TypeCycle) (u.world, there, type_cycle_23 message complete is)
 
     -- ---- no interface uses itself
@@ -225,19 +225,19 @@ module _ (u : Upgrade) (valid : IsValid u.graph) (w : ℕ) (there : slice_get u.
           )
 
       -- so each world is elaborated
-      pub elaborates : (v : ℕ) (world : World) → slice_get relisted_worlds v ≡ Some world → Elaborated new_types new_uses world (elaborated_world (relisted_at u w) world)
+      pub elaborates : (v : ℕ) (world : World) → slice_get relisted_worlds v ≡ Some world → Elaborated new_types new_uses world (elaborated_world (with_new_entries_at u w) world)
       elaborates v world at = record { no_conflict = no_conflict v world at; world_is = refl }
 
 -- ---- the rewritten graph
 
-pub rewritten_is : (rule : TrackRule) (g : Graph) (w : ℕ) (old : World) → slice_get g.worlds w ≡ Some old → rewritten rule g w ≡ all_elaborated (relisted_at (record { rule = rule; graph = g; world = old }) w)
-rewritten_is rule g w old there = ap (λ (o : Option World). all_elaborated (option_map_or (λ (world : World). relisted_at (record { rule = rule; graph = g; world = world }) w) o g)) there
+pub rewritten_is : (rule : TrackRule) (g : Graph) (w : ℕ) (old : World) → slice_get g.worlds w ≡ Some old → rewritten rule g w ≡ all_elaborated (with_new_entries_at (record { rule = rule; graph = g; world = old }) w)
+rewritten_is rule g w old there = ap (λ (o : Option World). all_elaborated (option_map_or (λ (world : World). with_new_entries_at (record { rule = rule; graph = g; world = world }) w) o g)) there
 
 -- what the named world becomes
 pub merged_is : (rule : TrackRule) (g : Graph) (w : ℕ) (old new : World) → (there : slice_get g.worlds w ≡ Some old) → slice_get (rewritten rule g w).worlds w ≡ Some new
-    → (let u : Upgrade = record { rule = rule; graph = g; world = old } in new ≡ elaborated_world (relisted_at u w) (listed_world u))
+    → (let u : Upgrade = record { rule = rule; graph = g; world = old } in new ≡ elaborated_world (with_new_entries_at u w) (listed_world u))
 merged_is rule g w old new there is =
     let u : Upgrade = record { rule = rule; graph = g; world = old } in
     let now = subst (λ (x : Graph). slice_get x.worlds w ≡ Some new) (rewritten_is rule g w old there) is in
-    let at = at_map (elaborated_world (relisted_at u w)) (slice_set g.worlds w (listed_world u)) w (listed_world u) (slice_get-set g.worlds w old (listed_world u) there) in
-    some_same new (elaborated_world (relisted_at u w) (listed_world u)) (sym now ∙ at)
+    let at = at_map (elaborated_world (with_new_entries_at u w)) (slice_set g.worlds w (listed_world u)) w (listed_world u) (slice_get-set g.worlds w old (listed_world u) there) in
+    some_same new (elaborated_world (with_new_entries_at u w) (listed_world u)) (sym now ∙ at)

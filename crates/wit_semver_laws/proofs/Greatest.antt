@@ -14,8 +14,8 @@ use Rattle.wit_data.specs.facts.PackageNameFacts.{same_package-Decides}
 use Rattle.wit_data.specs.PackageOrder.{same_package}
 use Rattle.wit_data.specs.declared.track.TrackRule.{TrackRule}
 use Rattle.wit_elaboration.proofs.Filters.{Contains-filter, Contains-filtered}
-use Rattle.wit_semver_spec.specs.Tracks.{Versioned, are_on_one_track, both, have_one_track, is_below, is_outdone_by, track_key, versioned}
-use Rattle.wit_semver_spec.specs.Upgrade.{Upgrade, first_or, imported, is_replaced, newest, staying_on_track}
+use Rattle.wit_semver_spec.specs.Tracks.{Versioned, are_on_one_track, both, have_one_track, is_below, is_older_than, track_key, versioned}
+use Rattle.wit_semver_spec.specs.Upgrade.{Upgrade, first_or, imported, is_replaced, kept_on_track, newest}
 use Rattle.wit_semver_laws.specs.laws.TrackLaws.{IsGreatest}
 
 -- ---- tests
@@ -90,9 +90,9 @@ lt_is Equal on = cc
 lt_is Greater on = cc
 
 own_reverse : (o : Ordering) → o ≡ ordering_reverse o → o ≡ Less → ⊥
-own_reverse Less turned less = cc
-own_reverse Equal turned less = cc
-own_reverse Greater turned less = cc
+own_reverse Less transformed less = cc
+own_reverse Equal transformed less = cc
+own_reverse Greater transformed less = cc
 
 pub below_trans : (a b c : Versioned) → is_below a b ≡ true → is_below b c ≡ true → is_below a c ≡ true
 below_trans a b c first second =
@@ -134,7 +134,7 @@ module _ (u : Upgrade) where
   on_track = are_on_one_track u.rule u.graph.packages u.graph.interfaces
 
   abbrev outdone : ℕ → ℕ → Bool
-  outdone = is_outdone_by u.rule u.graph.packages u.graph.interfaces
+  outdone = is_older_than u.rule u.graph.packages u.graph.interfaces
 
   abbrev test : Versioned → Versioned → Bool
   test v w = have_one_track u.rule v w && is_below v w
@@ -205,9 +205,9 @@ module _ (u : Upgrade) where
   pub newest_stays : (f : ℕ) → is_replaced u f ≡ true → StaysOnTrack f (newest u f)
   newest_stays f replaced =
       let some = one_stays f replaced in
-      let there : Contains (staying_on_track u f) some.0 =
+      let there : Contains (kept_on_track u f) some.0 =
       Contains-filtered (stays_test f) (imported u) some.0 some.1.is_imported (both_true (on_track f some.0) (not (is_replaced u some.0)) some.1.on (not_from_false (is_replaced u some.0) some.1.stays)) in
-      let first = Contains-filter (stays_test f) (imported u) (newest u f) (first_among f some.0 (staying_on_track u f) there) in
+      let first = Contains-filter (stays_test f) (imported u) (newest u f) (first_among f some.0 (kept_on_track u f) there) in
       let parts = and_parts (on_track f (newest u f)) (not (is_replaced u (newest u f))) first.1 in
       record { is_imported = first.0; on = parts.0; stays = not-true (is_replaced u (newest u f)) parts.1 }
 

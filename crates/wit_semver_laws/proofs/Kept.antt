@@ -12,11 +12,11 @@ use Rattle.wit_graph_data.specs.declared.graph.Graph.{Graph}
 use Rattle.wit_graph_theory.specs.facts.ListFacts.{at_map, found_at, same_at, some_at}
 use Rattle.wit_graph_theory.specs.AllElaborated.{all_elaborated, elaborated_world}
 use Rattle.wit_values.specs.facts.Lists.{kept-cases, slice_get-set}
-use Rattle.wit_semver_spec.specs.Rewritten.{listed_world, name_of, new_target, relisted_at, retargeted, rewritten_types, target_name}
-use Rattle.wit_semver_spec.specs.laws.Staying.{SameButLists, SameButTarget}
+use Rattle.wit_semver_spec.specs.Rewritten.{listed_world, name_of, new_target, retargeted, rewritten_types, target_name, with_new_entries_at}
+use Rattle.wit_semver_spec.specs.laws.Unchanged.{SameButLists, SameButTarget}
 use Rattle.wit_semver_spec.specs.Upgrade.{Upgrade, newest}
 use Rattle.wit_semver_laws.specs.laws.TrackLaws.{AliasesKeepNames, KeepsThings, RewrittenKeep}
-use Rattle.wit_semver_laws.proofs.TypesAfter.{after, retargeted_name, turned_from, turned_type, type_after, type_into}
+use Rattle.wit_semver_laws.proofs.TypesAfter.{after, retargeted_name, transformed_from, transformed_type, type_after, type_into}
 
 some_of : {X Y : Type 0} (f : X → Option Y) (o : Option X) (y : Y) → option_and_then f o ≡ Some y → IsSome o
 some_of f None y is = cc
@@ -34,27 +34,27 @@ elaborated_at g v world listed at same =
     (ap (λ (x : World). record x { imports = (elaborated_world g listed).imports; exports = (elaborated_world g listed).exports }) same)
 
 module _ (u : Upgrade) (w : ℕ) (there : slice_get u.graph.worlds w ≡ Some u.world) where
-  worlds_kept : EachAt (λ v (world : World). SomeAt (all_elaborated (relisted_at u w)).worlds v (SameButLists world)) u.graph.worlds
+  worlds_kept : EachAt (λ v (world : World). SomeAt (all_elaborated (with_new_entries_at u w)).worlds v (SameButLists world)) u.graph.worlds
   worlds_kept v world at =
       elim (kept-cases u.graph.worlds w (listed_world u) v world at) [
         | inl same ↦
             let one : world ≡ u.world = same_at u.graph.worlds v w world u.world same at there in
-            let listed : slice_get (relisted_at u w).worlds v ≡ Some (listed_world u) =
-            ap (slice_get (relisted_at u w).worlds) same ∙ slice_get-set u.graph.worlds w u.world (listed_world u) there in
-            elaborated_at (relisted_at u w) v world (listed_world u) listed
+            let listed : slice_get (with_new_entries_at u w).worlds v ≡ Some (listed_world u) =
+            ap (slice_get (with_new_entries_at u w).worlds) same ∙ slice_get-set u.graph.worlds w u.world (listed_world u) there in
+            elaborated_at (with_new_entries_at u w) v world (listed_world u) listed
             (ap (λ (x : World). record x { imports = (listed_world u).imports; exports = (listed_world u).exports }) (sym one))
-        | inr stays ↦ elaborated_at (relisted_at u w) v world world stays refl
+        | inr stays ↦ elaborated_at (with_new_entries_at u w) v world world stays refl
       ]
 
 -- ---- types
 
 module _ (u : Upgrade) where
-  -- what is turned was an alias, and is one
+  -- what is transformed was an alias, and is one
   same_but : (t : ℕ) (def : TypeDef) (o : Option ℕ) → new_target u t def ≡ o → SameButTarget def (retargeted def o)
   same_but t def None is = (refl, inl refl)
   same_but t def (Some t') is =
-      let turned = turned_from u t def t' is in
-      (refl, inr (some_of (name_of u.graph.types) (alias_target def.kind) turned.name turned.named, refl))
+      let transformed = transformed_from u t def t' is in
+      (refl, inr (some_of (name_of u.graph.types) (alias_target def.kind) transformed.name transformed.named, refl))
 
   types_kept : EachAt (λ t (def : TypeDef). SomeAt (rewritten_types u) t (SameButTarget def)) u.graph.types
   types_kept t def at = some_at (SameButTarget def) (rewritten_types u) t (after u t def) (type_into u t def at) (same_but t def (new_target u t def) refl)
@@ -64,7 +64,7 @@ module _ (u : Upgrade) where
 pub rewritten_keep : RewrittenKeep
 rewritten_keep rule g w = by (slice_get g.worlds w) refl
   where
-    by : (o : Option World) → slice_get g.worlds w ≡ o → KeepsThings g (all_elaborated (option_map_or (λ (world : World). relisted_at (upgrade rule g world) w) o g))
+    by : (o : Option World) → slice_get g.worlds w ≡ o → KeepsThings g (all_elaborated (option_map_or (λ (world : World). with_new_entries_at (upgrade rule g world) w) o g))
     by None none = record {
       types = λ t def at. some_at (SameButTarget def) g.types t def at (refl, inl refl);
       interfaces = refl;
@@ -103,16 +103,16 @@ module _ (u : Upgrade) where
       by None = refl
       by (Some s) = names_kept s
   target_kept valid t def (Some t') is =
-      let turned = turned_from u t def t' is in
-      let named = found_at (λ (x : TypeDef). (x.name ≡ Some turned.name) × (x.owner ≡ owner.Interface (newest u turned.f))) u.graph.types t' (turned_type u valid t def t' turned) in
-      names_kept t' ∙ ap (λ (o : Option TypeDef). option_and_then (λ (d : TypeDef). d.name) o) named.1 ∙ named.2.0 ∙ sym turned.named
+      let transformed = transformed_from u t def t' is in
+      let named = found_at (λ (x : TypeDef). (x.name ≡ Some transformed.name) × (x.owner ≡ owner.Interface (newest u transformed.f))) u.graph.types t' (transformed_type u valid t def t' transformed) in
+      names_kept t' ∙ ap (λ (o : Option TypeDef). option_and_then (λ (d : TypeDef). d.name) o) named.1 ∙ named.2.0 ∙ sym transformed.named
 
 pub aliases_keep_names : AliasesKeepNames
 aliases_keep_names rule g w valid = by (slice_get g.worlds w)
   where
     by : (o : Option World) → EachAt (λ t (def : TypeDef).
-        SomeAt (all_elaborated (option_map_or (λ (world : World). relisted_at (upgrade rule g world) w) o g)).types t
-        (λ (new : TypeDef). target_name (all_elaborated (option_map_or (λ (world : World). relisted_at (upgrade rule g world) w) o g)).types new ≡ target_name g.types def)) g.types
+        SomeAt (all_elaborated (option_map_or (λ (world : World). with_new_entries_at (upgrade rule g world) w) o g)).types t
+        (λ (new : TypeDef). target_name (all_elaborated (option_map_or (λ (world : World). with_new_entries_at (upgrade rule g world) w) o g)).types new ≡ target_name g.types def)) g.types
     by None t def at = some_at (λ (new : TypeDef). target_name g.types new ≡ target_name g.types def) g.types t def at refl
     by (Some world) t def at =
         let u = upgrade rule g world in

@@ -28,7 +28,7 @@ use Rattle.wit_graph_theory.specs.facts.ListFacts.{Contains-map, from_row, in_ro
 use Rattle.wit_graph_theory.specs.facts.OptionFacts.{some_same}
 use Rattle.wit_graph_theory.specs.laws.PackageCycles.{ListsKey, ListsUses}
 use Rattle.wit_graph_theory.specs.facts.PackagesAcyclic.{is_there}
-use Rattle.wit_semver_spec.specs.Rewritten.{entry_types, following, is_replaced_entry, listed_world, rewritten_types, staying, types_of}
+use Rattle.wit_semver_spec.specs.Rewritten.{entry_types, is_replaced_entry, kept_imports, listed_world, rewritable_types, rewritten_types, types_of}
 use Rattle.wit_semver_spec.specs.TrackCause.{IsComplete}
 use Rattle.wit_semver_spec.specs.Upgrade.{Upgrade, imported, is_replaced, newest}
 use Rattle.wit_semver_laws.proofs.Greatest.{both_true, newest_stays}
@@ -109,7 +109,7 @@ module _ (least : ImportsAreLeast) (u : Upgrade) (valid : IsValid u.graph) (w : 
 
   -- ---- the imports that stay
 
-  staying_from : (e : Entry) → Contains (staying u) e → Contains old.imports e × (is_replaced_entry u e ≡ false)
+  staying_from : (e : Entry) → Contains (kept_imports u) e → Contains old.imports e × (is_replaced_entry u e ≡ false)
   staying_from e has =
       let parts = Contains-filter (λ (e : Entry). not (is_replaced_entry u e)) old.imports e has in
       (parts.0, not-true (is_replaced_entry u e) parts.1)
@@ -123,13 +123,13 @@ module _ (least : ImportsAreLeast) (u : Upgrade) (valid : IsValid u.graph) (w : 
       or_false false = refl
 
   -- its keys are those that are kept
-  pub kept_from : (j : ℕ) → Contains (keyed_interfaces (staying u)) j → IsKept j
+  pub kept_from : (j : ℕ) → Contains (keyed_interfaces (kept_imports u)) j → IsKept j
   kept_from j has =
-      let entry = key_entry (staying u) j has in
+      let entry = key_entry (kept_imports u) j has in
       let parts = staying_from entry.0 entry.1 in
       record { was = key_into old.imports entry.0 j parts.0 entry.2; stays = sym (key_replaced entry.0.0 j entry.2) ∙ parts.1 }
 
-  pub kept_into : (j : ℕ) → IsKept j → (e : Entry) × Contains (staying u) e × (e.0 ≡ key.Interface j)
+  pub kept_into : (j : ℕ) → IsKept j → (e : Entry) × Contains (kept_imports u) e × (e.0 ≡ key.Interface j)
   kept_into j kept =
       let entry = key_entry old.imports j kept.was in
       let off : is_replaced_entry u entry.0 ≡ false = key_replaced entry.0.0 j entry.2 ∙ kept.stays in
@@ -141,21 +141,21 @@ module _ (least : ImportsAreLeast) (u : Upgrade) (valid : IsValid u.graph) (w : 
   -- ---- what follows needs what is kept
 
   -- the types of the interface that an entry of the lists holds follow
-  follows : (e : Entry) (i : ℕ) (interface : Interface) (t : ℕ) → Contains (staying u ++ old.exports) e → Contains (item_interface e.1) i → slice_get u.graph.interfaces i ≡ Some interface → Contains (types_of interface) t → Contains (following u) t
+  follows : (e : Entry) (i : ℕ) (interface : Interface) (t : ℕ) → Contains (kept_imports u ++ old.exports) e → Contains (item_interface e.1) i → slice_get u.graph.interfaces i ≡ Some interface → Contains (types_of interface) t → Contains (rewritable_types u) t
   follows e i interface t has holds_i at listed =
-      Contains-flat_map (entry_types u.graph.interfaces) (staying u ++ old.exports) e t has (types_in u.graph.interfaces e.0 e.1 i interface t holds_i at listed)
+      Contains-flat_map (entry_types u.graph.interfaces) (kept_imports u ++ old.exports) e t has (types_in u.graph.interfaces e.0 e.1 i interface t holds_i at listed)
 
   -- what a type that follows needs is kept, where what it needed was imported
-  kept_dep : (t j : ℕ) → Contains (following u) t → type_interface_dep (rewritten_types u) t ≡ Some j → ((f : ℕ) → type_interface_dep u.graph.types t ≡ Some f → Contains (imported u) f) → IsKept j
+  kept_dep : (t j : ℕ) → Contains (rewritable_types u) t → type_interface_dep (rewritten_types u) t ≡ Some j → ((f : ℕ) → type_interface_dep u.graph.types t ≡ Some f → Contains (imported u) f) → IsKept j
   kept_dep t j has dep was =
       let needs = needs_after u valid complete t j dep in
       elim needs.is [
         | inl same ↦
             let imported_f = was needs.f needs.needed in
             let stays : is_replaced u needs.f ≡ false =
-            elim (cases_Bool (is_replaced u needs.f)) [ inl on ↦ absurd (same.1 on (any_from_contains t (following u) has)) | inr off ↦ off ] in
+            elim (cases_Bool (is_replaced u needs.f)) [ inl on ↦ absurd (same.1 on (any_from_contains t (rewritable_types u) has)) | inr off ↦ off ] in
             record { was = subst (Contains (imported u)) (sym same.0) imported_f; stays = subst (λ (x : ℕ). is_replaced u x ≡ false) (sym same.0) stays }
-        | inr turned ↦ subst IsKept (sym turned.2) (newest_kept needs.f turned.0)
+        | inr transformed ↦ subst IsKept (sym transformed.2) (newest_kept needs.f transformed.0)
       ]
 
   -- the edge of an interface, by the type that makes it
@@ -180,10 +180,10 @@ module _ (least : ImportsAreLeast) (u : Upgrade) (valid : IsValid u.graph) (w : 
         before = λ f dep. in_row (interface_uses u.graph.types) u.graph.interfaces i from.0 f from.1 (filter_map_into (λ (e : List ℕ × ℕ). type_interface_dep u.graph.types e.1) from.0.types e.0 f e.1 dep);
       }
 
-  import_uses : (e : Entry) (i j : ℕ) → Contains (staying u) e → Contains (item_interface e.1) i → Contains (direct new_rows i) j → ((f : ℕ) → Contains (direct rows i) f → Contains (imported u) f) → IsKept j
+  import_uses : (e : Entry) (i j : ℕ) → Contains (kept_imports u) e → Contains (item_interface e.1) i → Contains (direct new_rows i) j → ((f : ℕ) → Contains (direct rows i) f → Contains (imported u) f) → IsKept j
   import_uses e i j has holds_i edge was =
       let of = edge_of i j edge in
-      kept_dep of.t j (follows e i of.interface of.t (Contains-append_left (staying u) old.exports e has) holds_i of.at of.listed) of.dep (λ f dep. was f (of.before f dep))
+      kept_dep of.t j (follows e i of.interface of.t (Contains-append_left (kept_imports u) old.exports e has) holds_i of.at of.listed) of.dep (λ f dep. was f (of.before f dep))
 
   root_into : (e : Entry) (r : ℕ) → Contains old.imports e → Contains (roots_of rows e.0 (role_of u.graph.types e.1)) r → Contains (imported u) r
   root_into e r has root = holds.roots r (Contains-flat_map (λ (e : Entry). roots_of rows e.0 (role_of u.graph.types e.1)) old.imports e r has root)
@@ -194,17 +194,17 @@ module _ (least : ImportsAreLeast) (u : Upgrade) (valid : IsValid u.graph) (w : 
       import_uses_imported least u.graph.types u.graph.interfaces valid.well_formed.references.aliases valid.no_cycles.uses w old (valid.well_formed.worlds.imports w old there)
       (valid.well_formed.worlds.exports w old there) (valid.canonical w old there) e i f has (instance_interface u.graph.types e.1 i holds_i) edge
 
-  kept_roots : (r : ℕ) → Contains (flat_map (λ (e : Entry). roots_of new_rows e.0 (role_of (rewritten_types u) e.1)) (staying u)) r → IsKept r
+  kept_roots : (r : ℕ) → Contains (flat_map (λ (e : Entry). roots_of new_rows e.0 (role_of (rewritten_types u) e.1)) (kept_imports u)) r → IsKept r
   kept_roots r has =
-      let e = Contains-flat_map_cases (λ (e : Entry). roots_of new_rows e.0 (role_of (rewritten_types u) e.1)) (staying u) r has in
+      let e = Contains-flat_map_cases (λ (e : Entry). roots_of new_rows e.0 (role_of (rewritten_types u) e.1)) (kept_imports u) r has in
       let before = staying_from e.0 e.1.0 in
       by e.0 e.1.0 before.0 (begins u.graph.interfaces u.graph.types w new_rows e.0.0 e.0.1 r (rewritten_types u) (import_is e.0 before.0) e.1.1)
     where
-      by : (e : Entry) → Contains (staying u) e → Contains old.imports e → Begins (rewritten_types u) new_rows e.0 e.1 r → IsKept r
-      by e among listed (at_key is) = kept_from r (key_into (staying u) e r among is)
+      by : (e : Entry) → Contains (kept_imports u) e → Contains old.imports e → Begins (rewritten_types u) new_rows e.0 e.1 r → IsKept r
+      by e among listed (at_key is) = kept_from r (key_into (kept_imports u) e r among is)
       by e among listed (at_use i holds_i edge) = import_uses e i r among holds_i edge (λ f before. uses_imported e i f listed holds_i before)
       by e among listed (at_type t span is dep) =
-          kept_dep t r (Contains-flat_map (entry_types u.graph.interfaces) (staying u ++ old.exports) e t (Contains-append_left (staying u) old.exports e among) (own_type u.graph.interfaces e.0 e.1 t span is)) dep
+          kept_dep t r (Contains-flat_map (entry_types u.graph.interfaces) (kept_imports u ++ old.exports) e t (Contains-append_left (kept_imports u) old.exports e among) (own_type u.graph.interfaces e.0 e.1 t span is)) dep
           (λ f before. root_into e f listed (subst (λ (held : WorldItem). Contains (roots_of rows e.0 (role_of u.graph.types held)) f) (sym is) (type_root_into rows (type_interface_dep u.graph.types t) e.0 f before)))
 
   kept_closed : (i j : ℕ) → IsKept i → Contains (direct new_rows i) j → IsKept j
@@ -222,7 +222,7 @@ module _ (least : ImportsAreLeast) (u : Upgrade) (valid : IsValid u.graph) (w : 
   needed_kept j need =
       let e = Contains-flat_map_cases (λ (e : Entry). item_interface e.1) old.exports need.0 need.2 in
       let of = edge_of need.0 need.1 need.3 in
-      let follow = follows e.0 need.0 of.interface of.t (Contains-append_right (staying u) old.exports e.0 e.1.0) e.1.1 of.at of.listed in
+      let follow = follows e.0 need.0 of.interface of.t (Contains-append_right (kept_imports u) old.exports e.0 e.1.0) e.1.1 of.at of.listed in
       let needs = needs_after u valid complete of.t need.1 of.dep in
       let first : IsKept need.1 = elim needs.is [
         | inl same ↦
@@ -230,7 +230,7 @@ module _ (least : ImportsAreLeast) (u : Upgrade) (valid : IsValid u.graph) (w : 
             let one : f ≡ needs.f = some_same f needs.f (sym dep ∙ needs.needed) in
             let place : f ≡ need.1 = one ∙ sym same.0 in
             subst (Contains (imported u)) (sym place) (holds.needed need.1 (need.0, need.1, need.2, subst (λ (x : ℕ). Contains (direct rows need.0) x) place (of.before f dep), need.4, ([], refl))))
-        | inr turned ↦ subst IsKept (sym turned.2) (newest_kept needs.f turned.0)
+        | inr transformed ↦ subst IsKept (sym transformed.2) (newest_kept needs.f transformed.0)
       ] in
       reached_kept need.1 need.5.0 j first need.5.1
 
@@ -247,7 +247,7 @@ module _ (least : ImportsAreLeast) (u : Upgrade) (valid : IsValid u.graph) (w : 
       record { was = contains_from_any j (imported u) parts.0; stays = not-true (is_replaced u j) parts.1 }
 
   -- the kept imports hold what the listed world needs
-  pub kept_holds : HoldsImports (rewritten_types u) new_rows (staying u) old.exports (λ i. kept_test i ≡ true)
+  pub kept_holds : HoldsImports (rewritten_types u) new_rows (kept_imports u) old.exports (λ i. kept_test i ≡ true)
   kept_holds = record {
     roots = λ r has. passes r (kept_roots r has);
     needed = λ j need. passes j (needed_kept j need);
@@ -255,16 +255,16 @@ module _ (least : ImportsAreLeast) (u : Upgrade) (valid : IsValid u.graph) (w : 
   }
 
   -- each of them is where an import begins
-  pub kept_root : (j : ℕ) → IsKept j → Contains (flat_map (λ (e : Entry). roots_of new_rows e.0 (role_of (rewritten_types u) e.1)) (staying u)) j
+  pub kept_root : (j : ℕ) → IsKept j → Contains (flat_map (λ (e : Entry). roots_of new_rows e.0 (role_of (rewritten_types u) e.1)) (kept_imports u)) j
   kept_root j kept =
       let entry = kept_into j kept in
       let before = staying_from entry.0 entry.1 in
-      Contains-flat_map (λ (e : Entry). roots_of new_rows e.0 (role_of (rewritten_types u) e.1)) (staying u) entry.0 j entry.1
+      Contains-flat_map (λ (e : Entry). roots_of new_rows e.0 (role_of (rewritten_types u) e.1)) (kept_imports u) entry.0 j entry.1
       (key_root u.graph.interfaces u.graph.types (rewritten_types u) new_rows w entry.0.0 entry.0.1 j entry.2 (import_is entry.0 before.0))
 
   -- what the interfaces of the listed world use it lists
-  kept_key : (j : ℕ) → IsKept j → Contains (keyed_interfaces (staying u)) j
-  kept_key j kept = let entry = kept_into j kept in key_into (staying u) entry.0 j entry.1 entry.2
+  kept_key : (j : ℕ) → IsKept j → Contains (keyed_interfaces (kept_imports u)) j
+  kept_key j kept = let entry = kept_into j kept in key_into (kept_imports u) entry.0 j entry.1 entry.2
 
   pub named_lists_uses : ListsUses u.graph.interfaces new_rows (listed_world u)
   named_lists_uses = record {

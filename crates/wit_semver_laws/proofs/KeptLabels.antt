@@ -14,8 +14,8 @@ use Rattle.wit_data.specs.declared.world.WorldItem.TheVariants as item
 use Rattle.wit_data.specs.declared.world.WorldKey.{WorldKey}
 use Rattle.wit_data.specs.declared.world.WorldKey.TheVariants as key
 use Rattle.wit_elaboration.proofs.Filters.{Contains-filter, filter-all, filter-fail, filter-flat_map, filter-pass, filter-same}
-use Rattle.wit_elaboration.specs.Entries.{Entry, by_class, class_of, of_class, role_of, type_role}
-use Rattle.wit_elaboration.specs.laws.KeptByElaboration.{is_label, labelled, settled}
+use Rattle.wit_elaboration.specs.Entries.{Entry, by_class, elaboration_class, of_class, role_of, type_role}
+use Rattle.wit_elaboration.specs.laws.KeptByElaboration.{is_label, labelled, listed_without_span}
 use Rattle.wit_elaboration.specs.facts.SoundFacts.{lists_in_order}
 use Rattle.wit_elaboration.specs.Valid.{IsValid}
 use Rattle.wit_graph_data.specs.declared.graph.Graph.{Graph}
@@ -25,13 +25,13 @@ use Rattle.wit_graph_theory.specs.facts.ListFacts.{found_at, place_of, same_at}
 use Rattle.wit_graph_theory.specs.AllElaborated.{elaborated_world}
 use Rattle.wit_graph_theory.specs.facts.LawsOfElaboration.{LawsOfElaboration}
 use Rattle.wit_graph_theory.specs.facts.OptionFacts.{option_cases}
-use Rattle.wit_semver_spec.specs.Rewritten.{is_replaced_entry, listed_world, new_target, relisted_at, retargeted, rewritten_types, staying}
+use Rattle.wit_semver_spec.specs.Rewritten.{is_replaced_entry, kept_imports, listed_world, new_target, retargeted, rewritten_types, with_new_entries_at}
 use Rattle.wit_semver_spec.specs.TrackCause.{IsComplete}
 use Rattle.wit_semver_spec.specs.Upgrade.{Upgrade, newest}
 use Rattle.wit_semver_laws.proofs.Accepting.{complete, elaborates, in_order, listed_there, new_types, new_uses, uses_acyclic}
 use Rattle.wit_semver_laws.proofs.Merged.{is_done}
-use Rattle.wit_semver_laws.proofs.TypesAfter.{after, needs_after, retargeted_owner, turned_from, turned_type, type_into}
-use Rattle.wit_semver_laws.specs.laws.TrackLaws.{IsMerged}
+use Rattle.wit_semver_laws.proofs.TypesAfter.{after, needs_after, retargeted_owner, transformed_from, transformed_type, type_into}
+use Rattle.wit_semver_laws.specs.laws.TrackLaws.{IsSemverMerged}
 
 -- ---- lists
 
@@ -60,17 +60,17 @@ class_labels : (types : List TypeDef) (es : List Entry) → labelled (by_class t
 class_labels types es =
     filter-flat_map has_label (λ c. of_class types c es) (0 ∷ 1 ∷ 2 ∷ 3 ∷ 4 ∷ [])
     ∙ flat_map-same (λ c. labelled (of_class types c es)) (λ c. of_class types c (labelled es)) (0 ∷ 1 ∷ 2 ∷ 3 ∷ 4 ∷ [])
-    (λ c among. filter-filter has_label (λ (e : Entry). nat_eq (class_of (role_of types e.1)) c) es)
+    (λ c among. filter-filter has_label (λ (e : Entry). nat_eq (elaboration_class (role_of types e.1)) c) es)
 
 -- entries of the same classes are sorted the same
-same_classes : (old new : List TypeDef) (es : List Entry) → ((e : Entry) → Contains es e → class_of (role_of new e.1) ≡ class_of (role_of old e.1)) → by_class new es ≡ by_class old es
+same_classes : (old new : List TypeDef) (es : List Entry) → ((e : Entry) → Contains es e → elaboration_class (role_of new e.1) ≡ elaboration_class (role_of old e.1)) → by_class new es ≡ by_class old es
 same_classes old new es same =
     flat_map-same (λ c. of_class new c es) (λ c. of_class old c es) (0 ∷ 1 ∷ 2 ∷ 3 ∷ 4 ∷ [])
-    (λ c among. filter-same (λ (e : Entry). nat_eq (class_of (role_of new e.1)) c) (λ (e : Entry). nat_eq (class_of (role_of old e.1)) c) es (λ e has. ap (λ (n : ℕ). nat_eq n c) (same e has)))
+    (λ c among. filter-same (λ (e : Entry). nat_eq (elaboration_class (role_of new e.1)) c) (λ (e : Entry). nat_eq (elaboration_class (role_of old e.1)) c) es (λ e has. ap (λ (n : ℕ). nat_eq n c) (same e has)))
 
 -- ---- a type of a world that uses an interface uses one still
 
-both_or_none : (new old : Option ℕ) → ((j : ℕ) → new ≡ Some j → (f : ℕ) × (old ≡ Some f)) → ((f : ℕ) → old ≡ Some f → (j : ℕ) × (new ≡ Some j)) → class_of (type_role new) ≡ class_of (type_role old)
+both_or_none : (new old : Option ℕ) → ((j : ℕ) → new ≡ Some j → (f : ℕ) × (old ≡ Some f)) → ((f : ℕ) → old ≡ Some f → (j : ℕ) × (new ≡ Some j)) → elaboration_class (type_role new) ≡ elaboration_class (type_role old)
 both_or_none None None back there = refl
 both_or_none (Some j) (Some f) back there = refl
 both_or_none None (Some f) back there = let some = there f refl in let no = some.1 in cc
@@ -104,12 +104,12 @@ module _ (u : Upgrade) (valid : IsValid u.graph) (complete : IsComplete u) (w : 
               }),
             )
         | inr some ↦
-            let turned = turned_from u t needs.alias some.0 some.1 in
-            let found = found_at (λ (named : TypeDef). (named.name ≡ Some turned.name) × (named.owner ≡ owner.Interface (newest u turned.f))) types some.0 (turned_type u valid t needs.alias some.0 turned) in
+            let transformed = transformed_from u t needs.alias some.0 some.1 in
+            let found = found_at (λ (named : TypeDef). (named.name ≡ Some transformed.name) × (named.owner ≡ owner.Interface (newest u transformed.f))) types some.0 (transformed_type u valid t needs.alias some.0 transformed) in
             let own : (after u t needs.alias).owner ≡ owner.World w = retargeted_owner needs.alias (new_target u t needs.alias) ∙ mine in
-            let of : (after u some.0 found.0).owner ≡ owner.Interface (newest u turned.f) = retargeted_owner found.0 (new_target u some.0 found.0) ∙ found.2.1 in (
-              newest u turned.f,
-              needs_into (rewritten_types u) t (newest u turned.f) (record {
+            let of : (after u some.0 found.0).owner ≡ owner.Interface (newest u transformed.f) = retargeted_owner found.0 (new_target u some.0 found.0) ∙ found.2.1 in (
+              newest u transformed.f,
+              needs_into (rewritten_types u) t (newest u transformed.f) (record {
                 alias = after u t needs.alias;
                 there = type_into u t needs.alias needs.there;
                 target = some.0;
@@ -121,7 +121,7 @@ module _ (u : Upgrade) (valid : IsValid u.graph) (complete : IsComplete u) (w : 
             )
       ]
 
-  class_still : (k : WorldKey) (held : WorldItem) → is_label k ≡ true → IsImport u.graph.interfaces types w k held → class_of (role_of (rewritten_types u) held) ≡ class_of (role_of types held)
+  class_still : (k : WorldKey) (held : WorldItem) → is_label k ≡ true → IsImport u.graph.interfaces types w k held → elaboration_class (role_of (rewritten_types u) held) ≡ elaboration_class (role_of types held)
   class_still (key.Name name) (item.Type_ t span) label is =
       both_or_none (type_interface_dep (rewritten_types u) t) (type_interface_dep types t) (λ j dep. let needs = needs_after u valid complete t j dep in (needs.f, needs.needed)) (uses_still t name is)
   class_still (key.Name name) (item.Interface i stability docs span external_id) label is = refl
@@ -134,7 +134,7 @@ kept_label : (u : Upgrade) (k : WorldKey) (held : WorldItem) → is_label k ≡ 
 kept_label u (key.Name name) held label = refl
 kept_label u (key.Interface i) held label = cc
 
-module _ (laws : LawsOfElaboration) (rule : TrackRule) (g : Graph) (w : ℕ) (old new : World) (merged : IsMerged rule g w old new) where
+module _ (laws : LawsOfElaboration) (rule : TrackRule) (g : Graph) (w : ℕ) (old new : World) (merged : IsSemverMerged rule g w old new) where
   abbrev u : Upgrade
   u = record { rule = rule; graph = g; world = old }
 
@@ -149,18 +149,18 @@ module _ (laws : LawsOfElaboration) (rule : TrackRule) (g : Graph) (w : ℕ) (ol
       let place = place_of old.imports e parts.0 in
       class_still u merged.valid (complete u merged.valid w merged.there merged.accepted) w e.0 e.1 parts.1 (merged.valid.well_formed.worlds.imports w old merged.there place.0 e place.1))
 
-  staying_labels : labelled (staying u) ≡ labelled old.imports
+  staying_labels : labelled (kept_imports u) ≡ labelled old.imports
   staying_labels = filter-among has_label (λ (e : Entry). not (is_replaced_entry u e)) old.imports (λ e label. kept_label u e.0 e.1 label)
 
-  new_labels : labelled new.imports ≡ map settled (labelled (by_class now (staying u)))
+  new_labels : labelled new.imports ≡ map listed_without_span (labelled (by_class now (kept_imports u)))
   new_labels =
       ap (λ (x : World). labelled x.imports) (is_done laws rule g w old new merged)
-      ∙ laws.labels (new_types u merged.valid w merged.there) (new_uses u merged.valid w merged.there) (listed_world u) (elaborated_world (relisted_at u w) (listed_world u)) (uses_acyclic u merged.valid w merged.there merged.accepted)
+      ∙ laws.labels (new_types u merged.valid w merged.there) (new_uses u merged.valid w merged.there) (listed_world u) (elaborated_world (with_new_entries_at u w) (listed_world u)) (uses_acyclic u merged.valid w merged.there merged.accepted)
       (in_order u merged.valid w merged.there w (listed_world u) (listed_there u merged.valid w merged.there))
       (distinct_kept (λ (e : Entry). not (is_replaced_entry u e)) old.imports (merged.valid.well_formed.worlds.distinct_imports w old merged.there))
       (elaborates u merged.valid w merged.there merged.accepted laws.refused w (listed_world u) (listed_there u merged.valid w merged.there))
 
-  old_labels : labelled old.imports ≡ map settled (labelled (by_class g.types old.imports))
+  old_labels : labelled old.imports ≡ map listed_without_span (labelled (by_class g.types old.imports))
   old_labels =
       laws.labels g.types (uses_of g.types g.interfaces) old old merged.valid.no_cycles.uses
       (lists_in_order g.types g.interfaces merged.valid.well_formed.references.aliases w old (merged.valid.well_formed.worlds.imports w old merged.there) (merged.valid.well_formed.worlds.exports w old merged.there))
@@ -168,4 +168,4 @@ module _ (laws : LawsOfElaboration) (rule : TrackRule) (g : Graph) (w : ℕ) (ol
 
   pub labels_are_kept : labelled new.imports ≡ labelled old.imports
   labels_are_kept =
-      new_labels ∙ ap (map settled) (class_labels now (staying u) ∙ ap (by_class now) staying_labels ∙ sorted_same ∙ sym (class_labels g.types old.imports)) ∙ sym old_labels
+      new_labels ∙ ap (map listed_without_span) (class_labels now (kept_imports u) ∙ ap (by_class now) staying_labels ∙ sorted_same ∙ sym (class_labels g.types old.imports)) ∙ sym old_labels

@@ -1,4 +1,4 @@
--- Each world that is listed anew lists what its interfaces without a name use: the named one, since what it keeps is
+-- Each world that has its new entries lists what its interfaces without a name use: the named one, since what it keeps is
 -- closed; each other as before, since an interface without a name stands in one world, so its types don't follow.
 use Rattle.std.proofs.Common.{◌≡◌, ◌∙◌, inl, inr, ℕ, Bool, true, false, not, List, [], ◌∷◌, ◌++◌, Some, slice_get, refl, sym, ap, subst, Contains}
 use Rattle.std.proofs.lemmas.List.Elements.{Contains-append_cases}
@@ -26,12 +26,12 @@ use Rattle.wit_graph_theory.specs.facts.Good.{HasGoodThings}
 use Rattle.wit_graph_theory.specs.facts.GoodIsValid.{good_things}
 use Rattle.wit_graph_theory.specs.facts.GoodWorlds.{import_from_export}
 use Rattle.wit_graph_theory.specs.facts.ListFacts.{Contains-map_cases, found_at, from_row, in_row, place_of, same_at}
-use Rattle.wit_graph_theory.specs.steps.OnePlace.{HasOnePlace, Holds, entries_of}
-use Rattle.wit_graph_theory.specs.facts.OnePlaceFrom.{HasOnePlace-from_once}
+use Rattle.wit_graph_theory.specs.steps.UnnamedOnce.{Holds, StandsOnceOnly, entries_of}
+use Rattle.wit_graph_theory.specs.facts.UnnamedOnceFrom.{StandsOnceOnly-from_once}
 use Rattle.wit_graph_theory.specs.laws.PackageCycles.{ListsUses}
 use Rattle.wit_graph_theory.specs.facts.PackagesAcyclic.{there_is}
-use Rattle.wit_transform.proofs.OnePlaceTurned.{set_split}
-use Rattle.wit_semver_spec.specs.Rewritten.{entry_types, following, is_replaced_entry, listed_world, rewritten_types, staying, types_of}
+use Rattle.wit_transform.proofs.UnnamedOnceTransformed.{set_split}
+use Rattle.wit_semver_spec.specs.Rewritten.{entry_types, is_replaced_entry, kept_imports, listed_world, rewritable_types, rewritten_types, types_of}
 use Rattle.wit_semver_spec.specs.TrackCause.{IsComplete}
 use Rattle.wit_semver_spec.specs.Upgrade.{Upgrade}
 use Rattle.wit_semver_laws.proofs.Accepting.{new_uses, relisted_worlds}
@@ -53,8 +53,8 @@ module _ (least : ImportsAreLeast) (u : Upgrade) (valid : IsValid u.graph) (w : 
   things : HasGoodThings u.graph
   things = good_things u.graph valid
 
-  one_place : HasOnePlace interfaces u.graph.worlds
-  one_place = HasOnePlace-from_once interfaces u.graph.worlds valid.well_formed.worlds.once
+  one_place : StandsOnceOnly interfaces u.graph.worlds
+  one_place = StandsOnceOnly-from_once interfaces u.graph.worlds valid.well_formed.worlds.once
 
   -- ---- whose types follow
 
@@ -86,10 +86,10 @@ module _ (least : ImportsAreLeast) (u : Upgrade) (valid : IsValid u.graph) (w : 
       cc
 
   -- where an interface stands whose type follows
-  follower : (f t : ℕ) → owned_by (owner.Interface f) t → Contains (following u) t → (b : Bool) × (i : ℕ) × Holds u.graph.worlds w b i f
+  follower : (f t : ℕ) → owned_by (owner.Interface f) t → Contains (rewritable_types u) t → (b : Bool) × (i : ℕ) × Holds u.graph.worlds w b i f
   follower f t owned follows =
-      let e = Contains-flat_map_cases (entry_types interfaces) (staying u ++ u.world.exports) t follows in
-      elim (Contains-append_cases (staying u) u.world.exports e.0 e.1.0) [
+      let e = Contains-flat_map_cases (entry_types interfaces) (kept_imports u ++ u.world.exports) t follows in
+      elim (Contains-append_cases (kept_imports u) u.world.exports e.0 e.1.0) [
         | inl stays ↦
             let place = place_of u.world.imports e.0 (Contains-filter (λ (e : Entry). not (is_replaced_entry u e)) u.world.imports e.0 stays).0 in
             let is = valid.well_formed.worlds.imports w u.world there place.0 e.0 place.1 in
@@ -111,9 +111,9 @@ module _ (least : ImportsAreLeast) (u : Upgrade) (valid : IsValid u.graph) (w : 
         let needs = needs_after u valid complete n.0.1 j n.2 in
         elim needs.is [
           | inl same ↦ in_row (interface_uses types) interfaces f row.0 j row.1 (filter_map_into (λ (n : List ℕ × ℕ). type_interface_dep types n.1) row.0.types n.0 j n.1 (needs.needed ∙ ap Some (sym same.0)))
-          | inr turned ↦
+          | inr transformed ↦
               let owned = interface_owns f row.0 n.0.0 n.0.1 row.1 n.1 in
-              let there_too = follower f n.0.1 owned (contains_from_any n.0.1 (following u) turned.1) in
+              let there_too = follower f n.0.1 owned (contains_from_any n.0.1 (rewritable_types u) transformed.1) in
               let place = place_of (entries_of b world) e has in
               let here : Holds u.graph.worlds v b place.0 f = record { world = world; there = at; entry = e; at = place.1; held = instance_item e.1 f holds_f } in
               absurd (elsewhere (one_place f v w b there_too.0 place.0 there_too.1 unnamed here there_too.2).0)

@@ -25,20 +25,20 @@ use Rattle.wit_graph_theory.specs.facts.ListFacts.{found_at, place_of, same_at}
 use Rattle.wit_graph_theory.specs.AllElaborated.{elaborated_world}
 use Rattle.wit_graph_theory.specs.facts.LawsOfElaboration.{LawsOfElaboration}
 use Rattle.wit_graph_theory.specs.facts.OptionFacts.{some_parts}
-use Rattle.wit_semver_spec.specs.Rewritten.{listed_world, relisted_at, rewritten}
+use Rattle.wit_semver_spec.specs.Rewritten.{listed_world, rewritten, with_new_entries_at}
 use Rattle.wit_semver_spec.specs.Tracks.{Versioned, are_on_one_track, have_one_track, is_below, versioned, versioned_in, versioned_of}
 use Rattle.wit_semver_spec.specs.Upgrade.{Upgrade, is_replaced}
 use Rattle.wit_semver_laws.proofs.Accepting.{complete, elaborates, in_order, listed_there, merged_is, new_types, new_uses, rewritten_is, uses_acyclic}
 use Rattle.wit_semver_laws.proofs.Greatest.{both_from, both_into, both_true, stays_from, track_from, track_into}
 use Rattle.wit_semver_laws.proofs.KeptKeys.{IsKept, kept_holds, kept_root, kept_test, passed}
-use Rattle.wit_semver_laws.specs.laws.TrackLaws.{IsMerged}
+use Rattle.wit_semver_laws.specs.laws.TrackLaws.{IsSemverMerged}
 
-module _ (laws : LawsOfElaboration) (rule : TrackRule) (g : Graph) (w : ℕ) (old new : World) (merged : IsMerged rule g w old new) where
+module _ (laws : LawsOfElaboration) (rule : TrackRule) (g : Graph) (w : ℕ) (old new : World) (merged : IsSemverMerged rule g w old new) where
   abbrev pub u : Upgrade
   u = record { rule = rule; graph = g; world = old }
 
   abbrev done : World
-  done = elaborated_world (relisted_at u w) (listed_world u)
+  done = elaborated_world (with_new_entries_at u w) (listed_world u)
 
   pub is_done : new ≡ done
   is_done = merged_is rule g w old new merged.there merged.is
@@ -188,7 +188,7 @@ module _ (g : Graph) (valid : IsValid g) where
           (ap (λ (n : PackageName). n.version) b.home_is ∙ b.has_version) versions in
           one_interface i j v x a b homes track.name
 
-module _ (laws : LawsOfElaboration) (rule : TrackRule) (g : Graph) (w : ℕ) (old new : World) (merged : IsMerged rule g w old new) where
+module _ (laws : LawsOfElaboration) (rule : TrackRule) (g : Graph) (w : ℕ) (old new : World) (merged : IsSemverMerged rule g w old new) where
   not_outdone : (i j : ℕ) (v x : Versioned) → Contains (keyed_interfaces new.imports) i → Contains (keyed_interfaces new.imports) j → versioned g.packages g.interfaces i ≡ Some v → versioned g.packages g.interfaces j ≡ Some x
       → have_one_track rule v x ≡ true → is_below v x ≡ true → ⊥
   not_outdone i j v x has_i has_j at_i at_j on below =

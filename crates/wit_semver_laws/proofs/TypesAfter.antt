@@ -21,7 +21,7 @@ use Rattle.wit_graph_theory.specs.facts.GoodIsValid.{good_things}
 use Rattle.wit_graph_theory.specs.facts.ListFacts.{at_map, found_at, from_map, place_of, same_at}
 use Rattle.wit_graph_theory.specs.facts.OptionFacts.{option_cases, some_by, some_parts, some_same, some_there}
 use Rattle.wit_graph_theory.specs.facts.PackagesAcyclic.{numbered_from, numbered_into}
-use Rattle.wit_semver_spec.specs.Rewritten.{following, name_of, new_target, replaced_use, retargeted, rewritten_types, target_name, type_named}
+use Rattle.wit_semver_spec.specs.Rewritten.{interface_type, name_of, new_target, replaced_use, retargeted, rewritable_types, rewritten_types, target_name}
 use Rattle.wit_semver_spec.specs.TrackCause.{IsComplete, missing_text, upgrade_message}
 use Rattle.wit_semver_spec.specs.Upgrade.{Upgrade, is_replaced, newest}
 
@@ -59,17 +59,17 @@ module _ (u : Upgrade) where
       let start : 0 + t ≡ t = omega arith in
       at_map (λ (e : ℕ × TypeDef). after e.0 e.1) (enumerate_from 0 types) t (0 + t, def) (numbered_into 0 types t def at) ∙ ap (λ (n : ℕ). Some (after n def)) start
 
-  -- ---- an alias that is turned
+  -- ---- an alias that is transformed
 
   -- type t uses the replaced interface f, and comes to name type t' of the newest
   pub record Turned (t : ℕ) (def : TypeDef) (t' : ℕ) : Type 0 where
     pub f : ℕ
-    pub follows : list_any (nat_eq t) (following u) ≡ true
+    pub follows : list_any (nat_eq t) (rewritable_types u) ≡ true
     pub uses : type_interface_dep types t ≡ Some f
     pub replaced : is_replaced u f ≡ true
     pub name : List ℕ
     pub named : target_name types def ≡ Some name
-    pub found : type_named u.graph.interfaces (newest u f) name ≡ Some t'
+    pub found : interface_type u.graph.interfaces (newest u f) name ≡ Some t'
 
   pub replaced_use_from : (t f : ℕ) → replaced_use u t ≡ Some f → (type_interface_dep types t ≡ Some f) × (is_replaced u f ≡ true)
   replaced_use_from t f is =
@@ -84,31 +84,31 @@ module _ (u : Upgrade) where
   replaced_use_into : (t f : ℕ) → type_interface_dep types t ≡ Some f → is_replaced u f ≡ true → replaced_use u t ≡ Some f
   replaced_use_into t f dep on = some_by (λ (g : ℕ). if is_replaced u g then Some g else None) (type_interface_dep types t) f dep ∙ ap (λ (b : Bool). if b then Some f else None) on
 
-  pub turned_from : (t : ℕ) (def : TypeDef) (t' : ℕ) → new_target u t def ≡ Some t' → Turned t def t'
-  turned_from t def t' is = by (list_any (nat_eq t) (following u)) refl is
+  pub transformed_from : (t : ℕ) (def : TypeDef) (t' : ℕ) → new_target u t def ≡ Some t' → Turned t def t'
+  transformed_from t def t' is = by (list_any (nat_eq t) (rewritable_types u)) refl is
     where
-      by : (b : Bool) → list_any (nat_eq t) (following u) ≡ b
-          → (if b then option_and_then (λ f. option_and_then (type_named u.graph.interfaces (newest u f)) (target_name types def)) (replaced_use u t) else None) ≡ Some t' → Turned t def t'
+      by : (b : Bool) → list_any (nat_eq t) (rewritable_types u) ≡ b
+          → (if b then option_and_then (λ f. option_and_then (interface_type u.graph.interfaces (newest u f)) (target_name types def)) (replaced_use u t) else None) ≡ Some t' → Turned t def t'
       by true on h =
-          let one = some_parts (λ f. option_and_then (type_named u.graph.interfaces (newest u f)) (target_name types def)) (replaced_use u t) t' h in
-          let two = some_parts (type_named u.graph.interfaces (newest u one.0)) (target_name types def) t' one.2 in
+          let one = some_parts (λ f. option_and_then (interface_type u.graph.interfaces (newest u f)) (target_name types def)) (replaced_use u t) t' h in
+          let two = some_parts (interface_type u.graph.interfaces (newest u one.0)) (target_name types def) t' one.2 in
           let used = replaced_use_from t one.0 one.1 in
           record { f = one.0; follows = on; uses = used.0; replaced = used.1; name = two.0; named = two.1; found = two.2 }
       by false on h = cc
 
-  pub turned_into : (t : ℕ) (def : TypeDef) (t' : ℕ) → Turned t def t' → new_target u t def ≡ Some t'
-  turned_into t def t' turned =
-      ap (λ (b : Bool). if b then option_and_then (λ f. option_and_then (type_named u.graph.interfaces (newest u f)) (target_name types def)) (replaced_use u t) else None) turned.follows
-      ∙ some_by (λ f. option_and_then (type_named u.graph.interfaces (newest u f)) (target_name types def)) (replaced_use u t) turned.f (replaced_use_into t turned.f turned.uses turned.replaced)
-      ∙ some_by (type_named u.graph.interfaces (newest u turned.f)) (target_name types def) turned.name turned.named
-      ∙ turned.found
+  pub transformed_into : (t : ℕ) (def : TypeDef) (t' : ℕ) → Turned t def t' → new_target u t def ≡ Some t'
+  transformed_into t def t' transformed =
+      ap (λ (b : Bool). if b then option_and_then (λ f. option_and_then (interface_type u.graph.interfaces (newest u f)) (target_name types def)) (replaced_use u t) else None) transformed.follows
+      ∙ some_by (λ f. option_and_then (interface_type u.graph.interfaces (newest u f)) (target_name types def)) (replaced_use u t) transformed.f (replaced_use_into t transformed.f transformed.uses transformed.replaced)
+      ∙ some_by (interface_type u.graph.interfaces (newest u transformed.f)) (target_name types def) transformed.name transformed.named
+      ∙ transformed.found
 
   module _ (valid : IsValid u.graph) where
     things : HasGoodThings u.graph
     things = good_things u.graph valid
 
     -- what is found in an interface is a type that it owns, under its name
-    found_type : (i : ℕ) (name : List ℕ) (t : ℕ) → type_named u.graph.interfaces i name ≡ Some t → SomeAt types t (λ (def : TypeDef). (def.name ≡ Some name) × (def.owner ≡ owner.Interface i))
+    found_type : (i : ℕ) (name : List ℕ) (t : ℕ) → interface_type u.graph.interfaces i name ≡ Some t → SomeAt types t (λ (def : TypeDef). (def.name ≡ Some name) × (def.owner ≡ owner.Interface i))
     found_type i name t is =
         let parts = some_parts (λ (interface : Interface). lookup (bytes_eq name) interface.types) (slice_get u.graph.interfaces i) t is in
         let has = Contains-from_lookup (λ x y. (bytes_eq-Decides x y).0) name t parts.0.types parts.2 in
@@ -116,8 +116,8 @@ module _ (u : Upgrade) where
         (things.interfaces i parts.0 parts.1).own_types place.0 (name, t) place.1
 
     -- the type that a turned alias comes to name
-    pub turned_type : (t : ℕ) (def : TypeDef) (t' : ℕ) → (turned : Turned t def t') → SomeAt types t' (λ (named : TypeDef). (named.name ≡ Some turned.name) × (named.owner ≡ owner.Interface (newest u turned.f)))
-    turned_type t def t' turned = found_type (newest u turned.f) turned.name t' turned.found
+    pub transformed_type : (t : ℕ) (def : TypeDef) (t' : ℕ) → (transformed : Turned t def t') → SomeAt types t' (λ (named : TypeDef). (named.name ≡ Some transformed.name) × (named.owner ≡ owner.Interface (newest u transformed.f)))
+    transformed_type t def t' transformed = found_type (newest u transformed.f) transformed.name t' transformed.found
 
     -- ---- which interface a type needs after it
 
@@ -125,7 +125,7 @@ module _ (u : Upgrade) where
     pub record NeedsAfter (t j : ℕ) : Type 0 where
       pub f : ℕ
       pub needed : type_interface_dep types t ≡ Some f
-      pub is : ((j ≡ f) × ((is_replaced u f ≡ true) → (list_any (nat_eq t) (following u) ≡ true) → ⊥)) ⊎ ((is_replaced u f ≡ true) × (list_any (nat_eq t) (following u) ≡ true) × (j ≡ newest u f))
+      pub is : ((j ≡ f) × ((is_replaced u f ≡ true) → (list_any (nat_eq t) (rewritable_types u) ≡ true) → ⊥)) ⊎ ((is_replaced u f ≡ true) × (list_any (nat_eq t) (rewritable_types u) ≡ true) × (j ≡ newest u f))
 
     -- the target of an alias has a name
     pub target_named : (t : ℕ) (def : TypeDef) (target : ℕ) (named : TypeDef) → slice_get types t ≡ Some def → alias_target def.kind ≡ Some target → slice_get types target ≡ Some named
@@ -147,12 +147,12 @@ module _ (u : Upgrade) where
         by false h = cc
 
     module _ (complete : IsComplete u) where
-      -- a type that follows and needs a replaced interface is turned
-      turns : (t f : ℕ) (def : TypeDef) (needs : Needs types t f) → slice_get types t ≡ Some def → needs.alias ≡ def → list_any (nat_eq t) (following u) ≡ true → Contains (following u) t → is_replaced u f ≡ true → new_target u t def ≡ None → ⊥
+      -- a type that follows and needs a replaced interface is transformed
+      turns : (t f : ℕ) (def : TypeDef) (needs : Needs types t f) → slice_get types t ≡ Some def → needs.alias ≡ def → list_any (nat_eq t) (rewritable_types u) ≡ true → Contains (rewritable_types u) t → is_replaced u f ≡ true → new_target u t def ≡ None → ⊥
       turns t f def needs at same follows has replaced none =
           let dep = needs_into types t f needs in
           let named = target_named t def needs.target needs.named at (ap (λ (d : TypeDef). alias_target d.kind) (sym same) ∙ needs.names) needs.target_there in
-          elim (option_cases (type_named u.graph.interfaces (newest u f) named.0)) [
+          elim (option_cases (interface_type u.graph.interfaces (newest u f) named.0)) [
             | inl absent ↦
                 complete (upgrade_message u f (missing_text named.0)) (record {
                   t = t;
@@ -167,9 +167,9 @@ module _ (u : Upgrade) where
                   message_is = refl;
                 })
             | inr found ↦
-                let turned : new_target u t def ≡ Some found.0 =
-                turned_into t def found.0 (record { f = f; follows = follows; uses = dep; replaced = replaced; name = named.0; named = named.1; found = found.1 }) in
-                none_some (sym none ∙ turned)
+                let transformed : new_target u t def ≡ Some found.0 =
+                transformed_into t def found.0 (record { f = f; follows = follows; uses = dep; replaced = replaced; name = named.0; named = named.1; found = found.1 }) in
+                none_some (sym none ∙ transformed)
           ]
         where
           none_some : {X : Type 0} {x : X} → None ≡ Some x → ⊥
@@ -199,13 +199,13 @@ module _ (u : Upgrade) where
                   target_there = target.1;
                   other = other;
                 } in
-                record { f = j; needed = needs_into types t j before; is = inl (refl, λ replaced follows. turns t j from.0 before from.1 refl follows (contains_from_any t (following u) follows) replaced none) }
+                record { f = j; needed = needs_into types t j before; is = inl (refl, λ replaced follows. turns t j from.0 before from.1 refl follows (contains_from_any t (rewritable_types u) follows) replaced none) }
             | inr some ↦
-                let turned = turned_from t from.0 some.0 some.1 in
+                let transformed = transformed_from t from.0 some.0 some.1 in
                 let kind_is : alias_target needs.alias.kind ≡ Some some.0 = ap (λ (d : TypeDef). alias_target d.kind) (from.2 ∙ after_is t from.0 (Some some.0) some.1) in
                 let same : needs.target ≡ some.0 = some_same needs.target some.0 (sym needs.names ∙ kind_is) in
-                let found = found_at (λ (named : TypeDef). (named.name ≡ Some turned.name) × (named.owner ≡ owner.Interface (newest u turned.f))) types some.0 (turned_type t from.0 some.0 turned) in
+                let found = found_at (λ (named : TypeDef). (named.name ≡ Some transformed.name) × (named.owner ≡ owner.Interface (newest u transformed.f))) types some.0 (transformed_type t from.0 some.0 transformed) in
                 let one = same_at types needs.target some.0 target.0 found.0 same target.1 found.1 in
-                let owned : target.0.owner ≡ owner.Interface (newest u turned.f) = ap (λ (d : TypeDef). d.owner) one ∙ found.2.1 in
-                record { f = turned.f; needed = turned.uses; is = inr (turned.replaced, turned.follows, other_is_interface from.0.owner (newest u turned.f) j (subst (λ (o : TypeOwner). other_owner from.0.owner o ≡ Some j) owned other)) }
+                let owned : target.0.owner ≡ owner.Interface (newest u transformed.f) = ap (λ (d : TypeDef). d.owner) one ∙ found.2.1 in
+                record { f = transformed.f; needed = transformed.uses; is = inr (transformed.replaced, transformed.follows, other_is_interface from.0.owner (newest u transformed.f) j (subst (λ (o : TypeOwner). other_owner from.0.owner o ≡ Some j) owned other)) }
           ]

@@ -7,7 +7,7 @@ use Rattle.std.proofs.lemmas.Option.{slice_get_within}
 use Rattle.wit_digraph.specs.facts.MemberFacts.{Contains-cons_cases, Contains-nil}
 use Rattle.wit_digraph.specs.Relation.{IsPath, direct, Reaches}
 use Rattle.wit_data.specs.Entries.{ItemUsesOwn}
-use Rattle.wit_data.specs.Ownership.{IsOwn, IsPlain, RefersToOwn, Shows, UsesOwn, through_unnamed}
+use Rattle.wit_data.specs.Ownership.{IsOwn, IsPlain, NamesThroughUnnamed, RefersToOwn, UsesOwn, through_unnamed}
 use Rattle.wit_data.specs.Reference.{referred, type_references}
 use Rattle.wit_data.specs.Uses.{alias_target}
 use Rattle.wit_data.specs.declared.function.Function.{Function}
@@ -29,7 +29,7 @@ use Rattle.wit_graph_theory.specs.facts.PackagesAcyclic.{length-numbered}
 use Rattle.wit_semver_spec.specs.Rewritten.{new_target, retargeted, rewritten_types}
 use Rattle.wit_semver_spec.specs.Upgrade.{Upgrade, newest}
 use Rattle.wit_semver_laws.proofs.Accepting.{stays_so}
-use Rattle.wit_semver_laws.proofs.TypesAfter.{after, retargeted_name, retargeted_owner, turned_from, turned_type, type_after}
+use Rattle.wit_semver_laws.proofs.TypesAfter.{after, retargeted_name, retargeted_owner, transformed_from, transformed_type, type_after}
 
 -- an alias is not plain
 alias_not_plain : (k : TypeDefKind) (t : ℕ) → alias_target k ≡ Some t → IsPlain k → ⊥
@@ -50,8 +50,8 @@ module _ (u : Upgrade) (valid : IsValid u.graph) (w : ℕ) (there : slice_get u.
   stays_from_target : (t : ℕ) (def : TypeDef) → ((s : ℕ) → alias_target def.kind ≡ Some s → ⊥) → (o : Option ℕ) → new_target u t def ≡ o → retargeted def o ≡ def
   stays_from_target t def no_alias None is = refl
   stays_from_target t def no_alias (Some t') is =
-      let turned = turned_from u t def t' is in
-      let target = some_parts _ (alias_target def.kind) turned.name turned.named in
+      let transformed = transformed_from u t def t' is in
+      let target = some_parts _ (alias_target def.kind) transformed.name transformed.named in
       absurd (no_alias target.0 target.1)
 
   plain_stays : (t : ℕ) (def : TypeDef) → IsPlain def.kind → after u t def ≡ def
@@ -74,7 +74,7 @@ module _ (u : Upgrade) (valid : IsValid u.graph) (w : ℕ) (there : slice_get u.
   path_before i [] j same = same
   path_before i (k ∷ path) j leads = (edge_before i k leads.0, path_before k path j leads.1)
 
-  shows_before : (id : ℕ) (by : TypeOwner) → Shows changed id by → Shows types id by
+  shows_before : (id : ℕ) (by : TypeOwner) → NamesThroughUnnamed changed id by → NamesThroughUnnamed types id by
   shows_before id by (named, reaches, is) =
       let found = found_at (λ (def : TypeDef). IsSome def.name × (def.owner ≡ by)) changed named is in
       let def = type_after u named found.0 found.1 in
@@ -119,8 +119,8 @@ module _ (u : Upgrade) (valid : IsValid u.graph) (w : ℕ) (there : slice_get u.
           let old = All-contains (λ x. x < length (type_references types)) (direct (type_references types) i) j (valid.no_cycles.types.in_range i) (in_row (λ (d : TypeDef). referred d.kind) types i def j at has) in
           omega (arith, old, length-map types (λ (d : TypeDef). referred d.kind))
       by def at (Some t') is has =
-          let turned = turned_from u i def t' is in
-          let found = found_at (λ (named : TypeDef). (named.name ≡ Some turned.name) × (named.owner ≡ owner.Interface (newest u turned.f))) types t' (turned_type u valid i def t' turned) in
+          let transformed = transformed_from u i def t' is in
+          let found = found_at (λ (named : TypeDef). (named.name ≡ Some transformed.name) × (named.owner ≡ owner.Interface (newest u transformed.f))) types t' (transformed_type u valid i def t' transformed) in
           let same : t' ≡ j = elim (Contains-cons_cases t' j [] has) [ inl one ↦ one | inr none ↦ absurd (Contains-nil none) ] in
           let within = slice_get_within types t' found.0 found.1 in
           omega (arith, within, same)

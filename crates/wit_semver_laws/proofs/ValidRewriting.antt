@@ -20,20 +20,20 @@ use Rattle.wit_graph_data.specs.declared.graph.Package.{Package}
 use Rattle.wit_graph_theory.specs.facts.Good.{HasGoodThings, IsGoodAsAWhole, IsGoodWorld}
 use Rattle.wit_graph_theory.specs.facts.GoodIsValid.{IsValid-from_good, good_things}
 use Rattle.wit_graph_theory.specs.facts.ListFacts.{at_map, found_at, same_at, some_at}
-use Rattle.wit_graph_theory.specs.facts.OnePlaceFacts.{StandOnce-from_places}
+use Rattle.wit_graph_theory.specs.facts.UnnamedOnceFacts.{StandOnce-from_entries}
 use Rattle.wit_graph_theory.specs.facts.PackageCycleFacts.{acyclic_packages, packages_stay_acyclic}
 use Rattle.wit_graph_theory.specs.AllElaborated.{elaborated_world, graph_package_uses, type_cycle_text}
 use Rattle.wit_graph_theory.specs.facts.LawsOfElaboration.{LawsOfElaboration}
-use Rattle.wit_semver_spec.specs.Rewritten.{listed_world, new_target, relisted_at, rewritten}
-use Rattle.wit_semver_spec.specs.TrackCause.{IsAccepted}
+use Rattle.wit_semver_spec.specs.Rewritten.{listed_world, new_target, rewritten, with_new_entries_at}
+use Rattle.wit_semver_spec.specs.TrackCause.{SemverMergeIsAccepted}
 use Rattle.wit_semver_spec.specs.Upgrade.{Upgrade}
 use Rattle.wit_semver_laws.proofs.Accepting.{complete, elaborates, listed_there, new_aliases, new_exports, new_imports, no_package_cycle, no_type_cycle, relisted_worlds, rewritten_is, uses_acyclic}
 use Rattle.wit_semver_laws.proofs.ListedUses.{listed_lists_uses}
 use Rattle.wit_semver_laws.proofs.TypesAfter.{retargeted_name, retargeted_owner, type_after}
 use Rattle.wit_semver_laws.proofs.TypesGood.{interface_after, known_after, on_the_way, refers_in_range, refers_to_own, unnamed_plain}
-use Rattle.wit_semver_laws.proofs.WorldsGood.{done, done_is_canonical, done_is_good, from, new, one_place_new, relisted, same_name, same_package, types_stay, world_from}
+use Rattle.wit_semver_laws.proofs.WorldsGood.{done, done_is_canonical, done_is_good, from, new, one_place_new, same_name, same_package, types_stay, with_new_entries, world_from}
 
-module _ (laws : LawsOfElaboration) (u : Upgrade) (valid : IsValid u.graph) (w : ℕ) (there : slice_get u.graph.worlds w ≡ Some u.world) (accepted : IsAccepted u.rule u.graph w) where
+module _ (laws : LawsOfElaboration) (u : Upgrade) (valid : IsValid u.graph) (w : ℕ) (there : slice_get u.graph.worlds w ≡ Some u.world) (accepted : SemverMergeIsAccepted u.rule u.graph w) where
   abbrev g : Graph
   g = u.graph
 
@@ -43,7 +43,7 @@ module _ (laws : LawsOfElaboration) (u : Upgrade) (valid : IsValid u.graph) (w :
   things : HasGoodThings g
   things = good_things g valid
 
-  -- an old world, as it is relisted
+  -- an old world, with its new entries
   record Becomes (v : ℕ) (old : World) : Type 0 where
     listed : World
     at : slice_get (relisted_worlds u valid w there) v ≡ Some listed
@@ -67,7 +67,7 @@ module _ (laws : LawsOfElaboration) (u : Upgrade) (valid : IsValid u.graph) (w :
   world_stays P Q v over h =
       let found = found_at P g.worlds v h in
       let it = becomes v found.0 found.1 in
-      some_at Q made.worlds v (done laws u valid w there accepted v it.listed it.at) (at_map (elaborated_world (relisted laws u valid w there accepted)) (relisted_worlds u valid w there) v it.listed it.at)
+      some_at Q made.worlds v (done laws u valid w there accepted v it.listed it.at) (at_map (elaborated_world (with_new_entries laws u valid w there accepted)) (relisted_worlds u valid w there) v it.listed it.at)
       (over it.listed it.at (subst P (sym it.before) found.2))
 
   listed_stays : (t : ℕ) (name : Option (List ℕ)) (by : TypeOwner) → IsListed g.interfaces g.worlds t name by → IsListed g.interfaces made.worlds t name by
@@ -152,7 +152,7 @@ module _ (laws : LawsOfElaboration) (u : Upgrade) (valid : IsValid u.graph) (w :
   -- ---- no package depends on itself
 
   -- nor did one before the worlds were elaborated
-  listed_acyclic : IsAcyclic (graph_package_uses (relisted_at u w))
+  listed_acyclic : IsAcyclic (graph_package_uses (with_new_entries_at u w))
   listed_acyclic =
       acyclic_packages made.types made.interfaces made.packages things.interfaces_in_tables (relisted_worlds u valid w there) (λ p q home at on.
       no_package_cycle u valid w there accepted home.name (record { p = p; q = q; on_cycle = on; there = home; is = at; home_is = refl }))
@@ -178,7 +178,7 @@ module _ (laws : LawsOfElaboration) (u : Upgrade) (valid : IsValid u.graph) (w :
   whole_made : IsGoodAsAWhole made
   whole_made = record {
     package_names = valid.well_formed.package_names;
-    once = StandOnce-from_places g.interfaces made.worlds (one_place_new laws u valid w there accepted);
+    once = StandOnce-from_entries g.interfaces made.worlds (one_place_new laws u valid w there accepted);
     no_cycles = record { uses = uses_acyclic u valid w there accepted; types = types_acyclic; packages = packages_acyclic };
     canonical = λ v world at.
         let it = world_from laws u valid w there accepted v world at in
@@ -188,7 +188,7 @@ module _ (laws : LawsOfElaboration) (u : Upgrade) (valid : IsValid u.graph) (w :
   pub valid_made : IsValid made
   valid_made = IsValid-from_good made good_made whole_made
 
-pub rewritten_is_valid : (laws : LawsOfElaboration) (rule : TrackRule) (g : Graph) (w : ℕ) (old : World) → IsValid g → slice_get g.worlds w ≡ Some old → IsAccepted rule g w → IsValid (rewritten rule g w)
+pub rewritten_is_valid : (laws : LawsOfElaboration) (rule : TrackRule) (g : Graph) (w : ℕ) (old : World) → IsValid g → slice_get g.worlds w ≡ Some old → SemverMergeIsAccepted rule g w → IsValid (rewritten rule g w)
 rewritten_is_valid laws rule g w old valid there accepted =
     let u : Upgrade = record { rule = rule; graph = g; world = old } in
     subst IsValid (sym (rewritten_is rule g w old there)) (valid_made laws u valid w there accepted)

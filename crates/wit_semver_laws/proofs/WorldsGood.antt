@@ -5,7 +5,7 @@ use Rattle.wit_values.specs.Table.{HasDistinctKeys}
 use Rattle.wit_digraph.specs.facts.MemberFacts.{Contains-flat_map, Contains-flat_map_cases, Contains-nil}
 use Rattle.wit_digraph.specs.Relation.{IsAcyclic}
 use Rattle.wit_data.specs.Entries.{is_unnamed, item_interface}
-use Rattle.wit_data.specs.Ownership.{listed_type, world_types}
+use Rattle.wit_data.specs.Ownership.{entry_type, world_types}
 use Rattle.wit_data.specs.declared.interface.Interface.{Interface}
 use Rattle.wit_data.specs.declared.types.TypeDef.{TypeDef}
 use Rattle.wit_data.specs.declared.world.World.{World}
@@ -15,9 +15,9 @@ use Rattle.wit_data.specs.declared.world.WorldKey.{WorldKey}
 use Rattle.wit_data.specs.declared.world.WorldKey.TheVariants as key
 use Rattle.wit_elaboration.proofs.Classes.{in_by_class}
 use Rattle.wit_elaboration.proofs.Filters.{Contains-filter, Contains-filtered}
-use Rattle.wit_elaboration.specs.Elaborated.{Elaborated, settled_item}
+use Rattle.wit_elaboration.specs.Elaborated.{Elaborated, without_span}
 use Rattle.wit_elaboration.specs.Entries.{Entry, by_class, key_interface}
-use Rattle.wit_elaboration.specs.laws.KeptByElaboration.{IsSettled, is_label, labelled, settled}
+use Rattle.wit_elaboration.specs.laws.KeptByElaboration.{IsListedWithoutSpan, is_label, labelled, listed_without_span}
 use Rattle.wit_elaboration.specs.Sound.{HasSoundEntries}
 use Rattle.wit_elaboration.specs.Valid.{IsOfPackage, IsValid}
 use Rattle.wit_graph_data.specs.declared.graph.Graph.{Graph}
@@ -26,17 +26,17 @@ use Rattle.wit_graph_theory.specs.facts.CutIsGood.{distinct_kept}
 use Rattle.wit_graph_theory.specs.facts.EntryFacts.{key_entry, named_export}
 use Rattle.wit_graph_theory.specs.facts.Good.{HasGoodThings, IsGoodExport, IsGoodImport, IsGoodWorld}
 use Rattle.wit_graph_theory.specs.facts.GoodIsValid.{good_things}
-use Rattle.wit_graph_theory.specs.facts.GoodWorlds.{dependency_export, dependency_import, same_one, settled_is_good}
+use Rattle.wit_graph_theory.specs.facts.GoodWorlds.{dependency_export, dependency_import, same_one, without_span_is_good}
 use Rattle.wit_graph_theory.specs.facts.ListFacts.{Contains-map, contained_at, from_map, place_of, same_at}
 use Rattle.wit_graph_theory.specs.facts.NamedUses.{IsUsed_named}
-use Rattle.wit_graph_theory.specs.steps.OnePlace.{HasOnePlace, entries_of}
-use Rattle.wit_graph_theory.specs.facts.OnePlaceCarried.{named_not}
-use Rattle.wit_graph_theory.specs.facts.OnePlaceFrom.{HasOnePlace-from_once}
+use Rattle.wit_graph_theory.specs.steps.UnnamedOnce.{StandsOnceOnly, entries_of}
+use Rattle.wit_graph_theory.specs.facts.UnnamedOnceCarried.{named_not}
+use Rattle.wit_graph_theory.specs.facts.UnnamedOnceFrom.{StandsOnceOnly-from_once}
 use Rattle.wit_graph_theory.specs.AllElaborated.{all_elaborated, elaborated_world}
-use Rattle.wit_graph_theory.specs.facts.ElaboratedCome.{settled_interface}
+use Rattle.wit_graph_theory.specs.facts.ElaboratedCome.{interface_without_span}
 use Rattle.wit_graph_theory.specs.facts.LawsOfElaboration.{LawsOfElaboration}
-use Rattle.wit_semver_spec.specs.Rewritten.{is_replaced_entry, relisted_at}
-use Rattle.wit_semver_spec.specs.TrackCause.{IsAccepted}
+use Rattle.wit_semver_spec.specs.Rewritten.{is_replaced_entry, with_new_entries_at}
+use Rattle.wit_semver_spec.specs.TrackCause.{SemverMergeIsAccepted}
 use Rattle.wit_semver_spec.specs.Upgrade.{Upgrade, is_replaced}
 use Rattle.wit_semver_laws.proofs.Accepting.{Relisted, elaborates, in_order, new_aliases, new_exports, new_imports, new_types, new_uses, relisted_from, relisted_worlds, uses_acyclic}
 use Rattle.wit_semver_laws.proofs.TypesGood.{item_own_after}
@@ -45,16 +45,16 @@ abbrev entry : WorldKey → WorldItem → Entry
 entry k held = (k, held)
 
 -- a type that an entry lists stands under a label, has no span to lose, and isn't replaced
-listed_is : (u : Upgrade) (e : Entry) (n : List ℕ × ℕ) → Contains (listed_type e.0 e.1) n → (not (is_replaced_entry u e) ≡ true) × (is_label e.0 ≡ true) × (settled e ≡ e)
+listed_is : (u : Upgrade) (e : Entry) (n : List ℕ × ℕ) → Contains (entry_type e.0 e.1) n → (not (is_replaced_entry u e) ≡ true) × (is_label e.0 ≡ true) × (listed_without_span e ≡ e)
 listed_is u e n has = by e.0 e.1 has
   where
-    by : (k : WorldKey) (held : WorldItem) → Contains (listed_type k held) n → (not (list_any (is_replaced u) (key_interface k)) ≡ true) × (is_label k ≡ true) × (entry k (settled_item held) ≡ entry k held)
+    by : (k : WorldKey) (held : WorldItem) → Contains (entry_type k held) n → (not (list_any (is_replaced u) (key_interface k)) ≡ true) × (is_label k ≡ true) × (entry k (without_span held) ≡ entry k held)
     by (key.Name name) (item.Type_ t span) has = (refl, refl, refl)
     by (key.Name name) (item.Interface i stability docs span external_id) has = absurd (Contains-nil has)
     by (key.Name name) (item.Function fn) has = absurd (Contains-nil has)
     by (key.Interface f) held has = absurd (Contains-nil has)
 
-module _ (laws : LawsOfElaboration) (u : Upgrade) (valid : IsValid u.graph) (w : ℕ) (there : slice_get u.graph.worlds w ≡ Some u.world) (accepted : IsAccepted u.rule u.graph w) where
+module _ (laws : LawsOfElaboration) (u : Upgrade) (valid : IsValid u.graph) (w : ℕ) (there : slice_get u.graph.worlds w ≡ Some u.world) (accepted : SemverMergeIsAccepted u.rule u.graph w) where
   abbrev types : List TypeDef
   types = new_types u valid w there
 
@@ -64,8 +64,8 @@ module _ (laws : LawsOfElaboration) (u : Upgrade) (valid : IsValid u.graph) (w :
   abbrev interfaces : List Interface
   interfaces = u.graph.interfaces
 
-  abbrev pub relisted : Graph
-  relisted = relisted_at u w
+  abbrev pub with_new_entries : Graph
+  with_new_entries = with_new_entries_at u w
 
   acyclic : IsAcyclic uses
   acyclic = uses_acyclic u valid w there accepted
@@ -78,7 +78,7 @@ module _ (laws : LawsOfElaboration) (u : Upgrade) (valid : IsValid u.graph) (w :
     from = relisted_from u valid w there v listed at
 
     abbrev pub done : World
-    done = elaborated_world relisted listed
+    done = elaborated_world with_new_entries listed
 
     order : HasSoundEntries types (length uses) listed.imports listed.exports
     order = in_order u valid w there v listed at
@@ -118,7 +118,7 @@ module _ (laws : LawsOfElaboration) (u : Upgrade) (valid : IsValid u.graph) (w :
         }
 
     -- an import was listed, or is a named interface that elaboration adds; and so is an export
-    pub import_from : (e : Entry) → Contains done.imports e → IsSettled listed.imports e ⊎ IsDependency interfaces e
+    pub import_from : (e : Entry) → Contains done.imports e → IsListedWithoutSpan listed.imports e ⊎ IsDependency interfaces e
     import_from e has =
         elim ((laws.entries types uses listed done e acyclic order is_elaborated).0 has) [
           | inl stays ↦ inl stays
@@ -137,8 +137,8 @@ module _ (laws : LawsOfElaboration) (u : Upgrade) (valid : IsValid u.graph) (w :
               (record { f = made.1; key = refl; held = refl; named = named_export interfaces entry.0.0 entry.0.1 made.1 entry.2 (good_export entry.0 entry.1).is }))
         ]
 
-    good_settled : (f : Entry) → Contains listed.imports f → IsGoodImport types interfaces v done (settled f)
-    good_settled f has = settled_is_good types interfaces v done f (good_listed f has)
+    good_settled : (f : Entry) → Contains listed.imports f → IsGoodImport types interfaces v done (listed_without_span f)
+    good_settled f has = without_span_is_good types interfaces v done f (good_listed f has)
 
     listed_distinct : HasDistinctKeys listed.imports
     listed_distinct = elim from.either [
@@ -155,9 +155,9 @@ module _ (laws : LawsOfElaboration) (u : Upgrade) (valid : IsValid u.graph) (w :
         record {
           imports = λ i e on. elim (import_from e (contained_at done.imports i e on)) [
             | inl stays ↦ subst (IsGoodImport types interfaces v done) (sym stays.2) (good_settled stays.0 stays.1)
-            | inr added ↦ dependency_import relisted v done e added
+            | inr added ↦ dependency_import with_new_entries v done e added
           ];
-          exports = λ i e on. elim (export_from e (contained_at done.exports i e on)) [ inl stays ↦ good_export e stays | inr added ↦ dependency_export relisted v done e added ];
+          exports = λ i e on. elim (export_from e (contained_at done.exports i e on)) [ inl stays ↦ good_export e stays | inr added ↦ dependency_export with_new_entries v done e added ];
           distinct_imports = distinct.0;
           distinct_exports = distinct.1 exports_distinct;
           no_includes = ap (λ (x : World). x.includes) from.is ∙ (things.worlds v from.before from.at).no_includes;
@@ -169,7 +169,7 @@ module _ (laws : LawsOfElaboration) (u : Upgrade) (valid : IsValid u.graph) (w :
     -- the world lists the types that it listed
     pub types_stay : (n : List ℕ × ℕ) → Contains (world_types from.before) n → Contains (world_types done) n
     types_stay n has =
-        let entry = Contains-flat_map_cases (λ (e : Entry). listed_type e.0 e.1) from.before.imports n has in
+        let entry = Contains-flat_map_cases (λ (e : Entry). entry_type e.0 e.1) from.before.imports n has in
         let is = listed_is u entry.0 n entry.1.1 in
         let still : Contains listed.imports entry.0 = elim from.either [
           | inl here ↦
@@ -181,9 +181,9 @@ module _ (laws : LawsOfElaboration) (u : Upgrade) (valid : IsValid u.graph) (w :
         let sorted = in_by_class types listed.imports entry.0 still in
         let under : Contains (labelled (by_class types listed.imports)) entry.0 = Contains-filtered (λ (e : Entry). is_label e.0) (by_class types listed.imports) entry.0 sorted is.1 in
         let stays = laws.labels types uses listed done acyclic order listed_distinct is_elaborated in
-        let among : Contains (labelled done.imports) (settled entry.0) = subst (λ (es : List Entry). Contains es (settled entry.0)) (sym stays) (Contains-map settled (labelled (by_class types listed.imports)) entry.0 under) in
-        let import = (Contains-filter (λ (e : Entry). is_label e.0) done.imports (settled entry.0) among).0 in
-        Contains-flat_map (λ (e : Entry). listed_type e.0 e.1) done.imports entry.0 n (subst (Contains done.imports) is.2 import) entry.1.1
+        let among : Contains (labelled done.imports) (listed_without_span entry.0) = subst (λ (es : List Entry). Contains es (listed_without_span entry.0)) (sym stays) (Contains-map listed_without_span (labelled (by_class types listed.imports)) entry.0 under) in
+        let import = (Contains-filter (λ (e : Entry). is_label e.0) done.imports (listed_without_span entry.0) among).0 in
+        Contains-flat_map (λ (e : Entry). entry_type e.0 e.1) done.imports entry.0 n (subst (Contains done.imports) is.2 import) entry.1.1
 
     -- ---- where an unnamed interface stood
 
@@ -199,7 +199,7 @@ module _ (laws : LawsOfElaboration) (u : Upgrade) (valid : IsValid u.graph) (w :
         elim (import_from e (contained_at done.imports i e on)) [
           | inl stays ↦
               let place = place_of from.before.imports stays.0 (from.imports stays.0 stays.1) in
-              record { place = place.0; before = stays.0; was = place.1; held = sym (settled_interface stays.0.1) ∙ ap (λ (d : Entry). item_interface d.1) (sym stays.2) ∙ held; key = ap (λ (d : Entry). d.0) stays.2 }
+              record { place = place.0; before = stays.0; was = place.1; held = sym (interface_without_span stays.0.1) ∙ ap (λ (d : Entry). item_interface d.1) (sym stays.2) ∙ held; key = ap (λ (d : Entry). d.0) stays.2 }
           | inr added ↦
               let same : added.f ≡ f = same_one added.f f (sym added.held ∙ held) in
               absurd (named_not interfaces added.f added.named (subst (λ (i : ℕ). is_unnamed interfaces i ≡ true) (sym same) unnamed))
@@ -221,7 +221,7 @@ module _ (laws : LawsOfElaboration) (u : Upgrade) (valid : IsValid u.graph) (w :
   -- ---- all worlds
 
   abbrev pub new : Graph
-  new = all_elaborated relisted
+  new = all_elaborated with_new_entries
 
   pub record WorldFrom (v : ℕ) (world : World) : Type 0 where
     pub listed : World
@@ -229,10 +229,10 @@ module _ (laws : LawsOfElaboration) (u : Upgrade) (valid : IsValid u.graph) (w :
     pub is : done v listed at ≡ world
 
   pub world_from : (v : ℕ) (world : World) → slice_get new.worlds v ≡ Some world → WorldFrom v world
-  world_from v world on = let came = from_map (elaborated_world relisted) (relisted_worlds u valid w there) v world on in record { listed = came.0; at = came.1; is = came.2 }
+  world_from v world on = let came = from_map (elaborated_world with_new_entries) (relisted_worlds u valid w there) v world on in record { listed = came.0; at = came.1; is = came.2 }
 
   -- unnamed interfaces have one place
-  one_place : HasOnePlace interfaces new.worlds
+  one_place : StandsOnceOnly interfaces new.worlds
   one_place f v x b c i j unnamed first second =
       let a = world_from v first.world first.there in
       let d = world_from x second.world second.there in
@@ -240,7 +240,7 @@ module _ (laws : LawsOfElaboration) (u : Upgrade) (valid : IsValid u.graph) (w :
       let on_d : slice_get (entries_of c (done x d.listed d.at)) j ≡ Some second.entry = subst (λ (y : World). slice_get (entries_of c y) j ≡ Some second.entry) (sym d.is) second.at in
       let s = stood v a.listed a.at b i f first.entry unnamed on_a first.held in
       let t = stood x d.listed d.at c j f second.entry unnamed on_d second.held in
-      let places = HasOnePlace-from_once interfaces u.graph.worlds valid.well_formed.worlds.once f v x b c s.place t.place unnamed
+      let places = StandsOnceOnly-from_once interfaces u.graph.worlds valid.well_formed.worlds.once f v x b c s.place t.place unnamed
       (record { world = (from v a.listed a.at).before; there = (from v a.listed a.at).at; entry = s.before; at = s.was; held = s.held })
       (record { world = (from x d.listed d.at).before; there = (from x d.listed d.at).at; entry = t.before; at = t.was; held = t.held }) in
       let befores = same_at u.graph.worlds v x (from v a.listed a.at).before (from x d.listed d.at).before places.0 (from v a.listed a.at).at (from x d.listed d.at).at in
@@ -252,5 +252,5 @@ module _ (laws : LawsOfElaboration) (u : Upgrade) (valid : IsValid u.graph) (w :
       let on_moved : slice_get (entries_of b (done v a.listed a.at)) j ≡ Some second.entry = subst (λ (y : World). slice_get (entries_of b y) j ≡ Some second.entry) (sym a.is) moved in
       (places.0, places.1, side_distinct v a.listed a.at b i j first.entry second.entry on_a on_moved keys)
 
-  pub one_place_new : HasOnePlace interfaces new.worlds
+  pub one_place_new : StandsOnceOnly interfaces new.worlds
   one_place_new = one_place

@@ -8,7 +8,7 @@ pub fn newest_is_greatest()
     ensures { NewestIsGreatest }
 {}
 
-/// Where nothing speaks against semver merging in a valid graph, the interfaces that the world then imports under
+/// Where no cause holds against semver merging in a valid graph, the interfaces that the world then imports under
 /// their own keys are the former ones less the replaced.
 pub fn keys_are_exact()
     ensures { KeysAreExact }
@@ -37,7 +37,7 @@ pub fn exports_are_kept()
     laws_of_elaboration();
 }
 
-/// A valid graph whose imports are merged by tracks is valid, where nothing speaks against it.
+/// A valid graph whose imports are merged by tracks is valid, where no cause holds against it.
 pub fn rewritten_stay_valid()
     ensures { RewrittenStayValid }
 {

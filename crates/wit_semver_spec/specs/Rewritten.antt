@@ -22,17 +22,17 @@ use Rattle.wit_semver_spec.specs.Upgrade.{Upgrade, is_replaced, newest}
 
 -- ---- the world's list
 
--- is it under the key of a replaced interface?
+-- the entry stands under the key of a replaced interface
 abbrev pub is_replaced_entry : Upgrade → Entry → Bool
 is_replaced_entry u e = list_any (is_replaced u) (key_interface e.0)
 
 -- the imports that stay
-abbrev pub staying : Upgrade → List Entry
-staying u = filter (λ e. not (is_replaced_entry u e)) u.world.imports
+abbrev pub kept_imports : Upgrade → List Entry
+kept_imports u = filter (λ e. not (is_replaced_entry u e)) u.world.imports
 
 -- the world as it is listed then
 abbrev pub listed_world : Upgrade → World
-listed_world u = record u.world { imports = staying u }
+listed_world u = record u.world { imports = kept_imports u }
 
 -- ---- what its entries use
 
@@ -46,13 +46,13 @@ entry_types interfaces (k, item.Interface i stability docs span external_id) = o
 entry_types interfaces (k, item.Function f) = []
 entry_types interfaces (k, item.Type_ t span) = t ∷ []
 
--- those of the imports that stay and of the exports: their uses follow
-abbrev pub following : Upgrade → List ℕ
-following u = flat_map (entry_types u.graph.interfaces) (staying u ++ u.world.exports)
+-- the types that may be rewritten: those of the imports that stay and of the exports
+abbrev pub rewritable_types : Upgrade → List ℕ
+rewritable_types u = flat_map (entry_types u.graph.interfaces) (kept_imports u ++ u.world.exports)
 
 -- the type of this name in interface i
-abbrev pub type_named : List Interface → ℕ → List ℕ → Option ℕ
-type_named interfaces i name = option_and_then (λ (interface : Interface). lookup (bytes_eq name) interface.types) (slice_get interfaces i)
+abbrev pub interface_type : List Interface → ℕ → List ℕ → Option ℕ
+interface_type interfaces i name = option_and_then (λ (interface : Interface). lookup (bytes_eq name) interface.types) (slice_get interfaces i)
 
 -- the replaced interface that type t uses: it is an alias of a type of that interface, which doesn't own t itself
 abbrev pub replaced_use : Upgrade → ℕ → Option ℕ
@@ -70,8 +70,8 @@ target_name types def = option_and_then (name_of types) (alias_target def.kind)
 -- the newest, if that has it
 abbrev pub new_target : Upgrade → ℕ → TypeDef → Option ℕ
 new_target u t def =
-    if list_any (nat_eq t) (following u)
-    then option_and_then (λ f. option_and_then (type_named u.graph.interfaces (newest u f)) (target_name u.graph.types def)) (replaced_use u t)
+    if list_any (nat_eq t) (rewritable_types u)
+    then option_and_then (λ f. option_and_then (interface_type u.graph.interfaces (newest u f)) (target_name u.graph.types def)) (replaced_use u t)
     else None
 
 -- an alias of another type, or the type as it was
@@ -86,13 +86,13 @@ rewritten_types u = map (λ (e : ℕ × TypeDef). retargeted e.1 (new_target u e
 -- ---- the graph
 
 -- the graph with the world so listed, at its place, and its uses following
-abbrev pub relisted_at : Upgrade → ℕ → Graph
-relisted_at u w = record u.graph { types = rewritten_types u; worlds = slice_set u.graph.worlds w (listed_world u) }
+abbrev pub with_new_entries_at : Upgrade → ℕ → Graph
+with_new_entries_at u w = record u.graph { types = rewritten_types u; worlds = slice_set u.graph.worlds w (listed_world u) }
 
--- the same of the world at a place; a graph that has no world there is as it was
-abbrev pub relisted : TrackRule → Graph → ℕ → Graph
-relisted rule g w = option_map_or (λ (world : World). relisted_at (record { rule = rule; graph = g; world = world }) w) (slice_get g.worlds w) g
+-- the graph with its new entries in world w, and the aliases rewritten; as it was where there is no such world
+abbrev pub with_new_entries : TrackRule → Graph → ℕ → Graph
+with_new_entries rule g w = option_map_or (λ (world : World). with_new_entries_at (record { rule = rule; graph = g; world = world }) w) (slice_get g.worlds w) g
 
--- and with every world elaborated
+-- the graph after semver merging of world w: with its new entries, the aliases rewritten, every world elaborated
 abbrev pub rewritten : TrackRule → Graph → ℕ → Graph
-rewritten rule g w = all_elaborated (relisted rule g w)
+rewritten rule g w = all_elaborated (with_new_entries rule g w)

@@ -14,9 +14,9 @@ use Rattle.wit_graph_data.specs.declared.cause.Cause.TheVariants as cause
 use Rattle.wit_graph_data.specs.declared.error_kind.ResolveErrorKind.{ResolveErrorKind}
 use Rattle.wit_graph_data.specs.declared.error_kind.ResolveErrorKind.TheVariants.{InvalidTransitiveDependency, PackageCycle, Semantic}
 use Rattle.wit_graph_data.specs.declared.graph.Graph.{Graph}
-use Rattle.wit_graph_theory.specs.AllElaborated.{DependsOnItself, IsInConflict, RefersToItself, UsesItself}
+use Rattle.wit_graph_theory.specs.AllElaborated.{DependsOnItself, HasWorldInConflict, RefersToItself, UsesItself}
 use Rattle.wit_graph_theory.specs.FunctionMismatch.{HaveFunctionMismatch}
-use Rattle.wit_semver_spec.specs.Rewritten.{following, relisted_at, replaced_use, target_name, type_named}
+use Rattle.wit_semver_spec.specs.Rewritten.{interface_type, replaced_use, rewritable_types, target_name, with_new_entries_at}
 use Rattle.wit_semver_spec.specs.Upgrade.{Upgrade, is_replaced, newest}
 
 -- ---- texts
@@ -41,19 +41,19 @@ upgrade_message u f reason = upgrade_text (id_text_at f) (id_text_at (newest u f
     id_text_at : ℕ → List ℕ
     id_text_at i = unwrap_or (interface_id_at u.graph.packages u.graph.interfaces i) []
 
--- ---- what speaks against it
+-- ---- what holds against it
 
 -- 25: what follows uses a type of a replaced interface, and the newest has none of its name
-pub record LacksType (u : Upgrade) (message : List ℕ) : Type 0 where
+pub record NewestLacksType (u : Upgrade) (message : List ℕ) : Type 0 where
   pub t : ℕ
   pub def : TypeDef
   pub f : ℕ
   pub name : List ℕ
-  pub follows : Contains (following u) t
+  pub follows : Contains (rewritable_types u) t
   pub is : slice_get u.graph.types t ≡ Some def
   pub uses : replaced_use u t ≡ Some f
   pub named : target_name u.graph.types def ≡ Some name
-  pub absent : type_named u.graph.interfaces (newest u f) name ≡ None
+  pub absent : interface_type u.graph.interfaces (newest u f) name ≡ None
   pub message_is : message ≡ upgrade_message u f (missing_text name)
 
 -- 25: a replaced interface disagrees with the newest in a function that both have
@@ -72,21 +72,21 @@ pub record Disagrees (u : Upgrade) (message : List ℕ) : Type 0 where
 
 -- no type is missing: there is a rewriting
 abbrev pub IsComplete : Upgrade → Type 0
-IsComplete u = (message : List ℕ) → LacksType u message → ⊥
+IsComplete u = (message : List ℕ) → NewestLacksType u message → ⊥
 
 -- why the imports of the world at place w can't be merged by tracks
 pub data UpgradeCause (u : Upgrade) (w : ℕ) : ResolveErrorKind → Type 0 where
-  conflict_4 : (span : Option (ℕ × ℕ)) (name : List ℕ) → IsComplete u → IsInConflict (relisted_at u w) span name → UpgradeCause u w (InvalidTransitiveDependency span name)
-  package_cycle_6 : (home : PackageName) → IsComplete u → DependsOnItself (relisted_at u w) home → UpgradeCause u w (PackageCycle None home)
-  interface_cycle_22 : (message : List ℕ) → IsComplete u → UsesItself (relisted_at u w) message → UpgradeCause u w (Semantic None message cause.InterfaceCycle)
-  type_cycle_23 : (message : List ℕ) → IsComplete u → RefersToItself (relisted_at u w) message → UpgradeCause u w (Semantic None message cause.TypeCycle)
-  type_missing_25 : (message : List ℕ) → LacksType u message → UpgradeCause u w (Semantic None message cause.UpgradeMismatch)
+  conflict_4 : (span : Option (ℕ × ℕ)) (name : List ℕ) → IsComplete u → HasWorldInConflict (with_new_entries_at u w) span name → UpgradeCause u w (InvalidTransitiveDependency span name)
+  package_cycle_6 : (home : PackageName) → IsComplete u → DependsOnItself (with_new_entries_at u w) home → UpgradeCause u w (PackageCycle None home)
+  interface_cycle_22 : (message : List ℕ) → IsComplete u → UsesItself (with_new_entries_at u w) message → UpgradeCause u w (Semantic None message cause.InterfaceCycle)
+  type_cycle_23 : (message : List ℕ) → IsComplete u → RefersToItself (with_new_entries_at u w) message → UpgradeCause u w (Semantic None message cause.TypeCycle)
+  type_missing_25 : (message : List ℕ) → NewestLacksType u message → UpgradeCause u w (Semantic None message cause.UpgradeMismatch)
   functions_disagree_25 : (message : List ℕ) → Disagrees u message → UpgradeCause u w (Semantic None message cause.UpgradeMismatch)
 
--- of the world at a place
+-- a cause of the semver merging of world w
 abbrev pub IsTrackCause : TrackRule → Graph → ℕ → ResolveErrorKind → Type 0
 IsTrackCause rule g w error = (world : World) × (slice_get g.worlds w ≡ Some world) × UpgradeCause (record { rule = rule; graph = g; world = world }) w error
 
--- nothing speaks against it
-abbrev pub IsAccepted : TrackRule → Graph → ℕ → Type 0
-IsAccepted rule g w = (error : ResolveErrorKind) → IsTrackCause rule g w error → ⊥
+-- no cause holds against it
+abbrev pub SemverMergeIsAccepted : TrackRule → Graph → ℕ → Type 0
+SemverMergeIsAccepted rule g w = (error : ResolveErrorKind) → IsTrackCause rule g w error → ⊥

@@ -23,12 +23,12 @@ pub record Versioned : Type 0 where
 abbrev pub versioned_in : List ℕ → PackageName → Option Versioned
 versioned_in name home = option_map (λ version. record { name = name; home = home; version = version }) home.version
 
--- the same of an interface and its package; none where it has no name
+-- the name, package and version of an interface; none where it has no name or its package no version
 abbrev pub versioned_of : List Package → Interface → Option Versioned
 versioned_of packages interface =
     option_and_then (λ name. option_and_then (λ p. option_and_then (λ (home : Package). versioned_in name home.name) (slice_get packages p)) interface.package) interface.name
 
--- the same of interface i
+-- the name, package and version of interface i
 abbrev pub versioned : List Package → List Interface → ℕ → Option Versioned
 versioned packages interfaces i = option_and_then (versioned_of packages) (slice_get interfaces i)
 
@@ -55,6 +55,6 @@ abbrev pub are_on_one_track : TrackRule → List Package → List Interface → 
 are_on_one_track rule packages interfaces i j = both (have_one_track rule) (versioned packages interfaces i) (versioned packages interfaces j)
 
 -- is interface j on the track of i, and of a greater version?
-abbrev pub is_outdone_by : TrackRule → List Package → List Interface → ℕ → ℕ → Bool
-is_outdone_by rule packages interfaces i j =
+abbrev pub is_older_than : TrackRule → List Package → List Interface → ℕ → ℕ → Bool
+is_older_than rule packages interfaces i j =
     both (λ v w. have_one_track rule v w && is_below v w) (versioned packages interfaces i) (versioned packages interfaces j)

@@ -5,7 +5,7 @@ use Rattle.std.specs.List.{IsDistinct}
 use Rattle.std.specs.Map.{lookup, keys_of}
 use Rattle.std.proofs.lemmas.Map.Views.{Contains-from_lookup, lookup-from_Contains}
 use Rattle.wit_digraph.specs.facts.MemberFacts.{Contains-nil, Contains-here, Contains-cons_cases, Contains-flat_map, Contains-flat_map_cases}
-use Rattle.wit_data.specs.Ownership.{IsTypeItem, listed_type}
+use Rattle.wit_data.specs.Ownership.{IsTypeItem, entry_type}
 use Rattle.wit_data.specs.facts.WorldKeyFacts.{key_is, key_laws, same_key}
 use Rattle.wit_data.specs.declared.world.WorldItem.{WorldItem}
 use Rattle.wit_data.specs.declared.world.WorldItem.TheVariants as item
@@ -13,7 +13,7 @@ use Rattle.wit_data.specs.declared.world.WorldKey.{WorldKey}
 use Rattle.wit_data.specs.declared.world.WorldKey.TheVariants as key
 
 -- an entry that lists a type
-listed_by : (k : WorldKey) (v : WorldItem) (name : List ℕ) (id : ℕ) → Contains (listed_type k v) (name, id)
+listed_by : (k : WorldKey) (v : WorldItem) (name : List ℕ) (id : ℕ) → Contains (entry_type k v) (name, id)
     → (span : Option (ℕ × ℕ)) × ((k ≡ key.Name name) × (v ≡ item.Type_ id span))
 listed_by (key.Name m) (item.Type_ j span) name id has =
     elim (Contains-cons_cases (m, j) (name, id) [] has) [
@@ -25,7 +25,7 @@ listed_by (key.Name m) (item.Function f) name id has = absurd (Contains-nil has)
 listed_by (key.Interface f) v name id has = absurd (Contains-nil has)
 
 abbrev types_in : List (WorldKey × WorldItem) → List (List ℕ × ℕ)
-types_in imports = flat_map (λ (e : WorldKey × WorldItem). listed_type e.0 e.1) imports
+types_in imports = flat_map (λ (e : WorldKey × WorldItem). entry_type e.0 e.1) imports
 
 -- a look-up that finds a type item finds what the world lists
 pub listed_from_lookup : (imports : List (WorldKey × WorldItem)) (name : List ℕ) (id : ℕ) → IsTypeItem (lookup (same_key (key.Name name)) imports) id → Contains (types_in imports) (name, id)
@@ -35,7 +35,7 @@ listed_from_lookup imports name id = by (lookup (same_key (key.Name name)) impor
     by None found h = absurd h
     by (Some (item.Type_ j span)) found h =
         subst (λ (i : ℕ). Contains (types_in imports) (name, i)) h
-        (Contains-flat_map (λ (e : WorldKey × WorldItem). listed_type e.0 e.1) imports (key.Name name, item.Type_ j span) (name, j)
+        (Contains-flat_map (λ (e : WorldKey × WorldItem). entry_type e.0 e.1) imports (key.Name name, item.Type_ j span) (name, j)
         (Contains-from_lookup (λ x y equal. (key_is x y).0 equal) (key.Name name) (item.Type_ j span) imports found) (Contains-here (name, j) []))
     by (Some (item.Interface j stability docs span external_id)) found h = absurd h
     by (Some (item.Function f)) found h = absurd h
@@ -44,7 +44,7 @@ listed_from_lookup imports name id = by (lookup (same_key (key.Name name)) impor
 pub lookup_from_listed : (imports : List (WorldKey × WorldItem)) (name : List ℕ) (id : ℕ) → IsDistinct same_key (keys_of imports) → Contains (types_in imports) (name, id)
     → IsTypeItem (lookup (same_key (key.Name name)) imports) id
 lookup_from_listed imports name id apart has =
-    let entry = Contains-flat_map_cases (λ (e : WorldKey × WorldItem). listed_type e.0 e.1) imports (name, id) has in
+    let entry = Contains-flat_map_cases (λ (e : WorldKey × WorldItem). entry_type e.0 e.1) imports (name, id) has in
     let parts = listed_by entry.0.0 entry.0.1 name id entry.1.1 in
     let there : Contains imports (key.Name name, item.Type_ id parts.0) =
     subst (λ (k : WorldKey). Contains imports (k, item.Type_ id parts.0)) parts.1.0 (subst (λ (v : WorldItem). Contains imports (entry.0.0, v)) parts.1.1 entry.1.0) in

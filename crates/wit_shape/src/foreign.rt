@@ -1,7 +1,7 @@
 //! What an unresolved package knows of other packages.
 ghost use Rattle.std.specs.Prelude.{◌≡◌, ◌↔◌, List, IfOk, IsTrue};
 ghost use Rattle.wit_data.specs.Each.{Each};
-ghost use Rattle.wit_data.specs.Foreign.{ForeignItem, IsBare, IsBareInterface, IsBareWorld, IsForeign, foreign_interfaces, foreign_worlds};
+ghost use Rattle.wit_data.specs.Foreign.{ForeignItem, IsForeign, IsNameOnly, IsNameOnlyInterface, IsNameOnlyWorld, foreign_interfaces, foreign_worlds};
 ghost use Rattle.wit_data.specs.Shape.{HasForeign};
 ghost use Rattle.wit_data.specs.declared.package_name.PackageName.{PackageName};
 
@@ -12,15 +12,15 @@ use wit_data::{AstItem, Interface, PackageName, Stability, UnresolvedPackage, Wo
 use wit_values::{Items, Names, Table};
 
 /// Whether a foreign interface has its name, and no functions.
-fn is_bare_interface(name: &str, interface: &Interface) -> bool
-    ensures { IsTrue result ↔ IsBareInterface name.now interface.now }
+fn is_name_only_interface(name: &str, interface: &Interface) -> bool
+    ensures { IsTrue result ↔ IsNameOnlyInterface name.now interface.now }
 {
     has_name(&interface.name, name) && interface.functions.is_empty()
 }
 
 /// Whether a foreign world has its name, no entries and no includes.
-fn is_bare_world(name: &str, world: &World) -> bool
-    ensures { IsTrue result ↔ IsBareWorld name.now world.now }
+fn is_name_only_world(name: &str, world: &World) -> bool
+    ensures { IsTrue result ↔ IsNameOnlyWorld name.now world.now }
 {
     is_text(&world.name, name)
         && world.imports.is_empty()
@@ -29,16 +29,16 @@ fn is_bare_world(name: &str, world: &World) -> bool
 }
 
 /// Whether a foreign item is there and bare.
-fn is_bare(interfaces: &[Interface], worlds: &[World], name: &str, item: AstItem) -> bool
-    ensures { IsTrue result ↔ IsBare interfaces.now worlds.now name.now item }
+fn is_name_only(interfaces: &[Interface], worlds: &[World], name: &str, item: AstItem) -> bool
+    ensures { IsTrue result ↔ IsNameOnly interfaces.now worlds.now name.now item }
 {
     match item {
         AstItem::Interface(id) => match interfaces.get(id.index()) {
-            Some(interface) => is_bare_interface(name, interface),
+            Some(interface) => is_name_only_interface(name, interface),
             None => false,
         },
         AstItem::World(id) => match worlds.get(id.index()) {
-            Some(world) => is_bare_world(name, world),
+            Some(world) => is_name_only_world(name, world),
             None => false,
         },
     }
@@ -54,7 +54,7 @@ fn is_foreign(
 ) -> bool
     ensures { IsTrue result ↔ IsForeign interfaces.now worlds.now (name.now, (item, gates.now)) }
 {
-    !gates.is_empty() && is_bare(interfaces, worlds, name, item)
+    !gates.is_empty() && is_name_only(interfaces, worlds, name, item)
 }
 
 /// Whether the items that are named of one package are.

@@ -1,4 +1,4 @@
-//! The shape of unresolved packages, which every reader of WIT hands in and every call that resolves them asks
+//! The shape of unresolved packages, which every reader of WIT brings and every call that resolves them asks
 //! for: whether a package has it.
 //!
 //! What the shape is stands in `wit_data` (`specs/Shape`). Its parts, for packages as for graphs, are calls of
@@ -13,7 +13,7 @@ pub mod own;
 pub mod owners;
 mod package;
 pub mod references;
-pub mod shown;
+pub mod named_owners;
 pub mod unknown;
 pub mod worlds;
 

@@ -5,12 +5,12 @@ ghost use Rattle.wit_data.specs.Entries.{EntriesUseOwn, ItemUsesOwn};
 ghost use Rattle.wit_data.specs.Ownership.{FunctionsUseOwn, IsOwn, RefersToOwn, UsesOwn, parts};
 ghost use Rattle.wit_data.specs.Reference.{type_references};
 ghost use Rattle.wit_data.specs.Shape.{KeepsToOwn};
-ghost use Rattle.wit_shape.specs.steps.Shown.{TellsEach};
+ghost use Rattle.wit_shape.specs.steps.NamedOwners.{AreNamedOwners};
 ghost use Rattle.wit_data.specs.declared.types.TypeOwner.TheVariants as owner;
 ghost use Rattle.wit_data.specs.declared.world.World.{World};
 ghost use Rattle.wit_digraph.specs.Relation.{IsAcyclic};
 
-use crate::shown::{Shown, is_own, shown_by_each};
+use crate::named_owners::{NamedOwners, is_own, shown_by_each};
 use std::alloc::{AllocError, Global};
 use wit_data::{
     Function, Interface, InterfaceId, TypeDef, TypeDefKind, TypeId, TypeOwner, UnresolvedPackage,
@@ -35,9 +35,9 @@ pub(crate) fn keeps_to_own(
 fn all_keep_to_own(
     alloc: Global,
     unresolved: &UnresolvedPackage,
-    shown: &Items<Shown>,
+    shown: &Items<NamedOwners>,
 ) -> Result<bool, AllocError>
-    requires { TellsEach unresolved.now.types shown.now }
+    requires { AreNamedOwners unresolved.now.types shown.now }
     ensures { IfOk result (λ holds. IsTrue holds ↔ KeepsToOwn unresolved.now) }
 {
     let types = unresolved.types.as_slice();
@@ -59,9 +59,9 @@ fn all_keep_to_own(
 pub fn all_refer_to_own(
     alloc: Global,
     types: &[TypeDef],
-    shown: &Items<Shown>,
+    shown: &Items<NamedOwners>,
 ) -> Result<bool, AllocError>
-    requires { TellsEach types.now shown.now }
+    requires { AreNamedOwners types.now shown.now }
     ensures { IfOk result (λ own. IsTrue own ↔ Each (RefersToOwn types.now) types.now) }
 {
     for def in types {
@@ -75,10 +75,10 @@ pub fn all_refer_to_own(
 fn refers_to_own(
     alloc: Global,
     types: &[TypeDef],
-    shown: &Items<Shown>,
+    shown: &Items<NamedOwners>,
     def: &TypeDef,
 ) -> Result<bool, AllocError>
-    requires { TellsEach types.now shown.now }
+    requires { AreNamedOwners types.now shown.now }
     ensures { IfOk result (λ own. IsTrue own ↔ RefersToOwn types.now def.now) }
 {
     if def.name.is_none() {
@@ -98,8 +98,8 @@ fn parts(alloc: Global, kind: &TypeDefKind) -> Result<Items<TypeId>, AllocError>
     }
 }
 
-fn are_own(types: &[TypeDef], shown: &Items<Shown>, owner: TypeOwner, ids: &[TypeId]) -> bool
-    requires { TellsEach types.now shown.now }
+fn are_own(types: &[TypeDef], shown: &Items<NamedOwners>, owner: TypeOwner, ids: &[TypeId]) -> bool
+    requires { AreNamedOwners types.now shown.now }
     ensures { IsTrue result ↔ Each (IsOwn types.now owner) ids.now }
 {
     ids.iter().all(|id| is_own(types, shown, owner, *id))
@@ -109,11 +109,11 @@ fn are_own(types: &[TypeDef], shown: &Items<Shown>, owner: TypeOwner, ids: &[Typ
 fn uses_own(
     alloc: Global,
     types: &[TypeDef],
-    shown: &Items<Shown>,
+    shown: &Items<NamedOwners>,
     owner: TypeOwner,
     function: &Function,
 ) -> Result<bool, AllocError>
-    requires { TellsEach types.now shown.now }
+    requires { AreNamedOwners types.now shown.now }
     ensures { IfOk result (λ own. IsTrue own ↔ UsesOwn types.now owner function.now) }
 {
     let ids = function_references(alloc, function)?;
@@ -126,10 +126,10 @@ fn uses_own(
 pub fn all_functions_use_own(
     alloc: Global,
     types: &[TypeDef],
-    shown: &Items<Shown>,
+    shown: &Items<NamedOwners>,
     interfaces: &[Interface],
 ) -> Result<bool, AllocError>
-    requires { TellsEach types.now shown.now }
+    requires { AreNamedOwners types.now shown.now }
     ensures { IfOk result (λ own. IsTrue own ↔ EachAt (FunctionsUseOwn types.now) interfaces.now) }
 {
     for (index, interface) in interfaces.iter().enumerate() {
@@ -143,11 +143,11 @@ pub fn all_functions_use_own(
 fn functions_use_own_at(
     alloc: Global,
     types: &[TypeDef],
-    shown: &Items<Shown>,
+    shown: &Items<NamedOwners>,
     index: usize,
     interface: &Interface,
 ) -> Result<bool, AllocError>
-    requires { TellsEach types.now shown.now }
+    requires { AreNamedOwners types.now shown.now }
     ensures { IfOk result (λ own. IsTrue own ↔ FunctionsUseOwn types.now index interface.now) }
 {
     let owner = InterfaceId::from_index(index);
@@ -157,11 +157,11 @@ fn functions_use_own_at(
 fn functions_use_own(
     alloc: Global,
     types: &[TypeDef],
-    shown: &Items<Shown>,
+    shown: &Items<NamedOwners>,
     owner: InterfaceId,
     interface: &Interface,
 ) -> Result<bool, AllocError>
-    requires { TellsEach types.now shown.now }
+    requires { AreNamedOwners types.now shown.now }
     ensures { IfOk result (λ own. IsTrue own ↔ FunctionsUseOwn types.now owner interface.now) }
 {
     for (_, function) in interface.functions.iter() {
@@ -178,10 +178,10 @@ fn functions_use_own(
 pub fn all_imports_use_own(
     alloc: Global,
     types: &[TypeDef],
-    shown: &Items<Shown>,
+    shown: &Items<NamedOwners>,
     worlds: &[World],
 ) -> Result<bool, AllocError>
-    requires { TellsEach types.now shown.now }
+    requires { AreNamedOwners types.now shown.now }
     ensures { IfOk result (λ own. IsTrue own ↔ EachAt (λ w (world : World). EntriesUseOwn types.now w world.imports) worlds.now) }
 {
     for (index, world) in worlds.iter().enumerate() {
@@ -198,10 +198,10 @@ pub fn all_imports_use_own(
 pub fn all_exports_use_own(
     alloc: Global,
     types: &[TypeDef],
-    shown: &Items<Shown>,
+    shown: &Items<NamedOwners>,
     worlds: &[World],
 ) -> Result<bool, AllocError>
-    requires { TellsEach types.now shown.now }
+    requires { AreNamedOwners types.now shown.now }
     ensures { IfOk result (λ own. IsTrue own ↔ EachAt (λ w (world : World). EntriesUseOwn types.now w world.exports) worlds.now) }
 {
     for (index, world) in worlds.iter().enumerate() {
@@ -215,11 +215,11 @@ pub fn all_exports_use_own(
 fn entries_use_own_at(
     alloc: Global,
     types: &[TypeDef],
-    shown: &Items<Shown>,
+    shown: &Items<NamedOwners>,
     index: usize,
     entries: &Table<WorldKey, WorldItem>,
 ) -> Result<bool, AllocError>
-    requires { TellsEach types.now shown.now }
+    requires { AreNamedOwners types.now shown.now }
     ensures { IfOk result (λ own. IsTrue own ↔ EntriesUseOwn types.now index entries.now) }
 {
     let owner = WorldId::from_index(index);
@@ -229,11 +229,11 @@ fn entries_use_own_at(
 fn entries_use_own(
     alloc: Global,
     types: &[TypeDef],
-    shown: &Items<Shown>,
+    shown: &Items<NamedOwners>,
     owner: WorldId,
     entries: &Table<WorldKey, WorldItem>,
 ) -> Result<bool, AllocError>
-    requires { TellsEach types.now shown.now }
+    requires { AreNamedOwners types.now shown.now }
     ensures { IfOk result (λ own. IsTrue own ↔ EntriesUseOwn types.now owner entries.now) }
 {
     for (_, item) in entries.iter() {
@@ -247,11 +247,11 @@ fn entries_use_own(
 fn item_uses_own(
     alloc: Global,
     types: &[TypeDef],
-    shown: &Items<Shown>,
+    shown: &Items<NamedOwners>,
     owner: WorldId,
     item: &WorldItem,
 ) -> Result<bool, AllocError>
-    requires { TellsEach types.now shown.now }
+    requires { AreNamedOwners types.now shown.now }
     ensures { IfOk result (λ own. IsTrue own ↔ ItemUsesOwn types.now owner item.now) }
 {
     match item {

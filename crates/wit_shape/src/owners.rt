@@ -3,7 +3,7 @@ ghost use Rattle.std.specs.Prelude.{◌↔◌, Contains, IfOk, IsTrue};
 ghost use Rattle.std.specs.Option.{option_copied};
 ghost use Rattle.wit_data.specs.Each.{Each, EachAt, SomeAt};
 ghost use Rattle.wit_data.specs.Ownership.{IsListed, IsTypeItem, IsTypeOf, ListsOwn, NamesFunctions, world_types};
-ghost use Rattle.wit_data.specs.Shape.{HasOwners};
+ghost use Rattle.wit_data.specs.Shape.{HasUnresolvedOwners};
 ghost use Rattle.wit_data.specs.declared.interface.Interface.{Interface};
 ghost use Rattle.wit_data.specs.declared.types.TypeDef.{TypeDef};
 ghost use Rattle.wit_data.specs.declared.world.World.{World};
@@ -18,7 +18,7 @@ use wit_values::{Names, Text, TryClone};
 
 /// Whether types, and what lists them, agree.
 pub(crate) fn has_owners(alloc: Global, unresolved: &UnresolvedPackage) -> Result<bool, AllocError>
-    ensures { IfOk result (λ holds. IsTrue holds ↔ HasOwners unresolved.now) }
+    ensures { IfOk result (λ holds. IsTrue holds ↔ HasUnresolvedOwners unresolved.now) }
 {
     let interfaces = unresolved.interfaces.as_slice();
     let types = unresolved.types.as_slice();

@@ -1,4 +1,4 @@
-//! The shape of unresolved packages, which every reader of WIT hands in.
+//! The shape of unresolved packages, which every reader of WIT brings.
 ghost use Rattle.std.specs.Prelude.{◌≡◌, ◌↔◌, None, IfOk, IsTrue};
 ghost use Rattle.wit_data.specs.Each.{Each};
 ghost use Rattle.wit_data.specs.Shape.{HasForeign, HasNames, HasUnknown, IsGroupShaped, IsShaped, IsUnplaced};

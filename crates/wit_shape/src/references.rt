@@ -3,7 +3,7 @@ ghost use Rattle.std.specs.Prelude.{◌≡◌, ◌↔◌, ◌<◌, ◌⊎◌, No
 ghost use Rattle.wit_data.specs.Each.{Each, EachAt, SomeAt};
 ghost use Rattle.wit_data.specs.Ownership.{AliasesNamed, IsNamed, IsNamedInterface, IsPlain};
 ghost use Rattle.wit_data.specs.Reference.{referred};
-ghost use Rattle.wit_data.specs.Shape.{HasReferences};
+ghost use Rattle.wit_data.specs.Shape.{HasUnresolvedReferences};
 ghost use Rattle.wit_data.specs.declared.types.TypeDef.{TypeDef};
 
 use std::alloc::{AllocError, Global};
@@ -18,7 +18,7 @@ pub(crate) fn has_references(
     alloc: Global,
     unresolved: &UnresolvedPackage,
 ) -> Result<bool, AllocError>
-    ensures { IfOk result (λ holds. IsTrue holds ↔ HasReferences unresolved.now) }
+    ensures { IfOk result (λ holds. IsTrue holds ↔ HasUnresolvedReferences unresolved.now) }
 {
     let types = unresolved.types.as_slice();
     if !all_alias_named(types, unresolved.interfaces.as_slice()) {

@@ -1,8 +1,8 @@
 //! What worlds import, export and include.
 ghost use Rattle.std.specs.Prelude.{◌≡◌, ◌↔◌, ◌++◌, filter, IfOk, OnOk, IsTrue};
 ghost use Rattle.wit_data.specs.Each.{Each, EachAt};
-ghost use Rattle.wit_data.specs.Entries.{HasExports, HasImports, IncludesEarlier, IsExport, IsImport, StandOnce, held_interfaces, is_unnamed, item_interface, placed_interfaces};
-ghost use Rattle.wit_data.specs.Shape.{HasWorlds};
+ghost use Rattle.wit_data.specs.Entries.{ExportsAreAllowed, ImportsAreAllowed, IncludesEarlier, IsExport, IsImport, StandOnce, interfaces_in_worlds, interfaces_of_entries, is_unnamed, item_interface};
+ghost use Rattle.wit_data.specs.Shape.{HasUnresolvedWorlds};
 
 use crate::names::is_text;
 use crate::numbers::are_distinct;
@@ -16,7 +16,7 @@ use wit_values::{Items, Table};
 
 /// Whether worlds import, export and include what they should.
 pub(crate) fn has_worlds(alloc: Global, unresolved: &UnresolvedPackage) -> Result<bool, AllocError>
-    ensures { IfOk result (λ holds. IsTrue holds ↔ HasWorlds unresolved.now) }
+    ensures { IfOk result (λ holds. IsTrue holds ↔ HasUnresolvedWorlds unresolved.now) }
 {
     let interfaces = unresolved.interfaces.as_slice();
     let worlds = unresolved.worlds.as_slice();
@@ -75,7 +75,7 @@ fn is_import(
 /// which has a name, and under a label an interface, the function of that name or the world's own
 /// type of that name.
 pub fn all_have_imports(interfaces: &[Interface], types: &[TypeDef], worlds: &[World]) -> bool
-    ensures { IsTrue result ↔ EachAt (HasImports interfaces.now types.now) worlds.now }
+    ensures { IsTrue result ↔ EachAt (ImportsAreAllowed interfaces.now types.now) worlds.now }
 {
     for (index, world) in worlds.iter().enumerate() {
         if !has_imports_at(interfaces, types, index, world) {
@@ -86,14 +86,14 @@ pub fn all_have_imports(interfaces: &[Interface], types: &[TypeDef], worlds: &[W
 }
 
 fn has_imports_at(interfaces: &[Interface], types: &[TypeDef], index: usize, world: &World) -> bool
-    ensures { IsTrue result ↔ HasImports interfaces.now types.now index world.now }
+    ensures { IsTrue result ↔ ImportsAreAllowed interfaces.now types.now index world.now }
 {
     let owner = WorldId::from_index(index);
     has_imports(interfaces, types, owner, world)
 }
 
 fn has_imports(interfaces: &[Interface], types: &[TypeDef], owner: WorldId, world: &World) -> bool
-    ensures { IsTrue result ↔ HasImports interfaces.now types.now owner world.now }
+    ensures { IsTrue result ↔ ImportsAreAllowed interfaces.now types.now owner world.now }
 {
     for (key, item) in world.imports.iter() {
         if !is_import(interfaces, types, owner, key, item) {
@@ -106,13 +106,13 @@ fn has_imports(interfaces: &[Interface], types: &[TypeDef], owner: WorldId, worl
 /// Whether the exports of each world are exports: under the key of an interface that interface,
 /// which has a name, and under a label an interface or the function of that name.
 pub fn all_have_exports(interfaces: &[Interface], worlds: &[World]) -> bool
-    ensures { IsTrue result ↔ Each (HasExports interfaces.now) worlds.now }
+    ensures { IsTrue result ↔ Each (ExportsAreAllowed interfaces.now) worlds.now }
 {
     worlds.iter().all(|world| has_exports(interfaces, world))
 }
 
 fn has_exports(interfaces: &[Interface], world: &World) -> bool
-    ensures { IsTrue result ↔ HasExports interfaces.now world.now }
+    ensures { IsTrue result ↔ ExportsAreAllowed interfaces.now world.now }
 {
     for (key, item) in world.exports.iter() {
         if !is_export(interfaces, key, item) {
@@ -151,7 +151,7 @@ pub fn stand_once(
 ) -> Result<bool, AllocError>
     ensures { IfOk result (λ once. IsTrue once ↔ StandOnce interfaces.now worlds.now) }
 {
-    let placed = placed_interfaces(alloc, worlds)?;
+    let placed = interfaces_in_worlds(alloc, worlds)?;
     let unnamed = unnamed_among(alloc, interfaces, placed.as_slice())?;
     are_distinct(alloc, unnamed.as_slice(), interfaces.len())
 }
@@ -183,8 +183,8 @@ fn is_unnamed(interfaces: &[Interface], id: usize) -> bool
 }
 
 /// The interfaces in all places of all worlds.
-fn placed_interfaces(alloc: Global, worlds: &[World]) -> Result<Items<usize>, AllocError>
-    ensures { IfOk result (λ ids. ids ≡ placed_interfaces worlds.now) }
+fn interfaces_in_worlds(alloc: Global, worlds: &[World]) -> Result<Items<usize>, AllocError>
+    ensures { IfOk result (λ ids. ids ≡ interfaces_in_worlds worlds.now) }
 {
     let mut ids = Items::new(alloc);
     for world in worlds {
@@ -194,7 +194,7 @@ fn placed_interfaces(alloc: Global, worlds: &[World]) -> Result<Items<usize>, Al
 }
 
 fn push_world(ids: &mut Items<usize>, world: &World) -> Result<(), AllocError>
-    ensures { OnOk result (ids.new ≡ ids.old ++ (held_interfaces world.now.imports ++ held_interfaces world.now.exports)) }
+    ensures { OnOk result (ids.new ≡ ids.old ++ (interfaces_of_entries world.now.imports ++ interfaces_of_entries world.now.exports)) }
 {
     push_entries(ids, &world.imports)?;
     push_entries(ids, &world.exports)
@@ -204,7 +204,7 @@ fn push_entries(
     ids: &mut Items<usize>,
     entries: &Table<WorldKey, WorldItem>,
 ) -> Result<(), AllocError>
-    ensures { OnOk result (ids.new ≡ ids.old ++ held_interfaces entries.now) }
+    ensures { OnOk result (ids.new ≡ ids.old ++ interfaces_of_entries entries.now) }
 {
     for (_, item) in entries.iter() {
         push_item(ids, item)?;

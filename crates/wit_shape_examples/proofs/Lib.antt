@@ -1,3 +1,3 @@
+pub mod OneFilePlaces
 mod ShapeMisses
 mod Shaped
-pub mod OneFilePlaces

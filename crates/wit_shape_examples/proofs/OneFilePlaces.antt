@@ -2,7 +2,7 @@
 use Rattle.std.proofs.Common.{◌≡◌, ℕ, zero, suc, ◌+◌, ◌≤◌, ◌&&◌, Bool, true, false, List, [], ◌∷◌, length, slice_get, Some, refl, ap, arith}
 use Rattle.std.proofs.lemmas.Bool.{leb-true, false≢true}
 use Rattle.std.specs.Prelude.{nat_le}
-use Rattle.wit_sources.specs.Shown.{has_position}
+use Rattle.wit_sources.specs.Locations.{has_position}
 use Rattle.wit_sources.specs.SourceMap.{AreLaidOut, end_after}
 use Rattle.wit_sources.specs.declared.source_map.SourceFile.{SourceFile}
 

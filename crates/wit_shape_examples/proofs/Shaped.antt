@@ -6,7 +6,7 @@ use Rattle.wit_digraph.specs.Relation.{IsAcyclic}
 use Rattle.wit_digraph.specs.facts.EarlierFacts.{IsAcyclic-earlier}
 use Rattle.wit_data.specs.facts.EachFacts.{EachAt-nil, EachAt-one, EachAt-three, EachAt-two}
 use Rattle.wit_data.specs.Ownership.{IsOwn}
-use Rattle.wit_data.specs.Shape.{HasForeign, HasNames, HasOwners, HasReferences, HasUnknown, HasWorlds, IsShaped, IsUnplaced, KeepsToOwn, KeysDiffer}
+use Rattle.wit_data.specs.Shape.{HasForeign, HasNames, HasUnknown, HasUnresolvedOwners, HasUnresolvedReferences, HasUnresolvedWorlds, IsShaped, IsUnplaced, KeepsToOwn, KeysDiffer}
 use Rattle.wit_data.specs.UsePath.{is_kebab_name}
 use Rattle.wit_data.specs.Uses.{uses_of}
 use Rattle.wit_data.specs.declared.stability.Stability.TheVariants.{Unknown}
@@ -58,14 +58,14 @@ names = record {
   worlds_differ = (tt, tt);
 }
 
-owners : HasOwners shaped_package
+owners : HasUnresolvedOwners shaped_package
 owners = record {
   listed = EachAt-three _ _ _ _ (0, lit< tt, refl) (0, lit< tt, refl) (1, lit< tt, refl);
   own_types = EachAt-two _ _ _ (EachAt-one _ _ (refl, refl)) (EachAt-two _ _ _ (refl, refl) (refl, refl));
   functions = EachAt-two _ _ _ (EachAt-nil _) (EachAt-one _ _ refl);
 }
 
-references : HasReferences shaped_package
+references : HasUnresolvedReferences shaped_package
 references = record {
   earlier = EachAt-three _ _ _ _ (EachAt-nil _) (EachAt-one _ _ (lit< tt)) (EachAt-one _ _ (lit< tt));
   aliases = EachAt-three _ _ _ _ tt (refl, inr refl) tt;
@@ -87,7 +87,7 @@ own = record {
   exports = EachAt-one _ _ (EachAt-nil _);
 }
 
-worlds : HasWorlds shaped_package
+worlds : HasUnresolvedWorlds shaped_package
 unfolding IsDistinct
 worlds = record {
   imports = EachAt-one _ _ (EachAt-two _ _ _ (refl, refl) (refl, refl));

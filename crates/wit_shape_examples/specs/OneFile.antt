@@ -1,6 +1,6 @@
 -- A position is of one file of a source map at the most.
 use Rattle.std.specs.Prelude.{◌≡◌, ℕ, List, Some, true, slice_get}
-use Rattle.wit_sources.specs.Shown.{has_position}
+use Rattle.wit_sources.specs.Locations.{has_position}
 use Rattle.wit_sources.specs.SourceMap.{AreLaidOut}
 use Rattle.wit_sources.specs.declared.source_map.SourceFile.{SourceFile}
 

@@ -1,7 +1,7 @@
 -- Places in source texts as they are told, and texts that show them.
 use Rattle.std.specs.Prelude.{◌≡◌, ◌≢◌, ℕ, List, [], ◌∷◌, ◌++◌, replicate, Some, None, codes}
 use Rattle.wit_sources.specs.Lines.{dashes}
-use Rattle.wit_sources.specs.Shown.{highlighted, highlighted_in, location_of}
+use Rattle.wit_sources.specs.Locations.{highlight_text, highlight_text_in, location_of}
 use Rattle.wit_sources.specs.declared.source_map.SourceFile.{SourceFile}
 
 -- a file of two lines, of 24 bytes
@@ -28,7 +28,7 @@ abbrev pub line_of : ℕ → SourceFile
 line_of n = record { path = codes "l.wit"; contents = replicate n 120; start = 0 }
 
 -- where spans begin
-pub record ExamplesOfPlaces : Type 0 where
+pub record ExamplesOfLocations : Type 0 where
   pub beginning : location_of (first ∷ second ∷ []) (Some (0, 7)) ≡ codes "m.wit:1:1"
   pub second_line : location_of (first ∷ []) (Some (13, 18)) ≡ codes "m.wit:2:1"
   pub within_a_line : location_of (first ∷ []) (Some (19, 20)) ≡ codes "m.wit:2:7"
@@ -50,11 +50,11 @@ pub record ExamplesOfPlaces : Type 0 where
 
 -- what stands under spans, and lines that are too long
 pub record ExamplesOfHighlights : Type 0 where
-  pub told : highlighted (first ∷ []) (Some (13, 18)) (codes "bad") ≡ Some (codes "bad\n     --> m.wit:2:1\n      |\n    2 | world w {}\n      | ^----")
-  pub later : highlighted (first ∷ second ∷ []) (Some (33, 36)) (codes "bad") ≡ Some (codes "bad\n     --> n.wit:1:9\n      |\n    1 | package c:d;\n      |         ^--")
-  pub end_of_a_file : highlighted (first ∷ []) (Some (24, 24)) (codes "bad") ≡ Some (codes "bad\n     --> m.wit:3:1\n      |\n    3 | \n      | ^")
-  pub in_no_file : highlighted (first ∷ []) (Some (25, 26)) (codes "bad") ≡ None
-  pub unknown : highlighted (first ∷ []) None (codes "bad") ≡ None
+  pub told : highlight_text (first ∷ []) (Some (13, 18)) (codes "bad") ≡ Some (codes "bad\n     --> m.wit:2:1\n      |\n    2 | world w {}\n      | ^----")
+  pub later : highlight_text (first ∷ second ∷ []) (Some (33, 36)) (codes "bad") ≡ Some (codes "bad\n     --> n.wit:1:9\n      |\n    1 | package c:d;\n      |         ^--")
+  pub end_of_a_file : highlight_text (first ∷ []) (Some (24, 24)) (codes "bad") ≡ Some (codes "bad\n     --> m.wit:3:1\n      |\n    3 | \n      | ^")
+  pub in_no_file : highlight_text (first ∷ []) (Some (25, 26)) (codes "bad") ≡ None
+  pub unknown : highlight_text (first ∷ []) None (codes "bad") ≡ None
   pub three_characters : dashes wide_text 0 5 ≡ 2
   pub one_character : dashes wide_text 0 2 ≡ 0
   pub empty : dashes wide_text 3 3 ≡ 0
@@ -62,10 +62,10 @@ pub record ExamplesOfHighlights : Type 0 where
   pub cut_at_its_beginning : dashes wide_text 1 5 ≡ 0
   pub with_a_line_feed : dashes wide_text 0 6 ≡ 0
   pub past_the_file : dashes wide_text 3 7 ≡ 0
-  pub too_long : highlighted (line_of 501 ∷ []) (Some (1, 3)) (codes "bad") ≡ Some (codes "l.wit:1:2: bad")
-  pub just_shown : highlighted (line_of 500 ∷ []) (Some (1, 3)) (codes "bad")
+  pub too_long : highlight_text (line_of 501 ∷ []) (Some (1, 3)) (codes "bad") ≡ Some (codes "l.wit:1:2: bad")
+  pub just_shown : highlight_text (line_of 500 ∷ []) (Some (1, 3)) (codes "bad")
       ≡ Some (codes "bad\n     --> l.wit:1:2\n      |\n    1 | " ++ (replicate 500 120 ++ codes "\n      |  ^-"))
   -- near misses: the mark a place too far, a dash too many, dashes for bytes
-  pub not_further : highlighted_in first (Some (13, 18)) (codes "bad") ≢ codes "bad\n     --> m.wit:2:1\n      |\n    2 | world w {}\n      |  ^----"
-  pub not_longer : highlighted_in first (Some (13, 18)) (codes "bad") ≢ codes "bad\n     --> m.wit:2:1\n      |\n    2 | world w {}\n      | ^-----"
+  pub not_further : highlight_text_in first (Some (13, 18)) (codes "bad") ≢ codes "bad\n     --> m.wit:2:1\n      |\n    2 | world w {}\n      |  ^----"
+  pub not_longer : highlight_text_in first (Some (13, 18)) (codes "bad") ≢ codes "bad\n     --> m.wit:2:1\n      |\n    2 | world w {}\n      | ^-----"
   pub not_bytes : dashes wide_text 0 5 ≢ 4

@@ -2,7 +2,7 @@
 use Rattle.std.specs.Prelude.{ℕ, List, [], ◌∷◌, Some, None, codes}
 use Rattle.wit_data.specs.Entries.{Entry}
 use Rattle.wit_data.specs.Foreign.{ForeignItems}
-use Rattle.wit_data.specs.Shape.{HasForeign, HasNames, HasOwners, HasReferences, HasUnknown, HasWorlds, IsUnplaced, KeepsToOwn, KeysDiffer}
+use Rattle.wit_data.specs.Shape.{HasForeign, HasNames, HasUnknown, HasUnresolvedOwners, HasUnresolvedReferences, HasUnresolvedWorlds, IsUnplaced, KeepsToOwn, KeysDiffer}
 use Rattle.wit_data.specs.Uses.{uses_of}
 use Rattle.wit_data.specs.declared.function.Function.{Function}
 use Rattle.wit_data.specs.declared.function.FunctionKind.TheVariants as function
@@ -122,12 +122,12 @@ pub record NearMissesOfShape : Type 0 where
   -- w has a name that isn't kebab
   pub names : HasNames (record shaped_package { worlds = world_of (codes "a_b") [] ∷ [] }) → ⊥
   -- x doesn't list its r
-  pub owners : HasOwners (record shaped_package { interfaces = foreign_i ∷ x_of ((codes "t", 1) ∷ []) ∷ [] }) → ⊥
+  pub owners : HasUnresolvedOwners (record shaped_package { interfaces = foreign_i ∷ x_of ((codes "t", 1) ∷ []) ∷ [] }) → ⊥
   -- the t of x is another name of a later type
-  pub references : HasReferences (record shaped_package { types = types_of (kind.Type_ (type.Id 2)) kind.Resource }) → ⊥
+  pub references : HasUnresolvedReferences (record shaped_package { types = types_of (kind.Type_ (type.Id 2)) kind.Resource }) → ⊥
   -- r refers to the t of i itself
   pub own : KeepsToOwn (record shaped_package { types = types_of (kind.Type_ (type.Id 0)) (record_of (type.Id 0)) }) → ⊥
   -- under the key of i stands x
-  pub worlds : HasWorlds (record shaped_package { worlds = world_of (codes "w") ((key.Interface 0, item.Interface 1 Unknown no_docs None None) ∷ []) ∷ [] }) → ⊥
+  pub worlds : HasUnresolvedWorlds (record shaped_package { worlds = world_of (codes "w") ((key.Interface 0, item.Interface 1 Unknown no_docs None None) ∷ []) ∷ [] }) → ⊥
   -- i and x use each other
   pub uses : IsAcyclic (uses_of (type_in 0 (codes "t") (kind.Type_ (type.Id 1)) ∷ type_in 1 (codes "t") (kind.Type_ (type.Id 0)) ∷ []) (foreign_i ∷ x_of ((codes "t", 1) ∷ []) ∷ [])) → ⊥

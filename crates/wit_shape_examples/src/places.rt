@@ -1,10 +1,10 @@
 //! Examples of places in source texts, and that each is in one file.
 ghost use Rattle.wit_shape_examples.specs.OneFile.{HaveNoneInCommon};
-ghost use Rattle.wit_shape_examples.specs.Places.{ExamplesOfHighlights, ExamplesOfPlaces};
+ghost use Rattle.wit_shape_examples.specs.Places.{ExamplesOfHighlights, ExamplesOfLocations};
 
 /// Where spans begin, by files, lines and columns.
-pub fn examples_of_places()
-    ensures { ExamplesOfPlaces }
+pub fn examples_of_locations()
+    ensures { ExamplesOfLocations }
 {}
 
 /// What stands under spans.

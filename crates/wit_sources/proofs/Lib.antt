@@ -1,3 +1,3 @@
 pub mod LineLemmas
-pub mod ShownLemmas
+pub mod LocationLemmas
 pub mod SourceMapLemmas

@@ -1,4 +1,4 @@
 pub mod Lines
-pub mod Shown
+pub mod Locations
 pub mod SourceMap
 pub mod Span

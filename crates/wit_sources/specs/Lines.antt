@@ -29,17 +29,17 @@ abbrev pub column : List ℕ → ℕ → ℕ
 column text position = count_by is_char_start (line_before text position) + 1
 
 -- the position is in the text or at its end, and no character goes over it
-abbrev pub is_cut_whole : List ℕ → ℕ → Bool
-is_cut_whole text position = if nat_le (length text) position then position == length text else is_char_start (slice_index text position)
+abbrev pub is_char_boundary_at : List ℕ → ℕ → Bool
+is_char_boundary_at text position = if nat_le (length text) position then position == length text else is_char_start (slice_index text position)
 
 -- what stands between two positions
-abbrev pub spanned : List ℕ → ℕ → ℕ → List ℕ
-spanned text start end = take (end - start) (drop start text)
+abbrev pub text_between : List ℕ → ℕ → ℕ → List ℕ
+text_between text start end = take (end - start) (drop start text)
 
 -- what stands between two positions is of whole characters of one line
 abbrev pub is_in_line : List ℕ → ℕ → ℕ → Bool
-is_in_line text start end = is_cut_whole text start && (is_cut_whole text end && not (list_any is_line_feed (spanned text start end)))
+is_in_line text start end = is_char_boundary_at text start && (is_char_boundary_at text end && not (list_any is_line_feed (text_between text start end)))
 
 -- how many characters follow the first one between two positions, none where these aren't whole characters of one line
 abbrev pub dashes : List ℕ → ℕ → ℕ → ℕ
-dashes text start end = if is_in_line text start end then count_by is_char_start (spanned text start end) - 1 else 0
+dashes text start end = if is_in_line text start end then count_by is_char_start (text_between text start end) - 1 else 0

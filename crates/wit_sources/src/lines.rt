@@ -2,7 +2,7 @@
 ghost use Rattle.std.specs.Prelude.{◌≡◌, ◌≤◌, ◌<◌, ◌-◌, length, not, slice_index, count_by};
 ghost use Rattle.std.specs.Fmt.{is_char_start};
 ghost use Rattle.std.specs.List.{position_or_len, suffix_len};
-ghost use Rattle.wit_sources.specs.Lines.{column, dashes, is_cut_whole, is_line_feed, line_number, line_text};
+ghost use Rattle.wit_sources.specs.Lines.{column, dashes, is_char_boundary_at, is_line_feed, line_number, line_text};
 
 /// The number of the line in which a position of a text stands, from 1.
 pub(crate) fn line_number(text: &str, offset: usize) -> usize
@@ -41,7 +41,7 @@ pub(crate) fn dashes(text: &str, start: usize, end: usize) -> usize
     ensures { result ≡ dashes text.now start end }
 {
     let bytes = text.as_bytes();
-    if !is_cut_whole(bytes, start) || !is_cut_whole(bytes, end) {
+    if !is_char_boundary_at(bytes, start) || !is_char_boundary_at(bytes, end) {
         return 0;
     }
     let shown = &bytes[start..end];
@@ -67,8 +67,8 @@ fn is_char_start(byte: u8) -> bool
 }
 
 /// Whether a position is in a text or at its end, and in no character.
-fn is_cut_whole(bytes: &[u8], position: usize) -> bool
-    ensures { result ≡ is_cut_whole bytes.now position }
+fn is_char_boundary_at(bytes: &[u8], position: usize) -> bool
+    ensures { result ≡ is_char_boundary_at bytes.now position }
 {
     match bytes.get(position) {
         Some(byte) => is_char_start(*byte),

@@ -1,5 +1,5 @@
 //! The calls of `wit_graph`.
-use crate::fixtures::{assert_told, file, graph};
+use crate::fixtures::{assert_text, file, graph};
 use std::alloc::Global;
 use std::fmt::Write;
 use std::process::Abort;
@@ -51,7 +51,7 @@ fn dependencies(rt: &impl Abort, alloc: Global) -> String {
 
 #[test]
 fn dependencies_are_told(rt: HostRuntime) {
-    assert_told(
+    assert_text(
         &rt,
         dependencies(&rt, rt.alloc()),
         "type 3 of 0, interface 1 uses 0, package 1 uses 0, package 1 uses 0, 0;1;",
@@ -81,7 +81,7 @@ fn names(rt: &impl Abort, alloc: Global) -> String {
 
 #[test]
 fn names_are_told(rt: HostRuntime) {
-    assert_told(
+    assert_text(
         &rt,
         names(&rt, rt.alloc()),
         "foo:dep/i@0.2.1 foo:dep/i@0.2 foo:dep/x@0.2.1 foo:dep/x@0.2 foo:dep/i@0.2.1 foo:dep/i@0.2",
@@ -108,7 +108,7 @@ fn futures(rt: &impl Abort, alloc: Global) -> String {
 
 #[test]
 fn futures_and_streams_are_found(rt: HostRuntime) {
-    assert_told(&rt, futures(&rt, rt.alloc()), "1;2;");
+    assert_text(&rt, futures(&rt, rt.alloc()), "1;2;");
 }
 
 /// Writes the interfaces that the world imports, and whether the graph is valid.
@@ -155,7 +155,7 @@ fn entry(index: usize) -> WorldItem {
 
 #[test]
 fn worlds_are_elaborated(rt: HostRuntime) {
-    assert_told(
+    assert_text(
         &rt,
         elaborated(&rt, rt.alloc()),
         "0,1, true;1, false;0,1, true;",
@@ -174,7 +174,7 @@ fn error(rt: &impl Abort, alloc: Global) -> String {
 
 #[test]
 fn errors_are_told_in_their_line(rt: HostRuntime) {
-    assert_told(
+    assert_text(
         &rt,
         error(&rt, rt.alloc()),
         "0 bad bad\n\

@@ -1,5 +1,5 @@
 //! The calls of `wit_items`.
-use crate::fixtures::{assert_told, file, groups, list, text, version};
+use crate::fixtures::{assert_text, file, groups, list, text, version};
 use std::alloc::Global;
 use std::fmt::Write;
 use std::process::Abort;
@@ -50,7 +50,7 @@ fn tracks(rt: &impl Abort, alloc: Global, of: &str) -> String {
 
 #[test]
 fn a_pre_release_has_a_track_by_each_rule(rt: HostRuntime) {
-    assert_told(
+    assert_text(
         &rt,
         tracks(&rt, rt.alloc(), "1.2.3-rc.1+b"),
         "1.2.3-rc.1 1.0.0 1.2.3-rc.1 +b 1.2.3-rc.1 +b",
@@ -59,7 +59,7 @@ fn a_pre_release_has_a_track_by_each_rule(rt: HostRuntime) {
 
 #[test]
 fn a_release_has_one_track(rt: HostRuntime) {
-    assert_told(
+    assert_text(
         &rt,
         tracks(&rt, rt.alloc(), "1.2.3"),
         "1.0.0 1.0.0 1.0.0 .2.3 1 .2.3",
@@ -79,8 +79,8 @@ fn path(rt: &impl Abort, alloc: Global, text: &str) -> String {
 #[test]
 fn use_paths_are_read(rt: HostRuntime) {
     let alloc = rt.alloc();
-    assert_told(&rt, path(&rt, alloc, "a:b/c@1.0.0"), "a:b@1.0.0 c");
-    assert_told(&rt, path(&rt, alloc, "c"), "c");
+    assert_text(&rt, path(&rt, alloc, "a:b/c@1.0.0"), "a:b@1.0.0 c");
+    assert_text(&rt, path(&rt, alloc, "c"), "c");
     assert!(rt; parse_use_path(alloc, "a:b").is_err());
     assert!(rt; is_kebab_name("a-b") && !is_kebab_name("a--b"));
 }
@@ -103,7 +103,7 @@ fn sources(rt: &impl Abort, alloc: Global) -> String {
 
 #[test]
 fn spans_are_found_in_their_files(rt: HostRuntime) {
-    assert_told(
+    assert_text(
         &rt,
         sources(&rt, rt.alloc()),
         "25 50 m.wit:2:1 bad\n\
@@ -147,5 +147,5 @@ fn given_back(rt: &impl Abort, alloc: Global) -> String {
 
 #[test]
 fn data_are_given_back(rt: HostRuntime) {
-    assert_told(&rt, given_back(&rt, rt.alloc()), "t 2 1 3 4 5 n 6");
+    assert_text(&rt, given_back(&rt, rt.alloc()), "t 2 1 3 4 5 n 6");
 }

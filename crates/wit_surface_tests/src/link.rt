@@ -1,5 +1,5 @@
 //! The calls of `wit_link`.
-use crate::fixtures::{assert_told, groups, list, package, text};
+use crate::fixtures::{assert_text, groups, list, package, text};
 use std::alloc::Global;
 use std::fmt::Write;
 use std::process::Abort;
@@ -79,8 +79,8 @@ fn mapped(rt: &impl Abort, alloc: Global) -> String {
 
 #[test]
 fn things_are_mapped_or_refused(rt: HostRuntime) {
-    assert_told(&rt, listed(&rt, rt.alloc()), "5 - 6 - 8 - 7 ");
-    assert_told(
+    assert_text(&rt, listed(&rt, rt.alloc()), "5 - 6 - 8 - 7 ");
+    assert_text(
         &rt,
         mapped(&rt, rt.alloc()),
         "5 11 at 3 11 at 3 12 at 3 11 at 3 12 at 3",
@@ -112,7 +112,7 @@ fn sorted(rt: &impl Abort, alloc: Global) -> String {
 
 #[test]
 fn groups_are_sorted(rt: HostRuntime) {
-    assert_told(&rt, sorted(&rt, rt.alloc()), "foo:b 8;foo:a 7;");
+    assert_text(&rt, sorted(&rt, rt.alloc()), "foo:b 8;foo:a 7;");
 }
 
 const ALONE: &str = "package foo:b\ninterface j\ntype t u32\npush\n";
@@ -144,7 +144,7 @@ fn appended(rt: &impl Abort, alloc: Global) -> String {
 
 #[test]
 fn packages_are_appended(rt: HostRuntime) {
-    assert_told(
+    assert_text(
         &rt,
         appended(&rt, rt.alloc()),
         "at 0 of 1 1 1;refused 5 of 1 1 1;",
@@ -166,11 +166,11 @@ fn renamed(rt: &impl Abort, alloc: Global, label: &str, from: &str, to: &str) ->
 #[test]
 fn labels_are_renamed(rt: HostRuntime) {
     let alloc = rt.alloc();
-    assert_told(
+    assert_text(
         &rt,
         renamed(&rt, alloc, "[method][get]r.p", "r", "r2"),
         "[method][get]r2.p",
     );
-    assert_told(&rt, renamed(&rt, alloc, "[method", "r", "r2"), "-");
-    assert_told(&rt, renamed(&rt, alloc, "r.p", "p", "q"), "-");
+    assert_text(&rt, renamed(&rt, alloc, "[method", "r", "r2"), "-");
+    assert_text(&rt, renamed(&rt, alloc, "r.p", "p", "q"), "-");
 }

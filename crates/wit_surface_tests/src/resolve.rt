@@ -1,5 +1,5 @@
 //! The calls of `Resolve` that add, merge and transform, whose names `wit_resolve_graph` gives alone.
-use crate::fixtures::{assert_told, file, groups, package, resolve};
+use crate::fixtures::{assert_text, file, groups, package, resolve};
 use std::alloc::Global;
 use std::fmt::Write;
 use std::process::Abort;
@@ -30,7 +30,7 @@ fn settings(rt: &impl Abort, alloc: Global) -> String {
 
 #[test]
 fn a_copy_has_what_is_set(rt: HostRuntime) {
-    assert_told(
+    assert_text(
         &rt,
         settings(&rt, rt.alloc()),
         "1 true WithPrereleases 0 25 m.wit:2:1",
@@ -77,7 +77,7 @@ fn added(rt: &impl Abort, alloc: Global) -> String {
 
 #[test]
 fn packages_are_added_and_merged(rt: HostRuntime) {
-    assert_told(&rt, added(&rt, rt.alloc()), "0 2: 3 0 of 4 3");
+    assert_text(&rt, added(&rt, rt.alloc()), "0 2: 3 0 of 4 3");
 }
 
 /// Two versions of `x`, `y` that uses the older one, and worlds that import and export it.
@@ -134,7 +134,7 @@ fn transformed(rt: &impl Abort, alloc: Global) -> String {
 
 #[test]
 fn worlds_are_merged_and_transformed(rt: HostRuntime) {
-    assert_told(
+    assert_text(
         &rt,
         transformed(&rt, rt.alloc()),
         "world foo:main/w\n\

@@ -1,5 +1,5 @@
 //! The calls of `wit_unite`.
-use crate::fixtures::{assert_told, graph};
+use crate::fixtures::{assert_text, graph};
 use std::alloc::Global;
 use std::fmt::Write;
 use std::process::Abort;
@@ -43,7 +43,7 @@ fn united(rt: &impl Abort, alloc: Global) -> String {
 
 #[test]
 fn graphs_are_united(rt: HostRuntime) {
-    assert_told(&rt, united(&rt, rt.alloc()), "2 2 0: 1 0 1 0");
+    assert_text(&rt, united(&rt, rt.alloc()), "2 2 0: 1 0 1 0");
 }
 
 const SCRIPT: &str = "package foo:bar\n\
@@ -94,10 +94,10 @@ fn exportized(rt: &impl Abort, alloc: Global) -> Graph {
 fn worlds_are_transformed(rt: HostRuntime) {
     let alloc = rt.alloc();
     let first = importized(&rt, alloc);
-    assert_told(&rt, world(&rt, alloc, &first), "w-importized 2 0");
+    assert_text(&rt, world(&rt, alloc, &first), "w-importized 2 0");
     drop(first);
     let second = exportized(&rt, alloc);
-    assert_told(&rt, world(&rt, alloc, &second), "v 0 2");
+    assert_text(&rt, world(&rt, alloc, &second), "v 0 2");
 }
 
 const VERSIONS: &str = "package foo:x@0.2.0\n\
@@ -126,6 +126,6 @@ fn merged(rt: &impl Abort, alloc: Global, rule: TrackRule) -> String {
 #[test]
 fn imports_are_merged_by_each_rule(rt: HostRuntime) {
     let alloc = rt.alloc();
-    assert_told(&rt, merged(&rt, alloc, TrackRule::Published), "w 2 0");
-    assert_told(&rt, merged(&rt, alloc, TrackRule::WithPrereleases), "w 1 0");
+    assert_text(&rt, merged(&rt, alloc, TrackRule::Published), "w 2 0");
+    assert_text(&rt, merged(&rt, alloc, TrackRule::WithPrereleases), "w 1 0");
 }

@@ -54,7 +54,7 @@ pub fn command_of(command: ScriptCommand) -> Option<Command>
     }
 }
 
-/// The same of a command that hands in no package.
+/// The same of a command that brings no package.
 fn requested(request: Request) -> Option<Command>
     ensures { IfSome result (λ command. IsCommandShaped command) }
 {

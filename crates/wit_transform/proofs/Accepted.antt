@@ -1,4 +1,4 @@
--- A turn against which nothing speaks makes a valid graph.
+-- A turn against which no cause holds makes a valid graph.
 use Rattle.std.proofs.Common.{◌≡◌, ◌∙◌, ℕ, Bool, true, List, [], Option, None, Some, IsSomeAnd, length, slice_get, refl, sym, arith, Contains}
 use Rattle.std.specs.Option.{option_map_or}
 use Rattle.std.proofs.lemmas.Option.{slice_get_within}
@@ -27,10 +27,10 @@ use Rattle.wit_graph_theory.specs.facts.ListFacts.{found_at, get_at, place_of}
 use Rattle.wit_graph_theory.specs.facts.LawsOfElaboration.{LawsOfElaboration}
 use Rattle.wit_transform.proofs.Distinct.{entry_of_key}
 use Rattle.wit_transform.proofs.ListsFrom.{ComesFrom, exportized_comes, importized_comes}
-use Rattle.wit_transform.proofs.TurnedWorlds.{in_order}
-use Rattle.wit_transform.proofs.ValidTurns.{turned_is_valid}
-use Rattle.wit_transform.specs.TurnCause.{HasTypeAt, IsExportizeCause, IsImportizeCause, IsTaken, export_conflict, exportized_taken, imports_at, importized_taken, label_clash, label_clash_text, name_taken_text, type_exported, type_exported_text}
-use Rattle.wit_transform.specs.Turned.{AreUnderLabels, Turn, exportized, importized, is_type, turned, turned_at, type_entries}
+use Rattle.wit_transform.proofs.TransformedWorlds.{in_order}
+use Rattle.wit_transform.proofs.ValidTransformations.{transformed_is_valid}
+use Rattle.wit_transform.specs.TransformCause.{HasTypeAt, IsExportizeCause, IsImportizeCause, HasNameTaken, export_conflict, exportized_name_taken, imports_at, importized_name_taken, label_clash, label_clash_text, name_taken_text, type_exported, type_exported_text}
+use Rattle.wit_transform.specs.Transformed.{AreUnderLabels, WorldLists, exportized, importized, is_type, transformed, transformed_at, type_entries}
 
 -- ---- a valid graph
 
@@ -60,57 +60,57 @@ module _ (g : Graph) (valid : IsValid g) (w : ℕ) (old : World) (there : slice_
 
 -- ---- accepted turns
 
--- what is so of a turn against which nothing speaks
-pub record IsAcceptedTurn (g : Graph) (w : ℕ) (old : World) (turn : Turn) : Type 0 where
-  pub from : ComesFrom old turn
-  pub no_conflict : HasConflict (graph_uses g) turn.exports → ⊥
-  pub free : (home : Package) → IsTaken g w old turn.name home → ⊥
+-- what is so of a turn against which no cause holds
+pub record IsAcceptedTransformation (g : Graph) (w : ℕ) (old : World) (transform : WorldLists) : Type 0 where
+  pub from : ComesFrom old transform
+  pub no_conflict : HasConflict (graph_uses g) transform.exports → ⊥
+  pub free : (home : Package) → HasNameTaken g w old transform.name home → ⊥
 
 module _ (laws : LawsOfElaboration) (g : Graph) (valid : IsValid g) (w : ℕ) (out : Option (List ℕ)) where
-  valid_turned : (old : World) (turn : Turn) → slice_get g.worlds w ≡ Some old → IsAcceptedTurn g w old turn → IsValid (turned_at g w old turn)
-  valid_turned old turn there accepted =
+  valid_transformed : (old : World) (transform : WorldLists) → slice_get g.worlds w ≡ Some old → IsAcceptedTransformation g w old transform → IsValid (transformed_at g w old transform)
+  valid_transformed old transform there accepted =
       let home = home_at g valid w old there in
-      turned_is_valid laws g valid w old there turn accepted.from accepted.no_conflict home.0 home.1 home.2 home.3 (λ taken. accepted.free home.1 (home.0, home.2, home.3, taken))
+      transformed_is_valid laws g valid w old there transform accepted.from accepted.no_conflict home.0 home.1 home.2 home.3 (λ taken. accepted.free home.1 (home.0, home.2, home.3, taken))
 
-  pub importized_accepted : ((error : ResolveErrorKind) → IsImportizeCause g w out error → ⊥) → (old : World) → slice_get g.worlds w ≡ Some old → IsAcceptedTurn g w old (importized out old)
+  pub importized_accepted : ((error : ResolveErrorKind) → IsImportizeCause g w out error → ⊥) → (old : World) → slice_get g.worlds w ≡ Some old → IsAcceptedTransformation g w old (importized out old)
   importized_accepted clear old there = record {
     from = importized_comes old out (valid.well_formed.worlds.distinct_imports w old there) (valid.well_formed.worlds.distinct_exports w old there) (under_labels g valid w old there)
         (λ label clash. clear (Semantic None (label_clash_text label) LabelClash) (old, there, label_clash label clash refl));
     no_conflict = λ conflict. Contains-nil conflict.2;
-    free = λ home taken. clear (Semantic None (name_taken_text (importized out old).name home.name) NameTaken) (old, there, importized_taken home taken refl);
+    free = λ home taken. clear (Semantic None (name_taken_text (importized out old).name home.name) NameTaken) (old, there, importized_name_taken home taken refl);
   }
 
   -- exports that became imports
-  pub importized_valid : ((error : ResolveErrorKind) → IsImportizeCause g w out error → ⊥) → IsValid (turned g w (importized out))
+  pub importized_valid : ((error : ResolveErrorKind) → IsImportizeCause g w out error → ⊥) → IsValid (transformed g w (importized out))
   importized_valid clear = by (slice_get g.worlds w) refl
     where
-      by : (o : Option World) → slice_get g.worlds w ≡ o → IsValid (option_map_or (λ (world : World). turned_at g w world (importized out world)) o g)
+      by : (o : Option World) → slice_get g.worlds w ≡ o → IsValid (option_map_or (λ (world : World). transformed_at g w world (importized out world)) o g)
       by None at = valid
-      by (Some old) at = valid_turned old (importized out old) at (importized_accepted clear old at)
+      by (Some old) at = valid_transformed old (importized out old) at (importized_accepted clear old at)
 
   module _ (answers : List Bool) where
     pub exportized_accepted : (clear : (error : ResolveErrorKind) → IsExportizeCause g w answers out error → ⊥) (old : World) → slice_get g.worlds w ≡ Some old → length answers ≡ length old.imports
-        → IsAcceptedTurn g w old (exportized answers out old)
+        → IsAcceptedTransformation g w old (exportized answers out old)
     exportized_accepted clear old there count =
-        let turn = exportized answers out old in
-        let free : (h : Package) → IsTaken g w old turn.name h → ⊥ =
-        λ h taken. clear (Semantic None (name_taken_text turn.name h.name) NameTaken) (old, there, exportized_taken h taken refl) in
-        let no_type : (label : List ℕ) → HasTypeAt turn.exports label → ⊥ =
+        let transform = exportized answers out old in
+        let free : (h : Package) → HasNameTaken g w old transform.name h → ⊥ =
+        λ h taken. clear (Semantic None (name_taken_text transform.name h.name) NameTaken) (old, there, exportized_name_taken h taken refl) in
+        let no_type : (label : List ℕ) → HasTypeAt transform.exports label → ⊥ =
         λ label has. clear (Semantic None (type_exported_text label) TypeExported) (old, there, type_exported label has refl) in
         let from = exportized_comes old answers out (valid.well_formed.worlds.distinct_imports w old there) (under_labels g valid w old there)
         (λ i e at. let within = slice_get_within old.imports i e at in get_at answers i (omega arith)) no_type in
         record {
           from = from;
           no_conflict = λ conflict.
-              let refused = (laws.refused g.types (graph_uses g) turn.imports turn.exports valid.no_cycles.uses (in_order g valid w old there turn from)).0 conflict in
+              let refused = (laws.refused g.types (graph_uses g) transform.imports transform.exports valid.no_cycles.uses (in_order g valid w old there transform from)).0 conflict in
               clear (InvalidTransitiveDependency old.span (key_text g.packages g.interfaces refused.0)) (old, there, export_conflict (key_text g.packages g.interfaces refused.0) free no_type conflict (refused.0, refused.1, refl) refl);
           free = free;
         }
 
     -- imports that became exports
-    pub exportized_valid : length answers ≡ length (imports_at g w) → ((error : ResolveErrorKind) → IsExportizeCause g w answers out error → ⊥) → IsValid (turned g w (exportized answers out))
+    pub exportized_valid : length answers ≡ length (imports_at g w) → ((error : ResolveErrorKind) → IsExportizeCause g w answers out error → ⊥) → IsValid (transformed g w (exportized answers out))
     exportized_valid count clear = by (slice_get g.worlds w) refl count
       where
-        by : (o : Option World) → slice_get g.worlds w ≡ o → length answers ≡ length (option_map_or (λ (world : World). world.imports) o []) → IsValid (option_map_or (λ (world : World). turned_at g w world (exportized answers out world)) o g)
+        by : (o : Option World) → slice_get g.worlds w ≡ o → length answers ≡ length (option_map_or (λ (world : World). world.imports) o []) → IsValid (option_map_or (λ (world : World). transformed_at g w world (exportized answers out world)) o g)
         by None at many = valid
-        by (Some old) at many = valid_turned old (exportized answers out old) at (exportized_accepted clear old at many)
+        by (Some old) at many = valid_transformed old (exportized answers out old) at (exportized_accepted clear old at many)

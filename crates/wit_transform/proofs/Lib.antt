@@ -4,9 +4,9 @@ pub mod Distinct
 pub mod ListsFrom
 pub mod Looked
 pub mod NamedInterfaces
-pub mod OnePlaceTurned
-pub mod TurnExamples
-pub mod TurnSteps
-pub mod TurnedBack
-pub mod TurnedWorlds
-pub mod ValidTurns
+pub mod TransformExamples
+pub mod TransformSteps
+pub mod TransformedBack
+pub mod TransformedWorlds
+pub mod UnnamedOnceTransformed
+pub mod ValidTransformations

@@ -1,4 +1,4 @@
--- What the lists of a turned world have of the lists that they were.
+-- What the lists of a transformed world have of the lists that they were.
 use Rattle.std.proofs.Common.{◌≡◌, inl, inr, ℕ, zero, suc, Bool, true, false, List, [], ◌∷◌, ◌++◌, Option, Some, slice_get, refl, ap, subst, Contains}
 use Rattle.std.specs.Map.{keys_of}
 use Rattle.std.proofs.lemmas.List.Elements.{Contains-append_cases, Contains-append_left, Contains-append_right}
@@ -15,18 +15,18 @@ use Rattle.wit_graph_theory.specs.facts.Covered.{IsNoType}
 use Rattle.wit_graph_theory.specs.facts.CutIsGood.{distinct_kept}
 use Rattle.wit_graph_theory.specs.facts.ListFacts.{contained_at, place_of}
 use Rattle.wit_transform.proofs.Distinct.{head_apart, joined_distinct, key_of_entry, more_distinct, tail_distinct}
-use Rattle.wit_transform.specs.TurnCause.{HasClash, HasTypeAt}
-use Rattle.wit_transform.specs.Turned.{AreUnderLabels, Turn, answered, exportized, importized, is_type, type_entries}
+use Rattle.wit_transform.specs.TransformCause.{HasClash, HasTypeAt}
+use Rattle.wit_transform.specs.Transformed.{AreUnderLabels, WorldLists, entries_by_answer, exportized, importized, is_type, type_entries}
 
--- the turned lists are made of the entries of the old ones: no key comes twice in one, none of the types is
+-- the new lists are made of the entries of the old ones: no key comes twice in one, none of the types is
 -- exported nor lost, and no entry is imported and exported
-pub record ComesFrom (old : World) (turn : Turn) : Type 0 where
-  pub imports : (e : Entry) → Contains turn.imports e → Contains (old.imports ++ old.exports) e
-  pub exports : (e : Entry) → Contains turn.exports e → Contains (old.imports ++ old.exports) e × IsNoType e.1
-  pub types : (e : Entry) → Contains old.imports e → is_type e.1 ≡ true → Contains turn.imports e
-  pub distinct_imports : HasDistinctKeys turn.imports
-  pub distinct_exports : HasDistinctKeys turn.exports
-  pub one_side : (e : Entry) → Contains turn.imports e → Contains turn.exports e → ⊥
+pub record ComesFrom (old : World) (transform : WorldLists) : Type 0 where
+  pub imports : (e : Entry) → Contains transform.imports e → Contains (old.imports ++ old.exports) e
+  pub exports : (e : Entry) → Contains transform.exports e → Contains (old.imports ++ old.exports) e × IsNoType e.1
+  pub types : (e : Entry) → Contains old.imports e → is_type e.1 ≡ true → Contains transform.imports e
+  pub distinct_imports : HasDistinctKeys transform.imports
+  pub distinct_exports : HasDistinctKeys transform.exports
+  pub one_side : (e : Entry) → Contains transform.imports e → Contains transform.exports e → ⊥
 
 -- ---- exports become imports
 
@@ -50,47 +50,47 @@ importized_comes old out first second labels clear =
 -- ---- imports become exports
 
 -- an entry for which this was answered, at its place
-pub answered_from : (b : Bool) (es : List Entry) (answers : List Bool) (e : Entry) → Contains (answered b es answers) e
+pub answered_from : (b : Bool) (es : List Entry) (answers : List Bool) (e : Entry) → Contains (entries_by_answer b es answers) e
     → (i : ℕ) × (slice_get es i ≡ Some e) × (slice_get answers i ≡ Some b)
 answered_from b [] answers e has = absurd (Contains-nil has)
 answered_from b (x ∷ es) [] e has = absurd (Contains-nil has)
 answered_from true (x ∷ es) (true ∷ answers) e has =
-    elim (Contains-cons_cases x e (answered true es answers) has) [
+    elim (Contains-cons_cases x e (entries_by_answer true es answers) has) [
       | inl same ↦ (0, ap Some same, refl)
       | inr there ↦ let from = answered_from true es answers e there in (suc from.0, from.1, from.2)
     ]
 answered_from true (x ∷ es) (false ∷ answers) e has = let from = answered_from true es answers e has in (suc from.0, from.1, from.2)
 answered_from false (x ∷ es) (true ∷ answers) e has = let from = answered_from false es answers e has in (suc from.0, from.1, from.2)
 answered_from false (x ∷ es) (false ∷ answers) e has =
-    elim (Contains-cons_cases x e (answered false es answers) has) [
+    elim (Contains-cons_cases x e (entries_by_answer false es answers) has) [
       | inl same ↦ (0, ap Some same, refl)
       | inr there ↦ let from = answered_from false es answers e there in (suc from.0, from.1, from.2)
     ]
 
-pub answered_into : (b : Bool) (es : List Entry) (answers : List Bool) (i : ℕ) (e : Entry) → slice_get es i ≡ Some e → slice_get answers i ≡ Some b → Contains (answered b es answers) e
+pub answered_into : (b : Bool) (es : List Entry) (answers : List Bool) (i : ℕ) (e : Entry) → slice_get es i ≡ Some e → slice_get answers i ≡ Some b → Contains (entries_by_answer b es answers) e
 answered_into b [] answers i e at given = cc
 answered_into b (x ∷ es) [] i e at given = cc
-answered_into true (x ∷ es) (true ∷ answers) zero e at given = let same : x ≡ e = cc in subst (λ (f : Entry). Contains (x ∷ answered true es answers) f) same (Contains-here x (answered true es answers))
+answered_into true (x ∷ es) (true ∷ answers) zero e at given = let same : x ≡ e = cc in subst (λ (f : Entry). Contains (x ∷ entries_by_answer true es answers) f) same (Contains-here x (entries_by_answer true es answers))
 answered_into true (x ∷ es) (false ∷ answers) zero e at given = cc
 answered_into false (x ∷ es) (true ∷ answers) zero e at given = cc
-answered_into false (x ∷ es) (false ∷ answers) zero e at given = let same : x ≡ e = cc in subst (λ (f : Entry). Contains (x ∷ answered false es answers) f) same (Contains-here x (answered false es answers))
-answered_into true (x ∷ es) (true ∷ answers) (suc i) e at given = Contains-there x e (answered true es answers) (answered_into true es answers i e at given)
+answered_into false (x ∷ es) (false ∷ answers) zero e at given = let same : x ≡ e = cc in subst (λ (f : Entry). Contains (x ∷ entries_by_answer false es answers) f) same (Contains-here x (entries_by_answer false es answers))
+answered_into true (x ∷ es) (true ∷ answers) (suc i) e at given = Contains-there x e (entries_by_answer true es answers) (answered_into true es answers i e at given)
 answered_into true (x ∷ es) (false ∷ answers) (suc i) e at given = answered_into true es answers i e at given
 answered_into false (x ∷ es) (true ∷ answers) (suc i) e at given = answered_into false es answers i e at given
-answered_into false (x ∷ es) (false ∷ answers) (suc i) e at given = Contains-there x e (answered false es answers) (answered_into false es answers i e at given)
+answered_into false (x ∷ es) (false ∷ answers) (suc i) e at given = Contains-there x e (entries_by_answer false es answers) (answered_into false es answers i e at given)
 
-pub answered_in : (b : Bool) (es : List Entry) (answers : List Bool) (e : Entry) → Contains (answered b es answers) e → Contains es e
+pub answered_in : (b : Bool) (es : List Entry) (answers : List Bool) (e : Entry) → Contains (entries_by_answer b es answers) e → Contains es e
 answered_in b es answers e has = let from = answered_from b es answers e has in contained_at es from.0 e from.1
 
-answered_distinct : (b : Bool) (es : List Entry) (answers : List Bool) → HasDistinctKeys es → HasDistinctKeys (answered b es answers)
+answered_distinct : (b : Bool) (es : List Entry) (answers : List Bool) → HasDistinctKeys es → HasDistinctKeys (entries_by_answer b es answers)
 answered_distinct b [] answers distinct = HasDistinctKeys-nil
 answered_distinct b (x ∷ es) [] distinct = HasDistinctKeys-nil
 answered_distinct true (x ∷ es) (true ∷ answers) distinct =
-    more_distinct x (answered true es answers) (answered_distinct true es answers (tail_distinct x es distinct)) (λ d has same. head_apart x es distinct d (answered_in true es answers d has) same)
+    more_distinct x (entries_by_answer true es answers) (answered_distinct true es answers (tail_distinct x es distinct)) (λ d has same. head_apart x es distinct d (answered_in true es answers d has) same)
 answered_distinct true (x ∷ es) (false ∷ answers) distinct = answered_distinct true es answers (tail_distinct x es distinct)
 answered_distinct false (x ∷ es) (true ∷ answers) distinct = answered_distinct false es answers (tail_distinct x es distinct)
 answered_distinct false (x ∷ es) (false ∷ answers) distinct =
-    more_distinct x (answered false es answers) (answered_distinct false es answers (tail_distinct x es distinct)) (λ d has same. head_apart x es distinct d (answered_in false es answers d has) same)
+    more_distinct x (entries_by_answer false es answers) (answered_distinct false es answers (tail_distinct x es distinct)) (λ d has same. head_apart x es distinct d (answered_in false es answers d has) same)
 
 no_type : (held : WorldItem) → (is_type held ≡ true → ⊥) → IsNoType held
 no_type (item.Interface i stability docs span external_id) not = tt
@@ -116,12 +116,12 @@ other_answer es answers i e at not false given = given
 
 pub exportized_comes : (old : World) (answers : List Bool) (out : Option (List ℕ)) → HasDistinctKeys old.imports → AreUnderLabels (type_entries old.imports)
     → ((i : ℕ) (e : Entry) → slice_get old.imports i ≡ Some e → (b : Bool) × (slice_get answers i ≡ Some b))
-    → ((label : List ℕ) → HasTypeAt (answered true old.imports answers) label → ⊥) → ComesFrom old (exportized answers out old)
+    → ((label : List ℕ) → HasTypeAt (entries_by_answer true old.imports answers) label → ⊥) → ComesFrom old (exportized answers out old)
 exportized_comes old answers out distinct labels given clear =
-    let stays : (e : Entry) → Contains (answered true old.imports answers) e → is_type e.1 ≡ true → ⊥ =
+    let stays : (e : Entry) → Contains (entries_by_answer true old.imports answers) e → is_type e.1 ≡ true → ⊥ =
     λ e has is.
     let there = type_there old.imports e labels (answered_in true old.imports answers e has) is in
-    clear there.0 (there.1, there.2, subst (Contains (answered true old.imports answers)) there.3 has) in
+    clear there.0 (there.1, there.2, subst (Contains (entries_by_answer true old.imports answers)) there.3 has) in
     record {
       imports = λ e has. Contains-append_left old.imports old.exports e (answered_in false old.imports answers e has);
       exports = λ e has. (Contains-append_left old.imports old.exports e (answered_in true old.imports answers e has), no_type e.1 (stays e has));

@@ -25,8 +25,8 @@ use Rattle.wit_values.specs.Table.{HasDistinctKeys}
 use Rattle.wit_graph_theory.specs.facts.ListFacts.{contained_at}
 use Rattle.wit_transform.proofs.Distinct.{entry_of_key, key_of_entry}
 use Rattle.wit_transform.proofs.ListsFrom.{answered_in, type_item}
-use Rattle.wit_transform.specs.TurnCause.{HasTypeAt}
-use Rattle.wit_transform.specs.Turned.{answered, is_type, type_entries}
+use Rattle.wit_transform.specs.TransformCause.{HasTypeAt}
+use Rattle.wit_transform.specs.Transformed.{entries_by_answer, is_type, type_entries}
 
 module _ {K V : Type 0} {eq : K → K → Bool} (laws : IsEquivalence eq) (faithful : (a b : K) → eq a b ≡ true → a ≡ b) where
   none_or : (o : Option V) → (IsSome o → ⊥) → o ≡ None
@@ -156,9 +156,9 @@ type_is_new es i e distinct at =
     new_at key_laws key_faithful es i e.0 e.1 distinct at (type_entries (take i es)) (λ d has. (Contains-filter (λ (d : Entry). is_type d.1) (take i es) d has).0)
 
 pub answered_is_new : (b : Bool) (es : List Entry) (answers : List Bool) (i : ℕ) (e : Entry) → IsDistinct eq-value.it (keys_of es) → slice_get es i ≡ Some e
-    → lookup (eq-value.it e.0) (answered b (take i es) answers) ≡ None
+    → lookup (eq-value.it e.0) (entries_by_answer b (take i es) answers) ≡ None
 answered_is_new b es answers i e distinct at =
-    new_at key_laws key_faithful es i e.0 e.1 distinct at (answered b (take i es) answers) (λ d has. answered_in b (take i es) answers d has)
+    new_at key_laws key_faithful es i e.0 e.1 distinct at (entries_by_answer b (take i es) answers) (λ d has. answered_in b (take i es) answers d has)
 
 -- an entry that is added to others, behind those before it
 pub added_is_new : (old es : List Entry) (i : ℕ) (e : Entry) → IsDistinct eq-value.it (keys_of es) → slice_get es i ≡ Some e
@@ -180,29 +180,29 @@ added_is_new old es i e distinct at apart =
 abbrev one_answered : Bool → Bool → Entry → List Entry
 one_answered b given e = if (if b then given else not given) then e ∷ [] else []
 
-answered_one : (b a : Bool) (x : Entry) (answers : List Bool) → answered b (x ∷ []) (a ∷ answers) ≡ one_answered b a x
+answered_one : (b a : Bool) (x : Entry) (answers : List Bool) → entries_by_answer b (x ∷ []) (a ∷ answers) ≡ one_answered b a x
 answered_one true true x answers = refl
 answered_one true false x answers = refl
 answered_one false true x answers = refl
 answered_one false false x answers = refl
 
-answered-suc : (b : Bool) (es : List Entry) (answers : List Bool) (i : ℕ) (e : Entry) (given : Bool) → slice_get es i ≡ Some e → slice_get answers i ≡ Some given
-    → answered b (take (suc i) es) answers ≡ answered b (take i es) answers ++ one_answered b given e
-answered-suc b [] answers i e given at answer = cc
-answered-suc b (x ∷ es) [] i e given at answer = cc
-answered-suc b (x ∷ es) (a ∷ answers) zero e given at answer =
+entries_by_answer-suc : (b : Bool) (es : List Entry) (answers : List Bool) (i : ℕ) (e : Entry) (given : Bool) → slice_get es i ≡ Some e → slice_get answers i ≡ Some given
+    → entries_by_answer b (take (suc i) es) answers ≡ entries_by_answer b (take i es) answers ++ one_answered b given e
+entries_by_answer-suc b [] answers i e given at answer = cc
+entries_by_answer-suc b (x ∷ es) [] i e given at answer = cc
+entries_by_answer-suc b (x ∷ es) (a ∷ answers) zero e given at answer =
     let same : x ≡ e = cc in
     let said : a ≡ given = cc in
     answered_one b a x answers ∙ (λ k. one_answered b (said k) (same k))
-answered-suc true (x ∷ es) (true ∷ answers) (suc i) e given at answer = ap (λ (l : List Entry). x ∷ l) (answered-suc true es answers i e given at answer)
-answered-suc true (x ∷ es) (false ∷ answers) (suc i) e given at answer = answered-suc true es answers i e given at answer
-answered-suc false (x ∷ es) (true ∷ answers) (suc i) e given at answer = answered-suc false es answers i e given at answer
-answered-suc false (x ∷ es) (false ∷ answers) (suc i) e given at answer = ap (λ (l : List Entry). x ∷ l) (answered-suc false es answers i e given at answer)
+entries_by_answer-suc true (x ∷ es) (true ∷ answers) (suc i) e given at answer = ap (λ (l : List Entry). x ∷ l) (entries_by_answer-suc true es answers i e given at answer)
+entries_by_answer-suc true (x ∷ es) (false ∷ answers) (suc i) e given at answer = entries_by_answer-suc true es answers i e given at answer
+entries_by_answer-suc false (x ∷ es) (true ∷ answers) (suc i) e given at answer = entries_by_answer-suc false es answers i e given at answer
+entries_by_answer-suc false (x ∷ es) (false ∷ answers) (suc i) e given at answer = ap (λ (l : List Entry). x ∷ l) (entries_by_answer-suc false es answers i e given at answer)
 
 -- the answers so far with one more
-pub answered-next : (b : Bool) (es : List Entry) (answers : List Bool) (i : ℕ) (e : Entry) (given : Bool) → slice_get es i ≡ Some e → slice_get answers i ≡ Some given
-    → answered b (take (i + 1) es) answers ≡ answered b (take i es) answers ++ one_answered b given e
-answered-next b es answers i e given at answer = rw add-one (answered-suc b es answers i e given at answer)
+pub entries_by_answer-next : (b : Bool) (es : List Entry) (answers : List Bool) (i : ℕ) (e : Entry) (given : Bool) → slice_get es i ≡ Some e → slice_get answers i ≡ Some given
+    → entries_by_answer b (take (i + 1) es) answers ≡ entries_by_answer b (take i es) answers ++ one_answered b given e
+entries_by_answer-next b es answers i e given at answer = rw add-one (entries_by_answer-suc b es answers i e given at answer)
 
 -- ---- steps of loops
 
@@ -245,15 +245,15 @@ unwanted : (b given : Bool) (e : Entry) → (if b then given else not given) ≡
 unwanted b given e is = ap (λ (c : Bool). if c then e ∷ [] else []) is
 
 pub answer-kept : (b : Bool) (es : List Entry) (answers : List Bool) (i : ℕ) (k k' : WorldKey) (v v' : WorldItem) (given : Bool) (before after : List Entry) → slice_get es i ≡ Some (k, v) → slice_get answers i ≡ Some given
-    → (if b then given else not given) ≡ true → before ≡ answered b (take i es) answers → k' ≡ k → v' ≡ v → after ≡ before ++ (k', v') ∷ [] → after ≡ answered b (take (i + 1) es) answers
+    → (if b then given else not given) ≡ true → before ≡ entries_by_answer b (take i es) answers → k' ≡ k → v' ≡ v → after ≡ before ++ (k', v') ∷ [] → after ≡ entries_by_answer b (take (i + 1) es) answers
 answer-kept b es answers i k k' v v' given before after at said is had same other added =
-    added ∙ ap (λ (l : List Entry). l ++ (k', v') ∷ []) had ∙ ap (λ (e : Entry). answered b (take i es) answers ++ e ∷ []) (same_pair k k' v v' same other)
-    ∙ ap (λ (l : List Entry). answered b (take i es) answers ++ l) (sym (wanted b given (k, v) is)) ∙ sym (answered-next b es answers i (k, v) given at said)
+    added ∙ ap (λ (l : List Entry). l ++ (k', v') ∷ []) had ∙ ap (λ (e : Entry). entries_by_answer b (take i es) answers ++ e ∷ []) (same_pair k k' v v' same other)
+    ∙ ap (λ (l : List Entry). entries_by_answer b (take i es) answers ++ l) (sym (wanted b given (k, v) is)) ∙ sym (entries_by_answer-next b es answers i (k, v) given at said)
 
 pub answer-left : (b : Bool) (es : List Entry) (answers : List Bool) (i : ℕ) (k : WorldKey) (v : WorldItem) (given : Bool) (before after : List Entry) → slice_get es i ≡ Some (k, v) → slice_get answers i ≡ Some given
-    → (if b then given else not given) ≡ false → before ≡ answered b (take i es) answers → after ≡ before → after ≡ answered b (take (i + 1) es) answers
+    → (if b then given else not given) ≡ false → before ≡ entries_by_answer b (take i es) answers → after ≡ before → after ≡ entries_by_answer b (take (i + 1) es) answers
 answer-left b es answers i k v given before after at said is had same =
-    same ∙ had ∙ sym (append-nil (answered b (take i es) answers)) ∙ ap (λ (l : List Entry). answered b (take i es) answers ++ l) (sym (unwanted b given (k, v) is)) ∙ sym (answered-next b es answers i (k, v) given at said)
+    same ∙ had ∙ sym (append-nil (entries_by_answer b (take i es) answers)) ∙ ap (λ (l : List Entry). entries_by_answer b (take i es) answers ++ l) (sym (unwanted b given (k, v) is)) ∙ sym (entries_by_answer-next b es answers i (k, v) given at said)
 
 -- what isn't so of the keys so far, with one more
 pub no_label-next : (es : List Entry) (i : ℕ) (k : WorldKey) (v : WorldItem) (Q : List ℕ → Type 0) → slice_get es i ≡ Some (k, v)

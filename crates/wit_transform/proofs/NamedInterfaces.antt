@@ -1,9 +1,9 @@
--- What a turned world names, the old one named: so packages depend on no more than they did.
+-- What a transformed world names, the old one named: so packages depend on no more than they did.
 use Rattle.std.proofs.Common.{◌≡◌, ◌∙◌, inl, inr, ℕ, ◌<◌, List, [], ◌∷◌, ◌++◌, Some, get_or, length, slice_get, sym, ap, subst, Contains}
 use Rattle.std.proofs.lemmas.List.Elements.{All-contains, Contains-append_cases, Contains-get_or}
 use Rattle.wit_digraph.specs.facts.MemberFacts.{Contains-flat_map_cases, Contains-here}
 use Rattle.wit_digraph.specs.Relation.{IsAcyclic, IsPath, direct}
-use Rattle.wit_data.specs.Entries.{HasExports, HasImports, IsExport}
+use Rattle.wit_data.specs.Entries.{ExportsAreAllowed, ImportsAreAllowed, IsExport}
 use Rattle.wit_data.specs.Uses.{uses_of}
 use Rattle.wit_data.specs.declared.world.World.{World}
 use Rattle.wit_data.specs.declared.world.WorldItem.{WorldItem}
@@ -17,13 +17,13 @@ use Rattle.wit_graph_data.specs.Relations.{entry_interface, entry_interfaces, wo
 use Rattle.wit_elaboration.specs.Valid.{IsValid}
 use Rattle.wit_graph_data.specs.declared.graph.Graph.{Graph}
 use Rattle.wit_graph_theory.specs.facts.DependencyFacts.{filter_map_from}
-use Rattle.wit_graph_theory.specs.facts.EntryFacts.{export_named, export_uses, import_interface, import_named, import_uses as canonical_import_uses, instance_interface, key_entry, key_named, root_interface, settled_interface}
+use Rattle.wit_graph_theory.specs.facts.EntryFacts.{export_named, export_uses, import_interface, import_named, import_uses as canonical_import_uses, instance_interface, interface_without_span, key_entry, key_named, root_interface}
 use Rattle.wit_graph_theory.specs.facts.ListFacts.{place_of}
 use Rattle.wit_graph_theory.specs.laws.PackageCycles.{ListsKey}
 use Rattle.wit_graph_theory.specs.facts.LawsOfElaboration.{LawsOfElaboration}
 use Rattle.wit_transform.proofs.ListsFrom.{ComesFrom}
-use Rattle.wit_transform.proofs.TurnedWorlds.{done, in_order, is_elaborated, listed, old_entry}
-use Rattle.wit_transform.specs.Turned.{Turn}
+use Rattle.wit_transform.proofs.TransformedWorlds.{done, in_order, is_elaborated, listed, old_entry}
+use Rattle.wit_transform.specs.Transformed.{WorldLists}
 
 -- rows that lack some uses of acyclic ones
 pub fewer_acyclic : (old rows : List (List ℕ)) → length rows ≡ length old → ((i j : ℕ) → Contains (direct rows i) j → Contains (direct old i) j) → IsAcyclic old → IsAcyclic rows
@@ -38,18 +38,18 @@ fewer_acyclic old rows same fewer acyclic = record {
     old_path i [] j leads = leads
     old_path i (k ∷ path) j leads = (fewer i k leads.0, old_path k path j leads.1)
 
-module _ (g : Graph) (valid : IsValid g) (w : ℕ) (old : World) (there : slice_get g.worlds w ≡ Some old) (turn : Turn) (from : ComesFrom old turn) (laws : LawsOfElaboration)
-    (no_conflict : HasConflict (graph_uses g) turn.exports → ⊥) where
+module _ (g : Graph) (valid : IsValid g) (w : ℕ) (old : World) (there : slice_get g.worlds w ≡ Some old) (transform : WorldLists) (from : ComesFrom old transform) (laws : LawsOfElaboration)
+    (no_conflict : HasConflict (graph_uses g) transform.exports → ⊥) where
   abbrev rows : List (List ℕ)
   rows = uses_of g.types g.interfaces
 
   abbrev pub Named : ℕ → Type 0
   Named i = Contains (world_interfaces g.types old) i
 
-  old_imports : HasImports g.interfaces g.types w old
+  old_imports : ImportsAreAllowed g.interfaces g.types w old
   old_imports = valid.well_formed.worlds.imports w old there
 
-  old_exports : HasExports g.interfaces old
+  old_exports : ExportsAreAllowed g.interfaces old
   old_exports = valid.well_formed.worlds.exports w old there
 
   -- what an entry of the old world names is named
@@ -90,42 +90,42 @@ module _ (g : Graph) (valid : IsValid g) (w : ℕ) (old : World) (there : slice_
   reached_named i [] j named same = subst Named same named
   reached_named i (k ∷ path) j named leads = reached_named k path j (closed i k named leads.0) leads.1
 
-  -- what the turned lists import is named
-  needed_named : (j : ℕ) → Needed rows turn.exports j → Named j
+  -- what the new lists import is named
+  needed_named : (j : ℕ) → Needed rows transform.exports j → Named j
   needed_named j need =
-      let e = Contains-flat_map_cases (λ (e : Entry). item_interface e.1) turn.exports need.0 need.2 in
+      let e = Contains-flat_map_cases (λ (e : Entry). item_interface e.1) transform.exports need.0 need.2 in
       let user = listed_named e.0 need.0 (from.exports e.0 e.1.0).0 (instance_interface g.types e.0.1 need.0 e.1.1) in
       reached_named need.1 need.5.0 j (closed need.0 need.1 user need.3) need.5.1
 
-  turned_named : (j : ℕ) → IsImported g.types rows turn.imports turn.exports j → Named j
-  turned_named j imported =
+  transformed_named : (j : ℕ) → IsImported g.types rows transform.imports transform.exports j → Named j
+  transformed_named j imported =
       elim imported [
         | inl need ↦ needed_named j need
         | inr reached ↦
-            let e = Contains-flat_map_cases (λ (e : Entry). roots_of rows e.0 (role_of g.types e.1)) turn.imports reached.0 reached.1 in
+            let e = Contains-flat_map_cases (λ (e : Entry). roots_of rows e.0 (role_of g.types e.1)) transform.imports reached.0 reached.1 in
             let root = root_interface g.types rows e.0.0 e.0.1 reached.0 e.1.1 in
             let user = listed_named e.0 root.0 (from.imports e.0 e.1.0) root.1 in
             reached_named reached.0 reached.2.0 j (elim root.2 [ inl same ↦ subst Named same user | inr used ↦ closed root.0 reached.0 user used.1 ]) reached.2.1
       ]
 
-  -- what the turned world names, the old one named
-  pub done_named : (i : ℕ) → Contains (world_interfaces g.types (done g valid w old there turn from)) i → Named i
+  -- what the transformed world names, the old one named
+  pub done_named : (i : ℕ) → Contains (world_interfaces g.types (done g valid w old there transform from)) i → Named i
   done_named i has =
-      let new = done g valid w old there turn from in
-      let before = listed g valid w old there turn from in
-      let order = in_order g valid w old there turn from in
-      let elaborated = is_elaborated g valid w old there turn from laws no_conflict in
+      let new = done g valid w old there transform from in
+      let before = listed g valid w old there transform from in
+      let order = in_order g valid w old there transform from in
+      let elaborated = is_elaborated g valid w old there transform from laws no_conflict in
       elim (Contains-append_cases (entry_interfaces g.types new.imports) (entry_interfaces g.types new.exports) i has) [
         | inl among ↦
             let e = filter_map_from (λ (e : Entry). entry_interface g.types e.1) new.imports i among in
             elim ((laws.entries g.types rows before new e.0 valid.no_cycles.uses order elaborated).0 e.1) [
               | inl stays ↦
                   listed_named stays.0 i (from.imports stays.0 stays.1)
-                  (sym (settled_interface g.types stays.0.1) ∙ ap (λ (f : Entry). entry_interface g.types f.1) (sym stays.2) ∙ e.2)
+                  (sym (interface_without_span g.types stays.0.1) ∙ ap (λ (f : Entry). entry_interface g.types f.1) (sym stays.2) ∙ e.2)
               | inr made ↦
                   let same : Some made.1 ≡ Some i = ap (λ (f : Entry). entry_interface g.types f.1) (sym made.2) ∙ e.2 in
                   let one : made.1 ≡ i = cc in
-                  subst Named one (turned_named made.1 made.4)
+                  subst Named one (transformed_named made.1 made.4)
             ]
         | inr among ↦
             let e = filter_map_from (λ (e : Entry). entry_interface g.types e.1) new.exports i among in
@@ -134,9 +134,9 @@ module _ (g : Graph) (valid : IsValid g) (w : ℕ) (old : World) (there : slice_
               | inr made ↦
                   let same : Some made.1 ≡ Some i = ap (λ (f : Entry). entry_interface g.types f.1) (sym made.2) ∙ e.2 in
                   let one : made.1 ≡ i = cc in
-                  let entry = key_entry turn.exports made.1 made.3 in
+                  let entry = key_entry transform.exports made.1 made.3 in
                   let among = (from.exports entry.0 entry.1).0 in
                   subst Named one
-                  (listed_named entry.0 made.1 among (import_interface g.interfaces g.types w entry.0.0 entry.0.1 made.1 entry.2 (old_entry g valid w old there turn from entry.0 among).is))
+                  (listed_named entry.0 made.1 among (import_interface g.interfaces g.types w entry.0.0 entry.0.1 made.1 entry.2 (old_entry g valid w old there transform from entry.0 among).is))
             ]
       ]

@@ -1,4 +1,4 @@
-pub mod TurnCause
-pub mod Turned
+pub mod TransformCause
+pub mod Transformed
 pub mod examples
 pub mod laws

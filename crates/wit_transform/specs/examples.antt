@@ -1,1 +1,1 @@
-pub mod TurnExamples
+pub mod TransformExamples

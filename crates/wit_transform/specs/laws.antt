@@ -1,1 +1,1 @@
-pub mod TurnLaws
+pub mod TransformLaws

@@ -1,10 +1,10 @@
-//! Worlds of a graph that are turned: exports become imports, or imports become exports.
+//! Worlds of a graph that are transformed: exports become imports, or imports become exports.
 #![tactic(auto)]
 
 pub mod laws;
 mod refusal;
 mod renaming;
-mod turned_lists;
-mod turns;
+mod new_lists;
+mod transformations;
 
-pub use crate::turns::{exportize, exportize_answered, importize};
+pub use crate::transformations::{exportize, exportize_answered, importize};

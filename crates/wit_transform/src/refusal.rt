@@ -2,7 +2,7 @@
 ghost use Rattle.std.specs.Prelude.{◌≡◌, IfOk, None, string_bytes};
 ghost use Rattle.wit_graph_data.specs.declared.cause.Cause.TheVariants as cause;
 ghost use Rattle.wit_graph_data.specs.declared.error_kind.ResolveErrorKind.TheVariants.{Semantic};
-ghost use Rattle.wit_transform.specs.TurnCause.{label_clash_text, name_taken_text, type_exported_text};
+ghost use Rattle.wit_transform.specs.TransformCause.{label_clash_text, name_taken_text, type_exported_text};
 
 use std::alloc::{AllocError, Global};
 use wit_data::{Span, Text};

@@ -1,10 +1,10 @@
-//! The new name of a turned world, and the table of its package.
+//! The new name of a transformed world, and the table of its package.
 ghost use Rattle.std.specs.Prelude.{◌≡◌, ◌↔◌, ◌++◌, ◌∷◌, [], IfOk, IsTrue, None, OnOk, filter, nat_eq, not, string_bytes};
 ghost use Rattle.std.specs.Map.{lookup};
 ghost use Rattle.std.specs.Option.{option_map};
 ghost use Rattle.std.specs.Str.{bytes_eq};
-ghost use Rattle.wit_transform.specs.TurnCause.{IsTakenIn};
-ghost use Rattle.wit_transform.specs.Turned.{new_name, put_last};
+ghost use Rattle.wit_transform.specs.TransformCause.{NameIsTakenIn};
+ghost use Rattle.wit_transform.specs.Transformed.{new_name, put_last};
 
 use std::alloc::{AllocError, Global};
 use wit_data::{Names, Text, WorldId};
@@ -34,7 +34,7 @@ fn is_other(id: WorldId, world: WorldId) -> bool
 
 /// Whether a package has another world of this name.
 pub(crate) fn is_taken(home: &Package, world: WorldId, name: &str) -> bool
-    ensures { IsTrue result ↔ IsTakenIn home.now world name.now }
+    ensures { IsTrue result ↔ NameIsTakenIn home.now world name.now }
 {
     home.worlds.keys_differ();
     match home.worlds.get(name) {
@@ -81,7 +81,7 @@ pub(crate) fn with_last(
     world: WorldId,
     name: &Text,
 ) -> Result<Names<WorldId>, AllocError>
-    requires { ¬ (IsTakenIn home.now world name.now) }
+    requires { ¬ (NameIsTakenIn home.now world name.now) }
     ensures { IfOk result (λ table. table ≡ put_last home.now.worlds world name.now) }
 {
     let mut table = others(alloc, &home.worlds, world)?;

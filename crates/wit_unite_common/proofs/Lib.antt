@@ -1,4 +1,4 @@
+pub mod ElaborationSteps
 pub mod OnCycles
 pub mod Searching
-pub mod Settled
 pub mod Steps

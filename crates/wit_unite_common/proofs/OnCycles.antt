@@ -18,9 +18,9 @@ use Rattle.wit_graph_data.specs.declared.graph.Graph.{Graph}
 use Rattle.wit_graph_data.specs.declared.graph.Package.{Package}
 use Rattle.wit_graph_theory.specs.AllElaborated.{graph_package_uses, interface_cycle_text, type_cycle_text}
 use Rattle.wit_unite_common.specs.steps.Asked.{CyclesHaveNames, IsSomeNamed}
-use Rattle.wit_unite_common.specs.facts.Reasons.{SettleCause, interface_cycle_22, package_cycle_6, type_cycle_23}
+use Rattle.wit_unite_common.specs.facts.Reasons.{ElaborationCause, interface_cycle_22, package_cycle_6, type_cycle_23}
 use Rattle.wit_unite_common.specs.facts.Rounds.{IsRound}
-use Rattle.wit_unite_common.specs.facts.Told.{TellsInterface, TellsTypeOf}
+use Rattle.wit_unite_common.specs.facts.Errors.{IsInterfaceCycleError, IsTypeCycleError}
 
 -- ---- on a cycle
 
@@ -62,15 +62,15 @@ module _ (uses : List (List ℕ)) where
   looped : (n : ℕ) (k : ℕ) (path : List ℕ) → IsPath uses n (k ∷ path) n → (m : ℕ) × IsOnCycle uses n m
   looped n k path leads = (k, record { is_used = leads.0; leads_back = (path, leads.1) })
 
-  turned : (t k : ℕ) (path : List ℕ) (n : ℕ) → IsPath uses t (k ∷ path) t → (before after : List ℕ) → IsPath uses t before n → IsPath uses n after t → (m : ℕ) × IsOnCycle uses n m
-  turned t k path n leads before (x ∷ after) to from = looped n x (after ++ before) (joined n (x ∷ after) t before n from to)
-  turned t k path n leads before [] to from = looped n k path (subst (λ (x : ℕ). IsPath uses x (k ∷ path) x) (sym from) leads)
+  transformed : (t k : ℕ) (path : List ℕ) (n : ℕ) → IsPath uses t (k ∷ path) t → (before after : List ℕ) → IsPath uses t before n → IsPath uses n after t → (m : ℕ) × IsOnCycle uses n m
+  transformed t k path n leads before (x ∷ after) to from = looped n x (after ++ before) (joined n (x ∷ after) t before n from to)
+  transformed t k path n leads before [] to from = looped n k path (subst (λ (x : ℕ). IsPath uses x (k ∷ path) x) (sym from) leads)
 
   -- each node on the way of a cycle is on one
   on_way : (t k : ℕ) (path : List ℕ) (n : ℕ) → IsPath uses t (k ∷ path) t → Contains (k ∷ path) n → (m : ℕ) × IsOnCycle uses n m
   on_way t k path n leads has =
       let parts = parted t (k ∷ path) t n leads has in
-      turned t k path n leads parts.0 parts.1 parts.2 parts.3
+      transformed t k path n leads parts.0 parts.1 parts.2 parts.3
 
 -- each node of a round is on a cycle
 pub on_round : (uses : List (List ℕ)) (nodes : List ℕ) (n : ℕ) → IsRound uses nodes → Contains nodes n → (m : ℕ) × IsOnCycle uses n m
@@ -93,18 +93,18 @@ module _ (g : Graph) where
       omega (arith, within, length-map (enumerate_from 0 g.packages) (λ (e : ℕ × Package). package_needs g.types g.interfaces g.worlds e.0 e.1), length-enumerate_from 0 g.packages)
 
   pub package_told : (i j : ℕ) (there : Package) (e : ResolveErrorKind) → IsOnCycle (graph_package_uses g) i j → slice_get g.packages i ≡ Some there → e ≡ PackageCycle None there.name
-      → (e ≡ OutOfMemory) ⊎ SettleCause g e
+      → (e ≡ OutOfMemory) ⊎ ElaborationCause g e
   package_told i j there e on at told =
-      inr (subst (SettleCause g) (sym told) (package_cycle_6 there.name (record { p = i; q = j; on_cycle = on; there = there; is = at; home_is = refl })))
+      inr (subst (ElaborationCause g) (sym told) (package_cycle_6 there.name (record { p = i; q = j; on_cycle = on; there = there; is = at; home_is = refl })))
 
-  pub interface_told : (i j : ℕ) (e : ResolveErrorKind) → IsOnCycle (graph_uses g) i j → TellsInterface g i e → (e ≡ OutOfMemory) ⊎ SettleCause g e
+  pub interface_told : (i j : ℕ) (e : ResolveErrorKind) → IsOnCycle (graph_uses g) i j → IsInterfaceCycleError g i e → (e ≡ OutOfMemory) ⊎ ElaborationCause g e
   interface_told i j e on told =
-      inr (subst (SettleCause g) (sym told.error_is) (interface_cycle_22 (interface_cycle_text told.id) (record { i = i; j = j; on_cycle = on; id = told.id; id_is = told.id_is; message_is = refl })))
+      inr (subst (ElaborationCause g) (sym told.error_is) (interface_cycle_22 (interface_cycle_text told.id) (record { i = i; j = j; on_cycle = on; id = told.id; id_is = told.id_is; message_is = refl })))
 
-  pub type_told : (ids : List ℕ) (e : ResolveErrorKind) → IsRound (type_references g.types) ids → TellsTypeOf g.types ids e → (e ≡ OutOfMemory) ⊎ SettleCause g e
+  pub type_told : (ids : List ℕ) (e : ResolveErrorKind) → IsRound (type_references g.types) ids → IsTypeCycleError g.types ids e → (e ≡ OutOfMemory) ⊎ ElaborationCause g e
   type_told ids e round told =
       let on = on_round (type_references g.types) ids told.id round told.among in
-      inr (subst (SettleCause g) (sym told.error_is)
+      inr (subst (ElaborationCause g) (sym told.error_is)
       (type_cycle_23 (type_cycle_text told.name) (record { t = told.id; u = on.0; on_cycle = on.1; def = told.def; is = told.is; name = told.name; name_is = told.name_is; message_is = refl })))
 
 -- ---- names on a cycle of types

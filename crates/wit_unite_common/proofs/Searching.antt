@@ -74,7 +74,7 @@ was_seen seen i = get_or seen i false
 abbrev pub IsToCome : List Frame → ℕ → ℕ → Type 0
 IsToCome stack i k = (f : Frame) × Contains stack f × (f.node ≡ i) × (f.next ≤ k)
 
--- a search from a node on its way: each use of what was seen was seen and isn't the node, or is still to come
+-- a running search from a node: each use of what was seen was seen and isn't the node, or is still to come
 pub record IsSearching (uses : List (List ℕ)) (node : ℕ) (seen : List Bool) (stack : List Frame) : Type 0 where
   pub way : IsWay uses node stack
   pub passed : (i k : ℕ) → was_seen seen i ≡ true → k < length (direct uses i)

@@ -1,3 +1,3 @@
+pub mod Errors
 pub mod Reasons
 pub mod Rounds
-pub mod Told

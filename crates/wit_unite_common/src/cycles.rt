@@ -8,8 +8,8 @@ ghost use Rattle.wit_graph_theory.specs.AllElaborated.{graph_package_uses, type_
 ghost use Rattle.wit_data.specs.Reference.{type_references};
 ghost use Rattle.wit_digraph.specs.Relation.{IsAcyclic, IsInRange};
 ghost use Rattle.wit_unite_common.specs.steps.Asked.{CyclesHaveNames, IsSomeNamed, UsedHaveNames};
-ghost use Rattle.wit_unite_common.specs.facts.Reasons.{SettleCause};
-ghost use Rattle.wit_unite_common.specs.facts.Told.{TellsInterface, TellsTypeOf};
+ghost use Rattle.wit_unite_common.specs.facts.Reasons.{ElaborationCause};
+ghost use Rattle.wit_unite_common.specs.facts.Errors.{IsInterfaceCycleError, IsTypeCycleError};
 
 use crate::round::find_round;
 use std::alloc::{AllocError, Global};
@@ -24,7 +24,7 @@ pub(crate) fn check_interfaces(alloc: Global, graph: &Graph) -> ResolveResult<()
     requires in_range { IsInRange (graph_uses graph.now) }
     requires named { UsedHaveNames graph.now }
     ensures ok { OnOk result (IsAcyclic (graph_uses graph.now)) }
-    ensures cause { IfErr result (λ e. (e ≡ OutOfMemory) ⊎ SettleCause graph.now e) }
+    ensures cause { IfErr result (λ e. (e ≡ OutOfMemory) ⊎ ElaborationCause graph.now e) }
 {
     let uses = uses_of(alloc, graph.types.as_slice(), graph.interfaces.as_slice())?;
     match find_cycle(alloc, uses.as_slice())? {
@@ -36,7 +36,7 @@ pub(crate) fn check_interfaces(alloc: Global, graph: &Graph) -> ResolveResult<()
 /// The error that tells of an interface that it uses itself.
 fn interface_cycle(alloc: Global, graph: &Graph, interface: usize) -> ResolveResult<ResolveError>
     requires { IsSome (interface_id_at graph.now.packages graph.now.interfaces interface) }
-    ensures error { IfOk result (TellsInterface graph.now interface) }
+    ensures error { IfOk result (IsInterfaceCycleError graph.now interface) }
     ensures err { IfErr result (λ e. e ≡ OutOfMemory) }
 {
     match graph.id_of(alloc, InterfaceId::from_index(interface))? {
@@ -57,7 +57,7 @@ fn interface_cycle(alloc: Global, graph: &Graph, interface: usize) -> ResolveRes
 pub(crate) fn check_packages(alloc: Global, graph: &Graph) -> ResolveResult<()>
     requires { IsInRange (graph_package_uses graph.now) }
     ensures ok { OnOk result (IsAcyclic (graph_package_uses graph.now)) }
-    ensures cause { IfErr result (λ e. (e ≡ OutOfMemory) ⊎ SettleCause graph.now e) }
+    ensures cause { IfErr result (λ e. (e ≡ OutOfMemory) ⊎ ElaborationCause graph.now e) }
 {
     let uses = package_uses(alloc, graph)?;
     match find_cycle(alloc, uses.as_slice())? {
@@ -75,7 +75,7 @@ pub(crate) fn check_types(alloc: Global, graph: &Graph) -> ResolveResult<()>
     requires in_range { IsInRange (type_references graph.now.types) }
     requires named { CyclesHaveNames graph.now.types }
     ensures ok { OnOk result (IsAcyclic (type_references graph.now.types)) }
-    ensures cause { IfErr result (λ e. (e ≡ OutOfMemory) ⊎ SettleCause graph.now e) }
+    ensures cause { IfErr result (λ e. (e ≡ OutOfMemory) ⊎ ElaborationCause graph.now e) }
 {
     let types = graph.types.as_slice();
     let references = type_references(alloc, types)?;
@@ -92,7 +92,7 @@ pub(crate) fn check_types(alloc: Global, graph: &Graph) -> ResolveResult<()>
 fn type_cycle(alloc: Global, types: &[TypeDef], ids: &[usize]) -> Result<ResolveError, AllocError>
     requires in_range { All (λ id. id < length types.now) ids.now }
     requires named { IsSomeNamed types.now ids.now }
-    ensures { IfOk result (TellsTypeOf types.now ids.now) }
+    ensures { IfOk result (IsTypeCycleError types.now ids.now) }
 {
     for id in ids {
         if let Some(name) = &types[*id].name {

@@ -6,8 +6,8 @@ mod cycles;
 mod functions;
 mod interfaces;
 mod round;
-mod settling;
+mod elaboration;
 
 pub use crate::functions::function_mismatch;
 pub use crate::interfaces::interface_mismatch;
-pub use crate::settling::settle;
+pub use crate::elaboration::check_and_elaborate;

@@ -4,7 +4,7 @@ ghost use Rattle.wit_elaboration.specs.Valid.{HasKebabNames};
 ghost use Rattle.wit_graph_data.specs.declared.graph.Package.{Package};
 ghost use Rattle.wit_data.specs.Each.{Each};
 ghost use Rattle.wit_data.specs.UsePath.{IsKebabName};
-ghost use Rattle.wit_validity.specs.facts.Parts.{IsNamed};
+ghost use Rattle.wit_validity.specs.facts.Parts.{HasKebabNamesInTables};
 
 use crate::package_names::has_package_names;
 use crate::tables::has_tables;
@@ -14,7 +14,7 @@ use wit_shape::names::are_interfaces_kebab;
 
 /// Whether each thing stands under its name where it should, and the names are kebab names.
 pub(crate) fn is_named(graph: &Graph) -> bool
-    ensures { IsTrue result ↔ IsNamed graph.now }
+    ensures { IsTrue result ↔ HasKebabNamesInTables graph.now }
 {
     let packages = graph.packages.as_slice();
     let interfaces = graph.interfaces.as_slice();

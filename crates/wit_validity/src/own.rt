@@ -2,7 +2,7 @@
 ghost use Rattle.std.specs.Prelude.{◌↔◌, IfOk, IsTrue};
 ghost use Rattle.wit_elaboration.specs.Valid.{HasOwners, HasReferences, HasWorlds};
 ghost use Rattle.wit_data.specs.Reference.{type_references};
-ghost use Rattle.wit_shape.specs.steps.Shown.{TellsEach};
+ghost use Rattle.wit_shape.specs.steps.NamedOwners.{AreNamedOwners};
 ghost use Rattle.wit_digraph.specs.Relation.{IsAcyclic};
 ghost use Rattle.wit_validity.specs.facts.Parts.{IsOwned};
 
@@ -16,7 +16,7 @@ use wit_shape::own::{
 };
 use wit_shape::owners::{all_list_own, all_name_functions, are_listed};
 use wit_shape::references::{all_alias_named, are_plain_if_unnamed};
-use wit_shape::shown::{Shown, shown_by_each};
+use wit_shape::named_owners::{NamedOwners, shown_by_each};
 use wit_shape::worlds::{all_have_exports, all_have_imports, stand_once};
 
 /// Whether owners, references and worlds are in order.
@@ -60,9 +60,9 @@ fn has_references(
     alloc: Global,
     types: &[TypeDef],
     interfaces: &[Interface],
-    shown: &Items<Shown>,
+    shown: &Items<NamedOwners>,
 ) -> Result<bool, AllocError>
-    requires { TellsEach types.now shown.now }
+    requires { AreNamedOwners types.now shown.now }
     ensures { IfOk result (λ holds. IsTrue holds ↔ HasReferences types.now interfaces.now) }
 {
     if !all_alias_named(types, interfaces) {
@@ -83,9 +83,9 @@ fn has_worlds(
     types: &[TypeDef],
     interfaces: &[Interface],
     worlds: &[World],
-    shown: &Items<Shown>,
+    shown: &Items<NamedOwners>,
 ) -> Result<bool, AllocError>
-    requires { TellsEach types.now shown.now }
+    requires { AreNamedOwners types.now shown.now }
     ensures { IfOk result (λ holds. IsTrue holds ↔ HasWorlds types.now interfaces.now worlds.now) }
 {
     worlds_keys_differ(worlds);

@@ -80,7 +80,7 @@ fn same_item(a: &WorldItem, b: &WorldItem) -> bool
 fn same_function(a: &Function, b: &Function) -> bool
     ensures { IsTrue result ↔ (a.now ≡ b.now) }
 {
-    same_signature(a, b) && same_notes(a, b)
+    same_signature(a, b) && same_gates(a, b)
 }
 
 /// Whether functions have the same name, kind, parameters and result.
@@ -94,7 +94,7 @@ fn same_signature(a: &Function, b: &Function) -> bool
 }
 
 /// Whether functions have the same of what is noted of them.
-fn same_notes(a: &Function, b: &Function) -> bool
+fn same_gates(a: &Function, b: &Function) -> bool
     ensures { IsTrue result ↔ ((a.now.docs ≡ b.now.docs) × (a.now.stability ≡ b.now.stability) × (a.now.span ≡ b.now.span) × (a.now.external_id ≡ b.now.external_id)) }
 {
     a.docs == b.docs

@@ -19,7 +19,7 @@ use wit_shape::unknown::is_unknown;
 /// and refer to what they may; nothing uses itself, through whatever others; and each world is
 /// canonical, its own elaboration.
 ///
-/// It is told of any graph, also where ids go nowhere, things use themselves or worlds can't be
+/// It is told of any graph, also what ids are remapped to nowhere, things use themselves or worlds can't be
 /// elaborated. It takes time in proportion to the graph's size, and for each world that of its
 /// elaboration. The only refusal is want of memory (28).
 ///

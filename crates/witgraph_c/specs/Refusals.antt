@@ -6,7 +6,7 @@ use Rattle.std.specs.Str.{IsUtf8}
 use Rattle.wit_sources.specs.declared.source_map.SourceFile.{SourceFile}
 use Rattle.wit_data.specs.declared.package_name.PackageName.{PackageName}
 use Rattle.wit_graph_data.specs.Error.{error_number}
-use Rattle.wit_graph_data.specs.Rendered.{rendered}
+use Rattle.wit_graph_data.specs.RenderedText.{rendered_text}
 use Rattle.wit_graph_data.specs.declared.error_kind.ResolveErrorKind.{ResolveErrorKind}
 use Rattle.wit_resolve_graph.specs.State.{State, new_state}
 use Rattle.wit_resolve_graph.specs.Step.{Run}
@@ -25,7 +25,7 @@ use Rattle.witgraph_c.specs.declared.refusals.Stage.{Stage}
 
 -- `refused N TEXT`, N being the number of the refusal, with its line in these files and a mark
 abbrev pub rendered_refusal : List SourceFile → ResolveErrorKind → List ℕ
-rendered_refusal files kind = codes "refused " ++ (decimal (error_number kind) ++ (codes " " ++ (rendered files kind ++ codes "\n")))
+rendered_refusal files kind = codes "refused " ++ (decimal (error_number kind) ++ (codes " " ++ (rendered_text files kind ++ codes "\n")))
 
 -- what is shown of a reply, in the state after it
 abbrev pub rendered_reply : State → Reply → List ℕ
@@ -44,24 +44,24 @@ abbrev pub alone : State → Stage
 alone state = record { first = state; second = None }
 
 -- the graph on which commands work
-abbrev pub active_of : State → Option State → State
-active_of first None = first
-active_of first (Some second) = second
+abbrev pub working_state_of : State → Option State → State
+working_state_of first None = first
+working_state_of first (Some second) = second
 
 abbrev pub active : Stage → State
-active stage = active_of stage.first stage.second
+active stage = working_state_of stage.first stage.second
 
 -- the stage after that graph has become another
-abbrev pub with_active_of : State → Option State → State → Stage
-with_active_of first None new = alone new
-with_active_of first (Some second) new = record { first = first; second = Some new }
+abbrev pub with_working_state_of : State → Option State → State → Stage
+with_working_state_of first None new = alone new
+with_working_state_of first (Some second) new = record { first = first; second = Some new }
 
-abbrev pub with_active : Stage → State → Stage
-with_active stage new = with_active_of stage.first stage.second new
+abbrev pub with_working_state : Stage → State → Stage
+with_working_state stage new = with_working_state_of stage.first stage.second new
 
 -- a run of one command on the graph on which commands work
 abbrev pub ExplainsWork : Stage → Command → List ℕ → Stage → Type 0
-ExplainsWork before command text after = (new : State) × ExplainsRun (active before) command text new × (after ≡ with_active before new)
+ExplainsWork before command text after = (new : State) × ExplainsRun (active before) command text new × (after ≡ with_working_state before new)
 
 -- `merge`: the second graph goes into the first, and is no longer there
 abbrev pub ExplainsMerge : Stage → Option State → List ℕ → Stage → Type 0

@@ -14,8 +14,8 @@ use Rattle.wit_script_lines.specs.declared.request.Request.{Request}
 use Rattle.wit_script_lines.specs.declared.request.Request.TheVariants as request
 use Rattle.wit_script.proofs.Answered.{AnswersAll-more}
 use Rattle.wit_script.proofs.Waiting.{others-come}
-use Rattle.wit_script.specs.Answer.{IsChoice, IsChoiceTold, IsPrinted, IsSelected, Replies, Works, active, alone, package_named, refusal_text, reply_text, world_named}
-use Rattle.wit_script.specs.Ready.{MayAllCome}
+use Rattle.wit_script.specs.Answer.{AnswersByRun, AnswersPrint, AnswersSelect, IsChoice, PrintsChoice, Replies, only_first, package_named, refusal_text, reply_text, working_state, world_named}
+use Rattle.wit_script.specs.Ready.{CanAllBeAsked}
 use Rattle.wit_script.specs.World.{world_text_at}
 use Rattle.wit_script.specs.declared.answer.Stage.{Stage}
 use Rattle.wit_script.specs.declared.ready.ScriptCommand.{ScriptCommand}
@@ -35,7 +35,7 @@ holding p (Err e) = tt
 
 -- a command on the active graph, however its reply is told
 works : (told : Graph → Reply → List ℕ) (listed after : ListedGraph) (waiting : Option ListedGraph) (command : Command)
-    → Carries listed.resolve command after.resolve → (text : List ℕ) × Works Run told (graphs listed waiting) command text (graphs after waiting)
+    → Carries listed.resolve command after.resolve → (text : List ℕ) × AnswersByRun Run told (graphs listed waiting) command text (graphs after waiting)
 works told listed after None command carried = (flat_map (told after.resolve.graph) carried.0, (after.resolve, inl (carried.0, carried.1, refl), refl))
 works told listed after (Some first) command carried = (flat_map (told after.resolve.graph) carried.0, (after.resolve, inl (carried.0, carried.1, refl), refl))
 
@@ -52,7 +52,7 @@ merges-in told listed first after waiting left there gone carried =
     (on-ok (merges listed first after) told carried))
 
 -- `print` and `select` can be answered, and leave the graphs as they are
-printable : (g : Graph) (owner : PackageName) (world : List ℕ) → (text : List ℕ) × IsPrinted g owner world text
+printable : (g : Graph) (owner : PackageName) (world : List ℕ) → (text : List ℕ) × AnswersPrint g owner world text
 printable g owner world = of (world_named g owner world) where
   of : (o : Option ℕ) → (text : List ℕ) × MatchOption o (text ≡ codes "no world\n") (λ id. (text ≡ world_text_at g id) ⊎ (text ≡ refusal_text OutOfMemory))
   of None = (codes "no world\n", refl)
@@ -60,17 +60,17 @@ printable g owner world = of (world_named g owner world) where
 
 prints : (listed : ListedGraph) (waiting : Option ListedGraph) (owner : PackageName) (world : List ℕ)
     → Follows (graphs listed waiting) (asks.Request (request.Print owner world)) (graphs listed waiting)
-prints listed waiting owner world = let told = printable (active (graphs listed waiting)).graph owner world in (told.0, (refl, told.1))
+prints listed waiting owner world = let told = printable (working_state (graphs listed waiting)).graph owner world in (told.0, (refl, told.1))
 
-selectable : (g : Graph) (owner : PackageName) (said : Option (List ℕ)) → (text : List ℕ) × IsSelected IsChoice g owner said text
+selectable : (g : Graph) (owner : PackageName) (said : Option (List ℕ)) → (text : List ℕ) × AnswersSelect IsChoice g owner said text
 selectable g owner said = of (package_named g owner) where
-  of : (o : Option ℕ) → (text : List ℕ) × MatchOption o (text ≡ codes "no package\n") (λ id. IsChoiceTold IsChoice g id said text)
+  of : (o : Option ℕ) → (text : List ℕ) × MatchOption o (text ≡ codes "no package\n") (λ id. PrintsChoice IsChoice g id said text)
   of None = (codes "no package\n", refl)
   of (Some id) = (refusal_text OutOfMemory, (Err OutOfMemory, inl refl, refl))
 
 selects : (listed : ListedGraph) (waiting : Option ListedGraph) (owner : PackageName) (said : Option (List ℕ))
     → Follows (graphs listed waiting) (asks.Request (request.Select owner said)) (graphs listed waiting)
-selects listed waiting owner said = let told = selectable (active (graphs listed waiting)).graph owner said in (told.0, (refl, told.1))
+selects listed waiting owner said = let told = selectable (working_state (graphs listed waiting)).graph owner said in (told.0, (refl, told.1))
 
 -- `other` waits where a first graph does
 pub waits : (listed : ListedGraph) (waiting : Option ListedGraph) → is_some (graphs listed waiting).second ≡ is_some waiting
@@ -80,14 +80,14 @@ waits listed (Some first) = refl
 -- one more command
 pub FollowsAll-more : (commands : List ScriptCommand) (command : ScriptCommand) (between after : Stage) → FollowsAll commands between → Follows between command after → FollowsAll (commands ++ command ∷ []) after
 FollowsAll-more commands command between after all one =
-    (all.0 ++ one.0, AnswersAll-more Run IsChoice (alone new_state) between after commands command all.0 one.0 all.1 one.1)
+    (all.0 ++ one.0, AnswersAll-more Run IsChoice (only_first new_state) between after commands command all.0 one.0 all.1 one.1)
 
 -- after it the others can be asked
 pub others-wait : (listed next : ListedGraph) (waiting left : Option ListedGraph) (command : ScriptCommand) (commands : List ScriptCommand)
-    → Follows (graphs listed waiting) command (graphs next left) → MayAllCome (command ∷ commands) (is_some waiting) → MayAllCome commands (is_some left)
+    → Follows (graphs listed waiting) command (graphs next left) → CanAllBeAsked (command ∷ commands) (is_some waiting) → CanAllBeAsked commands (is_some left)
 others-wait listed next waiting left command commands follows come =
-    subst (λ (b : Bool). MayAllCome commands b) (waits next left)
-    (others-come Run IsChoice (graphs listed waiting) (graphs next left) command commands follows.0 follows.1 (subst (λ (b : Bool). MayAllCome (command ∷ commands) b) (sym (waits listed waiting)) come))
+    subst (λ (b : Bool). CanAllBeAsked commands b) (waits next left)
+    (others-come Run IsChoice (graphs listed waiting) (graphs next left) command commands follows.0 follows.1 (subst (λ (b : Bool). CanAllBeAsked (command ∷ commands) b) (sym (waits listed waiting)) come))
 
 -- ---- what is asked, as it is read
 
@@ -97,7 +97,7 @@ as-asked told before after asked read is follows = subst (λ (r : Request). OnOk
 
 -- one that is carried out on the active graph
 pub works-as : {A E : Type 0} (line : Graph → Reply → List ℕ) (told : Result A E) (listed after : ListedGraph) (waiting : Option ListedGraph) (asked read : Request) (command : Command)
-    → ((text : List ℕ) → Works Run line (graphs listed waiting) command text (graphs after waiting) → Replies Run IsChoice (graphs listed waiting) read text (graphs after waiting))
+    → ((text : List ℕ) → AnswersByRun Run line (graphs listed waiting) command text (graphs after waiting) → Replies Run IsChoice (graphs listed waiting) read text (graphs after waiting))
     → asked ≡ read → OnOk told (Carries listed.resolve command after.resolve) → OnOk told (Follows (graphs listed waiting) (asks.Request asked) (graphs after waiting))
 works-as line told listed after waiting asked read command reply is carried =
     as-asked told (graphs listed waiting) (graphs after waiting) asked read is

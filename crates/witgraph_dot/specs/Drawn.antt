@@ -6,7 +6,7 @@ use Rattle.wit_resolve_graph.specs.State.{State, new_state}
 use Rattle.wit_resolve_graph.specs.Step.{Run}
 use Rattle.wit_resolve_graph.specs.declared.command.Command.{Command}
 use Rattle.wit_resolve_graph.specs.declared.command.Reply.{Reply}
-use Rattle.wit_script.specs.Answer.{Answers, AnswersAll, IsChoice, alone}
+use Rattle.wit_script.specs.Answer.{Answers, AnswersAll, IsChoice, only_first}
 use Rattle.wit_script.specs.declared.answer.Stage.{Stage}
 use Rattle.wit_script.specs.declared.ready.ScriptCommand.{ScriptCommand}
 use Rattle.witgraph_dot.specs.declared.listed_graph.ListedGraph.{ListedGraph}
@@ -19,7 +19,7 @@ Carries before command after = (replies : List Reply) × Run before (command ∷
 
 -- the graphs as `execute` has them: that on which commands work, and the first one where it waits for `merge`
 abbrev pub graphs : ListedGraph → Option ListedGraph → Stage
-graphs active None = alone active.resolve
+graphs active None = only_first active.resolve
 graphs active (Some first) = record { first = first.resolve; second = Some active.resolve }
 
 -- the graphs that `execute` may have after a command, whatever it answers
@@ -28,7 +28,7 @@ Follows before command after = (text : List ℕ) × Answers Run IsChoice before 
 
 -- the graphs that `execute` may have after commands on an empty graph
 abbrev pub FollowsAll : List ScriptCommand → Stage → Type 0
-FollowsAll commands after = (text : List ℕ) × AnswersAll Run IsChoice (alone new_state) commands text after
+FollowsAll commands after = (text : List ℕ) × AnswersAll Run IsChoice (only_first new_state) commands text after
 
 -- ---- worlds
 

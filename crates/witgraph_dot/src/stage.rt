@@ -2,7 +2,7 @@
 ghost use Rattle.std.specs.Prelude.{◌≡◌, ◌≢◌, None, Some, IfOk, OnOk, false, is_some};
 ghost use Rattle.wit_resolve_graph.specs.State.{new_state};
 ghost use Rattle.wit_script_lines.specs.declared.request.Request.TheVariants as requested;
-ghost use Rattle.wit_script.specs.Ready.{IsReady, MayAllCome, MayCome};
+ghost use Rattle.wit_script.specs.Ready.{CanAllBeAsked, CanBeAsked, IsReady};
 ghost use Rattle.wit_script.specs.declared.ready.ScriptCommand.TheVariants as asks;
 ghost use Rattle.witgraph_dot.specs.Drawn.{Follows, FollowsAll, graphs};
 
@@ -27,7 +27,7 @@ impl Stage {
     /// What there is after commands on an empty graph: the graphs that `execute` may have then. The only refusal is want
     /// of memory outside a command.
     pub fn after(alloc: Global, commands: Items<ReadyCommand>) -> ResolveResult<Stage>
-        requires { MayAllCome commands false }
+        requires { CanAllBeAsked commands false }
         ensures { IfOk result (λ stage. FollowsAll commands (graphs stage.active stage.waiting)) }
     {
         let mut stage = Stage {
@@ -58,7 +58,7 @@ impl Stage {
 
     /// Carries out a command, and writes a note where it comes to nothing.
     fn carry_out(&mut self, alloc: Global, command: ReadyCommand) -> ResolveResult<()>
-        requires { MayCome command (is_some self.old.waiting) }
+        requires { CanBeAsked command (is_some self.old.waiting) }
         ensures { OnOk result (Follows (graphs self.old.active self.old.waiting) command (graphs self.new.active self.new.waiting)) }
     {
         let command = command.into_command();
@@ -74,7 +74,7 @@ impl Stage {
     /// Carries out a command, and answers why it comes to nothing, if it does.
     fn failure_of(&mut self, alloc: Global, command: ScriptCommand) -> ResolveResult<Option<String>>
         requires ready { IsReady command }
-        requires come { MayCome command (is_some self.old.waiting) }
+        requires come { CanBeAsked command (is_some self.old.waiting) }
         ensures { OnOk result (Follows (graphs self.old.active self.old.waiting) command (graphs self.new.active self.new.waiting)) }
     {
         match command {
@@ -89,7 +89,7 @@ impl Stage {
         alloc: Global,
         request: Request,
     ) -> ResolveResult<Option<String>>
-        requires { MayCome (asks.Request request) (is_some self.old.waiting) }
+        requires { CanBeAsked (asks.Request request) (is_some self.old.waiting) }
         ensures { OnOk result (Follows (graphs self.old.active self.old.waiting) (asks.Request request) (graphs self.new.active self.new.waiting)) }
     {
         match request {

@@ -1,5 +1,5 @@
 //! The names in core wasm of the functions of a `Resolve`, and what has none.
-use crate::fixtures::{assert_told, resolve_of};
+use crate::fixtures::{assert_text, resolve_of};
 use std::alloc::Global;
 use std::process::Abort;
 use wit_data::{Function, InterfaceId, TypeId, WorldKey};
@@ -199,14 +199,14 @@ const NO_IMPORTS: [(ManglingAndAbi, &str, Asked); 5] = [
 #[test]
 fn imports_are_named(rt: HostRuntime) {
     for &(mangling, is_of_x, function, asked, wanted) in &IMPORTS {
-        assert_told(
+        assert_text(
             &rt,
             import_name(&rt, rt.alloc(), mangling, is_of_x, function, asked),
             wanted,
         );
     }
     for &(mangling, function, asked) in &NO_IMPORTS {
-        assert_told(
+        assert_text(
             &rt,
             import_name(&rt, rt.alloc(), mangling, true, function, asked),
             "none",
@@ -332,7 +332,7 @@ const EXPORTS: [(ManglingAndAbi, bool, Exported, &str); 20] = [
 #[test]
 fn exports_are_named(rt: HostRuntime) {
     for &(mangling, is_of_x, exported, wanted) in &EXPORTS {
-        assert_told(
+        assert_text(
             &rt,
             export_name(&rt, rt.alloc(), mangling, is_of_x, exported),
             wanted,

@@ -1,5 +1,5 @@
 //! Readers and writers that fail at one of their calls, or take little at a time, and input that is no text.
-use crate::fixtures::assert_told;
+use crate::fixtures::assert_text;
 use std::alloc::{AllocError, Global};
 use std::io;
 use std::io::{ErrorKind, Read, Write};
@@ -147,7 +147,7 @@ fn a_read_that_fails_is_told(rt: HostRuntime) {
             };
             let (answer, text) = run(&rt, rt.alloc(), SCRIPT.as_bytes(), reads, steady(bytes));
             assert!(rt; answer == Err(ScriptFault::Read), "{calls_left}");
-            assert_told(&rt, text, "");
+            assert_text(&rt, text, "");
         }
     }
 }
@@ -183,7 +183,7 @@ fn streams_that_fail_after_all_calls_or_go_slowly_change_nothing(rt: HostRuntime
         };
         let (answer, text) = run(&rt, rt.alloc(), SCRIPT.as_bytes(), reads, writes);
         assert!(rt; answer == Ok(true));
-        assert_told(&rt, text, PRINTED);
+        assert_text(&rt, text, PRINTED);
     }
 }
 
@@ -191,5 +191,5 @@ fn streams_that_fail_after_all_calls_or_go_slowly_change_nothing(rt: HostRuntime
 fn input_that_is_no_text_prints_nothing(rt: HostRuntime) {
     let (answer, text) = run(&rt, rt.alloc(), b"push\xff", steady(1), steady(1));
     assert!(rt; answer == Err(ScriptFault::NotUtf8));
-    assert_told(&rt, text, "");
+    assert_text(&rt, text, "");
 }

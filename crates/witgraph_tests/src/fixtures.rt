@@ -5,7 +5,7 @@ use wit_resolve_graph::{Resolve, Shape};
 use wit_script::{ScriptCommand, read_script};
 
 /// Ends the test where a text isn't the one that is wanted.
-pub fn assert_told(rt: &impl Abort, told: String, wanted: &str) {
+pub fn assert_text(rt: &impl Abort, told: String, wanted: &str) {
     assert_eq!(rt; told.as_str(), wanted);
 }
 

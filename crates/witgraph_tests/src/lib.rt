@@ -9,7 +9,7 @@ mod failing_streams;
 #[cfg(test)]
 mod fixtures;
 #[cfg(test)]
-mod questions;
+mod queries;
 #[cfg(test)]
 mod refusals;
 #[cfg(test)]
@@ -19,4 +19,4 @@ mod selecting;
 #[cfg(test)]
 mod sources;
 #[cfg(test)]
-mod turning;
+mod transformations;

@@ -1,14 +1,14 @@
 //! Refused pushes as they are rendered at the lines of a script: the file has the name of its package, its lines are
 //! counted from the first of the package, and a line begins with its first token. All else that is told of refused
 //! pushes is compared in `wit_resolve_graph_tests`.
-use crate::fixtures::assert_told;
+use crate::fixtures::assert_text;
 use std::alloc::Global;
 use std::process::Abort;
 use wit_resolve_graph::{Resolve, SourceFault};
 use wit_script::{ScriptCommand, read_script};
 
 /// How the push of a script is refused, after the number of the refusal.
-fn rendered(rt: &impl Abort, alloc: Global, script: &str) -> String {
+fn rendered_text(rt: &impl Abort, alloc: Global, script: &str) -> String {
     let mut commands = read_script(alloc, script).expect(rt, "a script");
     let ready = commands.pop().expect(rt, "a command");
     let ScriptCommand::Push { main, deps } = ready.into_command() else {
@@ -63,6 +63,6 @@ const REFUSALS: [(&str, &str); 3] = [
 #[test]
 fn refusals_are_told_at_their_lines(rt: HostRuntime) {
     for &(script, told) in &REFUSALS {
-        assert_told(&rt, rendered(&rt, rt.alloc(), script), told);
+        assert_text(&rt, rendered_text(&rt, rt.alloc(), script), told);
     }
 }

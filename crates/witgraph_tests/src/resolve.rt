@@ -1,6 +1,6 @@
 //! The calls of a `Resolve` that no script makes, each once with ample memory. The package is read from a
 //! script.
-use crate::fixtures::{assert_told, assert_valid, resolve_of};
+use crate::fixtures::{assert_text, assert_valid, resolve_of};
 use std::alloc::Global;
 use std::process::Abort;
 use wit_data::{InterfaceId, PackageId, SourceMap, TryClone, WorldId, WorldKey};
@@ -63,7 +63,7 @@ fn id_texts(rt: &impl Abort, alloc: Global) -> String {
 
 #[test]
 fn things_have_their_id_texts(rt: HostRuntime) {
-    assert_told(
+    assert_text(
         &rt,
         id_texts(&rt, rt.alloc()),
         "foo:bar/b foo:bar/w foo:bar/a",
@@ -80,7 +80,7 @@ fn printed(rt: &impl Abort, alloc: Global) -> String {
 
 #[test]
 fn worlds_are_printed(rt: HostRuntime) {
-    assert_told(
+    assert_text(
         &rt,
         printed(&rt, rt.alloc()),
         "world foo:bar/w\n\

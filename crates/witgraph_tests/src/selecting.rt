@@ -1,6 +1,6 @@
 //! The choice of a world by a `Resolve` where there is not one main package, or an empty text. The choice among the
 //! worlds of one main package is in the cases of `witgraph_cases`.
-use crate::fixtures::{assert_told, resolve_of};
+use crate::fixtures::{assert_text, resolve_of};
 use std::alloc::Global;
 use std::process::Abort;
 use wit_data::PackageId;
@@ -110,6 +110,6 @@ const CHOICES: [Choice; 14] = [
 #[test]
 fn worlds_are_chosen_among_several_packages(rt: HostRuntime) {
     for &(script, mains, text, wanted) in &CHOICES {
-        assert_told(&rt, selected(&rt, rt.alloc(), script, mains, text), wanted);
+        assert_text(&rt, selected(&rt, rt.alloc(), script, mains, text), wanted);
     }
 }

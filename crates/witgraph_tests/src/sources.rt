@@ -1,9 +1,9 @@
-//! Sources that are pushed by a parse which is handed in, how their faults are told, and sources of packages.
+//! Sources that are pushed by a parse which comes in, how their faults are told, and sources of packages.
 ghost use Rattle.std.specs.Prelude.{IfOk, IsErr};
 ghost use Rattle.wit_data.specs.Shape.{IsGroupShaped};
 ghost use Rattle.wit_package_sources.specs.Names.{ArePlaced};
 
-use crate::fixtures::assert_told;
+use crate::fixtures::assert_text;
 use std::alloc::{AllocError, Global};
 use std::collections::BTreeMap;
 use std::fmt::Write;
@@ -68,7 +68,7 @@ fn faults(rt: &impl Abort, alloc: Global) -> String {
 
 #[test]
 fn faults_stand_in_the_files_that_follow(rt: HostRuntime) {
-    assert_told(
+    assert_text(
         &rt,
         faults(&rt, rt.alloc()),
         "13-18 bad\n\
@@ -210,7 +210,7 @@ fn places(rt: &impl Abort, alloc: Global, is_merged: bool) -> String {
 #[test]
 fn spans_move_with_their_file(rt: HostRuntime) {
     for is_merged in [false, true] {
-        assert_told(
+        assert_text(
             &rt,
             places(&rt, rt.alloc(), is_merged),
             "104-116 second.wit:3:11;123-134 second.wit:4:5;",
@@ -271,7 +271,7 @@ fn names(rt: &impl Abort, alloc: Global, sources: &PackageSources) -> String {
 fn packages_have_their_sources(rt: HostRuntime) {
     let sources = two_packages(&rt, rt.alloc());
     let copy = sources.try_clone().expect(&rt, "memory");
-    assert_told(&rt, names(&rt, rt.alloc(), &copy), "abc of 1: bc, none");
+    assert_text(&rt, names(&rt, rt.alloc(), &copy), "abc of 1: bc, none");
 }
 
 #[test]
@@ -280,5 +280,5 @@ fn one_source_is_of_one_package(rt: HostRuntime) {
     let sources = PackageSources::from_single_source(rt.alloc(), package, "m").expect(
         &rt, "memory",
     );
-    assert_told(&rt, names(&rt, rt.alloc(), &sources), "m of 1: m, none");
+    assert_text(&rt, names(&rt, rt.alloc(), &sources), "m of 1: m, none");
 }

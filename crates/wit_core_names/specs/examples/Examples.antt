@@ -45,7 +45,7 @@ pub record ExamplesOfImports (x : Bor WorldKey) (f : Bor Function) : Type 0 wher
   pub second_read : import_names named_graph (Legacy AsyncStackful) (imports.FutureIntrinsic None f (Some 2) future.Read false true) ≡ (codes "$root", codes "[async-lower][future-read-1]f")
   pub unit_drop : import_names named_graph (Legacy AsyncStackful) (imports.StreamIntrinsic None f None stream.DropReadable true false) ≡ (codes "[export]$root", codes "[stream-drop-readable-unit]f")
   -- module and field aren't one another's
-  pub not_turned : import_names named_graph (Legacy Sync) (imports.Func None f) ≢ (codes "f", codes "$root")
+  pub not_transformed : import_names named_graph (Legacy Sync) (imports.Func None f) ≢ (codes "f", codes "$root")
 
 -- what exports are called
 pub record ExamplesOfExports (x : Bor WorldKey) (f : Bor Function) : Type 0 where

@@ -1,7 +1,7 @@
 -- Worked rows: what the definitions say of small relations.
 use Rattle.std.specs.Prelude.{◌≡◌, ℕ, List, [], ◌∷◌}
 use Rattle.wit_digraph.specs.Relation.{Reaches, IsAcyclic}
-use Rattle.wit_digraph.specs.Walks.{UsesFirst, walk, first_of_each}
+use Rattle.wit_digraph.specs.PostOrder.{UsesFirst, post_order, first_of_each}
 use Rattle.wit_digraph.specs.Cycles.{IsOnCycle}
 
 -- 1 uses 0; 2 uses 0 and 1
@@ -27,9 +27,9 @@ pub record ExamplesOfCycles : Type 0 where
   pub leads_to_it : IsOnCycle ring 3 0 → ⊥
   pub no_use : IsOnCycle ring 0 1 → ⊥
 
-pub record ExamplesOfWalks : Type 0 where
-  pub with_repeats : walk stairs 2 ≡ 0 ∷ 0 ∷ 1 ∷ 2 ∷ []
-  pub once : first_of_each (walk stairs 2) ≡ 0 ∷ 1 ∷ 2 ∷ []
+pub record ExamplesOfPostOrders : Type 0 where
+  pub with_repeats : post_order stairs 2 ≡ 0 ∷ 0 ∷ 1 ∷ 2 ∷ []
+  pub once : first_of_each (post_order stairs 2) ≡ 0 ∷ 1 ∷ 2 ∷ []
   pub uses_first : UsesFirst stairs [] (0 ∷ 1 ∷ 2 ∷ [])
   pub user_first : UsesFirst stairs [] (1 ∷ 0 ∷ 2 ∷ []) → ⊥
   pub use_left_out : UsesFirst stairs [] (0 ∷ 2 ∷ []) → ⊥

@@ -33,11 +33,11 @@ no_bits words i = bit_of-zero (replicate words 0) i
     (elim (cases_lt (i / 64) words) [ inl below ↦ get_or-replicate words (i / 64) 0 0 below | inr above ↦ get_or_past (replicate words 0) (i / 64) 0 (omega (arith, length-replicate {A = ℕ} words 0)) ])
 
 -- a row that has one word of zeros more has no bit of that word, and the others as before
-pub bit_of-taken_same : (row : List ℕ) (i k : ℕ) → i / 64 < length row → k / 64 ≡ i / 64 → bit_of (set row (i / 64) 0) k ≡ 0
-bit_of-taken_same row i k below same = bit_of-zero (set row (i / 64) 0) k (rw same (get_or-set_same row (i / 64) 0 0 below))
+pub bit_of-selected_same : (row : List ℕ) (i k : ℕ) → i / 64 < length row → k / 64 ≡ i / 64 → bit_of (set row (i / 64) 0) k ≡ 0
+bit_of-selected_same row i k below same = bit_of-zero (set row (i / 64) 0) k (rw same (get_or-set_same row (i / 64) 0 0 below))
 
-pub bit_of-taken_other : (row : List ℕ) (i k : ℕ) → k / 64 ≢ i / 64 → bit_of (set row (i / 64) 0) k ≡ bit_of row k
-bit_of-taken_other row i k apart = ap (λ word. bit_at word (k % 64)) (get_or-set_other row (i / 64) (k / 64) 0 0 apart)
+pub bit_of-selected_other : (row : List ℕ) (i k : ℕ) → k / 64 ≢ i / 64 → bit_of (set row (i / 64) 0) k ≡ bit_of row k
+bit_of-selected_other row i k apart = ap (λ word. bit_at word (k % 64)) (get_or-set_other row (i / 64) (k / 64) 0 0 apart)
 
 -- a word of zeros at the end changes no bit
 pub bit_of-longer : (row : List ℕ) (i : ℕ) → bit_of (row ++ 0 ∷ []) i ≡ bit_of row i

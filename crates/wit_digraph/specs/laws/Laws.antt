@@ -2,22 +2,22 @@
 use Rattle.std.specs.Prelude.{◌≡◌, ℕ, ◌<◌, ◌↔◌, List, [], ◌∷◌, ◌++◌, length, nat_eq, Contains, All}
 use Rattle.std.specs.List.{flat_map, IsDistinct}
 use Rattle.wit_digraph.specs.Relation.{direct, Reaches, IsAcyclic}
-use Rattle.wit_digraph.specs.Walks.{UsesFirst, walk, first_of_each}
+use Rattle.wit_digraph.specs.PostOrder.{UsesFirst, post_order, first_of_each}
 
--- a walk is the walks of the direct uses in order, then the node
-abbrev pub WalksUnfold : Type 0
-WalksUnfold = (uses : List (List ℕ)) (i : ℕ) → IsAcyclic uses → i < length uses →
-    walk uses i ≡ flat_map (walk uses) (direct uses i) ++ i ∷ []
+-- a post-order is the post-orders of the direct uses in order, then the node
+abbrev pub PostOrdersUnfold : Type 0
+PostOrdersUnfold = (uses : List (List ℕ)) (i : ℕ) → IsAcyclic uses → i < length uses →
+    post_order uses i ≡ flat_map (post_order uses) (direct uses i) ++ i ∷ []
 
--- what the walks of some roots list is exactly what is reached from a root
-abbrev pub WalksReach : Type 0
-WalksReach = (uses : List (List ℕ)) (roots : List ℕ) (j : ℕ) → IsAcyclic uses → All (λ i. i < length uses) roots →
-    Contains (first_of_each (flat_map (walk uses) roots)) j ↔ ((i : ℕ) × Contains roots i × Reaches uses i j)
+-- what the post-orders of some roots list is exactly what is reached from a root
+abbrev pub PostOrdersReach : Type 0
+PostOrdersReach = (uses : List (List ℕ)) (roots : List ℕ) (j : ℕ) → IsAcyclic uses → All (λ i. i < length uses) roots →
+    Contains (first_of_each (flat_map (post_order uses) roots)) j ↔ ((i : ℕ) × Contains roots i × Reaches uses i j)
 
 -- and each direct use of what they list stands before it
-abbrev pub WalksKeepOrder : Type 0
-WalksKeepOrder = (uses : List (List ℕ)) (roots : List ℕ) → IsAcyclic uses → All (λ i. i < length uses) roots →
-    UsesFirst uses [] (first_of_each (flat_map (walk uses) roots))
+abbrev pub PostOrdersKeepOrder : Type 0
+PostOrdersKeepOrder = (uses : List (List ℕ)) (roots : List ℕ) → IsAcyclic uses → All (λ i. i < length uses) roots →
+    UsesFirst uses [] (first_of_each (flat_map (post_order uses) roots))
 
 -- the first of each member has the same members, each once
 pub record FirstsAreOnce (xs : List ℕ) : Type 0 where

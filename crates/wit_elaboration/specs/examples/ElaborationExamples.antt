@@ -6,7 +6,7 @@ use Rattle.wit_data.specs.declared.world.WorldItem.TheVariants as item
 use Rattle.wit_data.specs.declared.world.WorldKey.TheVariants.{Name, Interface}
 use Rattle.wit_elaboration.specs.Elaborated.{elaborated_imports, elaborated_exports}
 use Rattle.wit_elaboration.specs.Entries.{Entry}
-use Rattle.wit_elaboration.specs.Imported.{HasConflict, IsInConflict, IsRefusedKey}
+use Rattle.wit_elaboration.specs.Imported.{HasConflict, IsEntryInConflict, IsRefusedKey}
 
 abbrev pub chain : List (List ℕ)
 chain = [] ∷ (0 ∷ []) ∷ (0 ∷ 1 ∷ []) ∷ (1 ∷ []) ∷ []
@@ -70,6 +70,6 @@ pub record WorkedConflicts : Type 0 where
   -- there is a conflict in each of these
   pub c_in_conflict : HasConflict chain (a ∷ c ∷ [])
   -- not for what uses nothing
-  pub a_passed : IsInConflict chain (a ∷ c ∷ []) a → ⊥
+  pub a_passed : IsEntryInConflict chain (a ∷ c ∷ []) a → ⊥
   -- nor where all uses are exported
   pub all_passed : HasConflict chain (a ∷ b ∷ []) → ⊥

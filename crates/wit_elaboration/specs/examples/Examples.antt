@@ -12,7 +12,7 @@ use Rattle.wit_data.specs.declared.types.TypeDefKind.TheVariants as kind
 use Rattle.wit_data.specs.declared.types.Type_.TheVariants as type
 use Rattle.wit_data.specs.declared.world.WorldItem.TheVariants as item
 use Rattle.wit_data.specs.declared.world.WorldKey.TheVariants as key
-use Rattle.wit_graph_data.specs.Questions.{HasAllBitsValid, canonical_id_text_in, external_id_value, futures_and_streams, implements_interface, interface_direct_deps, topological_packages, version_suffix_of}
+use Rattle.wit_graph_data.specs.Queries.{HasAllBitsValid, canonical_id_text_in, external_id_value, futures_and_streams, implements_interface, interface_direct_deps, topological_packages, version_suffix_of}
 use Rattle.wit_graph_data.specs.Relations.{package_direct_deps, package_uses}
 use Rattle.wit_graph_data.specs.examples.Samples.{entry_of, foo_bar, foo_bar_of, function_of, instance, interface_of, labelled_entry, no_docs, sample, sample_interfaces, sample_types, type_in, unnamed, world_of}
 use Rattle.wit_elaboration.specs.Valid.{HasKebabNames, HasOwners, HasPackageNames, HasReferences, HasTables, HasWorlds, IsValid}
@@ -88,7 +88,7 @@ abbrev pub foo_x : PackageName
 foo_x = record { namespace = codes "foo"; name = codes "x"; version = Some (0, 2, 1, [], []) }
 
 -- answers
-pub record ExamplesOfQuestions : Type 0 where
+pub record ExamplesOfQueries : Type 0 where
   pub deps : interface_direct_deps sample_types sample_interfaces 1 ≡ 0 ∷ []
   pub dependency_first : topological_packages sample_types dep_interfaces (world_of (codes "w") (entry_of 0 ∷ []) [] ∷ []) dep_packages ≡ 1 ∷ 0 ∷ []
   pub canonical : canonical_id_text_in foo_x (codes "x") ≡ codes "foo:x/x@0.2"

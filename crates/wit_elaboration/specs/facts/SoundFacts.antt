@@ -7,7 +7,7 @@ use Rattle.std.proofs.lemmas.Option.{slice_get_within}
 use Rattle.std.specs.List.{AllByRecursion}
 use Rattle.wit_data.specs.Each.{Each, SomeAt}
 use Rattle.wit_data.specs.facts.EachFacts.{SomeAt-is}
-use Rattle.wit_data.specs.Entries.{Entry, HasExports, HasImports, IsExport, IsImport}
+use Rattle.wit_data.specs.Entries.{Entry, ExportsAreAllowed, ImportsAreAllowed, IsExport, IsImport}
 use Rattle.wit_data.specs.Function.{resource_of}
 use Rattle.wit_data.specs.Ownership.{AliasesNamed, IsNamed, IsNamedInterface}
 use Rattle.wit_data.specs.Uses.{alias_target, interface_uses, other_owner, type_interface_dep, uses_of}
@@ -114,7 +114,7 @@ module _ (types : List TypeDef) (interfaces : List Interface) (aliases : Each (A
       type_in_range (length interfaces) (type_interface_dep types id) (λ j found. named_within interfaces j (dep_is_named types interfaces id j aliases found))
 
   -- the lists of a world are in order, over so many interfaces
-  pub HasSoundEntries-of_world : (w : ℕ) (world : World) → HasImports interfaces types w world → HasExports interfaces world → HasSoundEntries types (length interfaces) world.imports world.exports
+  pub HasSoundEntries-of_world : (w : ℕ) (world : World) → ImportsAreAllowed interfaces types w world → ExportsAreAllowed interfaces world → HasSoundEntries types (length interfaces) world.imports world.exports
   HasSoundEntries-of_world w world imports exports = record {
     of_imports = record {
       own_keys = each_by_recursion (λ (e : Entry). IsUnderOwnKey e.0 e.1) world.imports (λ i e at. import_own_key interfaces types w e.0 e.1 (imports i e at));
@@ -126,8 +126,8 @@ module _ (types : List TypeDef) (interfaces : List Interface) (aliases : Each (A
     };
   }
 
-  -- over as many as there are rows of uses
-  pub lists_in_order : (w : ℕ) (world : World) → HasImports interfaces types w world → HasExports interfaces world → HasSoundEntries types (length (uses_of types interfaces)) world.imports world.exports
+  -- over as many as there are adjacency lists
+  pub lists_in_order : (w : ℕ) (world : World) → ImportsAreAllowed interfaces types w world → ExportsAreAllowed interfaces world → HasSoundEntries types (length (uses_of types interfaces)) world.imports world.exports
   lists_in_order w world imports exports =
       let many : length (uses_of types interfaces) ≡ length interfaces = length-map interfaces (interface_uses types) in
       subst (λ (n : ℕ). HasSoundEntries types n world.imports world.exports) (sym many) (HasSoundEntries-of_world w world imports exports)

@@ -8,7 +8,7 @@ use Rattle.wit_data.specs.declared.world.WorldKey.{WorldKey}
 use Rattle.wit_data.specs.declared.world.WorldKey.TheVariants.{Name, Interface}
 use Rattle.wit_digraph.specs.Relation.{direct, IsAcyclic}
 use Rattle.wit_elaboration.specs.Entries.{Entry, TypeUse, role_of, keyed_interfaces, by_class}
-use Rattle.wit_elaboration.specs.Elaborated.{Carried, Elaborated, dependency_of, import_carries, settled_item}
+use Rattle.wit_elaboration.specs.Elaborated.{Elaborated, InheritedData, dependency_of, inherited_by_import, without_span}
 use Rattle.wit_elaboration.specs.Imported.{Needed, IsImported, exported_keys, roots_of}
 use Rattle.wit_elaboration.specs.Sound.{HasSoundEntries}
 use Rattle.wit_values.specs.Table.{HasDistinctKeys}
@@ -20,13 +20,13 @@ abbrev pub SameRoles : List TypeDef → List TypeDef → List Entry → Type 0
 SameRoles types wider entries = (e : Entry) → Contains entries e → role_of types e.1 ≡ role_of wider e.1
 
 -- and their dependencies carry the same
-abbrev pub SameCarried : List TypeDef → List TypeDef → List Entry → Type 0
-SameCarried types wider entries = (e : Entry) → Contains entries e → import_carries types e.1 ≡ import_carries wider e.1
+abbrev pub SameInheritedData : List TypeDef → List TypeDef → List Entry → Type 0
+SameInheritedData types wider entries = (e : Entry) → Contains entries e → inherited_by_import types e.1 ≡ inherited_by_import wider e.1
 
 -- more interfaces, and other types over which the imports are and carry what they were and did, change no elaboration
 abbrev pub ElaborationIsLocal : Type 0
 ElaborationIsLocal = (types wider : List TypeDef) (uses rows : List (List ℕ)) (old new : World) → IsAcyclic uses → IsAcyclic (uses ++ rows) →
-    HasSoundEntries types (length uses) old.imports old.exports → SameRoles types wider old.imports → SameCarried types wider old.imports →
+    HasSoundEntries types (length uses) old.imports old.exports → SameRoles types wider old.imports → SameInheritedData types wider old.imports →
     Elaborated types uses old new → Elaborated wider (uses ++ rows) old new
 
 -- ---- the keys
@@ -51,13 +51,13 @@ abbrev pub labelled : List Entry → List Entry
 labelled entries = filter (λ (e : Entry). is_label e.0) entries
 
 -- an entry as it is listed, an interface without its span
-abbrev pub settled : Entry → Entry
-settled e = (e.0, settled_item e.1)
+abbrev pub listed_without_span : Entry → Entry
+listed_without_span e = (e.0, without_span e.1)
 
 -- the imports under labels are those that were listed, by class
 abbrev pub LabelsStay : Type 0
 LabelsStay = (types : List TypeDef) (uses : List (List ℕ)) (old new : World) → IsAcyclic uses → HasSoundEntries types (length uses) old.imports old.exports → HasDistinctKeys old.imports →
-    Elaborated types uses old new → labelled new.imports ≡ map settled (labelled (by_class types old.imports))
+    Elaborated types uses old new → labelled new.imports ≡ map listed_without_span (labelled (by_class types old.imports))
 
 -- ---- the entries
 
@@ -66,23 +66,23 @@ abbrev pub IsUsed : List TypeDef → List (List ℕ) → List Entry → ℕ → 
 IsUsed types uses imports j = ((i : ℕ) × Contains (direct uses i) j) ⊎ ((e : Entry) × Contains imports e × (role_of types e.1 ≡ TypeUse j))
 
 -- an entry is one that was listed, an interface without its span
-abbrev pub IsSettled : List Entry → Entry → Type 0
-IsSettled entries e = (f : Entry) × Contains entries f × (e ≡ settled f)
+abbrev pub IsListedWithoutSpan : List Entry → Entry → Type 0
+IsListedWithoutSpan entries e = (f : Entry) × Contains entries f × (e ≡ listed_without_span f)
 
 -- an entry is a dependency, which is used, and which the elaborated world imports
 abbrev pub IsMadeImport : List TypeDef → List (List ℕ) → List Entry → List Entry → Entry → Type 0
 IsMadeImport types uses imports exports e =
-    (carried : Carried) × (j : ℕ) × (e ≡ dependency_of carried j) × IsUsed types uses imports j × IsImported types uses imports exports j
+    (carried : InheritedData) × (j : ℕ) × (e ≡ dependency_of carried j) × IsUsed types uses imports j × IsImported types uses imports exports j
 
 -- an entry is a dependency, which is an exported key
 abbrev pub IsMadeExport : List Entry → Entry → Type 0
-IsMadeExport exports e = (carried : Carried) × (j : ℕ) × (e ≡ dependency_of carried j) × Contains (exported_keys exports) j
+IsMadeExport exports e = (carried : InheritedData) × (j : ℕ) × (e ≡ dependency_of carried j) × Contains (exported_keys exports) j
 
 -- each import was listed or is a dependency, and so is each export
 abbrev pub ElaboratedEntries : Type 0
 ElaboratedEntries = (types : List TypeDef) (uses : List (List ℕ)) (old new : World) (e : Entry) → IsAcyclic uses → HasSoundEntries types (length uses) old.imports old.exports →
     Elaborated types uses old new →
-    (Contains new.imports e → IsSettled old.imports e ⊎ IsMadeImport types uses old.imports old.exports e)
+    (Contains new.imports e → IsListedWithoutSpan old.imports e ⊎ IsMadeImport types uses old.imports old.exports e)
     × (Contains new.exports e → Contains old.exports e ⊎ IsMadeExport old.exports e)
 
 -- the keys and ids of an elaborated world are in order too

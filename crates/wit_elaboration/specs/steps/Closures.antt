@@ -3,7 +3,7 @@ use Rattle.std.specs.Prelude.{◌≡◌, ℕ, ◌<◌, ◌≤◌, ◌*◌, ◌%�
 use Rattle.std.specs.List.{sum_by}
 use Rattle.wit_digraph.specs.steps.Rows.{HasBit}
 use Rattle.wit_digraph.specs.Relation.{direct, Reaches, IsAcyclic}
-use Rattle.wit_digraph.specs.Walks.{UsesFirst}
+use Rattle.wit_digraph.specs.PostOrder.{UsesFirst}
 use Rattle.wit_elaboration.specs.declared.closure_rows.ClosureRows.{ClosureRows}
 
 -- some bit is in both rows
@@ -21,14 +21,14 @@ abbrev pub ReachesColumn : List (List ℕ) → ℕ → ℕ → Type 0
 ReachesColumn uses i c = (j : ℕ) × Reaches uses i j × (column j ≡ c)
 
 -- a row has exactly the columns of what is reached from i
-pub record RowTells (uses : List (List ℕ)) (row : List ℕ) (i : ℕ) : Type 0 where
+pub record IsRowOf (uses : List (List ℕ)) (row : List ℕ) (i : ℕ) : Type 0 where
   pub width : length row ≡ 16
   pub exact : (c : ℕ) → HasBit row c ↔ ReachesColumn uses i c
 
 -- so has each of the rows
-pub record RowsTell (uses : List (List ℕ)) (rows : List (List ℕ)) : Type 0 where
+pub record AreRowsOfAll (uses : List (List ℕ)) (rows : List (List ℕ)) : Type 0 where
   pub long : length rows ≡ length uses
-  pub each : (i : ℕ) → i < length uses → RowTells uses (direct rows i) i
+  pub each : (i : ℕ) → i < length uses → IsRowOf uses (direct rows i) i
 
 -- an order has all nodes, each after what it uses
 pub record IsOrder (uses : List (List ℕ)) (order : List ℕ) : Type 0 where
@@ -38,7 +38,7 @@ pub record IsOrder (uses : List (List ℕ)) (order : List ℕ) : Type 0 where
 
 -- a closure of a relation
 pub record AreRowsOf (uses : List (List ℕ)) (made : ClosureRows) : Type 0 where
-  pub rows : RowsTell uses made.rows
+  pub rows : AreRowsOfAll uses made.rows
   pub order : IsOrder uses made.order
   pub marks : length uses ≤ 64 * length made.marks.items
   pub joins : made.joins ≡ sum_by length uses

@@ -1,23 +1,23 @@
--- States of an elaboration on its way.
+-- States of an elaboration while it runs.
 use Rattle.std.specs.Prelude.{ℕ, ◌≡◌, ◌≤◌, ◌++◌, ◌↔◌, Bool, true, false, List, [], ◌∷◌, Option, Some, None, length, map, filter, not, nat_eq, slice_get, take, Contains}
 use Rattle.std.specs.List.{flat_map, list_any}
 use Rattle.std.specs.Map.{keys_of}
 use Rattle.wit_data.specs.declared.world.WorldKey.TheVariants.{Interface}
 use Rattle.wit_digraph.specs.Relation.{direct, Reaches}
-use Rattle.wit_digraph.specs.Walks.{Listed, UsesFirst}
+use Rattle.wit_digraph.specs.PostOrder.{Listed, UsesFirst}
 use Rattle.wit_elaboration.specs.declared.marks.Marks.{Marks}
-use Rattle.wit_elaboration.specs.Elaborated.{dependency_of, export_carries, needs}
+use Rattle.wit_elaboration.specs.Elaborated.{dependencies_before, dependency_of, inherited_by_export}
 use Rattle.wit_elaboration.specs.Entries.{Entry, Instance, item_interface}
-use Rattle.wit_elaboration.specs.Imported.{exported_keys, IsInConflict}
+use Rattle.wit_elaboration.specs.Imported.{exported_keys, IsEntryInConflict}
 
 -- what was walked has all its uses walked before it
-pub record IsWalk (uses : List (List ℕ)) (walked : Listed) : Type 0 where
+pub record IsPostOrder (uses : List (List ℕ)) (walked : Listed) : Type 0 where
   pub nodes : walked.nodes ≡ length uses
   pub uses_first : UsesFirst uses [] walked.order
 
 -- and is imported under its own key
 pub record IsImporting (uses : List (List ℕ)) (walked : Listed) (imports : List Entry) : Type 0 where
-  pub walk : IsWalk uses walked
+  pub post_order : IsPostOrder uses walked
   pub imported : (i : ℕ) → Contains walked.order i → Contains (keys_of imports) (Interface i)
 
 -- some target is reached from i
@@ -39,14 +39,14 @@ abbrev pub HasMarkedUse : List (List ℕ) → List ℕ → ℕ → Type 0
 HasMarkedUse uses marked i = (j : ℕ) × Contains (direct uses i) j × Contains marked j
 
 -- a listing has exactly the exported keys
-abbrev pub TellsExported : List ℕ → List Entry → Type 0
-TellsExported listed exports = (i : ℕ) → Contains listed i ↔ Contains (exported_keys exports) i
+abbrev pub IsExportedList : List ℕ → List Entry → Type 0
+IsExportedList listed exports = (i : ℕ) → Contains listed i ↔ Contains (exported_keys exports) i
 
 -- the first entry that is in conflict, and none where there is none
 abbrev pub IsFirstConflict : List (List ℕ) → List Entry → Option ℕ → Type 0
-IsFirstConflict uses exports None = (e : Entry) → Contains exports e → IsInConflict uses exports e → ⊥
+IsFirstConflict uses exports None = (e : Entry) → Contains exports e → IsEntryInConflict uses exports e → ⊥
 IsFirstConflict uses exports (Some at) =
-    (e : Entry) × (slice_get exports at ≡ Some e) × IsInConflict uses exports e × ((f : Entry) → Contains (take at exports) f → IsInConflict uses exports f → ⊥)
+    (e : Entry) × (slice_get exports at ≡ Some e) × IsEntryInConflict uses exports e × ((f : Entry) → Contains (take at exports) f → IsEntryInConflict uses exports f → ⊥)
 
 -- each set of marks is one of so many interfaces
 pub record HaveNodes (marks : Marks) (interfaces : ℕ) : Type 0 where
@@ -70,14 +70,14 @@ is_listed listed i = list_any (nat_eq i) listed.order
 
 -- what was walked is exported, or imported where it is no exported key
 pub record IsExporting (uses : List (List ℕ)) (exported : ℕ → Bool) (walked : Listed) (imports exports : List Entry) : Type 0 where
-  pub walk : IsWalk uses walked
+  pub post_order : IsPostOrder uses walked
   pub are_exported : (i : ℕ) → Contains walked.order i → exported i ≡ true → Contains (keys_of exports) (Interface i)
   pub are_imported : (i : ℕ) → Contains walked.order i → exported i ≡ false → Contains (keys_of imports) (Interface i)
 
--- where the walk of an exported interface is parted by what is exported: the exports of its members, then its own
+-- where the post-order of an exported interface is parted by what is exported: the exports of its members, then its own
 abbrev pub walked_exports : List (List ℕ) → (ℕ → Bool) → Entry → List Entry
-walked_exports uses exported e = map (dependency_of (export_carries e.1)) (filter exported (flat_map (λ i. needs uses (Instance i)) (item_interface e.1))) ++ e ∷ []
+walked_exports uses exported e = map (dependency_of (inherited_by_export e.1)) (filter exported (flat_map (λ i. dependencies_before uses (Instance i)) (item_interface e.1))) ++ e ∷ []
 
 -- and the imports of the others
 abbrev pub walked_imports : List (List ℕ) → (ℕ → Bool) → Entry → List Entry
-walked_imports uses exported e = map (dependency_of (export_carries e.1)) (filter (λ i. not (exported i)) (flat_map (λ i. needs uses (Instance i)) (item_interface e.1)))
+walked_imports uses exported e = map (dependency_of (inherited_by_export e.1)) (filter (λ i. not (exported i)) (flat_map (λ i. dependencies_before uses (Instance i)) (item_interface e.1)))

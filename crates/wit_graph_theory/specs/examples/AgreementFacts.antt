@@ -154,8 +154,8 @@ both_there (Some x) None all = absurd (false≢true all)
 abbrev pub agree : Function → Function → Bool
 agree f g = nat_eq (kind_number f.kind) (kind_number g.kind) && (params_agree f.params g.params && results_agree f.result_ g.result_)
 
-pub functions_fine : (f g : Function) → agree f g ≡ true → (text : List ℕ) → FunctionMismatch f g text → ⊥
-functions_fine f g all text c = by c
+pub functions_accepted : (f g : Function) → agree f g ≡ true → (text : List ℕ) → FunctionMismatch f g text → ⊥
+functions_accepted f g all text c = by c
   where
     first : (nat_eq (kind_number f.kind) (kind_number g.kind) ≡ true) × (params_agree f.params g.params && results_agree f.result_ g.result_ ≡ true)
     first = and_parts _ _ all
@@ -177,8 +177,8 @@ functions_fine f g all text c = by c
 abbrev pub functions_pass : Interface → Interface → Bool
 functions_pass from into = list_all (λ (e : List ℕ × Function). list_all (λ (e' : List ℕ × Function). implies (bytes_eq e.0 e'.0) (agree e.1 e'.1)) into.functions) from.functions
 
-pub interfaces_fine : (from into : Interface) → functions_pass from into ≡ true → (text : List ℕ) → HaveFunctionMismatch from into text → ⊥
-interfaces_fine from into all text have =
+pub interfaces_accepted : (from into : Interface) → functions_pass from into ≡ true → (text : List ℕ) → HaveFunctionMismatch from into text → ⊥
+interfaces_accepted from into all text have =
     let one = all_are (λ (e : List ℕ × Function). list_all (λ (e' : List ℕ × Function). implies (bytes_eq e.0 e'.0) (agree e.1 e'.1)) into.functions) from.functions all (have.name, have.function) have.has in
     let two = all_are (λ (e' : List ℕ × Function). implies (bytes_eq have.name e'.0) (agree have.function e'.1)) into.functions one (have.name, have.other) have.other_has in
-    functions_fine have.function have.other (implied (bytes_eq have.name have.name) (agree have.function have.other) two (nat_list_eq_equiv.refl have.name)) have.ending have.mismatch
+    functions_accepted have.function have.other (implied (bytes_eq have.name have.name) (agree have.function have.other) two (nat_list_eq_equiv.refl have.name)) have.ending have.mismatch

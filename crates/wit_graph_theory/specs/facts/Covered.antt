@@ -18,7 +18,7 @@ use Rattle.wit_data.specs.declared.world.WorldKey.TheVariants as key
 use Rattle.wit_values.specs.Table.{HasDistinctKeys}
 use Rattle.wit_graph_data.specs.declared.graph.Graph.{Graph}
 use Rattle.wit_graph_theory.specs.Image.{key_image}
-use Rattle.wit_graph_theory.specs.Kept.{Kept}
+use Rattle.wit_graph_theory.specs.Kept.{KeptIds}
 use Rattle.wit_graph_theory.specs.steps.Sources.{IsCarriedFunction, IsCarriedType, Source}
 
 -- ---- types
@@ -127,9 +127,9 @@ pub record WorldComes {K : Type 0} (at : K → Source) (g : Graph) (w' : ℕ) (n
 
 -- ---- the graph
 
--- every thing of g that takes part comes from a source. Of a finished graph that is everything; while worlds
+-- every thing of g that is selected comes from a source. Of a finished graph that is everything; while worlds
 -- are finished one by one, it is what belongs to no world that is still to come
-pub record IsCovered {K : Type 0} (kept : Kept) (at : K → Source) (g : Graph) : Type 0 where
+pub record IsCovered {K : Type 0} (kept : KeptIds) (at : K → Source) (g : Graph) : Type 0 where
   pub types : EachAt (λ t' (new : TypeDef). kept.types t' ≡ true → TypeComes at g t' new ⊎ IsOwnMade at new) g.types
   pub interfaces : EachAt (λ f' (new : Interface). kept.interfaces f' ≡ true → InterfaceComes at f' new) g.interfaces
   pub worlds : EachAt (λ w' (new : World). kept.worlds w' ≡ true → WorldComes at g w' new) g.worlds

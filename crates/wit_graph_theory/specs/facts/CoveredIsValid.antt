@@ -9,7 +9,7 @@ use Rattle.wit_graph_data.specs.declared.graph.Graph.{Graph}
 use Rattle.wit_graph_theory.specs.facts.Covered.{IsCovered}
 use Rattle.wit_graph_theory.specs.Cut.{IsGoodWhere}
 use Rattle.wit_graph_theory.specs.facts.Good.{HasGoodItems, HasGoodThings, IsGoodAsAWhole, IsGoodType}
-use Rattle.wit_graph_theory.specs.Kept.{Kept, everything}
+use Rattle.wit_graph_theory.specs.Kept.{KeptIds, everything}
 use Rattle.wit_graph_theory.specs.steps.Sources.{Carries, IsGoodSource, Source}
 use Rattle.wit_graph_theory.specs.laws.Theory.{HasGoodTables}
 use Rattle.wit_graph_theory.specs.facts.GoodInterfaces.{good_interface}
@@ -19,7 +19,7 @@ use Rattle.wit_graph_theory.specs.facts.GoodWorlds.{good_world}
 
 module _ {K : Type 0} (at : K → Source) (g : Graph) (good : (k : K) → IsGoodSource (at k)) (carries : (k : K) → Carries (at k) g) where
   -- what is covered of a graph is good: the step of a loop that finishes one world after another
-  pub IsGoodWhere-of_covered : (kept : Kept) → IsCovered kept at g → IsGoodWhere kept g.types g.interfaces g.worlds
+  pub IsGoodWhere-of_covered : (kept : KeptIds) → IsCovered kept at g → IsGoodWhere kept g.types g.interfaces g.worlds
   IsGoodWhere-of_covered kept covered = record {
     types_are = λ t' new there takes. elim (covered.types t' new there takes) [
       | inl comes ↦

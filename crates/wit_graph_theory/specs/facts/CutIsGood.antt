@@ -4,7 +4,7 @@ use Rattle.std.proofs.lemmas.List.{length-map}
 use Rattle.wit_digraph.specs.facts.MemberFacts.{Contains-cons_cases, Contains-flat_map, Contains-flat_map_cases, Contains-nil}
 use Rattle.wit_data.specs.Each.{Each}
 use Rattle.wit_data.specs.Entries.{Entry, IsExport, IsImport}
-use Rattle.wit_data.specs.Ownership.{IsListed, IsNamed, IsNamedInterface, listed_type, world_types}
+use Rattle.wit_data.specs.Ownership.{IsListed, IsNamed, IsNamedInterface, entry_type, world_types}
 use Rattle.wit_data.specs.Reference.{function_references, referred}
 use Rattle.wit_data.specs.Uses.{alias_target}
 use Rattle.wit_data.specs.declared.function.Function.{Function}
@@ -23,8 +23,8 @@ use Rattle.wit_elaboration.specs.Valid.{IsOfPackage}
 use Rattle.wit_graph_theory.specs.Cut.{IsClosedCut, IsGoodWhere, ItemIsKept, OwnerIsKept, cut_interface, cut_source, cut_world}
 use Rattle.wit_graph_theory.specs.facts.Good.{IsGoodExport, IsGoodImport, IsGoodInterface, IsGoodType}
 use Rattle.wit_graph_theory.specs.Image.{Maps}
-use Rattle.wit_graph_theory.specs.Kept.{Kept}
-use Rattle.wit_graph_theory.specs.steps.Sources.{IsClosed, IsGoodSource, ItemTakesPart, OwnerTakesPart, Source, TakePart}
+use Rattle.wit_graph_theory.specs.Kept.{KeptIds}
+use Rattle.wit_graph_theory.specs.steps.Sources.{IsClosed, IsGoodSource, ItemIsActive, OwnerIsActive, Source, TakePart}
 use Rattle.wit_graph_theory.specs.facts.GoodTypes.{IsAliased, from_if, if_some}
 use Rattle.wit_graph_theory.specs.facts.ListFacts.{at_map, contained_at, found_at, from_map, place_of, some_at}
 
@@ -49,7 +49,7 @@ distinct_kept {K} {V} p (x ∷ es) distinct = by (p x) (distinct_kept p es (λ i
 
 -- ---- the cut
 
-module _ (kept : Kept) (types : List TypeDef) (interfaces : List Interface) (worlds : List World) (m : Maps) (closed : IsClosedCut kept types interfaces worlds)
+module _ (kept : KeptIds) (types : List TypeDef) (interfaces : List Interface) (worlds : List World) (m : Maps) (closed : IsClosedCut kept types interfaces worlds)
     (good : IsGoodWhere kept types interfaces worlds) where
   abbrev cut_interfaces : List Interface
   cut_interfaces = map (cut_interface kept) interfaces
@@ -63,28 +63,28 @@ module _ (kept : Kept) (types : List TypeDef) (interfaces : List Interface) (wor
   take_part : (ids : List ℕ) → Each (λ t. kept.types t ≡ true) ids → TakePart source ids
   take_part ids each t has = let place = place_of ids t has in each place.0 t place.1
 
-  owner_takes_part : (by : TypeOwner) → OwnerIsKept kept by → OwnerTakesPart source by
-  owner_takes_part (owner.Interface f) h = h
-  owner_takes_part (owner.World w) h = h
-  owner_takes_part owner.None h = h
+  owner_is_active : (by : TypeOwner) → OwnerIsKept kept by → OwnerIsActive source by
+  owner_is_active (owner.Interface f) h = h
+  owner_is_active (owner.World w) h = h
+  owner_is_active owner.None h = h
 
-  item_takes_part : (held : WorldItem) → ItemIsKept kept held → ItemTakesPart source held
-  item_takes_part (item.Interface f stability docs span external_id) h = h
-  item_takes_part (item.Function f) h = take_part (function_references f) h
-  item_takes_part (item.Type_ t span) h = h
+  item_is_active_there : (held : WorldItem) → ItemIsKept kept held → ItemIsActive source held
+  item_is_active_there (item.Interface f stability docs span external_id) h = h
+  item_is_active_there (item.Function f) h = take_part (function_references f) h
+  item_is_active_there (item.Type_ t span) h = h
 
-  entries_take_part : (es : List Entry) (e : Entry) → Each (λ (e : Entry). kept.items e.1 ≡ true → ItemIsKept kept e.1) es → Contains (filter (λ (e : Entry). kept.items e.1) es) e → ItemTakesPart source e.1
+  entries_take_part : (es : List Entry) (e : Entry) → Each (λ (e : Entry). kept.items e.1 ≡ true → ItemIsKept kept e.1) es → Contains (filter (λ (e : Entry). kept.items e.1) es) e → ItemIsActive source e.1
   entries_take_part es e each has =
       let old = Contains-filter (λ (e : Entry). kept.items e.1) es e has in
       let place = place_of es e old.0 in
-      item_takes_part e.1 (each place.0 e place.1 old.1)
+      item_is_active_there e.1 (each place.0 e place.1 old.1)
 
   is_closed : IsClosed source
   is_closed = record {
     in_range = closed.in_range;
     interfaces_in_range = λ f takes. let within = closed.interfaces_in_range f takes in omega (arith, length-map interfaces (cut_interface kept));
     references = λ t def at takes. take_part (referred def.kind) (closed.references t def at takes);
-    owners = λ t def at takes. owner_takes_part def.owner (closed.owners t def at takes);
+    owners = λ t def at takes. owner_is_active def.owner (closed.owners t def at takes);
     functions = λ f interface e at takes has.
         let from = from_map (cut_interface kept) interfaces f interface at in
         let among : Contains (filter (λ (e : List ℕ × Function). kept.functions e.1) from.0.functions) e = subst (λ (x : Interface). Contains x.functions e) (sym from.2) has in
@@ -111,7 +111,7 @@ module _ (kept : Kept) (types : List TypeDef) (interfaces : List Interface) (wor
   named_owner_kept (owner.World w) named = named
   named_owner_kept owner.None named = named
 
-  type_entry_kept : (k : WorldKey) (held : WorldItem) (name : List ℕ) (t : ℕ) → Contains (listed_type k held) (name, t) → kept.types t ≡ true → kept.items held ≡ true
+  type_entry_kept : (k : WorldKey) (held : WorldItem) (name : List ℕ) (t : ℕ) → Contains (entry_type k held) (name, t) → kept.types t ≡ true → kept.items held ≡ true
   type_entry_kept (key.Name label) (item.Type_ u span) name t has takes =
       elim (Contains-cons_cases (label, u) (name, t) [] has) [
         | inl same ↦ closed.type_items u span ∙ ap kept.types (ap (λ (p : List ℕ × ℕ). p.1) same) ∙ takes
@@ -131,10 +131,10 @@ module _ (kept : Kept) (types : List TypeDef) (interfaces : List Interface) (wor
       (Contains-filtered (λ (e : List ℕ × ℕ). kept.types e.1) found.0.types (name, t) found.2 takes)
   listed_kept t (Some name) (owner.World w) takes h =
       let found = found_at (λ (world : World). Contains (world_types world) (name, t)) worlds w h in
-      let entry = Contains-flat_map_cases (λ (e : Entry). listed_type e.0 e.1) found.0.imports (name, t) found.2 in
+      let entry = Contains-flat_map_cases (λ (e : Entry). entry_type e.0 e.1) found.0.imports (name, t) found.2 in
       let stays = Contains-filtered (λ (e : Entry). kept.items e.1) found.0.imports entry.0 entry.1.0 (type_entry_kept entry.0.0 entry.0.1 name t entry.1.1 takes) in
       some_at (λ (world : World). Contains (world_types world) (name, t)) cut_worlds w (cut_world kept found.0) (at_map (cut_world kept) worlds w found.0 found.1)
-      (Contains-flat_map (λ (e : Entry). listed_type e.0 e.1) (cut_world kept found.0).imports entry.0 (name, t) stays entry.1.1)
+      (Contains-flat_map (λ (e : Entry). entry_type e.0 e.1) (cut_world kept found.0).imports entry.0 (name, t) stays entry.1.1)
 
   aliased_kept : (by : TypeOwner) (t : ℕ) → IsAliased types interfaces by t → IsAliased types cut_interfaces by t
   aliased_kept by t target =

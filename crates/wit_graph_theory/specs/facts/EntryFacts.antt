@@ -6,7 +6,7 @@ use Rattle.wit_digraph.specs.facts.FreshFacts.{any_from_contains, contains_from_
 use Rattle.wit_digraph.specs.facts.MemberFacts.{Contains-cons_cases, Contains-flat_map, Contains-flat_map_cases, Contains-here, Contains-nil}
 use Rattle.wit_digraph.specs.Relation.{IsAcyclic, direct}
 use Rattle.wit_data.specs.Each.{Each}
-use Rattle.wit_data.specs.Entries.{HasExports, HasImports, IsExport, IsImport}
+use Rattle.wit_data.specs.Entries.{ExportsAreAllowed, ImportsAreAllowed, IsExport, IsImport}
 use Rattle.wit_data.specs.Function.{resource_of}
 use Rattle.wit_data.specs.Ownership.{AliasesNamed, IsNamed}
 use Rattle.wit_data.specs.Uses.{type_interface_dep, uses_of}
@@ -17,7 +17,7 @@ use Rattle.wit_data.specs.declared.world.WorldItem.{WorldItem}
 use Rattle.wit_data.specs.declared.world.WorldItem.TheVariants as item
 use Rattle.wit_data.specs.declared.world.WorldKey.{WorldKey}
 use Rattle.wit_data.specs.declared.world.WorldKey.TheVariants as key
-use Rattle.wit_elaboration.specs.Elaborated.{Elaborated, settled_item}
+use Rattle.wit_elaboration.specs.Elaborated.{Elaborated, without_span}
 use Rattle.wit_elaboration.specs.Entries.{Entry, function_role, key_interface, keyed_interfaces, item_interface, role_of, type_role}
 use Rattle.wit_elaboration.specs.Imported.{exported_keys, roots_of}
 use Rattle.wit_elaboration.specs.laws.KeptByElaboration.{HoldsImports, ImportsAreLeast}
@@ -33,10 +33,10 @@ one_of i j has = elim (Contains-cons_cases i j [] has) [ inl same ↦ same | inr
 
 -- ---- what an entry names
 
-pub settled_interface : (types : List TypeDef) (held : WorldItem) → entry_interface types (settled_item held) ≡ entry_interface types held
-settled_interface types (item.Interface i stability docs span external_id) = refl
-settled_interface types (item.Function f) = refl
-settled_interface types (item.Type_ t span) = refl
+pub interface_without_span : (types : List TypeDef) (held : WorldItem) → entry_interface types (without_span held) ≡ entry_interface types held
+interface_without_span types (item.Interface i stability docs span external_id) = refl
+interface_without_span types (item.Function f) = refl
+interface_without_span types (item.Type_ t span) = refl
 
 pub instance_interface : (types : List TypeDef) (held : WorldItem) (i : ℕ) → Contains (item_interface held) i → entry_interface types held ≡ Some i
 instance_interface types (item.Interface f stability docs span external_id) i has = ap Some (one_of f i has)
@@ -98,7 +98,7 @@ export_named types world e i has is =
     (filter_map_into (λ (e : Entry). entry_interface types e.1) world.exports e i has is)
 
 -- what it lists under its own key it names
-pub key_named : (interfaces : List Interface) (types : List TypeDef) (w : ℕ) (world : World) → HasImports interfaces types w world → HasExports interfaces world
+pub key_named : (interfaces : List Interface) (types : List TypeDef) (w : ℕ) (world : World) → ImportsAreAllowed interfaces types w world → ExportsAreAllowed interfaces world
     → (j : ℕ) → ListsKey world j → Contains (world_interfaces types world) j
 key_named interfaces types w world imports exports j (inl has) =
     let e = key_entry world.imports j has in
@@ -156,7 +156,7 @@ root_named types interfaces aliases w k (item.Type_ t span) r is has = dep_is_na
 -- ---- a canonical world lists what its interfaces use
 
 module _ (least : ImportsAreLeast) (types : List TypeDef) (interfaces : List Interface) (aliases : Each (AliasesNamed types interfaces) types) (acyclic : IsAcyclic (uses_of types interfaces))
-    (w : ℕ) (world : World) (has_imports : HasImports interfaces types w world) (has_exports : HasExports interfaces world) (canonical : Elaborated types (uses_of types interfaces) world world) where
+    (w : ℕ) (world : World) (has_imports : ImportsAreAllowed interfaces types w world) (has_exports : ExportsAreAllowed interfaces world) (canonical : Elaborated types (uses_of types interfaces) world world) where
   abbrev rows : List (List ℕ)
   rows = uses_of types interfaces
 

@@ -17,7 +17,7 @@ use Rattle.wit_data.specs.declared.world.World.{World}
 use Rattle.wit_graph_data.specs.declared.graph.Graph.{Graph}
 use Rattle.wit_graph_theory.specs.facts.Good.{IsGoodType}
 use Rattle.wit_graph_theory.specs.Image.{name_image, owner_image}
-use Rattle.wit_graph_theory.specs.steps.Sources.{Carries, InterfaceStands, IsCarriedType, IsClosed, OwnerTakesPart, Source, Stands, WorldStands}
+use Rattle.wit_graph_theory.specs.steps.Sources.{Carries, InterfaceStands, IsCarriedType, IsClosed, OwnerIsActive, Source, Stands, WorldStands}
 use Rattle.wit_graph_theory.specs.facts.ListFacts.{contained_at, found_at, place_of, some_at}
 use Rattle.wit_graph_theory.specs.facts.OptionFacts.{none_or_some}
 use Rattle.wit_graph_theory.specs.facts.OwnedFacts.{none_from, owns_refer, some_from}
@@ -46,19 +46,19 @@ abbrev pub IsAliased : List TypeDef → List Interface → TypeOwner → ℕ →
 IsAliased types interfaces by target = SomeAt types target (λ (named : TypeDef). IsSome named.name × ((named.owner ≡ by) ⊎ IsNamedInterface interfaces named.owner))
 
 module _ (s : Source) (g : Graph) (closed : IsClosed s) (carries : Carries s g) where
-  -- a named interface that takes part has a name in the target
+  -- a named interface that is selected has a name in the target
   pub named_stands : (f : ℕ) → s.interfaces f ≡ true → IsNamed s.graph.interfaces f → IsNamed g.interfaces (s.maps.interfaces f)
   named_stands f takes named =
       let old = found_at (λ (interface : Interface). IsSome interface.name) s.graph.interfaces f named in
       let new = found_at (InterfaceStands s old.0) g.interfaces (s.maps.interfaces f) (carries.interfaces f old.0 old.1 takes) in
       some_at (λ (interface : Interface). IsSome interface.name) g.interfaces (s.maps.interfaces f) new.0 new.1 (subst IsSome (sym new.2.name) old.2)
 
-  named_owner : (by : TypeOwner) → OwnerTakesPart s by → IsNamedInterface s.graph.interfaces by → IsNamedInterface g.interfaces (owner_image s.maps by)
+  named_owner : (by : TypeOwner) → OwnerIsActive s by → IsNamedInterface s.graph.interfaces by → IsNamedInterface g.interfaces (owner_image s.maps by)
   named_owner (owner.Interface f) takes named = named_stands f takes named
   named_owner (owner.World w) takes named = named
   named_owner owner.None takes named = named
 
-  listed : (t : ℕ) (name : Option (List ℕ)) (by : TypeOwner) → s.types t ≡ true → OwnerTakesPart s by → IsListed s.graph.interfaces s.graph.worlds t name by
+  listed : (t : ℕ) (name : Option (List ℕ)) (by : TypeOwner) → s.types t ≡ true → OwnerIsActive s by → IsListed s.graph.interfaces s.graph.worlds t name by
       → IsListed g.interfaces g.worlds (s.maps.types t) (option_map (name_image s.maps by) name) (owner_image s.maps by)
   listed t None owner.None takes there h = refl
   listed t (Some name) owner.None takes there h = cc

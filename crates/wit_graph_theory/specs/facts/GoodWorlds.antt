@@ -13,14 +13,14 @@ use Rattle.wit_data.specs.declared.world.WorldItem.{WorldItem}
 use Rattle.wit_data.specs.declared.world.WorldItem.TheVariants as item
 use Rattle.wit_data.specs.declared.world.WorldKey.{WorldKey}
 use Rattle.wit_data.specs.declared.world.WorldKey.TheVariants as key
-use Rattle.wit_elaboration.specs.Elaborated.{settled_item}
-use Rattle.wit_elaboration.specs.laws.KeptByElaboration.{settled}
+use Rattle.wit_elaboration.specs.Elaborated.{without_span}
+use Rattle.wit_elaboration.specs.laws.KeptByElaboration.{listed_without_span}
 use Rattle.wit_elaboration.specs.Valid.{IsOfPackage}
 use Rattle.wit_graph_data.specs.declared.graph.Graph.{Graph}
 use Rattle.wit_graph_theory.specs.facts.Covered.{EntryComes, IsDependency, IsNoType, ItemComes, WorldComes}
 use Rattle.wit_graph_theory.specs.facts.Good.{IsGoodExport, IsGoodImport, IsGoodWorld}
 use Rattle.wit_graph_theory.specs.Image.{key_image}
-use Rattle.wit_graph_theory.specs.steps.Sources.{Carries, InterfaceStands, IsClosed, IsGoodSource, ItemTakesPart, Source, WorldStands}
+use Rattle.wit_graph_theory.specs.steps.Sources.{Carries, InterfaceStands, IsClosed, IsGoodSource, ItemIsActive, Source, WorldStands}
 use Rattle.wit_graph_theory.specs.facts.GoodInterfaces.{function_stands, type_stands}
 use Rattle.wit_graph_theory.specs.facts.GoodTypes.{named_stands}
 use Rattle.wit_graph_theory.specs.facts.ListFacts.{found_at, get_at, place_of, some_at}
@@ -45,35 +45,35 @@ same_one i j same = cc
 
 -- ---- an interface without its span is as good
 
-settled_import : (interfaces : List Interface) (types : List TypeDef) (w : ℕ) (k : WorldKey) (held : WorldItem) → IsImport interfaces types w k held → IsImport interfaces types w k (settled_item held)
-settled_import interfaces types w (key.Interface f) (item.Interface i stability docs span external_id) is = is
-settled_import interfaces types w (key.Interface f) (item.Function fn) is = is
-settled_import interfaces types w (key.Interface f) (item.Type_ t span) is = is
-settled_import interfaces types w (key.Name name) (item.Interface i stability docs span external_id) is = is
-settled_import interfaces types w (key.Name name) (item.Function fn) is = is
-settled_import interfaces types w (key.Name name) (item.Type_ t span) is = is
+import_without_span : (interfaces : List Interface) (types : List TypeDef) (w : ℕ) (k : WorldKey) (held : WorldItem) → IsImport interfaces types w k held → IsImport interfaces types w k (without_span held)
+import_without_span interfaces types w (key.Interface f) (item.Interface i stability docs span external_id) is = is
+import_without_span interfaces types w (key.Interface f) (item.Function fn) is = is
+import_without_span interfaces types w (key.Interface f) (item.Type_ t span) is = is
+import_without_span interfaces types w (key.Name name) (item.Interface i stability docs span external_id) is = is
+import_without_span interfaces types w (key.Name name) (item.Function fn) is = is
+import_without_span interfaces types w (key.Name name) (item.Type_ t span) is = is
 
-settled_own : (types : List TypeDef) (w : ℕ) (held : WorldItem) → ItemUsesOwn types w held → ItemUsesOwn types w (settled_item held)
-settled_own types w (item.Interface i stability docs span external_id) own = own
-settled_own types w (item.Function fn) own = own
-settled_own types w (item.Type_ t span) own = own
+without_span_own : (types : List TypeDef) (w : ℕ) (held : WorldItem) → ItemUsesOwn types w held → ItemUsesOwn types w (without_span held)
+without_span_own types w (item.Interface i stability docs span external_id) own = own
+without_span_own types w (item.Function fn) own = own
+without_span_own types w (item.Type_ t span) own = own
 
-settled_home : (interfaces : List Interface) (home : Option ℕ) (held : WorldItem) → IsOfPackage interfaces home held → IsOfPackage interfaces home (settled_item held)
-settled_home interfaces home (item.Interface i stability docs span external_id) of = of
-settled_home interfaces home (item.Function fn) of = of
-settled_home interfaces home (item.Type_ t span) of = of
+without_span_home : (interfaces : List Interface) (home : Option ℕ) (held : WorldItem) → IsOfPackage interfaces home held → IsOfPackage interfaces home (without_span held)
+without_span_home interfaces home (item.Interface i stability docs span external_id) of = of
+without_span_home interfaces home (item.Function fn) of = of
+without_span_home interfaces home (item.Type_ t span) of = of
 
-pub settled_is_good : (types : List TypeDef) (interfaces : List Interface) (w : ℕ) (world : World) (e : Entry) → IsGoodImport types interfaces w world e → IsGoodImport types interfaces w world (settled e)
-settled_is_good types interfaces w world e good = record {
-  is = settled_import interfaces types w e.0 e.1 good.is;
-  own = settled_own types w e.1 good.own;
-  home = settled_home interfaces world.package e.1 good.home;
+pub without_span_is_good : (types : List TypeDef) (interfaces : List Interface) (w : ℕ) (world : World) (e : Entry) → IsGoodImport types interfaces w world e → IsGoodImport types interfaces w world (listed_without_span e)
+without_span_is_good types interfaces w world e good = record {
+  is = import_without_span interfaces types w e.0 e.1 good.is;
+  own = without_span_own types w e.1 good.own;
+  home = without_span_home interfaces world.package e.1 good.home;
 }
 
 -- ---- from a source
 
 module _ (s : Source) (g : Graph) (closed : IsClosed s) (carries : Carries s g) (w : ℕ) where
-  import_comes : (k : WorldKey) (held new : WorldItem) → ItemTakesPart s held → IsImport s.graph.interfaces s.graph.types w k held → ItemComes s w held new
+  import_comes : (k : WorldKey) (held new : WorldItem) → ItemIsActive s held → IsImport s.graph.interfaces s.graph.types w k held → ItemComes s w held new
       → IsImport g.interfaces g.types (s.maps.worlds w) (key_image s.maps w k) new
   import_comes (key.Interface f) (item.Interface i stability docs span external_id) (item.Interface i' stability' docs' span' external_id') takes is comes = (
     same_one i' (s.maps.interfaces i) comes ∙ ap s.maps.interfaces is.0,
@@ -96,7 +96,7 @@ module _ (s : Source) (g : Graph) (closed : IsClosed s) (carries : Carries s g) 
   import_comes (key.Name name) (item.Type_ t span) new takes is comes =
       subst (IsImport g.interfaces g.types (s.maps.worlds w) (key.Name (s.maps.labels w name))) (sym comes.1) (type_stands s g carries (owner.World w) name t takes is)
 
-  own_comes : (held new : WorldItem) → ItemTakesPart s held → ItemUsesOwn s.graph.types w held → ItemComes s w held new → ItemUsesOwn g.types (s.maps.worlds w) new
+  own_comes : (held new : WorldItem) → ItemIsActive s held → ItemUsesOwn s.graph.types w held → ItemComes s w held new → ItemUsesOwn g.types (s.maps.worlds w) new
   own_comes (item.Interface i stability docs span external_id) (item.Interface i' stability' docs' span' external_id') takes own comes = tt
   own_comes (item.Interface i stability docs span external_id) (item.Function f') takes own comes = cc
   own_comes (item.Interface i stability docs span external_id) (item.Type_ t' span') takes own comes = tt
@@ -104,7 +104,7 @@ module _ (s : Source) (g : Graph) (closed : IsClosed s) (carries : Carries s g) 
       subst (ItemUsesOwn g.types (s.maps.worlds w)) (sym comes.1) (function_stands s g closed carries (owner.World w) f comes.0 takes own comes.3)
   own_comes (item.Type_ t span) new takes own comes = subst (ItemUsesOwn g.types (s.maps.worlds w)) (sym comes.1) tt
 
-  home_comes : (home : Option ℕ) (k : WorldKey) (held new : WorldItem) → ItemTakesPart s held → IsOfPackage s.graph.interfaces home held → ItemComes s w held new
+  home_comes : (home : Option ℕ) (k : WorldKey) (held new : WorldItem) → ItemIsActive s held → IsOfPackage s.graph.interfaces home held → ItemComes s w held new
       → IsOfPackage g.interfaces (s.maps.home home) new
   home_comes home k (item.Interface i stability docs span external_id) (item.Interface i' stability' docs' span' external_id') takes of comes =
       let old = found_at (λ (interface : Interface). (interface.name ≡ None) → interface.package ≡ home) s.graph.interfaces i of in
@@ -164,7 +164,7 @@ module _ {K : Type 0} (at : K → Source) (g : Graph) (good : (k : K) → IsGood
             let export = (good comes.source).exports from.w from.old from.there from.takes place.0 comes.old place.1 in
             record { is = import_from_export s.graph.interfaces s.graph.types from.w comes.old.0 comes.old.1 export.is; own = export.own; home = export.home }
       ] in
-      let takes : ItemTakesPart s comes.old.1 =
+      let takes : ItemIsActive s comes.old.1 =
       elim (Contains-append_cases from.old.imports from.old.exports comes.old comes.listed) [
         | inl among ↦ closed.imports from.w from.old comes.old from.there from.takes among
         | inr among ↦ closed.exports from.w from.old comes.old from.there from.takes among

@@ -8,7 +8,7 @@ use Rattle.wit_digraph.specs.facts.MemberFacts.{Contains-flat_map, Contains-flat
 use Rattle.wit_digraph.specs.Relation.{IsAcyclic, direct}
 use Rattle.wit_data.specs.Each.{Each, EachAt, SomeAt}
 use Rattle.wit_data.specs.Entries.{Entry, IsExport, IsImport, ItemUsesOwn}
-use Rattle.wit_data.specs.Ownership.{IsListed, IsNamed, listed_type, world_types}
+use Rattle.wit_data.specs.Ownership.{IsListed, IsNamed, entry_type, world_types}
 use Rattle.wit_data.specs.Reference.{referred, type_references}
 use Rattle.wit_data.specs.declared.interface.Interface.{Interface}
 use Rattle.wit_data.specs.declared.types.TypeDef.{TypeDef}
@@ -136,9 +136,9 @@ graph_stands old g stays = record {
       subst (λ (x : World). SomeAt g.worlds w (WorldStands (graph_source old) w x)) from.2
       (some_at (WorldStands (graph_source old) w (cut_world (kept_whole old) from.0)) g.worlds w found.0 found.1 (record {
         types = λ name t has taken.
-            let entry = Contains-flat_map_cases (λ (e : Entry). listed_type e.0 e.1) (cut_world (kept_whole old) from.0).imports (name, t) has in
+            let entry = Contains-flat_map_cases (λ (e : Entry). entry_type e.0 e.1) (cut_world (kept_whole old) from.0).imports (name, t) has in
             let listed = Contains-filter (λ (e : Entry). (kept_whole old).items e.1) from.0.imports entry.0 entry.1.0 in
-            found.2.1 (name, t) (Contains-flat_map (λ (e : Entry). listed_type e.0 e.1) from.0.imports entry.0 (name, t) listed.0 entry.1.1);
+            found.2.1 (name, t) (Contains-flat_map (λ (e : Entry). entry_type e.0 e.1) from.0.imports entry.0 (name, t) listed.0 entry.1.1);
         home = found.2.0;
       }));
 }

@@ -22,7 +22,7 @@ distinct_map {K} {V} {W} h es distinct i j e f first second same =
     let b = from_map (λ (e : K × V). let f : K × W = (e.0, h e.1) in f) es j f second in
     distinct i j a.0 b.0 a.1 b.1 (ap (λ (p : K × W). p.0) a.2 ∙ same ∙ ap (λ (p : K × W). p.0) (sym b.2))
 
--- the image of a good interface whose types all take part comes from it
+-- the image of a good interface whose types are all selected comes from it
 pub interface_image_comes : {K : Type 0} (at : K → Source) (k : K) (f : ℕ) (interface : Interface) → slice_get (at k).graph.interfaces f ≡ Some interface → (at k).interfaces f ≡ true
     → Each (λ (e : List ℕ × ℕ). (at k).types e.1 ≡ true) interface.types → IsGoodInterface (at k).graph.types f interface
     → InterfaceComes at ((at k).maps.interfaces f) (interface_image (at k).maps interface)
@@ -71,7 +71,7 @@ item_image_comes s w (item.Interface i stability docs span external_id) = refl
 item_image_comes s w (item.Function f) = (record (function_image s.maps f) { name = s.maps.labels w f.name }, refl, refl, function_refers s.maps f)
 item_image_comes s w (item.Type_ t span) = (_, refl)
 
--- and the image of an entry of a world that takes part
+-- and the image of an entry of a world that is selected
 pub entry_image_comes : {K : Type 0} (at : K → Source) (k : K) (w : ℕ) (world : World) (e : Entry) → slice_get (at k).graph.worlds w ≡ Some world → (at k).worlds w ≡ true
     → Contains (world.imports ++ world.exports) e → EntryComes at ((at k).maps.worlds w) (entry_image (at k).maps w e)
 entry_image_comes at k w world e there takes listed = record {

@@ -14,7 +14,7 @@ use Rattle.wit_data.specs.declared.types.TypeOwner.{TypeOwner}
 use Rattle.wit_data.specs.declared.types.TypeOwner.TheVariants as owner
 use Rattle.wit_graph_data.specs.declared.graph.Graph.{Graph}
 use Rattle.wit_graph_theory.specs.Image.{name_image, owner_image}
-use Rattle.wit_graph_theory.specs.facts.Referred.{GoesTo, RefersUnder}
+use Rattle.wit_graph_theory.specs.facts.Referred.{RefersUnder, RemapsTo}
 use Rattle.wit_graph_theory.specs.steps.Sources.{Carries, IsClosed, IsOwnOf, Source, Stands, TakePart}
 use Rattle.wit_graph_theory.specs.facts.ListFacts.{found_at, from_row, get_at, in_row, some_at}
 use Rattle.wit_graph_theory.specs.facts.OptionFacts.{none_or_some}
@@ -49,8 +49,8 @@ module _ (s : Source) (g : Graph) (closed : IsClosed s) (carries : Carries s g) 
     pub takes : s.types t ≡ true
     pub is : (t' ≡ s.maps.types t) ⊎ (IsSome def.name × IsOwnOf g.types t' (s.maps.types t))
 
-  -- where a type goes is over it
-  pub over_goes : (t t' : ℕ) → s.types t ≡ true → GoesTo s.maps t t' → Over t t'
+  -- what a type is remapped to is over it
+  pub over_goes : (t t' : ℕ) → s.types t ≡ true → RemapsTo s.maps t t' → Over t t'
   over_goes t t' takes goes =
       let at = get_at s.graph.types t (closed.in_range t takes) in
       record {

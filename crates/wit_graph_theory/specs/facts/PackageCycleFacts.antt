@@ -24,11 +24,11 @@ use Rattle.wit_graph_data.specs.Relations.{entry_interface, entry_interfaces, ot
 use Rattle.wit_elaboration.specs.Valid.{IsInTable}
 use Rattle.wit_graph_data.specs.declared.graph.Package.{Package}
 use Rattle.wit_graph_theory.specs.facts.DependencyFacts.{filter_map_from, filter_map_into}
-use Rattle.wit_graph_theory.specs.facts.EntryFacts.{export_named, export_there, import_named, import_there, instance_interface, key_named, root_interface, root_named, settled_interface}
+use Rattle.wit_graph_theory.specs.facts.EntryFacts.{export_named, export_there, import_named, import_there, instance_interface, interface_without_span, key_named, root_interface, root_named}
 use Rattle.wit_graph_theory.specs.facts.ListFacts.{found_at, from_row, get_at, in_row, place_of, same_at, some_at}
 use Rattle.wit_graph_theory.specs.facts.NamedUses.{used_is_named}
 use Rattle.wit_graph_theory.specs.facts.OptionFacts.{some_parts, some_same, some_there, some_whole}
-use Rattle.wit_graph_theory.specs.laws.PackageCycles.{AreElaborated, IsElaboratedFrom, ListsKey}
+use Rattle.wit_graph_theory.specs.laws.PackageCycles.{AreElaboratedFrom, IsElaboratedFrom, ListsKey}
 use Rattle.wit_graph_theory.specs.facts.PackagesAcyclic.{is_there, length-numbered, numbered_from, numbered_into, there_is}
 use Rattle.wit_graph_theory.specs.facts.RowFacts.{Reaches-join, Reaches-self, Reaches-use}
 
@@ -115,7 +115,7 @@ module _ (types : List TypeDef) (interfaces : List Interface) (packages : List P
 
 -- ---- before and after
 
-module _ (entries : ElaboratedEntries) (types : List TypeDef) (interfaces : List Interface) (packages : List Package) (listed done : List World) (are : AreElaborated types interfaces packages listed done) where
+module _ (entries : ElaboratedEntries) (types : List TypeDef) (interfaces : List Interface) (packages : List Package) (listed done : List World) (are : AreElaboratedFrom types interfaces packages listed done) where
   abbrev uses : List (List ℕ)
   uses = uses_of types interfaces
 
@@ -248,7 +248,7 @@ module _ (entries : ElaboratedEntries) (types : List TypeDef) (interfaces : List
           | inl among ↦
               let d = filter_map_from (λ (d : Entry). entry_interface types d.1) new.imports i among in
               elim ((entries types uses old new d.0 are.uses order from.elaborated).0 d.1) [
-                | inl stays ↦ listed_leads i (import_named types old stays.0 i stays.1 (sym (settled_interface types stays.0.1) ∙ ap (λ (f : Entry). entry_interface types f.1) (sym stays.2) ∙ d.2))
+                | inl stays ↦ listed_leads i (import_named types old stays.0 i stays.1 (sym (interface_without_span types stays.0.1) ∙ ap (λ (f : Entry). entry_interface types f.1) (sym stays.2) ∙ d.2))
                 | inr made ↦ subst (Leads p) (some_same made.1 i (ap (λ (f : Entry). entry_interface types f.1) (sym made.2) ∙ d.2)) (imported_leads made.1 made.4)
               ]
           | inr among ↦

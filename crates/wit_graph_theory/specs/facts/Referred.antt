@@ -12,9 +12,9 @@ place m (kind.Type_ ty) = m.types
 place m other = m.values
 
 -- an id goes to its image or to what names a value of it
-abbrev pub GoesTo : Maps → ℕ → ℕ → Type 0
-GoesTo m t t' = (t' ≡ m.types t) ⊎ (t' ≡ m.values t)
+abbrev pub RemapsTo : Maps → ℕ → ℕ → Type 0
+RemapsTo m t t' = (t' ≡ m.types t) ⊎ (t' ≡ m.values t)
 
 -- each of the new ids is where one of the old ones goes
 abbrev pub RefersUnder : Maps → List ℕ → List ℕ → Type 0
-RefersUnder m old new = (t' : ℕ) → Contains new t' → (t : ℕ) × Contains old t × GoesTo m t t'
+RefersUnder m old new = (t' : ℕ) → Contains new t' → (t : ℕ) × Contains old t × RemapsTo m t t'

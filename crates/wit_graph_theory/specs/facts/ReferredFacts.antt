@@ -19,7 +19,7 @@ use Rattle.wit_data.specs.declared.types.TypeDefKind.TheVariants as kind
 use Rattle.wit_data.specs.declared.types.Type_.{Type_}
 use Rattle.wit_data.specs.declared.types.Type_.TheVariants as type
 use Rattle.wit_graph_theory.specs.Image.{Maps, value_image, field_image, case_image, kind_image, param_image, function_image, function_kind_image}
-use Rattle.wit_graph_theory.specs.facts.Referred.{place, GoesTo, RefersUnder}
+use Rattle.wit_graph_theory.specs.facts.Referred.{place, RemapsTo, RefersUnder}
 use Rattle.wit_graph_theory.specs.facts.ListFacts.{Contains-map_cases, flat_map-placed}
 
 module _ (m : Maps) where
@@ -96,7 +96,7 @@ module _ (m : Maps) where
 
   -- ---- the same said of ids
 
-  goes_to_place : (k : TypeDefKind) (t t' : ℕ) → place m k t ≡ t' → GoesTo m t t'
+  goes_to_place : (k : TypeDefKind) (t t' : ℕ) → place m k t ≡ t' → RemapsTo m t t'
   goes_to_place (kind.Handle handle) t t' same = inl (sym same)
   goes_to_place (kind.Type_ ty) t t' same = inl (sym same)
   goes_to_place other t t' same = inr (sym same)

@@ -7,8 +7,8 @@ use Rattle.std.proofs.lemmas.List.Elements.{All-contains}
 use Rattle.std.specs.List.{flat_map}
 use Rattle.wit_digraph.specs.facts.MemberFacts.{Contains-nil, Contains-cons_cases}
 use Rattle.wit_digraph.specs.Relation.{direct, IsPath, Reaches, IsAcyclic}
-use Rattle.wit_digraph.specs.facts.WalkFacts.{walk_is}
-use Rattle.wit_digraph.specs.Walks.{walk}
+use Rattle.wit_digraph.specs.facts.PostOrderFacts.{post_order_is}
+use Rattle.wit_digraph.specs.PostOrder.{post_order}
 
 -- ---- paths
 
@@ -107,8 +107,8 @@ within_flat_map f (z ∷ xs) x has =
     ]
 
 -- in an acyclic relation the length of a node's walk is a rank: what it uses has a shorter walk
-pub walk_shorter : (uses : List (List ℕ)) → IsAcyclic uses → (i j : ℕ) → i < length uses → Contains (direct uses i) j → length (walk uses j) < length (walk uses i)
-walk_shorter uses acyclic i j here edge =
-    let whole : length (walk uses i) ≡ length (flat_map (walk uses) (direct uses i) ++ i ∷ []) = ap length (walk_is uses acyclic i here) in
-    let part = within_flat_map (walk uses) (direct uses i) j edge in
-    omega (arith, whole, part, length-append (flat_map (walk uses) (direct uses i)) (i ∷ []))
+pub post_order_shorter : (uses : List (List ℕ)) → IsAcyclic uses → (i j : ℕ) → i < length uses → Contains (direct uses i) j → length (post_order uses j) < length (post_order uses i)
+post_order_shorter uses acyclic i j here edge =
+    let whole : length (post_order uses i) ≡ length (flat_map (post_order uses) (direct uses i) ++ i ∷ []) = ap length (post_order_is uses acyclic i here) in
+    let part = within_flat_map (post_order uses) (direct uses i) j edge in
+    omega (arith, whole, part, length-append (flat_map (post_order uses) (direct uses i)) (i ∷ []))

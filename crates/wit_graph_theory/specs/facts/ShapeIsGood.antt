@@ -14,7 +14,7 @@ use Rattle.wit_data.specs.declared.world.WorldKey.TheVariants as key
 use Rattle.wit_values.specs.Table.{HasDistinctKeys}
 use Rattle.wit_elaboration.specs.Valid.{IsOfPackage}
 use Rattle.wit_graph_theory.specs.Cut.{IsGoodWhere}
-use Rattle.wit_graph_theory.specs.Kept.{Kept}
+use Rattle.wit_graph_theory.specs.Kept.{KeptIds}
 use Rattle.wit_graph_theory.specs.facts.ListFacts.{found_at, get_at, some_at}
 
 module _ (u : UnresolvedPackage) (shaped : IsShaped u) where
@@ -40,7 +40,7 @@ module _ (u : UnresolvedPackage) (shaped : IsShaped u) where
   export_is_import w (key.Name name) (item.Function fn) is = is
   export_is_import w (key.Interface f) held is = is
 
-  pub shape_is_good : (kept : Kept) → Each (λ (interface : Interface). HasDistinctKeys interface.types) u.interfaces → Each (λ (interface : Interface). HasDistinctKeys interface.functions) u.interfaces
+  pub shape_is_good : (kept : KeptIds) → Each (λ (interface : Interface). HasDistinctKeys interface.types) u.interfaces → Each (λ (interface : Interface). HasDistinctKeys interface.functions) u.interfaces
       → IsGoodWhere kept u.types u.interfaces u.worlds
   shape_is_good kept types functions = record {
     types_are = λ t def at takes. record {

@@ -13,7 +13,7 @@ use Rattle.wit_data.specs.declared.types.TypeOwner.TheVariants as owner
 use Rattle.wit_graph_data.specs.declared.graph.Graph.{Graph}
 use Rattle.wit_graph_theory.specs.facts.Covered.{IsCovered}
 use Rattle.wit_graph_theory.specs.facts.Growth.{TypesGrow}
-use Rattle.wit_graph_theory.specs.facts.Referred.{GoesTo, RefersUnder}
+use Rattle.wit_graph_theory.specs.facts.Referred.{RefersUnder, RemapsTo}
 use Rattle.wit_graph_theory.specs.Kept.{everything}
 use Rattle.wit_graph_theory.specs.steps.Sources.{Carries, IsClosed, IsOwnOf, Source}
 use Rattle.wit_graph_theory.specs.facts.ListFacts.{found_at, from_row, get_at, in_row, some_at}
@@ -43,8 +43,8 @@ module _ {K : Type 0} (at : K → Source) (rank : K → ℕ → ℕ) (old : List
   abbrev Rank : ℕ → ℕ → Type 0
   Rank t' r = RankedImage t' r ⊎ RankedOwn t' r
 
-  -- where a type goes is old or has a rank, of twice the type's and one at most
-  goes : (k : K) (u u' : ℕ) → (at k).types u ≡ true → GoesTo (at k).maps u u' → (u' < length old) ⊎ ((s : ℕ) × Rank u' s × (s ≤ rank k u + rank k u + 1))
+  -- what a type is remapped to is old or has a rank, of twice the type's and one at most
+  goes : (k : K) (u u' : ℕ) → (at k).types u ≡ true → RemapsTo (at k).maps u u' → (u' < length old) ⊎ ((s : ℕ) × Rank u' s × (s ≤ rank k u + rank k u + 1))
   goes k u u' takes goes_to =
       let over = over_goes (at k) g (closed k) (carries k) u u' takes goes_to in
       elim over.is [
@@ -65,7 +65,7 @@ module _ {K : Type 0} (at : K → Source) (rank : K → ℕ → ℕ) (old : List
   record Reference (k : K) (t j : ℕ) : Type 0 where
     u : ℕ
     takes : (at k).types u ≡ true
-    goes_to : GoesTo (at k).maps u j
+    goes_to : RemapsTo (at k).maps u j
     falls : rank k u < rank k t
 
   image_refers : (k : K) (t i j : ℕ) → (at k).types t ≡ true → i ≡ (at k).maps.types t → length old ≤ i → Contains (direct (type_references g.types) i) j → Reference k t j
@@ -123,7 +123,7 @@ module _ {K : Type 0} (at : K → Source) (rank : K → ℕ → ℕ) (old : List
       let from = from_row row g.types i j has in
       in_row row old i from.0 j (grow.kept i from.0 (omega arith) from.1) from.2
 
-  there : (k : K) (u j : ℕ) → (at k).types u ≡ true → GoesTo (at k).maps u j → j < length (type_references g.types)
+  there : (k : K) (u j : ℕ) → (at k).types u ≡ true → RemapsTo (at k).maps u j → j < length (type_references g.types)
   there k u j takes goes_to =
       let long = length-map g.types row in
       let within = in_target (at k) g (closed k) (carries k) u j (over_goes (at k) g (closed k) (carries k) u j takes goes_to) in

@@ -17,7 +17,7 @@ use Rattle.wit_graph_theory.specs.facts.Good.{HasGoodItems}
 use Rattle.wit_graph_theory.specs.facts.Growth.{InterfacesGrow}
 use Rattle.wit_graph_theory.specs.Image.{Maps, owner_image}
 use Rattle.wit_graph_theory.specs.Kept.{everything}
-use Rattle.wit_graph_theory.specs.steps.Sources.{Carries, InterfaceStands, IsGoodSource, OwnerTakesPart, Source, Stands}
+use Rattle.wit_graph_theory.specs.steps.Sources.{Carries, InterfaceStands, IsGoodSource, OwnerIsActive, Source, Stands}
 use Rattle.wit_graph_theory.specs.facts.DependencyFacts.{Needs, filter_map_from, filter_map_into, needs_from, needs_into}
 use Rattle.wit_graph_theory.specs.facts.GoodTypes.{alias_referred, IsAliased, from_if}
 use Rattle.wit_graph_theory.specs.facts.ListFacts.{found_at, from_row, get_at, in_row, place_of, same_at}
@@ -95,7 +95,7 @@ module _ {K : Type 0} (at : K → Source) (rank : K → ℕ → ℕ) (old g : Gr
       } in
       record {
         j = other.0;
-        takes = subst (OwnerTakesPart s) other.1 (closed.owners u def.0 def.1 takes_u);
+        takes = subst (OwnerIsActive s) other.1 (closed.owners u def.0 def.1 takes_u);
         place = other.2;
         used = filter_map_into (listed_dep s.graph.types) interface.types (e.0, t) other.0 listed (needs_into s.graph.types t other.0 need);
       }

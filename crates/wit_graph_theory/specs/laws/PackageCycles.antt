@@ -3,7 +3,7 @@
 use Rattle.std.specs.Prelude.{◌≡◌, ◌⊎◌, ℕ, true, List, Some, Contains, slice_get}
 use Rattle.wit_digraph.specs.Relation.{IsAcyclic, direct}
 use Rattle.wit_data.specs.Each.{Each, EachAt}
-use Rattle.wit_data.specs.Entries.{HasExports, HasImports, is_unnamed}
+use Rattle.wit_data.specs.Entries.{ExportsAreAllowed, ImportsAreAllowed, is_unnamed}
 use Rattle.wit_data.specs.Ownership.{AliasesNamed}
 use Rattle.wit_data.specs.Uses.{uses_of}
 use Rattle.wit_data.specs.declared.interface.Interface.{Interface}
@@ -29,13 +29,13 @@ pub record ListsUses (interfaces : List Interface) (uses : List (List ℕ)) (wor
 pub record IsElaboratedFrom (types : List TypeDef) (interfaces : List Interface) (listed : List World) (w : ℕ) (new : World) : Type 0 where
   pub old : World
   pub at : slice_get listed w ≡ Some old
-  pub imports : HasImports interfaces types w old
-  pub exports : HasExports interfaces old
+  pub imports : ImportsAreAllowed interfaces types w old
+  pub exports : ExportsAreAllowed interfaces old
   pub lists_uses : ListsUses interfaces (uses_of types interfaces) old
   pub elaborated : Elaborated types (uses_of types interfaces) old new
 
 -- worlds are elaborated from those that were listed, in a graph of these types, interfaces and packages
-pub record AreElaborated (types : List TypeDef) (interfaces : List Interface) (packages : List Package) (listed done : List World) : Type 0 where
+pub record AreElaboratedFrom (types : List TypeDef) (interfaces : List Interface) (packages : List Package) (listed done : List World) : Type 0 where
   pub aliases : Each (AliasesNamed types interfaces) types
   pub uses : IsAcyclic (uses_of types interfaces)
   pub tables : EachAt (IsInTable packages) interfaces
@@ -43,5 +43,5 @@ pub record AreElaborated (types : List TypeDef) (interfaces : List Interface) (p
 
 -- packages that were acyclic with the worlds as they were listed are so with the elaborated ones
 abbrev pub PackagesStayAcyclic : Type 0
-PackagesStayAcyclic = (types : List TypeDef) (interfaces : List Interface) (packages : List Package) (listed done : List World) → AreElaborated types interfaces packages listed done
+PackagesStayAcyclic = (types : List TypeDef) (interfaces : List Interface) (packages : List Package) (listed done : List World) → AreElaboratedFrom types interfaces packages listed done
     → IsAcyclic (package_uses types interfaces listed packages) → IsAcyclic (package_uses types interfaces done packages)

@@ -1,14 +1,14 @@
 -- Where the things of a grown graph come from.
 --
--- A source is a graph (or what is handed in, seen as one), with the maps under which its things go into
--- the target, and what of it takes part. What takes part *stands* in the target: at its place, under its
+-- A source is a graph (or what comes in, seen as one), with the maps under which its things go into
+-- the target, and what of it is selected. What is selected *stands* in the target: at its place, under its
 -- name, with its owner. A thing of the target is *carried* from a source if it refers to nothing but what
 -- the old thing refers to, at its place. An image is carried, a thing that stays is, and so is an alias
--- that is turned to another named type.
+-- that is transformed to another named type.
 --
 -- Adding a package: two sources, the graph under `identity`, all of it; the package, its lists cut to what
 -- is active, under its maps, foreign things going to those of the graph. An include: one source more, the
--- graph under the maps of the copies, of which the copied things and all that is named take part. A merge:
+-- graph under the maps of the copies, of which the copied things and all that is named are selected. A merge:
 -- the graph under `identity`, the other graph under the map of the merge. Semver merging: the graph under
 -- `identity`.
 use Rattle.std.specs.Prelude.{◌≡◌, ◌≢◌, ◌⊎◌, ◌<◌, ℕ, Bool, true, List, length, None, Some, Contains, IsSome, slice_get, map}
@@ -36,40 +36,40 @@ use Rattle.wit_graph_theory.specs.facts.Referred.{RefersUnder}
 pub record Source : Type 0 where
   pub graph : Graph
   pub maps : Maps
-  -- which ids take part
+  -- which ids are selected
   pub types : ℕ → Bool
   pub interfaces : ℕ → Bool
   pub worlds : ℕ → Bool
 
--- ---- what takes part
+-- ---- what is selected
 
-abbrev pub OwnerTakesPart : Source → TypeOwner → Type 0
-OwnerTakesPart s (owner.Interface f) = s.interfaces f ≡ true
-OwnerTakesPart s (owner.World w) = s.worlds w ≡ true
-OwnerTakesPart s owner.None = Unit {0}
+abbrev pub OwnerIsActive : Source → TypeOwner → Type 0
+OwnerIsActive s (owner.Interface f) = s.interfaces f ≡ true
+OwnerIsActive s (owner.World w) = s.worlds w ≡ true
+OwnerIsActive s owner.None = Unit {0}
 
--- ids of types that all take part
+-- ids of types that are all selected
 abbrev pub TakePart : Source → List ℕ → Type 0
 TakePart s ids = (t : ℕ) → Contains ids t → s.types t ≡ true
 
 -- the interface of an item and the types that its function refers to
-abbrev pub ItemTakesPart : Source → WorldItem → Type 0
-ItemTakesPart s (item.Interface f stability docs span external_id) = s.interfaces f ≡ true
-ItemTakesPart s (item.Function f) = TakePart s (function_references f)
-ItemTakesPart s (item.Type_ t span) = s.types t ≡ true
+abbrev pub ItemIsActive : Source → WorldItem → Type 0
+ItemIsActive s (item.Interface f stability docs span external_id) = s.interfaces f ≡ true
+ItemIsActive s (item.Function f) = TakePart s (function_references f)
+ItemIsActive s (item.Type_ t span) = s.types t ≡ true
 
--- what takes part is there, and refers to what takes part
+-- what is selected is there, and refers to what is selected
 pub record IsClosed (s : Source) : Type 0 where
   pub in_range : (t : ℕ) → s.types t ≡ true → t < length s.graph.types
   pub interfaces_in_range : (f : ℕ) → s.interfaces f ≡ true → f < length s.graph.interfaces
   pub references : (t : ℕ) (def : TypeDef) → slice_get s.graph.types t ≡ Some def → s.types t ≡ true → TakePart s (referred def.kind)
-  pub owners : (t : ℕ) (def : TypeDef) → slice_get s.graph.types t ≡ Some def → s.types t ≡ true → OwnerTakesPart s def.owner
+  pub owners : (t : ℕ) (def : TypeDef) → slice_get s.graph.types t ≡ Some def → s.types t ≡ true → OwnerIsActive s def.owner
   pub functions : (f : ℕ) (interface : Interface) (e : List ℕ × Function) → slice_get s.graph.interfaces f ≡ Some interface → s.interfaces f ≡ true
       → Contains interface.functions e → TakePart s (function_references e.1)
-  pub imports : (w : ℕ) (world : World) (e : Entry) → slice_get s.graph.worlds w ≡ Some world → s.worlds w ≡ true → Contains world.imports e → ItemTakesPart s e.1
-  pub exports : (w : ℕ) (world : World) (e : Entry) → slice_get s.graph.worlds w ≡ Some world → s.worlds w ≡ true → Contains world.exports e → ItemTakesPart s e.1
+  pub imports : (w : ℕ) (world : World) (e : Entry) → slice_get s.graph.worlds w ≡ Some world → s.worlds w ≡ true → Contains world.imports e → ItemIsActive s e.1
+  pub exports : (w : ℕ) (world : World) (e : Entry) → slice_get s.graph.worlds w ≡ Some world → s.worlds w ≡ true → Contains world.exports e → ItemIsActive s e.1
 
--- what takes part is good
+-- what is selected is good
 pub record IsGoodSource (s : Source) : Type 0 where
   pub closed : IsClosed s
   pub types : (t : ℕ) (def : TypeDef) → slice_get s.graph.types t ≡ Some def → s.types t ≡ true → IsGoodType s.graph.types s.graph.interfaces s.graph.worlds t def
@@ -100,7 +100,7 @@ pub record WorldStands (s : Source) (w : ℕ) (old new : World) : Type 0 where
 abbrev pub IsOwnOf : List TypeDef → ℕ → ℕ → Type 0
 IsOwnOf types h t = SomeAt types h (λ (def : TypeDef). (def.name ≡ None) × (def.owner ≡ owner.None) × (def.kind ≡ kind.Handle (Own t)))
 
--- all that takes part stands in the target, and where values go is the image or, of a named type, an `own`
+-- all that is selected stands in the target, and where values go is the image or, of a named type, an `own`
 -- of it
 pub record Carries (s : Source) (g : Graph) : Type 0 where
   pub types : (t : ℕ) (def : TypeDef) → slice_get s.graph.types t ≡ Some def → s.types t ≡ true → SomeAt g.types (s.maps.types t) (Stands s.maps def)

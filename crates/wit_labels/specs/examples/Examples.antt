@@ -7,7 +7,7 @@ use Rattle.wit_data.specs.declared.world.IncludeName.{IncludeName}
 use Rattle.wit_data.specs.declared.world.WorldItem.TheVariants as item
 use Rattle.wit_data.specs.declared.world.WorldKey.{WorldKey}
 use Rattle.wit_data.specs.declared.world.WorldKey.TheVariants as key
-use Rattle.wit_labels.specs.Rename.{renamed_by, renamed}
+use Rattle.wit_labels.specs.Rename.{renamed_label_by, renamed_label}
 use Rattle.wit_labels.specs.Setters.{HaveGetters, getter_label, is_setter_label, placed}
 use Rattle.wit_labels.specs.Strong.{AreStronglyUnique, Clashes, strong_key}
 use Rattle.wit_labels.specs.declared.strong.Class.TheVariants.{Constructor, Getter, Setter}
@@ -18,12 +18,12 @@ named_as old new = record { name = old; as_ = new }
 
 -- what renamings make of labels
 pub record ExamplesOfRenaming : Type 0 where
-  pub behind_groups : renamed_by (named_as (codes "r") (codes "r2")) (codes "[method][get]r.p") ≡ Some (codes "[method][get]r2.p")
-  pub unclosed : renamed_by (named_as (codes "method") (codes "x")) (codes "[method") ≡ None
-  pub not_behind_a_dot : renamed_by (named_as (codes "p") (codes "q")) (codes "r.p") ≡ None
-  pub whole : renamed_by (named_as (codes "p") (codes "q")) (codes "p") ≡ Some (codes "q")
-  pub first_wins : renamed (named_as (codes "p") (codes "q") ∷ named_as (codes "p") (codes "s") ∷ []) (codes "p") ≡ codes "q"
-  pub none_fits : renamed (named_as (codes "o") (codes "q") ∷ []) (codes "p") ≡ codes "p"
+  pub behind_groups : renamed_label_by (named_as (codes "r") (codes "r2")) (codes "[method][get]r.p") ≡ Some (codes "[method][get]r2.p")
+  pub unclosed : renamed_label_by (named_as (codes "method") (codes "x")) (codes "[method") ≡ None
+  pub not_behind_a_dot : renamed_label_by (named_as (codes "p") (codes "q")) (codes "r.p") ≡ None
+  pub whole : renamed_label_by (named_as (codes "p") (codes "q")) (codes "p") ≡ Some (codes "q")
+  pub first_wins : renamed_label (named_as (codes "p") (codes "q") ∷ named_as (codes "p") (codes "s") ∷ []) (codes "p") ≡ codes "q"
+  pub none_fits : renamed_label (named_as (codes "o") (codes "q") ∷ []) (codes "p") ≡ codes "p"
 
 -- keys that are these labels
 abbrev pub labelled : List (List ℕ) → List WorldKey

@@ -3,11 +3,11 @@ use Rattle.std.specs.Prelude.{ℕ, Bool, List, [], ◌∷◌, ◌++◌, length, 
 use Rattle.std.specs.List.{flat_map, range_with_len}
 use Rattle.std.specs.Option.{option_eq}
 use Rattle.wit_data.specs.Entries.{Entry}
-use Rattle.wit_labels.specs.Setters.{awaited, places}
+use Rattle.wit_labels.specs.Setters.{indexed_entries, later_getter}
 
 -- of each entry the place of the getter that it waits for
 abbrev pub getters_of : List Entry → List (Option ℕ)
-getters_of entries = map (λ (p : ℕ × Entry). awaited entries p.0 p.1) (places entries)
+getters_of entries = map (λ (p : ℕ × Entry). later_getter entries p.0 p.1) (indexed_entries entries)
 
 -- the entry at place s waits for the one at place g
 abbrev pub waits_for : List (Option ℕ) → ℕ → ℕ → Bool
@@ -22,5 +22,5 @@ abbrev pub stand_at : List (Option ℕ) → ℕ → List ℕ
 stand_at getters i = (if is_some (slice_index_or getters i None) then [] else i ∷ []) ++ waiters getters (length getters) i
 
 -- the places with each setter after its getter
-abbrev pub placed_order : List (Option ℕ) → List ℕ
-placed_order getters = flat_map (stand_at getters) (range_with_len 0 (length getters))
+abbrev pub order_after_getters : List (Option ℕ) → List ℕ
+order_after_getters getters = flat_map (stand_at getters) (range_with_len 0 (length getters))

@@ -6,12 +6,12 @@ use Rattle.wit_sources.specs.Span.{moved_by}
 use Rattle.wit_data.specs.declared.unresolved.UnresolvedPackage.{UnresolvedPackage}
 use Rattle.wit_graph_data.specs.declared.error_kind.ResolveErrorKind.{ResolveErrorKind}
 use Rattle.wit_graph_data.specs.declared.error_kind.ResolveErrorKind.TheVariants.{DuplicatePackage, OffsetOverflow}
-use Rattle.wit_link_spec.specs.Gates.{Place}
+use Rattle.wit_link_spec.specs.Gates.{OptionalSpan}
 use Rattle.wit_remap.specs.steps.Fits.{Fits}
 use Rattle.wit_remap.specs.facts.Fitting.{PartsFit}
 
 -- that of a type that has to be a resource
-abbrev pub RequiredFits : ℕ → ℕ × Place → Type 0
+abbrev pub RequiredFits : ℕ → ℕ × OptionalSpan → Type 0
 RequiredFits offset required = Fits offset required.1
 
 -- those of what a package names of others

@@ -1,24 +1,24 @@
--- The worlds of a package that take part, each with its includes, as they are added one after another.
+-- The worlds of a package that are active, each with its includes, as they are added one after another.
 use Rattle.std.specs.Prelude.{ℕ, List, map}
 use Rattle.wit_sources.specs.Span.{moved_by}
 use Rattle.wit_data.specs.declared.world.World.{World}
 use Rattle.wit_data.specs.declared.world.WorldInclude.{WorldInclude}
 use Rattle.wit_graph_theory.specs.Image.{world_image}
 use Rattle.wit_link_spec.specs.Addition.{Addition, addition_maps, own_worlds}
-use Rattle.wit_link_spec.specs.declared.adding.Places.{Places}
+use Rattle.wit_link_spec.specs.declared.addition.NewIds.{NewIds}
 use Rattle.wit_link_include.specs.facts.AdditionFacts.{placed_includes}
 use Rattle.wit_remap.specs.steps.Movers.{goes}
 use Rattle.wit_remap.specs.declared.worlds.PlacedWorld.{PlacedWorld}
 
 -- an include with the id and the span that it has in the graph
-abbrev pub include_at : Places → ℕ → WorldInclude → WorldInclude
+abbrev pub include_at : NewIds → ℕ → WorldInclude → WorldInclude
 include_at places offset include = record include { id = goes places.worlds include.id; span = moved_by offset include.span }
 
 -- a world with such includes
-abbrev pub world_with : Places → ℕ → PlacedWorld → PlacedWorld
+abbrev pub world_with : NewIds → ℕ → PlacedWorld → PlacedWorld
 world_with places offset p = record p { includes = map (include_at places offset) p.includes }
 
--- a world that takes part, as it is added
+-- a world that is active, as it is added
 abbrev pub ready_world : Addition → ℕ × World → PlacedWorld
 ready_world a e = record { place = e.0; world = world_image (addition_maps a) e.0 e.1; includes = placed_includes a e.1 }
 

@@ -1,4 +1,4 @@
--- What the steps of finding what takes part, and of asking `@since`s, see: for the contracts of this crate's own
+-- What the steps of finding what is active, and of asking `@since`s, see: for the contracts of this crate's own
 -- functions.
 use Rattle.std.specs.Prelude.{◌≡◌, ◌≢◌, ◌⊎◌, ◌||◌, ◌&&◌, ◌<◌, ℕ, Bool, true, false, not, List, map, length, nat_eq, slice_get, slice_set, Option, None, Some}
 use Rattle.std.specs.List.{list_any, range_with_len}
@@ -23,15 +23,15 @@ use Rattle.wit_graph_data.specs.declared.error_kind.ResolveErrorKind.{ResolveErr
 use Rattle.wit_graph_data.specs.declared.error_kind.ResolveErrorKind.TheVariants.{OutOfMemory}
 use Rattle.wit_graph_data.specs.declared.features.Features.{Features}
 use Rattle.wit_link_spec.specs.Addition.{Addition}
-use Rattle.wit_link_spec.specs.steps.Adding.{activity_of, addition_of}
+use Rattle.wit_link_spec.specs.steps.AdditionRefs.{activity_of, addition_of}
 use Rattle.wit_link_spec.specs.Cause.{IsCause}
-use Rattle.wit_link_spec.specs.Gates.{HasNote, IsAsked, Place, asked_notes, interface_is_active, is_active, is_foreign_interface, is_foreign_world, some_active, type_is_active, world_is_active}
-use Rattle.wit_link_spec.specs.declared.adding.Activity.{Activity}
+use Rattle.wit_link_spec.specs.Gates.{HasOwnGate, IsAsked, OptionalSpan, asked_gates, interface_is_active, is_active, is_foreign_interface, is_foreign_world, some_active, type_is_active, world_is_active}
+use Rattle.wit_link_spec.specs.declared.addition.Activity.{Activity}
 use Rattle.wit_link_features.specs.declared.checker.Checker.{Checker}
 
--- ---- what takes part
+-- ---- what is active
 
--- interface i is the package's own and its note is active
+-- interface i is the package's own and its gate is active
 abbrev pub own_interface_flag : Features → UnresolvedPackage → ℕ → Bool
 own_interface_flag features u i =
     not (is_foreign_interface u i) && option_map_or (λ (interface : Interface). is_active features interface.stability) (slice_get u.interfaces i) false
@@ -41,7 +41,7 @@ abbrev pub own_world_flag : Features → UnresolvedPackage → ℕ → Bool
 own_world_flag features u w =
     not (is_foreign_world u w) && option_map_or (λ (world : World). is_active features world.stability) (slice_get u.worlds w) false
 
--- what takes part where nothing that is named of other packages does
+-- what is active where nothing that is named of other packages does
 abbrev pub own_activity : Features → UnresolvedPackage → Activity
 own_activity features u = record {
   types = map (type_is_active features u.types) (range_with_len 0 (length u.types));
@@ -54,25 +54,25 @@ abbrev pub HasFlag : Activity → AstItem → Type 0
 HasFlag activity (named.Interface id) = id < length activity.interfaces
 HasFlag activity (named.World id) = id < length activity.worlds
 
--- the item takes part
+-- the item is active
 abbrev pub with_item : Activity → AstItem → Activity
 with_item activity (named.Interface id) = record activity { interfaces = slice_set activity.interfaces id true }
 with_item activity (named.World id) = record activity { worlds = slice_set activity.worlds id true }
 
--- the item is thing i of its sort, and is named under an active note
+-- the item is thing i of its sort, and is named under an active gate
 abbrev pub is_marked : Features → (AstItem → List ℕ) → ℕ → ForeignItem → Bool
 is_marked features id i item = list_any (nat_eq i) (id item.1.0) && some_active features item.1.1
 
--- flags are as before, and set for what is named under an active note
-abbrev pub AreMarked : Features → (AstItem → List ℕ) → List ForeignItem → List Bool → List Bool → Type 0
-AreMarked features id items old new =
+-- flags are as before, and set for what is named under an active gate
+abbrev pub AreNamedFlags : Features → (AstItem → List ℕ) → List ForeignItem → List Bool → List Bool → Type 0
+AreNamedFlags features id items old new =
     (length new ≡ length old)
     × ((i : ℕ) (flag : Bool) → slice_get old i ≡ Some flag → slice_get new i ≡ Some (flag || list_any (is_marked features id i) items))
 
 pub record IsMarked (features : Features) (items : List ForeignItem) (old new : Activity) : Type 0 where
   pub types : new.types ≡ old.types
-  pub interfaces : AreMarked features interface_id items old.interfaces new.interfaces
-  pub worlds : AreMarked features world_id items old.worlds new.worlds
+  pub interfaces : AreNamedFlags features interface_id items old.interfaces new.interfaces
+  pub worlds : AreNamedFlags features world_id items old.worlds new.worlds
 
 -- ---- the checker
 
@@ -80,9 +80,9 @@ pub record IsMarked (features : Features) (items : List ForeignItem) (old new : 
 abbrev pub seen : Checker → Addition
 seen checker = addition_of checker.adding
 
--- the package has its shape, and that takes part of it which is said to
-pub record IsReady (checker : Checker) : Type 0 where
-  pub shaped : IsShaped checker.adding.handed.now
+-- the package has its shape, and that is active of it which is said to
+pub record IsCheckerReady (checker : Checker) : Type 0 where
+  pub shaped : IsShaped checker.adding.unresolved.now
   pub activity : checker.activity.now ≡ activity_of (seen checker)
 
 -- a refusal tells a reason, or that memory is wanting
@@ -91,53 +91,53 @@ MayRefuse checker kind = (kind ≡ OutOfMemory) ⊎ IsCause (seen checker) kind
 
 -- ---- versions
 
--- the note is asked, there
-abbrev pub Asks : Checker → Stability → Place → Type 0
-Asks checker note place = IsAsked checker.adding.features.now checker.adding.handed.now note place
+-- the gate is asked, there
+abbrev pub Asks : Checker → Stability → OptionalSpan → Type 0
+Asks checker note place = IsAsked checker.adding.features.now checker.adding.unresolved.now note place
 
 -- a package of this version, or of none, has what came with another one
 abbrev pub HasReached : Option Parts → Parts → Type 0
 HasReached None since = ⊥
 HasReached (Some version) since = version_cmp version since ≢ Less
 
--- the package meets the note
+-- the package meets the gate
 abbrev pub IsMet : Checker → Stability → Type 0
 IsMet checker Unknown = Unit {0}
-IsMet checker (Stable since deprecated) = HasReached checker.adding.handed.now.name.version since
+IsMet checker (Stable since deprecated) = HasReached checker.adding.unresolved.now.name.version since
 IsMet checker (Unstable feature deprecated) = Unit {0}
 
--- the note of an entry, where it has one of its own, is asked
+-- the gate of an entry, where it has one of its own, is asked
 abbrev pub AsksItem : Checker → WorldItem → Type 0
-AsksItem checker item = (note : Stability) (place : Place) → HasNote item note place → Asks checker note place
+AsksItem checker item = (note : Stability) (place : OptionalSpan) → HasOwnGate item note place → Asks checker note place
 
 -- the package meets it
 abbrev pub MeetsItem : Checker → WorldItem → Type 0
-MeetsItem checker item = (note : Stability) (place : Place) → HasNote item note place → IsMet checker note
+MeetsItem checker item = (note : Stability) (place : OptionalSpan) → HasOwnGate item note place → IsMet checker note
 
 -- the item is there
 abbrev pub IsThere : Checker → AstItem → Type 0
-IsThere checker (named.Interface id) = id < length checker.adding.handed.now.interfaces
-IsThere checker (named.World id) = id < length checker.adding.handed.now.worlds
+IsThere checker (named.Interface id) = id < length checker.adding.unresolved.now.interfaces
+IsThere checker (named.World id) = id < length checker.adding.unresolved.now.worlds
 
 -- the item is at that place
-abbrev pub IsAt : Checker → AstItem → Place → Type 0
-IsAt checker (named.Interface id) place = SomeAt checker.adding.handed.now.interfaces id (λ (interface : Interface). place ≡ interface.span)
-IsAt checker (named.World id) place = SomeAt checker.adding.handed.now.worlds id (λ (world : World). place ≡ world.span)
+abbrev pub IsAt : Checker → AstItem → OptionalSpan → Type 0
+IsAt checker (named.Interface id) place = SomeAt checker.adding.unresolved.now.interfaces id (λ (interface : Interface). place ≡ interface.span)
+IsAt checker (named.World id) place = SomeAt checker.adding.unresolved.now.worlds id (λ (world : World). place ≡ world.span)
 
--- the package meets those notes of a foreign item that are asked
+-- the package meets those gates of a foreign item that are asked
 abbrev pub MeetsForeign : Checker → ForeignItem → Type 0
-MeetsForeign checker item = Each (IsMet checker) (asked_notes checker.adding.features.now item.1.1)
+MeetsForeign checker item = Each (IsMet checker) (asked_gates checker.adding.features.now item.1.1)
 
--- the package meets the notes of the functions of an interface that takes part
+-- the package meets the gates of the functions of an interface that is active
 abbrev pub MeetsFunctions : Checker → ℕ → Interface → Type 0
 MeetsFunctions checker i interface =
-    interface_is_active checker.adding.features.now checker.adding.handed.now i ≡ true → Each (λ (e : List ℕ × Function). IsMet checker e.1.stability) interface.functions
+    interface_is_active checker.adding.features.now checker.adding.unresolved.now i ≡ true → Each (λ (e : List ℕ × Function). IsMet checker e.1.stability) interface.functions
 
--- the package meets the notes of the parts of a world that takes part
+-- the package meets the gates of the parts of a world that is active
 pub record PartsAreMet (checker : Checker) (world : World) : Type 0 where
   pub imports : Each (λ (e : Entry). MeetsItem checker e.1) world.imports
   pub exports : Each (λ (e : Entry). MeetsItem checker e.1) world.exports
   pub includes : Each (λ (i : WorldInclude). IsMet checker i.stability) world.includes
 
 abbrev pub MeetsParts : Checker → ℕ → World → Type 0
-MeetsParts checker w world = world_is_active checker.adding.features.now checker.adding.handed.now w ≡ true → PartsAreMet checker world
+MeetsParts checker w world = world_is_active checker.adding.features.now checker.adding.unresolved.now w ≡ true → PartsAreMet checker world

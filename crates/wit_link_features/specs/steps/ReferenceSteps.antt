@@ -14,7 +14,7 @@ use Rattle.wit_data.specs.declared.world.WorldInclude.{WorldInclude}
 use Rattle.wit_data.specs.declared.world.WorldItem.{WorldItem}
 use Rattle.wit_data.specs.declared.world.WorldItem.TheVariants as item
 use Rattle.wit_link_spec.specs.Addition.{Addition}
-use Rattle.wit_link_spec.specs.Gates.{Place, function_is_active, include_is_active, interface_is_active, is_active, type_is_active, world_is_active}
+use Rattle.wit_link_spec.specs.Gates.{OptionalSpan, function_is_active, include_is_active, interface_is_active, is_active, type_is_active, world_is_active}
 use Rattle.wit_link_spec.specs.Reasons.{AType, AWorld, AnInterface, IsActiveFunction, IsExcluded, RefersTo, Thing, kind_references, owner_thing}
 use Rattle.wit_link_features.specs.declared.checker.Checker.{Checker}
 use Rattle.wit_link_features.specs.declared.needs.Needed.{Needed}
@@ -27,35 +27,35 @@ thing_of (needed.Type t) = AType t
 thing_of (needed.Interface i) = AnInterface i
 thing_of (needed.World w) = AWorld w
 
--- the thing takes part
-abbrev pub takes_part : Addition → Thing → Bool
-takes_part a (AType t) = type_is_active a.features a.handed.types t
-takes_part a (AnInterface i) = interface_is_active a.features a.handed i
-takes_part a (AWorld w) = world_is_active a.features a.handed w
+-- the thing is active
+abbrev pub thing_is_active : Addition → Thing → Bool
+thing_is_active a (AType t) = type_is_active a.features a.unresolved.types t
+thing_is_active a (AnInterface i) = interface_is_active a.features a.unresolved i
+thing_is_active a (AWorld w) = world_is_active a.features a.unresolved w
 
 -- the thing is not left out
 abbrev pub Stays : Checker → Thing → Type 0
 Stays checker thing = IsExcluded (seen checker) thing → ⊥
 
 -- the thing is referred to, there
-abbrev pub IsReferred : Checker → Thing → Place → Type 0
+abbrev pub IsReferred : Checker → Thing → OptionalSpan → Type 0
 IsReferred checker thing place = RefersTo (seen checker) thing place
 
 -- ---- types
 
--- the type takes part
-pub record IsTakenType (checker : Checker) (def : TypeDef) : Type 0 where
+-- the type is active
+pub record IsActiveType (checker : Checker) (def : TypeDef) : Type 0 where
   pub t : ℕ
-  pub at : slice_get checker.adding.handed.now.types t ≡ Some def
-  pub active : type_is_active checker.adding.features.now checker.adding.handed.now.types t ≡ true
+  pub at : slice_get checker.adding.unresolved.now.types t ≡ Some def
+  pub active : type_is_active checker.adding.features.now checker.adding.unresolved.now.types t ≡ true
 
 -- what its kind names is referred to
 abbrev pub KindRefers : Checker → TypeDef → Type 0
-KindRefers checker def = (t : ℕ) (place : Place) → Contains (kind_references def.kind def.span) (t, place) → IsReferred checker (AType t) place
+KindRefers checker def = (t : ℕ) (place : OptionalSpan) → Contains (kind_references def.kind def.span) (t, place) → IsReferred checker (AType t) place
 
 -- and is not left out
 abbrev pub KindStays : Checker → TypeDef → Type 0
-KindStays checker def = (t : ℕ) (place : Place) → Contains (kind_references def.kind def.span) (t, place) → Stays checker (AType t)
+KindStays checker def = (t : ℕ) (place : OptionalSpan) → Contains (kind_references def.kind def.span) (t, place) → Stays checker (AType t)
 
 -- the interface of a foreign type is not left out
 abbrev pub ForeignStays : Checker → TypeDef → Type 0
@@ -65,14 +65,14 @@ ForeignStays checker def = (i : ℕ) → def.owner ≡ owner.Interface i → Sta
 abbrev pub OwnerStays : Checker → TypeDef → Type 0
 OwnerStays checker def = (thing : Thing) → owner_thing def.owner ≡ thing ∷ [] → Stays checker thing
 
--- what a type that takes part needs is not left out
+-- what a type that is active needs is not left out
 pub record TypeStays (checker : Checker) (def : TypeDef) : Type 0 where
   pub refers : KindStays checker def
   pub foreign : def.kind ≡ kind.Unknown → ForeignStays checker def
   pub own : def.kind ≢ kind.Unknown → OwnerStays checker def
 
 abbrev pub TypesStay : Checker → ℕ → TypeDef → Type 0
-TypesStay checker t def = type_is_active checker.adding.features.now checker.adding.handed.now.types t ≡ true → TypeStays checker def
+TypesStay checker t def = type_is_active checker.adding.features.now checker.adding.unresolved.now.types t ≡ true → TypeStays checker def
 
 -- what a field names is referred to
 abbrev pub RefersInField : Checker → Field → Type 0
@@ -84,20 +84,20 @@ FieldStays checker field = (t : ℕ) → Contains (named_type field.ty) t → St
 
 -- ---- functions, entries and includes
 
--- the function takes part where its note lets it
-abbrev pub MayTakePart : Checker → Function → Type 0
-MayTakePart checker f = function_is_active checker.adding.features.now f ≡ true → IsActiveFunction (seen checker) f
+-- the function is active where its gate lets it
+abbrev pub MayBeActive : Checker → Function → Type 0
+MayBeActive checker f = function_is_active checker.adding.features.now f ≡ true → IsActiveFunction (seen checker) f
 
--- what it needs is not left out where it takes part
+-- what it needs is not left out where it is active
 abbrev pub FunctionStays : Checker → Function → Type 0
 FunctionStays checker f =
     function_is_active checker.adding.features.now f ≡ true → Each (λ t. Stays checker (AType t)) (function_references f)
 
--- an entry refers to what it holds where its note lets it
+-- an entry refers to what it holds where its gate lets it
 abbrev pub RefersByItem : Checker → WorldItem → Type 0
 RefersByItem checker (item.Interface id stability docs span external_id) =
     is_active checker.adding.features.now stability ≡ true → IsReferred checker (AnInterface id) span
-RefersByItem checker (item.Function f) = MayTakePart checker f
+RefersByItem checker (item.Function f) = MayBeActive checker f
 RefersByItem checker (item.Type_ id span) = Unit {0}
 
 -- and that is not left out
@@ -107,7 +107,7 @@ ItemStays checker (item.Interface id stability docs span external_id) =
 ItemStays checker (item.Function f) = FunctionStays checker f
 ItemStays checker (item.Type_ id span) = Unit {0}
 
--- an include refers to its world where its note lets it
+-- an include refers to its world where its gate lets it
 abbrev pub RefersByInclude : Checker → WorldInclude → Type 0
 RefersByInclude checker i = include_is_active checker.adding.features.now i ≡ true → IsReferred checker (AWorld i.id) i.span
 
@@ -117,16 +117,16 @@ IncludeStays checker i = include_is_active checker.adding.features.now i ≡ tru
 
 -- ---- interfaces and worlds
 
--- what the functions of an interface that takes part need is not left out
+-- what the functions of an interface that is active need is not left out
 abbrev pub FunctionsStay : Checker → ℕ → Interface → Type 0
 FunctionsStay checker i interface =
-    interface_is_active checker.adding.features.now checker.adding.handed.now i ≡ true → Each (λ (e : List ℕ × Function). FunctionStays checker e.1) interface.functions
+    interface_is_active checker.adding.features.now checker.adding.unresolved.now i ≡ true → Each (λ (e : List ℕ × Function). FunctionStays checker e.1) interface.functions
 
 -- what the parts of a world need is not left out
-pub record PartsAreFine (checker : Checker) (world : World) : Type 0 where
+pub record PartsAreAccepted (checker : Checker) (world : World) : Type 0 where
   pub imports : Each (λ (e : Entry). ItemStays checker e.1) world.imports
   pub exports : Each (λ (e : Entry). ItemStays checker e.1) world.exports
   pub includes : Each (IncludeStays checker) world.includes
 
 abbrev pub PartsStay : Checker → ℕ → World → Type 0
-PartsStay checker w world = world_is_active checker.adding.features.now checker.adding.handed.now w ≡ true → PartsAreFine checker world
+PartsStay checker w world = world_is_active checker.adding.features.now checker.adding.unresolved.now w ≡ true → PartsAreAccepted checker world

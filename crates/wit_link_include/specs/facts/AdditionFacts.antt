@@ -20,13 +20,13 @@ use Rattle.wit_graph_theory.specs.Image.{entry_image, function_image, key_image,
 use Rattle.wit_graph_theory.specs.facts.ListFacts.{Contains-map, Contains-map_cases, at_map, from_map, same_at}
 use Rattle.wit_labels.specs.Setters.{IsSetter, getter_label, placed}
 use Rattle.wit_labels.specs.Strong.{Clashes}
-use Rattle.wit_link_spec.specs.Addition.{Addition, active_includes, addition_maps, own_worlds, world_place}
+use Rattle.wit_link_spec.specs.Addition.{Addition, active_includes, addition_maps, own_worlds, remapped_world}
 use Rattle.wit_link_spec.specs.Cause.{IncludeIsReached, IsCause, IsReached, conflict_4, mismatch_8, no_getter_18, not_strongly_unique_17, rename_unmatched_16, shadowing_7}
-use Rattle.wit_link_spec.specs.Gates.{Place, include_is_active}
-use Rattle.wit_link_spec.specs.Include.{Begun, Lists, included, lists_of}
-use Rattle.wit_link_spec.specs.Pushed.{begun, begun_with, with_include, with_parts, with_world, with_worlds}
-use Rattle.wit_link_spec.specs.Reasons.{HasImage}
-use Rattle.wit_link_spec.specs.WorldReasons.{AtInclude, AtWorld, HaveLists, IncludeIsFine, IsListCalled, WorldIsFine, made, written}
+use Rattle.wit_link_spec.specs.Gates.{OptionalSpan, include_is_active}
+use Rattle.wit_link_spec.specs.Include.{EntryLists, PartiallyLinked, lists_of, with_include_of}
+use Rattle.wit_link_spec.specs.Pushed.{with_all_includes, with_include, with_includes, with_parts, with_world, with_worlds}
+use Rattle.wit_link_spec.specs.Reasons.{IsResolved}
+use Rattle.wit_link_spec.specs.WorldReasons.{AtInclude, AtWorld, HaveLists, IncludeIsAccepted, IsListCalled, WorldIsAccepted, made, written}
 use Rattle.wit_link_include.specs.steps.Finished.{IsFinishCause, LabelsClash, SetterIsAlone, with_finished, conflict_4 as finish_conflict_4, no_getter_18 as finish_no_getter_18, not_strongly_unique_17 as finish_not_strongly_unique_17}
 use Rattle.wit_link_include.specs.steps.Included as local
 use Rattle.wit_link_include.specs.facts.SeveralFacts.{one_worlds}
@@ -35,14 +35,14 @@ use Rattle.wit_link_include.specs.facts.SeveralFacts.{one_worlds}
 
 -- an include with the id and the span that it has in the graph
 abbrev pub placed_include : Addition → WorldInclude → WorldInclude
-placed_include a include = record include { id = world_place a include.id; span = moved_by a.offset include.span }
+placed_include a include = record include { id = remapped_world a include.id; span = moved_by a.offset include.span }
 
--- the includes of a world that take part
+-- the includes of a world that are active
 abbrev pub placed_includes : Addition → World → List WorldInclude
 placed_includes a world = map (placed_include a) (active_includes a world)
 
 -- a span that is moved by nothing
-moved_nowhere : (span : Place) → moved_by 0 span ≡ span
+moved_nowhere : (span : OptionalSpan) → moved_by 0 span ≡ span
 moved_nowhere None = refl
 moved_nowhere (Some (from, to)) = let first : from + 0 ≡ from = omega arith in let last : to + 0 ≡ to = omega arith in cc
 
@@ -60,18 +60,18 @@ module _ (a : Addition) where
   abbrev pub image_at : ℕ → World → World
   image_at w world = world_image (addition_maps a) w world
 
-  fused : (n : ℕ) (includes : List WorldInclude) (b : Begun) → length b.graph.worlds ≡ n → fold (local.with_one home) b (map (placed_include a) includes) ≡ fold (with_include a n) b includes
+  fused : (n : ℕ) (includes : List WorldInclude) (b : PartiallyLinked) → length b.graph.worlds ≡ n → fold (local.with_one home) b (map (placed_include a) includes) ≡ fold (with_include a n) b includes
   fused n [] b long = refl
   fused n (x ∷ xs) b long =
-      let one : local.with_one home b (placed_include a x) ≡ with_include a n b x = ap (λ (into : ℕ). included home into x.names (world_place a x.id) b) long in
-      let stay : length (with_include a n b x).graph.worlds ≡ n = ap (λ (c : Begun). length c.graph.worlds) (sym one) ∙ ap length (one_worlds home b (placed_include a x)) ∙ long in
-      ap (λ (c : Begun). fold (local.with_one home) c (map (placed_include a) xs)) one ∙ fused n xs (with_include a n b x) stay
+      let one : local.with_one home b (placed_include a x) ≡ with_include a n b x = ap (λ (into : ℕ). with_include_of home into x.names (remapped_world a x.id) b) long in
+      let stay : length (with_include a n b x).graph.worlds ≡ n = ap (λ (c : PartiallyLinked). length c.graph.worlds) (sym one) ∙ ap length (one_worlds home b (placed_include a x)) ∙ long in
+      ap (λ (c : PartiallyLinked). fold (local.with_one home) c (map (placed_include a) xs)) one ∙ fused n xs (with_include a n b x) stay
 
   -- what is begun with some includes is what the addition begins
-  pub several_are : (g : Graph) (w : ℕ) (world : World) (includes : List WorldInclude) → local.with_several home g (image_at w world) (map (placed_include a) includes) ≡ begun_with a w world includes g
+  pub several_are : (g : Graph) (w : ℕ) (world : World) (includes : List WorldInclude) → local.with_several home g (image_at w world) (map (placed_include a) includes) ≡ with_includes a w world includes g
   several_are g w world includes = fused (length g.worlds) includes (local.before_includes g (image_at w world)) refl
 
-  pub stage_is : (g : Graph) (w : ℕ) (world : World) (j : ℕ) → local.with_several home g (image_at w world) (take j (placed_includes a world)) ≡ begun_with a w world (take j (active_includes a world)) g
+  pub stage_is : (g : Graph) (w : ℕ) (world : World) (j : ℕ) → local.with_several home g (image_at w world) (take j (placed_includes a world)) ≡ with_includes a w world (take j (active_includes a world)) g
   stage_is g w world j =
       ap (local.with_several home g (image_at w world)) (take_map (placed_include a) j (active_includes a world)) ∙ several_are g w world (take j (active_includes a world))
 
@@ -81,25 +81,25 @@ module _ (a : Addition) where
     before_same : at.before ≡ local.with_several home (with_worlds a k) (image_at at.at.place at.at.world) (take j (placed_includes a at.at.world))
     before_same = at.before_is ∙ sym (stage_is (with_worlds a k) at.at.place at.at.world j)
 
-    abbrev begins : Begun
+    abbrev begins : PartiallyLinked
     begins = local.with_several home (with_worlds a k) (image_at at.at.place at.at.world) (take j (placed_includes a at.at.world))
 
     included_there : local.IsIncluded begins (placed_include a at.include) at.old
-    included_there = subst (λ (b : Begun). slice_get b.graph.worlds (world_place a at.include.id) ≡ Some at.old) before_same at.old_is
+    included_there = subst (λ (b : PartiallyLinked). slice_get b.graph.worlds (remapped_world a at.include.id) ≡ Some at.old) before_same at.old_is
 
     placed_there : slice_get (placed_includes a at.at.world) j ≡ Some (placed_include a at.include)
     placed_there = at_map (placed_include a) (active_includes a at.at.world) j at.include at.is
 
-    -- no reason speaks against it that its stage doesn't tell
-    refuted : local.IsFineAt home (with_worlds a k) (image_at at.at.place at.at.world) (placed_includes a at.at.world) j → (kind : ResolveErrorKind) → local.IsIncludeCause home begins (placed_include a at.include) at.old kind → ⊥
+    -- no reason holds against it that its stage doesn't tell
+    refuted : local.IsAcceptedAt home (with_worlds a k) (image_at at.at.place at.at.world) (placed_includes a at.at.world) j → (kind : ResolveErrorKind) → local.IsIncludeCause home begins (placed_include a at.include) at.old kind → ⊥
     refuted fine kind is = fine (placed_include a at.include) placed_there at.old included_there kind is
 
     list_now : (word : List ℕ) (entries : List Entry) → IsListCalled word at.before.lists entries → IsListCalled word begins.lists entries
-    list_now word entries is = subst (λ (b : Begun). IsListCalled word b.lists entries) before_same is
+    list_now word entries is = subst (λ (b : PartiallyLinked). IsListCalled word b.lists entries) before_same is
 
-  -- where the stage of an include is fine, so is the include
-  pub include_is_fine : (k j : ℕ) → ((at : AtWorld a k) → local.IsFineAt home (with_worlds a k) (image_at at.place at.world) (placed_includes a at.world) j) → IncludeIsFine a k j
-  include_is_fine k j fine = record {
+  -- where the stage of an include is accepted, so is the include
+  pub include_is_accepted : (k j : ℕ) → ((at : AtWorld a k) → local.IsAcceptedAt home (with_worlds a k) (image_at at.place at.world) (placed_includes a at.world) j) → IncludeIsAccepted a k j
+  include_is_accepted k j fine = record {
     unshadowed = λ span word name is.
         refuted k j is.at (fine is.at.at) _ (local.shadowing_7 word name (record {
           current = is.current;
@@ -194,7 +194,7 @@ module _ (a : Addition) where
   -- ---- a world
 
   -- with all its includes it is what the addition begins
-  pub begun_same : (k : ℕ) (at : AtWorld a k) → local.with_several home (with_worlds a k) (image_at at.place at.world) (placed_includes a at.world) ≡ begun a at.place at.world (with_worlds a k)
+  pub begun_same : (k : ℕ) (at : AtWorld a k) → local.with_several home (with_worlds a k) (image_at at.place at.world) (placed_includes a at.world) ≡ with_all_includes a at.place at.world (with_worlds a k)
   begun_same k at = several_are (with_worlds a k) at.place at.world (active_includes a at.world)
 
   -- where it lists none it is its image
@@ -231,11 +231,11 @@ module _ (a : Addition) where
   list_goes : (k : ℕ) (at : AtWorld a k) (none : at.world.includes ≡ []) (word : List ℕ) (entries : List Entry) → IsListCalled word (lists_of at.world) entries
       → IsListCalled word (lists_of (world_at k at)) (map (entry_image (addition_maps a) at.place) entries)
   list_goes k at none word entries (inl is) =
-      subst (λ (b : Begun). IsListCalled word b.lists (map (entry_image (addition_maps a) at.place) entries)) (sym (nothing_begun k at none)) (inl (is.0, ap (map (entry_image (addition_maps a) at.place)) is.1))
+      subst (λ (b : PartiallyLinked). IsListCalled word b.lists (map (entry_image (addition_maps a) at.place) entries)) (sym (nothing_begun k at none)) (inl (is.0, ap (map (entry_image (addition_maps a) at.place)) is.1))
   list_goes k at none word entries (inr is) =
-      subst (λ (b : Begun). IsListCalled word b.lists (map (entry_image (addition_maps a) at.place) entries)) (sym (nothing_begun k at none)) (inr (is.0, ap (map (entry_image (addition_maps a) at.place)) is.1))
+      subst (λ (b : PartiallyLinked). IsListCalled word b.lists (map (entry_image (addition_maps a) at.place) entries)) (sym (nothing_begun k at none)) (inr (is.0, ap (map (entry_image (addition_maps a) at.place)) is.1))
 
-  -- two labels that are too alike
+  -- two labels that are not strongly unique
   record Alike (k : ℕ) : Type 0 where
     at : AtWorld a k
     word : List ℕ
@@ -243,13 +243,13 @@ module _ (a : Addition) where
     m : List ℕ
     clash : LabelsClash (world_at k at) word n m
 
-  alike : (k : ℕ) (world : World) (lists : Lists) (moves : ℕ) (word : List ℕ) (entries : List Entry) (n m : List ℕ) → HaveLists a k world lists moves → IsListCalled word lists entries → Clashes (keys_of entries) n m → Alike k
+  alike : (k : ℕ) (world : World) (lists : EntryLists) (moves : ℕ) (word : List ℕ) (entries : List Entry) (n m : List ℕ) → HaveLists a k world lists moves → IsListCalled word lists entries → Clashes (keys_of entries) n m → Alike k
   alike k world lists moves word entries n m (made at image fine) list clash = record {
     at = at;
     word = word;
     n = n;
     m = m;
-    clash = record { entries = entries; list = subst (λ (b : Begun). IsListCalled word b.lists entries) (sym (begun_same k at)) list; clash = clash };
+    clash = record { entries = entries; list = subst (λ (b : PartiallyLinked). IsListCalled word b.lists entries) (sym (begun_same k at)) list; clash = clash };
   }
   alike k world lists moves word entries n m (written at none) list clash = record {
     at = at;
@@ -271,14 +271,14 @@ module _ (a : Addition) where
     f : Function
     setter : SetterIsAlone (world_at k at) word label f
 
-  alone : (k : ℕ) (world : World) (lists : Lists) (moves : ℕ) (word : List ℕ) (entries : List Entry) (label : List ℕ) (f : Function) → HaveLists a k world lists moves → IsListCalled word lists entries
+  alone : (k : ℕ) (world : World) (lists : EntryLists) (moves : ℕ) (word : List ℕ) (entries : List Entry) (label : List ℕ) (f : Function) → HaveLists a k world lists moves → IsListCalled word lists entries
       → Contains entries (key.Name label, item.Function f) × IsSetter label (key.Name label, item.Function f) → (Contains (keys_of entries) (key.Name (getter_label label)) → ⊥) → Alone k
   alone k world lists moves word entries label f (made at image fine) list setter absent = record {
     at = at;
     word = word;
     label = label;
     f = f;
-    setter = record { entries = entries; list = subst (λ (b : Begun). IsListCalled word b.lists entries) (sym (begun_same k at)) list; setter = setter; absent = absent };
+    setter = record { entries = entries; list = subst (λ (b : PartiallyLinked). IsListCalled word b.lists entries) (sym (begun_same k at)) list; setter = setter; absent = absent };
   }
   alone k world lists moves word entries label f (written at none) list setter absent = record {
     at = at;
@@ -294,14 +294,14 @@ module _ (a : Addition) where
   }
 
   -- a conflict of the world is one of its lists
-  conflict_is : (k : ℕ) (at : AtWorld a k) (b : Begun) → b ≡ begun a at.place at.world (with_worlds a k) → HasConflict (graph_uses b.graph) (placed b.lists.exports)
+  conflict_is : (k : ℕ) (at : AtWorld a k) (b : PartiallyLinked) → b ≡ with_all_includes a at.place at.world (with_worlds a k) → HasConflict (graph_uses b.graph) (placed b.lists.exports)
       → let now = local.with_several home (with_worlds a k) (image_at at.place at.world) (placed_includes a at.world) in HasConflict (graph_uses now.graph) (placed now.lists.exports)
-  conflict_is k at b is conflict = subst (λ (x : Begun). HasConflict (graph_uses x.graph) (placed x.lists.exports)) (is ∙ sym (begun_same k at)) conflict
+  conflict_is k at b is conflict = subst (λ (x : PartiallyLinked). HasConflict (graph_uses x.graph) (placed x.lists.exports)) (is ∙ sym (begun_same k at)) conflict
 
-  -- a world of which its stage is fine is fine
-  pub world_is_fine : (k : ℕ) → ((at : AtWorld a k) → local.IsFineWorld home (with_worlds a k) (image_at at.place at.world) (placed_includes a at.world)) → WorldIsFine a k
-  world_is_fine k fine = record {
-    includes = λ image j. include_is_fine k j (λ at. (fine at).includes_are j);
+  -- a world of which its stage is accepted is accepted
+  pub world_is_accepted : (k : ℕ) → ((at : AtWorld a k) → local.IsAcceptedWorld home (with_worlds a k) (image_at at.place at.world) (placed_includes a at.world)) → WorldIsAccepted a k
+  world_is_accepted k fine = record {
+    includes = λ image j. include_is_accepted k j (λ at. (fine at).includes_are j);
     labels = λ span message is.
         let two = alike k is.world is.lists is.moves is.word is.entries is.n is.m is.have is.list is.clash in
         (fine two.at).finished.no_cause _ (finish_not_strongly_unique_17 two.word two.n two.m two.clash);
@@ -312,8 +312,8 @@ module _ (a : Addition) where
   }
 
   -- why a world can't be finished is a reason of the addition
-  module _ (k : ℕ) (at : AtWorld a k) (image : HasImage a) (reached : IsReached a k) (includes : (j : ℕ) → IncludeIsFine a k j) where
-    abbrev begins_with : Begun
+  module _ (k : ℕ) (at : AtWorld a k) (image : IsResolved a) (reached : IsReached a k) (includes : (j : ℕ) → IncludeIsAccepted a k j) where
+    abbrev begins_with : PartiallyLinked
     begins_with = local.with_several home (with_worlds a k) (image_at at.place at.world) (placed_includes a at.world)
 
     pub finishing_cause : (kind : ResolveErrorKind) → IsFinishCause begins_with.graph (world_at k at) kind → IsCause a kind
@@ -321,7 +321,7 @@ module _ (a : Addition) where
         conflict_4 k (moved_by a.offset at.world.span) name reached (record {
           at = at;
           has_image = image;
-          includes_are_fine = includes;
+          includes_are_accepted = includes;
           b = begins_with;
           is = begun_same k at;
           conflict = is.conflict;
@@ -333,7 +333,7 @@ module _ (a : Addition) where
           world = at.world;
           lists = begins_with.lists;
           moves = 0;
-          have = subst (λ (b : Begun). HaveLists a k at.world b.lists 0) (sym (begun_same k at)) (made at image includes);
+          have = subst (λ (b : PartiallyLinked). HaveLists a k at.world b.lists 0) (sym (begun_same k at)) (made at image includes);
           word = word;
           entries = is.entries;
           list = is.list;
@@ -348,7 +348,7 @@ module _ (a : Addition) where
           world = at.world;
           lists = begins_with.lists;
           moves = 0;
-          have = subst (λ (b : Begun). HaveLists a k at.world b.lists 0) (sym (begun_same k at)) (made at image includes);
+          have = subst (λ (b : PartiallyLinked). HaveLists a k at.world b.lists 0) (sym (begun_same k at)) (made at image includes);
           word = word;
           entries = is.entries;
           list = is.list;
@@ -366,12 +366,12 @@ one_world a k at at' P holds =
     let same : (at.place, at.world) ≡ (at'.place, at'.world) = same_at (own_worlds a) k k (at.place, at.world) (at'.place, at'.world) refl at.is at'.is in
     subst (λ (e : ℕ × World). P e.0 e.1) same holds
 
--- an include that is fine in one view of the world is fine
-pub include_reached : (a : Addition) (k j : ℕ) (at : AtWorld a k) → local.IsFineAt (home a) (with_worlds a k) (image_at a at.place at.world) (placed_includes a at.world) j → IncludeIsFine a k j
-include_reached a k j at fine = include_is_fine a k j (λ at'. one_world a k at at' (λ (w : ℕ) (world : World). local.IsFineAt (home a) (with_worlds a k) (image_at a w world) (placed_includes a world) j) fine)
+-- an include that is accepted in one view of the world is accepted
+pub include_reached : (a : Addition) (k j : ℕ) (at : AtWorld a k) → local.IsAcceptedAt (home a) (with_worlds a k) (image_at a at.place at.world) (placed_includes a at.world) j → IncludeIsAccepted a k j
+include_reached a k j at fine = include_is_accepted a k j (λ at'. one_world a k at at' (λ (w : ℕ) (world : World). local.IsAcceptedAt (home a) (with_worlds a k) (image_at a w world) (placed_includes a world) j) fine)
 
 -- why a world is refused is a reason of the addition
-pub world_cause : (a : Addition) (k : ℕ) (at : AtWorld a k) → HasImage a → IsReached a k → (kind : ResolveErrorKind)
+pub world_cause : (a : Addition) (k : ℕ) (at : AtWorld a k) → IsResolved a → IsReached a k → (kind : ResolveErrorKind)
     → local.IsWorldCause (home a) (with_worlds a k) (image_at a at.place at.world) (placed_includes a at.world) kind → IsCause a kind
 world_cause a k at image reached kind (local.at_include j stops) =
     include_cause a k j at (record {
@@ -382,14 +382,14 @@ world_cause a k at image reached kind (local.at_include j stops) =
 world_cause a k at image reached kind (local.as_finished fine is) =
     finishing_cause a k at image reached (λ i. include_reached a k i at (fine i)) kind is
 
--- and a world of which one view is fine is fine
-pub reached_fine : (a : Addition) (k : ℕ) (at : AtWorld a k) → local.IsFineWorld (home a) (with_worlds a k) (image_at a at.place at.world) (placed_includes a at.world) → WorldIsFine a k
-reached_fine a k at fine =
-    world_is_fine a k (λ at'. one_world a k at at' (λ (w : ℕ) (world : World). local.IsFineWorld (home a) (with_worlds a k) (image_at a w world) (placed_includes a world)) fine)
+-- and a world of which one view is accepted is accepted
+pub reached_accepted : (a : Addition) (k : ℕ) (at : AtWorld a k) → local.IsAcceptedWorld (home a) (with_worlds a k) (image_at a at.place at.world) (placed_includes a at.world) → WorldIsAccepted a k
+reached_accepted a k at fine =
+    world_is_accepted a k (λ at'. one_world a k at at' (λ (w : ℕ) (world : World). local.IsAcceptedWorld (home a) (with_worlds a k) (image_at a w world) (placed_includes a world)) fine)
 
 -- ---- the next stage
 
 pub next_stage : (a : Addition) (k : ℕ) (at : AtWorld a k) → with_worlds a (k + 1) ≡ local.with_including (home a) (with_worlds a k) (image_at a at.place at.world) (placed_includes a at.world)
 next_stage a k at =
     ap (fold (with_world a) (with_parts a)) (take-next_at (own_worlds a) k (at.place, at.world) at.is) ∙ fold-append (with_world a) (with_parts a) (take k (own_worlds a)) ((at.place, at.world) ∷ [])
-    ∙ ap (λ (b : Begun). with_finished b.graph (local.with_lists (image_at a at.place at.world) b.lists)) (sym (begun_same a k at))
+    ∙ ap (λ (b : PartiallyLinked). with_finished b.graph (local.with_lists (image_at a at.place at.world) b.lists)) (sym (begun_same a k at))

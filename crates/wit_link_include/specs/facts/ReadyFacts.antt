@@ -17,14 +17,14 @@ use Rattle.wit_graph_data.specs.declared.graph.Graph.{Graph}
 use Rattle.wit_graph_theory.specs.facts.ListFacts.{contained_at, from_map, place_of}
 use Rattle.wit_labels.specs.Setters.{placed}
 use Rattle.wit_link_laws.specs.facts.PlacedFacts.{placed_into}
-use Rattle.wit_link_spec.specs.Addition.{Addition, active_includes, world_place}
+use Rattle.wit_link_spec.specs.Addition.{Addition, active_includes, remapped_world}
 use Rattle.wit_link_spec.specs.Cause.{IncludeIsReached, IsReached}
-use Rattle.wit_link_spec.specs.Include.{Begun}
+use Rattle.wit_link_spec.specs.Include.{PartiallyLinked}
 use Rattle.wit_link_spec.specs.Pushed.{with_parts, with_worlds}
-use Rattle.wit_link_spec.specs.Reasons.{HasImage}
+use Rattle.wit_link_spec.specs.Reasons.{IsResolved}
 use Rattle.wit_link_spec.specs.WorldReasons.{AtWorld}
 use Rattle.wit_link_laws.specs.facts.ListedWorlds.{listed_worlds}
-use Rattle.wit_link_laws.specs.laws.StageFacts.{CanFinishBegun, IncludedAreThere, IncludesCanBe, IsOnItsWay, WorldsCanBe}
+use Rattle.wit_link_laws.specs.laws.StageFacts.{CanBeLinked, IncludedAreThere, IncludesCanBe, IsPartiallyLinked, WorldsCanBe}
 use Rattle.wit_link_include.specs.steps.Included as local
 use Rattle.wit_link_include.specs.facts.AdditionFacts.{begun_same, home, image_at, include_reached, placed_include, placed_includes, stage_is}
 use Rattle.wit_link_include.specs.facts.SeveralFacts.{several_worlds}
@@ -43,18 +43,18 @@ own_from_placed es own = each_of (λ (e : Entry). IsUnderOwnKey e.0 e.1) es (λ 
         let place = place_of (placed es) (key.Interface f, held) (placed_into es (key.Interface f, held) has refl) in
         AllByRecursion-at (λ (e : Entry). IsUnderOwnKey e.0 e.1) (placed es) place.0 (key.Interface f, held) own place.1
 
-module _ (there : IncludedAreThere) (includes : IncludesCanBe) (worlds : WorldsCanBe) (a : Addition) (valid : IsValid a.graph) (shaped : IsShaped a.handed) (image : HasImage a) (k : ℕ) (reached : IsReached a k) (at : AtWorld a k) where
+module _ (there : IncludedAreThere) (includes : IncludesCanBe) (worlds : WorldsCanBe) (a : Addition) (valid : IsValid a.graph) (shaped : IsShaped a.unresolved) (image : IsResolved a) (k : ℕ) (reached : IsReached a k) (at : AtWorld a k) where
   abbrev here : Graph
   here = with_worlds a k
 
   abbrev its : List WorldInclude
   its = placed_includes a at.world
 
-  abbrev begins : ℕ → Begun
+  abbrev begins : ℕ → PartiallyLinked
   begins j = local.with_several (home a) here (image_at a at.place at.world) (take j its)
 
   abbrev Fine : ℕ → Type 0
-  Fine j = local.IsFineAt (home a) here (image_at a at.place at.world) its j
+  Fine j = local.IsAcceptedAt (home a) here (image_at a at.place at.world) its j
 
   is_reached : (j : ℕ) → ((i : ℕ) → i < j → Fine i) → IncludeIsReached a k j
   is_reached j fine = record { has_image = image; worlds = reached; includes = λ i before. include_reached a k i at (fine i before) }
@@ -63,7 +63,7 @@ module _ (there : IncludedAreThere) (includes : IncludesCanBe) (worlds : WorldsC
   old_of : (j : ℕ) (include : WorldInclude) → slice_get (active_includes a at.world) j ≡ Some include → ((i : ℕ) → i < j → Fine i) → (old : World) × local.IsIncluded (begins j) (placed_include a include) old
   old_of j include is fine =
       let found = there a k j valid shaped (is_reached j fine) at include is in
-      (found.0, subst (λ (b : Begun). slice_get b.graph.worlds (world_place a include.id) ≡ Some found.0) (sym (stage_is a here at.place at.world j)) found.1)
+      (found.0, subst (λ (b : PartiallyLinked). slice_get b.graph.worlds (remapped_world a include.id) ≡ Some found.0) (sym (stage_is a here at.place at.world j)) found.1)
 
   can_include : (j : ℕ) (include : WorldInclude) → slice_get (active_includes a at.world) j ≡ Some include → ((i : ℕ) → i < j → Fine i) → local.CanBeIncluded (begins j) (placed_include a include)
   can_include j include is fine old found =
@@ -77,8 +77,8 @@ module _ (there : IncludedAreThere) (includes : IncludesCanBe) (worlds : WorldsC
         old_is = found;
       })
 
-  can_finish : ((j : ℕ) → Fine j) → CanFinishBegun (local.with_several (home a) here (image_at a at.place at.world) its)
-  can_finish fine = subst CanFinishBegun (sym (begun_same a k at)) (worlds a k valid shaped image reached (λ j. include_reached a k j at (fine j)) at)
+  can_finish : ((j : ℕ) → Fine j) → CanBeLinked (local.with_several (home a) here (image_at a at.place at.world) its)
+  can_finish fine = subst CanBeLinked (sym (begun_same a k at)) (worlds a k valid shaped image reached (λ j. include_reached a k j at (fine j)) at)
 
   -- its lists are in order before its includes
   listed : HasSoundEntries (with_parts a).types (length (with_parts a).interfaces) (placed (image_at a at.place at.world).imports) (placed (image_at a at.place at.world).exports)
@@ -87,11 +87,11 @@ module _ (there : IncludedAreThere) (includes : IncludesCanBe) (worlds : WorldsC
   none_before : (i : ℕ) → i < 0 → Fine i
   none_before i before = absurd (omega (arith, before))
 
-  on_its_way : (l : List WorldInclude) → active_includes a at.world ≡ l → IsOnItsWay here
+  on_its_way : (l : List WorldInclude) → active_includes a at.world ≡ l → IsPartiallyLinked here
   on_its_way [] none =
       let nothing : its ≡ [] = ap (map (placed_include a)) none in
       let fine : (j : ℕ) → Fine j = λ j include found. nowhere j include (subst (λ (l : List WorldInclude). slice_get l j ≡ Some include) nothing found) in
-      subst (λ (l : List WorldInclude). IsOnItsWay (local.with_several (home a) here (image_at a at.place at.world) l).graph) nothing (can_finish fine).graph
+      subst (λ (l : List WorldInclude). IsPartiallyLinked (local.with_several (home a) here (image_at a at.place at.world) l).graph) nothing (can_finish fine).graph
     where
       nowhere : {P : Type 0} (j : ℕ) (include : WorldInclude) → slice_get [] j ≡ Some include → P
       nowhere j include found = absurd (let none : None ≡ Some include = found in impossible none)
@@ -110,9 +110,9 @@ module _ (there : IncludedAreThere) (includes : IncludesCanBe) (worlds : WorldsC
       there = λ j include is fine.
           let from = from_map (placed_include a) (active_includes a at.world) j include is in
           let old = old_of j from.0 from.1 fine in
-          let front : slice_get here.worlds (world_place a from.0.id) ≡ Some old.0 =
-          subst (λ (ws : List World). slice_get ws (world_place a from.0.id) ≡ Some old.0) (several_worlds (home a) (take j its) (local.before_includes here (image_at a at.place at.world))) old.1 in
-          let within : world_place a from.0.id < length here.worlds = slice_get_within here.worlds (world_place a from.0.id) old.0 front in
+          let front : slice_get here.worlds (remapped_world a from.0.id) ≡ Some old.0 =
+          subst (λ (ws : List World). slice_get ws (remapped_world a from.0.id) ≡ Some old.0) (several_worlds (home a) (take j its) (local.before_includes here (image_at a at.place at.world))) old.1 in
+          let within : remapped_world a from.0.id < length here.worlds = slice_get_within here.worlds (remapped_world a from.0.id) old.0 front in
           subst (λ (x : WorldInclude). x.id < length here.worlds) from.2 within;
       own_keys = record {
         imports = own_from_placed (image_at a at.place at.world).imports listed.of_imports.own_keys;

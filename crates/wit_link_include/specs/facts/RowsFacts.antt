@@ -1,4 +1,4 @@
--- What the interfaces of a graph use stays what it was, where the graph grows: of a valid graph, and of one on its way.
+-- What the interfaces of a graph use stays what it was, where the graph grows: of a valid graph, and of one that is partially linked.
 -- For the proofs of the crates above.
 use Rattle.std.proofs.Common.{◌≡◌, ◌∙◌, ℕ, ◌<◌, List, ◌++◌, length, take, drop, Option, None, Some, option_and_then, slice_get, refl, sym, ap, Contains, arith}
 use Rattle.std.proofs.lemmas.List.{length-map, take-append-drop}
@@ -20,7 +20,7 @@ use Rattle.wit_graph_theory.specs.facts.GoodTypes.{alias_referred}
 use Rattle.wit_graph_theory.specs.facts.ListFacts.{found_at, get_at, in_row}
 use Rattle.wit_remap.specs.Grown.{Grown}
 use Rattle.wit_link_laws.specs.facts.CanonicalStays.{dep_of, filter_map_agrees, map_agrees, named_dep}
-use Rattle.wit_link_laws.specs.laws.StageFacts.{IsOnItsWay}
+use Rattle.wit_link_laws.specs.laws.StageFacts.{IsPartiallyLinked}
 
 module _ (g : Graph) (references : IsAcyclic (type_references g.types)) (own : EachAt (ListsOwn g.types) g.interfaces) (more : List TypeDef) where
   -- what an alias names is there
@@ -59,7 +59,7 @@ rows_stay rows g g' references own grown is =
     is ∙ sym (rows_agree g references own (drop (length g.types) g'.types)) ∙ ap (λ (l : List TypeDef). uses_of l g.interfaces) types
     ∙ ap (uses_of g'.types) (sym grown.interfaces) ∙ ap (λ (n : ℕ). uses_of g'.types (take n g'.interfaces)) (sym long)
 
-pub rows_on_its_way : (rows : List (List ℕ)) (g g' : Graph) → IsOnItsWay g → Grown g g' → rows ≡ graph_uses g → rows ≡ uses_of g'.types (take (length rows) g'.interfaces)
+pub rows_on_its_way : (rows : List (List ℕ)) (g g' : Graph) → IsPartiallyLinked g → Grown g g' → rows ≡ graph_uses g → rows ≡ uses_of g'.types (take (length rows) g'.interfaces)
 rows_on_its_way rows g g' on = rows_stay rows g g' on.references (λ i interface at. (on.interfaces i interface at).own_types)
 
 pub rows_of_valid : (rows : List (List ℕ)) (g g' : Graph) → IsValid g → Grown g g' → rows ≡ graph_uses g → rows ≡ uses_of g'.types (take (length rows) g'.interfaces)

@@ -7,13 +7,13 @@ use Rattle.wit_data.specs.Reference.{referred, type_references}
 use Rattle.wit_data.specs.declared.types.TypeDef.{TypeDef}
 use Rattle.wit_data.specs.declared.world.World.{World}
 use Rattle.wit_digraph.specs.Relation.{Reaches}
-use Rattle.wit_digraph.specs.Walks.{walk}
+use Rattle.wit_digraph.specs.PostOrder.{post_order}
 use Rattle.wit_graph_data.specs.declared.graph.Graph.{Graph}
 use Rattle.wit_graph_theory.specs.Image.{Maps, interface_image, type_image}
 use Rattle.wit_graph_theory.specs.Operations.{include_maps}
-use Rattle.wit_labels.specs.Rename.{renamed}
-use Rattle.wit_link_spec.specs.Include.{entry_mentions, goes_with, is_owned_with, is_unnamed_type, owner_goes_with}
-use Rattle.wit_link_spec.specs.Ranks.{taken, taken_places}
+use Rattle.wit_labels.specs.Rename.{renamed_label}
+use Rattle.wit_link_spec.specs.Include.{belongs_to, entry_mentions, is_owned_within, is_unnamed_type, owner_belongs_to}
+use Rattle.wit_link_spec.specs.Ranks.{selected, selected_with_index}
 use Rattle.wit_link_include.specs.declared.copies.Copies.{Copies}
 use Rattle.wit_link_include.specs.declared.origin.Origin.{Origin}
 
@@ -22,29 +22,29 @@ abbrev pub numbered : ℕ → List ℕ → List (ℕ × ℕ)
 numbered n [] = []
 numbered n (id ∷ ids) = (id, n) ∷ numbered (n + 1) ids
 
--- the places of what takes part of a list
+-- the places of what is active of a list
 abbrev pub places : {X : Type 0} → (ℕ → Bool) → List X → List ℕ
-places kept xs = map (λ e. e.0) (taken_places kept xs)
+places kept xs = map (λ e. e.0) (selected_with_index kept xs)
 
--- where an id goes by a table: one that isn't there stays
+-- what an id is remapped to by a table: one that isn't there stays
 abbrev pub goes : List (ℕ × ℕ) → ℕ → ℕ
 goes table id = unwrap_or (lookup (nat_eq id) table) id
 
 -- the maps that copies stand for
 abbrev pub maps_of : Copies → Maps
-maps_of c = include_maps (goes c.types) (goes c.interfaces) (renamed c.names) c.from c.into c.home
+maps_of c = include_maps (goes c.types) (goes c.interfaces) (renamed_label c.names) c.from c.into c.home
 
 -- the graph with images of some of its types and interfaces behind them
 abbrev pub with_images : Graph → Maps → (ℕ → Bool) → (ℕ → Bool) → Graph
 with_images g m types interfaces = record g {
-  types = g.types ++ map (type_image m) (taken types g.types);
-  interfaces = g.interfaces ++ map (interface_image m) (taken interfaces g.interfaces);
+  types = g.types ++ map (type_image m) (selected types g.types);
+  interfaces = g.interfaces ++ map (interface_image m) (selected interfaces g.interfaces);
 }
 
 -- no type with a name that doesn't go with the world refers to one that does, through whatever others
 abbrev pub StayApart : Graph → ℕ → World → Type 0
-StayApart g w world = (t o : ℕ) → is_unnamed_type g t ≡ false → is_owned_with g w world t ≡ false →
-    Reaches (type_references g.types) t o → is_owned_with g w world o ≡ false
+StayApart g w world = (t o : ℕ) → is_unnamed_type g t ≡ false → is_owned_within g w world t ≡ false →
+    Reaches (type_references g.types) t o → is_owned_within g w world o ≡ false
 
 -- the types that the entries of a world name are there
 abbrev pub NamesThere : Graph → World → Type 0
@@ -54,7 +54,7 @@ NamesThere g world = (t : ℕ) → Contains (flat_map (entry_mentions g world) (
 
 -- the table has the interfaces that go with the world
 abbrev pub IsOrigin : Origin → Type 0
-IsOrigin o = (i : ℕ) → is_some (lookup (nat_eq i) o.going.now) ≡ goes_with o.graph.now o.world.now i
+IsOrigin o = (i : ℕ) → is_some (lookup (nat_eq i) o.belonging_interfaces.now) ≡ belongs_to o.graph.now o.world.now i
 
 -- the types that the entries of the world name
 abbrev pub roots_of : Origin → List ℕ
@@ -62,7 +62,7 @@ roots_of o = flat_map (entry_mentions o.graph.now o.world.now) (o.world.now.impo
 
 -- a type that may refer to what goes with the world: it goes with it itself, or has no name
 abbrev pub is_open_in : Origin → TypeDef → Bool
-is_open_in o def = owner_goes_with o.graph.now o.id o.world.now def.owner || not (is_some def.name)
+is_open_in o def = owner_belongs_to o.graph.now o.id o.world.now def.owner || not (is_some def.name)
 
 -- what each such type refers to, nothing at the others
 abbrev pub open_row : Origin → TypeDef → List ℕ
@@ -73,7 +73,7 @@ open_rows o = map (open_row o) o.graph.now.types
 
 -- does a type lead to one that goes with the world?
 abbrev pub leads : Origin → ℕ → Bool
-leads o t = list_any (is_owned_with o.graph.now o.id o.world.now) (walk (type_references o.graph.now.types) t)
+leads o t = list_any (is_owned_within o.graph.now o.id o.world.now) (post_order (type_references o.graph.now.types) t)
 
 -- the same by what is known of the types that it refers to
 abbrev pub said : List (ℕ × Bool) → ℕ → Bool
@@ -81,11 +81,11 @@ said known t = unwrap_or (lookup (nat_eq t) known) false
 
 abbrev pub def_leads_by : Origin → List (ℕ × Bool) → TypeDef → Bool
 def_leads_by o known def =
-    if owner_goes_with o.graph.now o.id o.world.now def.owner then true else (if is_some def.name then false else list_any (said known) (referred def.kind))
+    if owner_belongs_to o.graph.now o.id o.world.now def.owner then true else (if is_some def.name then false else list_any (said known) (referred def.kind))
 
 abbrev pub leads_by : Origin → List (ℕ × Bool) → ℕ → Bool
 leads_by o known t = option_map_or (def_leads_by o known) (slice_get o.graph.now.types t) false
 
 -- what is known of type t when all that some roots reach through such types is known
 abbrev pub known_of : Origin → List ℕ → ℕ → Option Bool
-known_of o roots t = if list_any (nat_eq t) (flat_map (walk (open_rows o)) roots) then Some (leads o t) else None
+known_of o roots t = if list_any (nat_eq t) (flat_map (post_order (open_rows o)) roots) then Some (leads o t) else None

@@ -37,7 +37,7 @@ pub record WorldIsInConflict (g : Graph) (world : World) (name : List ℕ) : Typ
   pub conflict : HasConflict (graph_uses g) (placed world.exports)
   pub name_is : IsRefusedName g.packages g.interfaces (graph_uses g) (placed world.exports) name
 
--- 17: labels n and m of one of its lists are too alike
+-- 17: labels n and m of one of its lists are not strongly unique
 pub record LabelsClash (world : World) (word n m : List ℕ) : Type 0 where
   pub entries : List Entry
   pub list : IsListCalled word (lists_of world) entries
@@ -57,7 +57,7 @@ pub data IsFinishCause (g : Graph) (world : World) : ResolveErrorKind → Type 0
   no_getter_18 : (word label : List ℕ) (f : Function) → SetterIsAlone world word label f
       → IsFinishCause g world (Semantic f.span (getter_text word label world.name (getter_label label)) cause.NoGetter)
 
--- nothing speaks against finishing the world
+-- no cause holds against finishing the world
 pub record CanFinish (g : Graph) (world : World) : Type 0 where
   pub no_cause : (kind : ResolveErrorKind) → IsFinishCause g world kind → ⊥
   pub no_conflict : HasConflict (graph_uses g) (placed world.exports) → ⊥

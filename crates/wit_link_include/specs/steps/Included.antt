@@ -1,5 +1,5 @@
 -- A world of a graph that is included in one that comes next, and why that is refused; all includes of a world, and the
--- world finished. What an include makes is `included`.
+-- world finished. What an include makes is `with_include_of`.
 -- Source: `resolve_include` and `process_world_includes` of wit-parser 0.263.0.
 use Rattle.std.specs.Prelude.{◌≡◌, ◌<◌, ℕ, Bool, List, fold, length, map, take, slice_get, Some}
 use Rattle.std.specs.List.{AllByRecursion}
@@ -15,9 +15,9 @@ use Rattle.wit_graph_data.specs.declared.error_kind.ResolveErrorKind.TheVariants
 use Rattle.wit_graph_data.specs.declared.graph.Graph.{Graph}
 use Rattle.wit_graph_theory.specs.Image.{entry_image}
 use Rattle.wit_link_spec.specs.CauseText.{rename_text}
-use Rattle.wit_link_spec.specs.Include.{Begun, Lists, include_stability, included, is_other_package, joined, lists_of}
+use Rattle.wit_link_spec.specs.Include.{EntryLists, PartiallyLinked, include_stability, is_other_package, joined_entries, lists_of, with_include_of}
 use Rattle.wit_link_spec.specs.WorldReasons.{Disagree, HasStability, IsListCalled, IsShadowed, renamed_key}
-use Rattle.wit_link_laws.specs.laws.StageFacts.{CanFinishBegun, CanInclude, IsOnItsWay}
+use Rattle.wit_link_laws.specs.laws.StageFacts.{CanBeLinked, CanInclude, IsPartiallyLinked}
 use Rattle.wit_link_include.specs.steps.Finished.{CanFinish, IsFinishCause, with_finished}
 use Rattle.wit_link_include.specs.steps.Copied.{maps_of}
 use Rattle.wit_link_include.specs.declared.copies.Copies.{Copies}
@@ -26,8 +26,8 @@ use Rattle.wit_link_include.specs.steps.Renamed.{IsFirstUnmatched}
 -- ---- one include
 
 -- what is begun, with an include more, where the world that includes comes next in package `home`
-abbrev pub with_one : ℕ → Begun → WorldInclude → Begun
-with_one home b include = included home (length b.graph.worlds) include.names include.id b
+abbrev pub with_one : ℕ → PartiallyLinked → WorldInclude → PartiallyLinked
+with_one home b include = with_include_of home (length b.graph.worlds) include.names include.id b
 
 -- the copies of entries
 abbrev pub copied_entries : Copies → List Entry → List Entry
@@ -35,17 +35,17 @@ copied_entries copies entries = map (entry_image (maps_of copies) copies.from) e
 
 -- a world with entries joined to its lists
 abbrev pub with_joined : Bool → World → List Entry → List Entry → World
-with_joined other world imports exports = record world { imports = joined other world.imports imports; exports = joined other world.exports exports }
+with_joined other world imports exports = record world { imports = joined_entries other world.imports imports; exports = joined_entries other world.exports exports }
 
 -- a label that it brings is there
-pub record IsTaken (b : Begun) (include : WorldInclude) (old : World) (word name : List ℕ) : Type 0 where
+pub record LabelIsTaken (b : PartiallyLinked) (include : WorldInclude) (old : World) (word name : List ℕ) : Type 0 where
   pub current : List Entry
   pub brought : List Entry
   pub list : IsListCalled word b.lists current × IsListCalled word (lists_of old) brought
   pub shadowed : IsShadowed current (map (λ (e : Entry). renamed_key include.names e.0) brought) name
 
 -- an interface that it brings is there with another stability
-pub record AreApart (home : ℕ) (b : Begun) (old : World) (brings has : Stability) : Type 0 where
+pub record StabilitiesAreApart (home : ℕ) (b : PartiallyLinked) (old : World) (brings has : Stability) : Type 0 where
   pub word : List ℕ
   pub current : List Entry
   pub brought : List Entry
@@ -57,45 +57,45 @@ pub record AreApart (home : ℕ) (b : Begun) (old : World) (brings has : Stabili
   pub counts : include_stability (is_other_package old.package home) brings has ≡ brings
 
 -- the table of reasons to refuse an include of world `old`, in the order of their numbers
-pub data IsIncludeCause (home : ℕ) (b : Begun) (include : WorldInclude) (old : World) : ResolveErrorKind → Type 0 where
-  shadowing_7 : (word name : List ℕ) → IsTaken b include old word name → IsIncludeCause home b include old (ItemShadowing include.span word name)
-  mismatch_8 : (brings has : Stability) → AreApart home b old brings has → IsIncludeCause home b include old (StabilityMismatch include.span brings has)
+pub data IsIncludeCause (home : ℕ) (b : PartiallyLinked) (include : WorldInclude) (old : World) : ResolveErrorKind → Type 0 where
+  shadowing_7 : (word name : List ℕ) → LabelIsTaken b include old word name → IsIncludeCause home b include old (ItemShadowing include.span word name)
+  mismatch_8 : (brings has : Stability) → StabilitiesAreApart home b old brings has → IsIncludeCause home b include old (StabilityMismatch include.span brings has)
   rename_unmatched_16 : (name : IncludeName) → IsFirstUnmatched old include.names name → IsIncludeCause home b include old (Semantic include.span (rename_text name.name) cause.RenameUnmatched)
 
 -- the world that an include names is there
-abbrev pub IsIncluded : Begun → WorldInclude → World → Type 0
+abbrev pub IsIncluded : PartiallyLinked → WorldInclude → World → Type 0
 IsIncluded b include old = slice_get b.graph.worlds include.id ≡ Some old
 
--- nothing speaks against the include
-abbrev pub IncludeIsFine : ℕ → Begun → WorldInclude → Type 0
-IncludeIsFine home b include = (old : World) → IsIncluded b include old → (kind : ResolveErrorKind) → IsIncludeCause home b include old kind → ⊥
+-- no cause holds against the include
+abbrev pub HasNoIncludeCause : ℕ → PartiallyLinked → WorldInclude → Type 0
+HasNoIncludeCause home b include = (old : World) → IsIncluded b include old → (kind : ResolveErrorKind) → IsIncludeCause home b include old kind → ⊥
 
 -- each entry under the key of an interface is that interface
-pub record HaveOwnKeys (lists : Lists) : Type 0 where
+pub record HaveOwnKeys (lists : EntryLists) : Type 0 where
   pub imports : AllByRecursion (λ (e : Entry). IsUnderOwnKey e.0 e.1) lists.imports
   pub exports : AllByRecursion (λ (e : Entry). IsUnderOwnKey e.0 e.1) lists.exports
 
 -- the world that is included can be
-abbrev pub CanBeIncluded : Begun → WorldInclude → Type 0
+abbrev pub CanBeIncluded : PartiallyLinked → WorldInclude → Type 0
 CanBeIncluded b include = (old : World) → IsIncluded b include old → CanInclude b.graph include.id old
 
 -- ---- all includes of a world, one after another
 
 -- a world that comes next in a graph, before its includes
-abbrev pub before_includes : Graph → World → Begun
+abbrev pub before_includes : Graph → World → PartiallyLinked
 before_includes g world = record { graph = g; lists = lists_of world }
 
 -- with some of them
-abbrev pub with_several : ℕ → Graph → World → List WorldInclude → Begun
+abbrev pub with_several : ℕ → Graph → World → List WorldInclude → PartiallyLinked
 with_several home g world includes = fold (with_one home) (before_includes g world) includes
 
 -- the world with these lists
-abbrev pub with_lists : World → Lists → World
+abbrev pub with_lists : World → EntryLists → World
 with_lists world lists = record world { imports = lists.imports; exports = lists.exports }
 
--- include j is fine, as it is when its turn comes
-abbrev pub IsFineAt : ℕ → Graph → World → List WorldInclude → ℕ → Type 0
-IsFineAt home g world includes j = (include : WorldInclude) → slice_get includes j ≡ Some include → IncludeIsFine home (with_several home g world (take j includes)) include
+-- include j is accepted, as it is when its turn comes
+abbrev pub IsAcceptedAt : ℕ → Graph → World → List WorldInclude → ℕ → Type 0
+IsAcceptedAt home g world includes j = (include : WorldInclude) → slice_get includes j ≡ Some include → HasNoIncludeCause home (with_several home g world (take j includes)) include
 
 -- include j is refused for this reason, and none before it is
 pub record StopsAtInclude (home : ℕ) (g : Graph) (world : World) (includes : List WorldInclude) (j : ℕ) (kind : ResolveErrorKind) : Type 0 where
@@ -103,14 +103,14 @@ pub record StopsAtInclude (home : ℕ) (g : Graph) (world : World) (includes : L
   pub is : slice_get includes j ≡ Some include
   pub old : World
   pub there : IsIncluded (with_several home g world (take j includes)) include old
-  pub earlier : (i : ℕ) → i < j → IsFineAt home g world includes i
+  pub earlier : (i : ℕ) → i < j → IsAcceptedAt home g world includes i
   pub cause : IsIncludeCause home (with_several home g world (take j includes)) include old kind
 
--- each of the includes can be made, where those before it are fine
-pub record CanBeBegun (home : ℕ) (g : Graph) (world : World) (includes : List WorldInclude) : Type 0 where
-  pub there : (j : ℕ) (include : WorldInclude) → slice_get includes j ≡ Some include → ((i : ℕ) → i < j → IsFineAt home g world includes i) → include.id < length g.worlds
+-- each of the includes can be made, where those before it are accepted
+pub record CanIncludeAll (home : ℕ) (g : Graph) (world : World) (includes : List WorldInclude) : Type 0 where
+  pub there : (j : ℕ) (include : WorldInclude) → slice_get includes j ≡ Some include → ((i : ℕ) → i < j → IsAcceptedAt home g world includes i) → include.id < length g.worlds
   pub own_keys : HaveOwnKeys (lists_of world)
-  pub each : (j : ℕ) (include : WorldInclude) → slice_get includes j ≡ Some include → ((i : ℕ) → i < j → IsFineAt home g world includes i) → CanBeIncluded (with_several home g world (take j includes)) include
+  pub each : (j : ℕ) (include : WorldInclude) → slice_get includes j ≡ Some include → ((i : ℕ) → i < j → IsAcceptedAt home g world includes i) → CanBeIncluded (with_several home g world (take j includes)) include
 
 -- ---- a world, finished
 
@@ -118,19 +118,19 @@ pub record CanBeBegun (home : ℕ) (g : Graph) (world : World) (includes : List 
 abbrev pub with_including : ℕ → Graph → World → List WorldInclude → Graph
 with_including home g world includes = let b = with_several home g world includes in with_finished b.graph (with_lists world b.lists)
 
--- the world can be begun, and finished where its includes are fine
+-- the world can be begun, and finished where its includes are accepted
 pub record CanBeAdded (home : ℕ) (g : Graph) (world : World) (includes : List WorldInclude) : Type 0 where
-  pub graph : IsOnItsWay g
-  pub begins : CanBeBegun home g world includes
-  pub finishes : ((j : ℕ) → IsFineAt home g world includes j) → CanFinishBegun (with_several home g world includes)
+  pub graph : IsPartiallyLinked g
+  pub begins : CanIncludeAll home g world includes
+  pub finishes : ((j : ℕ) → IsAcceptedAt home g world includes j) → CanBeLinked (with_several home g world includes)
 
--- nothing speaks against it
-pub record IsFineWorld (home : ℕ) (g : Graph) (world : World) (includes : List WorldInclude) : Type 0 where
-  pub includes_are : (j : ℕ) → IsFineAt home g world includes j
+-- no cause holds against it
+pub record IsAcceptedWorld (home : ℕ) (g : Graph) (world : World) (includes : List WorldInclude) : Type 0 where
+  pub includes_are : (j : ℕ) → IsAcceptedAt home g world includes j
   pub finished : let b = with_several home g world includes in CanFinish b.graph (with_lists world b.lists)
 
 -- why it is refused: for an include, or as it is finished
 pub data IsWorldCause (home : ℕ) (g : Graph) (world : World) (includes : List WorldInclude) (kind : ResolveErrorKind) : Type 0 where
   at_include : (j : ℕ) → StopsAtInclude home g world includes j kind → IsWorldCause home g world includes kind
-  as_finished : ((j : ℕ) → IsFineAt home g world includes j) → IsFinishCause (with_several home g world includes).graph (with_lists world (with_several home g world includes).lists) kind
+  as_finished : ((j : ℕ) → IsAcceptedAt home g world includes j) → IsFinishCause (with_several home g world includes).graph (with_lists world (with_several home g world includes).lists) kind
       → IsWorldCause home g world includes kind

@@ -11,7 +11,7 @@ use Rattle.wit_data.specs.declared.world.WorldItem.TheVariants as item
 use Rattle.wit_data.specs.declared.world.WorldKey.TheVariants as key
 use Rattle.wit_graph_data.specs.declared.error_kind.ResolveErrorKind.{ResolveErrorKind}
 use Rattle.wit_graph_data.specs.declared.error_kind.ResolveErrorKind.TheVariants.{ItemShadowing, StabilityMismatch}
-use Rattle.wit_link_spec.specs.Gates.{Place}
+use Rattle.wit_link_spec.specs.Gates.{OptionalSpan}
 use Rattle.wit_link_spec.specs.Include.{include_stability}
 use Rattle.wit_link_spec.specs.WorldReasons.{Disagree, IsShadowed}
 
@@ -22,7 +22,7 @@ ComeOnce brought = (i j n : ℕ) (v w : WorldItem) → slice_get brought i ≡ S
 -- under the key of interface i stands an interface with this stability
 abbrev pub StandsWith : List Entry → ℕ → Stability → Type 0
 StandsWith entries i stability =
-    (id : ℕ) × (docs : Docs) × (place : Place) × (external_id : Option (List ℕ)) × Contains entries (key.Interface i, item.Interface id stability docs place external_id)
+    (id : ℕ) × (docs : Docs) × (place : OptionalSpan) × (external_id : Option (List ℕ)) × Contains entries (key.Interface i, item.Interface id stability docs place external_id)
 
 -- the stabilities of an interface that is there and comes again disagree; `other` tells whether it comes from a world
 -- of another package, whose `@since` says nothing here
@@ -39,17 +39,17 @@ ItemsAgree other (item.Interface i from docs place external_id) (item.Interface 
 ItemsAgree other from into = Unit {0}
 
 -- the error of two items whose stabilities disagree
-abbrev pub IsItemError : Bool → Place → WorldItem → WorldItem → ResolveErrorKind → Type 0
+abbrev pub IsItemError : Bool → OptionalSpan → WorldItem → WorldItem → ResolveErrorKind → Type 0
 IsItemError other span (item.Interface i from docs place external_id) (item.Interface i' into docs' place' external_id') kind =
     (kind ≡ StabilityMismatch span from into) × Disagree from into × (include_stability other from into ≡ from)
 IsItemError other span from into kind = ⊥
 
 -- the table of these reasons, in the order of their numbers; `word` is `import` or `export`
-pub data IsJoinCause (other : Bool) (span : Place) (word : List ℕ) (current brought : List Entry) : ResolveErrorKind → Type 0 where
+pub data IsJoinCause (other : Bool) (span : OptionalSpan) (word : List ℕ) (current brought : List Entry) : ResolveErrorKind → Type 0 where
   item_shadowing_7 : (name : List ℕ) → IsShadowed current (keys_of brought) name → IsJoinCause other span word current brought (ItemShadowing span word name)
   stability_mismatch_8 : (brings has : Stability) → StabilitiesDiffer other current brought brings has → IsJoinCause other span word current brought (StabilityMismatch span brings has)
 
--- nothing speaks against joining them
+-- no cause holds against joining them
 pub record CanJoin (other : Bool) (current brought : List Entry) : Type 0 where
   pub unshadowed : (name : List ℕ) → IsShadowed current (keys_of brought) name → ⊥
   pub agree : (brings has : Stability) → StabilitiesDiffer other current brought brings has → ⊥

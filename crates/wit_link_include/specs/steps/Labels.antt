@@ -14,7 +14,7 @@ use Rattle.wit_labels.specs.Strong.{AreStronglyUnique, Clashes}
 use Rattle.wit_link_spec.specs.CauseText.{clash_text, getter_text}
 
 -- no two labels of the list clash, and each setter has its getter
-pub record ListIsFine (entries : List Entry) : Type 0 where
+pub record ListIsAccepted (entries : List Entry) : Type 0 where
   pub unique : AreStronglyUnique (keys_of entries)
   pub getters : HaveGetters entries
 
@@ -25,9 +25,9 @@ pub data IsListError (world word : List ℕ) (entries : List Entry) : ResolveErr
       → (Contains (keys_of entries) (key.Name (getter_label label)) → ⊥) → IsListError world word entries (Semantic f.span (getter_text word label world (getter_label label)) cause.NoGetter)
 
 -- so of the lists of a world
-pub record LabelsAreFine (world : World) : Type 0 where
-  pub imports : ListIsFine world.imports
-  pub exports : ListIsFine world.exports
+pub record LabelsAreAccepted (world : World) : Type 0 where
+  pub imports : ListIsAccepted world.imports
+  pub exports : ListIsAccepted world.exports
 
 abbrev pub IsLabelError : World → ResolveErrorKind → Type 0
 IsLabelError world kind = IsListError world.name (codes "import") world.imports kind ⊎ IsListError world.name (codes "export") world.exports kind

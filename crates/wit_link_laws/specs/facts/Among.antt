@@ -18,7 +18,7 @@ use Rattle.wit_graph_data.specs.declared.graph.Graph.{Graph}
 use Rattle.wit_graph_theory.specs.facts.GoodTypes.{IsAliased, from_if}
 use Rattle.wit_graph_theory.specs.facts.ListFacts.{found_at, from_row, in_row, place_of, same_at, some_at}
 use Rattle.wit_graph_theory.specs.facts.OwnedFacts.{row_into}
-use Rattle.wit_link_laws.specs.facts.OnItsWay.{StandsSoFar}
+use Rattle.wit_link_laws.specs.facts.PartiallyLinked.{IsSoundSoFar}
 
 -- ---- kinds and names
 
@@ -38,7 +38,7 @@ row_named (Some name) ids k some has = Contains-nil has
 
 -- ---- types of some owners
 
-module _ (g : Graph) (stands : StandsSoFar g) where
+module _ (g : Graph) (stands : IsSoundSoFar g) where
   -- a type with a name is its owner's
   pub own_named : (t : ℕ) (def : TypeDef) → slice_get g.types t ≡ Some def → IsSome def.name → IsOwn g.types def.owner t
   own_named t def at named = record {

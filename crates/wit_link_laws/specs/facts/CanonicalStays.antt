@@ -1,4 +1,4 @@
--- What the types and interfaces of a graph on its way use stays what it was, where more types and interfaces stand
+-- What the types and interfaces of a partially linked graph use stays what it was, where more types and interfaces stand
 -- behind them; so a world that is canonical stays canonical.
 use Rattle.std.proofs.Common.{◌≡◌, ◌∙◌, ℕ, List, [], ◌∷◌, ◌++◌, map, filter_map, IfSome, Option, None, Some, option_and_then, slice_get, suc, refl, sym, ap, subst}
 use Rattle.std.proofs.lemmas.List.{map-append}
@@ -6,7 +6,7 @@ use Rattle.std.specs.Option.{option_map_or}
 use Rattle.wit_values.specs.facts.Lists.{slice_get-append}
 use Rattle.wit_digraph.specs.Relation.{IsAcyclic}
 use Rattle.wit_data.specs.Each.{Each, SomeAt}
-use Rattle.wit_data.specs.Entries.{HasExports, HasImports, IsImport}
+use Rattle.wit_data.specs.Entries.{ExportsAreAllowed, ImportsAreAllowed, IsImport}
 use Rattle.wit_data.specs.Ownership.{AliasesNamed}
 use Rattle.wit_data.specs.Uses.{alias_target, interface_uses, other_owner, type_interface_dep, uses_of}
 use Rattle.wit_data.specs.declared.interface.Interface.{Interface}
@@ -19,7 +19,7 @@ use Rattle.wit_data.specs.declared.world.WorldItem.{WorldItem}
 use Rattle.wit_data.specs.declared.world.WorldItem.TheVariants as item
 use Rattle.wit_data.specs.declared.world.WorldKey.{WorldKey}
 use Rattle.wit_data.specs.declared.world.WorldKey.TheVariants as key
-use Rattle.wit_elaboration.specs.Elaborated.{Elaborated, import_carries}
+use Rattle.wit_elaboration.specs.Elaborated.{Elaborated, inherited_by_import}
 use Rattle.wit_elaboration.specs.Entries.{role_of, type_role}
 use Rattle.wit_elaboration.specs.laws.KeptByElaboration.{ElaborationIsLocal}
 use Rattle.wit_elaboration.specs.facts.SoundFacts.{lists_in_order}
@@ -81,19 +81,19 @@ module _ (g : Graph) (items : HasGoodItems g) (more : List TypeDef) where
       let def = found_at (λ (def : TypeDef). (def.name ≡ Some name) × (def.owner ≡ owner.World w)) g.types t is in
       ap type_role (sym (type_stays t def.0 def.1))
 
-  same_carried : (w : ℕ) (k : WorldKey) (held : WorldItem) → IsImport g.interfaces g.types w k held → import_carries g.types held ≡ import_carries (g.types ++ more) held
-  same_carried w k (item.Interface i stability docs span external_id) is = refl
-  same_carried w k (item.Function f) is = refl
-  same_carried w (key.Interface f) (item.Type_ t span) is = absurd is
-  same_carried w (key.Name name) (item.Type_ t span) is =
+  same_inherited_data : (w : ℕ) (k : WorldKey) (held : WorldItem) → IsImport g.interfaces g.types w k held → inherited_by_import g.types held ≡ inherited_by_import (g.types ++ more) held
+  same_inherited_data w k (item.Interface i stability docs span external_id) is = refl
+  same_inherited_data w k (item.Function f) is = refl
+  same_inherited_data w (key.Interface f) (item.Type_ t span) is = absurd is
+  same_inherited_data w (key.Name name) (item.Type_ t span) is =
       let def = found_at (λ (def : TypeDef). (def.name ≡ Some name) × (def.owner ≡ owner.World w)) g.types t is in
       ap (λ (o : Option TypeDef). record { stability = option_map_or (λ (type : TypeDef). type.stability) o stability.Unknown; external_id = None })
       (def.1 ∙ sym (slice_get-append g.types more t def.0 def.1))
 
-  imports_are : (w : ℕ) (world : World) → slice_get g.worlds w ≡ Some world → HasImports g.interfaces g.types w world
+  imports_are : (w : ℕ) (world : World) → slice_get g.worlds w ≡ Some world → ImportsAreAllowed g.interfaces g.types w world
   imports_are w world at i e on = ((items.worlds w world at).imports i e on).is
 
-  exports_are : (w : ℕ) (world : World) → slice_get g.worlds w ≡ Some world → HasExports g.interfaces world
+  exports_are : (w : ℕ) (world : World) → slice_get g.worlds w ≡ Some world → ExportsAreAllowed g.interfaces world
   exports_are w world at i e on = ((items.worlds w world at).exports i e on).is
 
   aliases_are : Each (AliasesNamed g.types g.interfaces) g.types
@@ -109,4 +109,4 @@ module _ (g : Graph) (items : HasGoodItems g) (more : List TypeDef) where
       (local g.types (g.types ++ more) (uses_of g.types g.interfaces) rows world world was (subst IsAcyclic (old_uses others) acyclic)
       (lists_in_order g.types g.interfaces aliases_are w world imports (exports_are w world at))
       (λ e has. let place = place_of world.imports e has in same_role w e.0 e.1 (imports place.0 e place.1))
-      (λ e has. let place = place_of world.imports e has in same_carried w e.0 e.1 (imports place.0 e place.1)) canonical)
+      (λ e has. let place = place_of world.imports e has in same_inherited_data w e.0 e.1 (imports place.0 e place.1)) canonical)

@@ -1,4 +1,4 @@
--- What of a graph on its way takes part where a world of it is included: the world, what its entries mention, the
+-- What of a partially linked graph is active where a world of it is included: the world, what its entries mention, the
 -- interfaces that go with it, and those that have names. That is closed, so it is a good source of copies.
 use Rattle.std.proofs.Common.{◌≡◌, ◌∙◌, ◌⊎◌, ◌||◌, inl, inr, ℕ, ◌<◌, Bool, true, false, not, List, [], ◌∷◌, ◌++◌, Option, None, Some, slice_get, refl, sym, ap, subst, Contains, IsSome, length, map, is_some, nat_eq, if◌then◌else◌}
 use Rattle.std.specs.List.{flat_map, list_all, list_any}
@@ -8,7 +8,7 @@ use Rattle.std.proofs.lemmas.List.Elements.{Contains-append_cases, Contains-appe
 use Rattle.std.proofs.lemmas.Option.{slice_get_within}
 use Rattle.wit_digraph.specs.facts.FreshFacts.{any_from_contains, contains_from_any}
 use Rattle.wit_digraph.specs.facts.MemberFacts.{Contains-cons_cases, Contains-flat_map, Contains-flat_map_cases, Contains-here, Contains-nil}
-use Rattle.wit_data.specs.Entries.{Entry, IsImport, held_interfaces, is_unnamed, item_interface, placed_interfaces}
+use Rattle.wit_data.specs.Entries.{Entry, IsImport, interfaces_in_worlds, interfaces_of_entries, is_unnamed, item_interface}
 use Rattle.wit_data.specs.Ownership.{IsListed, IsNamed}
 use Rattle.wit_elaboration.specs.facts.SoundFacts.{named_within}
 use Rattle.wit_data.specs.Reference.{function_references, referred}
@@ -26,34 +26,34 @@ use Rattle.wit_graph_data.specs.declared.graph.Graph.{Graph}
 use Rattle.wit_graph_theory.specs.Cut.{IsClosedCut, IsGoodWhere, ItemIsKept, OwnerIsKept}
 use Rattle.wit_graph_theory.specs.facts.CutIsGood.{cut_is_good}
 use Rattle.wit_graph_theory.specs.Image.{Maps}
-use Rattle.wit_graph_theory.specs.Kept.{Kept}
+use Rattle.wit_graph_theory.specs.Kept.{KeptIds}
 use Rattle.wit_graph_theory.specs.facts.ListFacts.{Contains-map, contained_at, found_at, get_at, same_at, some_at}
 use Rattle.wit_graph_theory.specs.Operations.{include_source}
 use Rattle.wit_graph_theory.specs.steps.Sources.{IsGoodSource}
-use Rattle.wit_link_spec.specs.Include.{entry_mentions, goes_with, interface_mentions, mentioned}
+use Rattle.wit_link_spec.specs.Include.{belongs_to, entry_mentions, interface_mentions, named_types}
 use Rattle.wit_link_laws.specs.facts.Among.{owner_of_own}
-use Rattle.wit_link_laws.specs.facts.Mentioned.{GoesOrNamed, entry_is, entry_mentioned, mentioned_refers, mentioned_with}
-use Rattle.wit_link_laws.specs.facts.OnItsWay.{StandsSoFar}
+use Rattle.wit_link_laws.specs.facts.Mentioned.{BelongsOrNamed, entry_is, entry_mentioned, mentioned_refers, mentioned_with}
+use Rattle.wit_link_laws.specs.facts.PartiallyLinked.{IsSoundSoFar}
 use Rattle.wit_link_laws.specs.facts.Truth.{all_pass, and_both, and_parts, or_cases, or_left, or_right, passes}
 
 -- is type t mentioned?
 abbrev pub is_mentioned : Graph → World → ℕ → Bool
-is_mentioned g world t = list_any (nat_eq t) (mentioned g world)
+is_mentioned g world t = list_any (nat_eq t) (named_types g world)
 
 -- has interface f a name?
 abbrev pub has_name : List Interface → ℕ → Bool
 has_name interfaces f = option_map_or (λ (interface : Interface). is_some interface.name) (slice_get interfaces f) false
 
--- an entry that is a type takes part where the type does
+-- an entry that is a type is active where the type does
 abbrev pub item_mentioned : Graph → World → WorldItem → Bool
 item_mentioned g world (item.Interface i stability docs span external_id) = true
 item_mentioned g world (item.Function f) = true
 item_mentioned g world (item.Type_ t span) = is_mentioned g world t
 
-abbrev pub copied_part : Graph → ℕ → World → Kept
+abbrev pub copied_part : Graph → ℕ → World → KeptIds
 copied_part g from world = record {
   types = is_mentioned g world;
-  interfaces = λ f. goes_with g world f || has_name g.interfaces f;
+  interfaces = λ f. belongs_to g world f || has_name g.interfaces f;
   worlds = λ w. nat_eq w from;
   functions = λ f. list_all (is_mentioned g world) (function_references f);
   items = item_mentioned g world;
@@ -93,46 +93,46 @@ unnamed_within interfaces f h = by (slice_get interfaces f) refl h
     by None at h = cc
     by (Some interface) at h = slice_get_within interfaces f interface at
 
-pub goes_parts : (g : Graph) (old : World) (f : ℕ) → goes_with g old f ≡ true → (is_unnamed g.interfaces f ≡ true) × (list_any (nat_eq f) (placed_interfaces (old ∷ [])) ≡ true)
-goes_parts g old f goes = and_parts (is_unnamed g.interfaces f) (list_any (nat_eq f) (placed_interfaces (old ∷ []))) goes
+pub goes_parts : (g : Graph) (old : World) (f : ℕ) → belongs_to g old f ≡ true → (is_unnamed g.interfaces f ≡ true) × (list_any (nat_eq f) (interfaces_in_worlds (old ∷ [])) ≡ true)
+goes_parts g old f goes = and_parts (is_unnamed g.interfaces f) (list_any (nat_eq f) (interfaces_in_worlds (old ∷ []))) goes
 
-pub goes_within : (g : Graph) (old : World) (f : ℕ) → goes_with g old f ≡ true → f < length g.interfaces
+pub goes_within : (g : Graph) (old : World) (f : ℕ) → belongs_to g old f ≡ true → f < length g.interfaces
 goes_within g old f goes = unnamed_within g.interfaces f (goes_parts g old f goes).0
 
 -- an interface without a name that stands in the world goes with it
-placed_goes : (g : Graph) (old : World) (e : Entry) (f : ℕ) → Contains (old.imports ++ old.exports) e → item_interface e.1 ≡ f ∷ [] → is_unnamed g.interfaces f ≡ true → goes_with g old f ≡ true
+placed_goes : (g : Graph) (old : World) (e : Entry) (f : ℕ) → Contains (old.imports ++ old.exports) e → item_interface e.1 ≡ f ∷ [] → is_unnamed g.interfaces f ≡ true → belongs_to g old f ≡ true
 placed_goes g old e f has held unnamed =
-    and_both (is_unnamed g.interfaces f) (list_any (nat_eq f) (placed_interfaces (old ∷ []))) unnamed (any_from_contains f (placed_interfaces (old ∷ [])) placed)
+    and_both (is_unnamed g.interfaces f) (list_any (nat_eq f) (interfaces_in_worlds (old ∷ []))) unnamed (any_from_contains f (interfaces_in_worlds (old ∷ [])) placed)
   where
     here : Contains (item_interface e.1) f
     here = subst (λ (l : List ℕ). Contains l f) (sym held) (Contains-here f [])
 
-    in_lists : Contains (held_interfaces old.imports ++ held_interfaces old.exports) f
+    in_lists : Contains (interfaces_of_entries old.imports ++ interfaces_of_entries old.exports) f
     in_lists = elim (Contains-append_cases old.imports old.exports e has) [
-      | inl among ↦ Contains-append_left (held_interfaces old.imports) (held_interfaces old.exports) f (Contains-flat_map (λ (d : Entry). item_interface d.1) old.imports e f among here)
-      | inr among ↦ Contains-append_right (held_interfaces old.imports) (held_interfaces old.exports) f (Contains-flat_map (λ (d : Entry). item_interface d.1) old.exports e f among here)
+      | inl among ↦ Contains-append_left (interfaces_of_entries old.imports) (interfaces_of_entries old.exports) f (Contains-flat_map (λ (d : Entry). item_interface d.1) old.imports e f among here)
+      | inr among ↦ Contains-append_right (interfaces_of_entries old.imports) (interfaces_of_entries old.exports) f (Contains-flat_map (λ (d : Entry). item_interface d.1) old.exports e f among here)
     ]
 
-    placed : Contains (placed_interfaces (old ∷ [])) f
-    placed = Contains-append_left (held_interfaces old.imports ++ held_interfaces old.exports) [] f in_lists
+    placed : Contains (interfaces_in_worlds (old ∷ [])) f
+    placed = Contains-append_left (interfaces_of_entries old.imports ++ interfaces_of_entries old.exports) [] f in_lists
 
 -- ---- the cut is closed
 
-module _ (g : Graph) (stands : StandsSoFar g) (from : ℕ) (old : World) (there : slice_get g.worlds from ≡ Some old) where
-  abbrev kept : Kept
+module _ (g : Graph) (stands : IsSoundSoFar g) (from : ℕ) (old : World) (there : slice_get g.worlds from ≡ Some old) where
+  abbrev kept : KeptIds
   kept = copied_part g from old
 
-  pub takes_mentioned : (t : ℕ) → Contains (mentioned g old) t → kept.types t ≡ true
-  takes_mentioned t has = any_from_contains t (mentioned g old) has
+  pub mentioned_by_active : (t : ℕ) → Contains (named_types g old) t → kept.types t ≡ true
+  mentioned_by_active t has = any_from_contains t (named_types g old) has
 
-  pub mentioned_takes : (t : ℕ) → kept.types t ≡ true → Contains (mentioned g old) t
-  mentioned_takes t takes = contains_from_any t (mentioned g old) takes
+  pub active_by_mentioned : (t : ℕ) → kept.types t ≡ true → Contains (named_types g old) t
+  active_by_mentioned t takes = contains_from_any t (named_types g old) takes
 
-  owner_kept : (by : TypeOwner) → GoesOrNamed g stands from old by → OwnerIsKept kept by
+  owner_kept : (by : TypeOwner) → BelongsOrNamed g stands from old by → OwnerIsKept kept by
   owner_kept (owner.World w) (inl goes) = goes
   owner_kept (owner.World w) (inr named) = absurd named
-  owner_kept (owner.Interface f) (inl goes) = or_left (goes_with g old f) (has_name g.interfaces f) goes
-  owner_kept (owner.Interface f) (inr named) = or_right (goes_with g old f) (has_name g.interfaces f) (is_named g.interfaces f named)
+  owner_kept (owner.Interface f) (inl goes) = or_left (belongs_to g old f) (has_name g.interfaces f) goes
+  owner_kept (owner.Interface f) (inr named) = or_right (belongs_to g old f) (has_name g.interfaces f) (is_named g.interfaces f named)
   owner_kept owner.None is = tt
 
   type_owner_kept : (t : ℕ) (def : TypeDef) → slice_get g.types t ≡ Some def → kept.types t ≡ true → OwnerIsKept kept def.owner
@@ -147,7 +147,7 @@ module _ (g : Graph) (stands : StandsSoFar g) (from : ℕ) (old : World) (there 
       by : (name : Option (List ℕ)) → def.name ≡ name → OwnerIsKept kept def.owner
       by None is = unowned def.name def.owner is (stands.items.types t def at).listed
       by (Some n) is =
-          let among = mentioned_with g stands from old there t (mentioned_takes t takes) in
+          let among = mentioned_with g stands from old there t (active_by_mentioned t takes) in
           let same = owner_of_own g stands t def among.by at (ap is_some is) among.own in
           subst (OwnerIsKept kept) (sym same) (owner_kept among.by among.is)
 
@@ -156,25 +156,25 @@ module _ (g : Graph) (stands : StandsSoFar g) (from : ℕ) (old : World) (there 
     where
       named_or_goes : (k : WorldKey) (i : ℕ) (held : WorldItem) → item_interface held ≡ i ∷ [] → Contains (old.imports ++ old.exports) (k, held) → i < length g.interfaces → kept.interfaces i ≡ true
       named_or_goes k i held is has within = elim (named_or_not g.interfaces i within) [
-        | inl named ↦ or_right (goes_with g old i) (has_name g.interfaces i) named
-        | inr unnamed ↦ or_left (goes_with g old i) (has_name g.interfaces i) (placed_goes g old (k, held) i has is unnamed)
+        | inl named ↦ or_right (belongs_to g old i) (has_name g.interfaces i) named
+        | inr unnamed ↦ or_left (belongs_to g old i) (has_name g.interfaces i) (placed_goes g old (k, held) i has is unnamed)
       ]
 
       by : (k : WorldKey) (held : WorldItem) → e ≡ (k, held) → IsImport g.interfaces g.types from k held → Contains (old.imports ++ old.exports) (k, held) → kept.items held ≡ true → ItemIsKept kept held
       by (key.Interface f) (item.Interface i stability docs span external_id) same is has takes =
-          or_right (goes_with g old i) (has_name g.interfaces i) (subst (λ (x : ℕ). has_name g.interfaces x ≡ true) (sym is.0) (is_named g.interfaces f is.1))
+          or_right (belongs_to g old i) (has_name g.interfaces i) (subst (λ (x : ℕ). has_name g.interfaces x ≡ true) (sym is.0) (is_named g.interfaces f is.1))
       by (key.Name name) (item.Interface i stability docs span external_id) same is has takes = named_or_goes (key.Name name) i (item.Interface i stability docs span external_id) refl has is
-      by k (item.Function f) same is has takes = λ j t on. takes_mentioned t (entry_mentioned g stands from old there (k, item.Function f) t has (contained_at (function_references f) j t on))
+      by k (item.Function f) same is has takes = λ j t on. mentioned_by_active t (entry_mentioned g stands from old there (k, item.Function f) t has (contained_at (function_references f) j t on))
       by k (item.Type_ t span) same is has takes = takes
 
   pub part_is_closed : IsClosedCut kept g.types g.interfaces g.worlds
   part_is_closed = record {
-    in_range = λ t takes. (mentioned_with g stands from old there t (mentioned_takes t takes)).own.there;
-    interfaces_in_range = λ f takes. elim (or_cases (goes_with g old f) (has_name g.interfaces f) takes) [
+    in_range = λ t takes. (mentioned_with g stands from old there t (active_by_mentioned t takes)).own.there;
+    interfaces_in_range = λ f takes. elim (or_cases (belongs_to g old f) (has_name g.interfaces f) takes) [
       | inl goes ↦ goes_within g old f goes
       | inr named ↦ named_within g.interfaces f (named_is g.interfaces f named)
     ];
-    references = λ t def at takes i u on. takes_mentioned u (mentioned_refers g stands from old there t u def at (mentioned_takes t takes) (contained_at (referred def.kind) i u on));
+    references = λ t def at takes i u on. mentioned_by_active u (mentioned_refers g stands from old there t u def at (active_by_mentioned t takes) (contained_at (referred def.kind) i u on));
     owners = type_owner_kept;
     functions = λ f interface at takes i e on used j t reads. passes (is_mentioned g old) (function_references e.1) used t (contained_at (function_references e.1) j t reads);
     imports = λ w world at takes i e on keeps. let is = same_world w world at takes in entry_kept e (subst (λ (x : World). Contains (x.imports ++ x.exports) e) is (Contains-append_left world.imports world.exports e (contained_at world.imports i e on))) keeps;
@@ -198,9 +198,9 @@ module _ (g : Graph) (stands : StandsSoFar g) (from : ℕ) (old : World) (there 
   part_good m = cut_is_good kept g.types g.interfaces g.worlds m part_is_closed part_is_good
 
   -- what an interface that goes with it mentions is mentioned
-  of_going : (f : ℕ) (interface : Interface) (t : ℕ) → slice_get g.interfaces f ≡ Some interface → goes_with g old f ≡ true → Contains (interface_mentions interface) t → Contains (mentioned g old) t
+  of_going : (f : ℕ) (interface : Interface) (t : ℕ) → slice_get g.interfaces f ≡ Some interface → belongs_to g old f ≡ true → Contains (interface_mentions interface) t → Contains (named_types g old) t
   of_going f interface t at goes has =
-      let placed = contains_from_any f (placed_interfaces (old ∷ [])) (goes_parts g old f goes).1 in
+      let placed = contains_from_any f (interfaces_in_worlds (old ∷ [])) (goes_parts g old f goes).1 in
       let e = holder f placed in
       entry_mentioned g stands from old there e.0 t e.1 (names e.0.0 e.0.1 e.2)
     where
@@ -208,7 +208,7 @@ module _ (g : Graph) (stands : StandsSoFar g) (from : ℕ) (old : World) (there 
       names k (item.Interface i stability docs span external_id) held =
           elim (Contains-cons_cases i f [] held) [
             | inl same ↦
-                let goes_i : goes_with g old i ≡ true = subst (λ (x : ℕ). goes_with g old x ≡ true) (sym same) goes in
+                let goes_i : belongs_to g old i ≡ true = subst (λ (x : ℕ). belongs_to g old x ≡ true) (sym same) goes in
                 let at_i : slice_get g.interfaces i ≡ Some interface = subst (λ (x : ℕ). slice_get g.interfaces x ≡ Some interface) (sym same) at in
                 subst (λ (b : Bool). Contains (if b then option_map_or interface_mentions (slice_get g.interfaces i) [] else []) t) (sym goes_i)
                 (subst (λ (o : Option Interface). Contains (option_map_or interface_mentions o []) t) (sym at_i) has)
@@ -217,27 +217,27 @@ module _ (g : Graph) (stands : StandsSoFar g) (from : ℕ) (old : World) (there 
       names k (item.Function fn) held = absurd (Contains-nil held)
       names k (item.Type_ u span) held = absurd (Contains-nil held)
 
-      holder : (f : ℕ) → Contains (placed_interfaces (old ∷ [])) f → (e : Entry) × Contains (old.imports ++ old.exports) e × Contains (item_interface e.1) f
+      holder : (f : ℕ) → Contains (interfaces_in_worlds (old ∷ [])) f → (e : Entry) × Contains (old.imports ++ old.exports) e × Contains (item_interface e.1) f
       holder f placed =
-          elim (Contains-append_cases (held_interfaces old.imports ++ held_interfaces old.exports) [] f placed) [
-            | inl lists ↦ elim (Contains-append_cases (held_interfaces old.imports) (held_interfaces old.exports) f lists) [
+          elim (Contains-append_cases (interfaces_of_entries old.imports ++ interfaces_of_entries old.exports) [] f placed) [
+            | inl lists ↦ elim (Contains-append_cases (interfaces_of_entries old.imports) (interfaces_of_entries old.exports) f lists) [
               | inl among ↦ let e = Contains-flat_map_cases (λ (d : Entry). item_interface d.1) old.imports f among in (e.0, Contains-append_left old.imports old.exports e.0 e.1.0, e.1.1)
               | inr among ↦ let e = Contains-flat_map_cases (λ (d : Entry). item_interface d.1) old.exports f among in (e.0, Contains-append_right old.imports old.exports e.0 e.1.0, e.1.1)
             ]
             | inr none ↦ absurd (Contains-nil none)
           ]
 
-  -- all of an interface that goes with the world takes part
-  pub going_types : (f : ℕ) (interface : Interface) (e : List ℕ × ℕ) → slice_get g.interfaces f ≡ Some interface → goes_with g old f ≡ true → Contains interface.types e → kept.types e.1 ≡ true
-  going_types f interface e at goes has =
-      takes_mentioned e.1
+  -- all of an interface that goes with the world is active
+  pub belonging_types : (f : ℕ) (interface : Interface) (e : List ℕ × ℕ) → slice_get g.interfaces f ≡ Some interface → belongs_to g old f ≡ true → Contains interface.types e → kept.types e.1 ≡ true
+  belonging_types f interface e at goes has =
+      mentioned_by_active e.1
       (of_going f interface e.1 at goes
       (Contains-append_left (map (λ (d : List ℕ × ℕ). d.1) interface.types) (flat_map (λ (d : List ℕ × Function). function_references d.1) interface.functions) e.1
       (Contains-map (λ (d : List ℕ × ℕ). d.1) interface.types e has)))
 
-  pub going_functions : (f : ℕ) (interface : Interface) (e : List ℕ × Function) → slice_get g.interfaces f ≡ Some interface → goes_with g old f ≡ true → Contains interface.functions e → kept.functions e.1 ≡ true
-  going_functions f interface e at goes has = all_pass (is_mentioned g old) (function_references e.1) (λ t uses.
-      takes_mentioned t
+  pub belonging_functions : (f : ℕ) (interface : Interface) (e : List ℕ × Function) → slice_get g.interfaces f ≡ Some interface → belongs_to g old f ≡ true → Contains interface.functions e → kept.functions e.1 ≡ true
+  belonging_functions f interface e at goes has = all_pass (is_mentioned g old) (function_references e.1) (λ t uses.
+      mentioned_by_active t
       (of_going f interface t at goes
       (Contains-append_right (map (λ (d : List ℕ × ℕ). d.1) interface.types) (flat_map (λ (d : List ℕ × Function). function_references d.1) interface.functions) t
       (Contains-flat_map (λ (d : List ℕ × Function). function_references d.1) interface.functions e t has uses))))

@@ -1,4 +1,4 @@
--- Where things go that are copied, and that all else stays.
+-- What things are remapped to that are copied, and that all else stays.
 use Rattle.std.proofs.Common.{◌≡◌, ◌∙◌, ◌⊎◌, ◌&&◌, ◌||◌, ◌+◌, inl, inr, ℕ, ◌<◌, ◌≤◌, Bool, true, false, not, List, map, Option, None, Some, slice_get, refl, sym, ap, subst, arith, Contains, IsSome, length, is_some, nat_eq, if◌then◌else◌}
 use Rattle.std.specs.List.{list_any}
 use Rattle.std.specs.Option.{option_map_or}
@@ -6,8 +6,8 @@ use Rattle.std.proofs.lemmas.Bool.{cases_Bool, eq-eqb, eqb-true, false≢true}
 use Rattle.std.proofs.lemmas.Option.{slice_get_within}
 use Rattle.wit_values.specs.facts.Lists.{slice_get-append}
 use Rattle.wit_digraph.specs.Relation.{Reaches}
-use Rattle.wit_digraph.specs.facts.WalkFacts.{Reaches-from_walk, walk-from_IsPath}
-use Rattle.wit_digraph.specs.Walks.{walk}
+use Rattle.wit_digraph.specs.facts.PostOrderFacts.{Reaches-from_post_order, post_order-from_IsPath}
+use Rattle.wit_digraph.specs.PostOrder.{post_order}
 use Rattle.wit_data.specs.Ownership.{IsListed, IsNamed, IsNamedInterface}
 use Rattle.wit_data.specs.Reference.{referred, type_references}
 use Rattle.wit_data.specs.declared.interface.Interface.{Interface}
@@ -18,16 +18,16 @@ use Rattle.wit_data.specs.declared.world.World.{World}
 use Rattle.wit_graph_data.specs.declared.graph.Graph.{Graph}
 use Rattle.wit_graph_theory.specs.Image.{interface_image, type_image}
 use Rattle.wit_graph_theory.specs.facts.ListFacts.{at_map, at_new, from_map, in_row, old_or_new, same_at}
-use Rattle.wit_graph_theory.specs.facts.OnePlaceCarried.{named_not}
+use Rattle.wit_graph_theory.specs.facts.UnnamedOnceCarried.{named_not}
 use Rattle.wit_graph_theory.specs.facts.RowFacts.{Reaches-join, Reaches-self, Reaches-use}
-use Rattle.wit_link_spec.specs.Include.{goes_with, interface_copy, is_copied, is_owned_with, is_unnamed_type, owner_goes_with, type_copy}
-use Rattle.wit_link_spec.specs.facts.RankFacts.{rank-injective, taken-at, taken_places-from}
-use Rattle.wit_link_spec.specs.Ranks.{rank, taken, taken_places}
-use Rattle.wit_link_laws.specs.facts.CopiedPart.{goes_parts, is_mentioned, mentioned_takes}
+use Rattle.wit_link_spec.specs.Include.{belongs_to, interface_copy, is_copied, is_owned_within, is_unnamed_type, owner_belongs_to, type_copy}
+use Rattle.wit_link_spec.specs.facts.RankFacts.{rank-injective, selected-at, selected_with_index-from}
+use Rattle.wit_link_spec.specs.Ranks.{rank, selected, selected_with_index}
+use Rattle.wit_link_laws.specs.facts.CopiedPart.{active_by_mentioned, goes_parts, is_mentioned}
 use Rattle.wit_link_laws.specs.facts.IncludedWorld.{Including, IsIncluded, joined_world, maps}
 use Rattle.wit_link_laws.specs.facts.Among.{owner_of_own}
 use Rattle.wit_link_laws.specs.facts.Mentioned.{in_rows, mentioned_with, owned_is}
-use Rattle.wit_link_laws.specs.facts.OnItsWay.{StandsSoFar}
+use Rattle.wit_link_laws.specs.facts.PartiallyLinked.{IsSoundSoFar}
 use Rattle.wit_link_laws.specs.facts.Truth.{and_both, and_parts, one_passes, or_cases, or_left, or_right, passing}
 
 goes_to : (b : Bool) (x y : ℕ) → b ≡ true → (if b then x else y) ≡ x
@@ -38,30 +38,30 @@ stays_at : (b : Bool) (x y : ℕ) → b ≡ false → (if b then x else y) ≡ y
 stays_at false x y h = refl
 stays_at true x y h = cc
 
--- what stands among what takes part of a list
-from_taken : {X : Type 0} (kept : ℕ → Bool) (xs : List X) (k : ℕ) (x : X) → slice_get (taken kept xs) k ≡ Some x → (i : ℕ) × (slice_get xs i ≡ Some x) × (kept i ≡ true) × (k ≡ rank kept i)
-from_taken {X} kept xs k x at =
-    let from = from_map (λ (e : ℕ × X). e.1) (taken_places kept xs) k x at in
-    let is = taken_places-from kept xs k from.0 from.1 in
+-- what stands among what is active of a list
+from_selected : {X : Type 0} (kept : ℕ → Bool) (xs : List X) (k : ℕ) (x : X) → slice_get (selected kept xs) k ≡ Some x → (i : ℕ) × (slice_get xs i ≡ Some x) × (kept i ≡ true) × (k ≡ rank kept i)
+from_selected {X} kept xs k x at =
+    let from = from_map (λ (e : ℕ × X). e.1) (selected_with_index kept xs) k x at in
+    let is = selected_with_index-from kept xs k from.0 from.1 in
     (from.0.0, subst (λ (y : X). slice_get xs from.0.0 ≡ Some y) from.2 is.0, is.1, is.2)
 
-module _ (g : Graph) (stands : StandsSoFar g) (i : Including g) where
+module _ (g : Graph) (stands : IsSoundSoFar g) (i : Including g) where
   abbrev copied : ℕ → Bool
   copied = is_copied g i.from i.old
 
   abbrev goes : ℕ → Bool
-  goes = goes_with g i.old
+  goes = belongs_to g i.old
 
   -- ---- types
 
   pub copied_mentioned : (t : ℕ) → copied t ≡ true → is_mentioned g i.old t ≡ true
-  copied_mentioned t is = (and_parts (is_mentioned g i.old t) (is_owned_with g i.from i.old t || (is_unnamed_type g t && list_any (is_owned_with g i.from i.old) (walk (type_references g.types) t))) is).0
+  copied_mentioned t is = (and_parts (is_mentioned g i.old t) (is_owned_within g i.from i.old t || (is_unnamed_type g t && list_any (is_owned_within g i.from i.old) (post_order (type_references g.types) t))) is).0
 
   pub copied_there : (t : ℕ) → copied t ≡ true → t < length g.types
-  copied_there t is = (mentioned_with g stands i.from i.old i.old_at t (mentioned_takes g stands i.from i.old i.old_at t (copied_mentioned t is))).own.there
+  copied_there t is = (mentioned_with g stands i.from i.old i.old_at t (active_by_mentioned g stands i.from i.old i.old_at t (copied_mentioned t is))).own.there
 
-  pub type_goes : (t : ℕ) → copied t ≡ true → type_copy g i.from i.old t ≡ length g.types + rank copied t
-  type_goes t is = goes_to (copied t) (length g.types + rank copied t) t is
+  pub type_remapped : (t : ℕ) → copied t ≡ true → type_copy g i.from i.old t ≡ length g.types + rank copied t
+  type_remapped t is = goes_to (copied t) (length g.types + rank copied t) t is
 
   pub type_stays : (t : ℕ) → copied t ≡ false → type_copy g i.from i.old t ≡ t
   type_stays t is = stays_at (copied t) (length g.types + rank copied t) t is
@@ -74,11 +74,11 @@ module _ (g : Graph) (stands : StandsSoFar g) (i : Including g) where
   ]
 
   abbrev owned : ℕ → Bool
-  owned = is_owned_with g i.from i.old
+  owned = is_owned_within g i.from i.old
 
   -- a mentioned type that goes with the world is copied
   pub owned_copied : (t : ℕ) → is_mentioned g i.old t ≡ true → owned t ≡ true → copied t ≡ true
-  owned_copied t has is = and_both (is_mentioned g i.old t) _ has (or_left (owned t) (is_unnamed_type g t && list_any owned (walk (type_references g.types) t)) is)
+  owned_copied t has is = and_both (is_mentioned g i.old t) _ has (or_left (owned t) (is_unnamed_type g t && list_any owned (post_order (type_references g.types) t)) is)
 
   unnamed_type_is : (t : ℕ) (def : TypeDef) → slice_get g.types t ≡ Some def → is_unnamed_type g t ≡ not (is_some def.name)
   unnamed_type_is t def at = ap (λ (o : Option TypeDef). option_map_or (λ (d : TypeDef). not (is_some d.name)) o false) at
@@ -86,10 +86,10 @@ module _ (g : Graph) (stands : StandsSoFar g) (i : Including g) where
   -- a type with a name that is copied goes with the world
   pub named_copied : (t : ℕ) (def : TypeDef) → slice_get g.types t ≡ Some def → IsSome def.name → copied t ≡ true → owned t ≡ true
   named_copied t def at named is =
-      let parts = and_parts (is_mentioned g i.old t) (owned t || (is_unnamed_type g t && list_any owned (walk (type_references g.types) t))) is in
-      elim (or_cases (owned t) (is_unnamed_type g t && list_any owned (walk (type_references g.types) t)) parts.1) [
+      let parts = and_parts (is_mentioned g i.old t) (owned t || (is_unnamed_type g t && list_any owned (post_order (type_references g.types) t))) is in
+      elim (or_cases (owned t) (is_unnamed_type g t && list_any owned (post_order (type_references g.types) t)) parts.1) [
         | inl own ↦ own
-        | inr other ↦ absurd (not_both (is_some def.name) named (sym (unnamed_type_is t def at) ∙ (and_parts (is_unnamed_type g t) (list_any owned (walk (type_references g.types) t)) other).0))
+        | inr other ↦ absurd (not_both (is_some def.name) named (sym (unnamed_type_is t def at) ∙ (and_parts (is_unnamed_type g t) (list_any owned (post_order (type_references g.types) t)) other).0))
       ]
     where
       not_both : (b : Bool) → b ≡ true → not b ≡ true → ⊥
@@ -117,17 +117,17 @@ module _ (g : Graph) (stands : StandsSoFar g) (i : Including g) where
           let all = Reaches-join rows t u r step reaches in
           let unnamed : is_unnamed_type g t ≡ true = unnamed_type_is t def at ∙ ap (λ (o : Option (List ℕ)). not (is_some o)) none in
           and_both (is_mentioned g i.old t) _ has
-          (or_right (owned t) _ (and_both (is_unnamed_type g t) _ unnamed (one_passes owned (walk rows t) r (walk-from_IsPath rows stands.references t all.0 r within all.1) goes)))
+          (or_right (owned t) _ (and_both (is_unnamed_type g t) _ unnamed (one_passes owned (post_order rows t) r (post_order-from_IsPath rows stands.references t all.0 r within all.1) goes)))
 
       refers_copied : copied u ≡ true → copied t ≡ true
       refers_copied is =
-          let parts = and_parts (is_mentioned g i.old u) (owned u || (is_unnamed_type g u && list_any owned (walk rows u))) is in
-          elim (or_cases (owned u) (is_unnamed_type g u && list_any owned (walk rows u)) parts.1) [
+          let parts = and_parts (is_mentioned g i.old u) (owned u || (is_unnamed_type g u && list_any owned (post_order rows u))) is in
+          elim (or_cases (owned u) (is_unnamed_type g u && list_any owned (post_order rows u)) parts.1) [
             | inl own ↦ through u (Reaches-self rows u) own
             | inr other ↦
-                let one = passing owned (walk rows u) (and_parts (is_unnamed_type g u) (list_any owned (walk rows u)) other).1 in
+                let one = passing owned (post_order rows u) (and_parts (is_unnamed_type g u) (list_any owned (post_order rows u)) other).1 in
                 let there = in_rows g stands i.from i.old i.old_at u (copied_there u is) in
-                through one.0 (Reaches-from_walk rows stands.references u there one.0 one.1) one.2
+                through one.0 (Reaches-from_post_order rows stands.references u there one.0 one.1) one.2
           ]
 
   -- what is mentioned and not copied has the owner and the name that it had
@@ -149,17 +149,17 @@ module _ (g : Graph) (stands : StandsSoFar g) (i : Including g) where
       by : (name : Option (List ℕ)) → def.name ≡ name → (def.owner ≡ owner.None) ⊎ ((f : ℕ) × (def.owner ≡ owner.Interface f) × IsNamed g.interfaces f)
       by None is = inl (unowned def.name def.owner is (stands.items.types t def at).listed)
       by (Some n) is =
-          let among = mentioned_with g stands i.from i.old i.old_at t (mentioned_takes g stands i.from i.old i.old_at t has) in
+          let among = mentioned_with g stands i.from i.old i.old_at t (active_by_mentioned g stands i.from i.old i.old_at t has) in
           let same = owner_of_own g stands t def among.by at (ap is_some is) among.own in
           elim among.is [
-            | inl goes ↦ absurd (false≢true (sym left ∙ owned_copied t has (owned_is g stands i.from i.old t def at ∙ ap (owner_goes_with g i.from i.old) same ∙ goes)))
+            | inl goes ↦ absurd (false≢true (sym left ∙ owned_copied t has (owned_is g stands i.from i.old t def at ∙ ap (owner_belongs_to g i.from i.old) same ∙ goes)))
             | inr other ↦ let is = named among.by other in inr (is.0, same ∙ is.1, is.2)
           ]
 
   -- ---- interfaces
 
-  pub interface_goes : (f : ℕ) → goes f ≡ true → interface_copy g i.old f ≡ length g.interfaces + rank goes f
-  interface_goes f is = goes_to (goes f) (length g.interfaces + rank goes f) f is
+  pub interface_remapped : (f : ℕ) → goes f ≡ true → interface_copy g i.old f ≡ length g.interfaces + rank goes f
+  interface_remapped f is = goes_to (goes f) (length g.interfaces + rank goes f) f is
 
   pub interface_stays : (f : ℕ) → goes f ≡ false → interface_copy g i.old f ≡ f
   interface_stays f is = stays_at (goes f) (length g.interfaces + rank goes f) f is
@@ -180,11 +180,11 @@ module _ (g : Graph) (stands : StandsSoFar g) (i : Including g) where
   pub interfaces_apart : (f e : ℕ) → f < length g.interfaces → e < length g.interfaces → interface_copy g i.old f ≡ interface_copy g i.old e → f ≡ e
   interfaces_apart f e first second same = elim (cases_Bool (goes f)) [
     | inl is ↦ elim (cases_Bool (goes e)) [
-      | inl too ↦ let a = interface_goes f is in let b = interface_goes e too in rank-injective goes f e is too (omega arith)
-      | inr left ↦ let a = interface_goes f is in let b = interface_stays e left in absurd (omega arith)
+      | inl too ↦ let a = interface_remapped f is in let b = interface_remapped e too in rank-injective goes f e is too (omega arith)
+      | inr left ↦ let a = interface_remapped f is in let b = interface_stays e left in absurd (omega arith)
     ]
     | inr stays ↦ elim (cases_Bool (goes e)) [
-      | inl too ↦ let a = interface_stays f stays in let b = interface_goes e too in absurd (omega arith)
+      | inl too ↦ let a = interface_stays f stays in let b = interface_remapped e too in absurd (omega arith)
       | inr left ↦ let a = interface_stays f stays in let b = interface_stays e left in omega arith
     ]
   ]
@@ -193,51 +193,51 @@ module _ (g : Graph) (stands : StandsSoFar g) (i : Including g) where
 
   module _ (new : Graph) (are : IsIncluded g i new) where
     pub old_type_at : (t : ℕ) (def : TypeDef) → slice_get g.types t ≡ Some def → slice_get new.types t ≡ Some def
-    old_type_at t def at = subst (λ (types : List TypeDef). slice_get types t ≡ Some def) (sym are.types_are) (slice_get-append g.types (map (type_image (maps g i)) (taken copied g.types)) t def at)
+    old_type_at t def at = subst (λ (types : List TypeDef). slice_get types t ≡ Some def) (sym are.types_are) (slice_get-append g.types (map (type_image (maps g i)) (selected copied g.types)) t def at)
 
     pub old_interface_at : (f : ℕ) (interface : Interface) → slice_get g.interfaces f ≡ Some interface → slice_get new.interfaces f ≡ Some interface
     old_interface_at f interface at =
-        subst (λ (interfaces : List Interface). slice_get interfaces f ≡ Some interface) (sym are.interfaces_are) (slice_get-append g.interfaces (map (interface_image (maps g i)) (taken goes g.interfaces)) f interface at)
+        subst (λ (interfaces : List Interface). slice_get interfaces f ≡ Some interface) (sym are.interfaces_are) (slice_get-append g.interfaces (map (interface_image (maps g i)) (selected goes g.interfaces)) f interface at)
 
     pub copy_at : (t : ℕ) (def : TypeDef) → slice_get g.types t ≡ Some def → copied t ≡ true → slice_get new.types (type_copy g i.from i.old t) ≡ Some (type_image (maps g i) def)
     copy_at t def at is =
         subst (λ (types : List TypeDef). slice_get types (type_copy g i.from i.old t) ≡ Some (type_image (maps g i) def)) (sym are.types_are)
-        (at_new g.types (map (type_image (maps g i)) (taken copied g.types)) (rank copied t) (type_copy g i.from i.old t) (type_image (maps g i) def) (type_goes t is)
-        (at_map (type_image (maps g i)) (taken copied g.types) (rank copied t) def (taken-at copied g.types t def at is)))
+        (at_new g.types (map (type_image (maps g i)) (selected copied g.types)) (rank copied t) (type_copy g i.from i.old t) (type_image (maps g i) def) (type_remapped t is)
+        (at_map (type_image (maps g i)) (selected copied g.types) (rank copied t) def (selected-at copied g.types t def at is)))
 
     pub interface_copy_at : (f : ℕ) (interface : Interface) → slice_get g.interfaces f ≡ Some interface → goes f ≡ true
         → slice_get new.interfaces (interface_copy g i.old f) ≡ Some (interface_image (maps g i) interface)
     interface_copy_at f interface at is =
         subst (λ (interfaces : List Interface). slice_get interfaces (interface_copy g i.old f) ≡ Some (interface_image (maps g i) interface)) (sym are.interfaces_are)
-        (at_new g.interfaces (map (interface_image (maps g i)) (taken goes g.interfaces)) (rank goes f) (interface_copy g i.old f) (interface_image (maps g i) interface) (interface_goes f is)
-        (at_map (interface_image (maps g i)) (taken goes g.interfaces) (rank goes f) interface (taken-at goes g.interfaces f interface at is)))
+        (at_new g.interfaces (map (interface_image (maps g i)) (selected goes g.interfaces)) (rank goes f) (interface_copy g i.old f) (interface_image (maps g i) interface) (interface_remapped f is)
+        (at_map (interface_image (maps g i)) (selected goes g.interfaces) (rank goes f) interface (selected-at goes g.interfaces f interface at is)))
 
     -- a type of it is an old one or a copy
     pub type_from : (t' : ℕ) (new_def : TypeDef) → slice_get new.types t' ≡ Some new_def
         → (slice_get g.types t' ≡ Some new_def) ⊎ ((t : ℕ) × (def : TypeDef) × (slice_get g.types t ≡ Some def) × (copied t ≡ true) × (t' ≡ type_copy g i.from i.old t) × (type_image (maps g i) def ≡ new_def))
     type_from t' new_def at =
-        elim (old_or_new g.types (map (type_image (maps g i)) (taken copied g.types)) t' new_def (subst (λ (types : List TypeDef). slice_get types t' ≡ Some new_def) are.types_are at)) [
+        elim (old_or_new g.types (map (type_image (maps g i)) (selected copied g.types)) t' new_def (subst (λ (types : List TypeDef). slice_get types t' ≡ Some new_def) are.types_are at)) [
           | inl old ↦ inl old
           | inr later ↦
-              let made = from_map (type_image (maps g i)) (taken copied g.types) later.0 new_def later.2 in
-              let is = from_taken copied g.types later.0 made.0 made.1 in
+              let made = from_map (type_image (maps g i)) (selected copied g.types) later.0 new_def later.2 in
+              let is = from_selected copied g.types later.0 made.0 made.1 in
               let a = later.1 in
               let b = is.3 in
-              let c = type_goes is.0 is.2 in
+              let c = type_remapped is.0 is.2 in
               inr (is.0, made.0, is.1, is.2, omega arith, made.2)
         ]
 
     pub interface_from : (f' : ℕ) (new_one : Interface) → slice_get new.interfaces f' ≡ Some new_one
         → (slice_get g.interfaces f' ≡ Some new_one) ⊎ ((f : ℕ) × (one : Interface) × (slice_get g.interfaces f ≡ Some one) × (goes f ≡ true) × (f' ≡ interface_copy g i.old f) × (interface_image (maps g i) one ≡ new_one))
     interface_from f' new_one at =
-        elim (old_or_new g.interfaces (map (interface_image (maps g i)) (taken goes g.interfaces)) f' new_one (subst (λ (interfaces : List Interface). slice_get interfaces f' ≡ Some new_one) are.interfaces_are at)) [
+        elim (old_or_new g.interfaces (map (interface_image (maps g i)) (selected goes g.interfaces)) f' new_one (subst (λ (interfaces : List Interface). slice_get interfaces f' ≡ Some new_one) are.interfaces_are at)) [
           | inl old ↦ inl old
           | inr later ↦
-              let made = from_map (interface_image (maps g i)) (taken goes g.interfaces) later.0 new_one later.2 in
-              let is = from_taken goes g.interfaces later.0 made.0 made.1 in
+              let made = from_map (interface_image (maps g i)) (selected goes g.interfaces) later.0 new_one later.2 in
+              let is = from_selected goes g.interfaces later.0 made.0 made.1 in
               let a = later.1 in
               let b = is.3 in
-              let c = interface_goes is.0 is.2 in
+              let c = interface_remapped is.0 is.2 in
               inr (is.0, made.0, is.1, is.2, omega arith, made.2)
         ]
 

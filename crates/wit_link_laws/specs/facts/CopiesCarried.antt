@@ -1,4 +1,4 @@
--- Behind an include the graph on its way still stands, and so do the copies of what takes part of it.
+-- Behind an include the partially linked graph still stands, and so do the copies of what is active of it.
 use Rattle.std.proofs.Common.{◌≡◌, ◌∙◌, ◌⊎◌, inl, inr, ℕ, Bool, true, false, List, map, Option, None, Some, option_map, slice_get, refl, sym, ap, subst, Contains, IsSome, is_some, nat_eq, if◌then◌else◌}
 use Rattle.std.proofs.lemmas.Bool.{cases_Bool, eq-eqb, eqb-true, false≢true}
 use Rattle.std.proofs.lemmas.List.Elements.{Contains-append_left}
@@ -6,7 +6,7 @@ use Rattle.wit_digraph.specs.facts.MemberFacts.{Contains-flat_map, Contains-flat
 use Rattle.wit_data.specs.Each.{SomeAt}
 use Rattle.wit_data.specs.Entries.{Entry, IsExport, IsImport}
 use Rattle.wit_sources.specs.Span.{moved_by}
-use Rattle.wit_data.specs.Ownership.{IsNamed, listed_type, world_types}
+use Rattle.wit_data.specs.Ownership.{IsNamed, entry_type, world_types}
 use Rattle.wit_data.specs.declared.interface.Interface.{Interface}
 use Rattle.wit_data.specs.declared.types.TypeDef.{TypeDef}
 use Rattle.wit_data.specs.declared.types.TypeOwner.{TypeOwner}
@@ -27,7 +27,7 @@ use Rattle.wit_graph_theory.specs.Image.{entry_image, interface_image, item_imag
 use Rattle.wit_graph_theory.specs.facts.ListFacts.{Contains-map, found_at, from_map, place_of, same_at, some_at}
 use Rattle.wit_graph_theory.specs.Operations.{include_source}
 use Rattle.wit_graph_theory.specs.steps.Sources.{Carries, InterfaceStands, Source, Stands, WorldStands}
-use Rattle.wit_link_spec.specs.Include.{goes_with, interface_copy, is_copied, joined_entry, joined_item, owner_goes_with, type_copy}
+use Rattle.wit_link_spec.specs.Include.{belongs_to, interface_copy, is_copied, joined_entry, joined_item, owner_belongs_to, type_copy}
 use Rattle.wit_link_spec.specs.WorldReasons.{IsShadowed, renamed_key}
 use Rattle.wit_link_laws.specs.facts.Copies.{copy_at, interface_copy_at, interface_stays, left_owner, left_refers, named_copied, named_left, old_interface_at, old_type_at, type_stays}
 use Rattle.wit_link_laws.specs.facts.CopiedPart.{copied_part, has_name, is_mentioned, named_is}
@@ -35,7 +35,7 @@ use Rattle.wit_link_laws.specs.facts.IncludedWorld.{Including, IsIncluded, broug
 use Rattle.wit_link_laws.specs.facts.JoinedFacts.{JoinsList, label_comes}
 use Rattle.wit_link_laws.specs.facts.ListedTypes.{ListsType, lists_type, type_listed}
 use Rattle.wit_link_laws.specs.facts.Mentioned.{owned_is}
-use Rattle.wit_link_laws.specs.facts.OnItsWay.{StandsSoFar}
+use Rattle.wit_link_laws.specs.facts.PartiallyLinked.{IsSoundSoFar}
 use Rattle.wit_link_laws.specs.facts.Truth.{or_cases}
 
 -- nothing is shadowed
@@ -59,7 +59,7 @@ joined_type other brought e name t is = λ j. (e.0, stays (lookup (same_key e.0)
     stays None = refl
     stays (Some from) = one from
 
-module _ (g : Graph) (stands : StandsSoFar g) (i : Including g) where
+module _ (g : Graph) (stands : IsSoundSoFar g) (i : Including g) where
   -- the world that is included goes to the one that includes it
   pub world_goes_into : (maps g i).worlds i.from ≡ i.into
   world_goes_into = by (nat_eq i.from i.from) (eq-eqb i.from i.from refl)
@@ -124,12 +124,12 @@ module _ (g : Graph) (stands : StandsSoFar g) (i : Including g) where
       where
         host_types : (e : List ℕ × ℕ) → Contains (world_types i.host) e → Contains (world_types (joined_world g i)) e
         host_types e has =
-            let d = Contains-flat_map_cases (λ (d : Entry). listed_type d.0 d.1) i.host.imports e has in
+            let d = Contains-flat_map_cases (λ (d : Entry). entry_type d.0 d.1) i.host.imports e has in
             let lists = lists_type d.0 e.0 e.1 d.1.1 in
             let news = brought g i i.old.imports in
             let among : Contains (map (joined_entry (is_other g i) news) i.host.imports) d.0 =
             subst (Contains (map (joined_entry (is_other g i) news) i.host.imports)) (joined_type (is_other g i) news d.0 e.0 e.1 lists) (Contains-map (joined_entry (is_other g i) news) i.host.imports d.0 d.1.0) in
-            Contains-flat_map (λ (d : Entry). listed_type d.0 d.1) (joined_world g i).imports d.0 e (Contains-append_left (map (joined_entry (is_other g i) news) i.host.imports) _ d.0 among) d.1.1
+            Contains-flat_map (λ (d : Entry). entry_type d.0 d.1) (joined_world g i).imports d.0 e (Contains-append_left (map (joined_entry (is_other g i) news) i.host.imports) _ d.0 among) d.1.1
 
         Stays : World → World → Type 0
         Stays world there = (there.package ≡ world.package) × ((e : List ℕ × ℕ) → Contains (world_types world) e → Contains (world_types there) e)
@@ -194,7 +194,7 @@ module _ (g : Graph) (stands : StandsSoFar g) (i : Including g) where
           let place = place_of interface.types (name, t) has in
           let own = found_at (λ (def : TypeDef). (def.name ≡ Some name) × (def.owner ≡ owner.Interface f)) g.types t ((stands.items.interfaces f interface at).own_types place.0 (name, t) place.1) in
           let goes = named_copied g stands i t own.0 own.1 (ap is_some own.2.0) copied in
-          absurd (false≢true (sym (named_left g stands i f named) ∙ ap (owner_goes_with g i.from i.old) (sym own.2.1) ∙ sym (owned_is g stands i.from i.old t own.0 own.1) ∙ goes))
+          absurd (false≢true (sym (named_left g stands i f named) ∙ ap (owner_belongs_to g i.from i.old) (sym own.2.1) ∙ sym (owned_is g stands i.from i.old t own.0 own.1) ∙ goes))
     ]
 
     interfaces_stand : (f : ℕ) (interface : Interface) → slice_get copy_source.graph.interfaces f ≡ Some interface → copy_source.interfaces f ≡ true → SomeAt new.interfaces (interface_copy g i.old f) (InterfaceStands copy_source interface)
@@ -202,7 +202,7 @@ module _ (g : Graph) (stands : StandsSoFar g) (i : Including g) where
         let kept = copied_part g i.from i.old in
         let whole = from_map (cut_interface kept) g.interfaces f interface at in
         subst (λ (x : Interface). SomeAt new.interfaces (interface_copy g i.old f) (InterfaceStands copy_source x)) whole.2
-        (elim (or_cases (goes_with g i.old f) (has_name g.interfaces f) takes) [
+        (elim (or_cases (belongs_to g i.old f) (has_name g.interfaces f) takes) [
           | inl goes ↦
               some_at (InterfaceStands copy_source (cut_interface kept whole.0)) new.interfaces (interface_copy g i.old f) (interface_image (maps g i) whole.0) (interface_copy_at g stands i new are f whole.0 whole.1 goes) (record {
                 name = refl;
@@ -244,19 +244,19 @@ module _ (g : Graph) (stands : StandsSoFar g) (i : Including g) where
               subst (λ (v : ℕ). SomeAt new.worlds v (WorldStands copy_source i.from (cut_world kept i.old))) (sym world_goes_into)
               (some_at (WorldStands copy_source i.from (cut_world kept i.old)) new.worlds i.into (joined_world g i) are.joined_at (record {
                 types = λ name t has taken.
-                    let d = Contains-flat_map_cases (λ (d : Entry). listed_type d.0 d.1) (cut_world kept i.old).imports (name, t) has in
+                    let d = Contains-flat_map_cases (λ (d : Entry). entry_type d.0 d.1) (cut_world kept i.old).imports (name, t) has in
                     let listed = (Contains-filter (λ (e : Entry). kept.items e.1) i.old.imports d.0 d.1.0).0 in
                     let lists = lists_type d.0 name t d.1.1 in
                     let image = entry_image (maps g i) i.from d.0 in
                     let keyed : image.0 ≡ key.Name ((maps g i).labels i.from name) = ap (key_image (maps g i) i.from) lists.key_is in
                     let among = label_comes g stands i i.host.imports i.old.imports (joins_imports free) (is_other g i) d.0 ((maps g i).labels i.from name) listed keyed in
                     let holds : image.1 ≡ item.Type_ (type_copy g i.from i.old t) (moved_by 0 lists.span) = ap (item_image (maps g i) i.from) lists.held_is in
-                    Contains-flat_map (λ (d : Entry). listed_type d.0 d.1) (joined_world g i).imports image ((maps g i).labels i.from name, type_copy g i.from i.old t) among
+                    Contains-flat_map (λ (d : Entry). entry_type d.0 d.1) (joined_world g i).imports image ((maps g i).labels i.from name, type_copy g i.from i.old t) among
                     (type_listed image ((maps g i).labels i.from name) (type_copy g i.from i.old t) (record { span = moved_by 0 lists.span; key_is = keyed; held_is = holds }));
                 home = i.host_home;
               }))
 
-      -- what takes part stands under the maps of the copies
+      -- what is active stands under the maps of the copies
       pub copies_stand : Carries copy_source new
       copies_stand = record {
         types = λ t def at takes. types_stand t def at takes;

@@ -1,11 +1,11 @@
--- A graph on its way of which one world is finished is on its way.
+-- A partially linked graph of which one world is finished is partially linked.
 use Rattle.std.proofs.Common.{◌≡◌, ◌∙◌, ◌⊎◌, inl, inr, ℕ, Bool, true, false, List, [], ◌∷◌, None, Some, slice_get, refl, sym, ap, subst, Contains, nat_eq}
 use Rattle.std.proofs.lemmas.Bool.{cases_Bool, eq-eqb, eqb-true, false≢true}
 use Rattle.wit_values.specs.Table.{HasDistinctKeys}
 use Rattle.wit_digraph.specs.facts.MemberFacts.{Contains-flat_map, Contains-flat_map_cases, Contains-here}
 use Rattle.wit_data.specs.Each.{SomeAt}
 use Rattle.wit_data.specs.Entries.{Entry, is_unnamed, item_interface}
-use Rattle.wit_data.specs.Ownership.{IsNamed, listed_type, world_types}
+use Rattle.wit_data.specs.Ownership.{IsNamed, entry_type, world_types}
 use Rattle.wit_data.specs.Uses.{uses_of}
 use Rattle.wit_data.specs.declared.interface.Interface.{Interface}
 use Rattle.wit_data.specs.declared.types.TypeDef.{TypeDef}
@@ -17,32 +17,32 @@ use Rattle.wit_elaboration.proofs.Classes.{in_by_class}
 use Rattle.wit_elaboration.proofs.Filters.{Contains-filter, Contains-filtered}
 use Rattle.wit_elaboration.specs.Elaborated.{Elaborated}
 use Rattle.wit_elaboration.specs.Entries.{by_class}
-use Rattle.wit_elaboration.specs.laws.KeptByElaboration.{is_label, labelled, settled}
+use Rattle.wit_elaboration.specs.laws.KeptByElaboration.{is_label, labelled, listed_without_span}
 use Rattle.wit_graph_data.specs.declared.graph.Graph.{Graph}
 use Rattle.wit_graph_theory.specs.facts.Covered.{IsCovered, WorldComes}
 use Rattle.wit_graph_theory.specs.facts.CoveredIsValid.{covered_items}
 use Rattle.wit_graph_theory.specs.Cut.{StaysIn, graph_source, kept_whole}
-use Rattle.wit_graph_theory.specs.facts.ElaboratedCome.{elaborated_comes, settled_interface}
+use Rattle.wit_graph_theory.specs.facts.ElaboratedCome.{elaborated_comes, interface_without_span}
 use Rattle.wit_graph_theory.specs.facts.GoodWorlds.{same_one}
 use Rattle.wit_graph_theory.specs.facts.GraphSource.{graph_stands, items_are_good}
 use Rattle.wit_graph_theory.specs.Image.{identity, key_image}
 use Rattle.wit_graph_theory.specs.Kept.{everything}
 use Rattle.wit_graph_theory.specs.facts.LawsOfElaboration.{LawsOfElaboration}
 use Rattle.wit_graph_theory.specs.facts.ListFacts.{Contains-map, contained_at, place_of, same_at, some_at}
-use Rattle.wit_graph_theory.specs.steps.OnePlace.{HasOnePlace, Holds, Origin, StayApart, entries_of}
-use Rattle.wit_graph_theory.specs.facts.OnePlaceCarried.{HasOnePlace-of_covered, named_not}
-use Rattle.wit_graph_theory.specs.facts.OnePlaceFrom.{cut_has_one_place}
+use Rattle.wit_graph_theory.specs.steps.UnnamedOnce.{Holds, Origin, StandsOnceOnly, StayApart, entries_of}
+use Rattle.wit_graph_theory.specs.facts.UnnamedOnceCarried.{StandsOnceOnly-of_covered, named_not}
+use Rattle.wit_graph_theory.specs.facts.UnnamedOnceFrom.{cut_has_one_place}
 use Rattle.wit_graph_theory.specs.steps.Sources.{Carries, IsGoodSource, Source}
 use Rattle.wit_link_spec.specs.Pushed.{with_placed}
 use Rattle.wit_labels.specs.Setters.{placed}
 use Rattle.wit_link_laws.specs.facts.ListedTypes.{lists_type}
-use Rattle.wit_link_laws.specs.facts.OnItsWay.{StandsSoFar}
+use Rattle.wit_link_laws.specs.facts.PartiallyLinked.{IsSoundSoFar}
 use Rattle.wit_link_laws.specs.facts.PlacedFacts.{placed_in, placed_into}
 use Rattle.wit_link_laws.specs.facts.PlacedWorlds.{exported_named, exports_distinct, imports_distinct, placed_in_order, used_named}
 use Rattle.wit_link_laws.specs.facts.Remains.{beside, export_remains, import_remains, interface_remains, type_remains, world_remains}
 
 -- world `host` at place `into` becomes `done`, its elaboration, and all else stays
-module _ (laws : LawsOfElaboration) (g : Graph) (stands : StandsSoFar g) (into : ℕ) (host : World) (host_at : slice_get g.worlds into ≡ Some host) (done : World)
+module _ (laws : LawsOfElaboration) (g : Graph) (stands : IsSoundSoFar g) (into : ℕ) (host : World) (host_at : slice_get g.worlds into ≡ Some host) (done : World)
     (elaborated : Elaborated g.types (uses_of g.types g.interfaces) (with_placed host) done)
     (worlds : List World) (done_at : slice_get worlds into ≡ Some done) (others : (w : ℕ) → (w ≡ into → ⊥) → slice_get worlds w ≡ slice_get g.worlds w) where
   abbrev new : Graph
@@ -90,7 +90,7 @@ module _ (laws : LawsOfElaboration) (g : Graph) (stands : StandsSoFar g) (into :
 
   types_listed : (e : List ℕ × ℕ) → Contains (world_types host) e → Contains (world_types done) e
   types_listed e has =
-      let d = Contains-flat_map_cases (λ (d : Entry). listed_type d.0 d.1) host.imports e has in
+      let d = Contains-flat_map_cases (λ (d : Entry). entry_type d.0 d.1) host.imports e has in
       let lists = lists_type d.0 e.0 e.1 d.1.1 in
       let type_entry : Entry = (key.Name e.0, item.Type_ e.1 lists.span) in
       let is : d.0 ≡ type_entry = λ i. (lists.key_is i, lists.held_is i) in
@@ -98,10 +98,10 @@ module _ (laws : LawsOfElaboration) (g : Graph) (stands : StandsSoFar g) (into :
       let sorted = in_by_class g.types (placed host.imports) type_entry listed in
       let under : Contains (labelled (by_class g.types (placed host.imports))) type_entry = Contains-filtered (λ (x : Entry). is_label x.0) (by_class g.types (placed host.imports)) type_entry sorted refl in
       let stays = laws.labels g.types uses (with_placed host) done stands.uses (placed_in_order g stands into host host_at) (imports_distinct g stands into host host_at) elaborated in
-      let among : Contains (labelled done.imports) (settled type_entry) =
-      subst (λ (es : List Entry). Contains es (settled type_entry)) (sym stays) (Contains-map settled (labelled (by_class g.types (placed host.imports))) type_entry under) in
-      let import : Contains done.imports type_entry = (Contains-filter (λ (x : Entry). is_label x.0) done.imports (settled type_entry) among).0 in
-      Contains-flat_map (λ (x : Entry). listed_type x.0 x.1) done.imports type_entry e import (Contains-here e [])
+      let among : Contains (labelled done.imports) (listed_without_span type_entry) =
+      subst (λ (es : List Entry). Contains es (listed_without_span type_entry)) (sym stays) (Contains-map listed_without_span (labelled (by_class g.types (placed host.imports))) type_entry under) in
+      let import : Contains done.imports type_entry = (Contains-filter (λ (x : Entry). is_label x.0) done.imports (listed_without_span type_entry) among).0 in
+      Contains-flat_map (λ (x : Entry). entry_type x.0 x.1) done.imports type_entry e import (Contains-here e [])
 
   abbrev Stays : World → World → Type 0
   Stays world there = (there.package ≡ world.package) × ((e : List ℕ × ℕ) → Contains (world_types world) e → Contains (world_types there) e)
@@ -138,7 +138,7 @@ module _ (laws : LawsOfElaboration) (g : Graph) (stands : StandsSoFar g) (into :
   distinct w false world at = (stands.items.worlds w world at).distinct_imports
   distinct w true world at = (stands.items.worlds w world at).distinct_exports
 
-  one_in : (b : Bool) → HasOnePlace (sources b).graph.interfaces (sources b).graph.worlds
+  one_in : (b : Bool) → StandsOnceOnly (sources b).graph.interfaces (sources b).graph.worlds
   one_in false = cut_has_one_place (kept_whole g) g.interfaces g.worlds stands.once distinct
   one_in true = cut_has_one_place (kept_whole g) g.interfaces g.worlds stands.once distinct
 
@@ -177,7 +177,7 @@ module _ (laws : LawsOfElaboration) (g : Graph) (stands : StandsSoFar g) (into :
   stood : (b : Bool) (f' : ℕ) (e : Entry) → is_unnamed g.interfaces f' ≡ true → Contains (entries_of b done) e → item_interface e.1 ≡ f' ∷ [] → Stood b f'
   stood false f' e unnamed has held =
       elim ((laws.entries g.types uses (with_placed host) done e stands.uses (placed_in_order g stands into host host_at) elaborated).0 has) [
-        | inl stays ↦ stood_in false f' stays.0 (placed_in host.imports stays.0 stays.1) (sym (settled_interface stays.0.1) ∙ ap (λ (d : Entry). item_interface d.1) (sym stays.2) ∙ held)
+        | inl stays ↦ stood_in false f' stays.0 (placed_in host.imports stays.0 stays.1) (sym (interface_without_span stays.0.1) ∙ ap (λ (d : Entry). item_interface d.1) (sym stays.2) ∙ held)
         | inr made ↦ absurd (added_named made.1 f' (ap (λ (d : Entry). item_interface d.1) (sym made.2) ∙ held) (used_named g stands into host host_at made.1 made.3) unnamed)
       ]
   stood true f' e unnamed has held =
@@ -205,11 +205,11 @@ module _ (laws : LawsOfElaboration) (g : Graph) (stands : StandsSoFar g) (into :
   stay_apart : StayApart sources new
   stay_apart = record { injective = λ b f e takes other same unnamed. injective b f e same; meet = meet; one_side = one_side }
 
-  -- the graph is on its way, one world further
-  pub finished_stands : StandsSoFar new
+  -- the graph is partially linked, one world further
+  pub finished_stands : IsSoundSoFar new
   finished_stands = record {
     items = covered_items sources new good carries finished_covered;
     references = stands.references;
     uses = stands.uses;
-    once = HasOnePlace-of_covered sources new good carries finished_covered stay_apart one_in;
+    once = StandsOnceOnly-of_covered sources new good carries finished_covered stay_apart one_in;
   }

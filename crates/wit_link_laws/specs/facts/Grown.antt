@@ -11,8 +11,8 @@ use Rattle.wit_data.specs.declared.world.World.{World}
 use Rattle.wit_graph_data.specs.declared.graph.Graph.{Graph}
 use Rattle.wit_graph_theory.specs.Image.{interface_image, type_image}
 use Rattle.wit_graph_theory.specs.facts.ListFacts.{SomeAt-old, get_at, same_at, some_at}
-use Rattle.wit_link_spec.specs.Addition.{Addition, added_owns, addition_maps, own_interfaces, own_types, own_worlds}
-use Rattle.wit_link_spec.specs.Pushed.{begun, finished, new_package, with_parts, with_world, with_worlds}
+use Rattle.wit_link_spec.specs.Addition.{Addition, addition_maps, own_interfaces, own_types, own_worlds, owns_of_addition}
+use Rattle.wit_link_spec.specs.Pushed.{linked_world, new_package, with_all_includes, with_parts, with_world, with_worlds}
 use Rattle.wit_link_laws.specs.facts.StageGrows.{IsCopy, each_joined}
 use Rattle.wit_link_laws.specs.facts.Stages.{whole_more, with_worlds_next}
 
@@ -28,7 +28,7 @@ pub record IsGrown (a : Addition) (count : ℕ) (new : Graph) : Type 0 where
   pub interfaces_are : new.interfaces ≡ (with_parts a).interfaces ++ interfaces
   pub copies : Each (IsCopy (length a.graph.packages)) interfaces
   pub packages_are : new.packages ≡ a.graph.packages ++ new_package a ∷ []
-  pub names_are : new.package_names ≡ a.graph.package_names ++ (a.handed.name, length a.graph.packages) ∷ []
+  pub names_are : new.package_names ≡ a.graph.package_names ++ (a.unresolved.name, length a.graph.packages) ∷ []
   pub done : List World
   pub worlds_are : new.worlds ≡ a.graph.worlds ++ done
   pub many : length done ≡ count
@@ -38,7 +38,7 @@ module _ (a : Addition) where
   grown_next : (k : ℕ) (e : ℕ × World) → slice_get (own_worlds a) k ≡ Some e → IsGrown a k (with_worlds a k) → IsGrown a (suc k) (with_world a (with_worlds a k) e)
   grown_next k e at are =
       let more = whole_more a k e at in
-      let done = finished a e.0 e.1 (begun a e.0 e.1 (with_worlds a k)) in
+      let done = linked_world a e.0 e.1 (with_all_includes a e.0 e.1 (with_worlds a k)) in
       record {
         types = are.types ++ more.types;
         types_are = more.types_are ∙ ap (λ (l : List TypeDef). l ++ more.types) are.types_are ∙ append_assoc (with_parts a).types are.types more.types;
@@ -86,14 +86,14 @@ module _ (a : Addition) where
 
   module _ (count : ℕ) (new : Graph) (are : IsGrown a count new) where
     abbrev pub more_types : List TypeDef
-    more_types = (map (type_image (addition_maps a)) (own_types a) ++ added_owns a) ++ are.types
+    more_types = (map (type_image (addition_maps a)) (own_types a) ++ owns_of_addition a) ++ are.types
 
     abbrev pub more_interfaces : List Interface
     more_interfaces = map (interface_image (addition_maps a)) (own_interfaces a) ++ are.interfaces
 
     -- behind the graph
     pub types_behind : new.types ≡ a.graph.types ++ more_types
-    types_behind = are.types_are ∙ append_assoc a.graph.types (map (type_image (addition_maps a)) (own_types a) ++ added_owns a) are.types
+    types_behind = are.types_are ∙ append_assoc a.graph.types (map (type_image (addition_maps a)) (own_types a) ++ owns_of_addition a) are.types
 
     pub interfaces_behind : new.interfaces ≡ a.graph.interfaces ++ more_interfaces
     interfaces_behind = are.interfaces_are ∙ append_assoc a.graph.interfaces (map (interface_image (addition_maps a)) (own_interfaces a)) are.interfaces

@@ -5,7 +5,7 @@ use Rattle.std.proofs.lemmas.Bool.{ltb-true}
 use Rattle.std.proofs.lemmas.List.{length-append, length-map}
 use Rattle.std.proofs.lemmas.Option.{slice_get_within}
 use Rattle.wit_digraph.specs.Relation.{IsAcyclic}
-use Rattle.wit_digraph.specs.Walks.{walk}
+use Rattle.wit_digraph.specs.PostOrder.{post_order}
 use Rattle.wit_data.specs.Each.{Each, SomeAt}
 use Rattle.wit_data.specs.Reference.{referred, type_references}
 use Rattle.wit_data.specs.Uses.{alias_target, interface_uses, type_interface_dep, uses_of}
@@ -21,39 +21,39 @@ use Rattle.wit_graph_theory.specs.Image.{interface_image, type_image}
 use Rattle.wit_graph_theory.specs.facts.ListFacts.{at_below, contained_at, from_map, in_row, some_at}
 use Rattle.wit_graph_theory.specs.facts.Referred.{RefersUnder}
 use Rattle.wit_graph_theory.specs.facts.ReferredFacts.{alias_image, kind_refers}
-use Rattle.wit_graph_theory.specs.facts.RowFacts.{walk_shorter}
-use Rattle.wit_graph_theory.specs.steps.Sources.{OwnerTakesPart}
+use Rattle.wit_graph_theory.specs.facts.RowFacts.{post_order_shorter}
+use Rattle.wit_graph_theory.specs.steps.Sources.{OwnerIsActive}
 use Rattle.wit_graph_theory.specs.facts.TypesAcyclic.{types_acyclic}
 use Rattle.wit_graph_theory.specs.facts.UsesAcyclic.{uses_acyclic}
-use Rattle.wit_link_spec.specs.Include.{goes_with, interface_copy, is_copied, owner_goes_with, type_copy}
-use Rattle.wit_link_spec.specs.Ranks.{taken}
+use Rattle.wit_link_spec.specs.Include.{belongs_to, interface_copy, is_copied, owner_belongs_to, type_copy}
+use Rattle.wit_link_spec.specs.Ranks.{selected}
 use Rattle.wit_link_laws.specs.facts.Copies.{behind_copied, behind_goes, copy_at, interface_copy_at, owned_copied}
-use Rattle.wit_link_laws.specs.facts.CopiedPart.{copied_part, going_types}
+use Rattle.wit_link_laws.specs.facts.CopiedPart.{belonging_types, copied_part}
 use Rattle.wit_link_laws.specs.facts.CopiesCarried.{IsUnshadowed}
-use Rattle.wit_link_laws.specs.facts.IncludedCovered.{included_carries, included_covered, sources, sources_good}
+use Rattle.wit_link_laws.specs.facts.IncludedCovered.{included_covered, included_inherits, sources, sources_good}
 use Rattle.wit_link_laws.specs.facts.IncludedWorld.{Including, IsIncluded, maps}
 use Rattle.wit_link_laws.specs.facts.Mentioned.{owned_is}
-use Rattle.wit_link_laws.specs.facts.OnItsWay.{StandsSoFar}
+use Rattle.wit_link_laws.specs.facts.PartiallyLinked.{IsSoundSoFar}
 
-module _ (g : Graph) (stands : StandsSoFar g) (i : Including g) (new : Graph) (are : IsIncluded g i new) where
+module _ (g : Graph) (stands : IsSoundSoFar g) (i : Including g) (new : Graph) (are : IsIncluded g i new) where
   -- what stood in the graph stands in front
   longer_types : length g.types ≤ length new.types
-  longer_types = let more = map (type_image (maps g i)) (taken (is_copied g i.from i.old) g.types) in let long = ap length are.types_are in omega (arith, long, length-append g.types more)
+  longer_types = let more = map (type_image (maps g i)) (selected (is_copied g i.from i.old) g.types) in let long = ap length are.types_are in omega (arith, long, length-append g.types more)
 
   kept_types : (t : ℕ) (def : TypeDef) → t < length g.types → slice_get new.types t ≡ Some def → slice_get g.types t ≡ Some def
-  kept_types t def before at = at_below g.types (map (type_image (maps g i)) (taken (is_copied g i.from i.old) g.types)) t def before (subst (λ (ts : List TypeDef). slice_get ts t ≡ Some def) are.types_are at)
+  kept_types t def before at = at_below g.types (map (type_image (maps g i)) (selected (is_copied g i.from i.old) g.types)) t def before (subst (λ (ts : List TypeDef). slice_get ts t ≡ Some def) are.types_are at)
 
   longer_interfaces : length g.interfaces ≤ length new.interfaces
-  longer_interfaces = let more = map (interface_image (maps g i)) (taken (goes_with g i.old) g.interfaces) in let long = ap length are.interfaces_are in omega (arith, long, length-append g.interfaces more)
+  longer_interfaces = let more = map (interface_image (maps g i)) (selected (belongs_to g i.old) g.interfaces) in let long = ap length are.interfaces_are in omega (arith, long, length-append g.interfaces more)
 
   kept_interfaces : (f : ℕ) (one : Interface) → f < length g.interfaces → slice_get new.interfaces f ≡ Some one → slice_get g.interfaces f ≡ Some one
   kept_interfaces f one before at =
-      at_below g.interfaces (map (interface_image (maps g i)) (taken (goes_with g i.old) g.interfaces)) f one before (subst (λ (is : List Interface). slice_get is f ≡ Some one) are.interfaces_are at)
+      at_below g.interfaces (map (interface_image (maps g i)) (selected (belongs_to g i.old) g.interfaces)) f one before (subst (λ (is : List Interface). slice_get is f ≡ Some one) are.interfaces_are at)
 
   -- ---- types: the rank of one is the length of its walk
 
   abbrev rank : Bool → ℕ → ℕ
-  rank b t = length (walk (type_references g.types) t)
+  rank b t = length (post_order (type_references g.types) t)
 
   carried : (b : Bool) (t : ℕ) (def : TypeDef) → slice_get (sources g stands i b).graph.types t ≡ Some def → (sources g stands i b).types t ≡ true → length g.types ≤ (sources g stands i b).maps.types t
       → SomeAt new.types ((sources g stands i b).maps.types t) (λ (there : TypeDef). RefersUnder (sources g stands i b).maps (referred def.kind) (referred there.kind))
@@ -69,7 +69,7 @@ module _ (g : Graph) (stands : StandsSoFar g) (i : Including g) (new : Graph) (a
       let row = λ (d : TypeDef). referred d.kind in
       let long = length-map g.types row in
       let within = slice_get_within g.types t def at in
-      walk_shorter (type_references g.types) stands.references t u (omega arith) (in_row row g.types t def u at has)
+      post_order_shorter (type_references g.types) stands.references t u (omega arith) (in_row row g.types t def u at has)
 
   types_grow : TypesGrow (sources g stands i) rank g.types new
   types_grow = record { longer = longer_types; kept = kept_types; carried = carried; falls = falls }
@@ -77,12 +77,12 @@ module _ (g : Graph) (stands : StandsSoFar g) (i : Including g) (new : Graph) (a
   -- ---- interfaces, so too
 
   abbrev uses_rank : Bool → ℕ → ℕ
-  uses_rank b f = length (walk (uses_of g.types g.interfaces) f)
+  uses_rank b f = length (post_order (uses_of g.types g.interfaces) f)
 
   abbrev ListsImages : Bool → Interface → Interface → Type 0
   ListsImages b one there = Each (λ (e : List ℕ × ℕ). (t : ℕ) × Contains one.types (e.0, t) × ((sources g stands i b).types t ≡ true) × (e.1 ≡ (sources g stands i b).maps.types t)) there.types
 
-  going : (f : ℕ) (one : Interface) → slice_get g.interfaces f ≡ Some one → length g.interfaces ≤ interface_copy g i.old f → goes_with g i.old f ≡ true
+  going : (f : ℕ) (one : Interface) → slice_get g.interfaces f ≡ Some one → length g.interfaces ≤ interface_copy g i.old f → belongs_to g i.old f ≡ true
   going f one at past = behind_goes g stands i f (slice_get_within g.interfaces f one at) past
 
   listed : (b : Bool) (f : ℕ) (one : Interface) → slice_get (sources g stands i b).graph.interfaces f ≡ Some one → (sources g stands i b).interfaces f ≡ true → length g.interfaces ≤ (sources g stands i b).maps.interfaces f
@@ -96,7 +96,7 @@ module _ (g : Graph) (stands : StandsSoFar g) (i : Including g) (new : Graph) (a
       (λ k e on.
       let old = from_map (λ (e : List ℕ × ℕ). let r : List ℕ × ℕ = (e.0, type_copy g i.from i.old e.1) in r) whole.0.types k e on in
       let among = contained_at whole.0.types k old.0 old.1 in
-      let takes_too = going_types g stands i.from i.old i.old_at f whole.0 old.0 whole.1 goes among in
+      let takes_too = belonging_types g stands i.from i.old i.old_at f whole.0 old.0 whole.1 goes among in
       let cut : Contains (cut_interface kept whole.0).types old.0 = Contains-filtered (λ (e : List ℕ × ℕ). kept.types e.1) whole.0.types old.0 among takes_too in
       let same : old.0.0 ≡ e.0 = ap (λ (p : List ℕ × ℕ). p.0) old.2 in
       let named : Contains (cut_interface kept whole.0).types (e.0, old.0.1) = subst (λ (n : List ℕ). Contains (cut_interface kept whole.0).types (n, old.0.1)) same cut in
@@ -105,14 +105,14 @@ module _ (g : Graph) (stands : StandsSoFar g) (i : Including g) (new : Graph) (a
   aliases : (b : Bool) (f t : ℕ) (def : TypeDef) → slice_get (sources g stands i b).graph.types t ≡ Some def → (sources g stands i b).types t ≡ true → def.owner ≡ owner.Interface f → length g.interfaces ≤ (sources g stands i b).maps.interfaces f
       → SomeAt new.types ((sources g stands i b).maps.types t) (λ (there : TypeDef). alias_target there.kind ≡ option_map (sources g stands i b).maps.types (alias_target def.kind))
   aliases false f t def at takes by past =
-      let within = ltb-true f (length g.interfaces) (subst (OwnerTakesPart (sources g stands i false)) by ((sources_good g stands i false).closed.owners t def at takes)) in
+      let within = ltb-true f (length g.interfaces) (subst (OwnerIsActive (sources g stands i false)) by ((sources_good g stands i false).closed.owners t def at takes)) in
       absurd (omega arith)
   aliases true f t def at takes by past =
-      let on : (sources g stands i true).interfaces f ≡ true = subst (OwnerTakesPart (sources g stands i true)) by ((sources_good g stands i true).closed.owners t def at takes) in
+      let on : (sources g stands i true).interfaces f ≡ true = subst (OwnerIsActive (sources g stands i true)) by ((sources_good g stands i true).closed.owners t def at takes) in
       let within = (sources_good g stands i true).closed.interfaces_in_range f on in
       let long = length-map g.interfaces (cut_interface (copied_part g i.from i.old)) in
       let goes = behind_goes g stands i f (omega arith) past in
-      let copied = owned_copied g stands i t takes (owned_is g stands i.from i.old t def at ∙ ap (owner_goes_with g i.from i.old) by ∙ goes) in
+      let copied = owned_copied g stands i t takes (owned_is g stands i.from i.old t def at ∙ ap (owner_belongs_to g i.from i.old) by ∙ goes) in
       some_at (λ (there : TypeDef). alias_target there.kind ≡ option_map (type_copy g i.from i.old) (alias_target def.kind)) new.types (type_copy g i.from i.old t) (type_image (maps g i) def)
       (copy_at g stands i new are t def at copied) (alias_image (maps g i) def.kind)
 
@@ -127,7 +127,7 @@ module _ (g : Graph) (stands : StandsSoFar g) (i : Including g) (new : Graph) (a
       let used = filter_map_into (λ (e : List ℕ × ℕ). type_interface_dep g.types e.1) whole.0.types e.0 j (Contains-filter (λ (e : List ℕ × ℕ). kept.types e.1) whole.0.types e.0 e.1).0 e.2 in
       let long = length-map g.interfaces (interface_uses g.types) in
       let within = slice_get_within g.interfaces f whole.0 whole.1 in
-      walk_shorter (uses_of g.types g.interfaces) stands.uses f j (omega arith) (in_row (interface_uses g.types) g.interfaces f whole.0 j whole.1 used)
+      post_order_shorter (uses_of g.types g.interfaces) stands.uses f j (omega arith) (in_row (interface_uses g.types) g.interfaces f whole.0 j whole.1 used)
 
   interfaces_grow : InterfacesGrow (sources g stands i) uses_rank g new
   interfaces_grow = record { longer = longer_interfaces; kept = kept_interfaces; kept_types = kept_types; listed = listed; aliases = aliases; falls = uses_fall }
@@ -135,8 +135,8 @@ module _ (g : Graph) (stands : StandsSoFar g) (i : Including g) (new : Graph) (a
   module _ (free : IsUnshadowed g i) where
     pub included_types_acyclic : IsAcyclic (type_references new.types)
     included_types_acyclic =
-        types_acyclic (sources g stands i) rank g.types new (λ b. (sources_good g stands i b).closed) (included_carries g stands i new are free) (included_covered g stands i new are free) types_grow stands.references
+        types_acyclic (sources g stands i) rank g.types new (λ b. (sources_good g stands i b).closed) (included_inherits g stands i new are free) (included_covered g stands i new are free) types_grow stands.references
 
     pub included_uses_acyclic : IsAcyclic (uses_of new.types new.interfaces)
     included_uses_acyclic =
-        uses_acyclic (sources g stands i) uses_rank g new stands.items (sources_good g stands i) (included_carries g stands i new are free) (included_covered g stands i new are free) interfaces_grow stands.uses
+        uses_acyclic (sources g stands i) uses_rank g new stands.items (sources_good g stands i) (included_inherits g stands i new are free) (included_covered g stands i new are free) interfaces_grow stands.uses

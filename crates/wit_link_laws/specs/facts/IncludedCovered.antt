@@ -1,4 +1,4 @@
--- Behind an include each thing comes of the graph on its way, as it stood or as a copy.
+-- Behind an include each thing comes of the partially linked graph, as it stood or as a copy.
 use Rattle.std.proofs.Common.{◌≡◌, ◌∙◌, ◌⊎◌, inl, inr, ℕ, Bool, true, false, List, [], ◌++◌, Option, None, Some, slice_get, refl, sym, ap, subst, Contains}
 use Rattle.std.specs.Map.{lookup}
 use Rattle.std.specs.Option.{option_map_or}
@@ -20,26 +20,26 @@ use Rattle.wit_graph_theory.specs.Cut.{cut_interface, cut_world}
 use Rattle.wit_graph_theory.specs.facts.GraphSource.{graph_stands, items_are_good}
 use Rattle.wit_graph_theory.specs.Image.{entry_image, identity}
 use Rattle.wit_graph_theory.specs.facts.ImagesCome.{entry_image_comes, interface_image_comes}
-use Rattle.wit_graph_theory.specs.Kept.{Kept, everything}
+use Rattle.wit_graph_theory.specs.Kept.{KeptIds, everything}
 use Rattle.wit_graph_theory.specs.facts.ListFacts.{at_map, contained_at, place_of}
 use Rattle.wit_graph_theory.specs.steps.Sources.{Carries, IsCarriedType, IsGoodSource, Source}
-use Rattle.wit_link_spec.specs.Include.{goes_with, interface_copy, joined_entry, joined_item, new_item}
+use Rattle.wit_link_spec.specs.Include.{belongs_to, interface_copy, joined_entry, joined_item, new_item}
 use Rattle.wit_link_laws.specs.facts.Copies.{copied_mentioned, interface_from, type_from, world_from}
-use Rattle.wit_link_laws.specs.facts.CopiedPart.{copied_part, going_functions, going_types, has_name, part_good, takes_mentioned}
+use Rattle.wit_link_laws.specs.facts.CopiedPart.{belonging_functions, belonging_types, copied_part, has_name, mentioned_by_active, part_good}
 use Rattle.wit_link_laws.specs.facts.Mentioned.{entry_mentioned}
 use Rattle.wit_digraph.specs.facts.MemberFacts.{Contains-here}
 use Rattle.wit_link_laws.specs.facts.CopiesCarried.{IsUnshadowed, copies_stand, copy_source, graph_stays, joins_exports, joins_imports, world_goes_into}
 use Rattle.wit_link_laws.specs.facts.IncludedWorld.{Including, IsIncluded, brought, is_other, joined_world, maps}
 use Rattle.wit_link_laws.specs.facts.JoinedFacts.{distinct_joined, from_brought, joined_cases}
 use Rattle.wit_link_laws.specs.facts.JoinedItems.{joined_comes, new_comes, no_type_joined, no_type_new}
-use Rattle.wit_link_laws.specs.facts.OnItsWay.{StandsSoFar}
+use Rattle.wit_link_laws.specs.facts.PartiallyLinked.{IsSoundSoFar}
 use Rattle.wit_link_laws.specs.facts.Remains.{beside, export_no_type, export_remains, image_no_type, import_remains, interface_remains, type_remains, world_remains}
 use Rattle.wit_link_laws.specs.facts.Truth.{or_left}
 
 -- ---- what is there comes
 
-module _ (g : Graph) (stands : StandsSoFar g) (i : Including g) where
-  abbrev kept : Kept
+module _ (g : Graph) (stands : IsSoundSoFar g) (i : Including g) where
+  abbrev kept : KeptIds
   kept = copied_part g i.from i.old
 
   -- the graph, and the graph as a source of copies
@@ -67,11 +67,11 @@ module _ (g : Graph) (stands : StandsSoFar g) (i : Including g) where
               })
         ]
 
-    -- all of an interface that goes with the world takes part
-    cut_whole : (f : ℕ) (one : Interface) → slice_get g.interfaces f ≡ Some one → goes_with g i.old f ≡ true → cut_interface kept one ≡ one
+    -- all of an interface that goes with the world is active
+    cut_whole : (f : ℕ) (one : Interface) → slice_get g.interfaces f ≡ Some one → belongs_to g i.old f ≡ true → cut_interface kept one ≡ one
     cut_whole f one at goes =
-        let types = filter-all (λ (e : List ℕ × ℕ). kept.types e.1) one.types (λ e has. going_types g stands i.from i.old i.old_at f one e at goes has) in
-        let functions = filter-all (λ (e : List ℕ × Function). kept.functions e.1) one.functions (λ e has. going_functions g stands i.from i.old i.old_at f one e at goes has) in
+        let types = filter-all (λ (e : List ℕ × ℕ). kept.types e.1) one.types (λ e has. belonging_types g stands i.from i.old i.old_at f one e at goes has) in
+        let functions = filter-all (λ (e : List ℕ × Function). kept.functions e.1) one.functions (λ e has. belonging_functions g stands i.from i.old i.old_at f one e at goes has) in
         λ k. record one { types = types k; functions = functions k }
 
     pub interfaces_come : (f' : ℕ) (one : Interface) → slice_get new.interfaces f' ≡ Some one → InterfaceComes sources f' one
@@ -81,29 +81,29 @@ module _ (g : Graph) (stands : StandsSoFar g) (i : Including g) where
           | inr made ↦
               let whole = cut_whole made.0 made.1 made.2 made.3 in
               let there : slice_get (sources true).graph.interfaces made.0 ≡ Some made.1 = at_map (cut_interface kept) g.interfaces made.0 made.1 made.2 ∙ ap Some whole in
-              let takes : (sources true).interfaces made.0 ≡ true = or_left (goes_with g i.old made.0) (has_name g.interfaces made.0) made.3 in
+              let takes : (sources true).interfaces made.0 ≡ true = or_left (belongs_to g i.old made.0) (has_name g.interfaces made.0) made.3 in
               subst (λ (f : ℕ). InterfaceComes sources f one) (sym made.4)
               (subst (InterfaceComes sources (interface_copy g i.old made.0)) made.5
-              (interface_image_comes sources true made.0 made.1 there takes (λ j e on. going_types g stands i.from i.old i.old_at made.0 made.1 e made.2 made.3 (contained_at made.1.types j e on))
+              (interface_image_comes sources true made.0 made.1 there takes (λ j e on. belonging_types g stands i.from i.old i.old_at made.0 made.1 e made.2 made.3 (contained_at made.1.types j e on))
               ((sources_good true).interfaces made.0 made.1 there takes)))
         ]
 
     -- ---- worlds
 
-    -- all of the world that is included takes part
+    -- all of the world that is included is active
     all_of_it : cut_world kept i.old ≡ i.old
     all_of_it =
-        let imports = filter-all (λ (e : Entry). kept.items e.1) i.old.imports (λ e has. entry_takes e (Contains-append_left i.old.imports i.old.exports e has)) in
-        let exports = filter-all (λ (e : Entry). kept.items e.1) i.old.exports (λ e has. entry_takes e (Contains-append_right i.old.imports i.old.exports e has)) in
+        let imports = filter-all (λ (e : Entry). kept.items e.1) i.old.imports (λ e has. entry_is_active e (Contains-append_left i.old.imports i.old.exports e has)) in
+        let exports = filter-all (λ (e : Entry). kept.items e.1) i.old.exports (λ e has. entry_is_active e (Contains-append_right i.old.imports i.old.exports e has)) in
         λ k. record i.old { imports = imports k; exports = exports k }
       where
-        entry_takes : (e : Entry) → Contains (i.old.imports ++ i.old.exports) e → kept.items e.1 ≡ true
-        entry_takes e has = by e.0 e.1 has
+        entry_is_active : (e : Entry) → Contains (i.old.imports ++ i.old.exports) e → kept.items e.1 ≡ true
+        entry_is_active e has = by e.0 e.1 has
           where
             by : (k : WorldKey) (held : WorldItem) → Contains (i.old.imports ++ i.old.exports) (k, held) → kept.items held ≡ true
             by k (item.Interface j stability docs span external_id) has = refl
             by k (item.Function f) has = refl
-            by k (item.Type_ t span) has = takes_mentioned g stands i.from i.old i.old_at t (entry_mentioned g stands i.from i.old i.old_at (k, item.Type_ t span) t has (Contains-here t []))
+            by k (item.Type_ t span) has = mentioned_by_active g stands i.from i.old i.old_at t (entry_mentioned g stands i.from i.old i.old_at (k, item.Type_ t span) t has (Contains-here t []))
 
     -- an entry that is brought comes of the included world
     brought_comes : (e : Entry) → Contains (i.old.imports ++ i.old.exports) e → EntryComes sources i.into (entry_image (maps g i) i.from e)
@@ -196,6 +196,6 @@ module _ (g : Graph) (stands : StandsSoFar g) (i : Including g) where
       }
 
       -- and both sources stand
-      pub included_carries : (b : Bool) → Carries (sources b) new
-      included_carries false = graph_stands g new (graph_stays g stands i new are)
-      included_carries true = copies_stand g stands i new are free
+      pub included_inherits : (b : Bool) → Carries (sources b) new
+      included_inherits false = graph_stands g new (graph_stays g stands i new are)
+      included_inherits true = copies_stand g stands i new are free

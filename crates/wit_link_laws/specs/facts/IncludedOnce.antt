@@ -21,19 +21,19 @@ use Rattle.wit_graph_theory.specs.Cut.{cut_interface, kept_whole}
 use Rattle.wit_graph_theory.specs.facts.GoodWorlds.{import_from_export, same_one}
 use Rattle.wit_graph_theory.specs.Image.{entry_image, item_image}
 use Rattle.wit_graph_theory.specs.facts.ListFacts.{contained_at, get_at, place_of, same_at}
-use Rattle.wit_graph_theory.specs.steps.OnePlace.{HasOnePlace, Holds, Origin, StayApart, entries_of}
-use Rattle.wit_graph_theory.specs.facts.OnePlaceCarried.{HasOnePlace-of_covered, named_not}
-use Rattle.wit_graph_theory.specs.facts.OnePlaceFrom.{cut_has_one_place, unnamed_cut}
-use Rattle.wit_link_spec.specs.Include.{goes_with, interface_copy, joined_entry, joined_item, new_item}
-use Rattle.wit_link_laws.specs.facts.Copies.{interface_goes, interface_stays, interfaces_apart, old_interface_at, world_from}
+use Rattle.wit_graph_theory.specs.steps.UnnamedOnce.{Holds, Origin, StandsOnceOnly, StayApart, entries_of}
+use Rattle.wit_graph_theory.specs.facts.UnnamedOnceCarried.{StandsOnceOnly-of_covered, named_not}
+use Rattle.wit_graph_theory.specs.facts.UnnamedOnceFrom.{cut_has_one_place, unnamed_cut}
+use Rattle.wit_link_spec.specs.Include.{belongs_to, interface_copy, joined_entry, joined_item, new_item}
+use Rattle.wit_link_laws.specs.facts.Copies.{interface_remapped, interface_stays, interfaces_apart, old_interface_at, world_from}
 use Rattle.wit_link_laws.specs.facts.CopiedPart.{copied_part, goes_parts, has_name, named_is}
 use Rattle.wit_link_laws.specs.facts.CopiesCarried.{IsUnshadowed, joins_exports, joins_imports}
 use Rattle.wit_link_laws.specs.facts.IncludedAcyclic.{included_types_acyclic, included_uses_acyclic}
-use Rattle.wit_link_laws.specs.facts.IncludedCovered.{included_carries, included_covered, sources, sources_good}
+use Rattle.wit_link_laws.specs.facts.IncludedCovered.{included_covered, included_inherits, sources, sources_good}
 use Rattle.wit_link_laws.specs.facts.IncludedWorld.{Including, IsIncluded, brought, is_other, joined_world, maps}
 use Rattle.wit_link_laws.specs.facts.JoinedFacts.{from_brought, joined_cases}
 use Rattle.wit_link_laws.specs.facts.JoinedItems.{joined_one, new_interface}
-use Rattle.wit_link_laws.specs.facts.OnItsWay.{StandsSoFar}
+use Rattle.wit_link_laws.specs.facts.PartiallyLinked.{IsSoundSoFar}
 use Rattle.wit_link_laws.specs.facts.Truth.{or_cases}
 
 -- the interface of an import is there
@@ -45,7 +45,7 @@ held_within interfaces types w (key.Name n) (item.Interface i stability docs spa
 held_within interfaces types w k (item.Function fn) f is held = cc
 held_within interfaces types w k (item.Type_ t span) f is held = cc
 
-module _ (g : Graph) (stands : StandsSoFar g) (i : Including g) (new : Graph) (are : IsIncluded g i new) (free : IsUnshadowed g i) where
+module _ (g : Graph) (stands : IsSoundSoFar g) (i : Including g) (new : Graph) (are : IsIncluded g i new) (free : IsUnshadowed g i) where
   unnamed_stays : (f : ℕ) → f < length g.interfaces → is_unnamed new.interfaces f ≡ is_unnamed g.interfaces f
   unnamed_stays f within =
       let there = get_at g.interfaces f within in
@@ -56,7 +56,7 @@ module _ (g : Graph) (stands : StandsSoFar g) (i : Including g) (new : Graph) (a
   distinct w false world at = (stands.items.worlds w world at).distinct_imports
   distinct w true world at = (stands.items.worlds w world at).distinct_exports
 
-  one_in : (b : Bool) → HasOnePlace (sources g stands i b).graph.interfaces (sources g stands i b).graph.worlds
+  one_in : (b : Bool) → StandsOnceOnly (sources g stands i b).graph.interfaces (sources g stands i b).graph.worlds
   one_in false = cut_has_one_place (kept_whole g) g.interfaces g.worlds stands.once distinct
   one_in true = cut_has_one_place (copied_part g i.from i.old) g.interfaces g.worlds stands.once distinct
 
@@ -78,8 +78,8 @@ module _ (g : Graph) (stands : StandsSoFar g) (i : Including g) (new : Graph) (a
       let p = x.place in
       let q = y.place in
       let unnamed : is_unnamed g.interfaces y.f ≡ true = sym (unnamed_cut (copied_part g i.from i.old) g.interfaces g.worlds stands.once y.f) ∙ y.unnamed in
-      elim (or_cases (goes_with g i.old y.f) (has_name g.interfaces y.f) y.takes) [
-        | inl goes ↦ let high = interface_goes g stands i y.f goes in omega arith
+      elim (or_cases (belongs_to g i.old y.f) (has_name g.interfaces y.f) y.takes) [
+        | inl goes ↦ let high = interface_remapped g stands i y.f goes in omega arith
         | inr named ↦ named_not g.interfaces y.f (named_is g.interfaces y.f named) unnamed
       ]
 
@@ -162,7 +162,7 @@ module _ (g : Graph) (stands : StandsSoFar g) (i : Including g) (new : Graph) (a
 
   -- where one stands that isn't copied
   copy_unnamed : (f f' : ℕ) → f < length g.interfaces → f' ≡ interface_copy g i.old f → is_unnamed new.interfaces f' ≡ true → is_unnamed g.interfaces f ≡ true
-  copy_unnamed f f' within place unnamed = elim (cases_Bool (goes_with g i.old f)) [
+  copy_unnamed f f' within place unnamed = elim (cases_Bool (belongs_to g i.old f)) [
     | inl goes ↦ (goes_parts g i.old f goes).0
     | inr left ↦ sym (unnamed_stays f within) ∙ ap (is_unnamed new.interfaces) (sym (place ∙ interface_stays g stands i f left)) ∙ unnamed
   ]
@@ -171,8 +171,8 @@ module _ (g : Graph) (stands : StandsSoFar g) (i : Including g) (new : Graph) (a
   mixed f' f k l b c unnamed first second place =
       let low = holds_within i.into b k f' first in
       let within = holds_within i.from c l f second in
-      elim (cases_Bool (goes_with g i.old f)) [
-        | inl goes ↦ let high = interface_goes g stands i f goes in omega arith
+      elim (cases_Bool (belongs_to g i.old f)) [
+        | inl goes ↦ let high = interface_remapped g stands i f goes in omega arith
         | inr left ↦
             let same : f' ≡ f = place ∙ interface_stays g stands i f left in
             two_worlds f k l b c (copy_unnamed f f' within place unnamed) (subst (Holds g.worlds i.into b k) same first) second
@@ -218,11 +218,11 @@ module _ (g : Graph) (stands : StandsSoFar g) (i : Including g) (new : Graph) (a
   stay_apart : StayApart (sources g stands i) new
   stay_apart = record { injective = λ b f e takes other same unnamed. injective b f e takes other same; meet = meet; one_side = one_side }
 
-  -- a graph on its way into which a world is included is on its way
-  pub included_stands : StandsSoFar new
+  -- a partially linked graph into which a world is included is partially linked
+  pub included_stands : IsSoundSoFar new
   included_stands = record {
-    items = covered_items (sources g stands i) new (sources_good g stands i) (included_carries g stands i new are free) (included_covered g stands i new are free);
+    items = covered_items (sources g stands i) new (sources_good g stands i) (included_inherits g stands i new are free) (included_covered g stands i new are free);
     references = included_types_acyclic g stands i new are free;
     uses = included_uses_acyclic g stands i new are free;
-    once = HasOnePlace-of_covered (sources g stands i) new (sources_good g stands i) (included_carries g stands i new are free) (included_covered g stands i new are free) stay_apart one_in;
+    once = StandsOnceOnly-of_covered (sources g stands i) new (sources_good g stands i) (included_inherits g stands i new are free) (included_covered g stands i new are free) stay_apart one_in;
   }

@@ -1,12 +1,12 @@
--- A world that is included into another of a graph on its way: what the graph is then.
+-- A world that is included into another of a partially linked graph: what the graph is then.
 use Rattle.std.specs.Prelude.{◌≡◌, ℕ, Bool, List, Some, slice_get, ◌++◌, map}
 use Rattle.wit_data.specs.Entries.{Entry}
 use Rattle.wit_data.specs.declared.world.IncludeName.{IncludeName}
 use Rattle.wit_data.specs.declared.world.World.{World}
 use Rattle.wit_graph_data.specs.declared.graph.Graph.{Graph}
 use Rattle.wit_graph_theory.specs.Image.{Maps, entry_image, interface_image, type_image}
-use Rattle.wit_link_spec.specs.Include.{copy_maps, goes_with, is_copied, is_other_package, joined}
-use Rattle.wit_link_spec.specs.Ranks.{taken}
+use Rattle.wit_link_spec.specs.Include.{belongs_to, copy_maps, is_copied, is_other_package, joined_entries}
+use Rattle.wit_link_spec.specs.Ranks.{selected}
 
 -- world `from` is included into world `into`, another one, of package `home`, under renamings
 pub record Including (g : Graph) : Type 0 where
@@ -32,17 +32,17 @@ abbrev pub brought : (g : Graph) → Including g → List Entry → List Entry
 brought g i entries = map (entry_image (maps g i) i.from) entries
 
 abbrev pub joined_imports : (g : Graph) → Including g → List Entry
-joined_imports g i = joined (is_other g i) i.host.imports (brought g i i.old.imports)
+joined_imports g i = joined_entries (is_other g i) i.host.imports (brought g i i.old.imports)
 
 abbrev pub joined_exports : (g : Graph) → Including g → List Entry
-joined_exports g i = joined (is_other g i) i.host.exports (brought g i i.old.exports)
+joined_exports g i = joined_entries (is_other g i) i.host.exports (brought g i i.old.exports)
 
 abbrev pub joined_world : (g : Graph) → Including g → World
 joined_world g i = record i.host { imports = joined_imports g i; exports = joined_exports g i }
 
 -- the graph behind it: copies at the ends, and the world that includes with joined lists
 pub record IsIncluded (g : Graph) (i : Including g) (new : Graph) : Type 0 where
-  pub types_are : new.types ≡ g.types ++ map (type_image (maps g i)) (taken (is_copied g i.from i.old) g.types)
-  pub interfaces_are : new.interfaces ≡ g.interfaces ++ map (interface_image (maps g i)) (taken (goes_with g i.old) g.interfaces)
+  pub types_are : new.types ≡ g.types ++ map (type_image (maps g i)) (selected (is_copied g i.from i.old) g.types)
+  pub interfaces_are : new.interfaces ≡ g.interfaces ++ map (interface_image (maps g i)) (selected (belongs_to g i.old) g.interfaces)
   pub joined_at : slice_get new.worlds i.into ≡ Some (joined_world g i)
   pub others : (w : ℕ) → (w ≡ i.into → ⊥) → slice_get new.worlds w ≡ slice_get g.worlds w

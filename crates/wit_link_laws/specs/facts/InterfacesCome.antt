@@ -19,11 +19,11 @@ use Rattle.wit_graph_theory.specs.facts.ImagesCome.{interface_image_comes}
 use Rattle.wit_graph_theory.specs.facts.ListFacts.{at_map, contained_at, found_at, from_map, old_or_new}
 use Rattle.wit_link_spec.specs.Addition.{Addition, addition_maps, own_interfaces, part}
 use Rattle.wit_link_spec.specs.facts.OwnThingFacts.{own_interface_from}
-use Rattle.wit_link_spec.specs.Reasons.{HasImage}
+use Rattle.wit_link_spec.specs.Reasons.{IsResolved}
 use Rattle.wit_link_laws.specs.facts.Parts.{HasParts}
 use Rattle.wit_link_laws.specs.facts.SourcesGood.{sources, sources_good}
 
-module _ (a : Addition) (valid : IsValid a.graph) (shaped : IsShaped a.handed) (image : HasImage a) (g : Graph) (are : HasParts a g.types g.interfaces) where
+module _ (a : Addition) (valid : IsValid a.graph) (shaped : IsShaped a.unresolved) (image : IsResolved a) (g : Graph) (are : HasParts a g.types g.interfaces) where
   -- what an interface of the graph lists is there
   listed_there : (f : ℕ) (interface : Interface) → slice_get a.graph.interfaces f ≡ Some interface → Each (λ (e : List ℕ × ℕ). (kept_whole a.graph).types e.1 ≡ true) interface.types
   listed_there f interface there i e on =
@@ -68,7 +68,7 @@ module _ (a : Addition) (valid : IsValid a.graph) (shaped : IsShaped a.handed) (
   image_comes : (i : ℕ) (cut : Interface) → slice_get (own_interfaces a) i ≡ Some cut → InterfaceComes (sources a) (length a.graph.interfaces + i) (interface_image (addition_maps a) cut)
   image_comes i cut on =
       let own = own_interface_from a i cut on in
-      let at : slice_get (map (cut_interface (part a)) a.handed.interfaces) own.f ≡ Some (cut_interface (part a) own.interface) = at_map (cut_interface (part a)) a.handed.interfaces own.f own.interface own.there in
+      let at : slice_get (map (cut_interface (part a)) a.unresolved.interfaces) own.f ≡ Some (cut_interface (part a) own.interface) = at_map (cut_interface (part a)) a.unresolved.interfaces own.f own.interface own.there in
       subst (λ (f' : ℕ). InterfaceComes (sources a) f' (interface_image (addition_maps a) cut)) own.place
       (subst (λ (x : Interface). InterfaceComes (sources a) ((addition_maps a).interfaces own.f) (interface_image (addition_maps a) x)) own.is
       (interface_image_comes (sources a) 1 own.f (cut_interface (part a) own.interface) at own.active

@@ -17,13 +17,13 @@ use Rattle.wit_graph_data.specs.declared.graph.Graph.{Graph}
 use Rattle.wit_graph_theory.specs.facts.CutIsGood.{distinct_kept}
 use Rattle.wit_graph_theory.specs.Image.{entry_image, key_image}
 use Rattle.wit_graph_theory.specs.facts.ListFacts.{Contains-map, Contains-map_cases, at_map, contained_at, from_map, place_of}
-use Rattle.wit_link_spec.specs.Include.{has_key, joined, joined_entry, new_item}
+use Rattle.wit_link_spec.specs.Include.{has_key, joined_entries, joined_entry, new_item}
 use Rattle.wit_link_spec.specs.WorldReasons.{IsShadowed, renamed_key}
-use Rattle.wit_labels.specs.Rename.{renamed}
+use Rattle.wit_labels.specs.Rename.{renamed_label}
 use Rattle.wit_link_laws.specs.facts.Copies.{interface_stays, named_left}
 use Rattle.wit_link_laws.specs.facts.IncludedWorld.{Including, brought, maps}
 use Rattle.wit_link_laws.specs.facts.KeysApart.{joined_apart, split_at}
-use Rattle.wit_link_laws.specs.facts.OnItsWay.{StandsSoFar}
+use Rattle.wit_link_laws.specs.facts.PartiallyLinked.{IsSoundSoFar}
 use Rattle.wit_link_laws.specs.facts.Truth.{one_passes, passing}
 
 -- a key of a list is found there
@@ -47,12 +47,12 @@ pub record JoinsList (g : Graph) (i : Including g) (current entries : List Entry
   pub named : (e : Entry) (f : ℕ) → Contains entries e → e.0 ≡ key.Interface f → IsNamed g.interfaces f
   pub unshadowed : (n : List ℕ) → IsShadowed current (map (λ (e : Entry). renamed_key i.names e.0) entries) n → ⊥
 
-module _ (g : Graph) (stands : StandsSoFar g) (i : Including g) (current entries : List Entry) (joins : JoinsList g i current entries) where
+module _ (g : Graph) (stands : IsSoundSoFar g) (i : Including g) (current entries : List Entry) (joins : JoinsList g i current entries) where
   -- the key under which an entry is brought
   pub brought_key : (e : Entry) → Contains entries e → key_image (maps g i) i.from e.0 ≡ renamed_key i.names e.0
   brought_key e has = by e.0 refl
     where
-      own : (b : Bool) (label : List ℕ) → b ≡ true → (if b then renamed i.names label else label) ≡ renamed i.names label
+      own : (b : Bool) (label : List ℕ) → b ≡ true → (if b then renamed_label i.names label else label) ≡ renamed_label i.names label
       own true label h = refl
       own false label h = cc
 
@@ -110,7 +110,7 @@ module _ (g : Graph) (stands : StandsSoFar g) (i : Including g) (current entries
     where
       by : (x y : Entry) → slice_get entries a ≡ Some x → slice_get entries b ≡ Some y → (k l : WorldKey) → x.0 ≡ k → y.0 ≡ l → renamed_key i.names k ≡ renamed_key i.names l → a ≡ b
       by x y at at' (key.Name m) (key.Name n) is is' keys =
-          one_label a b (renamed i.names m) (at_map (λ (e : Entry). renamed_key i.names e.0) entries a x at ∙ ap (λ (k : WorldKey). Some (renamed_key i.names k)) is)
+          one_label a b (renamed_label i.names m) (at_map (λ (e : Entry). renamed_key i.names e.0) entries a x at ∙ ap (λ (k : WorldKey). Some (renamed_key i.names k)) is)
           (at_map (λ (e : Entry). renamed_key i.names e.0) entries b y at' ∙ ap (λ (k : WorldKey). Some (renamed_key i.names k)) is' ∙ ap Some (sym keys))
       by x y at at' (key.Interface f) (key.Interface h) is is' keys = joins.distinct_entries a b x y at at' (is ∙ keys ∙ sym is')
       by x y at at' (key.Name m) (key.Interface h) is is' keys = cc
@@ -120,7 +120,7 @@ module _ (g : Graph) (stands : StandsSoFar g) (i : Including g) (current entries
   is_new e = not (has_key current e.0)
 
   -- what comes anew comes of what is brought, and what was there stays
-  pub joined_cases : (other : Bool) (d : Entry) → Contains (joined other current (brought g i entries)) d
+  pub joined_cases : (other : Bool) (d : Entry) → Contains (joined_entries other current (brought g i entries)) d
       → ((e : Entry) × Contains current e × (joined_entry other (brought g i entries) e ≡ d))
       ⊎ ((e : Entry) × Contains (brought g i entries) e × (has_key current e.0 ≡ false) × (d ≡ (e.0, new_item other e.0 e.1)))
   joined_cases other d has =
@@ -132,7 +132,7 @@ module _ (g : Graph) (stands : StandsSoFar g) (i : Including g) (current entries
             inr (made.0, parts.0, not_true (has_key current made.0.0) parts.1, sym made.2)
       ]
 
-  pub distinct_joined : (other : Bool) → HasDistinctKeys (joined other current (brought g i entries))
+  pub distinct_joined : (other : Bool) → HasDistinctKeys (joined_entries other current (brought g i entries))
   distinct_joined other =
       joined_apart (map (joined_entry other (brought g i entries)) current) (map (λ (e : Entry). let r : Entry = (e.0, new_item other e.0 e.1) in r) (filter is_new (brought g i entries)))
       (λ a b e f first second same.
@@ -152,7 +152,7 @@ module _ (g : Graph) (stands : StandsSoFar g) (i : Including g) (current entries
 
   -- what comes under a label is there
   pub label_comes : (other : Bool) (e : Entry) (n : List ℕ) → Contains entries e → key_image (maps g i) i.from e.0 ≡ key.Name n
-      → Contains (joined other current (brought g i entries)) (entry_image (maps g i) i.from e)
+      → Contains (joined_entries other current (brought g i entries)) (entry_image (maps g i) i.from e)
   label_comes other e n has is =
       let d = entry_image (maps g i) i.from e in
       let among = Contains-map (entry_image (maps g i) i.from) entries e has in

@@ -4,7 +4,7 @@ use Rattle.std.specs.List.{enumerate_from, flat_map, list_any, range_with_len}
 use Rattle.std.specs.Option.{option_map_or, option_to_list}
 use Rattle.std.proofs.lemmas.Option.{get_or_from_slice_get}
 use Rattle.wit_digraph.specs.Relation.{direct}
-use Rattle.wit_digraph.specs.Walks.{walk, walk_within}
+use Rattle.wit_digraph.specs.PostOrder.{post_order, post_order_within}
 use Rattle.wit_data.specs.Ownership.{IsPlain}
 use Rattle.wit_data.specs.Uses.{alias_target}
 use Rattle.wit_data.specs.declared.types.TypeDef.{TypeDef}
@@ -34,7 +34,7 @@ plain_is (kind.Type_ ty) plain = absurd plain
 plain_is kind.Unknown plain = (refl, refl)
 
 pub leads_nowhere : (types : List TypeDef) (t : ℕ) (def : TypeDef) → slice_get types t ≡ Some def → IsPlain def.kind → leads_to_resource types t ≡ false
-unfolding walk walk_within
+unfolding post_order post_order_within
 leads_nowhere types t def at plain = within (length (alias_rows types))
   where
     none : direct (alias_rows types) t ≡ []
@@ -45,10 +45,10 @@ leads_nowhere types t def at plain = within (length (alias_rows types))
     here : is_resource types t ≡ false
     here = ap (λ (o : Option TypeDef). option_map_or (λ (def : TypeDef). is_resource_kind def.kind) o false) at ∙ (plain_is def.kind plain).1
 
-    within : (members : ℕ) → list_any (is_resource types) (walk_within (alias_rows types) members t) ≡ false
+    within : (members : ℕ) → list_any (is_resource types) (post_order_within (alias_rows types) members t) ≡ false
     within zero = refl
     within (suc members) =
-        ap (λ (d : List ℕ). list_any (is_resource types) (flat_map (walk_within (alias_rows types) members) d ++ t ∷ [])) none
+        ap (λ (d : List ℕ). list_any (is_resource types) (flat_map (post_order_within (alias_rows types) members) d ++ t ∷ [])) none
         ∙ ap (λ (b : Bool). b || false) here
 
 -- the places of what passes, one after another

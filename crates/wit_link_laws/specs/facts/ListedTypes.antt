@@ -2,7 +2,7 @@
 use Rattle.std.proofs.Common.{◌≡◌, ◌∙◌, inl, inr, ℕ, List, [], Option, refl, sym, subst, Contains}
 use Rattle.wit_digraph.specs.facts.MemberFacts.{Contains-cons_cases, Contains-here, Contains-nil}
 use Rattle.wit_data.specs.Entries.{Entry}
-use Rattle.wit_data.specs.Ownership.{listed_type}
+use Rattle.wit_data.specs.Ownership.{entry_type}
 use Rattle.wit_data.specs.declared.world.WorldItem.{WorldItem}
 use Rattle.wit_data.specs.declared.world.WorldItem.TheVariants as item
 use Rattle.wit_data.specs.declared.world.WorldKey.{WorldKey}
@@ -14,10 +14,10 @@ pub record ListsType (e : Entry) (name : List ℕ) (t : ℕ) : Type 0 where
   pub key_is : e.0 ≡ key.Name name
   pub held_is : e.1 ≡ item.Type_ t span
 
-pub lists_type : (e : Entry) (name : List ℕ) (t : ℕ) → Contains (listed_type e.0 e.1) (name, t) → ListsType e name t
+pub lists_type : (e : Entry) (name : List ℕ) (t : ℕ) → Contains (entry_type e.0 e.1) (name, t) → ListsType e name t
 lists_type e name t has = by e.0 e.1 refl refl has
   where
-    by : (k : WorldKey) (held : WorldItem) → e.0 ≡ k → e.1 ≡ held → Contains (listed_type k held) (name, t) → ListsType e name t
+    by : (k : WorldKey) (held : WorldItem) → e.0 ≡ k → e.1 ≡ held → Contains (entry_type k held) (name, t) → ListsType e name t
     by (key.Name label) (item.Type_ u span) is holds has =
         elim (Contains-cons_cases (label, u) (name, t) [] has) [
           | inl same ↦ record { span = span; key_is = is ∙ (λ i. key.Name (same i).0); held_is = holds ∙ (λ i. item.Type_ (same i).1 span) }
@@ -27,7 +27,7 @@ lists_type e name t has = by e.0 e.1 refl refl has
     by (key.Name label) (item.Function fn) is holds has = absurd (Contains-nil has)
     by (key.Interface f) held is holds has = absurd (Contains-nil has)
 
-pub type_listed : (e : Entry) (name : List ℕ) (t : ℕ) → ListsType e name t → Contains (listed_type e.0 e.1) (name, t)
+pub type_listed : (e : Entry) (name : List ℕ) (t : ℕ) → ListsType e name t → Contains (entry_type e.0 e.1) (name, t)
 type_listed e name t is =
-    subst (λ (k : WorldKey). Contains (listed_type k e.1) (name, t)) (sym is.key_is)
-    (subst (λ (held : WorldItem). Contains (listed_type (key.Name name) held) (name, t)) (sym is.held_is) (Contains-here (name, t) []))
+    subst (λ (k : WorldKey). Contains (entry_type k e.1) (name, t)) (sym is.key_is)
+    (subst (λ (held : WorldItem). Contains (entry_type (key.Name name) held) (name, t)) (sym is.held_is) (Contains-here (name, t) []))

@@ -49,22 +49,22 @@ distinct_pushed {K} {V} es e distinct fresh i j c d first second same =
     only (suc k) f at = cc
 
 -- the names of the graph's packages, and the new one
-pub added_names : (a : Addition) → IsValid a.graph → (HasPackage a.graph a.handed.name → ⊥) → (count : ℕ) (new : Graph) → IsGrown a count new → HasPackageNames new.packages new.package_names
+pub added_names : (a : Addition) → IsValid a.graph → (HasPackage a.graph a.unresolved.name → ⊥) → (count : ℕ) (new : Graph) → IsGrown a count new → HasPackageNames new.packages new.package_names
 added_names a valid absent count new are =
     subst (λ (packages : List Package). HasPackageNames packages new.package_names) (sym are.packages_are)
     (subst (λ (names : List (PackageName × ℕ)). HasPackageNames (a.graph.packages ++ new_package a ∷ []) names) (sym are.names_are) (record {
-      own_name = each_pushed (λ i (e : PackageName × ℕ). SomeAt packages e.1 (λ (home : Package). home.name ≡ e.0)) a.graph.package_names (a.handed.name, length a.graph.packages)
+      own_name = each_pushed (λ i (e : PackageName × ℕ). SomeAt packages e.1 (λ (home : Package). home.name ≡ e.0)) a.graph.package_names (a.unresolved.name, length a.graph.packages)
           (λ i e on. SomeAt-old (λ (home : Package). home.name ≡ e.0) (λ (home : Package). home.name ≡ e.0) a.graph.packages (new_package a ∷ []) e.1 (λ home is. is) (valid.well_formed.package_names.own_name i e on))
-          (some_at (λ (home : Package). home.name ≡ a.handed.name) packages (length a.graph.packages) (new_package a) (slice_get-push a.graph.packages (new_package a)) refl);
+          (some_at (λ (home : Package). home.name ≡ a.unresolved.name) packages (length a.graph.packages) (new_package a) (slice_get-push a.graph.packages (new_package a)) refl);
       listed = each_pushed (λ p (home : Package). Contains names (home.name, p)) a.graph.packages (new_package a)
-          (λ p home on. Contains-append_left a.graph.package_names ((a.handed.name, length a.graph.packages) ∷ []) (home.name, p) (valid.well_formed.package_names.listed p home on))
-          (Contains-push a.graph.package_names (a.handed.name, length a.graph.packages));
-      distinct = distinct_pushed a.graph.package_names (a.handed.name, length a.graph.packages) valid.well_formed.package_names.distinct
-          (λ f has same. absent (found_listed a.graph.package_names a.handed.name f.1 (subst (λ (name : PackageName). Contains a.graph.package_names (name, f.1)) same has)));
+          (λ p home on. Contains-append_left a.graph.package_names ((a.unresolved.name, length a.graph.packages) ∷ []) (home.name, p) (valid.well_formed.package_names.listed p home on))
+          (Contains-push a.graph.package_names (a.unresolved.name, length a.graph.packages));
+      distinct = distinct_pushed a.graph.package_names (a.unresolved.name, length a.graph.packages) valid.well_formed.package_names.distinct
+          (λ f has same. absent (found_listed a.graph.package_names a.unresolved.name f.1 (subst (λ (name : PackageName). Contains a.graph.package_names (name, f.1)) same has)));
     }))
   where
     packages : List Package
     packages = a.graph.packages ++ new_package a ∷ []
 
     names : List (PackageName × ℕ)
-    names = a.graph.package_names ++ (a.handed.name, length a.graph.packages) ∷ []
+    names = a.graph.package_names ++ (a.unresolved.name, length a.graph.packages) ∷ []

@@ -18,33 +18,33 @@ use Rattle.wit_graph_theory.specs.Image.{name_image, owner_image, type_image}
 use Rattle.wit_graph_theory.specs.facts.ListFacts.{found_at, from_map, old_or_new, place_of, some_at}
 use Rattle.wit_graph_theory.specs.facts.ReferredFacts.{alias_image}
 use Rattle.wit_graph_theory.specs.steps.Sources.{InterfaceStands, Stands}
-use Rattle.wit_link_spec.specs.Addition.{Addition, added_owns, addition_maps, interface_place, needs_own, own_types, part, type_place}
+use Rattle.wit_link_spec.specs.Addition.{Addition, addition_maps, own_types, owns_of_addition, part, remapped_interface, remapped_type, value_needs_own}
 use Rattle.wit_link_spec.specs.facts.ApartFacts.{active_there}
 use Rattle.wit_link_spec.specs.facts.ClosedCut.{closed_part, references_kept}
 use Rattle.wit_link_spec.specs.Gates.{interface_is_active, type_is_active}
 use Rattle.wit_link_spec.specs.facts.OwnThingFacts.{own_type_from}
-use Rattle.wit_link_spec.specs.Reasons.{HasImage}
+use Rattle.wit_link_spec.specs.Reasons.{IsResolved}
 use Rattle.wit_link_spec.specs.Resources.{own_of}
 use Rattle.wit_link_laws.specs.facts.Parts.{HasParts}
 use Rattle.wit_link_laws.specs.facts.PartsStand.{interface_stands, old_interface_at, old_type_at, type_stands}
 use Rattle.wit_link_laws.specs.facts.SourcesGood.{package_source}
 
-module _ (a : Addition) (valid : IsValid a.graph) (shaped : IsShaped a.handed) (image : HasImage a) (types : List TypeDef) (interfaces : List Interface) (are : HasParts a types interfaces) where
+module _ (a : Addition) (valid : IsValid a.graph) (shaped : IsShaped a.unresolved) (image : IsResolved a) (types : List TypeDef) (interfaces : List Interface) (are : HasParts a types interfaces) where
   -- ---- interfaces
 
-  -- an interface of the package that takes part goes to one that is there
-  pub interface_within : (f : ℕ) → interface_is_active a.features a.handed f ≡ true → interface_place a f < length interfaces
+  -- an interface of the package that is active goes to one that is there
+  pub interface_within : (f : ℕ) → interface_is_active a.features a.unresolved f ≡ true → remapped_interface a f < length interfaces
   interface_within f active =
       let old = active_there a valid shaped image f active in
-      let new = found_at (InterfaceStands (package_source a) (cut_interface (part a) old.0)) interfaces (interface_place a f) (interface_stands a valid shaped image types interfaces are f old.0 old.1 active) in
-      slice_get_within interfaces (interface_place a f) new.0 new.1
+      let new = found_at (InterfaceStands (package_source a) (cut_interface (part a) old.0)) interfaces (remapped_interface a f) (interface_stands a valid shaped image types interfaces are f old.0 old.1 active) in
+      slice_get_within interfaces (remapped_interface a f) new.0 new.1
 
   -- and one with a name to one with a name
-  pub named_goes : (f : ℕ) → interface_is_active a.features a.handed f ≡ true → IsNamed a.handed.interfaces f → IsNamed interfaces (interface_place a f)
+  pub named_goes : (f : ℕ) → interface_is_active a.features a.unresolved f ≡ true → IsNamed a.unresolved.interfaces f → IsNamed interfaces (remapped_interface a f)
   named_goes f active named =
-      let old = found_at (λ (interface : Interface). IsSome interface.name) a.handed.interfaces f named in
-      let new = found_at (InterfaceStands (package_source a) (cut_interface (part a) old.0)) interfaces (interface_place a f) (interface_stands a valid shaped image types interfaces are f old.0 old.1 active) in
-      some_at (λ (interface : Interface). IsSome interface.name) interfaces (interface_place a f) new.0 new.1 (subst (λ (o : Option (List ℕ)). IsSome o) (sym new.2.name) old.2)
+      let old = found_at (λ (interface : Interface). IsSome interface.name) a.unresolved.interfaces f named in
+      let new = found_at (InterfaceStands (package_source a) (cut_interface (part a) old.0)) interfaces (remapped_interface a f) (interface_stands a valid shaped image types interfaces are f old.0 old.1 active) in
+      some_at (λ (interface : Interface). IsSome interface.name) interfaces (remapped_interface a f) new.0 new.1 (subst (λ (o : Option (List ℕ)). IsSome o) (sym new.2.name) old.2)
 
   -- one of the graph with a name has it still
   pub named_stays : (f : ℕ) → IsNamed a.graph.interfaces f → IsNamed interfaces f
@@ -59,7 +59,7 @@ module _ (a : Addition) (valid : IsValid a.graph) (shaped : IsShaped a.handed) (
   owner_stays (owner.World w) named = named
   owner_stays owner.None named = named
 
-  owner_goes : (by : TypeOwner) → OwnerIsKept (part a) by → IsNamedInterface a.handed.interfaces by → IsNamedInterface interfaces (owner_image (addition_maps a) by)
+  owner_goes : (by : TypeOwner) → OwnerIsKept (part a) by → IsNamedInterface a.unresolved.interfaces by → IsNamedInterface interfaces (owner_image (addition_maps a) by)
   owner_goes (owner.Interface f) takes named = named_goes f takes named
   owner_goes (owner.World w) takes named = named
   owner_goes owner.None takes named = named
@@ -70,12 +70,12 @@ module _ (a : Addition) (valid : IsValid a.graph) (shaped : IsShaped a.handed) (
       some_at (λ (named : TypeDef). IsSome named.name × ((named.owner ≡ by) ⊎ IsNamedInterface interfaces named.owner)) types t old.0 (old_type_at a valid shaped image types interfaces are t old.0 old.1)
       (old.2.0, elim old.2.1 [ inl own ↦ inl own | inr other ↦ inr (owner_stays old.0.owner other) ])
 
-  own_aliased : (by : TypeOwner) (t : ℕ) → type_is_active a.features a.handed.types t ≡ true → IsAliased a.handed.types a.handed.interfaces by t
-      → IsAliased types interfaces (owner_image (addition_maps a) by) (type_place a t)
+  own_aliased : (by : TypeOwner) (t : ℕ) → type_is_active a.features a.unresolved.types t ≡ true → IsAliased a.unresolved.types a.unresolved.interfaces by t
+      → IsAliased types interfaces (owner_image (addition_maps a) by) (remapped_type a t)
   own_aliased by t active target =
-      let old = found_at (λ (named : TypeDef). IsSome named.name × ((named.owner ≡ by) ⊎ IsNamedInterface a.handed.interfaces named.owner)) a.handed.types t target in
-      let new = found_at (Stands (addition_maps a) old.0) types (type_place a t) (type_stands a valid shaped image types interfaces are t old.0 old.1 active) in
-      some_at (λ (named : TypeDef). IsSome named.name × ((named.owner ≡ owner_image (addition_maps a) by) ⊎ IsNamedInterface interfaces named.owner)) types (type_place a t) new.0 new.1 (
+      let old = found_at (λ (named : TypeDef). IsSome named.name × ((named.owner ≡ by) ⊎ IsNamedInterface a.unresolved.interfaces named.owner)) a.unresolved.types t target in
+      let new = found_at (Stands (addition_maps a) old.0) types (remapped_type a t) (type_stands a valid shaped image types interfaces are t old.0 old.1 active) in
+      some_at (λ (named : TypeDef). IsSome named.name × ((named.owner ≡ owner_image (addition_maps a) by) ⊎ IsNamedInterface interfaces named.owner)) types (remapped_type a t) new.0 new.1 (
         has_name (name_image (addition_maps a) old.0.owner) old.0.name new.0.name new.2.name old.2.0,
         elim old.2.1 [
           | inl own ↦ inl (new.2.owner ∙ ap (owner_image (addition_maps a)) own)
@@ -88,32 +88,32 @@ module _ (a : Addition) (valid : IsValid a.graph) (shaped : IsShaped a.handed) (
       has_name f None new is some = cc
       has_name f (Some name) new is some = subst (λ (o : Option (List ℕ)). IsSome o) (sym is) refl
 
-  image_aliases : (t : ℕ) (def : TypeDef) → slice_get a.handed.types t ≡ Some def → type_is_active a.features a.handed.types t ≡ true → AliasesNamed types interfaces (type_image (addition_maps a) def)
+  image_aliases : (t : ℕ) (def : TypeDef) → slice_get a.unresolved.types t ≡ Some def → type_is_active a.features a.unresolved.types t ≡ true → AliasesNamed types interfaces (type_image (addition_maps a) def)
   image_aliases t def at active =
       if_some (IsAliased types interfaces (owner_image (addition_maps a) def.owner)) (alias_target (type_image (addition_maps a) def).kind) (λ t' is.
       let from = mapped (alias_target def.kind) t' (sym (alias_image (addition_maps a) def.kind) ∙ is) in
       let place = place_of (referred def.kind) from.0 (alias_referred def.kind from.0 from.1) in
       let active' = references_kept a shaped image t def at active place.0 from.0 place.1 in
       subst (IsAliased types interfaces (owner_image (addition_maps a) def.owner)) (sym from.2)
-      (own_aliased def.owner from.0 active' (from_if (IsAliased a.handed.types a.handed.interfaces def.owner) (alias_target def.kind) from.0 (shaped.references.aliases t def at) from.1)))
+      (own_aliased def.owner from.0 active' (from_if (IsAliased a.unresolved.types a.unresolved.interfaces def.owner) (alias_target def.kind) from.0 (shaped.references.aliases t def at) from.1)))
     where
-      mapped : (o : Option ℕ) (t' : ℕ) → option_map (type_place a) o ≡ Some t' → (u : ℕ) × (o ≡ Some u) × (t' ≡ type_place a u)
+      mapped : (o : Option ℕ) (t' : ℕ) → option_map (remapped_type a) o ≡ Some t' → (u : ℕ) × (o ≡ Some u) × (t' ≡ remapped_type a u)
       mapped None t' h = cc
       mapped (Some u) t' h = (u, refl, cc)
 
-  aliases_joined : Each (AliasesNamed types interfaces) (a.graph.types ++ (map (type_image (addition_maps a)) (own_types a) ++ added_owns a))
+  aliases_joined : Each (AliasesNamed types interfaces) (a.graph.types ++ (map (type_image (addition_maps a)) (own_types a) ++ owns_of_addition a))
   aliases_joined i def at =
-      elim (old_or_new a.graph.types (map (type_image (addition_maps a)) (own_types a) ++ added_owns a) i def at) [
+      elim (old_or_new a.graph.types (map (type_image (addition_maps a)) (own_types a) ++ owns_of_addition a) i def at) [
         | inl old ↦
             if_some (IsAliased types interfaces def.owner) (alias_target def.kind)
             (λ u names. old_aliased def.owner u (from_if (IsAliased a.graph.types a.graph.interfaces def.owner) (alias_target def.kind) u (valid.well_formed.references.aliases i def old) names))
-        | inr new ↦ elim (old_or_new (map (type_image (addition_maps a)) (own_types a)) (added_owns a) new.0 def new.2) [
+        | inr new ↦ elim (old_or_new (map (type_image (addition_maps a)) (own_types a)) (owns_of_addition a) new.0 def new.2) [
           | inl mine ↦
               let from = from_map (type_image (addition_maps a)) (own_types a) new.0 def mine in
               let is = own_type_from a new.0 from.0 from.1 in
               subst (AliasesNamed types interfaces) from.2 (image_aliases is.t from.0 is.there is.active)
           | inr made ↦
-              let from = from_map (λ (t : ℕ). own_of (type_place a t)) (filter (needs_own a) (range_with_len 0 (length a.handed.types))) made.0 def made.2 in
+              let from = from_map (λ (t : ℕ). own_of (remapped_type a t)) (filter (value_needs_own a) (range_with_len 0 (length a.unresolved.types))) made.0 def made.2 in
               subst (AliasesNamed types interfaces) from.2 tt
         ]
       ]

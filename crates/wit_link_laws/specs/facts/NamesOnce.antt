@@ -13,12 +13,12 @@ use Rattle.wit_data.specs.Foreign.{foreign_interfaces}
 use Rattle.wit_data.specs.Shape.{IsShaped}
 use Rattle.wit_data.specs.declared.interface.Interface.{Interface}
 use Rattle.wit_graph_theory.specs.facts.ListFacts.{contained_at, place_of}
-use Rattle.wit_link_spec.specs.Addition.{Addition, interface_place, own_interface}
+use Rattle.wit_link_spec.specs.Addition.{Addition, own_interface, remapped_interface}
 use Rattle.wit_link_spec.specs.Gates.{interface_is_active, is_foreign_interface}
 use Rattle.wit_link_spec.specs.facts.OwnThingFacts.{own_part}
 use Rattle.wit_link_spec.specs.Pushed.{new_package}
-use Rattle.wit_link_spec.specs.facts.RankFacts.{taken_places-from}
-use Rattle.wit_link_spec.specs.Ranks.{rank, taken_places}
+use Rattle.wit_link_spec.specs.facts.RankFacts.{selected_with_index-from}
+use Rattle.wit_link_spec.specs.Ranks.{rank, selected_with_index}
 
 -- ---- lists
 
@@ -96,24 +96,24 @@ module _ {X : Type 0} (name : X → Option (List ℕ)) where
 pub record TableEntry (a : Addition) (j : ℕ) (e : List ℕ × ℕ) : Type 0 where
   pub f : ℕ
   pub interface : Interface
-  pub there : slice_get a.handed.interfaces f ≡ Some interface
+  pub there : slice_get a.unresolved.interfaces f ≡ Some interface
   pub own : own_interface a f ≡ true
   pub name : interface.name ≡ Some e.0
-  pub place : interface_place a f ≡ e.1
-  pub at : j ≡ length (filter_map (λ (e : ℕ × Interface). option_map (λ (name : List ℕ). let r : List ℕ × ℕ = (name, interface_place a e.0) in r) e.1.name) (take (rank (own_interface a) f) (taken_places (own_interface a) a.handed.interfaces)))
+  pub place : remapped_interface a f ≡ e.1
+  pub at : j ≡ length (filter_map (λ (e : ℕ × Interface). option_map (λ (name : List ℕ). let r : List ℕ × ℕ = (name, remapped_interface a e.0) in r) e.1.name) (take (rank (own_interface a) f) (selected_with_index (own_interface a) a.unresolved.interfaces)))
 
 entry_parts : (o : Option (List ℕ)) (id : ℕ) (e : List ℕ × ℕ) → option_map (λ (name : List ℕ). let r : List ℕ × ℕ = (name, id) in r) o ≡ Some e → (o ≡ Some e.0) × (id ≡ e.1)
 entry_parts None id e is = cc
 entry_parts (Some name) id e is = let same : (name, id) ≡ e = cc in (ap (λ (p : List ℕ × ℕ). Some p.0) same, ap (λ (p : List ℕ × ℕ). p.1) same)
 
-module _ (a : Addition) (shaped : IsShaped a.handed) where
+module _ (a : Addition) (shaped : IsShaped a.unresolved) where
   pub table_entry : (j : ℕ) (e : List ℕ × ℕ) → slice_get (new_package a).interfaces j ≡ Some e → TableEntry a j e
   table_entry j e at =
-      let entry = λ (e : ℕ × Interface). option_map (λ (name : List ℕ). let r : List ℕ × ℕ = (name, interface_place a e.0) in r) e.1.name in
-      let taken = taken_places (own_interface a) a.handed.interfaces in
+      let entry = λ (e : ℕ × Interface). option_map (λ (name : List ℕ). let r : List ℕ × ℕ = (name, remapped_interface a e.0) in r) e.1.name in
+      let taken = selected_with_index (own_interface a) a.unresolved.interfaces in
       let from = filter_map-place entry taken j e at in
-      let is = taken_places-from (own_interface a) a.handed.interfaces from.0 from.1 from.2 in
-      let parts = entry_parts from.1.1.name (interface_place a from.1.0) e from.3 in
+      let is = selected_with_index-from (own_interface a) a.unresolved.interfaces from.0 from.1 from.2 in
+      let parts = entry_parts from.1.1.name (remapped_interface a from.1.0) e from.3 in
       record {
         f = from.1.0;
         interface = from.1.1;
@@ -125,21 +125,21 @@ module _ (a : Addition) (shaped : IsShaped a.handed) where
       }
 
   -- an own interface stands behind the foreign ones
-  behind_foreign : (f : ℕ) → own_interface a f ≡ true → length (foreign_interfaces a.handed.foreign_deps) ≤ f
-  behind_foreign f own = ltb-false f (length (foreign_interfaces a.handed.foreign_deps)) (own_part (is_foreign_interface a.handed f) (interface_is_active a.features a.handed f) own).0
+  behind_foreign : (f : ℕ) → own_interface a f ≡ true → length (foreign_interfaces a.unresolved.foreign_deps) ≤ f
+  behind_foreign f own = ltb-false f (length (foreign_interfaces a.unresolved.foreign_deps)) (own_part (is_foreign_interface a.unresolved f) (interface_is_active a.features a.unresolved f) own).0
 
   pub distinct_interfaces : HasDistinctKeys (new_package a).interfaces
   distinct_interfaces i j e d first second same =
       let one = table_entry i e first in
       let two = table_entry j d second in
-      let count = length (foreign_interfaces a.handed.foreign_deps) in
+      let count = length (foreign_interfaces a.unresolved.foreign_deps) in
       let low = behind_foreign one.f one.own in
       let low_too = behind_foreign two.f two.own in
-      let rest = drop count a.handed.interfaces in
+      let rest = drop count a.unresolved.interfaces in
       let equal : one.f - count ≡ two.f - count = named_once (λ (x : Interface). x.name) rest shaped.names.interfaces_differ (one.f - count) (two.f - count) one.interface two.interface e.0
-      (at_drop a.handed.interfaces count (one.f - count) one.f one.interface (omega arith) one.there)
-      (at_drop a.handed.interfaces count (two.f - count) two.f two.interface (omega arith) two.there) one.name (two.name ∙ ap Some (sym same)) in
+      (at_drop a.unresolved.interfaces count (one.f - count) one.f one.interface (omega arith) one.there)
+      (at_drop a.unresolved.interfaces count (two.f - count) two.f two.interface (omega arith) two.there) one.name (two.name ∙ ap Some (sym same)) in
       let f : one.f ≡ two.f = omega arith in
       one.at
-      ∙ ap (λ (f : ℕ). length (filter_map (λ (e : ℕ × Interface). option_map (λ (name : List ℕ). let r : List ℕ × ℕ = (name, interface_place a e.0) in r) e.1.name) (take (rank (own_interface a) f) (taken_places (own_interface a) a.handed.interfaces)))) f
+      ∙ ap (λ (f : ℕ). length (filter_map (λ (e : ℕ × Interface). option_map (λ (name : List ℕ). let r : List ℕ × ℕ = (name, remapped_interface a e.0) in r) e.1.name) (take (rank (own_interface a) f) (selected_with_index (own_interface a) a.unresolved.interfaces)))) f
       ∙ sym two.at

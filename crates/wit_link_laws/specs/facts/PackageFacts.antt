@@ -37,7 +37,7 @@ use Rattle.wit_graph_theory.specs.facts.PackageCycleFacts.{other_from}
 use Rattle.wit_graph_theory.specs.facts.PackagesAcyclic.{packages_acyclic, there_is}
 use Rattle.wit_link_spec.specs.Addition.{Addition, addition_maps, own_interfaces}
 use Rattle.wit_link_spec.specs.Pushed.{new_package, with_parts}
-use Rattle.wit_link_spec.specs.Reasons.{HasImage}
+use Rattle.wit_link_spec.specs.Reasons.{IsResolved}
 use Rattle.wit_link_laws.specs.facts.Grown.{IsGrown, interfaces_behind, more_interfaces, more_types, types_behind}
 use Rattle.wit_link_laws.specs.facts.CanonicalStays.{interface_stays, type_stays}
 
@@ -111,7 +111,7 @@ some_package packages (Some p) q P holds is =
     let found = found_at (P p) packages p holds in
     subst (λ (x : ℕ). x < length packages) same (slice_get_within packages p found.0 found.1)
 
-module _ (a : Addition) (valid : IsValid a.graph) (shaped : IsShaped a.handed) (image : HasImage a) (count : ℕ) (new : Graph) (are : IsGrown a count new) where
+module _ (a : Addition) (valid : IsValid a.graph) (shaped : IsShaped a.unresolved) (image : IsResolved a) (count : ℕ) (new : Graph) (are : IsGrown a count new) where
   old_items : HasGoodItems a.graph
   old_items = good_items a.graph (good_things a.graph valid)
 

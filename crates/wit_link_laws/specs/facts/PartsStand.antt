@@ -1,4 +1,4 @@
--- What takes part of a package stands among the types and interfaces of the graph behind which it is put: types,
+-- What is active of a package stands among the types and interfaces of the graph behind which it is put: types,
 -- values and interfaces.
 use Rattle.std.proofs.Common.{◌≡◌, ◌∙◌, ℕ, ◌+◌, ◌<◌, Bool, true, List, ◌++◌, ◌⊎◌, inl, inr, map, filter, length, nat_eq, Option, None, Some, option_and_then, option_map, IsSome, slice_get, refl, sym, ap, subst, arith, Contains, if◌then◌else◌}
 use Rattle.std.specs.List.{list_any, range_with_len}
@@ -26,81 +26,81 @@ use Rattle.wit_graph_theory.specs.Image.{interface_image, name_image, owner_imag
 use Rattle.wit_graph_theory.specs.facts.ListFacts.{at_map, at_new, found_at, place_of, some_at}
 use Rattle.wit_graph_theory.specs.facts.ReferredFacts.{plain_image}
 use Rattle.wit_graph_theory.specs.steps.Sources.{InterfaceStands, IsOwnOf, Stands}
-use Rattle.wit_link_spec.specs.Addition.{Addition, added_owns, addition_maps, needs_own, own_interface, own_interfaces, own_type, own_types, part, positions, plain_maps, plain_types, type_place, interface_place, value_place}
+use Rattle.wit_link_spec.specs.Addition.{Addition, owns_of_addition, addition_maps, value_needs_own, own_interface, own_interfaces, own_type, own_types, part, positions, maps_without_owns, types_without_owns, remapped_type, remapped_interface, remapped_value}
 use Rattle.wit_link_spec.specs.Gates.{interface_is_active, is_foreign_interface, type_is_active}
-use Rattle.wit_link_spec.specs.Lookup.{is_foreign_type, listed_type}
+use Rattle.wit_link_spec.specs.Lookup.{interface_type, is_foreign_type}
 use Rattle.wit_link_spec.specs.facts.OwnThingFacts.{own_of_both}
-use Rattle.wit_link_spec.specs.facts.RankFacts.{taken-at, taken_places-at}
-use Rattle.wit_link_spec.specs.Ranks.{rank, taken, taken_places}
-use Rattle.wit_link_spec.specs.Reasons.{HasImage}
+use Rattle.wit_link_spec.specs.facts.RankFacts.{selected-at, selected_with_index-at}
+use Rattle.wit_link_spec.specs.Ranks.{rank, selected, selected_with_index}
+use Rattle.wit_link_spec.specs.Reasons.{IsResolved}
 use Rattle.wit_link_spec.specs.Resources.{leads_to_resource, own_of}
-use Rattle.wit_link_spec.specs.facts.Standing.{ForeignType, foreign_interface_goes, foreign_type, listed_is, own_interface_goes, own_type_goes}
+use Rattle.wit_link_spec.specs.facts.Standing.{ForeignType, foreign_interface_remapped, foreign_type, listed_is, own_interface_remapped, own_type_remapped}
 use Rattle.wit_link_laws.specs.facts.LeadFacts.{filtered_range, leads_nowhere}
 use Rattle.wit_link_laws.specs.facts.Parts.{HasParts}
 use Rattle.wit_link_laws.specs.facts.SourcesGood.{package_source}
 
-module _ (a : Addition) (valid : IsValid a.graph) (shaped : IsShaped a.handed) (image : HasImage a) (types : List TypeDef) (interfaces : List Interface) (are : HasParts a types interfaces) where
+module _ (a : Addition) (valid : IsValid a.graph) (shaped : IsShaped a.unresolved) (image : IsResolved a) (types : List TypeDef) (interfaces : List Interface) (are : HasParts a types interfaces) where
   -- an own type stands as its image at its place
-  pub own_type_at : (t : ℕ) (def : TypeDef) → slice_get a.handed.types t ≡ Some def → own_type a t ≡ true → slice_get types (type_place a t) ≡ Some (type_image (addition_maps a) def)
+  pub own_type_at : (t : ℕ) (def : TypeDef) → slice_get a.unresolved.types t ≡ Some def → own_type a t ≡ true → slice_get types (remapped_type a t) ≡ Some (type_image (addition_maps a) def)
   own_type_at t def at own =
-      subst (λ (types : List TypeDef). slice_get types (type_place a t) ≡ Some (type_image (addition_maps a) def)) (sym are.types_are)
-      (at_new a.graph.types (map (type_image (addition_maps a)) (own_types a) ++ added_owns a) (rank (own_type a) t) (type_place a t) (type_image (addition_maps a) def) (own_type_goes a t own)
-      (slice_get-append (map (type_image (addition_maps a)) (own_types a)) (added_owns a) (rank (own_type a) t) (type_image (addition_maps a) def)
-      (at_map (type_image (addition_maps a)) (own_types a) (rank (own_type a) t) def (taken-at (own_type a) a.handed.types t def at own))))
+      subst (λ (types : List TypeDef). slice_get types (remapped_type a t) ≡ Some (type_image (addition_maps a) def)) (sym are.types_are)
+      (at_new a.graph.types (map (type_image (addition_maps a)) (own_types a) ++ owns_of_addition a) (rank (own_type a) t) (remapped_type a t) (type_image (addition_maps a) def) (own_type_remapped a t own)
+      (slice_get-append (map (type_image (addition_maps a)) (own_types a)) (owns_of_addition a) (rank (own_type a) t) (type_image (addition_maps a) def)
+      (at_map (type_image (addition_maps a)) (own_types a) (rank (own_type a) t) def (selected-at (own_type a) a.unresolved.types t def at own))))
 
   -- a type of the graph stays
   pub old_type_at : (t : ℕ) (def : TypeDef) → slice_get a.graph.types t ≡ Some def → slice_get types t ≡ Some def
   old_type_at t def at =
-      subst (λ (types : List TypeDef). slice_get types t ≡ Some def) (sym are.types_are) (slice_get-append a.graph.types (map (type_image (addition_maps a)) (own_types a) ++ added_owns a) t def at)
+      subst (λ (types : List TypeDef). slice_get types t ≡ Some def) (sym are.types_are) (slice_get-append a.graph.types (map (type_image (addition_maps a)) (own_types a) ++ owns_of_addition a) t def at)
 
   pub old_interface_at : (i : ℕ) (interface : Interface) → slice_get a.graph.interfaces i ≡ Some interface → slice_get interfaces i ≡ Some interface
   old_interface_at i interface at =
       subst (λ (interfaces : List Interface). slice_get interfaces i ≡ Some interface) (sym are.interfaces_are) (slice_get-append a.graph.interfaces (map (interface_image (addition_maps a)) (own_interfaces a)) i interface at)
 
-  foreign_stands : (t : ℕ) (def : TypeDef) → ForeignType a t def → SomeAt types (type_place a t) (Stands (addition_maps a) def)
+  foreign_stands : (t : ℕ) (def : TypeDef) → ForeignType a t def → SomeAt types (remapped_type a t) (Stands (addition_maps a) def)
   foreign_stands t def is =
-      let found = found_at (λ (there : TypeDef). (there.name ≡ Some is.name) × (there.owner ≡ owner.Interface (interface_place a is.i))) a.graph.types (type_place a t)
-      (listed_is a.graph valid is.name (interface_place a is.i) (type_place a t) is.listed) in
-      some_at (Stands (addition_maps a) def) types (type_place a t) found.0 (old_type_at (type_place a t) found.0 found.1) (record {
+      let found = found_at (λ (there : TypeDef). (there.name ≡ Some is.name) × (there.owner ≡ owner.Interface (remapped_interface a is.i))) a.graph.types (remapped_type a t)
+      (listed_is a.graph valid is.name (remapped_interface a is.i) (remapped_type a t) is.listed) in
+      some_at (Stands (addition_maps a) def) types (remapped_type a t) found.0 (old_type_at (remapped_type a t) found.0 found.1) (record {
         name = found.2.0 ∙ sym (ap (λ (o : TypeOwner). option_map (name_image (addition_maps a) o) def.name) is.owner_is ∙ ap (λ (n : Option (List ℕ)). option_map (name_image (addition_maps a) (owner.Interface is.i)) n) is.name_is);
         owner = found.2.1 ∙ sym (ap (owner_image (addition_maps a)) is.owner_is);
         through = λ none. let named = is.name_is in cc;
       })
 
-  -- what takes part stands
-  pub type_stands : (t : ℕ) (def : TypeDef) → slice_get a.handed.types t ≡ Some def → type_is_active a.features a.handed.types t ≡ true → SomeAt types (type_place a t) (Stands (addition_maps a) def)
-  type_stands t def at active = elim (cases_Bool (is_foreign_type a.handed t)) [
+  -- what is active stands
+  pub type_stands : (t : ℕ) (def : TypeDef) → slice_get a.unresolved.types t ≡ Some def → type_is_active a.features a.unresolved.types t ≡ true → SomeAt types (remapped_type a t) (Stands (addition_maps a) def)
+  type_stands t def at active = elim (cases_Bool (is_foreign_type a.unresolved t)) [
     | inl foreign ↦ foreign_stands t def (foreign_type a valid shaped image t def at foreign active)
     | inr own ↦
-        some_at (Stands (addition_maps a) def) types (type_place a t) (type_image (addition_maps a) def)
-        (own_type_at t def at (own_of_both (is_foreign_type a.handed t) (type_is_active a.features a.handed.types t) own active)) (image_stands (addition_maps a) def)
+        some_at (Stands (addition_maps a) def) types (remapped_type a t) (type_image (addition_maps a) def)
+        (own_type_at t def at (own_of_both (is_foreign_type a.unresolved t) (type_is_active a.features a.unresolved.types t) own active)) (image_stands (addition_maps a) def)
   ]
 
-  pub own_interface_at : (f : ℕ) (interface : Interface) → slice_get a.handed.interfaces f ≡ Some interface → own_interface a f ≡ true
-      → slice_get interfaces (interface_place a f) ≡ Some (interface_image (addition_maps a) (cut_interface (part a) interface))
+  pub own_interface_at : (f : ℕ) (interface : Interface) → slice_get a.unresolved.interfaces f ≡ Some interface → own_interface a f ≡ true
+      → slice_get interfaces (remapped_interface a f) ≡ Some (interface_image (addition_maps a) (cut_interface (part a) interface))
   own_interface_at f interface at own =
-      subst (λ (interfaces : List Interface). slice_get interfaces (interface_place a f) ≡ Some (interface_image (addition_maps a) (cut_interface (part a) interface))) (sym are.interfaces_are)
-      (at_new a.graph.interfaces (map (interface_image (addition_maps a)) (own_interfaces a)) (rank (own_interface a) f) (interface_place a f) (interface_image (addition_maps a) (cut_interface (part a) interface)) (own_interface_goes a f own)
+      subst (λ (interfaces : List Interface). slice_get interfaces (remapped_interface a f) ≡ Some (interface_image (addition_maps a) (cut_interface (part a) interface))) (sym are.interfaces_are)
+      (at_new a.graph.interfaces (map (interface_image (addition_maps a)) (own_interfaces a)) (rank (own_interface a) f) (remapped_interface a f) (interface_image (addition_maps a) (cut_interface (part a) interface)) (own_interface_remapped a f own)
       (at_map (interface_image (addition_maps a)) (own_interfaces a) (rank (own_interface a) f) (cut_interface (part a) interface)
-      (at_map (cut_interface (part a)) (taken (own_interface a) a.handed.interfaces) (rank (own_interface a) f) interface (taken-at (own_interface a) a.handed.interfaces f interface at own))))
+      (at_map (cut_interface (part a)) (selected (own_interface a) a.unresolved.interfaces) (rank (own_interface a) f) interface (selected-at (own_interface a) a.unresolved.interfaces f interface at own))))
 
 -- ---- interfaces
 
-module _ (a : Addition) (valid : IsValid a.graph) (shaped : IsShaped a.handed) (image : HasImage a) (types : List TypeDef) (interfaces : List Interface) (are : HasParts a types interfaces) where
-  -- what a foreign interface lists of what takes part is listed by the one that it goes to
-  foreign_lists : (f : ℕ) (old there : Interface) → slice_get a.handed.interfaces f ≡ Some old → is_foreign_interface a.handed f ≡ true
-      → slice_get a.graph.interfaces (interface_place a f) ≡ Some there → (name : List ℕ) (t : ℕ) → Contains old.types (name, t) → type_is_active a.features a.handed.types t ≡ true
-      → Contains there.types (name, type_place a t)
+module _ (a : Addition) (valid : IsValid a.graph) (shaped : IsShaped a.unresolved) (image : IsResolved a) (types : List TypeDef) (interfaces : List Interface) (are : HasParts a types interfaces) where
+  -- what a foreign interface lists of what is active is listed by the one that it goes to
+  foreign_lists : (f : ℕ) (old there : Interface) → slice_get a.unresolved.interfaces f ≡ Some old → is_foreign_interface a.unresolved f ≡ true
+      → slice_get a.graph.interfaces (remapped_interface a f) ≡ Some there → (name : List ℕ) (t : ℕ) → Contains old.types (name, t) → type_is_active a.features a.unresolved.types t ≡ true
+      → Contains there.types (name, remapped_type a t)
   foreign_lists f old there at foreign goes name t has active =
       let place = place_of old.types (name, t) has in
-      let is = found_at (λ (def : TypeDef). (def.name ≡ Some name) × (def.owner ≡ owner.Interface f)) a.handed.types t (shaped.owners.own_types f old at place.0 (name, t) place.1) in
-      let below : t < length a.handed.unknown_type_spans = shaped.unknown.alone f old at (ltb-true f _ foreign) place.0 (name, t) place.1 in
-      let known = foreign_type a valid shaped image t is.0 is.1 (lt-ltb t (length a.handed.unknown_type_spans) below) active in
+      let is = found_at (λ (def : TypeDef). (def.name ≡ Some name) × (def.owner ≡ owner.Interface f)) a.unresolved.types t (shaped.owners.own_types f old at place.0 (name, t) place.1) in
+      let below : t < length a.unresolved.unknown_type_spans = shaped.unknown.alone f old at (ltb-true f _ foreign) place.0 (name, t) place.1 in
+      let known = foreign_type a valid shaped image t is.0 is.1 (lt-ltb t (length a.unresolved.unknown_type_spans) below) active in
       let same : known.i ≡ f = owner_same known.i f (sym known.owner_is ∙ is.2.1) in
       let called : known.name ≡ name = name_same known.name name (sym known.name_is ∙ is.2.0) in
-      let listed : listed_type a.graph name (interface_place a f) ≡ Some (type_place a t) =
-      subst (λ (n : List ℕ). listed_type a.graph n (interface_place a f) ≡ Some (type_place a t)) called (subst (λ (i : ℕ). listed_type a.graph known.name (interface_place a i) ≡ Some (type_place a t)) same known.listed) in
-      Contains-from_lookup (λ x y. (bytes_eq-Decides x y).0) name (type_place a t) there.types
+      let listed : interface_type a.graph name (remapped_interface a f) ≡ Some (remapped_type a t) =
+      subst (λ (n : List ℕ). interface_type a.graph n (remapped_interface a f) ≡ Some (remapped_type a t)) called (subst (λ (i : ℕ). interface_type a.graph known.name (remapped_interface a i) ≡ Some (remapped_type a t)) same known.listed) in
+      Contains-from_lookup (λ x y. (bytes_eq-Decides x y).0) name (remapped_type a t) there.types
       (sym (ap (λ (o : Option Interface). option_and_then (λ (interface : Interface). lookup (bytes_eq name) interface.types) o) goes) ∙ listed)
     where
       owner_same : (i j : ℕ) → owner.Interface i ≡ owner.Interface j → i ≡ j
@@ -109,12 +109,12 @@ module _ (a : Addition) (valid : IsValid a.graph) (shaped : IsShaped a.handed) (
       name_same : (m n : List ℕ) → Some m ≡ Some n → m ≡ n
       name_same m n h = cc
 
-  foreign_interface_stands : (f : ℕ) (old : Interface) → slice_get a.handed.interfaces f ≡ Some old → is_foreign_interface a.handed f ≡ true → interface_is_active a.features a.handed f ≡ true
-      → SomeAt interfaces (interface_place a f) (InterfaceStands (package_source a) (cut_interface (part a) old))
+  foreign_interface_stands : (f : ℕ) (old : Interface) → slice_get a.unresolved.interfaces f ≡ Some old → is_foreign_interface a.unresolved f ≡ true → interface_is_active a.features a.unresolved f ≡ true
+      → SomeAt interfaces (remapped_interface a f) (InterfaceStands (package_source a) (cut_interface (part a) old))
   foreign_interface_stands f old at foreign active =
-      let goes = (foreign_interface_goes a valid shaped image f old at foreign active).1 in
-      let there = found_at (λ (there : Interface). IsSome there.name × (there.name ≡ old.name)) a.graph.interfaces (interface_place a f) goes in
-      some_at (InterfaceStands (package_source a) (cut_interface (part a) old)) interfaces (interface_place a f) there.0 (old_interface_at a valid shaped image types interfaces are (interface_place a f) there.0 there.1) (record {
+      let goes = (foreign_interface_remapped a valid shaped image f old at foreign active).1 in
+      let there = found_at (λ (there : Interface). IsSome there.name × (there.name ≡ old.name)) a.graph.interfaces (remapped_interface a f) goes in
+      some_at (InterfaceStands (package_source a) (cut_interface (part a) old)) interfaces (remapped_interface a f) there.0 (old_interface_at a valid shaped image types interfaces are (remapped_interface a f) there.0 there.1) (record {
         name = there.2.1;
         types = λ name t has takes. foreign_lists f old there.0 at foreign there.1 name t (Contains-filter (λ (e : List ℕ × ℕ). (part a).types e.1) old.types (name, t) has).0 takes;
         home = λ none. let some = there.2.0 in let same = there.2.1 in absurd (none_named there.0.name some (same ∙ none));
@@ -124,56 +124,56 @@ module _ (a : Addition) (valid : IsValid a.graph) (shaped : IsShaped a.handed) (
       none_named None some none = cc
       none_named (Some n) some none = cc
 
-  pub interface_stands : (f : ℕ) (old : Interface) → slice_get a.handed.interfaces f ≡ Some old → interface_is_active a.features a.handed f ≡ true
-      → SomeAt interfaces (interface_place a f) (InterfaceStands (package_source a) (cut_interface (part a) old))
-  interface_stands f old at active = elim (cases_Bool (is_foreign_interface a.handed f)) [
+  pub interface_stands : (f : ℕ) (old : Interface) → slice_get a.unresolved.interfaces f ≡ Some old → interface_is_active a.features a.unresolved f ≡ true
+      → SomeAt interfaces (remapped_interface a f) (InterfaceStands (package_source a) (cut_interface (part a) old))
+  interface_stands f old at active = elim (cases_Bool (is_foreign_interface a.unresolved f)) [
     | inl foreign ↦ foreign_interface_stands f old at foreign active
     | inr own ↦
-        some_at (InterfaceStands (package_source a) (cut_interface (part a) old)) interfaces (interface_place a f) (interface_image (addition_maps a) (cut_interface (part a) old))
-        (own_interface_at a valid shaped image types interfaces are f old at (own_of_both (is_foreign_interface a.handed f) (interface_is_active a.features a.handed f) own active))
+        some_at (InterfaceStands (package_source a) (cut_interface (part a) old)) interfaces (remapped_interface a f) (interface_image (addition_maps a) (cut_interface (part a) old))
+        (own_interface_at a valid shaped image types interfaces are f old at (own_of_both (is_foreign_interface a.unresolved f) (interface_is_active a.features a.unresolved f) own active))
         (interface_image_stands (package_source a) (cut_interface (part a) old))
   ]
 
 -- ---- values
 
-module _ (a : Addition) (valid : IsValid a.graph) (shaped : IsShaped a.handed) (image : HasImage a) (types : List TypeDef) (interfaces : List Interface) (are : HasParts a types interfaces) where
+module _ (a : Addition) (valid : IsValid a.graph) (shaped : IsShaped a.unresolved) (image : IsResolved a) (types : List TypeDef) (interfaces : List Interface) (are : HasParts a types interfaces) where
   -- the `own` of a type that needs one stands at its place
-  pub own_at : (t : ℕ) (def : TypeDef) → slice_get a.handed.types t ≡ Some def → needs_own a t ≡ true → slice_get types (value_place a t) ≡ Some (own_of (type_place a t))
+  pub own_at : (t : ℕ) (def : TypeDef) → slice_get a.unresolved.types t ≡ Some def → value_needs_own a t ≡ true → slice_get types (remapped_value a t) ≡ Some (own_of (remapped_type a t))
   own_at t def at needs =
-      let goes : value_place a t ≡ length a.graph.types + length (own_types a) + rank (needs_own a) t =
-      ap (λ (b : Bool). if b then length a.graph.types + length (own_types a) + rank (needs_own a) t else type_place a t) needs in
+      let goes : remapped_value a t ≡ length a.graph.types + length (own_types a) + rank (value_needs_own a) t =
+      ap (λ (b : Bool). if b then length a.graph.types + length (own_types a) + rank (value_needs_own a) t else remapped_type a t) needs in
       let images = map (type_image (addition_maps a)) (own_types a) in
       let long : length images ≡ length (own_types a) = length-map (own_types a) (type_image (addition_maps a)) in
-      let listed : slice_get (filter (needs_own a) (range_with_len 0 (length a.handed.types))) (rank (needs_own a) t) ≡ Some t =
-      ap (λ (l : List ℕ). slice_get l (rank (needs_own a) t)) (filtered_range (needs_own a) a.handed.types 0)
-      ∙ at_map (λ (e : ℕ × TypeDef). e.0) (taken_places (needs_own a) a.handed.types) (rank (needs_own a) t) (t, def) (taken_places-at (needs_own a) a.handed.types t def at needs) in
-      subst (λ (types : List TypeDef). slice_get types (value_place a t) ≡ Some (own_of (type_place a t))) (sym are.types_are)
-      (at_new a.graph.types (images ++ added_owns a) (length (own_types a) + rank (needs_own a) t) (value_place a t) (own_of (type_place a t)) (omega arith)
-      (at_new images (added_owns a) (rank (needs_own a) t) (length (own_types a) + rank (needs_own a) t) (own_of (type_place a t)) (omega arith)
-      (at_map (λ (t : ℕ). own_of (type_place a t)) (filter (needs_own a) (range_with_len 0 (length a.handed.types))) (rank (needs_own a) t) t listed)))
+      let listed : slice_get (filter (value_needs_own a) (range_with_len 0 (length a.unresolved.types))) (rank (value_needs_own a) t) ≡ Some t =
+      ap (λ (l : List ℕ). slice_get l (rank (value_needs_own a) t)) (filtered_range (value_needs_own a) a.unresolved.types 0)
+      ∙ at_map (λ (e : ℕ × TypeDef). e.0) (selected_with_index (value_needs_own a) a.unresolved.types) (rank (value_needs_own a) t) (t, def) (selected_with_index-at (value_needs_own a) a.unresolved.types t def at needs) in
+      subst (λ (types : List TypeDef). slice_get types (remapped_value a t) ≡ Some (own_of (remapped_type a t))) (sym are.types_are)
+      (at_new a.graph.types (images ++ owns_of_addition a) (length (own_types a) + rank (value_needs_own a) t) (remapped_value a t) (own_of (remapped_type a t)) (omega arith)
+      (at_new images (owns_of_addition a) (rank (value_needs_own a) t) (length (own_types a) + rank (value_needs_own a) t) (own_of (remapped_type a t)) (omega arith)
+      (at_map (λ (t : ℕ). own_of (remapped_type a t)) (filter (value_needs_own a) (range_with_len 0 (length a.unresolved.types))) (rank (value_needs_own a) t) t listed)))
 
   -- a type that leads to a resource has a name
-  leads_named : (t : ℕ) (def : TypeDef) → slice_get a.handed.types t ≡ Some def → type_is_active a.features a.handed.types t ≡ true → leads_to_resource (plain_types a) (type_place a t) ≡ true → IsSome def.name
-  leads_named t def at active leads = elim (cases_Bool (is_foreign_type a.handed t)) [
+  leads_named : (t : ℕ) (def : TypeDef) → slice_get a.unresolved.types t ≡ Some def → type_is_active a.features a.unresolved.types t ≡ true → leads_to_resource (types_without_owns a) (remapped_type a t) ≡ true → IsSome def.name
+  leads_named t def at active leads = elim (cases_Bool (is_foreign_type a.unresolved t)) [
     | inl foreign ↦ let is = foreign_type a valid shaped image t def at foreign active in subst (λ (o : Option (List ℕ)). IsSome o) (sym is.name_is) refl
-    | inr own ↦ by def.name refl (own_of_both (is_foreign_type a.handed t) (type_is_active a.features a.handed.types t) own active)
+    | inr own ↦ by def.name refl (own_of_both (is_foreign_type a.unresolved t) (type_is_active a.features a.unresolved.types t) own active)
   ]
     where
       by : (o : Option (List ℕ)) → def.name ≡ o → own_type a t ≡ true → IsSome def.name
       by (Some n) called own = subst (λ (o : Option (List ℕ)). IsSome o) (sym called) refl
       by None called own =
-          let there : slice_get (plain_types a) (type_place a t) ≡ Some (type_image (plain_maps a) def) =
-          at_new a.graph.types (map (type_image (plain_maps a)) (own_types a)) (rank (own_type a) t) (type_place a t) (type_image (plain_maps a) def) (own_type_goes a t own)
-          (at_map (type_image (plain_maps a)) (own_types a) (rank (own_type a) t) def (taken-at (own_type a) a.handed.types t def at own)) in
-          absurd (false≢true (sym (leads_nowhere (plain_types a) (type_place a t) (type_image (plain_maps a) def) there (plain_image (plain_maps a) def.kind (shaped.references.unnamed t def at called))) ∙ leads))
+          let there : slice_get (types_without_owns a) (remapped_type a t) ≡ Some (type_image (maps_without_owns a) def) =
+          at_new a.graph.types (map (type_image (maps_without_owns a)) (own_types a)) (rank (own_type a) t) (remapped_type a t) (type_image (maps_without_owns a) def) (own_type_remapped a t own)
+          (at_map (type_image (maps_without_owns a)) (own_types a) (rank (own_type a) t) def (selected-at (own_type a) a.unresolved.types t def at own)) in
+          absurd (false≢true (sym (leads_nowhere (types_without_owns a) (remapped_type a t) (type_image (maps_without_owns a) def) there (plain_image (maps_without_owns a) def.kind (shaped.references.unnamed t def at called))) ∙ leads))
 
-  pub values_stand_there : (t : ℕ) (def : TypeDef) → slice_get a.handed.types t ≡ Some def → type_is_active a.features a.handed.types t ≡ true
-      → (value_place a t ≡ type_place a t) ⊎ (IsSome def.name × IsOwnOf types (value_place a t) (type_place a t))
-  values_stand_there t def at active = elim (cases_Bool (needs_own a t)) [
+  pub values_stand_there : (t : ℕ) (def : TypeDef) → slice_get a.unresolved.types t ≡ Some def → type_is_active a.features a.unresolved.types t ≡ true
+      → (remapped_value a t ≡ remapped_type a t) ⊎ (IsSome def.name × IsOwnOf types (remapped_value a t) (remapped_type a t))
+  values_stand_there t def at active = elim (cases_Bool (value_needs_own a t)) [
     | inl needs ↦
         inr (
-          leads_named t def at active (and_parts (list_any (nat_eq t) (positions a)) (leads_to_resource (plain_types a) (type_place a t)) needs).1,
-          some_at (λ (there : TypeDef). (there.name ≡ None) × (there.owner ≡ owner.None) × (there.kind ≡ kind.Handle (Own (type_place a t)))) types (value_place a t) (own_of (type_place a t)) (own_at t def at needs) (refl, refl, refl),
+          leads_named t def at active (and_parts (list_any (nat_eq t) (positions a)) (leads_to_resource (types_without_owns a) (remapped_type a t)) needs).1,
+          some_at (λ (there : TypeDef). (there.name ≡ None) × (there.owner ≡ owner.None) × (there.kind ≡ kind.Handle (Own (remapped_type a t)))) types (remapped_value a t) (own_of (remapped_type a t)) (own_at t def at needs) (refl, refl, refl),
         )
-    | inr plain ↦ inl (ap (λ (b : Bool). if b then length a.graph.types + length (own_types a) + rank (needs_own a) t else type_place a t) plain)
+    | inr plain ↦ inl (ap (λ (b : Bool). if b then length a.graph.types + length (own_types a) + rank (value_needs_own a) t else remapped_type a t) plain)
   ]

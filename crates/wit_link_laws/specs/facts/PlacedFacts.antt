@@ -16,7 +16,7 @@ use Rattle.wit_graph_theory.specs.facts.CutIsGood.{distinct_kept}
 use Rattle.wit_graph_theory.specs.facts.ListFacts.{contained_at, from_map, place_of, same_at}
 use Rattle.wit_graph_theory.specs.facts.PackagesAcyclic.{numbered_from, numbered_into}
 use Rattle.wit_link_laws.specs.facts.KeysApart.{joined_apart}
-use Rattle.wit_labels.specs.Setters.{after, awaited, is_under, placed, places, waiting, wanted_getter}
+use Rattle.wit_labels.specs.Setters.{after, indexed_entries, is_under, later_getter, placed, waiting_setters, wanted_getter}
 
 -- ---- keys of lists joined end to end
 
@@ -46,61 +46,61 @@ module _ (es : List Entry) where
 
   -- what stands at the place of an entry, and after it, each with the place where it stood
   abbrev own : Placed → List Placed
-  own p = if is_some (awaited es p.0 p.1) then [] else p ∷ []
+  own p = if is_some (later_getter es p.0 p.1) then [] else p ∷ []
 
   abbrev waits_for : ℕ → Placed → Bool
-  waits_for g s = option_eq nat_eq (awaited es s.0 s.1) (Some g)
+  waits_for g s = option_eq nat_eq (later_getter es s.0 s.1) (Some g)
 
   abbrev waits : ℕ → List Placed
-  waits g = filter (waits_for g) (places es)
+  waits g = filter (waits_for g) (indexed_entries es)
 
   abbrev block : Placed → List Placed
   block p = own p ++ waits p.0
 
   -- the place at which an entry goes to stand
   abbrev home : Placed → ℕ
-  home s = unwrap_or (awaited es s.0 s.1) s.0
+  home s = unwrap_or (later_getter es s.0 s.1) s.0
 
-  numbered : (s : Placed) → Contains (places es) s → slice_get es s.0 ≡ Some s.1
+  numbered : (s : Placed) → Contains (indexed_entries es) s → slice_get es s.0 ≡ Some s.1
   numbered s has =
-      let place = place_of (places es) s has in
+      let place = place_of (indexed_entries es) s has in
       let is = numbered_from 0 es place.0 s place.1 in
       let same : s.0 ≡ place.0 = let p = is.0 in omega arith in
       subst (λ (i : ℕ). slice_get es i ≡ Some s.1) (sym same) is.1
 
-  one_place : (s t : Placed) → Contains (places es) s → Contains (places es) t → s.0 ≡ t.0 → s ≡ t
+  one_place : (s t : Placed) → Contains (indexed_entries es) s → Contains (indexed_entries es) t → s.0 ≡ t.0 → s ≡ t
   one_place s t first second same =
       let one : s.1 ≡ t.1 = same_at es s.0 t.0 s.1 t.1 same (numbered s first) (numbered t second) in
       λ i. (same i, one i)
 
-  own_is : (p s : Placed) → Contains (own p) s → (p ≡ s) × (awaited es p.0 p.1 ≡ None)
-  own_is p s has = by (awaited es p.0 p.1) has
+  own_is : (p s : Placed) → Contains (own p) s → (p ≡ s) × (later_getter es p.0 p.1 ≡ None)
+  own_is p s has = by (later_getter es p.0 p.1) has
     where
       by : (o : Option ℕ) → Contains (if is_some o then [] else p ∷ []) s → (p ≡ s) × (o ≡ None)
       by None has = elim (Contains-cons_cases p s [] has) [ inl same ↦ (same, refl) | inr none ↦ absurd (Contains-nil none) ]
       by (Some g) has = absurd (Contains-nil has)
 
-  waits_is : (g : ℕ) (s : Placed) → Contains (waits g) s → Contains (places es) s × (awaited es s.0 s.1 ≡ Some g)
+  waits_is : (g : ℕ) (s : Placed) → Contains (waits g) s → Contains (indexed_entries es) s × (later_getter es s.0 s.1 ≡ Some g)
   waits_is g s has =
-      let parts = Contains-filter (waits_for g) (places es) s has in
-      (parts.0, by (awaited es s.0 s.1) parts.1)
+      let parts = Contains-filter (waits_for g) (indexed_entries es) s has in
+      (parts.0, by (later_getter es s.0 s.1) parts.1)
     where
       by : (o : Option ℕ) → option_eq nat_eq o (Some g) ≡ true → o ≡ Some g
       by None test = cc
       by (Some x) test = ap (λ (y : ℕ). Some y) (eqb-true x g test)
 
-  in_block : (p s : Placed) → Contains (places es) p → Contains (block p) s → Contains (places es) s × (home s ≡ p.0)
+  in_block : (p s : Placed) → Contains (indexed_entries es) p → Contains (block p) s → Contains (indexed_entries es) s × (home s ≡ p.0)
   in_block p s among has =
       elim (Contains-append_cases (own p) (waits p.0) s has) [
         | inl here ↦
             let is = own_is p s here in (
-              subst (Contains (places es)) is.0 among,
+              subst (Contains (indexed_entries es)) is.0 among,
               ap (λ (t : Placed). home t) (sym is.0) ∙ ap (λ (o : Option ℕ). unwrap_or o p.0) is.1,
             )
         | inr there ↦ let is = waits_is p.0 s there in (is.0, ap (λ (o : Option ℕ). unwrap_or o s.0) is.1)
       ]
 
-  places_apart : HasDistinctKeys (places es)
+  places_apart : HasDistinctKeys (indexed_entries es)
   places_apart i j s t first second same =
       let a = numbered_from 0 es i s first in
       let b = numbered_from 0 es j t second in
@@ -109,47 +109,47 @@ module _ (es : List Entry) where
       omega arith
 
   own_apart : (p : Placed) → HasDistinctKeys (own p)
-  own_apart p = by (is_some (awaited es p.0 p.1))
+  own_apart p = by (is_some (later_getter es p.0 p.1))
     where
       by : (b : Bool) → HasDistinctKeys (if b then [] else p ∷ [])
       by true = HasDistinctKeys-nil
       by false = HasDistinctKeys-one p
 
-  block_apart : (p : Placed) → Contains (places es) p → HasDistinctKeys (block p)
+  block_apart : (p : Placed) → Contains (indexed_entries es) p → HasDistinctKeys (block p)
   block_apart p among =
-      joined_apart (own p) (waits p.0) (own_apart p) (distinct_kept (waits_for p.0) (places es) places_apart)
+      joined_apart (own p) (waits p.0) (own_apart p) (distinct_kept (waits_for p.0) (indexed_entries es) places_apart)
       (λ s t here there same.
       let first = own_is p s here in
       let second = waits_is p.0 t there in
-      let one : p ≡ t = first.0 ∙ one_place s t (subst (Contains (places es)) first.0 among) second.0 same in
-      let never : None ≡ Some p.0 = sym first.1 ∙ ap (λ (q : Placed). awaited es q.0 q.1) one ∙ second.1 in
+      let one : p ≡ t = first.0 ∙ one_place s t (subst (Contains (indexed_entries es)) first.0 among) second.0 same in
+      let never : None ≡ Some p.0 = sym first.1 ∙ ap (λ (q : Placed). later_getter es q.0 q.1) one ∙ second.1 in
       cc)
 
-  all_apart : HasDistinctKeys (flat_map block (places es))
+  all_apart : HasDistinctKeys (flat_map block (indexed_entries es))
   all_apart =
-      flat_apart block (places es) (λ i p at. block_apart p (contained_at (places es) i p at))
+      flat_apart block (indexed_entries es) (λ i p at. block_apart p (contained_at (indexed_entries es) i p at))
       (λ i j p q s t first second has other same.
-      let a = in_block p s (contained_at (places es) i p first) has in
-      let b = in_block q t (contained_at (places es) j q second) other in
+      let a = in_block p s (contained_at (indexed_entries es) i p first) has in
+      let b = in_block q t (contained_at (indexed_entries es) j q second) other in
       let one : home s ≡ home t = ap (λ (r : Placed). home r) (one_place s t a.0 b.0 same) in
       places_apart i j p q first second (sym a.1 ∙ one ∙ b.1))
 
-  tagged : placed es ≡ map (λ (s : Placed). s.1) (flat_map block (places es))
-  tagged = flat_tagged (λ (p : Placed). (if is_some (awaited es p.0 p.1) then [] else p.1 ∷ []) ++ waiting es p.0) block (λ (s : Placed). s.1) each (places es)
+  tagged : placed es ≡ map (λ (s : Placed). s.1) (flat_map block (indexed_entries es))
+  tagged = flat_tagged (λ (p : Placed). (if is_some (later_getter es p.0 p.1) then [] else p.1 ∷ []) ++ waiting_setters es p.0) block (λ (s : Placed). s.1) each (indexed_entries es)
     where
       of_own : (b : Bool) (p : Placed) → (if b then [] else p.1 ∷ []) ≡ map (λ (s : Placed). s.1) (if b then [] else p ∷ [])
       of_own true p = refl
       of_own false p = refl
 
-      each : (p : Placed) → (if is_some (awaited es p.0 p.1) then [] else p.1 ∷ []) ++ waiting es p.0 ≡ map (λ (s : Placed). s.1) (block p)
-      each p = ap (λ (l : List Entry). l ++ waiting es p.0) (of_own (is_some (awaited es p.0 p.1)) p) ∙ sym (map-append (λ (s : Placed). s.1) (own p) (waits p.0))
+      each : (p : Placed) → (if is_some (later_getter es p.0 p.1) then [] else p.1 ∷ []) ++ waiting_setters es p.0 ≡ map (λ (s : Placed). s.1) (block p)
+      each p = ap (λ (l : List Entry). l ++ waiting_setters es p.0) (of_own (is_some (later_getter es p.0 p.1)) p) ∙ sym (map-append (λ (s : Placed). s.1) (own p) (waits p.0))
 
   -- what stands there stood there
   pub placed_in : (e : Entry) → Contains (placed es) e → Contains es e
   placed_in e has =
       let place = place_of (placed es) e has in
-      let from = from_map (λ (s : Placed). s.1) (flat_map block (places es)) place.0 e (subst (λ (l : List Entry). slice_get l place.0 ≡ Some e) tagged place.1) in
-      let part = Contains-flat_map_cases block (places es) from.0 (contained_at (flat_map block (places es)) place.0 from.0 from.1) in
+      let from = from_map (λ (s : Placed). s.1) (flat_map block (indexed_entries es)) place.0 e (subst (λ (l : List Entry). slice_get l place.0 ≡ Some e) tagged place.1) in
+      let part = Contains-flat_map_cases block (indexed_entries es) from.0 (contained_at (flat_map block (indexed_entries es)) place.0 from.0 from.1) in
       let is = numbered from.0 (in_block part.0 from.0 part.1.0 part.1.1).0 in
       subst (Contains es) from.2 (contained_at es from.0.0 from.0.1 is)
 
@@ -157,20 +157,20 @@ module _ (es : List Entry) where
   pub placed_into : (e : Entry) → Contains es e → wanted_getter e.0 e.1 ≡ None → Contains (placed es) e
   placed_into e has none =
       let place = place_of es e has in
-      let at = contained_at (places es) place.0 (0 + place.0, e) (numbered_into 0 es place.0 e place.1) in
-      let free : awaited es (0 + place.0) e ≡ None = ap (λ (o : Option (List ℕ)). after (0 + place.0) (option_and_then (λ (label : List ℕ). position (is_under label) (keys_of es)) o)) none in
-      Contains-flat_map (λ (p : Placed). (if is_some (awaited es p.0 p.1) then [] else p.1 ∷ []) ++ waiting es p.0) (places es) (0 + place.0, e) e at
-      (Contains-append_left (if is_some (awaited es (0 + place.0) e) then [] else e ∷ []) (waiting es (0 + place.0)) e
+      let at = contained_at (indexed_entries es) place.0 (0 + place.0, e) (numbered_into 0 es place.0 e place.1) in
+      let free : later_getter es (0 + place.0) e ≡ None = ap (λ (o : Option (List ℕ)). after (0 + place.0) (option_and_then (λ (label : List ℕ). position (is_under label) (keys_of es)) o)) none in
+      Contains-flat_map (λ (p : Placed). (if is_some (later_getter es p.0 p.1) then [] else p.1 ∷ []) ++ waiting_setters es p.0) (indexed_entries es) (0 + place.0, e) e at
+      (Contains-append_left (if is_some (later_getter es (0 + place.0) e) then [] else e ∷ []) (waiting_setters es (0 + place.0)) e
       (subst (λ (o : Option ℕ). Contains (if is_some o then [] else e ∷ []) e) (sym free) (Contains-here e [])))
 
   -- keys that differed differ
   pub placed_distinct : HasDistinctKeys es → HasDistinctKeys (placed es)
   placed_distinct distinct i j e f first second same =
-      let all = flat_map block (places es) in
+      let all = flat_map block (indexed_entries es) in
       let a = from_map (λ (s : Placed). s.1) all i e (subst (λ (l : List Entry). slice_get l i ≡ Some e) tagged first) in
       let b = from_map (λ (s : Placed). s.1) all j f (subst (λ (l : List Entry). slice_get l j ≡ Some f) tagged second) in
-      let p = Contains-flat_map_cases block (places es) a.0 (contained_at all i a.0 a.1) in
-      let q = Contains-flat_map_cases block (places es) b.0 (contained_at all j b.0 b.1) in
+      let p = Contains-flat_map_cases block (indexed_entries es) a.0 (contained_at all i a.0 a.1) in
+      let q = Contains-flat_map_cases block (indexed_entries es) b.0 (contained_at all j b.0 b.1) in
       let x = numbered a.0 (in_block p.0 a.0 p.1.0 p.1.1).0 in
       let y = numbered b.0 (in_block q.0 b.0 q.1.0 q.1.1).0 in
       let one : a.0.0 ≡ b.0.0 = distinct a.0.0 b.0.0 a.0.1 b.0.1 x y (ap (λ (d : Entry). d.0) a.2 ∙ same ∙ ap (λ (d : Entry). d.0) (sym b.2)) in

@@ -1,10 +1,10 @@
--- A world of a graph on its way, its setters placed: its keys and ids are in order, and what elaboration adds has a
+-- A world of a partially linked graph, its setters placed: its keys and ids are in order, and what elaboration adds has a
 -- name.
 use Rattle.std.proofs.Common.{◌≡◌, inl, inr, ℕ, List, [], Some, length, slice_get, subst, Contains}
 use Rattle.wit_digraph.specs.facts.MemberFacts.{Contains-cons_cases, Contains-flat_map_cases, Contains-nil}
 use Rattle.wit_values.specs.Table.{HasDistinctKeys}
 use Rattle.wit_data.specs.Each.{Each}
-use Rattle.wit_data.specs.Entries.{Entry, HasExports, HasImports, IsExport}
+use Rattle.wit_data.specs.Entries.{Entry, ExportsAreAllowed, ImportsAreAllowed, IsExport}
 use Rattle.wit_data.specs.Ownership.{AliasesNamed, IsNamed}
 use Rattle.wit_data.specs.Uses.{uses_of}
 use Rattle.wit_data.specs.declared.interface.Interface.{Interface}
@@ -23,7 +23,7 @@ use Rattle.wit_graph_theory.specs.facts.ListFacts.{contained_at, place_of}
 use Rattle.wit_graph_theory.specs.facts.NamedUses.{IsUsed_named}
 use Rattle.wit_link_spec.specs.Pushed.{with_placed}
 use Rattle.wit_labels.specs.Setters.{placed}
-use Rattle.wit_link_laws.specs.facts.OnItsWay.{StandsSoFar}
+use Rattle.wit_link_laws.specs.facts.PartiallyLinked.{IsSoundSoFar}
 use Rattle.wit_link_laws.specs.facts.PlacedFacts.{placed_distinct, placed_in}
 
 pub named_export : (interfaces : List Interface) (k : WorldKey) (held : WorldItem) (j : ℕ) → Contains (key_interface k) j → IsExport interfaces k held → IsNamed interfaces j
@@ -33,17 +33,17 @@ named_export interfaces (key.Interface f) (item.Interface i stability docs span 
 named_export interfaces (key.Interface f) (item.Function fn) j has is = absurd is
 named_export interfaces (key.Interface f) (item.Type_ t span) j has is = absurd is
 
-module _ (g : Graph) (stands : StandsSoFar g) where
+module _ (g : Graph) (stands : IsSoundSoFar g) where
   pub aliases_named : Each (AliasesNamed g.types g.interfaces) g.types
   aliases_named i def at = (stands.items.types i def at).alias
 
   module _ (w : ℕ) (world : World) (at : slice_get g.worlds w ≡ Some world) where
-    placed_imports : HasImports g.interfaces g.types w (with_placed world)
+    placed_imports : ImportsAreAllowed g.interfaces g.types w (with_placed world)
     placed_imports i e on =
         let place = place_of world.imports e (placed_in world.imports e (contained_at (placed world.imports) i e on)) in
         ((stands.items.worlds w world at).imports place.0 e place.1).is
 
-    placed_exports : HasExports g.interfaces (with_placed world)
+    placed_exports : ExportsAreAllowed g.interfaces (with_placed world)
     placed_exports i e on =
         let place = place_of world.exports e (placed_in world.exports e (contained_at (placed world.exports) i e on)) in
         ((stands.items.worlds w world at).exports place.0 e place.1).is

@@ -1,4 +1,4 @@
--- What of a graph on its way remains comes of itself, where the graph is one of two sources.
+-- What of a partially linked graph remains comes of itself, where the graph is one of two sources.
 use Rattle.std.proofs.Common.{◌≡◌, inl, ℕ, Bool, true, false, List, ◌++◌, length, Some, slice_get, refl, Contains}
 use Rattle.std.proofs.lemmas.Bool.{lt-ltb}
 use Rattle.std.proofs.lemmas.List.Elements.{Contains-append_left, Contains-append_right}

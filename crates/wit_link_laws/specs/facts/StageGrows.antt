@@ -12,11 +12,11 @@ use Rattle.wit_graph_data.specs.declared.graph.Graph.{Graph}
 use Rattle.wit_graph_theory.specs.Image.{interface_image, type_image}
 use Rattle.wit_graph_theory.specs.facts.ListFacts.{from_map, old_or_new}
 use Rattle.wit_graph_theory.specs.facts.OptionFacts.{none_there}
-use Rattle.wit_link_spec.specs.Addition.{Addition, world_place}
-use Rattle.wit_link_spec.specs.Include.{Begun, copy_maps, goes_with, is_copied, with_world_included}
-use Rattle.wit_link_spec.specs.Pushed.{begun_with, with_include}
-use Rattle.wit_link_spec.specs.facts.RankFacts.{taken_places-from}
-use Rattle.wit_link_spec.specs.Ranks.{taken, taken_places}
+use Rattle.wit_link_spec.specs.Addition.{Addition, remapped_world}
+use Rattle.wit_link_spec.specs.Include.{PartiallyLinked, belongs_to, copy_maps, is_copied, with_world_included}
+use Rattle.wit_link_spec.specs.Pushed.{with_include, with_includes}
+use Rattle.wit_link_spec.specs.facts.RankFacts.{selected_with_index-from}
+use Rattle.wit_link_spec.specs.Ranks.{selected, selected_with_index}
 use Rattle.wit_link_laws.specs.facts.CopiedPart.{goes_parts}
 
 -- a copied interface: it has no name, and is of this package
@@ -65,11 +65,11 @@ has_more_still home g b c first second = record {
 }
 
 -- an include of a world that is there
-included_more : (home into : ℕ) (include : WorldInclude) (from : ℕ) (world : World) (b : Begun) → HasMore home b.graph (with_world_included home into include.names from world b).graph
+included_more : (home into : ℕ) (include : WorldInclude) (from : ℕ) (world : World) (b : PartiallyLinked) → HasMore home b.graph (with_world_included home into include.names from world b).graph
 included_more home into include from world b = record {
-  types = map (type_image (copy_maps b.graph from world include.names into home)) (taken (is_copied b.graph from world) b.graph.types);
+  types = map (type_image (copy_maps b.graph from world include.names into home)) (selected (is_copied b.graph from world) b.graph.types);
   types_are = refl;
-  interfaces = map (interface_image (copy_maps b.graph from world include.names into home)) (taken (goes_with b.graph world) b.graph.interfaces);
+  interfaces = map (interface_image (copy_maps b.graph from world include.names into home)) (selected (belongs_to b.graph world) b.graph.interfaces);
   interfaces_are = refl;
   copies = copies;
   worlds_are = refl;
@@ -77,11 +77,11 @@ included_more home into include from world b = record {
   names_are = refl;
 }
   where
-    copies : Each (IsCopy home) (map (interface_image (copy_maps b.graph from world include.names into home)) (taken (goes_with b.graph world) b.graph.interfaces))
+    copies : Each (IsCopy home) (map (interface_image (copy_maps b.graph from world include.names into home)) (selected (belongs_to b.graph world) b.graph.interfaces))
     copies i x at =
-        let made = from_map (interface_image (copy_maps b.graph from world include.names into home)) (taken (goes_with b.graph world) b.graph.interfaces) i x at in
-        let spot = from_map (λ (e : ℕ × Interface). e.1) (taken_places (goes_with b.graph world) b.graph.interfaces) i made.0 made.1 in
-        let is = taken_places-from (goes_with b.graph world) b.graph.interfaces i spot.0 spot.1 in
+        let made = from_map (interface_image (copy_maps b.graph from world include.names into home)) (selected (belongs_to b.graph world) b.graph.interfaces) i x at in
+        let spot = from_map (λ (e : ℕ × Interface). e.1) (selected_with_index (belongs_to b.graph world) b.graph.interfaces) i made.0 made.1 in
+        let is = selected_with_index-from (belongs_to b.graph world) b.graph.interfaces i spot.0 spot.1 in
         let nameless = unnamed (b.graph.interfaces) spot.0.0 spot.0.1 is.0 (goes_parts b.graph world spot.0.0 is.1).0 in
         subst (IsCopy home) made.2 (ap (λ (y : Interface). y.name) (sym spot.2) ∙ nameless, refl)
       where
@@ -90,18 +90,18 @@ included_more home into include from world b = record {
 
 module _ (a : Addition) where
   -- an include, whatever it names
-  pub include_more : (into : ℕ) (b : Begun) (include : WorldInclude) → HasMore (length a.graph.packages) b.graph (with_include a into b include).graph
-  include_more into b include = by (slice_get b.graph.worlds (world_place a include.id))
+  pub include_more : (into : ℕ) (b : PartiallyLinked) (include : WorldInclude) → HasMore (length a.graph.packages) b.graph (with_include a into b include).graph
+  include_more into b include = by (slice_get b.graph.worlds (remapped_world a include.id))
     where
-      by : (o : Option World) → HasMore (length a.graph.packages) b.graph (option_map_or (λ (world : World). with_world_included (length a.graph.packages) into include.names (world_place a include.id) world b) o b).graph
+      by : (o : Option World) → HasMore (length a.graph.packages) b.graph (option_map_or (λ (world : World). with_world_included (length a.graph.packages) into include.names (remapped_world a include.id) world b) o b).graph
       by None = has_itself (length a.graph.packages) b.graph
-      by (Some world) = included_more (length a.graph.packages) into include (world_place a include.id) world b
+      by (Some world) = included_more (length a.graph.packages) into include (remapped_world a include.id) world b
 
-  all_more : (into : ℕ) (includes : List WorldInclude) (b : Begun) → HasMore (length a.graph.packages) b.graph (fold (with_include a into) b includes).graph
+  all_more : (into : ℕ) (includes : List WorldInclude) (b : PartiallyLinked) → HasMore (length a.graph.packages) b.graph (fold (with_include a into) b includes).graph
   all_more into [] b = has_itself (length a.graph.packages) b.graph
   all_more into (x ∷ includes) b =
       has_more_still (length a.graph.packages) b.graph (with_include a into b x).graph (fold (with_include a into) (with_include a into b x) includes).graph (include_more into b x) (all_more into includes (with_include a into b x))
 
   -- what is begun with includes
-  pub begun_more : (w : ℕ) (world : World) (includes : List WorldInclude) (g : Graph) → HasMore (length a.graph.packages) g (begun_with a w world includes g).graph
+  pub begun_more : (w : ℕ) (world : World) (includes : List WorldInclude) (g : Graph) → HasMore (length a.graph.packages) g (with_includes a w world includes g).graph
   begun_more w world includes g = all_more (length g.worlds) includes _

@@ -1,4 +1,4 @@
--- The stages of an addition, one after another: the graph on its way, with the world whose turn it is as it is begun, and
+-- The stages of an addition, one after another: the partially linked graph, with the world whose turn it is as it is begun, and
 -- behind it those to come as they are listed. An include more, or a world that is finished, leads from a stage that
 -- stands to one that stands.
 use Rattle.std.proofs.Common.{◌≡◌, ℕ, zero, suc, List, [], ◌∷◌, ◌++◌, drop, map, length, Option, None, Some, slice_get, refl, ap, subst, arith}
@@ -14,9 +14,9 @@ use Rattle.wit_elaboration.specs.Imported.{HasConflict}
 use Rattle.wit_graph_data.specs.declared.graph.Graph.{Graph}
 use Rattle.wit_graph_theory.specs.Image.{world_image}
 use Rattle.wit_graph_theory.specs.facts.LawsOfElaboration.{LawsOfElaboration}
-use Rattle.wit_link_spec.specs.Addition.{Addition, addition_maps, world_place}
-use Rattle.wit_link_spec.specs.Include.{Begun, Lists, with_world_included}
-use Rattle.wit_link_spec.specs.Pushed.{finished, with_include, with_placed}
+use Rattle.wit_link_spec.specs.Addition.{Addition, addition_maps, remapped_world}
+use Rattle.wit_link_spec.specs.Include.{EntryLists, PartiallyLinked, with_world_included}
+use Rattle.wit_link_spec.specs.Pushed.{linked_world, with_include, with_placed}
 use Rattle.wit_link_spec.specs.WorldReasons.{IsShadowed, renamed_key}
 use Rattle.wit_labels.specs.Setters.{placed}
 use Rattle.wit_link_laws.specs.facts.ListedStage.{listed_images}
@@ -24,7 +24,7 @@ use Rattle.wit_link_laws.specs.facts.CopiesCarried.{IsUnshadowed}
 use Rattle.wit_link_laws.specs.facts.FinishedStands.{finished_stands}
 use Rattle.wit_link_laws.specs.facts.IncludedOnce.{included_stands}
 use Rattle.wit_link_laws.specs.facts.IncludedWorld.{Including, IsIncluded}
-use Rattle.wit_link_laws.specs.facts.OnItsWay.{StandsSoFar}
+use Rattle.wit_link_laws.specs.facts.PartiallyLinked.{IsSoundSoFar}
 
 -- ---- lists
 
@@ -37,22 +37,22 @@ others_stay (z ∷ xs) ys x y (suc w) apart = others_stay xs ys x y w (λ same. 
 
 -- ---- a world that is begun
 
--- a world of the package, with lists on their way
-abbrev pub begun_world : Addition → ℕ × World → Lists → World
-begun_world a e lists = record (world_image (addition_maps a) e.0 e.1) { imports = lists.imports; exports = lists.exports }
+-- a world of the package, with lists that are not elaborated yet
+abbrev pub partly_linked_world : Addition → ℕ × World → EntryLists → World
+partly_linked_world a e lists = record (world_image (addition_maps a) e.0 e.1) { imports = lists.imports; exports = lists.exports }
 
 -- the stage: `before` stand finished, the world is begun, and behind it stand those to come
-abbrev pub staged : Addition → List World → ℕ → ℕ × World → Begun → Graph
-staged a before k e b = record b.graph { worlds = before ++ begun_world a e b.lists ∷ drop (suc k) (listed_images a) }
+abbrev pub staged : Addition → List World → ℕ → ℕ × World → PartiallyLinked → Graph
+staged a before k e b = record b.graph { worlds = before ++ partly_linked_world a e b.lists ∷ drop (suc k) (listed_images a) }
 
 -- nothing is shadowed where a world comes into what is begun
-pub record IsFree (b : Begun) (include : WorldInclude) (old : World) : Type 0 where
+pub record IsFree (b : PartiallyLinked) (include : WorldInclude) (old : World) : Type 0 where
   pub imports : (n : List ℕ) → IsShadowed b.lists.imports (map (λ (e : Entry). renamed_key include.names e.0) old.imports) n → ⊥
   pub exports : (n : List ℕ) → IsShadowed b.lists.exports (map (λ (e : Entry). renamed_key include.names e.0) old.exports) n → ⊥
 
-module _ (a : Addition) (before : List World) (k : ℕ) (e : ℕ × World) (b : Begun) (include : WorldInclude) where
+module _ (a : Addition) (before : List World) (k : ℕ) (e : ℕ × World) (b : PartiallyLinked) (include : WorldInclude) where
   abbrev from : ℕ
-  from = world_place a include.id
+  from = remapped_world a include.id
 
   abbrev later : List World
   later = drop (suc k) (listed_images a)
@@ -62,10 +62,10 @@ module _ (a : Addition) (before : List World) (k : ℕ) (e : ℕ × World) (b : 
   including old at = record {
     from = from;
     old = old;
-    old_at = slice_get-append before (begun_world a e b.lists ∷ later) from old at;
+    old_at = slice_get-append before (partly_linked_world a e b.lists ∷ later) from old at;
     into = length before;
-    host = begun_world a e b.lists;
-    host_at = slice_get-behind before later (begun_world a e b.lists);
+    host = partly_linked_world a e b.lists;
+    host_at = slice_get-behind before later (partly_linked_world a e b.lists);
     apart = λ same. let within = slice_get_within before from old at in omega (arith, same, within);
     home = length a.graph.packages;
     host_home = refl;
@@ -79,17 +79,17 @@ module _ (a : Addition) (before : List World) (k : ℕ) (e : ℕ × World) (b : 
       record {
         types_are = refl;
         interfaces_are = refl;
-        joined_at = slice_get-behind before later (begun_world a e b'.lists);
-        others = λ w apart. others_stay before later (begun_world a e b'.lists) (begun_world a e b.lists) w apart;
+        joined_at = slice_get-behind before later (partly_linked_world a e b'.lists);
+        others = λ w apart. others_stay before later (partly_linked_world a e b'.lists) (partly_linked_world a e b.lists) w apart;
       }
 
   -- an include more
-  pub include_step : b.graph.worlds ≡ before → StandsSoFar (staged a before k e b) → ((old : World) → slice_get b.graph.worlds from ≡ Some old → IsFree b include old)
-      → StandsSoFar (staged a before k e (with_include a (length before) b include))
+  pub include_step : b.graph.worlds ≡ before → IsSoundSoFar (staged a before k e b) → ((old : World) → slice_get b.graph.worlds from ≡ Some old → IsFree b include old)
+      → IsSoundSoFar (staged a before k e (with_include a (length before) b include))
   include_step are stands free = by (slice_get b.graph.worlds from) refl
     where
       by : (o : Option World) → slice_get b.graph.worlds from ≡ o
-          → StandsSoFar (staged a before k e (option_map_or (λ (old : World). with_world_included (length a.graph.packages) (length before) include.names from old b) o b))
+          → IsSoundSoFar (staged a before k e (option_map_or (λ (old : World). with_world_included (length a.graph.packages) (length before) include.names from old b) o b))
       by None at = stands
       by (Some old) at =
           let there : slice_get before from ≡ Some old = subst (λ (worlds : List World). slice_get worlds from ≡ Some old) are at in
@@ -98,15 +98,15 @@ module _ (a : Addition) (before : List World) (k : ℕ) (e : ℕ × World) (b : 
 
 -- ---- a world that is finished
 
-module _ (laws : LawsOfElaboration) (a : Addition) (before : List World) (k : ℕ) (e : ℕ × World) (b : Begun) where
+module _ (laws : LawsOfElaboration) (a : Addition) (before : List World) (k : ℕ) (e : ℕ × World) (b : PartiallyLinked) where
   -- it is the elaboration of what is begun
-  pub finished_is : (HasConflict (graph_uses b.graph) (placed b.lists.exports) → ⊥) → Elaborated b.graph.types (graph_uses b.graph) (with_placed (begun_world a e b.lists)) (finished a e.0 e.1 b)
+  pub finished_is : (HasConflict (graph_uses b.graph) (placed b.lists.exports) → ⊥) → Elaborated b.graph.types (graph_uses b.graph) (with_placed (partly_linked_world a e b.lists)) (linked_world a e.0 e.1 b)
   finished_is none = record { no_conflict = none; world_is = refl }
 
   -- and the next stage stands
-  pub finish_step : StandsSoFar (staged a before k e b) → (HasConflict (graph_uses b.graph) (placed b.lists.exports) → ⊥)
-      → StandsSoFar (record b.graph { worlds = before ++ finished a e.0 e.1 b ∷ drop (suc k) (listed_images a) })
+  pub finish_step : IsSoundSoFar (staged a before k e b) → (HasConflict (graph_uses b.graph) (placed b.lists.exports) → ⊥)
+      → IsSoundSoFar (record b.graph { worlds = before ++ linked_world a e.0 e.1 b ∷ drop (suc k) (listed_images a) })
   finish_step stands none =
       let later = drop (suc k) (listed_images a) in
-      finished_stands laws (staged a before k e b) stands (length before) (begun_world a e b.lists) (slice_get-behind before later (begun_world a e b.lists)) (finished a e.0 e.1 b) (finished_is none)
-      (before ++ finished a e.0 e.1 b ∷ later) (slice_get-behind before later (finished a e.0 e.1 b)) (λ w apart. others_stay before later (finished a e.0 e.1 b) (begun_world a e b.lists) w apart)
+      finished_stands laws (staged a before k e b) stands (length before) (partly_linked_world a e b.lists) (slice_get-behind before later (partly_linked_world a e b.lists)) (linked_world a e.0 e.1 b) (finished_is none)
+      (before ++ linked_world a e.0 e.1 b ∷ later) (slice_get-behind before later (linked_world a e.0 e.1 b)) (λ w apart. others_stay before later (linked_world a e.0 e.1 b) (partly_linked_world a e b.lists) w apart)

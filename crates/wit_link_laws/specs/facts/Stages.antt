@@ -1,5 +1,5 @@
 -- The stages of an addition, one after another: before each world, before each of its includes, and before it is
--- finished, what is there is on its way.
+-- finished, what is there is partially linked.
 use Rattle.std.proofs.Common.{◌≡◌, ◌∙◌, inl, inr, ℕ, zero, suc, ◌<◌, ◌≤◌, List, [], ◌∷◌, ◌++◌, drop, fold, map, take, length, Some, slice_get, refl, sym, ap, subst, arith, codes}
 use Rattle.std.proofs.Math.Numerals.{add-one}
 use Rattle.std.proofs.lemmas.Bool.{cases_lt}
@@ -23,17 +23,17 @@ use Rattle.wit_graph_data.specs.declared.graph.Graph.{Graph}
 use Rattle.wit_graph_theory.specs.Image.{world_image}
 use Rattle.wit_graph_theory.specs.facts.LawsOfElaboration.{LawsOfElaboration}
 use Rattle.wit_graph_theory.specs.facts.ListFacts.{at_map, get_at}
-use Rattle.wit_link_spec.specs.Addition.{Addition, active_includes, addition_maps, own_worlds, world_place}
-use Rattle.wit_link_spec.specs.Include.{Begun, lists_of}
-use Rattle.wit_link_spec.specs.Pushed.{begun, begun_with, finished, with_include, with_parts, with_placed, with_world, with_worlds}
-use Rattle.wit_link_spec.specs.Reasons.{HasImage}
-use Rattle.wit_link_spec.specs.WorldReasons.{IncludeIsFine, IsListCalled, IsShadowed, WorldIsFine, renamed_key}
+use Rattle.wit_link_spec.specs.Addition.{Addition, active_includes, addition_maps, own_worlds, remapped_world}
+use Rattle.wit_link_spec.specs.Include.{PartiallyLinked, lists_of}
+use Rattle.wit_link_spec.specs.Pushed.{linked_world, with_all_includes, with_include, with_includes, with_parts, with_placed, with_world, with_worlds}
+use Rattle.wit_link_spec.specs.Reasons.{IsResolved}
+use Rattle.wit_link_spec.specs.WorldReasons.{IncludeIsAccepted, IsListCalled, IsShadowed, WorldIsAccepted, renamed_key}
 use Rattle.wit_labels.specs.Setters.{placed}
 use Rattle.wit_link_laws.specs.facts.ListedStage.{listed_images}
 use Rattle.wit_link_laws.specs.facts.StageGrows.{HasMore, begun_more}
-use Rattle.wit_link_laws.specs.facts.StageSteps.{IsFree, begun_world, finish_step, finished_is, include_step, staged}
+use Rattle.wit_link_laws.specs.facts.StageSteps.{IsFree, finish_step, finished_is, include_step, partly_linked_world, staged}
 use Rattle.wit_link_laws.specs.facts.CanonicalStays.{canonical_longer}
-use Rattle.wit_link_laws.specs.facts.OnItsWay.{StandsSoFar}
+use Rattle.wit_link_laws.specs.facts.PartiallyLinked.{IsSoundSoFar}
 use Rattle.wit_link_laws.specs.facts.PlacedWorlds.{placed_in_order}
 
 -- the stage before world k
@@ -70,13 +70,13 @@ module _ (a : Addition) where
     includes = active_includes a e.1
 
     -- it with so many of its includes
-    abbrev pub begun_at : ℕ → Begun
-    begun_at j = begun_with a e.0 e.1 (take j includes) (with_worlds a k)
+    abbrev pub begun_at : ℕ → PartiallyLinked
+    begun_at j = with_includes a e.0 e.1 (take j includes) (with_worlds a k)
 
     pub more_at : (j : ℕ) → HasMore (length a.graph.packages) (with_worlds a k) (begun_at j).graph
     more_at j = begun_more a e.0 e.1 (take j includes) (with_worlds a k)
 
-    pub begun_is : begun a e.0 e.1 (with_worlds a k) ≡ begun_at (length includes)
+    pub begun_is : with_all_includes a e.0 e.1 (with_worlds a k) ≡ begun_at (length includes)
     begun_is = sym (fold_past (with_include a (length before)) _ includes (length includes) (omega arith))
 
     -- before the first include it is as listed
@@ -85,8 +85,8 @@ module _ (a : Addition) where
         let next = drop_at (listed_images a) k (world_image (addition_maps a) e.0 e.1) (at_map (λ (d : ℕ × World). world_image (addition_maps a) d.0 d.1) (own_worlds a) k e at) in
         ap (λ (later : List World). let r : Graph = record (with_worlds a k) { worlds = before ++ later } in r) (sym next)
 
-    -- nothing is shadowed by an include that is fine
-    free_at : (j : ℕ) (include : WorldInclude) (old : World) → slice_get includes j ≡ Some include → IncludeIsFine a k j → slice_get (begun_at j).graph.worlds (world_place a include.id) ≡ Some old → IsFree (begun_at j) include old
+    -- nothing is shadowed by an include that is accepted
+    free_at : (j : ℕ) (include : WorldInclude) (old : World) → slice_get includes j ≡ Some include → IncludeIsAccepted a k j → slice_get (begun_at j).graph.worlds (remapped_world a include.id) ≡ Some old → IsFree (begun_at j) include old
     free_at j include old is fine there = record {
       imports = λ n. none_shadowed (codes "import") (begun_at j).lists.imports old.imports n (inl (refl, refl), inl (refl, refl));
       exports = λ n. none_shadowed (codes "export") (begun_at j).lists.exports old.exports n (inr (refl, refl), inr (refl, refl));
@@ -103,37 +103,37 @@ module _ (a : Addition) where
           span_is = refl;
         })
 
-    -- before each include what is begun is on its way
-    pub begun_stands : StandsSoFar (stage a k) → (j : ℕ) → ((i : ℕ) → i < j → IncludeIsFine a k i) → StandsSoFar (staged a before k e (begun_at j))
-    begun_stands stands zero fine = subst StandsSoFar (sym first_staged) stands
+    -- before each include what is begun is partially linked
+    pub begun_stands : IsSoundSoFar (stage a k) → (j : ℕ) → ((i : ℕ) → i < j → IncludeIsAccepted a k i) → IsSoundSoFar (staged a before k e (begun_at j))
+    begun_stands stands zero fine = subst IsSoundSoFar (sym first_staged) stands
     begun_stands stands (suc j) fine = next (begun_stands stands j (λ i below. fine i (omega arith)))
       where
-        next : StandsSoFar (staged a before k e (begun_at j)) → StandsSoFar (staged a before k e (begun_at (suc j)))
+        next : IsSoundSoFar (staged a before k e (begun_at j)) → IsSoundSoFar (staged a before k e (begun_at (suc j)))
         next so_far = elim (cases_lt j (length includes)) [
           | inl below ↦
               let x = get_at includes j below in
               let one_more : begun_at (suc j) ≡ with_include a (length before) (begun_at j) x.0 = fold_next (with_include a (length before)) _ includes j x.0 x.1 in
-              subst (λ (b : Begun). StandsSoFar (staged a before k e b)) (sym one_more)
+              subst (λ (b : PartiallyLinked). IsSoundSoFar (staged a before k e b)) (sym one_more)
               (include_step a before k e (begun_at j) x.0 (more_at j).worlds_are so_far (λ old there. free_at j x.0 old x.1 (fine j (omega arith)) there))
           | inr past ↦
               let same : begun_at (suc j) ≡ begun_at j = fold_past (with_include a (length before)) _ includes (suc j) (omega arith) ∙ sym (fold_past (with_include a (length before)) _ includes j past) in
-              subst (λ (b : Begun). StandsSoFar (staged a before k e b)) (sym same) so_far
+              subst (λ (b : PartiallyLinked). IsSoundSoFar (staged a before k e b)) (sym same) so_far
         ]
 
     -- and before it is finished
-    pub whole_stands : StandsSoFar (stage a k) → ((j : ℕ) → IncludeIsFine a k j) → StandsSoFar (staged a before k e (begun a e.0 e.1 (with_worlds a k)))
-    whole_stands stands fine = subst (λ (b : Begun). StandsSoFar (staged a before k e b)) (sym begun_is) (begun_stands stands (length includes) (λ i below. fine i))
+    pub whole_stands : IsSoundSoFar (stage a k) → ((j : ℕ) → IncludeIsAccepted a k j) → IsSoundSoFar (staged a before k e (with_all_includes a e.0 e.1 (with_worlds a k)))
+    whole_stands stands fine = subst (λ (b : PartiallyLinked). IsSoundSoFar (staged a before k e b)) (sym begun_is) (begun_stands stands (length includes) (λ i below. fine i))
 
-    abbrev whole : Begun
-    whole = begun a e.0 e.1 (with_worlds a k)
+    abbrev whole : PartiallyLinked
+    whole = with_all_includes a e.0 e.1 (with_worlds a k)
 
     pub whole_more : HasMore (length a.graph.packages) (with_worlds a k) whole.graph
     whole_more = begun_more a e.0 e.1 includes (with_worlds a k)
 
     -- the next stage
-    stage_next : stage a (suc k) ≡ record whole.graph { worlds = before ++ finished a e.0 e.1 whole ∷ drop (suc k) (listed_images a) }
+    stage_next : stage a (suc k) ≡ record whole.graph { worlds = before ++ linked_world a e.0 e.1 whole ∷ drop (suc k) (listed_images a) }
     stage_next =
-        let done = finished a e.0 e.1 whole in
+        let done = linked_world a e.0 e.1 whole in
         let later = drop (suc k) (listed_images a) in
         ap (λ (g : Graph). let r : Graph = record g { worlds = g.worlds ++ later } in r) (with_worlds_next k e at)
         ∙ ap (λ (ws : List World). let r : Graph = record whole.graph { worlds = (ws ++ done ∷ []) ++ later } in r) whole_more.worlds_are
@@ -141,17 +141,17 @@ module _ (a : Addition) where
 
     -- ---- it is finished
 
-    module _ (laws : LawsOfElaboration) (image : HasImage a) (stands : StandsSoFar (stage a k)) (fine : WorldIsFine a k) where
+    module _ (laws : LawsOfElaboration) (image : IsResolved a) (stands : IsSoundSoFar (stage a k)) (fine : WorldIsAccepted a k) where
       no_conflict : HasConflict (graph_uses whole.graph) (placed whole.lists.exports) → ⊥
       no_conflict conflict =
           let so_far = whole_stands stands (fine.includes image) in
-          let there = slice_get-behind before (drop (suc k) (listed_images a)) (begun_world a e whole.lists) in
+          let there = slice_get-behind before (drop (suc k) (listed_images a)) (partly_linked_world a e whole.lists) in
           let refused = (laws.refused whole.graph.types (graph_uses whole.graph) (placed whole.lists.imports) (placed whole.lists.exports) so_far.uses
-          (placed_in_order (staged a before k e whole) so_far (length before) (begun_world a e whole.lists) there)).0 conflict in
+          (placed_in_order (staged a before k e whole) so_far (length before) (partly_linked_world a e whole.lists) there)).0 conflict in
           fine.exports (moved_by a.offset e.1.span) (key_text whole.graph.packages whole.graph.interfaces refused.0) (record {
             at = record { place = e.0; world = e.1; is = at };
             has_image = image;
-            includes_are_fine = fine.includes image;
+            includes_are_accepted = fine.includes image;
             b = whole;
             is = refl;
             conflict = conflict;
@@ -159,17 +159,17 @@ module _ (a : Addition) where
             span_is = refl;
           })
 
-      pub next_stands : StandsSoFar (stage a (suc k))
-      next_stands = subst StandsSoFar (sym stage_next) (finish_step laws a before k e whole (whole_stands stands (fine.includes image)) no_conflict)
+      pub next_stands : IsSoundSoFar (stage a (suc k))
+      next_stands = subst IsSoundSoFar (sym stage_next) (finish_step laws a before k e whole (whole_stands stands (fine.includes image)) no_conflict)
 
       -- worlds stay canonical, and the new one is
       pub next_canonical : Each (λ (world : World). Elaborated (with_worlds a k).types (graph_uses (with_worlds a k)) world world) before
           → Each (λ (world : World). Elaborated (with_worlds a (suc k)).types (graph_uses (with_worlds a (suc k))) world world) (with_worlds a (suc k)).worlds
       next_canonical canonical =
           subst (λ (g : Graph). Each (λ (world : World). Elaborated g.types (graph_uses g) world world) g.worlds) (sym (with_worlds_next k e at))
-          (subst (λ (ws : List World). Each (λ (world : World). Elaborated whole.graph.types (graph_uses whole.graph) world world) (ws ++ finished a e.0 e.1 whole ∷ [])) (sym whole_more.worlds_are) all)
+          (subst (λ (ws : List World). Each (λ (world : World). Elaborated whole.graph.types (graph_uses whole.graph) world world) (ws ++ linked_world a e.0 e.1 whole ∷ [])) (sym whole_more.worlds_are) all)
         where
-          so_far : StandsSoFar (staged a before k e whole)
+          so_far : IsSoundSoFar (staged a before k e whole)
           so_far = whole_stands stands (fine.includes image)
 
           old_one : (w : ℕ) (world : World) → slice_get before w ≡ Some world → Elaborated whole.graph.types (graph_uses whole.graph) world world
@@ -181,14 +181,14 @@ module _ (a : Addition) where
               (subst (λ (interfaces : List Interface). Elaborated ((with_worlds a k).types ++ whole_more.types) (uses_of ((with_worlds a k).types ++ whole_more.types) interfaces) world world) (sym whole_more.interfaces_are)
               (canonical_longer (stage a k) stands.items whole_more.types whole_more.interfaces laws.local stands.uses acyclic w world (slice_get-append before (drop k (listed_images a)) w world there) (canonical w world there)))
 
-          new_one : Elaborated whole.graph.types (graph_uses whole.graph) (finished a e.0 e.1 whole) (finished a e.0 e.1 whole)
+          new_one : Elaborated whole.graph.types (graph_uses whole.graph) (linked_world a e.0 e.1 whole) (linked_world a e.0 e.1 whole)
           new_one =
-              let there = slice_get-behind before (drop (suc k) (listed_images a)) (begun_world a e whole.lists) in
-              laws.once whole.graph.types (graph_uses whole.graph) (with_placed (begun_world a e whole.lists)) (finished a e.0 e.1 whole) so_far.uses
-              (placed_in_order (staged a before k e whole) so_far (length before) (begun_world a e whole.lists) there) (finished_is laws a before k e whole no_conflict)
+              let there = slice_get-behind before (drop (suc k) (listed_images a)) (partly_linked_world a e whole.lists) in
+              laws.once whole.graph.types (graph_uses whole.graph) (with_placed (partly_linked_world a e whole.lists)) (linked_world a e.0 e.1 whole) so_far.uses
+              (placed_in_order (staged a before k e whole) so_far (length before) (partly_linked_world a e whole.lists) there) (finished_is laws a before k e whole no_conflict)
 
-          all : Each (λ (world : World). Elaborated whole.graph.types (graph_uses whole.graph) world world) (before ++ finished a e.0 e.1 whole ∷ [])
-          all w world there = elim (push-cases before (finished a e.0 e.1 whole) w world there) [
+          all : Each (λ (world : World). Elaborated whole.graph.types (graph_uses whole.graph) world world) (before ++ linked_world a e.0 e.1 whole ∷ [])
+          all w world there = elim (push-cases before (linked_world a e.0 e.1 whole) w world there) [
             | inl old ↦ old_one w world old
             | inr new ↦ subst (λ (x : World). Elaborated whole.graph.types (graph_uses whole.graph) x x) (sym new.1) new_one
           ]

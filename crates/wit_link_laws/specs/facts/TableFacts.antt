@@ -18,11 +18,11 @@ use Rattle.wit_graph_theory.specs.facts.GoodTypes.{if_some}
 use Rattle.wit_graph_theory.specs.Image.{interface_image}
 use Rattle.wit_graph_theory.specs.facts.ListFacts.{SomeAt-old, contained_at, found_at, from_map, old_or_new, some_at}
 use Rattle.wit_graph_theory.specs.laws.Theory.{HasGoodTables}
-use Rattle.wit_link_spec.specs.Addition.{Addition, addition_maps, interface_place, own_interface, own_interfaces, part}
+use Rattle.wit_link_spec.specs.Addition.{Addition, addition_maps, own_interface, own_interfaces, part, remapped_interface}
 use Rattle.wit_link_spec.specs.Pushed.{new_package, with_parts}
-use Rattle.wit_link_spec.specs.facts.RankFacts.{taken_places-at}
-use Rattle.wit_link_spec.specs.Ranks.{rank, taken_places}
-use Rattle.wit_link_spec.specs.Reasons.{HasImage}
+use Rattle.wit_link_spec.specs.facts.RankFacts.{selected_with_index-at}
+use Rattle.wit_link_spec.specs.Ranks.{rank, selected_with_index}
+use Rattle.wit_link_spec.specs.Reasons.{IsResolved}
 use Rattle.wit_link_laws.specs.facts.NamesOnce.{distinct_interfaces, table_entry}
 use Rattle.wit_link_spec.specs.facts.OwnThingFacts.{own_interface_from}
 use Rattle.wit_link_laws.specs.facts.Grown.{IsGrown, part_at}
@@ -46,7 +46,7 @@ in_longer : (packages : List Package) (more : Package) (o : Option ℕ) (P : Pac
 in_longer packages more None P holds = holds
 in_longer packages more (Some p) P holds = SomeAt-old P P packages (more ∷ []) p (λ home is. is) holds
 
-module _ (a : Addition) (valid : IsValid a.graph) (shaped : IsShaped a.handed) (image : HasImage a) (count : ℕ) (new : Graph) (are : IsGrown a count new) where
+module _ (a : Addition) (valid : IsValid a.graph) (shaped : IsShaped a.unresolved) (image : IsResolved a) (count : ℕ) (new : Graph) (are : IsGrown a count new) where
   pub new_package_at : slice_get new.packages (length a.graph.packages) ≡ Some (new_package a)
   new_package_at = ap (λ (l : List Package). slice_get l (length a.graph.packages)) are.packages_are ∙ slice_get-push a.graph.packages (new_package a)
 
@@ -59,15 +59,15 @@ module _ (a : Addition) (valid : IsValid a.graph) (shaped : IsShaped a.handed) (
   new_interface_tabled : (i : ℕ) (cut : Interface) → slice_get (own_interfaces a) i ≡ Some cut → IfSome cut.name (λ name. Contains (new_package a).interfaces (name, length a.graph.interfaces + i))
   new_interface_tabled i cut on =
       let own = own_interface_from a i cut on in
-      let taken = taken_places-at (own_interface a) a.handed.interfaces own.f own.interface own.there own.own in
+      let taken = selected_with_index-at (own_interface a) a.unresolved.interfaces own.f own.interface own.there own.own in
       if_some (λ (name : List ℕ). Contains (new_package a).interfaces (name, length a.graph.interfaces + i)) cut.name
       (λ name called.
       let named : own.interface.name ≡ Some name = ap (λ (x : Interface). x.name) own.is ∙ called in
-      let pair : List ℕ × ℕ = (name, interface_place a own.f) in
-      let gives : option_map (λ (name : List ℕ). let r : List ℕ × ℕ = (name, interface_place a own.f) in r) own.interface.name ≡ Some pair = ap (option_map (λ (name : List ℕ). let r : List ℕ × ℕ = (name, interface_place a own.f) in r)) named in
+      let pair : List ℕ × ℕ = (name, remapped_interface a own.f) in
+      let gives : option_map (λ (name : List ℕ). let r : List ℕ × ℕ = (name, remapped_interface a own.f) in r) own.interface.name ≡ Some pair = ap (option_map (λ (name : List ℕ). let r : List ℕ × ℕ = (name, remapped_interface a own.f) in r)) named in
       subst (λ (n : ℕ). Contains (new_package a).interfaces (name, n)) own.place
-      (filter_map_into (λ (e : ℕ × Interface). option_map (λ (name : List ℕ). let r : List ℕ × ℕ = (name, interface_place a e.0) in r) e.1.name) (taken_places (own_interface a) a.handed.interfaces) (own.f, own.interface) pair
-      (contained_at (taken_places (own_interface a) a.handed.interfaces) (rank (own_interface a) own.f) (own.f, own.interface) taken) gives))
+      (filter_map_into (λ (e : ℕ × Interface). option_map (λ (name : List ℕ). let r : List ℕ × ℕ = (name, remapped_interface a e.0) in r) e.1.name) (selected_with_index (own_interface a) a.unresolved.interfaces) (own.f, own.interface) pair
+      (contained_at (selected_with_index (own_interface a) a.unresolved.interfaces) (rank (own_interface a) own.f) (own.f, own.interface) taken) gives))
 
   pub interfaces_in_tables : EachAt (IsInTable new.packages) new.interfaces
   interfaces_in_tables i interface on =
@@ -112,9 +112,9 @@ module _ (a : Addition) (valid : IsValid a.graph) (shaped : IsShaped a.handed) (
   new_interfaces_are : Each (λ (e : List ℕ × ℕ). IsInterfaceOf new.interfaces (length a.graph.packages) e.0 e.1) (new_package a).interfaces
   new_interfaces_are i e on =
       let entry = table_entry a shaped i e on in
-      let there = part_at a count new are (interface_place a entry.f) _ (own_interface_at a valid shaped image (with_parts a).types (with_parts a).interfaces (listed_parts a) entry.f entry.interface entry.there entry.own) in
+      let there = part_at a count new are (remapped_interface a entry.f) _ (own_interface_at a valid shaped image (with_parts a).types (with_parts a).interfaces (listed_parts a) entry.f entry.interface entry.there entry.own) in
       subst (IsInterfaceOf new.interfaces (length a.graph.packages) e.0) entry.place
-      (some_at (λ (interface : Interface). (interface.name ≡ Some e.0) × (interface.package ≡ Some (length a.graph.packages))) new.interfaces (interface_place a entry.f) (interface_image (addition_maps a) (cut_interface (part a) entry.interface)) there (entry.name, refl))
+      (some_at (λ (interface : Interface). (interface.name ≡ Some e.0) × (interface.package ≡ Some (length a.graph.packages))) new.interfaces (remapped_interface a entry.f) (interface_image (addition_maps a) (cut_interface (part a) entry.interface)) there (entry.name, refl))
 
   module _ (worlds_are : Each (λ (e : List ℕ × ℕ). IsWorldOf new.worlds (length a.graph.packages) e.0 e.1) (new_package a).worlds) (distinct_worlds : HasDistinctKeys (new_package a).worlds) where
     -- so is the new one, where its worlds are

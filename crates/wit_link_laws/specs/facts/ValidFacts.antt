@@ -1,4 +1,4 @@
--- A valid graph to which a package is added is valid: each stage is on its way, and the last is the whole.
+-- A valid graph to which a package is added is valid: each stage is partially linked, and the last is the whole.
 use Rattle.std.proofs.Common.{◌≡◌, ◌∙◌, ℕ, zero, suc, ◌≤◌, List, [], ◌++◌, drop, fold, map, length, ap, subst, arith}
 use Rattle.std.proofs.Math.ListN.{drop_of_length-le}
 use Rattle.std.proofs.lemmas.List.{append-nil, length-map, take_all}
@@ -15,11 +15,11 @@ use Rattle.wit_graph_theory.specs.facts.GraphSource.{good_items}
 use Rattle.wit_graph_theory.specs.Image.{interface_image, type_image, world_image}
 use Rattle.wit_graph_theory.specs.facts.LawsOfElaboration.{LawsOfElaboration}
 use Rattle.wit_graph_theory.specs.facts.ListFacts.{get_at}
-use Rattle.wit_graph_theory.specs.facts.OnePlaceFacts.{StandOnce-from_places}
-use Rattle.wit_link_spec.specs.Addition.{Addition, added_owns, addition_maps, own_interfaces, own_types, own_worlds}
+use Rattle.wit_graph_theory.specs.facts.UnnamedOnceFacts.{StandOnce-from_entries}
+use Rattle.wit_link_spec.specs.Addition.{Addition, addition_maps, own_interfaces, own_types, own_worlds, owns_of_addition}
 use Rattle.wit_link_spec.specs.Cause.{IsReached}
 use Rattle.wit_link_spec.specs.Pushed.{pushed, with_parts, with_world, with_worlds}
-use Rattle.wit_link_spec.specs.Reasons.{HasImage, HasPackage}
+use Rattle.wit_link_spec.specs.Reasons.{HasPackage, IsResolved}
 use Rattle.wit_link_laws.specs.facts.Grown.{IsGrown, grown}
 use Rattle.wit_link_laws.specs.facts.ListedOnce.{listed_stands}
 use Rattle.wit_link_laws.specs.facts.ListedStage.{listed_images}
@@ -29,12 +29,12 @@ use Rattle.wit_link_laws.specs.facts.Stages.{next_canonical, next_stands, stage}
 use Rattle.wit_link_laws.specs.facts.TableFacts.{good_tables}
 use Rattle.wit_link_laws.specs.facts.WorldTables.{new_table, new_worlds_distinct, worlds_in_tables}
 use Rattle.wit_link_laws.specs.facts.CanonicalStays.{canonical_longer}
-use Rattle.wit_link_laws.specs.facts.OnItsWay.{StandsSoFar}
+use Rattle.wit_link_laws.specs.facts.PartiallyLinked.{IsSoundSoFar}
 
-module _ (laws : LawsOfElaboration) (a : Addition) (valid : IsValid a.graph) (shaped : IsShaped a.handed) (image : HasImage a) where
-  -- ---- each stage is on its way
+module _ (laws : LawsOfElaboration) (a : Addition) (valid : IsValid a.graph) (shaped : IsShaped a.unresolved) (image : IsResolved a) where
+  -- ---- each stage is partially linked
 
-  pub stage_stands : (k : ℕ) → k ≤ length (own_worlds a) → IsReached a k → StandsSoFar (stage a k)
+  pub stage_stands : (k : ℕ) → k ≤ length (own_worlds a) → IsReached a k → IsSoundSoFar (stage a k)
   stage_stands zero within reached = listed_stands a valid shaped image
   stage_stands (suc k) within reached =
       let e = get_at (own_worlds a) k (omega arith) in
@@ -43,7 +43,7 @@ module _ (laws : LawsOfElaboration) (a : Addition) (valid : IsValid a.graph) (sh
   -- and its finished worlds are canonical
   stage_canonical : (k : ℕ) → k ≤ length (own_worlds a) → IsReached a k → Each (λ (world : World). Elaborated (with_worlds a k).types (graph_uses (with_worlds a k)) world world) (with_worlds a k).worlds
   stage_canonical zero within reached = λ w world at.
-      canonical_longer a.graph (good_items a.graph (good_things a.graph valid)) (map (type_image (addition_maps a)) (own_types a) ++ added_owns a) (map (interface_image (addition_maps a)) (own_interfaces a)) laws.local valid.no_cycles.uses
+      canonical_longer a.graph (good_items a.graph (good_things a.graph valid)) (map (type_image (addition_maps a)) (own_types a) ++ owns_of_addition a) (map (interface_image (addition_maps a)) (own_interfaces a)) laws.local valid.no_cycles.uses
       (listed_stands a valid shaped image).uses w world at (valid.canonical w world at)
   stage_canonical (suc k) within reached =
       let e = get_at (own_worlds a) k (omega arith) in
@@ -62,8 +62,8 @@ module _ (laws : LawsOfElaboration) (a : Addition) (valid : IsValid a.graph) (sh
       ap (λ (later : List World). let r : Graph = record g { worlds = g.worlds ++ later } in r) none ∙ ap (λ (ws : List World). let r : Graph = record g { worlds = ws } in r) (append-nil g.worlds) ∙ all_worlds
 
   module _ (reached : IsReached a (length (own_worlds a))) where
-    pub pushed_stands : StandsSoFar (pushed a)
-    pushed_stands = subst StandsSoFar last_stage (stage_stands (length (own_worlds a)) (omega arith) reached)
+    pub pushed_stands : IsSoundSoFar (pushed a)
+    pushed_stands = subst IsSoundSoFar last_stage (stage_stands (length (own_worlds a)) (omega arith) reached)
 
     pushed_canonical : Each (λ (world : World). Elaborated (pushed a).types (graph_uses (pushed a)) world world) (pushed a).worlds
     pushed_canonical = subst (λ (g : Graph). Each (λ (world : World). Elaborated g.types (graph_uses g) world world) g.worlds) all_worlds (stage_canonical (length (own_worlds a)) (omega arith) reached)
@@ -84,11 +84,11 @@ module _ (laws : LawsOfElaboration) (a : Addition) (valid : IsValid a.graph) (sh
           worlds_in_tables = tables.worlds;
         }
 
-    module _ (absent : HasPackage a.graph a.handed.name → ⊥) where
+    module _ (absent : HasPackage a.graph a.unresolved.name → ⊥) where
       whole : IsGoodAsAWhole (pushed a)
       whole = record {
         package_names = added_names a valid absent (length (own_worlds a)) (pushed a) pushed_grown;
-        once = StandOnce-from_places (pushed a).interfaces (pushed a).worlds pushed_stands.once;
+        once = StandOnce-from_entries (pushed a).interfaces (pushed a).worlds pushed_stands.once;
         no_cycles = record { uses = pushed_stands.uses; types = pushed_stands.references; packages = added_packages_acyclic a valid shaped image (length (own_worlds a)) (pushed a) pushed_grown };
         canonical = pushed_canonical;
       }

@@ -1,5 +1,5 @@
 -- What is known at each stage of an addition, so that a contract can say it: of the graph before an include, where all
--- before it is fine, and of the graph and the lists before a world is finished.
+-- before it is accepted, and of the graph and the lists before a world is finished.
 use Rattle.std.specs.Prelude.{◌≡◌, ℕ, false, length, slice_get, take, Some, IsSome}
 use Rattle.wit_digraph.specs.Relation.{IsAcyclic, Reaches}
 use Rattle.wit_data.specs.Each.{EachAt}
@@ -13,17 +13,17 @@ use Rattle.wit_elaboration.specs.Sound.{HasSoundEntries}
 use Rattle.wit_elaboration.specs.Valid.{IsValid}
 use Rattle.wit_graph_data.specs.declared.graph.Graph.{Graph}
 use Rattle.wit_graph_theory.specs.facts.Good.{IsGoodInterface, IsGoodWorld}
-use Rattle.wit_link_spec.specs.Addition.{Addition, active_includes, own_worlds, world_place}
+use Rattle.wit_link_spec.specs.Addition.{Addition, active_includes, own_worlds, remapped_world}
 use Rattle.wit_link_spec.specs.Cause.{IncludeIsReached, IsReached}
-use Rattle.wit_link_spec.specs.Include.{Begun, is_owned_with}
-use Rattle.wit_link_spec.specs.Pushed.{begun, begun_with, pushed, with_worlds}
-use Rattle.wit_link_spec.specs.Reasons.{HasImage, HasPackage}
-use Rattle.wit_link_spec.specs.WorldReasons.{AtInclude, AtWorld, IncludeIsFine}
+use Rattle.wit_link_spec.specs.Include.{PartiallyLinked, is_owned_within}
+use Rattle.wit_link_spec.specs.Pushed.{pushed, with_all_includes, with_includes, with_worlds}
+use Rattle.wit_link_spec.specs.Reasons.{HasPackage, IsResolved}
+use Rattle.wit_link_spec.specs.WorldReasons.{AtInclude, AtWorld, IncludeIsAccepted}
 use Rattle.wit_labels.specs.Setters.{placed}
 
--- a graph on its way: no interface uses itself, no type refers to itself, ids are in range, and interfaces list and use
+-- a partially linked graph: no interface uses itself, no type refers to itself, ids are in range, and interfaces list and use
 -- types of their own
-pub record IsOnItsWay (g : Graph) : Type 0 where
+pub record IsPartiallyLinked (g : Graph) : Type 0 where
   pub uses : IsAcyclic (graph_uses g)
   pub references : IsAcyclic (type_references g.types)
   pub interfaces : EachAt (IsGoodInterface g.types) g.interfaces
@@ -31,31 +31,31 @@ pub record IsOnItsWay (g : Graph) : Type 0 where
 -- world `old`, which stands at place `from` of such a graph, can be included: it is good, so its ids are in range and no
 -- key comes twice; and a type with a name that doesn't go with it refers to none that does, through whatever others
 pub record CanInclude (g : Graph) (from : ℕ) (old : World) : Type 0 where
-  pub graph : IsOnItsWay g
+  pub graph : IsPartiallyLinked g
   pub world : IsGoodWorld g.types g.interfaces from old
-  pub apart : (t r : ℕ) (def : TypeDef) → slice_get g.types t ≡ Some def → IsSome def.name → is_owned_with g from old t ≡ false
-      → Reaches (type_references g.types) t r → is_owned_with g from old r ≡ false
+  pub apart : (t r : ℕ) (def : TypeDef) → slice_get g.types t ≡ Some def → IsSome def.name → is_owned_within g from old t ≡ false
+      → Reaches (type_references g.types) t r → is_owned_within g from old r ≡ false
 
 -- before each include that is reached
 abbrev pub IncludesCanBe : Type 0
-IncludesCanBe = (a : Addition) (k j : ℕ) → IsValid a.graph → IsShaped a.handed → IncludeIsReached a k j → (at : AtInclude a k j) → CanInclude at.before.graph (world_place a at.include.id) at.old
+IncludesCanBe = (a : Addition) (k j : ℕ) → IsValid a.graph → IsShaped a.unresolved → IncludeIsReached a k j → (at : AtInclude a k j) → CanInclude at.before.graph (remapped_world a at.include.id) at.old
 
 -- the world that it names is there: one of the graph, or one of the package that is finished
 abbrev pub IncludedAreThere : Type 0
-IncludedAreThere = (a : Addition) (k j : ℕ) → IsValid a.graph → IsShaped a.handed → IncludeIsReached a k j → (at : AtWorld a k) (include : WorldInclude) → slice_get (active_includes a at.world) j ≡ Some include
-    → (old : World) × (slice_get (begun_with a at.place at.world (take j (active_includes a at.world)) (with_worlds a k)).graph.worlds (world_place a include.id) ≡ Some old)
+IncludedAreThere = (a : Addition) (k j : ℕ) → IsValid a.graph → IsShaped a.unresolved → IncludeIsReached a k j → (at : AtWorld a k) (include : WorldInclude) → slice_get (active_includes a at.world) j ≡ Some include
+    → (old : World) × (slice_get (with_includes a at.place at.world (take j (active_includes a at.world)) (with_worlds a k)).graph.worlds (remapped_world a include.id) ≡ Some old)
 
--- what is begun of a world can be finished: the graph is on its way, and the keys and ids of the lists are in order
-pub record CanFinishBegun (b : Begun) : Type 0 where
-  pub graph : IsOnItsWay b.graph
+-- what is begun of a world can be finished: the graph is partially linked, and the keys and ids of the lists are in order
+pub record CanBeLinked (b : PartiallyLinked) : Type 0 where
+  pub graph : IsPartiallyLinked b.graph
   pub listed : HasSoundEntries b.graph.types (length b.graph.interfaces) (placed b.lists.imports) (placed b.lists.exports)
 
--- before each world that is reached is finished, where its includes are fine
+-- before each world that is reached is finished, where its includes are accepted
 abbrev pub WorldsCanBe : Type 0
-WorldsCanBe = (a : Addition) (k : ℕ) → IsValid a.graph → IsShaped a.handed → HasImage a → IsReached a k → ((j : ℕ) → IncludeIsFine a k j) → (at : AtWorld a k)
-    → CanFinishBegun (begun a at.place at.world (with_worlds a k))
+WorldsCanBe = (a : Addition) (k : ℕ) → IsValid a.graph → IsShaped a.unresolved → IsResolved a → IsReached a k → ((j : ℕ) → IncludeIsAccepted a k j) → (at : AtWorld a k)
+    → CanBeLinked (with_all_includes a at.place at.world (with_worlds a k))
 
 -- a valid graph to which a package is added is valid, where the package has its shape and an image in the graph, the
--- graph doesn't have it yet, and each of its worlds is fine
+-- graph doesn't have it yet, and each of its worlds is accepted
 abbrev pub PushesStayValid : Type 0
-PushesStayValid = (a : Addition) → IsValid a.graph → IsShaped a.handed → HasImage a → (HasPackage a.graph a.handed.name → ⊥) → IsReached a (length (own_worlds a)) → IsValid (pushed a)
+PushesStayValid = (a : Addition) → IsValid a.graph → IsShaped a.unresolved → IsResolved a → (HasPackage a.graph a.unresolved.name → ⊥) → IsReached a (length (own_worlds a)) → IsValid (pushed a)

@@ -1,31 +1,31 @@
--- What is known before each include, and before each world is finished, of any addition whose worlds are fine so far.
+-- What is known before each include, and before each world is finished, of any addition whose worlds are accepted so far.
 use Rattle.std.proofs.Common.{◌≡◌, ℕ, suc, List, drop, length, take, Some, slice_get, sym, subst, arith}
 use Rattle.std.proofs.lemmas.Option.{slice_get_within}
 use Rattle.wit_values.specs.facts.Lists.{slice_get-append, slice_get-behind}
 use Rattle.wit_data.specs.declared.world.World.{World}
 use Rattle.wit_graph_theory.specs.facts.LawsOfElaboration.{LawsOfElaboration}
-use Rattle.wit_link_spec.specs.Addition.{Addition, active_includes, own_worlds, world_place}
-use Rattle.wit_link_spec.specs.Include.{Begun}
-use Rattle.wit_link_spec.specs.Pushed.{begun, begun_with, with_worlds}
+use Rattle.wit_link_spec.specs.Addition.{Addition, active_includes, own_worlds, remapped_world}
+use Rattle.wit_link_spec.specs.Include.{PartiallyLinked}
+use Rattle.wit_link_spec.specs.Pushed.{with_all_includes, with_includes, with_worlds}
 use Rattle.wit_link_laws.specs.facts.ListedStage.{listed_images}
-use Rattle.wit_link_laws.specs.laws.StageFacts.{CanFinishBegun, CanInclude, IncludesCanBe, IsOnItsWay, WorldsCanBe}
+use Rattle.wit_link_laws.specs.laws.StageFacts.{CanBeLinked, CanInclude, IncludesCanBe, IsPartiallyLinked, WorldsCanBe}
 use Rattle.wit_link_laws.specs.facts.StageGrows.{begun_more}
-use Rattle.wit_link_laws.specs.facts.StageSteps.{begun_world, staged}
+use Rattle.wit_link_laws.specs.facts.StageSteps.{partly_linked_world, staged}
 use Rattle.wit_link_laws.specs.facts.Stages.{begun_stands, whole_stands}
 use Rattle.wit_link_laws.specs.facts.ValidFacts.{stage_stands}
 use Rattle.wit_link_laws.specs.facts.Mentioned.{apart}
-use Rattle.wit_link_laws.specs.facts.OnItsWay.{StandsSoFar}
+use Rattle.wit_link_laws.specs.facts.PartiallyLinked.{IsSoundSoFar}
 use Rattle.wit_link_laws.specs.facts.PlacedWorlds.{placed_listed}
 
-module _ (a : Addition) (before : List World) (k : ℕ) (e : ℕ × World) (b : Begun) (stands : StandsSoFar (staged a before k e b)) where
-  on_its_way : IsOnItsWay b.graph
+module _ (a : Addition) (before : List World) (k : ℕ) (e : ℕ × World) (b : PartiallyLinked) (stands : IsSoundSoFar (staged a before k e b)) where
+  on_its_way : IsPartiallyLinked b.graph
   on_its_way = record { uses = stands.uses; references = stands.references; interfaces = stands.items.interfaces }
 
   -- it can be finished
-  can_finish : CanFinishBegun b
+  can_finish : CanBeLinked b
   can_finish = record {
     graph = on_its_way;
-    listed = placed_listed (staged a before k e b) stands (length before) (begun_world a e b.lists) (slice_get-behind before (drop (suc k) (listed_images a)) (begun_world a e b.lists));
+    listed = placed_listed (staged a before k e b) stands (length before) (partly_linked_world a e b.lists) (slice_get-behind before (drop (suc k) (listed_images a)) (partly_linked_world a e b.lists));
   }
 
   -- a finished world of it can be included
@@ -40,16 +40,16 @@ pub worlds_can_be : LawsOfElaboration → WorldsCanBe
 worlds_can_be laws a k valid shaped image reached fine at =
     let e : ℕ × World = (at.place, at.world) in
     let below = slice_get_within (own_worlds a) k e at.is in
-    can_finish a (with_worlds a k).worlds k e (begun a at.place at.world (with_worlds a k)) (whole_stands a k e at.is (stage_stands laws a valid shaped image k (omega arith) reached) fine)
+    can_finish a (with_worlds a k).worlds k e (with_all_includes a at.place at.world (with_worlds a k)) (whole_stands a k e at.is (stage_stands laws a valid shaped image k (omega arith) reached) fine)
 
 pub includes_can_be : LawsOfElaboration → IncludesCanBe
 includes_can_be laws a k j valid shaped reached at =
     let e : ℕ × World = (at.at.place, at.at.world) in
     let includes = active_includes a at.at.world in
-    let b = begun_with a at.at.place at.at.world (take j includes) (with_worlds a k) in
+    let b = with_includes a at.at.place at.at.world (take j includes) (with_worlds a k) in
     let below = slice_get_within (own_worlds a) k e at.at.is in
     let more = begun_more a at.at.place at.at.world (take j includes) (with_worlds a k) in
-    let there : slice_get b.graph.worlds (world_place a at.include.id) ≡ Some at.old = subst (λ (x : Begun). slice_get x.graph.worlds (world_place a at.include.id) ≡ Some at.old) at.before_is at.old_is in
-    let in_front : slice_get (with_worlds a k).worlds (world_place a at.include.id) ≡ Some at.old = subst (λ (worlds : List World). slice_get worlds (world_place a at.include.id) ≡ Some at.old) more.worlds_are there in
-    subst (λ (x : Begun). CanInclude x.graph (world_place a at.include.id) at.old) (sym at.before_is)
-    (can_include a (with_worlds a k).worlds k e b (begun_stands a k e at.at.is (stage_stands laws a valid shaped reached.has_image k (omega arith) reached.worlds) j reached.includes) (world_place a at.include.id) at.old in_front)
+    let there : slice_get b.graph.worlds (remapped_world a at.include.id) ≡ Some at.old = subst (λ (x : PartiallyLinked). slice_get x.graph.worlds (remapped_world a at.include.id) ≡ Some at.old) at.before_is at.old_is in
+    let in_front : slice_get (with_worlds a k).worlds (remapped_world a at.include.id) ≡ Some at.old = subst (λ (worlds : List World). slice_get worlds (remapped_world a at.include.id) ≡ Some at.old) more.worlds_are there in
+    subst (λ (x : PartiallyLinked). CanInclude x.graph (remapped_world a at.include.id) at.old) (sym at.before_is)
+    (can_include a (with_worlds a k).worlds k e b (begun_stands a k e at.at.is (stage_stands laws a valid shaped reached.has_image k (omega arith) reached.worlds) j reached.includes) (remapped_world a at.include.id) at.old in_front)

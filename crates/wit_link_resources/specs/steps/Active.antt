@@ -1,4 +1,4 @@
--- The functions that take part of a package, one after another: those of its interfaces, then of its worlds.
+-- The functions that are active of a package, one after another: those of its interfaces, then of its worlds.
 use Rattle.std.specs.Prelude.{ℕ, List, [], ◌∷◌, ◌++◌, map, length, slice_get, if◌then◌else◌}
 use Rattle.std.specs.Borrow.{Bor}
 use Rattle.std.specs.List.{flat_map, range_with_len}
@@ -31,22 +31,22 @@ active_item features (item.Type_ t span) = []
 abbrev pub active_entries : Features → List Entry → List Function
 active_entries features entries = flat_map (λ (e : Entry). active_item features e.1) entries
 
--- those of interface i, where it takes part
+-- those of interface i, where it is active
 abbrev pub interface_functions : Addition → ℕ → List Function
 interface_functions a i =
-    if interface_is_active a.features a.handed i
-    then option_map_or (λ (interface : Interface). active_named a.features interface.functions) (slice_get a.handed.interfaces i) [] else []
+    if interface_is_active a.features a.unresolved i
+    then option_map_or (λ (interface : Interface). active_named a.features interface.functions) (slice_get a.unresolved.interfaces i) [] else []
 
--- those of world w, where it takes part
+-- those of world w, where it is active
 abbrev pub world_functions : Addition → ℕ → List Function
 world_functions a w =
-    if world_is_active a.features a.handed w
-    then option_map_or (λ (world : World). active_entries a.features world.imports ++ active_entries a.features world.exports) (slice_get a.handed.worlds w) [] else []
+    if world_is_active a.features a.unresolved w
+    then option_map_or (λ (world : World). active_entries a.features world.imports ++ active_entries a.features world.exports) (slice_get a.unresolved.worlds w) [] else []
 
--- all that take part
+-- all that are active
 abbrev pub active_functions : Addition → List Function
 active_functions a =
-    flat_map (interface_functions a) (range_with_len 0 (length a.handed.interfaces)) ++ flat_map (world_functions a) (range_with_len 0 (length a.handed.worlds))
+    flat_map (interface_functions a) (range_with_len 0 (length a.unresolved.interfaces)) ++ flat_map (world_functions a) (range_with_len 0 (length a.unresolved.worlds))
 
 -- functions that are looked at
 abbrev pub seen : List (Bor Function) → List Function

@@ -8,15 +8,15 @@ use Rattle.wit_link_spec.specs.Gates.{type_is_active}
 use Rattle.wit_link_spec.specs.Resources.{signature_positions, value_positions}
 use Rattle.wit_link_resources.specs.steps.Active.{active_functions}
 
--- the value positions of type t of the package, where it takes part
+-- the value positions of type t of the package, where it is active
 abbrev pub positions_of_type : Addition → ℕ → List ℕ
 positions_of_type a t =
-    if type_is_active a.features a.handed.types t then option_map_or (λ (def : TypeDef). value_positions def.kind) (slice_get a.handed.types t) [] else []
+    if type_is_active a.features a.unresolved.types t then option_map_or (λ (def : TypeDef). value_positions def.kind) (slice_get a.unresolved.types t) [] else []
 
 -- those of all types, then of all functions
 abbrev pub gathered_positions : Addition → List ℕ
-gathered_positions a = flat_map (positions_of_type a) (range_with_len 0 (length a.handed.types)) ++ flat_map signature_positions (active_functions a)
+gathered_positions a = flat_map (positions_of_type a) (range_with_len 0 (length a.unresolved.types)) ++ flat_map signature_positions (active_functions a)
 
--- does type t stand at a value position of what takes part?
+-- does type t stand at a value position of what is active?
 abbrev pub is_asked : Addition → ℕ → Bool
 is_asked a t = list_any (nat_eq t) (positions a)

@@ -4,10 +4,10 @@ use Rattle.wit_digraph.specs.Relation.{direct}
 use Rattle.wit_data.specs.Reference.{named_option}
 use Rattle.wit_data.specs.declared.function.Function.{Function}
 use Rattle.wit_data.specs.declared.types.TypeDef.{TypeDef}
-use Rattle.wit_graph_data.specs.Questions.{held_rows}
+use Rattle.wit_graph_data.specs.Queries.{type_contents}
 use Rattle.wit_link_spec.specs.Addition.{Addition}
 use Rattle.wit_link_spec.specs.Gates.{type_is_active}
-use Rattle.wit_link_spec.specs.Lookup.{found_type}
+use Rattle.wit_link_spec.specs.Lookup.{foreign_type_id}
 use Rattle.wit_link_spec.specs.Reasons.{HoldsBorrow, IsBorrow, MayHoldBorrow}
 
 -- these are no bad ones, and use each other alone
@@ -17,15 +17,15 @@ pub record AreFree (rows : List (List ℕ)) (Bad : ℕ → Type 0) (ids : List �
 
 -- type t of the package is a borrow, or goes to a type of the graph that holds one
 abbrev pub IsBorrowThere : Addition → ℕ → Type 0
-IsBorrowThere a t = IsBorrow a.handed.types t ⊎ ((t' : ℕ) × (type_is_active a.features a.handed.types t ≡ true) × (found_type a.graph a.handed t ≡ Some t') × HoldsBorrow a.graph.types t')
+IsBorrowThere a t = IsBorrow a.unresolved.types t ⊎ ((t' : ℕ) × (type_is_active a.features a.unresolved.types t ≡ true) × (foreign_type_id a.graph a.unresolved t ≡ Some t') × HoldsBorrow a.graph.types t')
 
 -- these types of the graph hold no borrow
 abbrev pub AreFreeTypes : List TypeDef → List ℕ → Type 0
-AreFreeTypes types ids = AreFree (held_rows types) (IsBorrow types) ids
+AreFreeTypes types ids = AreFree (type_contents types) (IsBorrow types) ids
 
 -- these types of the package hold no borrow
-abbrev pub AreFreeHanded : Addition → List ℕ → Type 0
-AreFreeHanded a ids = AreFree (held_rows a.handed.types) (IsBorrowThere a) ids
+abbrev pub AreFreeOfUnresolved : Addition → List ℕ → Type 0
+AreFreeOfUnresolved a ids = AreFree (type_contents a.unresolved.types) (IsBorrowThere a) ids
 
 -- what a function returns holds no borrow
 abbrev pub ReturnsNone : Addition → Function → Type 0

@@ -3,9 +3,9 @@ use Rattle.std.specs.Prelude.{◌≡◌, ◌≤◌, ◌&&◌, ℕ, Bool, true, f
 use Rattle.std.specs.Map.{lookup}
 use Rattle.wit_data.specs.Uses.{alias_target}
 use Rattle.wit_data.specs.declared.types.TypeDef.{TypeDef}
-use Rattle.wit_link_spec.specs.Addition.{Addition, plain_types, type_place}
+use Rattle.wit_link_spec.specs.Addition.{Addition, remapped_type, types_without_owns}
 use Rattle.wit_link_spec.specs.Gates.{type_is_active}
-use Rattle.wit_link_spec.specs.Lookup.{found_type}
+use Rattle.wit_link_spec.specs.Lookup.{foreign_type_id}
 use Rattle.wit_link_spec.specs.Resources.{leads_to_resource}
 
 -- of these types of a graph it is known whether they lead to a resource
@@ -20,9 +20,9 @@ LeadsOn types met t u = (lookup (nat_eq t) met ≡ None) × ((def : TypeDef) × 
 abbrev pub EndsAt : List TypeDef → ℕ → Type 0
 EndsAt types t = (def : TypeDef) → slice_get types t ≡ Some def → alias_target def.kind ≡ None
 
--- type t takes part, and leads to a resource where it goes
+-- type t is active, and leads to a resource where it goes
 abbrev pub leads_there : Addition → ℕ → Bool
-leads_there a t = type_is_active a.features a.handed.types t && leads_to_resource (plain_types a) (type_place a t)
+leads_there a t = type_is_active a.features a.unresolved.types t && leads_to_resource (types_without_owns a) (remapped_type a t)
 
 -- is type t wanted, and does it so?
 abbrev pub leads_if_wanted : Addition → List Bool → ℕ → Bool
@@ -30,7 +30,7 @@ leads_if_wanted a wanted t = unwrap_or (slice_get wanted t) false && leads_there
 
 -- if type t is an alias, it is known of what it names
 abbrev pub TargetIsKnown : Addition → List Bool → ℕ → Type 0
-TargetIsKnown a known t = (u : ℕ) (def : TypeDef) → slice_get a.handed.types t ≡ Some def → alias_target def.kind ≡ Some u → slice_get known u ≡ Some (leads_there a u)
+TargetIsKnown a known t = (u : ℕ) (def : TypeDef) → slice_get a.unresolved.types t ≡ Some def → alias_target def.kind ≡ Some u → slice_get known u ≡ Some (leads_there a u)
 
 -- from type n on, what an alias that is wanted names is wanted too
 abbrev pub WantsTargets : List TypeDef → ℕ → List Bool → Type 0
@@ -43,6 +43,6 @@ pub record AreWanted (types : List TypeDef) (asked : List Bool) (n : ℕ) (wante
   pub all : (t : ℕ) → slice_get asked t ≡ Some true → slice_get wanted t ≡ Some true
   pub targets : WantsTargets types n wanted
 
--- if type t takes part and is found in the graph, it leads to a resource there
+-- if type t is active and is found in the graph, it leads to a resource there
 abbrev pub LeadsWhereFound : Addition → ℕ → Type 0
-LeadsWhereFound a t = (t' : ℕ) → type_is_active a.features a.handed.types t ≡ true → found_type a.graph a.handed t ≡ Some t' → leads_to_resource a.graph.types t' ≡ true
+LeadsWhereFound a t = (t' : ℕ) → type_is_active a.features a.unresolved.types t ≡ true → foreign_type_id a.graph a.unresolved t ≡ Some t' → leads_to_resource a.graph.types t' ≡ true

@@ -1,4 +1,4 @@
--- No two interfaces of a package that take part go to one interface, so keys that differ go to keys that differ.
+-- No two interfaces of a package that are active go to one interface, so keys that differ go to keys that differ.
 use Rattle.std.proofs.Common.{◌≡◌, ◌∙◌, ℕ, ◌<◌, if◌then◌else◌, Bool, true, false, List, length, nat_eq, Option, None, Some, option_and_then, IsSome, slice_get, refl, sym, ap, subst, inl, inr, arith, Contains}
 use Rattle.std.specs.List.{list_any}
 use Rattle.std.specs.Map.{lookup}
@@ -21,15 +21,15 @@ use Rattle.wit_graph_data.specs.declared.graph.Graph.{Graph}
 use Rattle.wit_graph_data.specs.declared.graph.Package.{Package}
 use Rattle.wit_graph_theory.specs.Image.{key_image}
 use Rattle.wit_graph_theory.specs.facts.ListFacts.{found_at, get_at, place_of, same_at}
-use Rattle.wit_link_spec.specs.Addition.{Addition, addition_maps, interface_place, own_interface}
+use Rattle.wit_link_spec.specs.Addition.{Addition, addition_maps, own_interface, remapped_interface}
 use Rattle.wit_link_spec.specs.facts.ClosedCut.{closed_part}
-use Rattle.wit_link_spec.specs.facts.Found.{find-passes, interface_found, interface_of, named_at}
+use Rattle.wit_link_spec.specs.facts.ForeignFound.{find-passes, interface_found, interface_of, named_at}
 use Rattle.wit_link_spec.specs.Gates.{interface_is_active, is_foreign_interface}
-use Rattle.wit_link_spec.specs.Lookup.{find_interface, find_package, found_interface, named_items, naming}
+use Rattle.wit_link_spec.specs.Lookup.{find_interface, find_package, foreign_interface_id, named_items, naming_item}
 use Rattle.wit_link_spec.specs.facts.OwnThingFacts.{own_of_both}
 use Rattle.wit_link_spec.specs.facts.RankFacts.{rank-injective}
-use Rattle.wit_link_spec.specs.Reasons.{HasImage}
-use Rattle.wit_link_spec.specs.facts.Standing.{foreign_interface_goes, own_interface_goes}
+use Rattle.wit_link_spec.specs.Reasons.{IsResolved}
+use Rattle.wit_link_spec.specs.facts.Standing.{foreign_interface_remapped, own_interface_remapped}
 
 -- ---- what is found is found under one name
 
@@ -81,43 +81,43 @@ one_name g home home' name name' i j same a b =
 some_same : (i j : ℕ) → Some i ≡ Some j → i ≡ j
 some_same i j h = cc
 
-module _ (a : Addition) (valid : IsValid a.graph) (shaped : IsShaped a.handed) (image : HasImage a) where
-  -- an interface that takes part is there
-  pub active_there : (f : ℕ) → interface_is_active a.features a.handed f ≡ true → (interface : Interface) × (slice_get a.handed.interfaces f ≡ Some interface)
-  active_there f active = get_at a.handed.interfaces f ((closed_part a shaped image).interfaces_in_range f active)
+module _ (a : Addition) (valid : IsValid a.graph) (shaped : IsShaped a.unresolved) (image : IsResolved a) where
+  -- an interface that is active is there
+  pub active_there : (f : ℕ) → interface_is_active a.features a.unresolved f ≡ true → (interface : Interface) × (slice_get a.unresolved.interfaces f ≡ Some interface)
+  active_there f active = get_at a.unresolved.interfaces f ((closed_part a shaped image).interfaces_in_range f active)
 
   -- a foreign one goes to one of the graph
-  pub foreign_within : (f : ℕ) → is_foreign_interface a.handed f ≡ true → interface_is_active a.features a.handed f ≡ true → interface_place a f < length a.graph.interfaces
+  pub foreign_within : (f : ℕ) → is_foreign_interface a.unresolved f ≡ true → interface_is_active a.features a.unresolved f ≡ true → remapped_interface a f < length a.graph.interfaces
   foreign_within f foreign active =
       let there = active_there f active in
-      let goes = foreign_interface_goes a valid shaped image f there.0 there.1 foreign active in
-      let found = found_at (λ (interface : Interface). IsSome interface.name × (interface.name ≡ there.0.name)) a.graph.interfaces (interface_place a f) goes.1 in
-      slice_get_within a.graph.interfaces (interface_place a f) found.0 found.1
+      let goes = foreign_interface_remapped a valid shaped image f there.0 there.1 foreign active in
+      let found = found_at (λ (interface : Interface). IsSome interface.name × (interface.name ≡ there.0.name)) a.graph.interfaces (remapped_interface a f) goes.1 in
+      slice_get_within a.graph.interfaces (remapped_interface a f) found.0 found.1
 
   -- under what it is named there
   record IsNamedThere (f : ℕ) : Type 0 where
     e : ℕ × PackageName × ForeignItem
-    names : naming interface_id a.handed f ≡ Some e
-    found : IsFound a.graph e.1 e.2.0 (interface_place a f)
+    names : naming_item interface_id a.unresolved f ≡ Some e
+    found : IsFound a.graph e.1 e.2.0 (remapped_interface a f)
 
-  named_there : (f : ℕ) → is_foreign_interface a.handed f ≡ true → interface_is_active a.features a.handed f ≡ true → IsNamedThere f
+  named_there : (f : ℕ) → is_foreign_interface a.unresolved f ≡ true → interface_is_active a.features a.unresolved f ≡ true → IsNamedThere f
   named_there f foreign active =
       let there = active_there f active in
       let is = interface_found a shaped image f foreign active in
-      let goes = (foreign_interface_goes a valid shaped image f there.0 there.1 foreign active).0 in
-      let finds : found_interface a.graph a.handed f ≡ Some is.1 = ap (λ (o : Option (ℕ × PackageName × ForeignItem)). option_and_then (λ (e : ℕ × PackageName × ForeignItem). find_interface a.graph a.handed.name e.1 e.2.0) o) is.2 ∙ is.3 in
-      let same : is.1 ≡ interface_place a f = some_same is.1 (interface_place a f) (sym finds ∙ goes) in
-      record { e = is.0; names = is.2; found = found_is a.graph valid a.handed.name is.0.1 is.0.2.0 (interface_place a f) (subst (λ (i : ℕ). find_interface a.graph a.handed.name is.0.1 is.0.2.0 ≡ Some i) same is.3) }
+      let goes = (foreign_interface_remapped a valid shaped image f there.0 there.1 foreign active).0 in
+      let finds : foreign_interface_id a.graph a.unresolved f ≡ Some is.1 = ap (λ (o : Option (ℕ × PackageName × ForeignItem)). option_and_then (λ (e : ℕ × PackageName × ForeignItem). find_interface a.graph a.unresolved.name e.1 e.2.0) o) is.2 ∙ is.3 in
+      let same : is.1 ≡ remapped_interface a f = some_same is.1 (remapped_interface a f) (sym finds ∙ goes) in
+      record { e = is.0; names = is.2; found = found_is a.graph valid a.unresolved.name is.0.1 is.0.2.0 (remapped_interface a f) (subst (λ (i : ℕ). find_interface a.graph a.unresolved.name is.0.1 is.0.2.0 ≡ Some i) same is.3) }
 
-  foreign_apart : (f g : ℕ) → IsNamedThere f → IsNamedThere g → interface_place a f ≡ interface_place a g → f ≡ g
+  foreign_apart : (f g : ℕ) → IsNamedThere f → IsNamedThere g → remapped_interface a f ≡ remapped_interface a g → f ≡ g
   foreign_apart f g x y same =
-      let names = one_name a.graph x.e.1 y.e.1 x.e.2.0 y.e.2.0 (interface_place a f) (interface_place a g) same x.found y.found in
-      let first = find-passes (λ (e : ℕ × PackageName × ForeignItem). list_any (nat_eq f) (interface_id e.2.1.0)) (named_items a.handed.foreign_deps) x.e x.names in
-      let second = find-passes (λ (e : ℕ × PackageName × ForeignItem). list_any (nat_eq g) (interface_id e.2.1.0)) (named_items a.handed.foreign_deps) y.e y.names in
-      let at = named_at a.handed.foreign_deps x.e first.0 in
-      let at' = named_at a.handed.foreign_deps y.e second.0 in
+      let names = one_name a.graph x.e.1 y.e.1 x.e.2.0 y.e.2.0 (remapped_interface a f) (remapped_interface a g) same x.found y.found in
+      let first = find-passes (λ (e : ℕ × PackageName × ForeignItem). list_any (nat_eq f) (interface_id e.2.1.0)) (named_items a.unresolved.foreign_deps) x.e x.names in
+      let second = find-passes (λ (e : ℕ × PackageName × ForeignItem). list_any (nat_eq g) (interface_id e.2.1.0)) (named_items a.unresolved.foreign_deps) y.e y.names in
+      let at = named_at a.unresolved.foreign_deps x.e first.0 in
+      let at' = named_at a.unresolved.foreign_deps y.e second.0 in
       let place : x.e.0 ≡ y.e.0 = shaped.keys.packages x.e.0 y.e.0 (x.e.1, at.0) (y.e.1, at'.0) at.1 at'.1 names.0 in
-      let homes = same_at a.handed.foreign_deps x.e.0 y.e.0 (x.e.1, at.0) (y.e.1, at'.0) place at.1 at'.1 in
+      let homes = same_at a.unresolved.foreign_deps x.e.0 y.e.0 (x.e.1, at.0) (y.e.1, at'.0) place at.1 at'.1 in
       let items : at.0 ≡ at'.0 = ap (λ (h : PackageName × List ForeignItem). h.1) homes in
       let spot = place_of at.0 x.e.2 at.2 in
       let spot' = place_of at.0 y.e.2 (subst (λ (l : List ForeignItem). Contains l y.e.2) (sym items) at'.2) in
@@ -126,42 +126,42 @@ module _ (a : Addition) (valid : IsValid a.graph) (shaped : IsShaped a.handed) (
       let both : named.Interface f ≡ named.Interface g = sym (interface_of f x.e.2.1.0 first.1) ∙ ap (λ (i : ForeignItem). i.1.0) one ∙ interface_of g y.e.2.1.0 second.1 in
       cc
 
-  own_both : (f : ℕ) → is_foreign_interface a.handed f ≡ false → interface_is_active a.features a.handed f ≡ true → own_interface a f ≡ true
-  own_both f own active = own_of_both (is_foreign_interface a.handed f) (interface_is_active a.features a.handed f) own active
+  own_both : (f : ℕ) → is_foreign_interface a.unresolved f ≡ false → interface_is_active a.features a.unresolved f ≡ true → own_interface a f ≡ true
+  own_both f own active = own_of_both (is_foreign_interface a.unresolved f) (interface_is_active a.features a.unresolved f) own active
 
-  -- what takes part goes apart
-  pub interfaces_apart : (f g : ℕ) → interface_is_active a.features a.handed f ≡ true → interface_is_active a.features a.handed g ≡ true → interface_place a f ≡ interface_place a g → f ≡ g
-  interfaces_apart f g active other same = elim (cases_Bool (is_foreign_interface a.handed f)) [
-    | inl foreign ↦ elim (cases_Bool (is_foreign_interface a.handed g)) [
+  -- what is active goes apart
+  pub interfaces_apart : (f g : ℕ) → interface_is_active a.features a.unresolved f ≡ true → interface_is_active a.features a.unresolved g ≡ true → remapped_interface a f ≡ remapped_interface a g → f ≡ g
+  interfaces_apart f g active other same = elim (cases_Bool (is_foreign_interface a.unresolved f)) [
+    | inl foreign ↦ elim (cases_Bool (is_foreign_interface a.unresolved g)) [
       | inl both ↦ foreign_apart f g (named_there f foreign active) (named_there g both other) same
       | inr own ↦
           let low = foreign_within f foreign active in
-          let high = own_interface_goes a g (own_both g own other) in
+          let high = own_interface_remapped a g (own_both g own other) in
           absurd (omega arith)
     ]
-    | inr own ↦ elim (cases_Bool (is_foreign_interface a.handed g)) [
+    | inr own ↦ elim (cases_Bool (is_foreign_interface a.unresolved g)) [
       | inl foreign ↦
           let low = foreign_within g foreign other in
-          let high = own_interface_goes a f (own_both f own active) in
+          let high = own_interface_remapped a f (own_both f own active) in
           absurd (omega arith)
       | inr both ↦
-          let first = own_interface_goes a f (own_both f own active) in
-          let second = own_interface_goes a g (own_both g both other) in
+          let first = own_interface_remapped a f (own_both f own active) in
+          let second = own_interface_remapped a g (own_both g both other) in
           rank-injective (own_interface a) f g (own_both f own active) (own_both g both other) (omega arith)
     ]
   ]
 
-  -- the interface of a key takes part
-  abbrev pub KeyTakesPart : WorldKey → Type 0
-  KeyTakesPart (key.Name label) = Unit {0}
-  KeyTakesPart (key.Interface f) = interface_is_active a.features a.handed f ≡ true
+  -- the interface of a key is active
+  abbrev pub KeyIsActive : WorldKey → Type 0
+  KeyIsActive (key.Name label) = Unit {0}
+  KeyIsActive (key.Interface f) = interface_is_active a.features a.unresolved f ≡ true
 
   -- keys that go to one key are one
-  pub keys_apart : (w : ℕ) (j k : WorldKey) → KeyTakesPart j → KeyTakesPart k → key_image (addition_maps a) w j ≡ key_image (addition_maps a) w k → j ≡ k
+  pub keys_apart : (w : ℕ) (j k : WorldKey) → KeyIsActive j → KeyIsActive k → key_image (addition_maps a) w j ≡ key_image (addition_maps a) w k → j ≡ k
   keys_apart w (key.Name m) (key.Name n) first second same = same
   keys_apart w (key.Name m) (key.Interface g) first second same = cc
   keys_apart w (key.Interface f) (key.Name n) first second same = cc
-  keys_apart w (key.Interface f) (key.Interface g) first second same = ap key.Interface (interfaces_apart f g first second (inside (interface_place a f) (interface_place a g) same))
+  keys_apart w (key.Interface f) (key.Interface g) first second same = ap key.Interface (interfaces_apart f g first second (inside (remapped_interface a f) (remapped_interface a g) same))
     where
       inside : (i j : ℕ) → key.Interface i ≡ key.Interface j → i ≡ j
       inside i j h = cc

@@ -1,4 +1,4 @@
--- Where nothing speaks against an addition, what takes part of its package refers to what takes part alone.
+-- Where no cause holds against an addition, what is active of its package refers to what is active alone.
 use Rattle.std.proofs.Common.{◌≡◌, ◌∙◌, ◌≢◌, ℕ, ◌<◌, ◌≤◌, ◌&&◌, nat_eq, Bool, true, false, not, List, [], ◌∷◌, ◌⊎◌, inl, inr, map, length, Option, None, Some, slice_get, refl, sym, ap, subst, arith, Contains, if◌then◌else◌}
 use Rattle.std.specs.List.{flat_map}
 use Rattle.std.specs.Option.{option_map_or}
@@ -11,8 +11,8 @@ use Rattle.wit_digraph.specs.facts.MemberFacts.{Contains-cons_cases, Contains-fl
 use Rattle.wit_digraph.specs.facts.FreshFacts.{any_from_contains, contains_from_any}
 use Rattle.wit_data.specs.Each.{Each, SomeAt}
 use Rattle.wit_data.specs.Entries.{Entry}
-use Rattle.wit_data.specs.Foreign.{AreFirst, ForeignItem, IsBareWorld, IsForeign, IsForeignType, foreign_interfaces, foreign_worlds, interface_id, world_id}
-use Rattle.wit_data.specs.Ownership.{IsListed, listed_type, world_types}
+use Rattle.wit_data.specs.Foreign.{AreFirst, ForeignItem, IsForeign, IsForeignType, IsNameOnlyWorld, foreign_interfaces, foreign_worlds, interface_id, world_id}
+use Rattle.wit_data.specs.Ownership.{IsListed, entry_type, world_types}
 use Rattle.wit_data.specs.Reference.{function_references, named_type, referred}
 use Rattle.wit_data.specs.Shape.{IsShaped}
 use Rattle.wit_data.specs.declared.function.Function.{Function}
@@ -30,8 +30,8 @@ use Rattle.wit_data.specs.declared.world.WorldItem.TheVariants as item
 use Rattle.wit_graph_theory.specs.Cut.{IsClosedCut, ItemIsKept, OwnerIsKept}
 use Rattle.wit_graph_theory.specs.facts.ListFacts.{Contains-map, contained_at, found_at, place_of, same_at, some_at}
 use Rattle.wit_link_spec.specs.Addition.{Addition, own_world, part}
-use Rattle.wit_link_spec.specs.Gates.{HasEntry, Place, function_is_active, interface_is_active, is_active, is_foreign_interface, is_foreign_world, item_is_active, notes_of_foreign, some_active, type_is_active, world_is_active}
-use Rattle.wit_link_spec.specs.Reasons.{HasImage, IsActiveFunction, IsExcluded, RefersTo, Thing, AType, AnInterface, AWorld, kind_references, of_entry, of_foreign_type, of_function, of_interface, of_type, of_world, owner_thing}
+use Rattle.wit_link_spec.specs.Gates.{HasEntry, OptionalSpan, foreign_gates, function_is_active, interface_is_active, is_active, is_foreign_interface, is_foreign_world, item_is_active, some_active, type_is_active, world_is_active}
+use Rattle.wit_link_spec.specs.Reasons.{IsResolved, IsActiveFunction, IsExcluded, RefersTo, Thing, AType, AnInterface, AWorld, kind_references, of_entry, of_foreign_type, of_function, of_interface, of_type, of_world, owner_thing}
 
 -- what a test that is true of nothing where nothing is there tells
 pub there_where : {X : Type 0} (f : X → Bool) (o : Option X) → option_map_or f o false ≡ true → (x : X) × (o ≡ Some x) × (f x ≡ true)
@@ -39,7 +39,7 @@ there_where f None h = cc
 there_where f (Some x) h = (x, refl, h)
 
 -- a reference has a place
-reference_place : (k : TypeDefKind) (span : Place) (t : ℕ) → Contains (referred k) t → (place : Place) × Contains (kind_references k span) (t, place)
+reference_place : (k : TypeDefKind) (span : OptionalSpan) (t : ℕ) → Contains (referred k) t → (place : OptionalSpan) × Contains (kind_references k span) (t, place)
 reference_place (kind.Record fields) span t has =
     let from = Contains-flat_map_cases (λ (f : Field). named_type f.ty) fields t has in (
       from.0.span,
@@ -111,122 +111,122 @@ bare_world : (interfaces : List Interface) (worlds : List World) (w : ℕ) (name
 bare_world interfaces worlds w (name, (named.World v, notes)) has is =
     elim (Contains-cons_cases v w [] has) [
       | inl same ↦
-          let found = found_at (IsBareWorld name) worlds v is.0 in
+          let found = found_at (IsNameOnlyWorld name) worlds v is.0 in
           subst (λ (k : ℕ). SomeAt worlds k (λ (world : World). world.imports ≡ [])) same
           (some_at (λ (world : World). world.imports ≡ []) worlds v found.0 found.1 found.2.1)
       | inr none ↦ absurd (Contains-nil none)
     ]
 bare_world interfaces worlds w (name, (named.Interface i, notes)) has is = absurd (Contains-nil has)
 
-module _ (a : Addition) (shaped : IsShaped a.handed) (image : HasImage a) where
-  -- what takes part refers to what isn't left out
-  pub kept_type : (t : ℕ) (place : Place) → RefersTo a (AType t) place → type_is_active a.features a.handed.types t ≡ true
-  kept_type t place h = elim (cases_Bool (type_is_active a.features a.handed.types t)) [
+module _ (a : Addition) (shaped : IsShaped a.unresolved) (image : IsResolved a) where
+  -- what is active refers to what isn't left out
+  pub kept_type : (t : ℕ) (place : OptionalSpan) → RefersTo a (AType t) place → type_is_active a.features a.unresolved.types t ≡ true
+  kept_type t place h = elim (cases_Bool (type_is_active a.features a.unresolved.types t)) [
     | inl is_on ↦ is_on
     | inr left ↦ absurd (image.references _ _ (record { thing = AType t; place = place; refers = h; excluded = left; span_is = refl; message_is = refl }))
   ]
 
-  pub kept_interface : (i : ℕ) (place : Place) → RefersTo a (AnInterface i) place → interface_is_active a.features a.handed i ≡ true
-  kept_interface i place h = elim (cases_Bool (interface_is_active a.features a.handed i)) [
+  pub kept_interface : (i : ℕ) (place : OptionalSpan) → RefersTo a (AnInterface i) place → interface_is_active a.features a.unresolved i ≡ true
+  kept_interface i place h = elim (cases_Bool (interface_is_active a.features a.unresolved i)) [
     | inl is_on ↦ is_on
     | inr left ↦ absurd (image.references _ _ (record { thing = AnInterface i; place = place; refers = h; excluded = left; span_is = refl; message_is = refl }))
   ]
 
-  pub kept_world : (w : ℕ) (place : Place) → RefersTo a (AWorld w) place → world_is_active a.features a.handed w ≡ true
-  kept_world w place h = elim (cases_Bool (world_is_active a.features a.handed w)) [
+  pub kept_world : (w : ℕ) (place : OptionalSpan) → RefersTo a (AWorld w) place → world_is_active a.features a.unresolved w ≡ true
+  kept_world w place h = elim (cases_Bool (world_is_active a.features a.unresolved w)) [
     | inl is_on ↦ is_on
     | inr left ↦ absurd (image.references _ _ (record { thing = AWorld w; place = place; refers = h; excluded = left; span_is = refl; message_is = refl }))
   ]
 
   -- and its owner isn't left out
-  kept_owner : (t : ℕ) (def : TypeDef) (thing : Thing) → slice_get a.handed.types t ≡ Some def → type_is_active a.features a.handed.types t ≡ true → def.kind ≢ kind.Unknown
+  kept_owner : (t : ℕ) (def : TypeDef) (thing : Thing) → slice_get a.unresolved.types t ≡ Some def → type_is_active a.features a.unresolved.types t ≡ true → def.kind ≢ kind.Unknown
       → owner_thing def.owner ≡ thing ∷ [] → IsExcluded a thing → ⊥
   kept_owner t def thing at active known is left =
       image.owners _ _ (record { t = t; def = def; thing = thing; is = at; own = known; active = active; owner = is; excluded = left; span_is = refl; message_is = refl })
 
-  pub references_kept : (t : ℕ) (def : TypeDef) → slice_get a.handed.types t ≡ Some def → type_is_active a.features a.handed.types t ≡ true
-      → Each (λ u. type_is_active a.features a.handed.types u ≡ true) (referred def.kind)
+  pub references_kept : (t : ℕ) (def : TypeDef) → slice_get a.unresolved.types t ≡ Some def → type_is_active a.features a.unresolved.types t ≡ true
+      → Each (λ u. type_is_active a.features a.unresolved.types u ≡ true) (referred def.kind)
   references_kept t def at active k u there =
       let place = reference_place def.kind def.span u (contained_at (referred def.kind) k u there) in
       kept_type u place.0 (of_type t def u place.0 at active place.1)
 
-  -- a function that takes part
-  pub function_kept : (f : Function) → IsActiveFunction a f → Each (λ t. type_is_active a.features a.handed.types t ≡ true) (function_references f)
+  -- a function that is active
+  pub function_kept : (f : Function) → IsActiveFunction a f → Each (λ t. type_is_active a.features a.unresolved.types t ≡ true) (function_references f)
   function_kept f is k t there = kept_type t f.span (of_function f t is (contained_at (function_references f) k t there))
 
-  -- an entry that takes part
-  entry_kept : (w : ℕ) (world : World) (e : Entry) → slice_get a.handed.worlds w ≡ Some world → world_is_active a.features a.handed w ≡ true → HasEntry world e
-      → item_is_active a.features a.handed.types e.1 ≡ true → ItemIsKept (part a) e.1
+  -- an entry that is active
+  entry_kept : (w : ℕ) (world : World) (e : Entry) → slice_get a.unresolved.worlds w ≡ Some world → world_is_active a.features a.unresolved w ≡ true → HasEntry world e
+      → item_is_active a.features a.unresolved.types e.1 ≡ true → ItemIsKept (part a) e.1
   entry_kept w world (k, item.Interface i stability docs span external_id) at active has takes = kept_interface i span (of_entry w world k i stability docs span external_id at active has takes)
   entry_kept w world (k, item.Function f) at active has takes = function_kept f (of_world w world k f at active has takes)
   entry_kept w world (k, item.Type_ t span) at active has takes = takes
 
   -- what is kept of functions and entries
-  function_of : (f : ℕ) (interface : Interface) (e : List ℕ × Function) → slice_get a.handed.interfaces f ≡ Some interface → interface_is_active a.features a.handed f ≡ true
-      → Contains interface.functions e → function_is_active a.features e.1 ≡ true → Each (λ t. type_is_active a.features a.handed.types t ≡ true) (function_references e.1)
+  function_of : (f : ℕ) (interface : Interface) (e : List ℕ × Function) → slice_get a.unresolved.interfaces f ≡ Some interface → interface_is_active a.features a.unresolved f ≡ true
+      → Contains interface.functions e → function_is_active a.features e.1 ≡ true → Each (λ t. type_is_active a.features a.unresolved.types t ≡ true) (function_references e.1)
   function_of f interface e at active has takes = function_kept e.1 (of_interface f interface e.0 e.1 at active has takes)
 
-  -- an owner that takes part: an interface
-  interface_owner : (t : ℕ) (def : TypeDef) (f : ℕ) → slice_get a.handed.types t ≡ Some def → type_is_active a.features a.handed.types t ≡ true → def.owner ≡ owner.Interface f
-      → (def.kind ≡ kind.Unknown) ⊎ (def.kind ≢ kind.Unknown) → interface_is_active a.features a.handed f ≡ true
+  -- an owner that is active: an interface
+  interface_owner : (t : ℕ) (def : TypeDef) (f : ℕ) → slice_get a.unresolved.types t ≡ Some def → type_is_active a.features a.unresolved.types t ≡ true → def.owner ≡ owner.Interface f
+      → (def.kind ≡ kind.Unknown) ⊎ (def.kind ≢ kind.Unknown) → interface_is_active a.features a.unresolved f ≡ true
   interface_owner t def f at active is (inl unknown) = kept_interface f None (of_foreign_type t def f at unknown active is)
-  interface_owner t def f at active is (inr known) = elim (cases_Bool (interface_is_active a.features a.handed f)) [
+  interface_owner t def f at active is (inr known) = elim (cases_Bool (interface_is_active a.features a.unresolved f)) [
     | inl is_on ↦ is_on
     | inr left ↦ absurd (kept_owner t def (AnInterface f) at active known (ap owner_thing is) left)
   ]
 
   -- or a world, which is the package's own, since a world of another package lists nothing
-  world_owner : (t : ℕ) (def : TypeDef) (w : ℕ) → slice_get a.handed.types t ≡ Some def → type_is_active a.features a.handed.types t ≡ true → def.owner ≡ owner.World w
-      → def.kind ≢ kind.Unknown → world_is_active a.features a.handed w ≡ true
-  world_owner t def w at active is known = elim (cases_Bool (world_is_active a.features a.handed w)) [
+  world_owner : (t : ℕ) (def : TypeDef) (w : ℕ) → slice_get a.unresolved.types t ≡ Some def → type_is_active a.features a.unresolved.types t ≡ true → def.owner ≡ owner.World w
+      → def.kind ≢ kind.Unknown → world_is_active a.features a.unresolved w ≡ true
+  world_owner t def w at active is known = elim (cases_Bool (world_is_active a.features a.unresolved w)) [
     | inl is_on ↦ is_on
     | inr left ↦ absurd (kept_owner t def (AWorld w) at active known (ap owner_thing is) left)
   ]
 
   -- the first worlds are bare
-  foreign_is_bare : (w : ℕ) → w < length (foreign_worlds a.handed.foreign_deps) → SomeAt a.handed.worlds w (λ (world : World). world.imports ≡ [])
-  foreign_is_bare w below =
-      let has = member_of_first (foreign_worlds a.handed.foreign_deps) (length a.handed.worlds) w shaped.foreign.worlds below in
-      let home = Contains-flat_map_cases (λ (e : PackageName × List ForeignItem). flat_map (λ (named : ForeignItem). world_id named.1.0) e.1) a.handed.foreign_deps w has in
+  foreign_is_name_only : (w : ℕ) → w < length (foreign_worlds a.unresolved.foreign_deps) → SomeAt a.unresolved.worlds w (λ (world : World). world.imports ≡ [])
+  foreign_is_name_only w below =
+      let has = member_of_first (foreign_worlds a.unresolved.foreign_deps) (length a.unresolved.worlds) w shaped.foreign.worlds below in
+      let home = Contains-flat_map_cases (λ (e : PackageName × List ForeignItem). flat_map (λ (named : ForeignItem). world_id named.1.0) e.1) a.unresolved.foreign_deps w has in
       let named = Contains-flat_map_cases (λ (named : ForeignItem). world_id named.1.0) home.0.1 w home.1.1 in
-      let at = place_of a.handed.foreign_deps home.0 home.1.0 in
+      let at = place_of a.unresolved.foreign_deps home.0 home.1.0 in
       let inner = place_of home.0.1 named.0 named.1.0 in
-      bare_world a.handed.interfaces a.handed.worlds w named.0 named.1.1 (shaped.foreign.bare at.0 home.0 at.1 inner.0 named.0 inner.1)
+      bare_world a.unresolved.interfaces a.unresolved.worlds w named.0 named.1.1 (shaped.foreign.bare at.0 home.0 at.1 inner.0 named.0 inner.1)
 
   -- so a world that owns a type is the package's own
-  owning_world : (t : ℕ) (def : TypeDef) (w : ℕ) → slice_get a.handed.types t ≡ Some def → def.owner ≡ owner.World w → is_foreign_world a.handed w ≡ false
-  owning_world t def w at is = elim (cases_Bool (is_foreign_world a.handed w)) [
+  owning_world : (t : ℕ) (def : TypeDef) (w : ℕ) → slice_get a.unresolved.types t ≡ Some def → def.owner ≡ owner.World w → is_foreign_world a.unresolved w ≡ false
+  owning_world t def w at is = elim (cases_Bool (is_foreign_world a.unresolved w)) [
     | inl foreign ↦
-        let below : w < length (foreign_worlds a.handed.foreign_deps) = ltb-true w (length (foreign_worlds a.handed.foreign_deps)) foreign in
-        let listed : IsListed a.handed.interfaces a.handed.worlds t def.name (owner.World w) = subst (λ (o : TypeOwner). IsListed a.handed.interfaces a.handed.worlds t def.name o) is (shaped.owners.listed t def at) in
-        absurd (lists_nothing t w def.name listed (foreign_is_bare w below))
+        let below : w < length (foreign_worlds a.unresolved.foreign_deps) = ltb-true w (length (foreign_worlds a.unresolved.foreign_deps)) foreign in
+        let listed : IsListed a.unresolved.interfaces a.unresolved.worlds t def.name (owner.World w) = subst (λ (o : TypeOwner). IsListed a.unresolved.interfaces a.unresolved.worlds t def.name o) is (shaped.owners.listed t def at) in
+        absurd (lists_nothing t w def.name listed (foreign_is_name_only w below))
     | inr own ↦ own
   ]
     where
-      lists_nothing : (t w : ℕ) (name : Option (List ℕ)) → IsListed a.handed.interfaces a.handed.worlds t name (owner.World w)
-          → SomeAt a.handed.worlds w (λ (world : World). world.imports ≡ []) → ⊥
+      lists_nothing : (t w : ℕ) (name : Option (List ℕ)) → IsListed a.unresolved.interfaces a.unresolved.worlds t name (owner.World w)
+          → SomeAt a.unresolved.worlds w (λ (world : World). world.imports ≡ []) → ⊥
       lists_nothing t w None listed bare = listed
       lists_nothing t w (Some name) listed bare =
-          let found = found_at (λ (world : World). Contains (world_types world) (name, t)) a.handed.worlds w listed in
-          let empty = found_at (λ (world : World). world.imports ≡ []) a.handed.worlds w bare in
-          let same : found.0 ≡ empty.0 = same_at a.handed.worlds w w found.0 empty.0 refl found.1 empty.1 in
+          let found = found_at (λ (world : World). Contains (world_types world) (name, t)) a.unresolved.worlds w listed in
+          let empty = found_at (λ (world : World). world.imports ≡ []) a.unresolved.worlds w bare in
+          let same : found.0 ≡ empty.0 = same_at a.unresolved.worlds w w found.0 empty.0 refl found.1 empty.1 in
           let none : found.0.imports ≡ [] = ap (λ (world : World). world.imports) same ∙ empty.2 in
-          let from = Contains-flat_map_cases (λ (e : Entry). listed_type e.0 e.1) found.0.imports (name, t) found.2 in
+          let from = Contains-flat_map_cases (λ (e : Entry). entry_type e.0 e.1) found.0.imports (name, t) found.2 in
           Contains-nil (subst (λ (es : List Entry). Contains es from.0) none from.1.0)
 
-  -- what takes part of a world's test: that it is active, and no world of another package
-  own_is_active : (w : ℕ) → own_world a w ≡ true → world_is_active a.features a.handed w ≡ true
-  own_is_active w takes = second (is_foreign_world a.handed w) (world_is_active a.features a.handed w) takes
+  -- what is active of a world's test: that it is active, and no world of another package
+  own_is_active : (w : ℕ) → own_world a w ≡ true → world_is_active a.features a.unresolved w ≡ true
+  own_is_active w takes = second (is_foreign_world a.unresolved w) (world_is_active a.features a.unresolved w) takes
     where
       second : (b c : Bool) → not b && c ≡ true → c ≡ true
       second true c h = cc
       second false c h = h
 
-  owned_by : (t : ℕ) (def : TypeDef) (by : TypeOwner) → slice_get a.handed.types t ≡ Some def → type_is_active a.features a.handed.types t ≡ true → def.owner ≡ by → OwnerIsKept (part a) by
+  owned_by : (t : ℕ) (def : TypeDef) (by : TypeOwner) → slice_get a.unresolved.types t ≡ Some def → type_is_active a.features a.unresolved.types t ≡ true → def.owner ≡ by → OwnerIsKept (part a) by
   owned_by t def (owner.Interface f) at active is = interface_owner t def f at active is (known_or def.kind)
   owned_by t def (owner.World w) at active is = elim (known_or def.kind) [
-    | inl unknown ↦ absurd (subst (λ (o : TypeOwner). IsForeignType (length (foreign_interfaces a.handed.foreign_deps)) (record def { owner = o })) is (shaped.unknown.foreign t def at ((shaped.unknown.first.1 t def at).0 unknown))).1
-    | inr known ↦ both (is_foreign_world a.handed w) (world_is_active a.features a.handed w) (owning_world t def w at is) (world_owner t def w at active is known)
+    | inl unknown ↦ absurd (subst (λ (o : TypeOwner). IsForeignType (length (foreign_interfaces a.unresolved.foreign_deps)) (record def { owner = o })) is (shaped.unknown.foreign t def at ((shaped.unknown.first.1 t def at).0 unknown))).1
+    | inr known ↦ both (is_foreign_world a.unresolved w) (world_is_active a.features a.unresolved w) (owning_world t def w at is) (world_owner t def w at active is known)
   ]
     where
       both : (b c : Bool) → b ≡ false → c ≡ true → not b && c ≡ true
@@ -234,25 +234,25 @@ module _ (a : Addition) (shaped : IsShaped a.handed) (image : HasImage a) where
       both false c h k = k
   owned_by t def owner.None at active is = tt
 
-  interface_there : (f : ℕ) → interface_is_active a.features a.handed f ≡ true → f < length a.handed.interfaces
-  interface_there f takes = elim (cases_Bool (is_foreign_interface a.handed f)) [
+  interface_there : (f : ℕ) → interface_is_active a.features a.unresolved f ≡ true → f < length a.unresolved.interfaces
+  interface_there f takes = elim (cases_Bool (is_foreign_interface a.unresolved f)) [
     | inl foreign ↦
-        let below : f < length (foreign_interfaces a.handed.foreign_deps) = ltb-true f (length (foreign_interfaces a.handed.foreign_deps)) foreign in
+        let below : f < length (foreign_interfaces a.unresolved.foreign_deps) = ltb-true f (length (foreign_interfaces a.unresolved.foreign_deps)) foreign in
         let there = shaped.foreign.interfaces.there in
         omega arith
     | inr own ↦
-        let notes = ap (λ (b : Bool). some_active a.features (if b then notes_of_foreign interface_id a.handed.foreign_deps f else option_map_or (λ (interface : Interface). interface.stability ∷ []) (slice_get a.handed.interfaces f) [])) own in
-        within (slice_get a.handed.interfaces f) refl (sym notes ∙ takes)
+        let notes = ap (λ (b : Bool). some_active a.features (if b then foreign_gates interface_id a.unresolved.foreign_deps f else option_map_or (λ (interface : Interface). interface.stability ∷ []) (slice_get a.unresolved.interfaces f) [])) own in
+        within (slice_get a.unresolved.interfaces f) refl (sym notes ∙ takes)
   ]
     where
-      within : (o : Option Interface) → slice_get a.handed.interfaces f ≡ o → some_active a.features (option_map_or (λ (interface : Interface). interface.stability ∷ []) o []) ≡ true → f < length a.handed.interfaces
+      within : (o : Option Interface) → slice_get a.unresolved.interfaces f ≡ o → some_active a.features (option_map_or (λ (interface : Interface). interface.stability ∷ []) o []) ≡ true → f < length a.unresolved.interfaces
       within None at h = cc
-      within (Some interface) at h = slice_get_within a.handed.interfaces f interface at
+      within (Some interface) at h = slice_get_within a.unresolved.interfaces f interface at
 
-  -- what takes part of the package refers to what takes part alone
-  pub closed_part : IsClosedCut (part a) a.handed.types a.handed.interfaces a.handed.worlds
+  -- what is active of the package refers to what is active alone
+  pub closed_part : IsClosedCut (part a) a.unresolved.types a.unresolved.interfaces a.unresolved.worlds
   closed_part = record {
-    in_range = λ t takes. let there = there_where (λ (def : TypeDef). is_active a.features def.stability) (slice_get a.handed.types t) takes in slice_get_within a.handed.types t there.0 there.1;
+    in_range = λ t takes. let there = there_where (λ (def : TypeDef). is_active a.features def.stability) (slice_get a.unresolved.types t) takes in slice_get_within a.unresolved.types t there.0 there.1;
     interfaces_in_range = interface_there;
     references = λ t def at takes. references_kept t def at takes;
     owners = λ t def at takes. owned_by t def def.owner at takes refl;

@@ -1,4 +1,4 @@
--- What a value position of the package names takes part, so that the `own`s that are made are of types that do.
+-- What a value position of the package names is active, so that the `own`s that are made are of types that do.
 use Rattle.std.proofs.Common.{◌≡◌, ℕ, ◌&&◌, Bool, true, false, List, ◌++◌, inl, inr, nat_eq, refl, sym, subst, Contains}
 use Rattle.std.specs.List.{flat_map, list_any}
 use Rattle.std.specs.Option.{option_to_list}
@@ -21,11 +21,11 @@ use Rattle.wit_data.specs.declared.world.WorldItem.TheVariants as item
 use Rattle.wit_elaboration.proofs.Filters.{Contains-filter}
 use Rattle.wit_graph_theory.specs.Cut.{ItemIsKept}
 use Rattle.wit_graph_theory.specs.facts.ListFacts.{place_of}
-use Rattle.wit_link_spec.specs.Addition.{Addition, function_positions, needs_own, own_interfaces, own_types, own_worlds, part, plain_types, positions, type_place}
+use Rattle.wit_link_spec.specs.Addition.{Addition, function_positions, own_interfaces, own_types, own_worlds, part, positions, remapped_type, types_without_owns, value_needs_own}
 use Rattle.wit_link_spec.specs.facts.ClosedCut.{closed_part, references_kept}
 use Rattle.wit_link_spec.specs.Gates.{type_is_active}
 use Rattle.wit_link_spec.specs.facts.OwnThingFacts.{own_interface_from, own_type_from, own_world_from}
-use Rattle.wit_link_spec.specs.Reasons.{HasImage}
+use Rattle.wit_link_spec.specs.Reasons.{IsResolved}
 use Rattle.wit_link_spec.specs.Resources.{leads_to_resource, signature_positions, value_positions}
 
 -- a value position of a kind is a reference of it
@@ -51,9 +51,9 @@ position_referred kind.Unknown t has = has
 signature_referred : (f : Function) (t : ℕ) → Contains (signature_positions f) t → Contains (function_references f) t
 signature_referred f t has = Contains-append_right (option_to_list (resource_of f.kind)) (signature_positions f) t has
 
-module _ (a : Addition) (shaped : IsShaped a.handed) (image : HasImage a) where
+module _ (a : Addition) (shaped : IsShaped a.unresolved) (image : IsResolved a) where
   abbrev IsActive : ℕ → Type 0
-  IsActive t = type_is_active a.features a.handed.types t ≡ true
+  IsActive t = type_is_active a.features a.unresolved.types t ≡ true
 
   of_each : (ids : List ℕ) (t : ℕ) → Each IsActive ids → Contains ids t → IsActive t
   of_each ids t each has = let place = place_of ids t has in each place.0 t place.1
@@ -97,8 +97,8 @@ module _ (a : Addition) (shaped : IsShaped a.handed) (image : HasImage a) where
             (closed_part a shaped image).exports from.0.0 own.world own.there own.own spot.0 entry.0 spot.1 kept.1
       ]) entry.1.1
 
-  -- what a value position names takes part
-  pub position_active : (t : ℕ) → Contains (positions a) t → type_is_active a.features a.handed.types t ≡ true
+  -- what a value position names is active
+  pub position_active : (t : ℕ) → Contains (positions a) t → type_is_active a.features a.unresolved.types t ≡ true
   position_active t has =
       let of_types = flat_map (λ (def : TypeDef). value_positions def.kind) (own_types a) in
       let of_interfaces = flat_map (λ (interface : Interface). flat_map (λ (e : List ℕ × Function). signature_positions e.1) interface.functions) (own_interfaces a) in
@@ -109,8 +109,8 @@ module _ (a : Addition) (shaped : IsShaped a.handed) (image : HasImage a) where
       ]
 
   -- so a type that needs an `own` does
-  pub needs_active : (t : ℕ) → needs_own a t ≡ true → type_is_active a.features a.handed.types t ≡ true
-  needs_active t needs = position_active t (contains_from_any t (positions a) (first (list_any (nat_eq t) (positions a)) (leads_to_resource (plain_types a) (type_place a t)) needs))
+  pub needs_active : (t : ℕ) → value_needs_own a t ≡ true → type_is_active a.features a.unresolved.types t ≡ true
+  needs_active t needs = position_active t (contains_from_any t (positions a) (first (list_any (nat_eq t) (positions a)) (leads_to_resource (types_without_owns a) (remapped_type a t)) needs))
     where
       first : (b c : Bool) → b && c ≡ true → b ≡ true
       first true c h = refl

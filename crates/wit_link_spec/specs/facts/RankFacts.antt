@@ -1,11 +1,11 @@
--- Facts on what takes part of a list, for the proofs of the crates above.
+-- Facts on what is active of a list, for the proofs of the crates above.
 use Rattle.std.proofs.Common.{◌≡◌, ◌∙◌, ℕ, zero, suc, ◌+◌, ◌<◌, ◌≤◌, Bool, true, false, List, [], ◌∷◌, inl, inr, filter, Some, option_map, slice_get, refl, sym, ap, subst, cond, arith, if◌then◌else◌}
 use Rattle.std.specs.List.{enumerate_from}
 use Rattle.std.proofs.lemmas.Bool.{cases_lt, cases_order}
 use Rattle.std.proofs.lemmas.Option.{slice_get-map}
-use Rattle.wit_link_spec.specs.Ranks.{rank, taken, taken_places}
+use Rattle.wit_link_spec.specs.Ranks.{rank, selected, selected_with_index}
 
--- one more, where something takes part
+-- one more, where something is active
 abbrev pub after : Bool → ℕ → ℕ
 after true n = suc n
 after false n = n
@@ -41,7 +41,7 @@ unfolding ranks_from
 rank-from kept zero = refl
 rank-from kept (suc i) = rank-suc kept i ∙ (ap (after (kept i)) (rank-from kept i) ∙ sym (ranks_from-last kept 0 i i (omega arith)))
 
--- ranks grow by one at what takes part, and by nothing elsewhere
+-- ranks grow by one at what is active, and by nothing elsewhere
 pub rank-kept : (kept : ℕ → Bool) (i : ℕ) → kept i ≡ true → rank kept (suc i) ≡ suc (rank kept i)
 rank-kept kept i takes = ap (λ (b : Bool). if b then suc (rank kept i) else rank kept i) takes
 
@@ -63,7 +63,7 @@ rank-monotone kept i (suc j) le =
       | inr below ↦ let h = old below in omega arith
     ]
 
--- what takes part has a rank of its own
+-- what is active has a rank of its own
 pub rank-strict : (kept : ℕ → Bool) (i j : ℕ) → kept i ≡ true → i < j → rank kept i < rank kept j
 rank-strict kept i j takes below =
     let more : rank kept (suc i) ≤ rank kept j = rank-monotone kept (suc i) j (omega arith) in
@@ -120,18 +120,18 @@ module _ {X : Type 0} where
           let old = rest k e at in let place = old.1 in
           (suc old.0, omega arith, old.2, old.3, old.4 ∙ ap (λ (b : Bool). after b (ranks_from kept (n + 1) old.0)) (sym is))
 
-  -- what takes part stands at its rank
-  pub taken_places-at : (kept : ℕ → Bool) (xs : List X) (i : ℕ) (x : X) → slice_get xs i ≡ Some x → kept i ≡ true → slice_get (taken_places kept xs) (rank kept i) ≡ Some (i, x)
-  taken_places-at kept xs i x at takes =
-      subst (λ (r : ℕ). slice_get (taken_places kept xs) r ≡ Some (i, x)) (sym (rank-from kept i)) (found kept xs 0 i i x at (omega arith) takes)
+  -- what is active stands at its rank
+  pub selected_with_index-at : (kept : ℕ → Bool) (xs : List X) (i : ℕ) (x : X) → slice_get xs i ≡ Some x → kept i ≡ true → slice_get (selected_with_index kept xs) (rank kept i) ≡ Some (i, x)
+  selected_with_index-at kept xs i x at takes =
+      subst (λ (r : ℕ). slice_get (selected_with_index kept xs) r ≡ Some (i, x)) (sym (rank-from kept i)) (found kept xs 0 i i x at (omega arith) takes)
 
   -- and nothing else does
-  pub taken_places-from : (kept : ℕ → Bool) (xs : List X) (k : ℕ) (e : ℕ × X) → slice_get (taken_places kept xs) k ≡ Some e
+  pub selected_with_index-from : (kept : ℕ → Bool) (xs : List X) (k : ℕ) (e : ℕ × X) → slice_get (selected_with_index kept xs) k ≡ Some e
       → (slice_get xs e.0 ≡ Some e.1) × (kept e.0 ≡ true) × (k ≡ rank kept e.0)
-  taken_places-from kept xs k e at =
+  selected_with_index-from kept xs k e at =
       let old = back kept xs 0 k e at in
       let place : old.0 ≡ e.0 = let p = old.1 in omega arith in
       (subst (λ (i : ℕ). slice_get xs i ≡ Some e.1) place old.2, old.3, old.4 ∙ (sym (rank-from kept old.0) ∙ ap (rank kept) place))
 
-  pub taken-at : (kept : ℕ → Bool) (xs : List X) (i : ℕ) (x : X) → slice_get xs i ≡ Some x → kept i ≡ true → slice_get (taken kept xs) (rank kept i) ≡ Some x
-  taken-at kept xs i x at takes = slice_get-map (λ (e : ℕ × X). e.1) (taken_places kept xs) (rank kept i) ∙ ap (option_map (λ (e : ℕ × X). e.1)) (taken_places-at kept xs i x at takes)
+  pub selected-at : (kept : ℕ → Bool) (xs : List X) (i : ℕ) (x : X) → slice_get xs i ≡ Some x → kept i ≡ true → slice_get (selected kept xs) (rank kept i) ≡ Some x
+  selected-at kept xs i x at takes = slice_get-map (λ (e : ℕ × X). e.1) (selected_with_index kept xs) (rank kept i) ∙ ap (option_map (λ (e : ℕ × X). e.1)) (selected_with_index-at kept xs i x at takes)

@@ -3,36 +3,36 @@
 use Rattle.std.specs.Prelude.{ℕ, List}
 use Rattle.wit_data.specs.declared.package_name.PackageName.{PackageName}
 use Rattle.wit_link_spec.specs.Addition.{Addition}
-use Rattle.wit_link_spec.specs.Gates.{Place}
-use Rattle.wit_link_spec.specs.Reasons.{HasExcludedOwner, HasImage, IsNoResource, IsUnreleased, LacksInterface, LacksPackage, LacksType, LacksVersion, LacksWorld, RefersToExcluded, ReturnsBorrow}
+use Rattle.wit_link_spec.specs.Gates.{OptionalSpan}
+use Rattle.wit_link_spec.specs.Reasons.{ForeignTypeMissing, HasExcludedOwner, IsNoResource, IsResolved, IsUnreleased, LacksInterface, LacksPackage, LacksVersion, LacksWorld, RefersToExcluded, ReturnsBorrow}
 
 -- 9, 10: the package meets each `@since` that is asked
 pub record GatesAreMet (a : Addition) : Type 0 where
-  pub version : (span : Place) (message : List ℕ) → LacksVersion a span message → ⊥
-  pub released : (span : Place) (message : List ℕ) → IsUnreleased a span message → ⊥
+  pub version : (span : OptionalSpan) (message : List ℕ) → LacksVersion a span message → ⊥
+  pub released : (span : OptionalSpan) (message : List ℕ) → IsUnreleased a span message → ⊥
 
--- 11, 12: what takes part needs nothing that is left out
+-- 11, 12: what is active needs nothing that is left out
 pub record NeedsNothingExcluded (a : Addition) : Type 0 where
-  pub references : (span : Place) (message : List ℕ) → RefersToExcluded a span message → ⊥
-  pub owners : (span : Place) (message : List ℕ) → HasExcludedOwner a span message → ⊥
+  pub references : (span : OptionalSpan) (message : List ℕ) → RefersToExcluded a span message → ⊥
+  pub owners : (span : OptionalSpan) (message : List ℕ) → HasExcludedOwner a span message → ⊥
 
 -- 1, 2, 3, 13: all that is named of other packages is found
 pub record IsAllFound (a : Addition) : Type 0 where
-  pub packages : (span : Place) (requested : PackageName) (known : List PackageName) → LacksPackage a span requested known → ⊥
-  pub worlds : (span : Place) (requested : List ℕ) (home : PackageName) → LacksWorld a span requested home → ⊥
-  pub interfaces : (span : Place) (requested : List ℕ) (home : PackageName) → LacksInterface a span requested home → ⊥
-  pub types : (span : Place) (message : List ℕ) → LacksType a span message → ⊥
+  pub packages : (span : OptionalSpan) (requested : PackageName) (known : List PackageName) → LacksPackage a span requested known → ⊥
+  pub worlds : (span : OptionalSpan) (requested : List ℕ) (home : PackageName) → LacksWorld a span requested home → ⊥
+  pub interfaces : (span : OptionalSpan) (requested : List ℕ) (home : PackageName) → LacksInterface a span requested home → ⊥
+  pub types : (span : OptionalSpan) (message : List ℕ) → ForeignTypeMissing a span message → ⊥
 
 -- 14: what has to be a resource is one
 abbrev pub HasResources : Addition → Type 0
-HasResources a = (span : Place) (message : List ℕ) → IsNoResource a span message → ⊥
+HasResources a = (span : OptionalSpan) (message : List ℕ) → IsNoResource a span message → ⊥
 
 -- 15: no result holds a borrow
 abbrev pub ReturnsNoBorrow : Addition → Type 0
-ReturnsNoBorrow a = (span : Place) (message : List ℕ) → ReturnsBorrow a span message → ⊥
+ReturnsNoBorrow a = (span : OptionalSpan) (message : List ℕ) → ReturnsBorrow a span message → ⊥
 
 -- such a package has an image
-pub has_image : (a : Addition) → GatesAreMet a → NeedsNothingExcluded a → IsAllFound a → HasImage a
+pub has_image : (a : Addition) → GatesAreMet a → NeedsNothingExcluded a → IsAllFound a → IsResolved a
 has_image a met needs found = record {
   packages = found.packages;
   worlds = found.worlds;

@@ -21,12 +21,12 @@ use Rattle.wit_elaboration.specs.Entries.{same_key}
 use Rattle.wit_graph_data.specs.declared.graph.Package.{Package}
 use Rattle.wit_graph_theory.specs.Image.{entry_image, function_image}
 use Rattle.wit_link_spec.specs.Include.{joined_stability}
-use Rattle.wit_merge_match.specs.steps.Going.{moves}
+use Rattle.wit_merge_match.specs.steps.MergeRemaps.{moves}
 use Rattle.wit_remap.specs.steps.Fits.{Fits, FunctionFits, InterfaceFits, TypeFits, WorldFits}
 use Rattle.wit_remap.specs.steps.Movers.{goes}
 use Rattle.wit_merge_spec.specs.Joined.{with_interface, with_package}
-use Rattle.wit_merge_spec.specs.Matches.{Merging}
-use Rattle.wit_merge_spec.specs.Moved.{merge_maps, moves_interface, moves_package, moves_world, package_place}
+use Rattle.wit_merge_spec.specs.Matches.{GraphMerge}
+use Rattle.wit_merge_spec.specs.Remapped.{merge_maps, merged_package, moves_interface, moves_package, moves_world}
 
 -- ids of the first so many
 abbrev pub Within : ℕ → List ℕ → Type 0
@@ -40,14 +40,14 @@ OwnerWithin interfaces worlds owner.None = Unit {0}
 
 -- ---- tables
 
--- the entries of a table whose things move, with where these go
+-- the entries of a table whose things move, with what these are remapped to
 abbrev pub moved_names : List (Option ℕ) → List (Option ℕ) → List (List ℕ × ℕ) → List (List ℕ × ℕ)
 moved_names found places from = map (λ (e : List ℕ × ℕ). (e.0, goes places e.1)) (filter (λ (e : List ℕ × ℕ). moves found e.1) from)
 
 -- ---- types
 
 -- a type can move: what it names is there, and its spans fit
-pub record TypeMoves (m : Merging) (def : TypeDef) : Type 0 where
+pub record TypeMoves (m : GraphMerge) (def : TypeDef) : Type 0 where
   pub parts : Within (length m.other.types) (referred def.kind)
   pub owned : OwnerWithin (length m.other.interfaces) (length m.other.worlds) def.owner
   pub fits : TypeFits (Fits m.offset) def
@@ -55,24 +55,24 @@ pub record TypeMoves (m : Merging) (def : TypeDef) : Type 0 where
 -- ---- functions and interfaces
 
 -- a function can move
-pub record FunctionMoves (m : Merging) (f : Function) : Type 0 where
+pub record FunctionMoves (m : GraphMerge) (f : Function) : Type 0 where
   pub parts : Within (length m.other.types) (function_references f)
   pub fits : FunctionFits (Fits m.offset) f
 
 -- functions under names can
-abbrev pub FunctionsMove : Merging → List (List ℕ × Function) → Type 0
+abbrev pub FunctionsMove : GraphMerge → List (List ℕ × Function) → Type 0
 FunctionsMove m functions = (e : List ℕ × Function) → Contains functions e → FunctionMoves m e.1
 
 -- functions under names, at their places
-abbrev pub functions_image : Merging → List (List ℕ × Function) → List (List ℕ × Function)
+abbrev pub functions_image : GraphMerge → List (List ℕ × Function) → List (List ℕ × Function)
 functions_image m functions = map (λ (e : List ℕ × Function). (e.0, function_image (merge_maps m) e.1)) functions
 
 -- those of some functions whose names aren't among known ones
-abbrev pub brought_beside : List (List ℕ × Function) → List (List ℕ × Function) → List (List ℕ × Function)
-brought_beside known from = filter (λ (e : List ℕ × Function). not (is_some (lookup (bytes_eq e.0) known))) from
+abbrev pub brought_matched : List (List ℕ × Function) → List (List ℕ × Function) → List (List ℕ × Function)
+brought_matched known from = filter (λ (e : List ℕ × Function). not (is_some (lookup (bytes_eq e.0) known))) from
 
 -- an interface can move: it is of a package that is there, and so is what it lists
-pub record InterfaceMoves (m : Merging) (interface : Interface) : Type 0 where
+pub record InterfaceMoves (m : GraphMerge) (interface : Interface) : Type 0 where
   pub home : ℕ
   pub home_is : interface.package ≡ Some home
   pub there : home < length m.other.packages
@@ -81,7 +81,7 @@ pub record InterfaceMoves (m : Merging) (interface : Interface) : Type 0 where
   pub fits : InterfaceFits (Fits m.offset) interface
 
 -- an interface can be joined to another: the names of what it brings are new there
-pub record InterfaceJoins (m : Merging) (p : ℕ × Interface) (into : Interface) : Type 0 where
+pub record InterfaceJoins (m : GraphMerge) (p : ℕ × Interface) (into : Interface) : Type 0 where
   pub types_apart : HasDistinctKeys (with_interface m p.1 into).types
   pub functions_apart : HasDistinctKeys (with_interface m p.1 into).functions
   pub types : (e : List ℕ × ℕ) → Contains p.1.types e → e.1 < length m.other.types
@@ -90,14 +90,14 @@ pub record InterfaceJoins (m : Merging) (p : ℕ × Interface) (into : Interface
 -- ---- packages
 
 -- the names of what comes to the tables of a package differ there
-pub record PackageJoins (m : Merging) (p : ℕ × Package) (into : Package) : Type 0 where
+pub record PackageJoins (m : GraphMerge) (p : ℕ × Package) (into : Package) : Type 0 where
   pub interfaces_apart : HasDistinctKeys (with_package m p.1 into).interfaces
   pub worlds_apart : HasDistinctKeys (with_package m p.1 into).worlds
   pub interfaces : (e : List ℕ × ℕ) → Contains p.1.interfaces e → e.1 < length m.other.interfaces
   pub worlds : (e : List ℕ × ℕ) → Contains p.1.worlds e → e.1 < length m.other.worlds
 
 -- a package can move: so do all its interfaces and worlds
-pub record PackageMoves (m : Merging) (home : Package) : Type 0 where
+pub record PackageMoves (m : GraphMerge) (home : Package) : Type 0 where
   pub interfaces_apart : HasDistinctKeys home.interfaces
   pub worlds_apart : HasDistinctKeys home.worlds
   pub interfaces : (e : List ℕ × ℕ) → Contains home.interfaces e → (e.1 < length m.other.interfaces) × (moves_interface m e.1 ≡ true)
@@ -111,8 +111,8 @@ stability_of (item.Interface i stability docs span external_id) = Some stability
 stability_of held = None
 
 abbrev pub stability_under : List (Option ℕ) → List Entry → WorldKey → Option Stability
-stability_under partners from (key.Interface i') = option_and_then (λ i. option_and_then stability_of (lookup (same_key (key.Interface i)) from)) (get_or partners i' None)
-stability_under partners from (key.Name label) = None
+stability_under counterparts from (key.Interface i') = option_and_then (λ i. option_and_then stability_of (lookup (same_key (key.Interface i)) from)) (get_or counterparts i' None)
+stability_under counterparts from (key.Name label) = None
 
 -- an item, with a stability joined to it where it is an interface
 abbrev pub stability_joined : Option Stability → WorldItem → WorldItem
@@ -121,7 +121,7 @@ stability_joined from held = held
 
 -- an entry, with the stability joined to it of what stands under its key among entries of the other graph
 abbrev pub entry_joined : List (Option ℕ) → List Entry → Entry → Entry
-entry_joined partners from e = (e.0, stability_joined (stability_under partners from e.0) e.1)
+entry_joined counterparts from e = (e.0, stability_joined (stability_under counterparts from e.0) e.1)
 
 -- the ids of an entry are there
 abbrev pub KeyWithin : ℕ → WorldKey → Type 0
@@ -138,7 +138,7 @@ pub record EntryWithin (types interfaces : ℕ) (e : Entry) : Type 0 where
   pub held : ItemWithin types interfaces e.1
 
 -- a world can move: it is of a package that is there, and so is what it holds; its keys differ where it goes
-pub record WorldMoves (m : Merging) (world : World) : Type 0 where
+pub record WorldMoves (m : GraphMerge) (world : World) : Type 0 where
   pub home : ℕ
   pub home_is : world.package ≡ Some home
   pub there : home < length m.other.packages
@@ -151,12 +151,12 @@ pub record WorldMoves (m : Merging) (world : World) : Type 0 where
 
 -- ---- names
 
--- the names of packages that move, with where these go
-abbrev pub brought_names : Merging → List (PackageName × ℕ) → List (PackageName × ℕ)
-brought_names m names = map (λ (e : PackageName × ℕ). (e.0, package_place m e.1)) (filter (λ (e : PackageName × ℕ). moves_package m e.1) names)
+-- the names of packages that move, with what these are remapped to
+abbrev pub brought_names : GraphMerge → List (PackageName × ℕ) → List (PackageName × ℕ)
+brought_names m names = map (λ (e : PackageName × ℕ). (e.0, merged_package m e.1)) (filter (λ (e : PackageName × ℕ). moves_package m e.1) names)
 
 -- a world can be joined to another: the keys of each of its lists differ, and the interfaces of its keys are there
-pub record WorldJoins (m : Merging) (p : ℕ × World) (into : World) : Type 0 where
+pub record WorldJoins (m : GraphMerge) (p : ℕ × World) (into : World) : Type 0 where
   pub imports_apart : HasDistinctKeys into.imports
   pub exports_apart : HasDistinctKeys into.exports
   pub imports : (e : Entry) → Contains into.imports e → KeyWithin (length m.graph.interfaces) e.0

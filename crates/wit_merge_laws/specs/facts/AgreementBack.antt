@@ -21,20 +21,20 @@ use Rattle.wit_graph_data.specs.declared.graph.Graph.{Graph}
 use Rattle.wit_graph_data.specs.declared.graph.Package.{Package}
 use Rattle.wit_graph_theory.specs.FunctionMismatch.{HaveFunctionMismatch}
 use Rattle.wit_graph_theory.specs.facts.ListFacts.{found_at}
-use Rattle.wit_graph_theory.specs.steps.OnePlace.{entries_of}
+use Rattle.wit_graph_theory.specs.steps.UnnamedOnce.{entries_of}
 use Rattle.wit_graph_theory.specs.facts.OptionFacts.{some_same, some_whole}
 use Rattle.wit_merge_spec.specs.Agreement.{EntriesDiffer, GraphsDiffer, ItemsDiffer, StructuresDiffer, same_sort}
 use Rattle.wit_merge_spec.specs.Agreement as differ
-use Rattle.wit_merge_spec.specs.Matches.{Merging, Pair, found_interface, found_item, found_key, found_type, found_world}
+use Rattle.wit_merge_spec.specs.Matches.{GraphMerge, Pair, counterpart_interface, counterpart_item, counterpart_key, counterpart_type, counterpart_world}
 use Rattle.wit_merge_spec.specs.MismatchText.{side_word}
-use Rattle.wit_merge_spec.specs.Reasons.{AreOne}
+use Rattle.wit_merge_spec.specs.Reasons.{HasNoMismatch}
 use Rattle.wit_merge_spec.specs.TypePairs.{FirstDiffers, TypePair, type_pairs}
 use Rattle.wit_merge_laws.specs.facts.FoundBack.{lookup_finds_entry, interface_back, type_back, world_back}
 use Rattle.wit_merge_laws.specs.facts.FunctionsBack.{functions_back}
 use Rattle.wit_merge_laws.specs.facts.MatchFacts.{interface_is}
 use Rattle.wit_merge_laws.specs.facts.MatchedEntries.{covered, same_count}
 use Rattle.wit_merge_laws.specs.facts.MatchedOnce.{lists_distinct, one_under}
-use Rattle.wit_merge_laws.specs.laws.MergingLaws.{merging}
+use Rattle.wit_merge_laws.specs.laws.MergingLaws.{merge_of_graphs}
 use Rattle.wit_merge_laws.specs.laws.OrderLaws.{AgreementIsSymmetric}
 use Rattle.wit_merge_laws.specs.facts.MatchedTypes.{no_difference}
 use Rattle.wit_merge_laws.specs.facts.PairsMatched.{pair_matched}
@@ -69,25 +69,25 @@ interface_home g valid i interface at =
     let home = found_at (λ (home : Package). IfSome interface.name (λ name. Contains home.interfaces (name, i))) g.packages one.0 one.2 in
     record { home = one.0; there = home.0; home_is = one.1; at = home.1 }
 
-module _ (g h : Graph) (a b : ℕ) (valid : IsValid g) (valid_other : IsValid h) (one : AreOne (merging g h a)) where
-  abbrev there : Merging
-  there = merging g h a
+module _ (g h : Graph) (a b : ℕ) (valid : IsValid g) (valid_other : IsValid h) (one : HasNoMismatch (merge_of_graphs g h a)) where
+  abbrev there : GraphMerge
+  there = merge_of_graphs g h a
 
-  abbrev back : Merging
-  back = merging h g b
+  abbrev back : GraphMerge
+  back = merge_of_graphs h g b
 
   -- ---- interfaces
 
   -- two that are matched are so the other way round, and of one name
-  abbrev pair_back : Pair (found_interface back) g.interfaces h.interfaces → Pair (found_interface there) h.interfaces g.interfaces
+  abbrev pair_back : Pair (counterpart_interface back) g.interfaces h.interfaces → Pair (counterpart_interface there) h.interfaces g.interfaces
   pair_back p = record { x = p.x'; from = p.into; x' = p.x; into = p.from; from_is = p.into_is; matched = interface_back h g b a valid_other valid p.x p.x' p.matched; into_is = p.from_is }
 
-  pair_name : (p : Pair (found_interface back) g.interfaces h.interfaces) → p.into.name ≡ p.from.name
+  pair_name : (p : Pair (counterpart_interface back) g.interfaces h.interfaces) → p.into.name ≡ p.from.name
   pair_name p =
       let is = interface_is back valid_other valid p.x p.x' p.matched in
       ap (λ (x : Interface). x.name) (some_same p.into is.into (sym p.into_is ∙ is.into_is)) ∙ (is.called ∙ ap (λ (x : Interface). x.name) (some_same is.from p.from (sym is.from_is ∙ p.from_is)))
 
-  interfaces_agree : (p : Pair (found_interface back) g.interfaces h.interfaces) (name text : List ℕ) → p.from.name ≡ Some name → HaveFunctionMismatch p.from p.into text → ⊥
+  interfaces_agree : (p : Pair (counterpart_interface back) g.interfaces h.interfaces) (name text : List ℕ) → p.from.name ≡ Some name → HaveFunctionMismatch p.from p.into text → ⊥
   interfaces_agree p name text called unlike =
       let home = interface_home h valid_other p.x' p.into p.into_is in
       let mismatch = functions_back p.from p.into text unlike in
@@ -102,22 +102,22 @@ module _ (g h : Graph) (a b : ℕ) (valid : IsValid g) (valid_other : IsValid h)
       let mismatch = functions_back p.from p.into told unlike in
       agrees mismatch.0 (differ.unnamed mismatch.0 (pair_back p) into_is from_is (pair_name p ∙ none) mismatch.1)
 
-  key_back : (k k' : WorldKey) → found_key there k ≡ Some k' → found_key back k' ≡ Some k
-  key_back (key.Name label) k' is = ap (found_key back) (sym (some_same (key.Name label) k' is))
-  key_back (key.Interface i) k' is = by (found_interface there i) refl is
+  key_back : (k k' : WorldKey) → counterpart_key there k ≡ Some k' → counterpart_key back k' ≡ Some k
+  key_back (key.Name label) k' is = ap (counterpart_key back) (sym (some_same (key.Name label) k' is))
+  key_back (key.Interface i) k' is = by (counterpart_interface there i) refl is
     where
-      by : (o : Option ℕ) → found_interface there i ≡ o → option_map (λ i'. key.Interface i') o ≡ Some k' → found_key back k' ≡ Some (key.Interface i)
+      by : (o : Option ℕ) → counterpart_interface there i ≡ o → option_map (λ i'. key.Interface i') o ≡ Some k' → counterpart_key back k' ≡ Some (key.Interface i)
       by None at is = cc
-      by (Some i') at is = ap (found_key back) (sym (some_same (key.Interface i') k' is)) ∙ ap (option_map (λ (x : ℕ). key.Interface x)) (interface_back g h a b valid valid_other i i' at)
+      by (Some i') at is = ap (counterpart_key back) (sym (some_same (key.Interface i') k' is)) ∙ ap (option_map (λ (x : ℕ). key.Interface x)) (interface_back g h a b valid valid_other i i' at)
 
-  module _ (p : Pair (found_world back) g.worlds h.worlds) where
-    abbrev found : found_world there p.x' ≡ Some p.x
+  module _ (p : Pair (counterpart_world back) g.worlds h.worlds) where
+    abbrev found : counterpart_world there p.x' ≡ Some p.x
     found = world_back h g b a valid_other valid p.x p.x' p.matched
 
     -- an entry is found there, and nothing differs of the two
     record EntryBack (exported : Bool) (e : Entry) : Type 0 where
       held : WorldItem
-      found_item_is : found_item back (entries_of exported p.into) e.0 ≡ Some held
+      found_item_is : counterpart_item back (entries_of exported p.into) e.0 ≡ Some held
       same : same_sort held e.1 ≡ true
       agrees : (text : List ℕ) → ItemsDiffer there held e.1 text → ⊥
 
@@ -131,7 +131,7 @@ module _ (g h : Graph) (a b : ℕ) (valid : IsValid g) (valid_other : IsValid h)
         record {
           held = from.0.1;
           found_item_is =
-              some_whole (λ (k' : WorldKey). lookup (same_key k') (entries_of exported p.into)) (found_key back e.0) from.0.0 from.0.1 (key_back from.0.0 e.0 from.2)
+              some_whole (λ (k' : WorldKey). lookup (same_key k') (entries_of exported p.into)) (counterpart_key back e.0) from.0.0 from.0.1 (key_back from.0.0 e.0 from.2)
               (lookup_finds_entry (entries_of exported p.into) (lists_distinct h valid_other p.x' exported p.into p.into_is) from.0.0 from.0.1 from.1);
           same = subst (λ (x : WorldItem). same_sort from.0.1 x ≡ true) here_is at.same;
           agrees = subst (λ (x : WorldItem). (text : List ℕ) → ItemsDiffer there from.0.1 x text → ⊥) here_is at.agrees;
@@ -155,12 +155,12 @@ module _ (g h : Graph) (a b : ℕ) (valid : IsValid g) (valid_other : IsValid h)
       let pair = first.pair in
       let has : Contains (type_pairs back) pair = subst (λ (l : List TypePair). Contains l pair) (sym first.pairs_are) (Contains-append_right first.before (pair ∷ first.after) pair (Contains-here pair first.after)) in
       let matched = type_back h g b a valid_other valid pair.from pair.into (pair_matched back valid_other valid pair has) in
-      let unlike = differ_back h.types g.types (found_type there) (found_type back) (type_back g h a b valid valid_other) (λ t t'. type_back h g b a valid_other valid t' t) pair.into pair.from first.ending first.differs in
+      let unlike = differ_back h.types g.types (counterpart_type there) (counterpart_type back) (type_back g h a b valid valid_other) (λ t t'. type_back h g b a valid_other valid t' t) pair.into pair.from first.ending first.differs in
       no_difference there valid valid_other one pair.into pair.from unlike.1.x unlike.1.y matched unlike.1.first
 
   -- ---- all
 
-  pub agrees_back : AreOne back
+  pub agrees_back : HasNoMismatch back
   agrees_back message (differ.interfaces p home at name text called of there_is unlike) = interfaces_agree p name text called unlike
   agrees_back message (differ.worlds p home at exported text of there_is unlike) = entries_agree p exported text unlike
   agrees_back message (differ.types told first) = types_agree told first

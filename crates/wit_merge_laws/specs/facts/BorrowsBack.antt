@@ -19,10 +19,10 @@ use Rattle.wit_data.specs.declared.types.TypeDefKind.TheVariants as kind
 use Rattle.wit_data.specs.declared.types.Type_.{Type_}
 use Rattle.wit_data.specs.declared.types.Type_.TheVariants as type
 use Rattle.wit_elaboration.specs.Valid.{IsValid}
-use Rattle.wit_graph_data.specs.Questions.{held_rows, held_types}
+use Rattle.wit_graph_data.specs.Queries.{content_types, type_contents}
 use Rattle.wit_graph_theory.specs.Image.{Maps, kind_image, type_image, value_image}
 use Rattle.wit_graph_theory.specs.facts.ListFacts.{found_at, from_row, get_at, in_row, same_at, some_at}
-use Rattle.wit_graph_theory.specs.facts.Referred.{GoesTo}
+use Rattle.wit_graph_theory.specs.facts.Referred.{RemapsTo}
 use Rattle.wit_graph_theory.specs.facts.ReferredFacts.{kind_refers}
 use Rattle.wit_link_spec.specs.Reasons.{HoldsBorrow, IsBorrow}
 use Rattle.wit_link_spec.specs.Ranks.{rank}
@@ -31,9 +31,9 @@ use Rattle.wit_merge_structure.specs.Structure.{Part, held_features, parts_of, s
 use Rattle.wit_merge_structure.specs.facts.StructureFacts.{part_refers, parts_name}
 use Rattle.wit_merge_structure.specs.declared.kinds.Variant.TheVariants as variants
 use Rattle.wit_merge_spec.specs.Joined.{joined_type}
-use Rattle.wit_merge_spec.specs.Matches.{Merging, found_type}
-use Rattle.wit_merge_spec.specs.Moved.{merge_maps, moved_types, moves_type, needs_own, type_place, value_place}
-use Rattle.wit_merge_spec.specs.Reasons.{AreOne}
+use Rattle.wit_merge_spec.specs.Matches.{GraphMerge, counterpart_type}
+use Rattle.wit_merge_spec.specs.Remapped.{merge_maps, merged_type, merged_value, merged_value_needs_own, moved_types, moves_type}
+use Rattle.wit_merge_spec.specs.Reasons.{HasNoMismatch}
 use Rattle.wit_merge_spec.specs.United.{joined_graph}
 use Rattle.wit_merge_laws.specs.laws.BorrowLaws.{MergesMakeNoBorrow}
 use Rattle.wit_merge_laws.specs.facts.FunctionsThere.{moved_refers}
@@ -45,12 +45,12 @@ use Rattle.wit_merge_laws.specs.facts.TypesStand.{joined_keeps, matched_some, ne
 -- ---- kinds
 
 -- what a kind holds it refers to
-held_refers : (k : TypeDefKind) (t : ℕ) → Contains (held_types k) t → Contains (referred k) t
+held_refers : (k : TypeDefKind) (t : ℕ) → Contains (content_types k) t → Contains (referred k) t
 held_refers (kind.Handle h) t has = absurd (Contains-nil has)
 held_refers other t has = has
 
 -- what a kind refers to it holds, where one of its variant holds something
-refers_held : (k l : TypeDefKind) (t u : ℕ) → variant_of k ≡ variant_of l → Contains (held_types l) u → Contains (referred k) t → Contains (held_types k) t
+refers_held : (k l : TypeDefKind) (t u : ℕ) → variant_of k ≡ variant_of l → Contains (content_types l) u → Contains (referred k) t → Contains (content_types k) t
 refers_held (kind.Handle (handle.Own r)) (kind.Handle h) t u same held has = absurd (Contains-nil held)
 refers_held (kind.Handle (handle.Own r)) other t u same held has = cc
 refers_held (kind.Handle (handle.Borrow r)) (kind.Handle h) t u same held has = absurd (Contains-nil held)
@@ -82,23 +82,23 @@ borrow_image m (kind.Handle (handle.Borrow r)) r' is = (r, refl)
 borrow_image m (kind.Handle (handle.Own r)) r' is = cc
 borrow_image m other r' is = cc
 
-held_image : (m : Maps) (k : TypeDefKind) (t u' : ℕ) → Contains (held_types (kind_image m k)) u' → Contains (referred k) t → Contains (held_types k) t
+held_image : (m : Maps) (k : TypeDefKind) (t u' : ℕ) → Contains (content_types (kind_image m k)) u' → Contains (referred k) t → Contains (content_types k) t
 held_image m (kind.Handle h) t u' held has = absurd (Contains-nil held)
 held_image m other t u' held has = has
 
-abbrev held_row : TypeDef → List ℕ
-held_row def = held_types def.kind
+abbrev content_row : TypeDef → List ℕ
+content_row def = content_types def.kind
 
 -- a borrow further on
-holds_on : (types : List TypeDef) (t u : ℕ) (def : TypeDef) → slice_get types t ≡ Some def → Contains (held_types def.kind) u → HoldsBorrow types u → HoldsBorrow types t
-holds_on types t u def at has holds = (holds.0, (u ∷ holds.1.0, (in_row held_row types t def u at has, holds.1.1)), holds.2)
+holds_on : (types : List TypeDef) (t u : ℕ) (def : TypeDef) → slice_get types t ≡ Some def → Contains (content_types def.kind) u → HoldsBorrow types u → HoldsBorrow types t
+holds_on types t u def at has holds = (holds.0, (u ∷ holds.1.0, (in_row content_row types t def u at has, holds.1.1)), holds.2)
 
 holds_here : (types : List TypeDef) (t : ℕ) (def : TypeDef) (r : ℕ) → slice_get types t ≡ Some def → def.kind ≡ kind.Handle (handle.Borrow r) → HoldsBorrow types t
 holds_here types t def r at is = (t, ([], refl), some_at (λ (d : TypeDef). (x : ℕ) × (d.kind ≡ kind.Handle (handle.Borrow x))) types t def at (r, is))
 
 -- ---- two graphs that are one
 
-module _ (m : Merging) (valid : IsValid m.graph) (valid_other : IsValid m.other) (one : AreOne m) where
+module _ (m : GraphMerge) (valid : IsValid m.graph) (valid_other : IsValid m.other) (one : HasNoMismatch m) where
   abbrev others : List TypeDef
   others = m.other.types
 
@@ -106,32 +106,32 @@ module _ (m : Merging) (valid : IsValid m.graph) (valid_other : IsValid m.other)
   ours = m.graph.types
 
   abbrev HaveOneStructure : ℕ → ℕ → Type 0
-  HaveOneStructure t t' = structure others (found_type m) t ≡ structure ours Some t'
+  HaveOneStructure t t' = structure others (counterpart_type m) t ≡ structure ours Some t'
 
   -- matched types have one structure
-  pub matched_same : (t t' : ℕ) → found_type m t ≡ Some t' → HaveOneStructure t t'
+  pub matched_same : (t t' : ℕ) → counterpart_type m t ≡ Some t' → HaveOneStructure t t'
   matched_same t t' found =
       let is = type_is m valid t t' found in
-      same_structure others ours (found_type m) Some valid_other.no_cycles.types valid.no_cycles.types t t' (slice_get_within others t is.from is.from_is) (slice_get_within ours t' is.into is.into_is)
+      same_structure others ours (counterpart_type m) Some valid_other.no_cycles.types valid.no_cycles.types t t' (slice_get_within others t is.from is.from_is) (slice_get_within ours t' is.into is.into_is)
       (λ x y first. no_difference m valid valid_other one t t' x y found first)
 
   -- so a type of the incoming graph holds a borrow where one of the graph does that has its structure
-  structure_holds : (t t' : ℕ) (path : List ℕ) (b : ℕ) → t < length others → t' < length ours → HaveOneStructure t t' → IsPath (held_rows ours) t' path b → IsBorrow ours b → HoldsBorrow others t
+  structure_holds : (t t' : ℕ) (path : List ℕ) (b : ℕ) → t < length others → t' < length ours → HaveOneStructure t t' → IsPath (type_contents ours) t' path b → IsBorrow ours b → HoldsBorrow others t
   structure_holds t t' [] b within within' same leads is =
       let at = get_at others t within in
       let there = found_at (λ (d : TypeDef). (x : ℕ) × (d.kind ≡ kind.Handle (handle.Borrow x))) ours t' (subst (IsBorrow ours) (sym leads) is) in
-      let alike = kinds_alike others ours (found_type m) Some valid_other.no_cycles.types valid.no_cycles.types t t' at.0 there.0 at.1 there.1 same in
+      let alike = kinds_alike others ours (counterpart_type m) Some valid_other.no_cycles.types valid.no_cycles.types t t' at.0 there.0 at.1 there.1 same in
       let borrow = borrow_variant at.0.kind (alike.same ∙ ap variant_of there.2.1) in
       holds_here others t at.0 borrow.0 at.1 borrow.1
   structure_holds t t' (u' ∷ path) b within within' same leads is =
       let at = get_at others t within in
-      let there = from_row held_row ours t' u' leads.0 in
-      let alike = kinds_alike others ours (found_type m) Some valid_other.no_cycles.types valid.no_cycles.types t t' at.0 there.0 at.1 there.1 same in
+      let there = from_row content_row ours t' u' leads.0 in
+      let alike = kinds_alike others ours (counterpart_type m) Some valid_other.no_cycles.types valid.no_cycles.types t t' at.0 there.0 at.1 there.1 same in
       let theirs = named_part there.0.kind u' (held_refers there.0.kind u' there.2) in
       let mine = alike.parts theirs.0 theirs.1 in
       let inside = (refers_within ours valid.no_cycles.types t' there.0 theirs.0 u' there.1 theirs.1 (named_there theirs.0.ty u' theirs.2)).1 in
       let like =
-      type_alike others ours (found_type m) Some valid_other.no_cycles.types valid.no_cycles.types mine.0.ty u'
+      type_alike others ours (counterpart_type m) Some valid_other.no_cycles.types valid.no_cycles.types mine.0.ty u'
       (λ x has. (refers_within others valid_other.no_cycles.types t at.0 mine.0 x at.1 mine.1 has).1) inside
       (mine.2 ∙ ap (held_features ours Some (structure ours Some)) theirs.2) in
       let refers = part_refers at.0.kind mine.0 like.u mine.1 like.has in
@@ -150,7 +150,7 @@ module _ (m : Merging) (valid : IsValid m.graph) (valid_other : IsValid m.other)
       ap (λ (d : TypeDef). d.kind) (sym same) ∙ keeps.kind
 
   -- what a type of the graph holds in the two as one it held
-  old_holds : (t' : ℕ) (path : List ℕ) (b : ℕ) → t' < length ours → IsPath (held_rows joined) t' path b → IsBorrow joined b → IsPath (held_rows ours) t' path b × IsBorrow ours b
+  old_holds : (t' : ℕ) (path : List ℕ) (b : ℕ) → t' < length ours → IsPath (type_contents joined) t' path b → IsBorrow joined b → IsPath (type_contents ours) t' path b × IsBorrow ours b
   old_holds t' [] b within same is =
       let at = get_at ours t' within in
       let there = found_at (λ (d : TypeDef). (x : ℕ) × (d.kind ≡ kind.Handle (handle.Borrow x))) joined t' (subst (IsBorrow joined) (sym same) is) in
@@ -158,58 +158,58 @@ module _ (m : Merging) (valid : IsValid m.graph) (valid_other : IsValid m.other)
       (same, subst (IsBorrow ours) same (some_at (λ (d : TypeDef). (x : ℕ) × (d.kind ≡ kind.Handle (handle.Borrow x))) ours t' at.0 at.1 (there.2.0, borrow)))
   old_holds t' (u' ∷ path) b within leads is =
       let at = get_at ours t' within in
-      let there = from_row held_row joined t' u' leads.0 in
-      let has : Contains (held_types at.0.kind) u' = subst (λ (k : TypeDefKind). Contains (held_types k) u') (old_kind t' at.0 there.0 at.1 there.1) there.2 in
+      let there = from_row content_row joined t' u' leads.0 in
+      let has : Contains (content_types at.0.kind) u' = subst (λ (k : TypeDefKind). Contains (content_types k) u') (old_kind t' at.0 there.0 at.1 there.1) there.2 in
       let part = named_part at.0.kind u' (held_refers at.0.kind u' has) in
       let inside = (refers_within ours valid.no_cycles.types t' at.0 part.0 u' at.1 part.1 (named_there part.0.ty u' part.2)).1 in
       let rest = old_holds u' path b inside leads.1 is in
-      ((in_row held_row ours t' at.0 u' at.1 has, rest.0), rest.1)
+      ((in_row content_row ours t' at.0 u' at.1 has, rest.0), rest.1)
 
   -- an `own` holds none
-  own_holds : (t : ℕ) (def : TypeDef) (path : List ℕ) (b : ℕ) → slice_get others t ≡ Some def → needs_own m t ≡ true → IsPath (held_rows joined) (value_place m t) path b → IsBorrow joined b → ⊥
+  own_holds : (t : ℕ) (def : TypeDef) (path : List ℕ) (b : ℕ) → slice_get others t ≡ Some def → merged_value_needs_own m t ≡ true → IsPath (type_contents joined) (merged_value m t) path b → IsBorrow joined b → ⊥
   own_holds t def [] b at needs same is =
-      let there = found_at (λ (d : TypeDef). (x : ℕ) × (d.kind ≡ kind.Handle (handle.Borrow x))) joined (value_place m t) (subst (IsBorrow joined) (sym same) is) in
-      let own : own_of (type_place m t) ≡ there.0 = same_at joined (value_place m t) (value_place m t) (own_of (type_place m t)) there.0 refl (own_at m t def at needs) there.1 in
+      let there = found_at (λ (d : TypeDef). (x : ℕ) × (d.kind ≡ kind.Handle (handle.Borrow x))) joined (merged_value m t) (subst (IsBorrow joined) (sym same) is) in
+      let own : own_of (merged_type m t) ≡ there.0 = same_at joined (merged_value m t) (merged_value m t) (own_of (merged_type m t)) there.0 refl (own_at m t def at needs) there.1 in
       let borrow = ap (λ (d : TypeDef). d.kind) own ∙ there.2.1 in
       apart borrow
     where
       apart : {r r' : ℕ} → kind.Handle (handle.Own r) ≡ kind.Handle (handle.Borrow r') → ⊥
       apart same = cc
   own_holds t def (u' ∷ path) b at needs leads is =
-      let there = from_row held_row joined (value_place m t) u' leads.0 in
-      let own : own_of (type_place m t) ≡ there.0 = same_at joined (value_place m t) (value_place m t) (own_of (type_place m t)) there.0 refl (own_at m t def at needs) there.1 in
-      Contains-nil (subst (λ (d : TypeDef). Contains (held_types d.kind) u') (sym own) there.2)
+      let there = from_row content_row joined (merged_value m t) u' leads.0 in
+      let own : own_of (merged_type m t) ≡ there.0 = same_at joined (merged_value m t) (merged_value m t) (own_of (merged_type m t)) there.0 refl (own_at m t def at needs) there.1 in
+      Contains-nil (subst (λ (d : TypeDef). Contains (content_types d.kind) u') (sym own) there.2)
 
-  value_goes : (t : ℕ) → needs_own m t ≡ false → value_place m t ≡ type_place m t
-  value_goes t plain = ap (λ (b : Bool). if b then length m.graph.types + length (moved_types m) + rank (needs_own m) t else type_place m t) plain
+  value_goes : (t : ℕ) → merged_value_needs_own m t ≡ false → merged_value m t ≡ merged_type m t
+  value_goes t plain = ap (λ (b : Bool). if b then length m.graph.types + length (moved_types m) + rank (merged_value_needs_own m) t else merged_type m t) plain
 
-  -- where a type goes is its place, or an `own` of it
-  place_or_own : (t t' : ℕ) → GoesTo (merge_maps m) t t' → (t' ≡ type_place m t) ⊎ ((needs_own m t ≡ true) × (t' ≡ value_place m t))
+  -- what a type is remapped to is its place, or an `own` of it
+  place_or_own : (t t' : ℕ) → RemapsTo (merge_maps m) t t' → (t' ≡ merged_type m t) ⊎ ((merged_value_needs_own m t ≡ true) × (t' ≡ merged_value m t))
   place_or_own t t' (inl place) = inl place
   place_or_own t t' (inr value) =
-      elim (cases_Bool (needs_own m t)) [
+      elim (cases_Bool (merged_value_needs_own m t)) [
         | inl needs ↦ inr (needs, value)
         | inr plain ↦ inl (value ∙ value_goes t plain)
       ]
 
   -- a matched type that holds a borrow at its place held one
-  matched_holds : (t t' : ℕ) (path : List ℕ) (b : ℕ) → moves_type m t ≡ false → t < length others → t' ≡ type_place m t → IsPath (held_rows joined) t' path b → IsBorrow joined b → HoldsBorrow others t
+  matched_holds : (t t' : ℕ) (path : List ℕ) (b : ℕ) → moves_type m t ≡ false → t < length others → t' ≡ merged_type m t → IsPath (type_contents joined) t' path b → IsBorrow joined b → HoldsBorrow others t
   matched_holds t t' path b stays within place leads is =
-      let found = matched_some (found_type m t) stays in
+      let found = matched_some (counterpart_type m t) stays in
       let matched = type_is m valid t found.0 found.1 in
       let inside = slice_get_within ours found.0 matched.into matched.into_is in
-      let goes : t' ≡ found.0 = place ∙ goes_to (found_type m t) _ found.0 found.1 in
-      let old = old_holds found.0 path b inside (subst (λ (x : ℕ). IsPath (held_rows joined) x path b) goes leads) is in
+      let goes : t' ≡ found.0 = place ∙ goes_to (counterpart_type m t) _ found.0 found.1 in
+      let old = old_holds found.0 path b inside (subst (λ (x : ℕ). IsPath (type_contents joined) x path b) goes leads) is in
       structure_holds t found.0 path b within inside (matched_same t found.0 found.1) old.0 old.1
 
   -- the image of one that moves
-  moved_at : (t t' : ℕ) (new : TypeDef) (within : t < length others) → moves_type m t ≡ true → t' ≡ type_place m t → slice_get joined t' ≡ Some new → type_image (merge_maps m) (get_at others t within).0 ≡ new
+  moved_at : (t t' : ℕ) (new : TypeDef) (within : t < length others) → moves_type m t ≡ true → t' ≡ merged_type m t → slice_get joined t' ≡ Some new → type_image (merge_maps m) (get_at others t within).0 ≡ new
   moved_at t t' new within moves place there =
       let at = get_at others t within in
-      same_at joined (type_place m t) t' (type_image (merge_maps m) at.0) new (sym place) (new_type_at m t at.0 at.1 moves) there
+      same_at joined (merged_type m t) t' (type_image (merge_maps m) at.0) new (sym place) (new_type_at m t at.0 at.1 moves) there
 
   -- a type that holds a borrow where it goes held one
-  holds_back : (t t' : ℕ) (path : List ℕ) (b : ℕ) → t < length others → GoesTo (merge_maps m) t t' → IsPath (held_rows joined) t' path b → IsBorrow joined b → HoldsBorrow others t
+  holds_back : (t t' : ℕ) (path : List ℕ) (b : ℕ) → t < length others → RemapsTo (merge_maps m) t t' → IsPath (type_contents joined) t' path b → IsBorrow joined b → HoldsBorrow others t
   holds_back t t' [] b within goes same is =
       elim (place_or_own t t' goes) [
         | inr own ↦ let at = get_at others t within in absurd (own_holds t at.0 [] b at.1 own.0 (sym own.1 ∙ same) is)
@@ -225,14 +225,14 @@ module _ (m : Merging) (valid : IsValid m.graph) (valid_other : IsValid m.other)
       ]
   holds_back t t' (u' ∷ path) b within goes leads is =
       elim (place_or_own t t' goes) [
-        | inr own ↦ let at = get_at others t within in absurd (own_holds t at.0 (u' ∷ path) b at.1 own.0 (subst (λ (x : ℕ). IsPath (held_rows joined) x (u' ∷ path) b) own.1 leads) is)
+        | inr own ↦ let at = get_at others t within in absurd (own_holds t at.0 (u' ∷ path) b at.1 own.0 (subst (λ (x : ℕ). IsPath (type_contents joined) x (u' ∷ path) b) own.1 leads) is)
         | inl place ↦ elim (cases_Bool (moves_type m t)) [
           | inr stays ↦ matched_holds t t' (u' ∷ path) b stays within place leads is
           | inl moves ↦
               let at = get_at others t within in
-              let there = from_row held_row joined t' u' leads.0 in
+              let there = from_row content_row joined t' u' leads.0 in
               let image = moved_at t t' there.0 within moves place there.1 in
-              let has : Contains (held_types (kind_image (merge_maps m) at.0.kind)) u' = subst (λ (d : TypeDef). Contains (held_types d.kind) u') (sym image) there.2 in
+              let has : Contains (content_types (kind_image (merge_maps m) at.0.kind)) u' = subst (λ (d : TypeDef). Contains (content_types d.kind) u') (sym image) there.2 in
               let from = kind_refers (merge_maps m) at.0.kind u' (held_refers (kind_image (merge_maps m) at.0.kind) u' has) in
               let part = named_part at.0.kind from.0 from.1 in
               let inside = (refers_within others valid_other.no_cycles.types t at.0 part.0 from.0 at.1 part.1 (named_there part.0.ty from.0 part.2)).1 in

@@ -3,10 +3,10 @@ use Rattle.std.specs.Prelude.{◌↔◌}
 use Rattle.std.proofs.Common.{◌⊎◌, inl, inr}
 use Rattle.wit_elaboration.specs.Valid.{IsValid}
 use Rattle.wit_graph_theory.specs.facts.LawsOfElaboration.{LawsOfElaboration}
-use Rattle.wit_merge_spec.specs.Matches.{Merging}
-use Rattle.wit_merge_spec.specs.Reasons.{AreOne}
+use Rattle.wit_merge_spec.specs.Matches.{GraphMerge}
+use Rattle.wit_merge_spec.specs.Reasons.{HasNoMismatch}
 use Rattle.wit_merge_spec.specs.United.{united}
-use Rattle.wit_merge_laws.specs.facts.JoinedGood.{CanElaborate}
+use Rattle.wit_merge_laws.specs.facts.JoinedGood.{UnionCanElaborate}
 use Rattle.wit_merge_laws.specs.laws.MergingLaws.{UnionsHaveBothNames}
 use Rattle.wit_merge_laws.specs.laws.Names.{HasName, Name}
 use Rattle.wit_merge_laws.specs.facts.NamesCome.{names_come}
@@ -15,7 +15,7 @@ use Rattle.wit_merge_laws.specs.facts.NamesParts.{going_to, graph_part, other_pa
 use Rattle.wit_merge_laws.specs.facts.NoCycles.{are_one, can_elaborate}
 
 -- so where the two agree and can be elaborated as one
-pub names_of_both : LawsOfElaboration → (m : Merging) (name : Name) → IsValid m.graph → IsValid m.other → AreOne m → CanElaborate m → HasName (united m) name ↔ (HasName m.graph name ⊎ HasName m.other name)
+pub names_of_both : LawsOfElaboration → (m : GraphMerge) (name : Name) → IsValid m.graph → IsValid m.other → HasNoMismatch m → UnionCanElaborate m → HasName (united m) name ↔ (HasName m.graph name ⊎ HasName m.other name)
 names_of_both laws m name valid valid_other one elaborates = (
   λ has. names_come laws m valid valid_other one elaborates name has,
   λ has. elim has [

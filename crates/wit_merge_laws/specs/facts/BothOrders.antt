@@ -12,14 +12,14 @@ use Rattle.wit_elaboration.specs.Valid.{IsValid}
 use Rattle.wit_graph_data.specs.declared.graph.Graph.{Graph}
 use Rattle.wit_graph_theory.specs.facts.ListFacts.{from_row}
 use Rattle.wit_graph_theory.specs.facts.NamedUses.{used_is_named}
-use Rattle.wit_merge_spec.specs.Matches.{Merging, found_interface, found_world}
-use Rattle.wit_merge_spec.specs.Moved.{interface_place, moves_interface}
-use Rattle.wit_merge_spec.specs.Reasons.{AreOne}
+use Rattle.wit_merge_spec.specs.Matches.{GraphMerge, counterpart_interface, counterpart_world}
+use Rattle.wit_merge_spec.specs.Remapped.{merged_interface, moves_interface}
+use Rattle.wit_merge_spec.specs.Reasons.{HasNoMismatch}
 use Rattle.wit_merge_spec.specs.United.{joined_graph}
-use Rattle.wit_merge_laws.specs.facts.InterfacesStand.{moved_interface_goes}
+use Rattle.wit_merge_laws.specs.facts.InterfacesStand.{moved_interface_remapped}
 use Rattle.wit_merge_laws.specs.facts.ListedStand.{interfaces_apart}
 use Rattle.wit_merge_laws.specs.facts.MatchFacts.{goes_to}
-use Rattle.wit_merge_laws.specs.laws.MergingLaws.{merging}
+use Rattle.wit_merge_laws.specs.laws.MergingLaws.{merge_of_graphs}
 use Rattle.wit_merge_laws.specs.facts.TypesStand.{matched_some}
 use Rattle.wit_merge_laws.specs.facts.UsesFrom.{use_from}
 use Rattle.wit_merge_laws.specs.facts.UsesInto.{AliasesMatched, use_goes, use_stays}
@@ -28,14 +28,14 @@ use Rattle.wit_merge_laws.specs.facts.UsesInto.{AliasesMatched, use_goes, use_st
 pub record InBothOrders (g h : Graph) (offset back : ℕ) : Type 0 where
   pub valid : IsValid g
   pub valid_other : IsValid h
-  pub one : AreOne (merging g h offset)
-  pub one_back : AreOne (merging h g back)
-  pub interface_back : (i i' : ℕ) → found_interface (merging g h offset) i ≡ Some i' → found_interface (merging h g back) i' ≡ Some i
-  pub interface_there : (i i' : ℕ) → found_interface (merging h g back) i ≡ Some i' → found_interface (merging g h offset) i' ≡ Some i
-  pub world_back : (w w' : ℕ) → found_world (merging g h offset) w ≡ Some w' → found_world (merging h g back) w' ≡ Some w
-  pub world_there : (w w' : ℕ) → found_world (merging h g back) w ≡ Some w' → found_world (merging g h offset) w' ≡ Some w
-  pub aliases : AliasesMatched (merging g h offset)
-  pub aliases_back : AliasesMatched (merging h g back)
+  pub one : HasNoMismatch (merge_of_graphs g h offset)
+  pub one_back : HasNoMismatch (merge_of_graphs h g back)
+  pub interface_back : (i i' : ℕ) → counterpart_interface (merge_of_graphs g h offset) i ≡ Some i' → counterpart_interface (merge_of_graphs h g back) i' ≡ Some i
+  pub interface_there : (i i' : ℕ) → counterpart_interface (merge_of_graphs h g back) i ≡ Some i' → counterpart_interface (merge_of_graphs g h offset) i' ≡ Some i
+  pub world_back : (w w' : ℕ) → counterpart_world (merge_of_graphs g h offset) w ≡ Some w' → counterpart_world (merge_of_graphs h g back) w' ≡ Some w
+  pub world_there : (w w' : ℕ) → counterpart_world (merge_of_graphs h g back) w ≡ Some w' → counterpart_world (merge_of_graphs g h offset) w' ≡ Some w
+  pub aliases : AliasesMatched (merge_of_graphs g h offset)
+  pub aliases_back : AliasesMatched (merge_of_graphs h g back)
 
 -- the same, with the two orders the other way round
 pub other_way : (g h : Graph) (offset back : ℕ) → InBothOrders g h offset back → InBothOrders h g back offset
@@ -56,25 +56,25 @@ other_way g h offset back both = record {
 
 -- interface i of g with h, and interface j of h with g: both come of one interface of g, or of one of h
 pub data Corresponds (g h : Graph) (offset back i j : ℕ) : Type 0 where
-  of_graph : i < length g.interfaces → j ≡ interface_place (merging h g back) i → Corresponds g h offset back i j
-  of_other : j < length h.interfaces → i ≡ interface_place (merging g h offset) j → Corresponds g h offset back i j
+  of_graph : i < length g.interfaces → j ≡ merged_interface (merge_of_graphs h g back) i → Corresponds g h offset back i j
+  of_other : j < length h.interfaces → i ≡ merged_interface (merge_of_graphs g h offset) j → Corresponds g h offset back i j
 
 pub flip : (g h : Graph) (offset back i j : ℕ) → Corresponds g h offset back i j → Corresponds h g back offset j i
 flip g h offset back i j (of_graph within place) = of_other within place
 flip g h offset back i j (of_other within place) = of_graph within place
 
 -- an interface of the graph that is where one of the other goes is matched with that
-matched_there : (m : Merging) (i k : ℕ) → i < length m.graph.interfaces → i ≡ interface_place m k → found_interface m k ≡ Some i
+matched_there : (m : GraphMerge) (i k : ℕ) → i < length m.graph.interfaces → i ≡ merged_interface m k → counterpart_interface m k ≡ Some i
 matched_there m i k within place = elim (cases_Bool (moves_interface m k)) [
-  | inl moves ↦ let next = moved_interface_goes m k moves in absurd (omega (arith, within, place, next))
+  | inl moves ↦ let next = moved_interface_remapped m k moves in absurd (omega (arith, within, place, next))
   | inr stays ↦
-      let some = matched_some (found_interface m k) stays in
-      let same : some.0 ≡ i = sym (goes_to (found_interface m k) _ some.0 some.1) ∙ sym place in
+      let some = matched_some (counterpart_interface m k) stays in
+      let same : some.0 ≡ i = sym (goes_to (counterpart_interface m k) _ some.0 some.1) ∙ sym place in
       some.1 ∙ ap (λ (x : ℕ). Some x) same
 ]
 
-meets : (g h : Graph) (offset back : ℕ) → InBothOrders g h offset back → (i k : ℕ) → i < length g.interfaces → i ≡ interface_place (merging g h offset) k → interface_place (merging h g back) i ≡ k
-meets g h offset back both i k within place = goes_to (found_interface (merging h g back) i) _ k (both.interface_back k i (matched_there (merging g h offset) i k within place))
+meets : (g h : Graph) (offset back : ℕ) → InBothOrders g h offset back → (i k : ℕ) → i < length g.interfaces → i ≡ merged_interface (merge_of_graphs g h offset) k → merged_interface (merge_of_graphs h g back) i ≡ k
+meets g h offset back both i k within place = goes_to (counterpart_interface (merge_of_graphs h g back) i) _ k (both.interface_back k i (matched_there (merge_of_graphs g h offset) i k within place))
 
 module _ (g h : Graph) (offset back : ℕ) (both : InBothOrders g h offset back) where
   -- each corresponds to one at the most
@@ -82,7 +82,7 @@ module _ (g h : Graph) (offset back : ℕ) (both : InBothOrders g h offset back)
   one_like i j k (of_graph within place) (of_graph within' place') = place ∙ sym place'
   one_like i j k (of_graph within place) (of_other within' place') = place ∙ meets g h offset back both i k within place'
   one_like i j k (of_other within place) (of_graph within' place') = sym (place' ∙ meets g h offset back both i j within' place)
-  one_like i j k (of_other within place) (of_other within' place') = interfaces_apart (merging g h offset) both.valid both.valid_other j k (sym place ∙ place')
+  one_like i j k (of_other within place) (of_other within' place') = interfaces_apart (merge_of_graphs g h offset) both.valid both.valid_other j k (sym place ∙ place')
 
 pub one_like_back : (g h : Graph) (offset back : ℕ) → InBothOrders g h offset back → (i k j : ℕ) → Corresponds g h offset back i j → Corresponds g h offset back k j → i ≡ k
 one_like_back g h offset back both i k j first second =
@@ -99,10 +99,10 @@ used_there g valid i j has = named_within g.interfaces j (used_is_named g.types 
 
 module _ (g h : Graph) (offset back : ℕ) (both : InBothOrders g h offset back) where
   abbrev there : List (List ℕ)
-  there = graph_uses (joined_graph (merging g h offset))
+  there = graph_uses (joined_graph (merge_of_graphs g h offset))
 
   abbrev here : List (List ℕ)
-  here = graph_uses (joined_graph (merging h g back))
+  here = graph_uses (joined_graph (merge_of_graphs h g back))
 
   -- what an interface uses in the one union, in the other
   pub record UsesLike (j x : ℕ) : Type 0 where
@@ -111,17 +111,17 @@ module _ (g h : Graph) (offset back : ℕ) (both : InBothOrders g h offset back)
     pub used : Contains (direct here j) y
 
   pub uses_like : (i j x : ℕ) → Corresponds g h offset back i j → Contains (direct there i) x → UsesLike j x
-  uses_like i j x like edge = elim (use_from (merging g h offset) both.valid both.valid_other both.one i x edge) [
+  uses_like i j x like edge = elim (use_from (merge_of_graphs g h offset) both.valid both.valid_other both.one i x edge) [
     | inl mine ↦
-        let goes = use_goes (merging h g back) both.valid_other both.valid both.aliases_back i x mine in
-        let place : j ≡ interface_place (merging h g back) i = one_like g h offset back both i j (interface_place (merging h g back) i) like (of_graph (user_there g i x mine) refl) in
+        let goes = use_goes (merge_of_graphs h g back) both.valid_other both.valid both.aliases_back i x mine in
+        let place : j ≡ merged_interface (merge_of_graphs h g back) i = one_like g h offset back both i j (merged_interface (merge_of_graphs h g back) i) like (of_graph (user_there g i x mine) refl) in
         record {
-          y = interface_place (merging h g back) x;
+          y = merged_interface (merge_of_graphs h g back) x;
           like = of_graph (used_there g both.valid i x mine) refl;
-          used = subst (λ (k : ℕ). Contains (direct here k) (interface_place (merging h g back) x)) (sym place) goes;
+          used = subst (λ (k : ℕ). Contains (direct here k) (merged_interface (merge_of_graphs h g back) x)) (sym place) goes;
         }
     | inr theirs ↦
-        let stays = use_stays (merging h g back) theirs.i theirs.j theirs.used in
+        let stays = use_stays (merge_of_graphs h g back) theirs.i theirs.j theirs.used in
         let place : j ≡ theirs.i = one_like g h offset back both i j theirs.i like (of_other (user_there h theirs.i theirs.j theirs.used) theirs.place) in
         record {
           y = theirs.j;

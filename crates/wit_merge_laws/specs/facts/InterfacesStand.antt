@@ -32,21 +32,21 @@ use Rattle.wit_graph_theory.specs.Operations.{merge_sources}
 use Rattle.wit_graph_theory.specs.facts.OptionFacts.{none_or_some, none_there, some_by, some_same}
 use Rattle.wit_graph_theory.specs.facts.PackagesAcyclic.{length-numbered, numbered_from, numbered_into}
 use Rattle.wit_graph_theory.specs.steps.Sources.{InterfaceStands, IsCarriedFunction, Source}
-use Rattle.wit_link_spec.specs.facts.Found.{find-passes, find-some}
-use Rattle.wit_link_spec.specs.Lookup.{listed_type}
-use Rattle.wit_link_spec.specs.facts.RankFacts.{taken-at, taken_places-from}
-use Rattle.wit_link_spec.specs.Ranks.{rank, taken_places}
+use Rattle.wit_link_spec.specs.facts.ForeignFound.{find-passes, find-some}
+use Rattle.wit_link_spec.specs.Lookup.{interface_type}
+use Rattle.wit_link_spec.specs.facts.RankFacts.{selected-at, selected_with_index-from}
+use Rattle.wit_link_spec.specs.Ranks.{rank, selected_with_index}
 use Rattle.wit_link_laws.specs.facts.KeysApart.{joined_apart}
 use Rattle.wit_merge_spec.specs.Joined.{joined_interface, with_interface}
-use Rattle.wit_merge_spec.specs.Matches.{Merging, found_by, found_interface, found_type, partner}
-use Rattle.wit_merge_spec.specs.Moved.{brought_functions, brought_types, interface_place, merge_maps, moved_interfaces, moves_interface, moves_type, type_place}
+use Rattle.wit_merge_spec.specs.Matches.{GraphMerge, counterpart_interface, counterpart_of, counterpart_type, counterpart_type_by}
+use Rattle.wit_merge_spec.specs.Remapped.{brought_functions, brought_types, merge_maps, merged_interface, merged_type, moved_interfaces, moves_interface, moves_type}
 use Rattle.wit_merge_spec.specs.United.{joined_graph}
 use Rattle.wit_merge_laws.specs.facts.MatchFacts.{goes_to, interface_is}
 use Rattle.wit_merge_laws.specs.facts.MatchedOnce.{interface_once}
 use Rattle.wit_merge_laws.specs.facts.TypesStand.{matched_some, moved_next}
 use Rattle.wit_merge_laws.specs.facts.WholeFacts.{interface_at, types_within}
 
--- ---- partners
+-- ---- counterparts
 
 pub option_is : (o : Option ℕ) (x : ℕ) → option_eq nat_eq o (Some x) ≡ true → o ≡ Some x
 option_is None x same = absurd (false≢true same)
@@ -60,8 +60,8 @@ module _ {X : Type 0} (found : ℕ → Option ℕ) (others : List X) (x' : ℕ) 
   test e = option_eq nat_eq (found e.0) (Some x')
 
   -- what is matched with a thing goes to it
-  pub partner_from : (p : ℕ × X) → partner found others x' ≡ Some p → (slice_get others p.0 ≡ Some p.1) × (found p.0 ≡ Some x')
-  partner_from p is =
+  pub counterpart_from : (p : ℕ × X) → counterpart_of found others x' ≡ Some p → (slice_get others p.0 ≡ Some p.1) × (found p.0 ≡ Some x')
+  counterpart_from p is =
       let passes = find-passes test (enumerate_from 0 others) p is in
       let place = place_of (enumerate_from 0 others) p passes.0 in
       let numbered = numbered_from 0 others place.0 p place.1 in
@@ -69,19 +69,19 @@ module _ {X : Type 0} (found : ℕ → Option ℕ) (others : List X) (x' : ℕ) 
       (subst (λ (k : ℕ). slice_get others k ≡ Some p.1) (omega (arith, n)) numbered.1, option_is (found p.0) x' passes.1)
 
   -- and what alone goes to it is that
-  pub partner_is : ((i j : ℕ) → found i ≡ Some x' → found j ≡ Some x' → i ≡ j) → (i : ℕ) (x : X) → slice_get others i ≡ Some x → found i ≡ Some x' → partner found others x' ≡ Some (i, x)
-  partner_is once i x at goes =
+  pub counterpart_is : ((i j : ℕ) → found i ≡ Some x' → found j ≡ Some x' → i ≡ j) → (i : ℕ) (x : X) → slice_get others i ≡ Some x → found i ≡ Some x' → counterpart_of found others x' ≡ Some (i, x)
+  counterpart_is once i x at goes =
       let place : 0 + i ≡ i = omega arith in
       let listed : Contains (enumerate_from 0 others) (i, x) = contained_at (enumerate_from 0 others) i (i, x) (numbered_into 0 others i x at ∙ ap (λ (n : ℕ). Some (n, x)) place) in
       let some = find-some test (enumerate_from 0 others) (i, x) listed (option_so (found i) x' goes) in
-      let from = partner_from some.0 some.1 in
+      let from = counterpart_from some.0 some.1 in
       let same : some.0.0 ≡ i = once some.0.0 i from.1 goes in
       let held : some.0.1 ≡ x = some_same some.0.1 x (sym from.0 ∙ (ap (slice_get others) same ∙ at)) in
       some.1 ∙ (λ k. Some (same k, held k))
 
 -- ---- where interfaces stand
 
-module _ (m : Merging) where
+module _ (m : GraphMerge) where
   abbrev old_interfaces : List Interface
   old_interfaces = map (joined_interface m) (enumerate_from 0 m.graph.interfaces)
 
@@ -98,22 +98,22 @@ module _ (m : Merging) where
       slice_get-append old_interfaces images i (joined_interface m (i, interface))
       (at_map (joined_interface m) (enumerate_from 0 m.graph.interfaces) i (i, interface) (numbered_into 0 m.graph.interfaces i interface at ∙ ap (λ (n : ℕ). Some (n, interface)) place))
 
-  pub moved_interface_goes : (i : ℕ) → moves_interface m i ≡ true → interface_place m i ≡ length m.graph.interfaces + rank (moves_interface m) i
-  moved_interface_goes i moves = moved_next (found_interface m i) _ moves
+  pub moved_interface_remapped : (i : ℕ) → moves_interface m i ≡ true → merged_interface m i ≡ length m.graph.interfaces + rank (moves_interface m) i
+  moved_interface_remapped i moves = moved_next (counterpart_interface m i) _ moves
 
   -- one that moves stands at the next place, as its image
   pub new_interface_at : (i : ℕ) (interface : Interface) → slice_get m.other.interfaces i ≡ Some interface → moves_interface m i ≡ true
-      → slice_get (joined_graph m).interfaces (interface_place m i) ≡ Some (interface_image (merge_maps m) interface)
+      → slice_get (joined_graph m).interfaces (merged_interface m i) ≡ Some (interface_image (merge_maps m) interface)
   new_interface_at i interface at moves =
-      let goes = moved_interface_goes i moves in
+      let goes = moved_interface_remapped i moves in
       let long = long_old in
-      at_new old_interfaces images (rank (moves_interface m) i) (interface_place m i) (interface_image (merge_maps m) interface) (omega (arith, goes, long))
-      (at_map (interface_image (merge_maps m)) (moved_interfaces m) (rank (moves_interface m) i) interface (taken-at (moves_interface m) m.other.interfaces i interface at moves))
+      at_new old_interfaces images (rank (moves_interface m) i) (merged_interface m i) (interface_image (merge_maps m) interface) (omega (arith, goes, long))
+      (at_map (interface_image (merge_maps m)) (moved_interfaces m) (rank (moves_interface m) i) interface (selected-at (moves_interface m) m.other.interfaces i interface at moves))
 
   -- what stands there is one of these
   pub data InterfaceFrom (f' : ℕ) (new : Interface) : Type 0 where
     of_graph : (old : Interface) → slice_get m.graph.interfaces f' ≡ Some old → joined_interface m (f', old) ≡ new → InterfaceFrom f' new
-    of_other : (i : ℕ) (old : Interface) → slice_get m.other.interfaces i ≡ Some old → moves_interface m i ≡ true → f' ≡ interface_place m i → interface_image (merge_maps m) old ≡ new → InterfaceFrom f' new
+    of_other : (i : ℕ) (old : Interface) → slice_get m.other.interfaces i ≡ Some old → moves_interface m i ≡ true → f' ≡ merged_interface m i → interface_image (merge_maps m) old ≡ new → InterfaceFrom f' new
 
   pub interface_at_from : (f' : ℕ) (new : Interface) → slice_get (joined_graph m).interfaces f' ≡ Some new → InterfaceFrom f' new
   interface_at_from f' new at =
@@ -125,9 +125,9 @@ module _ (m : Merging) where
             of_graph from.0.1 is.1 (ap (λ (k : ℕ). joined_interface m (k, from.0.1)) (sym place) ∙ from.2)
         | inr behind ↦
             let from = from_map (interface_image (merge_maps m)) (moved_interfaces m) behind.0 new behind.2 in
-            let e = from_map (λ (e : ℕ × Interface). e.1) (taken_places (moves_interface m) m.other.interfaces) behind.0 from.0 from.1 in
-            let is = taken_places-from (moves_interface m) m.other.interfaces behind.0 e.0 e.1 in
-            let goes = moved_interface_goes e.0.0 is.1 in
+            let e = from_map (λ (e : ℕ × Interface). e.1) (selected_with_index (moves_interface m) m.other.interfaces) behind.0 from.0 from.1 in
+            let is = selected_with_index-from (moves_interface m) m.other.interfaces behind.0 e.0 e.1 in
+            let goes = moved_interface_remapped e.0.0 is.1 in
             let long = long_old in
             let n = behind.1 in
             let r = is.2 in
@@ -141,8 +141,8 @@ pub record KeepsInterface (old new : Interface) : Type 0 where
   pub home : new.package ≡ old.package
   pub types : (e : List ℕ × ℕ) → Contains old.types e → Contains new.types e
 
-pub joined_keeps : (m : Merging) (e : ℕ × Interface) → KeepsInterface e.1 (joined_interface m e)
-joined_keeps m e = by (partner (found_interface m) m.other.interfaces e.0)
+pub joined_keeps : (m : GraphMerge) (e : ℕ × Interface) → KeepsInterface e.1 (joined_interface m e)
+joined_keeps m e = by (counterpart_of (counterpart_interface m) m.other.interfaces e.0)
   where
     by : (o : Option (ℕ × Interface)) → KeepsInterface e.1 (option_map_or (λ (p : ℕ × Interface). with_interface m p.1 e.1) o e.1)
     by None = record { name = refl; home = refl; types = λ x has. has }
@@ -150,12 +150,12 @@ joined_keeps m e = by (partner (found_interface m) m.other.interfaces e.0)
 
 -- ---- they stand
 
-module _ (m : Merging) (valid : IsValid m.graph) (valid_other : IsValid m.other) where
+module _ (m : GraphMerge) (valid : IsValid m.graph) (valid_other : IsValid m.other) where
   -- what a matched interface is joined to
-  pub with_partner : (i i' : ℕ) (from into : Interface) → slice_get m.other.interfaces i ≡ Some from → found_interface m i ≡ Some i' → joined_interface m (i', into) ≡ with_interface m from into
-  with_partner i i' from into at found =
+  pub with_counterpart : (i i' : ℕ) (from into : Interface) → slice_get m.other.interfaces i ≡ Some from → counterpart_interface m i ≡ Some i' → joined_interface m (i', into) ≡ with_interface m from into
+  with_counterpart i i' from into at found =
       ap (λ (o : Option (ℕ × Interface)). option_map_or (λ (p : ℕ × Interface). with_interface m p.1 into) o into)
-      (partner_is (found_interface m) m.other.interfaces i' (λ i j. interface_once m valid valid_other i j i') i from at found)
+      (counterpart_is (counterpart_interface m) m.other.interfaces i' (λ i j. interface_once m valid valid_other i j i') i from at found)
 
   -- what an interface lists is its own, under its name
   own_listed : (i : ℕ) (from : Interface) (name : List ℕ) (t : ℕ) → slice_get m.other.interfaces i ≡ Some from → Contains from.types (name, t)
@@ -165,47 +165,47 @@ module _ (m : Merging) (valid : IsValid m.graph) (valid_other : IsValid m.other)
       let is = found_at (λ (def : TypeDef). (def.name ≡ Some name) × (def.owner ≡ owner.Interface i)) m.other.types t (valid_other.well_formed.owners.own_types i from at place.0 (name, t) place.1) in
       (is.0, is.1, is.2.0, is.2.1)
 
-  -- so it is found by its name in the partner
-  pub listed_found : (i i' : ℕ) (from into : Interface) (name : List ℕ) (t : ℕ) → slice_get m.other.interfaces i ≡ Some from → found_interface m i ≡ Some i' → slice_get m.graph.interfaces i' ≡ Some into
-      → Contains from.types (name, t) → found_type m t ≡ lookup (bytes_eq name) into.types
+  -- so it is found by its name in the counterpart
+  pub listed_found : (i i' : ℕ) (from into : Interface) (name : List ℕ) (t : ℕ) → slice_get m.other.interfaces i ≡ Some from → counterpart_interface m i ≡ Some i' → slice_get m.graph.interfaces i' ≡ Some into
+      → Contains from.types (name, t) → counterpart_type m t ≡ lookup (bytes_eq name) into.types
   listed_found i i' from into name t at found there has =
       let own = own_listed i from name t at has in
-      some_by (λ (def : TypeDef). found_by m def.name def.owner) (slice_get m.other.types t) own.0 own.1
-      ∙ ((λ k. found_by m (own.2 k) (own.3 k))
-      ∙ (some_by (listed_type m.graph name) (found_interface m i) i' found ∙ some_by (λ (interface : Interface). lookup (bytes_eq name) interface.types) (slice_get m.graph.interfaces i') into there))
+      some_by (λ (def : TypeDef). counterpart_type_by m def.name def.owner) (slice_get m.other.types t) own.0 own.1
+      ∙ ((λ k. counterpart_type_by m (own.2 k) (own.3 k))
+      ∙ (some_by (interface_type m.graph name) (counterpart_interface m i) i' found ∙ some_by (λ (interface : Interface). lookup (bytes_eq name) interface.types) (slice_get m.graph.interfaces i') into there))
 
   -- each interface of the other graph stands at its place
-  pub interface_stands : (f : ℕ) (old : Interface) → slice_get m.other.interfaces f ≡ Some old → SomeAt (joined_graph m).interfaces (interface_place m f) (InterfaceStands (mapped_source m.other (merge_maps m)) old)
+  pub interface_stands : (f : ℕ) (old : Interface) → slice_get m.other.interfaces f ≡ Some old → SomeAt (joined_graph m).interfaces (merged_interface m f) (InterfaceStands (mapped_source m.other (merge_maps m)) old)
   interface_stands f old at = elim (cases_Bool (moves_interface m f)) [
     | inl moves ↦
-        some_at (InterfaceStands (mapped_source m.other (merge_maps m)) old) (joined_graph m).interfaces (interface_place m f) (interface_image (merge_maps m) old) (new_interface_at m f old at moves)
+        some_at (InterfaceStands (mapped_source m.other (merge_maps m)) old) (joined_graph m).interfaces (merged_interface m f) (interface_image (merge_maps m) old) (new_interface_at m f old at moves)
         (interface_image_stands (mapped_source m.other (merge_maps m)) old)
-    | inr stays ↦ matched (matched_some (found_interface m f) stays)
+    | inr stays ↦ matched (matched_some (counterpart_interface m f) stays)
   ]
     where
-      matched : (i' : ℕ) × (found_interface m f ≡ Some i') → SomeAt (joined_graph m).interfaces (interface_place m f) (InterfaceStands (mapped_source m.other (merge_maps m)) old)
+      matched : (i' : ℕ) × (counterpart_interface m f ≡ Some i') → SomeAt (joined_graph m).interfaces (merged_interface m f) (InterfaceStands (mapped_source m.other (merge_maps m)) old)
       matched (i', found) =
           let is = interface_is m valid valid_other f i' found in
           let same : is.from ≡ old = some_same is.from old (sym is.from_is ∙ at) in
           let new = with_interface m old is.into in
-          let there : slice_get (joined_graph m).interfaces (interface_place m f) ≡ Some new =
-          ap (slice_get (joined_graph m).interfaces) (goes_to (found_interface m f) _ i' found) ∙ (old_interface_at m i' is.into is.into_is ∙ ap (λ (x : Interface). Some x) (with_partner f i' old is.into at found)) in
-          some_at (InterfaceStands (mapped_source m.other (merge_maps m)) old) (joined_graph m).interfaces (interface_place m f) new there (record {
+          let there : slice_get (joined_graph m).interfaces (merged_interface m f) ≡ Some new =
+          ap (slice_get (joined_graph m).interfaces) (goes_to (counterpart_interface m f) _ i' found) ∙ (old_interface_at m i' is.into is.into_is ∙ ap (λ (x : Interface). Some x) (with_counterpart f i' old is.into at found)) in
+          some_at (InterfaceStands (mapped_source m.other (merge_maps m)) old) (joined_graph m).interfaces (merged_interface m f) new there (record {
             name = is.called ∙ ap (λ (x : Interface). x.name) same;
             types = λ name t has taken. lists is.into is.into_is name t has;
             home = λ none. is.home ∙ ap (λ (x : Interface). (merge_maps m).home x.package) same;
           })
         where
-          lists : (into : Interface) → slice_get m.graph.interfaces i' ≡ Some into → (name : List ℕ) (t : ℕ) → Contains old.types (name, t) → Contains (with_interface m old into).types (name, type_place m t)
+          lists : (into : Interface) → slice_get m.graph.interfaces i' ≡ Some into → (name : List ℕ) (t : ℕ) → Contains old.types (name, t) → Contains (with_interface m old into).types (name, merged_type m t)
           lists into there name t has = elim (cases_Bool (moves_type m t)) [
             | inl moves ↦
-                Contains-append_right into.types (map (λ (e : List ℕ × ℕ). let r : List ℕ × ℕ = (e.0, type_place m e.1) in r) (brought_types m old)) (name, type_place m t)
-                (Contains-map (λ (e : List ℕ × ℕ). let r : List ℕ × ℕ = (e.0, type_place m e.1) in r) (brought_types m old) (name, t) (Contains-filtered (λ (e : List ℕ × ℕ). moves_type m e.1) old.types (name, t) has moves))
+                Contains-append_right into.types (map (λ (e : List ℕ × ℕ). let r : List ℕ × ℕ = (e.0, merged_type m e.1) in r) (brought_types m old)) (name, merged_type m t)
+                (Contains-map (λ (e : List ℕ × ℕ). let r : List ℕ × ℕ = (e.0, merged_type m e.1) in r) (brought_types m old) (name, t) (Contains-filtered (λ (e : List ℕ × ℕ). moves_type m e.1) old.types (name, t) has moves))
             | inr stays ↦
-                let found_t = matched_some (found_type m t) stays in
+                let found_t = matched_some (counterpart_type m t) stays in
                 let listed : lookup (bytes_eq name) into.types ≡ Some found_t.0 = sym (listed_found f i' old into name t at found there has) ∙ found_t.1 in
-                Contains-append_left into.types _ (name, type_place m t)
-                (subst (λ (x : ℕ). Contains into.types (name, x)) (sym (goes_to (found_type m t) _ found_t.0 found_t.1)) (Contains-from_lookup (λ a b. (bytes_eq-Decides a b).0) name found_t.0 into.types listed))
+                Contains-append_left into.types _ (name, merged_type m t)
+                (subst (λ (x : ℕ). Contains into.types (name, x)) (sym (goes_to (counterpart_type m t) _ found_t.0 found_t.1)) (Contains-from_lookup (λ a b. (bytes_eq-Decides a b).0) name found_t.0 into.types listed))
           ]
 
 -- ---- they come of the two
@@ -215,7 +215,7 @@ not_listed : {V : Type 0} (name : List ℕ) (v : V) (es : List (List ℕ × V)) 
 not_listed name v es none has =
     none_or_some (lookup (bytes_eq name) es) none (IsSome-lookup_from_Contains nat_list_eq_equiv name es (Contains-map (λ (e : List ℕ × _). e.0) es (name, v) has))
 
-module _ (m : Merging) (valid : IsValid m.graph) (valid_other : IsValid m.other) where
+module _ (m : GraphMerge) (valid : IsValid m.graph) (valid_other : IsValid m.other) where
   abbrev at : ℕ → Source
   at = merge_sources m.graph m.other (merge_maps m)
 
@@ -229,7 +229,7 @@ module _ (m : Merging) (valid : IsValid m.graph) (valid_other : IsValid m.other)
     place = refl;
   }
 
-  abbrev beside : (i f' : ℕ) (from : Interface) → slice_get m.other.interfaces i ≡ Some from → f' ≡ interface_place m i → InterfaceAt (at 1) f'
+  abbrev beside : (i f' : ℕ) (from : Interface) → slice_get m.other.interfaces i ≡ Some from → f' ≡ merged_interface m i → InterfaceAt (at 1) f'
   beside i f' from there place = record {
     f = i;
     old = from;
@@ -259,15 +259,15 @@ module _ (m : Merging) (valid : IsValid m.graph) (valid_other : IsValid m.other)
       distinct_functions = valid.well_formed.owners.distinct_functions f' into there;
     }
 
-    module _ (i : ℕ) (from : Interface) (other_there : slice_get m.other.interfaces i ≡ Some from) (found : found_interface m i ≡ Some f') where
+    module _ (i : ℕ) (from : Interface) (other_there : slice_get m.other.interfaces i ≡ Some from) (found : counterpart_interface m i ≡ Some f') where
       abbrev typed : List ℕ × ℕ → List ℕ × ℕ
-      typed e = (e.0, type_place m e.1)
+      typed e = (e.0, merged_type m e.1)
 
       abbrev imaged : List ℕ × Function → List ℕ × Function
       imaged e = (e.0, function_image (merge_maps m) e.1)
 
       abbrev from_there : InterfaceAt (at 1) f'
-      from_there = beside i f' from other_there (sym (goes_to (found_interface m i) _ f' found))
+      from_there = beside i f' from other_there (sym (goes_to (counterpart_interface m i) _ f' found))
 
       new_listed : (e : List ℕ × ℕ) → Contains (map typed (brought_types m from)) e → ListedComes at f' e
       new_listed e has =
@@ -300,7 +300,7 @@ module _ (m : Merging) (valid : IsValid m.graph) (valid_other : IsValid m.other)
       types_apart e f has new same =
           let old = Contains-map_cases typed (brought_types m from) f new in
           let kept = Contains-filter (λ (x : List ℕ × ℕ). moves_type m x.1) from.types old.0 old.1 in
-          let none = none_there (found_type m old.0.1) kept.1 in
+          let none = none_there (counterpart_type m old.0.1) kept.1 in
           let named : e.0 ≡ old.0.0 = same ∙ sym (ap (λ (x : List ℕ × ℕ). x.0) old.2) in
           not_listed old.0.0 e.1 into.types (sym (listed_found m valid valid_other i f' from into old.0.0 old.0.1 other_there found there kept.0) ∙ none) (subst (λ (n : List ℕ). Contains into.types (n, e.1)) named has)
 
@@ -320,18 +320,18 @@ module _ (m : Merging) (valid : IsValid m.graph) (valid_other : IsValid m.other)
         types = λ k e on. elim (Contains-append_cases into.types (map typed (brought_types m from)) e (contained_at (into.types ++ map typed (brought_types m from)) k e on)) [ inl old ↦ old_listed e old | inr new ↦ new_listed e new ];
         functions = λ k e on. elim (Contains-append_cases into.functions (map imaged (brought_functions from into)) e (contained_at (into.functions ++ map imaged (brought_functions from into)) k e on)) [ inl old ↦ old_function e old | inr new ↦ new_function e new ];
         distinct_types = joined_apart into.types (map typed (brought_types m from)) (valid.well_formed.owners.distinct_types f' into there)
-            (distinct_map (type_place m) (brought_types m from) (distinct_kept (λ (x : List ℕ × ℕ). moves_type m x.1) from.types (valid_other.well_formed.owners.distinct_types i from other_there))) types_apart;
+            (distinct_map (merged_type m) (brought_types m from) (distinct_kept (λ (x : List ℕ × ℕ). moves_type m x.1) from.types (valid_other.well_formed.owners.distinct_types i from other_there))) types_apart;
         distinct_functions = joined_apart into.functions (map imaged (brought_functions from into)) (valid.well_formed.owners.distinct_functions f' into there)
             (distinct_map (function_image (merge_maps m)) (brought_functions from into)
             (distinct_kept (λ (x : List ℕ × Function). not (is_some (lookup (bytes_eq x.0) into.functions))) from.functions (valid_other.well_formed.owners.distinct_functions i from other_there))) functions_apart;
       }
 
     joined_comes : InterfaceComes at f' (joined_interface m (f', into))
-    joined_comes = by (partner (found_interface m) m.other.interfaces f') refl
+    joined_comes = by (counterpart_of (counterpart_interface m) m.other.interfaces f') refl
       where
-        by : (o : Option (ℕ × Interface)) → partner (found_interface m) m.other.interfaces f' ≡ o → InterfaceComes at f' (option_map_or (λ (p : ℕ × Interface). with_interface m p.1 into) o into)
+        by : (o : Option (ℕ × Interface)) → counterpart_of (counterpart_interface m) m.other.interfaces f' ≡ o → InterfaceComes at f' (option_map_or (λ (p : ℕ × Interface). with_interface m p.1 into) o into)
         by None is = alone_comes
-        by (Some p) is = let from = partner_from (found_interface m) m.other.interfaces f' p is in with_comes p.0 p.1 from.0 from.1
+        by (Some p) is = let from = counterpart_from (counterpart_interface m) m.other.interfaces f' p is in with_comes p.0 p.1 from.0 from.1
 
   -- each interface of the two graphs as one comes of interfaces of the two
   pub interfaces_come : (f' : ℕ) (new : Interface) → slice_get (joined_graph m).interfaces f' ≡ Some new → InterfaceComes at f' new

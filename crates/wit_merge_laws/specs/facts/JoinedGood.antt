@@ -2,7 +2,7 @@
 use Rattle.std.proofs.Common.{◌≡◌, ℕ, length, Some, slice_get, refl, Contains}
 use Rattle.wit_digraph.specs.Relation.{IsAcyclic}
 use Rattle.wit_data.specs.Each.{Each}
-use Rattle.wit_data.specs.Entries.{HasExports, HasImports}
+use Rattle.wit_data.specs.Entries.{ExportsAreAllowed, ImportsAreAllowed}
 use Rattle.wit_data.specs.Ownership.{AliasesNamed}
 use Rattle.wit_data.specs.declared.world.World.{World}
 use Rattle.wit_elaboration.specs.Elaboration.{graph_uses}
@@ -16,18 +16,18 @@ use Rattle.wit_graph_theory.specs.Cut.{IsGoodWhere}
 use Rattle.wit_graph_theory.specs.Kept.{everything}
 use Rattle.wit_graph_theory.specs.Operations.{merge_sources}
 use Rattle.wit_graph_theory.specs.steps.Sources.{Source}
-use Rattle.wit_merge_spec.specs.Matches.{Merging}
-use Rattle.wit_merge_spec.specs.Moved.{merge_maps}
-use Rattle.wit_merge_spec.specs.Reasons.{AreOne}
+use Rattle.wit_merge_spec.specs.Matches.{GraphMerge}
+use Rattle.wit_merge_spec.specs.Remapped.{merge_maps}
+use Rattle.wit_merge_spec.specs.Reasons.{HasNoMismatch}
 use Rattle.wit_merge_spec.specs.United.{joined_graph}
 use Rattle.wit_merge_laws.specs.facts.WorldsStand.{joined_covered, joined_stands, sources_good}
 
 -- in two graphs as one no interface uses itself, and no world is in conflict
-pub record CanElaborate (m : Merging) : Type 0 where
+pub record UnionCanElaborate (m : GraphMerge) : Type 0 where
   pub acyclic : IsAcyclic (graph_uses (joined_graph m))
   pub clear : (world : World) → Contains (joined_graph m).worlds world → HasConflict (graph_uses (joined_graph m)) world.exports → ⊥
 
-module _ (m : Merging) (valid : IsValid m.graph) (valid_other : IsValid m.other) (one : AreOne m) where
+module _ (m : GraphMerge) (valid : IsValid m.graph) (valid_other : IsValid m.other) (one : HasNoMismatch m) where
   abbrev g : Graph
   g = joined_graph m
 
@@ -43,10 +43,10 @@ module _ (m : Merging) (valid : IsValid m.graph) (valid_other : IsValid m.other)
 
   -- so are the lists of its worlds
   module _ (w' : ℕ) (listed : World) (there : slice_get g.worlds w' ≡ Some listed) where
-    pub listed_imports : HasImports g.interfaces g.types w' listed
+    pub listed_imports : ImportsAreAllowed g.interfaces g.types w' listed
     listed_imports i e on = (joined_good.imports_are w' listed there refl i e on).is
 
-    pub listed_exports : HasExports g.interfaces listed
+    pub listed_exports : ExportsAreAllowed g.interfaces listed
     listed_exports i e on = (joined_good.exports_are w' listed there refl i e on).is
 
     pub in_order : HasSoundEntries g.types (length (graph_uses g)) listed.imports listed.exports

@@ -12,7 +12,7 @@ use Rattle.wit_data.specs.declared.world.WorldItem.TheVariants as item
 use Rattle.wit_data.specs.declared.world.WorldKey.{WorldKey}
 use Rattle.wit_data.specs.declared.world.WorldKey.TheVariants as key
 use Rattle.wit_elaboration.proofs.FreshEntries.{same_key-true}
-use Rattle.wit_elaboration.specs.Elaborated.{settled_item}
+use Rattle.wit_elaboration.specs.Elaborated.{without_span}
 use Rattle.wit_elaboration.specs.Entries.{same_key}
 use Rattle.wit_elaboration.specs.Valid.{IsValid}
 use Rattle.wit_graph_data.specs.declared.graph.Graph.{Graph}
@@ -20,16 +20,16 @@ use Rattle.wit_graph_theory.specs.AllElaborated.{elaborated_world}
 use Rattle.wit_graph_theory.specs.Image.{Maps, entry_image, item_image}
 use Rattle.wit_graph_theory.specs.facts.LawsOfElaboration.{LawsOfElaboration}
 use Rattle.wit_graph_theory.specs.facts.ListFacts.{Contains-map_cases, found_at, from_map}
-use Rattle.wit_graph_theory.specs.steps.OnePlace.{entries_of}
+use Rattle.wit_graph_theory.specs.steps.UnnamedOnce.{entries_of}
 use Rattle.wit_graph_theory.specs.facts.OptionFacts.{some_same}
 use Rattle.wit_link_spec.specs.Include.{joined_entry, joined_item}
 use Rattle.wit_merge_spec.specs.Agreement.{same_sort}
 use Rattle.wit_merge_spec.specs.Joined.{is_under_id, joined_world, with_world}
-use Rattle.wit_merge_spec.specs.Matches.{Merging, found_world, partner}
-use Rattle.wit_merge_spec.specs.Moved.{merge_maps, moves_world, world_place}
-use Rattle.wit_merge_spec.specs.Reasons.{AreOne}
+use Rattle.wit_merge_spec.specs.Matches.{GraphMerge, counterpart_of, counterpart_world}
+use Rattle.wit_merge_spec.specs.Remapped.{merge_maps, merged_world, moves_world}
+use Rattle.wit_merge_spec.specs.Reasons.{HasNoMismatch}
 use Rattle.wit_merge_spec.specs.United.{joined_graph, united}
-use Rattle.wit_merge_laws.specs.facts.JoinedGood.{CanElaborate}
+use Rattle.wit_merge_laws.specs.facts.JoinedGood.{UnionCanElaborate}
 use Rattle.wit_merge_laws.specs.facts.LabelsStay.{no_label}
 use Rattle.wit_merge_laws.specs.facts.ListedStand.{world_at_from}
 use Rattle.wit_merge_laws.specs.facts.ListedStand as worlds
@@ -72,10 +72,10 @@ is_same_sort (item.Type_ t span) (item.Type_ t' span') same = refl
 
 -- ---- what keeps them
 
-settled_sort : (held : WorldItem) → sort_of (settled_item held) ≡ sort_of held
-settled_sort (item.Interface i stability docs span external_id) = refl
-settled_sort (item.Function f) = refl
-settled_sort (item.Type_ t span) = refl
+without_span_sort : (held : WorldItem) → sort_of (without_span held) ≡ sort_of held
+without_span_sort (item.Interface i stability docs span external_id) = refl
+without_span_sort (item.Function f) = refl
+without_span_sort (item.Type_ t span) = refl
 
 image_sort : (m : Maps) (w : ℕ) (held : WorldItem) → sort_of (item_image m w held) ≡ sort_of held
 image_sort m w (item.Interface i stability docs span external_id) = refl
@@ -115,8 +115,8 @@ joined_from brought es k held has =
       sort = sym (entry_sort brought from.0) ∙ ap (λ (x : Entry). sort_of x.1) from.2;
     }
 
-world_from : (m : Merging) (e : ℕ × World) (exported : Bool) (k : WorldKey) (held : WorldItem) → Contains (entries_of exported (joined_world m e)) (entry k held) → OfSort (entries_of exported e.1) k held
-world_from m e exported k held = by (partner (found_world m) m.other.worlds e.0)
+world_from : (m : GraphMerge) (e : ℕ × World) (exported : Bool) (k : WorldKey) (held : WorldItem) → Contains (entries_of exported (joined_world m e)) (entry k held) → OfSort (entries_of exported e.1) k held
+world_from m e exported k held = by (counterpart_of (counterpart_world m) m.other.worlds e.0)
   where
     with_from : (p : ℕ × World) (exported : Bool) → Contains (entries_of exported (with_world m p e.1)) (entry k held) → OfSort (entries_of exported e.1) k held
     with_from p false has = joined_from (map (entry_image (merge_maps m) p.0) (filter (λ (x : Entry). is_under_id x.0) p.1.imports)) e.1.imports k held has
@@ -126,7 +126,7 @@ world_from m e exported k held = by (partner (found_world m) m.other.worlds e.0)
     by None has = record { there = held; has = has; sort = refl }
     by (Some p) has = with_from p exported has
 
-module _ (laws : LawsOfElaboration) (m : Merging) (valid : IsValid m.graph) (valid_other : IsValid m.other) (one : AreOne m) (can : CanElaborate m) where
+module _ (laws : LawsOfElaboration) (m : GraphMerge) (valid : IsValid m.graph) (valid_other : IsValid m.other) (one : HasNoMismatch m) (can : UnionCanElaborate m) where
   abbrev g : Graph
   g = joined_graph m
 
@@ -136,7 +136,7 @@ module _ (laws : LawsOfElaboration) (m : Merging) (valid : IsValid m.graph) (val
     | inl stays ↦ record {
       there = stays.0.1;
       has = subst (λ (k : WorldKey). Contains listed.imports (entry k stays.0.1)) (ap (λ (e : Entry). e.0) (sym stays.2)) stays.1;
-      sort = sym (settled_sort stays.0.1) ∙ ap (λ (e : Entry). sort_of e.1) (sym stays.2);
+      sort = sym (without_span_sort stays.0.1) ∙ ap (λ (e : Entry). sort_of e.1) (sym stays.2);
     }
     | inr made ↦ absurd (no_label label made.1 (ap (λ (e : Entry). e.0) made.2))
   ]
@@ -148,7 +148,7 @@ module _ (laws : LawsOfElaboration) (m : Merging) (valid : IsValid m.graph) (val
   -- what stood under the label, in a world of the graph or in one that moves
   pub data SortFrom (w' : ℕ) (exported : Bool) (label : List ℕ) (held : WorldItem) : Type 0 where
     sort_of_graph : (old : World) (d : WorldItem) → slice_get m.graph.worlds w' ≡ Some old → Contains (entries_of exported old) (entry (key.Name label) d) → sort_of d ≡ sort_of held → SortFrom w' exported label held
-    sort_of_other : (w : ℕ) (old : World) (d : WorldItem) → slice_get m.other.worlds w ≡ Some old → moves_world m w ≡ true → w' ≡ world_place m w → Contains (entries_of exported old) (entry (key.Name label) d) → sort_of d ≡ sort_of held
+    sort_of_other : (w : ℕ) (old : World) (d : WorldItem) → slice_get m.other.worlds w ≡ Some old → moves_world m w ≡ true → w' ≡ merged_world m w → Contains (entries_of exported old) (entry (key.Name label) d) → sort_of d ≡ sort_of held
         → SortFrom w' exported label held
 
   pub sort_from : (w' : ℕ) (exported : Bool) (label : List ℕ) (held : WorldItem) → HasLabel (united m) w' exported label held → SortFrom w' exported label held
@@ -169,7 +169,7 @@ module _ (laws : LawsOfElaboration) (m : Merging) (valid : IsValid m.graph) (val
           (sym (image_sort (merge_maps m) w from.0.1) ∙ (ap (λ (e : Entry). sort_of e.1) from.2 ∙ sort))
 
   -- matched worlds have things of one sort under a label
-  pub matched_sort : (w w' : ℕ) (old into : World) → slice_get m.other.worlds w ≡ Some old → found_world m w ≡ Some w' → slice_get m.graph.worlds w' ≡ Some into → (exported : Bool) (label : List ℕ) (d d' : WorldItem)
+  pub matched_sort : (w w' : ℕ) (old into : World) → slice_get m.other.worlds w ≡ Some old → counterpart_world m w ≡ Some w' → slice_get m.graph.worlds w' ≡ Some into → (exported : Bool) (label : List ℕ) (d d' : WorldItem)
       → Contains (entries_of exported old) (entry (key.Name label) d) → Contains (entries_of exported into) (entry (key.Name label) d') → sort_of d ≡ sort_of d'
   matched_sort w w' old into there found into_there exported label d d' has has' =
       let at = entry_there m valid valid_other one w w' old into there found into_there exported (key.Name label) d has in

@@ -9,21 +9,21 @@ use Rattle.wit_data.specs.declared.world.WorldKey.{WorldKey}
 use Rattle.wit_data.specs.declared.world.WorldKey.TheVariants as key
 use Rattle.wit_elaboration.proofs.Classes.{in_by_class}
 use Rattle.wit_elaboration.proofs.Filters.{Contains-filter, Contains-filtered}
-use Rattle.wit_elaboration.specs.Elaborated.{settled_item}
+use Rattle.wit_elaboration.specs.Elaborated.{without_span}
 use Rattle.wit_elaboration.specs.Elaboration.{graph_uses}
 use Rattle.wit_elaboration.specs.Entries.{by_class}
-use Rattle.wit_elaboration.specs.laws.KeptByElaboration.{is_label, labelled, settled}
+use Rattle.wit_elaboration.specs.laws.KeptByElaboration.{is_label, labelled, listed_without_span}
 use Rattle.wit_elaboration.specs.Valid.{IsValid}
 use Rattle.wit_graph_data.specs.declared.graph.Graph.{Graph}
 use Rattle.wit_graph_theory.specs.AllElaborated.{elaborated_world}
-use Rattle.wit_graph_theory.specs.facts.ElaboratedCome.{settled_interface}
+use Rattle.wit_graph_theory.specs.facts.ElaboratedCome.{interface_without_span}
 use Rattle.wit_graph_theory.specs.facts.LawsOfElaboration.{LawsOfElaboration}
 use Rattle.wit_graph_theory.specs.facts.ListFacts.{Contains-map, Contains-map_cases}
-use Rattle.wit_graph_theory.specs.steps.OnePlace.{entries_of}
-use Rattle.wit_merge_spec.specs.Matches.{Merging}
-use Rattle.wit_merge_spec.specs.Reasons.{AreOne}
+use Rattle.wit_graph_theory.specs.steps.UnnamedOnce.{entries_of}
+use Rattle.wit_merge_spec.specs.Matches.{GraphMerge}
+use Rattle.wit_merge_spec.specs.Reasons.{HasNoMismatch}
 use Rattle.wit_merge_spec.specs.United.{joined_graph}
-use Rattle.wit_merge_laws.specs.facts.JoinedGood.{CanElaborate, in_order}
+use Rattle.wit_merge_laws.specs.facts.JoinedGood.{UnionCanElaborate, in_order}
 use Rattle.wit_merge_laws.specs.facts.ListedStand.{worlds_come}
 use Rattle.wit_merge_laws.specs.facts.MatchedOnce.{one_under}
 use Rattle.wit_merge_laws.specs.facts.UnitedWorlds.{entries_from, is_elaborated}
@@ -48,7 +48,7 @@ key_held es k has =
 held_key : (es : List Entry) (k : WorldKey) (held : WorldItem) → Contains es (entry k held) → Contains (keys_of es) k
 held_key es k held has = Contains-map (λ (e : Entry). e.0) es (entry k held) has
 
-module _ (laws : LawsOfElaboration) (m : Merging) (valid : IsValid m.graph) (valid_other : IsValid m.other) (one : AreOne m) (can : CanElaborate m) where
+module _ (laws : LawsOfElaboration) (m : GraphMerge) (valid : IsValid m.graph) (valid_other : IsValid m.other) (one : HasNoMismatch m) (can : UnionCanElaborate m) where
   abbrev g : Graph
   g = joined_graph m
 
@@ -61,11 +61,11 @@ module _ (laws : LawsOfElaboration) (m : Merging) (valid : IsValid m.graph) (val
     label_from false label held has = elim ((entries_from laws m valid valid_other one can w' listed there (entry (key.Name label) held)).0 has) [
       | inl stays ↦
           let same_key : stays.0.0 ≡ key.Name label = ap (λ (e : Entry). e.0) (sym stays.2) in
-          let same_held : settled_item stays.0.1 ≡ held = ap (λ (e : Entry). e.1) (sym stays.2) in
+          let same_held : without_span stays.0.1 ≡ held = ap (λ (e : Entry). e.1) (sym stays.2) in
           record {
             there = stays.0.1;
             has = subst (λ (k : WorldKey). Contains listed.imports (entry k stays.0.1)) same_key stays.1;
-            same = sym (settled_interface stays.0.1) ∙ ap item_interface same_held;
+            same = sym (interface_without_span stays.0.1) ∙ ap item_interface same_held;
           }
       | inr made ↦ absurd (no_label label made.1 (ap (λ (e : Entry). e.0) made.2))
     ]
@@ -86,8 +86,8 @@ module _ (laws : LawsOfElaboration) (m : Merging) (valid : IsValid m.graph) (val
         let sorted = in_by_class g.types listed.imports e has in
         let under : Contains (labelled (by_class g.types listed.imports)) e = Contains-filtered (λ (d : Entry). is_label d.0) (by_class g.types listed.imports) e sorted refl in
         let stays = laws.labels g.types (graph_uses g) listed done can.acyclic (in_order m valid valid_other one w' listed there) (worlds_come m valid valid_other w' listed there).distinct_imports (is_elaborated laws m valid valid_other one can w' listed there) in
-        let among : Contains (labelled done.imports) (settled e) = subst (λ (es : List Entry). Contains es (settled e)) (sym stays) (Contains-map settled (labelled (by_class g.types listed.imports)) e under) in
-        record { there = settled_item held; has = (Contains-filter (λ (d : Entry). is_label d.0) done.imports (settled e) among).0; same = settled_interface held }
+        let among : Contains (labelled done.imports) (listed_without_span e) = subst (λ (es : List Entry). Contains es (listed_without_span e)) (sym stays) (Contains-map listed_without_span (labelled (by_class g.types listed.imports)) e under) in
+        record { there = without_span held; has = (Contains-filter (λ (d : Entry). is_label d.0) done.imports (listed_without_span e) among).0; same = interface_without_span held }
     label_into true label held has =
         let now = key_held done.exports (key.Name label) ((export_stays (key.Name label)).1 (held_key listed.exports (key.Name label) held has)) in
         let before = label_from true label now.0 now.1 in

@@ -8,15 +8,15 @@ use Rattle.std.proofs.lemmas.List.{length-map}
 use Rattle.std.proofs.lemmas.Option.{slice_get_within}
 use Rattle.wit_digraph.specs.facts.MemberFacts.{Contains-cons_cases, Contains-here, Contains-nil, Contains-there}
 use Rattle.wit_digraph.specs.Relation.{IsAcyclic, IsPath, Reaches, direct}
-use Rattle.wit_digraph.specs.facts.WalkFacts.{Reaches-from_walk, walk-from_IsPath}
-use Rattle.wit_digraph.specs.Walks.{walk, walk_within}
+use Rattle.wit_digraph.specs.facts.PostOrderFacts.{Reaches-from_post_order, post_order-from_IsPath}
+use Rattle.wit_digraph.specs.PostOrder.{post_order, post_order_within}
 use Rattle.wit_data.specs.Reference.{type_references}
 use Rattle.wit_data.specs.Uses.{alias_target}
 use Rattle.wit_data.specs.declared.types.TypeDef.{TypeDef}
 use Rattle.wit_data.specs.declared.types.TypeDefKind.{TypeDefKind}
 use Rattle.wit_data.specs.declared.types.TypeDefKind.TheVariants as kind
 use Rattle.wit_elaboration.specs.Valid.{IsValid}
-use Rattle.wit_graph_data.specs.facts.HeldFacts.{rows_acyclic}
+use Rattle.wit_graph_data.specs.facts.ContentFacts.{rows_acyclic}
 use Rattle.wit_graph_theory.specs.facts.GoodTypes.{alias_referred}
 use Rattle.wit_graph_theory.specs.Image.{kind_image, type_image}
 use Rattle.wit_graph_theory.specs.facts.ListFacts.{from_row, in_row}
@@ -25,9 +25,9 @@ use Rattle.wit_graph_theory.specs.steps.Sources.{alias_rows}
 use Rattle.wit_link_spec.specs.Resources.{is_resource, is_resource_kind, leads_to_resource}
 use Rattle.wit_merge_structure.specs.Structure.{variant_of}
 use Rattle.wit_merge_spec.specs.Joined.{joined_type}
-use Rattle.wit_merge_spec.specs.Matches.{Merging, found_type}
-use Rattle.wit_merge_spec.specs.Moved.{merge_maps, moves_type, type_place}
-use Rattle.wit_merge_spec.specs.Reasons.{AreOne}
+use Rattle.wit_merge_spec.specs.Matches.{GraphMerge, counterpart_type}
+use Rattle.wit_merge_spec.specs.Remapped.{merge_maps, merged_type, moves_type}
+use Rattle.wit_merge_spec.specs.Reasons.{HasNoMismatch}
 use Rattle.wit_merge_spec.specs.United.{joined_graph}
 use Rattle.wit_merge_laws.specs.facts.MatchFacts.{goes_to, type_is}
 use Rattle.wit_merge_laws.specs.facts.MatchedTypes.{alias_matched, variant_matched}
@@ -100,13 +100,13 @@ no_row (x ∷ types) zero none = cc
 no_row (x ∷ types) (suc t) none = no_row types t none
 
 leads_no : (types : List TypeDef) (t : ℕ) → slice_get types t ≡ None → leads_to_resource types t ≡ false
-unfolding walk walk_within
+unfolding post_order post_order_within
 leads_no types t none = within (length (alias_rows types))
   where
-    within : (members : ℕ) → list_any (is_resource types) (walk_within (alias_rows types) members t) ≡ false
+    within : (members : ℕ) → list_any (is_resource types) (post_order_within (alias_rows types) members t) ≡ false
     within zero = refl
     within (suc members) =
-        ap (λ (d : List ℕ). list_any (is_resource types) (flat_map (walk_within (alias_rows types) members) d ++ t ∷ [])) (no_row types t none)
+        ap (λ (d : List ℕ). list_any (is_resource types) (flat_map (post_order_within (alias_rows types) members) d ++ t ∷ [])) (no_row types t none)
         ∙ ap (λ (o : Option TypeDef). option_map_or (λ (def : TypeDef). is_resource_kind def.kind) o false || false) none
 
 module _ (types : List TypeDef) (acyclic : IsAcyclic (type_references types)) where
@@ -122,10 +122,10 @@ module _ (types : List TypeDef) (acyclic : IsAcyclic (type_references types)) wh
     where
       by : (o : Option TypeDef) → slice_get types t ≡ o → (r : ℕ) × Reaches rows t r × (is_resource types r ≡ true)
       by None none = absurd (false≢true (sym (leads_no types t none) ∙ leads))
-      by (Some def) at = let some = any_from (is_resource types) (walk rows t) leads in (some.0, Reaches-from_walk rows (alias_acyclic types acyclic) t (there t def at) some.0 some.1, some.2)
+      by (Some def) at = let some = any_from (is_resource types) (post_order rows t) leads in (some.0, Reaches-from_post_order rows (alias_acyclic types acyclic) t (there t def at) some.0 some.1, some.2)
 
   pub leads_into : (t r : ℕ) (path : List ℕ) → IsPath rows t path r → is_resource types r ≡ true → leads_to_resource types t ≡ true
-  leads_into t r path leads is = any_into (is_resource types) (walk rows t) r (walk-from_IsPath rows (alias_acyclic types acyclic) t path r (begins path leads) leads) is
+  leads_into t r path leads is = any_into (is_resource types) (post_order rows t) r (post_order-from_IsPath rows (alias_acyclic types acyclic) t path r (begins path leads) leads) is
     where
       begins : (path : List ℕ) → IsPath rows t path r → t < length rows
       begins [] same = let def = resource_from types r is in subst (λ (x : ℕ). x < length rows) (sym same) (there r def.0 def.1)
@@ -133,7 +133,7 @@ module _ (types : List TypeDef) (acyclic : IsAcyclic (type_references types)) wh
 
 -- ---- in two graphs that are one
 
-module _ (m : Merging) (valid : IsValid m.graph) (valid_other : IsValid m.other) (one : AreOne m) where
+module _ (m : GraphMerge) (valid : IsValid m.graph) (valid_other : IsValid m.other) (one : HasNoMismatch m) where
   abbrev joined : List TypeDef
   joined = (joined_graph m).types
 
@@ -155,45 +155,45 @@ module _ (m : Merging) (valid : IsValid m.graph) (valid_other : IsValid m.other)
       resource_into joined t (joined_type m (t, from.0)) (old_type_at m t from.0 from.1) (ap is_resource_kind keeps.kind ∙ from.2)
 
   -- what an alias of the other graph names is named at its place
-  alias_goes : (t u : ℕ) (def : TypeDef) → slice_get m.other.types t ≡ Some def → alias_target def.kind ≡ Some u → (new : TypeDef) × (slice_get joined (type_place m t) ≡ Some new) × (alias_target new.kind ≡ Some (type_place m u))
+  alias_goes : (t u : ℕ) (def : TypeDef) → slice_get m.other.types t ≡ Some def → alias_target def.kind ≡ Some u → (new : TypeDef) × (slice_get joined (merged_type m t) ≡ Some new) × (alias_target new.kind ≡ Some (merged_type m u))
   alias_goes t u def at target =
       elim (cases_Bool (moves_type m t)) [
-        | inl moves ↦ (type_image (merge_maps m) def, new_type_at m t def at moves, alias_image (merge_maps m) def.kind ∙ ap (option_map (type_place m)) target)
+        | inl moves ↦ (type_image (merge_maps m) def, new_type_at m t def at moves, alias_image (merge_maps m) def.kind ∙ ap (option_map (merged_type m)) target)
         | inr stays ↦
-            let found = matched_some (found_type m t) stays in
+            let found = matched_some (counterpart_type m t) stays in
             let is = type_is m valid t found.0 found.1 in
             let next = alias_matched m valid valid_other one t found.0 def is.into at is.into_is found.1 u target in
             let keeps = joined_keeps m (found.0, is.into) in (
               joined_type m (found.0, is.into),
-              ap (slice_get joined) (goes_to (found_type m t) _ found.0 found.1) ∙ old_type_at m found.0 is.into is.into_is,
-              ap alias_target keeps.kind ∙ (next.1 ∙ ap (λ (x : ℕ). Some x) (sym (goes_to (found_type m u) _ next.0 next.2))),
+              ap (slice_get joined) (goes_to (counterpart_type m t) _ found.0 found.1) ∙ old_type_at m found.0 is.into is.into_is,
+              ap alias_target keeps.kind ∙ (next.1 ∙ ap (λ (x : ℕ). Some x) (sym (goes_to (counterpart_type m u) _ next.0 next.2))),
             )
       ]
 
-  new_step : (t u : ℕ) → Contains (direct (alias_rows m.other.types) t) u → Contains (direct (alias_rows joined) (type_place m t)) (type_place m u)
+  new_step : (t u : ℕ) → Contains (direct (alias_rows m.other.types) t) u → Contains (direct (alias_rows joined) (merged_type m t)) (merged_type m u)
   new_step t u has =
       let from = from_row target_row m.other.types t u has in
       let goes = alias_goes t u from.0 from.1 (target_from (alias_target from.0.kind) u from.2) in
-      in_row target_row joined (type_place m t) goes.0 (type_place m u) goes.1 (target_into (alias_target goes.0.kind) (type_place m u) goes.2)
+      in_row target_row joined (merged_type m t) goes.0 (merged_type m u) goes.1 (target_into (alias_target goes.0.kind) (merged_type m u) goes.2)
 
-  new_path : (t : ℕ) (path : List ℕ) (r : ℕ) → IsPath (alias_rows m.other.types) t path r → IsPath (alias_rows joined) (type_place m t) (map (type_place m) path) (type_place m r)
-  new_path t [] r same = ap (type_place m) same
+  new_path : (t : ℕ) (path : List ℕ) (r : ℕ) → IsPath (alias_rows m.other.types) t path r → IsPath (alias_rows joined) (merged_type m t) (map (merged_type m) path) (merged_type m r)
+  new_path t [] r same = ap (merged_type m) same
   new_path t (k ∷ path) r leads = (new_step t k leads.0, new_path k path r leads.1)
 
   -- and a resource is one there
-  new_resource : (t : ℕ) → is_resource m.other.types t ≡ true → is_resource joined (type_place m t) ≡ true
+  new_resource : (t : ℕ) → is_resource m.other.types t ≡ true → is_resource joined (merged_type m t) ≡ true
   new_resource t is =
       let from = resource_from m.other.types t is in
       let of_kind = resource_kind from.0.kind from.2 in
       elim (cases_Bool (moves_type m t)) [
-        | inl moves ↦ resource_into joined (type_place m t) (type_image (merge_maps m) from.0) (new_type_at m t from.0 from.1 moves) (ap (λ (k : TypeDefKind). is_resource_kind (kind_image (merge_maps m) k)) of_kind)
+        | inl moves ↦ resource_into joined (merged_type m t) (type_image (merge_maps m) from.0) (new_type_at m t from.0 from.1 moves) (ap (λ (k : TypeDefKind). is_resource_kind (kind_image (merge_maps m) k)) of_kind)
         | inr stays ↦
-            let found = matched_some (found_type m t) stays in
+            let found = matched_some (counterpart_type m t) stays in
             let there = type_is m valid t found.0 found.1 in
             let same = variant_matched m valid valid_other one t found.0 from.0 there.into from.1 there.into_is found.1 in
             let keeps = joined_keeps m (found.0, there.into) in
             let resource : there.into.kind ≡ kind.Resource = resource_variant there.into.kind (sym same ∙ ap variant_of of_kind) in
-            resource_into joined (type_place m t) (joined_type m (found.0, there.into)) (ap (slice_get joined) (goes_to (found_type m t) _ found.0 found.1) ∙ old_type_at m found.0 there.into there.into_is)
+            resource_into joined (merged_type m t) (joined_type m (found.0, there.into)) (ap (slice_get joined) (goes_to (counterpart_type m t) _ found.0 found.1) ∙ old_type_at m found.0 there.into there.into_is)
             (ap is_resource_kind (keeps.kind ∙ resource))
       ]
 
@@ -206,5 +206,5 @@ leads_stay m t valid valid_other one =
           leads_into (joined_graph m).types acyclic t from.0 from.1.0 (old_path m valid valid_other one t from.1.0 from.0 from.1.1) (old_resource m valid valid_other one from.0 from.2),
       λ leads.
           let from = leads_from m.other.types valid_other.no_cycles.types t leads in
-          leads_into (joined_graph m).types acyclic (type_place m t) (type_place m from.0) (map (type_place m) from.1.0) (new_path m valid valid_other one t from.1.0 from.0 from.1.1) (new_resource m valid valid_other one from.0 from.2),
+          leads_into (joined_graph m).types acyclic (merged_type m t) (merged_type m from.0) (map (merged_type m) from.1.0) (new_path m valid valid_other one t from.1.0 from.0 from.1.1) (new_resource m valid valid_other one from.0 from.2),
     )

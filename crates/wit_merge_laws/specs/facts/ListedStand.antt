@@ -28,14 +28,14 @@ use Rattle.wit_graph_theory.specs.Operations.{merge_sources}
 use Rattle.wit_graph_theory.specs.facts.PackagesAcyclic.{length-numbered, numbered_from, numbered_into}
 use Rattle.wit_graph_theory.specs.steps.Sources.{Source}
 use Rattle.wit_link_spec.specs.Include.{joined_entry, joined_item}
-use Rattle.wit_link_spec.specs.facts.RankFacts.{rank-injective, taken_places-at, taken_places-from}
+use Rattle.wit_link_spec.specs.facts.RankFacts.{rank-injective, selected_with_index-at, selected_with_index-from}
 use Rattle.wit_link_spec.specs.Ranks.{rank}
 use Rattle.wit_link_laws.specs.facts.Remains.{key_stays}
 use Rattle.wit_merge_spec.specs.Joined.{joined_world, with_world}
-use Rattle.wit_merge_spec.specs.Matches.{Merging, found_interface, found_world, partner}
-use Rattle.wit_merge_spec.specs.Moved.{interface_place, merge_maps, moved_worlds, moves_interface, moves_world, world_place}
+use Rattle.wit_merge_spec.specs.Matches.{GraphMerge, counterpart_interface, counterpart_of, counterpart_world}
+use Rattle.wit_merge_spec.specs.Remapped.{merge_maps, merged_interface, merged_world, moved_worlds, moves_interface, moves_world}
 use Rattle.wit_merge_spec.specs.United.{joined_graph}
-use Rattle.wit_merge_laws.specs.facts.InterfacesStand.{moved_interface_goes}
+use Rattle.wit_merge_laws.specs.facts.InterfacesStand.{moved_interface_remapped}
 use Rattle.wit_merge_laws.specs.facts.MatchFacts.{goes_to, interface_is}
 use Rattle.wit_merge_laws.specs.facts.MatchedOnce.{interface_once}
 use Rattle.wit_merge_laws.specs.facts.NothingFacts.{map_same}
@@ -44,7 +44,7 @@ use Rattle.wit_merge_laws.specs.facts.WholeFacts.{world_at}
 
 -- ---- where worlds stand
 
-module _ (m : Merging) where
+module _ (m : GraphMerge) where
   abbrev old_worlds : List World
   old_worlds = map (joined_world m) (enumerate_from 0 m.graph.worlds)
 
@@ -64,21 +64,21 @@ module _ (m : Merging) where
       slice_get-append old_worlds images w (joined_world m (w, world))
       (at_map (joined_world m) (enumerate_from 0 m.graph.worlds) w (w, world) (numbered_into 0 m.graph.worlds w world at ∙ ap (λ (n : ℕ). Some (n, world)) place))
 
-  pub moved_world_goes : (w : ℕ) → moves_world m w ≡ true → world_place m w ≡ length m.graph.worlds + rank (moves_world m) w
-  moved_world_goes w moves = moved_next (found_world m w) _ moves
+  pub moved_world_remapped : (w : ℕ) → moves_world m w ≡ true → merged_world m w ≡ length m.graph.worlds + rank (moves_world m) w
+  moved_world_remapped w moves = moved_next (counterpart_world m w) _ moves
 
   -- one that moves stands at the next place, as its image
-  pub new_world_at : (w : ℕ) (world : World) → slice_get m.other.worlds w ≡ Some world → moves_world m w ≡ true → slice_get (joined_graph m).worlds (world_place m w) ≡ Some (world_image (merge_maps m) w world)
+  pub new_world_at : (w : ℕ) (world : World) → slice_get m.other.worlds w ≡ Some world → moves_world m w ≡ true → slice_get (joined_graph m).worlds (merged_world m w) ≡ Some (world_image (merge_maps m) w world)
   new_world_at w world at moves =
-      let goes = moved_world_goes w moves in
+      let goes = moved_world_remapped w moves in
       let long = long_old in
-      at_new old_worlds images (rank (moves_world m) w) (world_place m w) (world_image (merge_maps m) w world) (omega (arith, goes, long))
-      (at_map imaged (moved_worlds m) (rank (moves_world m) w) (w, world) (taken_places-at (moves_world m) m.other.worlds w world at moves))
+      at_new old_worlds images (rank (moves_world m) w) (merged_world m w) (world_image (merge_maps m) w world) (omega (arith, goes, long))
+      (at_map imaged (moved_worlds m) (rank (moves_world m) w) (w, world) (selected_with_index-at (moves_world m) m.other.worlds w world at moves))
 
   -- what stands there is one of these
   pub data WorldFrom (w' : ℕ) (new : World) : Type 0 where
     of_graph : (old : World) → slice_get m.graph.worlds w' ≡ Some old → joined_world m (w', old) ≡ new → WorldFrom w' new
-    of_other : (w : ℕ) (old : World) → slice_get m.other.worlds w ≡ Some old → moves_world m w ≡ true → w' ≡ world_place m w → world_image (merge_maps m) w old ≡ new → WorldFrom w' new
+    of_other : (w : ℕ) (old : World) → slice_get m.other.worlds w ≡ Some old → moves_world m w ≡ true → w' ≡ merged_world m w → world_image (merge_maps m) w old ≡ new → WorldFrom w' new
 
   pub world_at_from : (w' : ℕ) (new : World) → slice_get (joined_graph m).worlds w' ≡ Some new → WorldFrom w' new
   world_at_from w' new at =
@@ -90,8 +90,8 @@ module _ (m : Merging) where
             of_graph from.0.1 is.1 (ap (λ (k : ℕ). joined_world m (k, from.0.1)) (sym place) ∙ from.2)
         | inr behind ↦
             let from = from_map imaged (moved_worlds m) behind.0 new behind.2 in
-            let is = taken_places-from (moves_world m) m.other.worlds behind.0 from.0 from.1 in
-            let goes = moved_world_goes from.0.0 is.1 in
+            let is = selected_with_index-from (moves_world m) m.other.worlds behind.0 from.0 from.1 in
+            let goes = moved_world_remapped from.0.0 is.1 in
             let long = long_old in
             let n = behind.1 in
             let r = is.2 in
@@ -158,7 +158,7 @@ keys_kept f kept es distinct i j x y first second same =
 
 -- ---- listed worlds come of the two
 
-module _ (m : Merging) (valid : IsValid m.graph) (valid_other : IsValid m.other) where
+module _ (m : GraphMerge) (valid : IsValid m.graph) (valid_other : IsValid m.other) where
   abbrev at : ℕ → Source
   at = merge_sources m.graph m.other (merge_maps m)
 
@@ -200,7 +200,7 @@ module _ (m : Merging) (valid : IsValid m.graph) (valid_other : IsValid m.other)
     unjoined es = sym (map_same (joined_entry false []) es (λ i e at. refl))
 
     pub stays_come : WorldComes at (joined_graph m) w' (joined_world m (w', into))
-    stays_come = by (partner (found_world m) m.other.worlds w')
+    stays_come = by (counterpart_of (counterpart_world m) m.other.worlds w')
       where
         by : (o : Option (ℕ × World)) → WorldComes at (joined_graph m) w' (option_map_or (λ (p : ℕ × World). with_world m p into) o into)
         by None = with_comes [] [] into (unjoined into.imports) (unjoined into.exports) refl
@@ -208,36 +208,36 @@ module _ (m : Merging) (valid : IsValid m.graph) (valid_other : IsValid m.other)
 
   -- ---- keys of worlds that move
 
-  matched_within : (i i' : ℕ) → found_interface m i ≡ Some i' → i' < length m.graph.interfaces
+  matched_within : (i i' : ℕ) → counterpart_interface m i ≡ Some i' → i' < length m.graph.interfaces
   matched_within i i' found = let is = interface_is m valid valid_other i i' found in slice_get_within m.graph.interfaces i' is.into is.into_is
 
   -- no two interfaces go to one
-  pub interfaces_apart : (i j : ℕ) → interface_place m i ≡ interface_place m j → i ≡ j
+  pub interfaces_apart : (i j : ℕ) → merged_interface m i ≡ merged_interface m j → i ≡ j
   interfaces_apart i j same = elim (cases_Bool (moves_interface m i)) [
     | inl goes ↦ elim (cases_Bool (moves_interface m j)) [
       | inl goes_so ↦
-          let a = moved_interface_goes m i goes in
-          let b = moved_interface_goes m j goes_so in
+          let a = moved_interface_remapped m i goes in
+          let b = moved_interface_remapped m j goes_so in
           rank-injective (moves_interface m) i j goes goes_so (omega (arith, a, b, same))
       | inr stays ↦
-          let found = matched_some (found_interface m j) stays in
-          let a = moved_interface_goes m i goes in
-          let b = goes_to (found_interface m j) (length m.graph.interfaces + rank (moves_interface m) j) found.0 found.1 in
+          let found = matched_some (counterpart_interface m j) stays in
+          let a = moved_interface_remapped m i goes in
+          let b = goes_to (counterpart_interface m j) (length m.graph.interfaces + rank (moves_interface m) j) found.0 found.1 in
           let within = matched_within j found.0 found.1 in
           absurd (omega (arith, a, b, same, within))
     ]
     | inr stays ↦ elim (cases_Bool (moves_interface m j)) [
       | inl goes_so ↦
-          let found = matched_some (found_interface m i) stays in
-          let a = goes_to (found_interface m i) (length m.graph.interfaces + rank (moves_interface m) i) found.0 found.1 in
-          let b = moved_interface_goes m j goes_so in
+          let found = matched_some (counterpart_interface m i) stays in
+          let a = goes_to (counterpart_interface m i) (length m.graph.interfaces + rank (moves_interface m) i) found.0 found.1 in
+          let b = moved_interface_remapped m j goes_so in
           let within = matched_within i found.0 found.1 in
           absurd (omega (arith, a, b, same, within))
       | inr stays_so ↦
-          let found = matched_some (found_interface m i) stays in
-          let found_so = matched_some (found_interface m j) stays_so in
-          let a = goes_to (found_interface m i) (length m.graph.interfaces + rank (moves_interface m) i) found.0 found.1 in
-          let b = goes_to (found_interface m j) (length m.graph.interfaces + rank (moves_interface m) j) found_so.0 found_so.1 in
+          let found = matched_some (counterpart_interface m i) stays in
+          let found_so = matched_some (counterpart_interface m j) stays_so in
+          let a = goes_to (counterpart_interface m i) (length m.graph.interfaces + rank (moves_interface m) i) found.0 found.1 in
+          let b = goes_to (counterpart_interface m j) (length m.graph.interfaces + rank (moves_interface m) j) found_so.0 found_so.1 in
           let one : found.0 ≡ found_so.0 = omega (arith, a, b, same) in
           interface_once m valid valid_other i j found_so.0 (found.1 ∙ ap (λ (x : ℕ). Some x) one) found_so.1
     ]
@@ -263,18 +263,18 @@ module _ (m : Merging) (valid : IsValid m.graph) (valid_other : IsValid m.other)
   no_type_imaged w (item.Function f) none = tt
   no_type_imaged w (item.Type_ t span) none = absurd none
 
-  pub moved_comes : (w : ℕ) (old : World) → slice_get m.other.worlds w ≡ Some old → WorldComes at (joined_graph m) (world_place m w) (world_image (merge_maps m) w old)
+  pub moved_comes : (w : ℕ) (old : World) → slice_get m.other.worlds w ≡ Some old → WorldComes at (joined_graph m) (merged_world m w) (world_image (merge_maps m) w old)
   moved_comes w old there =
       let source = world_at m.other valid_other (merge_maps m) w old there in
       let takes = lt-ltb w (length m.other.worlds) (slice_get_within m.other.worlds w old there) in
       record {
         imports = λ i e on.
             let from = from_map (entry_image (merge_maps m) w) old.imports i e on in
-            inl (subst (EntryComes at (world_place m w)) from.2 (entry_image_comes at 1 w old from.0 source takes (Contains-append_left old.imports old.exports from.0 (contained_at old.imports i from.0 from.1))));
+            inl (subst (EntryComes at (merged_world m w)) from.2 (entry_image_comes at 1 w old from.0 source takes (Contains-append_left old.imports old.exports from.0 (contained_at old.imports i from.0 from.1))));
         exports = λ i e on.
             let from = from_map (entry_image (merge_maps m) w) old.exports i e on in
             inl (
-              subst (EntryComes at (world_place m w)) from.2 (entry_image_comes at 1 w old from.0 source takes (Contains-append_right old.imports old.exports from.0 (contained_at old.exports i from.0 from.1))),
+              subst (EntryComes at (merged_world m w)) from.2 (entry_image_comes at 1 w old from.0 source takes (Contains-append_right old.imports old.exports from.0 (contained_at old.exports i from.0 from.1))),
               subst (λ (d : Entry). IsNoType d.1) from.2 (no_type_imaged w from.0.1 (export_no_type m.other.interfaces from.0.0 from.0.1 (valid_other.well_formed.worlds.exports w old there i from.0 from.1))),
             );
         distinct_imports = images_distinct w old.imports (valid_other.well_formed.worlds.distinct_imports w old there);

@@ -31,14 +31,14 @@ use Rattle.wit_graph_theory.specs.facts.LawsOfElaboration.{LawsOfElaboration}
 use Rattle.wit_graph_theory.specs.facts.ListFacts.{Contains-map, Contains-map_cases, found_at, place_of}
 use Rattle.wit_graph_theory.specs.facts.OptionFacts.{none_there, some_by}
 use Rattle.wit_merge_spec.specs.Joined.{joined_world, with_world}
-use Rattle.wit_merge_spec.specs.Matches.{Merging, found_by, found_type, found_world, partner, world_beside}
-use Rattle.wit_merge_spec.specs.Moved.{interface_place, merge_maps, moves_type, moves_world, type_place, world_place}
+use Rattle.wit_merge_spec.specs.Matches.{GraphMerge, counterpart_of, counterpart_type, counterpart_type_by, counterpart_world, matched_world}
+use Rattle.wit_merge_spec.specs.Remapped.{merge_maps, merged_interface, merged_type, merged_world, moves_type, moves_world}
 use Rattle.wit_merge_spec.specs.United.{joined_graph}
 use Rattle.wit_merge_laws.specs.facts.BothOrders.{Corresponds, InBothOrders, flip, of_graph, one_like, one_like_back, other_way, reaches_like, uses_like}
-use Rattle.wit_merge_laws.specs.facts.InterfacesStand.{partner_from}
-use Rattle.wit_merge_laws.specs.facts.JoinedGood.{CanElaborate, in_order}
+use Rattle.wit_merge_laws.specs.facts.InterfacesStand.{counterpart_from}
+use Rattle.wit_merge_laws.specs.facts.JoinedGood.{UnionCanElaborate, in_order}
 use Rattle.wit_merge_laws.specs.facts.ListedStand.{new_world_at, old_world_at}
-use Rattle.wit_merge_laws.specs.laws.MergingLaws.{merging}
+use Rattle.wit_merge_laws.specs.laws.MergingLaws.{merge_of_graphs}
 use Rattle.wit_merge_laws.specs.facts.UnitedWorlds.{is_elaborated, named_key}
 use Rattle.wit_merge_laws.specs.facts.UsesFrom.{old_needs}
 use Rattle.wit_merge_laws.specs.facts.UsesInto.{needs_back, needs_goes, needs_stay}
@@ -80,8 +80,8 @@ module _ (m : Maps) (w : ℕ) where
       let x = holds_image d.0.1 y (subst (λ (z : Entry). Contains (item_interface z.1) y) (sym d.2) e.1.1) in
       (x.0, Contains-flat_map (λ (e : Entry). item_interface e.1) es d.0 x.0 d.1 x.1, x.2)
 
-  key_goes : (es : List Entry) (x : ℕ) → Contains (keyed_interfaces es) x → Contains (keyed_interfaces (images es)) (m.interfaces x)
-  key_goes es x has =
+  key_remapped : (es : List Entry) (x : ℕ) → Contains (keyed_interfaces es) x → Contains (keyed_interfaces (images es)) (m.interfaces x)
+  key_remapped es x has =
       let e = Contains-flat_map_cases (λ (e : Entry). key_interface e.0) es x has in
       Contains-flat_map (λ (e : Entry). key_interface e.0) (images es) (entry_image m w e.0) (m.interfaces x) (Contains-map (entry_image m w) es e.0 e.1.0) (image_key e.0.0 x e.1.1)
 
@@ -110,13 +110,13 @@ pub unmatched_moves : (o : Option ℕ) (x : ℕ) → not (is_some o) ≡ true �
 unmatched_moves None x moves is = cc
 unmatched_moves (Some y) x moves is = cc
 
-module _ (laws : LawsOfElaboration) (g h : Graph) (offset back : ℕ) (both : InBothOrders g h offset back) (elaborates : CanElaborate (merging g h offset)) (elaborates_back : CanElaborate (merging h g back))
-    (w : ℕ) (old : World) (at : slice_get g.worlds w ≡ Some old) (moves : moves_world (merging h g back) w ≡ true) where
-  abbrev m : Merging
-  m = merging g h offset
+module _ (laws : LawsOfElaboration) (g h : Graph) (offset back : ℕ) (both : InBothOrders g h offset back) (elaborates : UnionCanElaborate (merge_of_graphs g h offset)) (elaborates_back : UnionCanElaborate (merge_of_graphs h g back))
+    (w : ℕ) (old : World) (at : slice_get g.worlds w ≡ Some old) (moves : moves_world (merge_of_graphs h g back) w ≡ true) where
+  abbrev m : GraphMerge
+  m = merge_of_graphs g h offset
 
-  abbrev n : Merging
-  n = merging h g back
+  abbrev n : GraphMerge
+  n = merge_of_graphs h g back
 
   abbrev there : Graph
   there = joined_graph m
@@ -139,21 +139,21 @@ module _ (laws : LawsOfElaboration) (g h : Graph) (offset back : ℕ) (both : In
   abbrev like : ℕ → ℕ → Type 0
   like i j = Corresponds g h offset back i j
 
-  alone : found_world n w ≡ None
-  alone = none_there (found_world n w) moves
+  alone : counterpart_world n w ≡ None
+  alone = none_there (counterpart_world n w) moves
 
   -- nothing is joined to it
   pub stays_so : joined_world m (w, old) ≡ old
-  stays_so = by (partner (found_world m) h.worlds w) refl
+  stays_so = by (counterpart_of (counterpart_world m) h.worlds w) refl
     where
-      by : (o : Option (ℕ × World)) → partner (found_world m) h.worlds w ≡ o → option_map_or (λ (p : ℕ × World). with_world m p old) o old ≡ old
+      by : (o : Option (ℕ × World)) → counterpart_of (counterpart_world m) h.worlds w ≡ o → option_map_or (λ (p : ℕ × World). with_world m p old) o old ≡ old
       by None is = refl
-      by (Some p) is = absurd (unmatched_moves (found_world n w) p.0 moves (both.world_back p.0 w (partner_from (found_world m) h.worlds w p is).1))
+      by (Some p) is = absurd (unmatched_moves (counterpart_world n w) p.0 moves (both.world_back p.0 w (counterpart_from (counterpart_world m) h.worlds w p is).1))
 
   pub listed_there : slice_get there.worlds w ≡ Some old
   listed_there = old_world_at m w old at ∙ ap (λ (x : World). Some x) stays_so
 
-  pub listed_here : slice_get here.worlds (world_place n w) ≡ Some image
+  pub listed_here : slice_get here.worlds (merged_world n w) ≡ Some image
   listed_here = new_world_at n w old at moves
 
   exact_there : (j : ℕ) → Contains (keyed_interfaces done_there.imports) j ↔ IsImported there.types (graph_uses there) old.imports old.exports j
@@ -162,8 +162,8 @@ module _ (laws : LawsOfElaboration) (g h : Graph) (offset back : ℕ) (both : In
 
   exact_here : (j : ℕ) → Contains (keyed_interfaces done_here.imports) j ↔ IsImported here.types (graph_uses here) image.imports image.exports j
   exact_here j =
-      laws.exact here.types (graph_uses here) image done_here j elaborates_back.acyclic (in_order n both.valid_other both.valid both.one_back (world_place n w) image listed_here)
-      (is_elaborated laws n both.valid_other both.valid both.one_back elaborates_back (world_place n w) image listed_here)
+      laws.exact here.types (graph_uses here) image done_here j elaborates_back.acyclic (in_order n both.valid_other both.valid both.one_back (merged_world n w) image listed_here)
+      (is_elaborated laws n both.valid_other both.valid both.one_back elaborates_back (merged_world n w) image listed_here)
 
   -- ---- what it holds is there
 
@@ -173,10 +173,10 @@ module _ (laws : LawsOfElaboration) (g h : Graph) (offset back : ℕ) (both : In
   import_is : (e : Entry) → Contains old.imports e → IsImport g.interfaces g.types w e.0 e.1
   import_is e has = let place = place_of old.imports e has in both.valid.well_formed.worlds.imports w old at place.0 e place.1
 
-  exported_like : (x : ℕ) → Contains (exported_interfaces old.exports) x → like x (interface_place n x)
+  exported_like : (x : ℕ) → Contains (exported_interfaces old.exports) x → like x (merged_interface n x)
   exported_like x has = let e = Contains-flat_map_cases (λ (e : Entry). item_interface e.1) old.exports x has in of_graph (held_within g.interfaces e.0.0 e.0.1 x (export_is e.0 e.1.0) e.1.1) refl
 
-  key_like : (x : ℕ) → Contains (exported_keys old.exports) x → like x (interface_place n x)
+  key_like : (x : ℕ) → Contains (exported_keys old.exports) x → like x (merged_interface n x)
   key_like x has =
       let e = Contains-flat_map_cases (λ (e : Entry). key_interface e.0) old.exports x has in
       of_graph (named_within g.interfaces x (named_key g.interfaces e.0.0 e.0.1 x e.1.1 (export_is e.0 e.1.0))) refl
@@ -190,9 +190,9 @@ module _ (laws : LawsOfElaboration) (g h : Graph) (offset back : ℕ) (both : In
 
   needed_like : (j : ℕ) → Needed (graph_uses there) old.exports j → Like (Needed (graph_uses here) image.exports) j
   needed_like j (x, d, has, edge, apart, leads) =
-      let step = uses_like g h offset back both x (interface_place n x) d (exported_like x has) edge in
+      let step = uses_like g h offset back both x (merged_interface n x) d (exported_like x has) edge in
       let rest = reaches_like g h offset back both d step.y leads.0 j step.like leads.1 in
-      record { y = rest.y; is = rest.like; has = (interface_place n x, step.y, held_goes maps w old.exports x has, step.used, unexported step.y step.like, rest.reached) }
+      record { y = rest.y; is = rest.like; has = (merged_interface n x, step.y, held_goes maps w old.exports x has, step.used, unexported step.y step.like, rest.reached) }
     where
       unexported : (y : ℕ) → like d y → Contains (exported_keys image.exports) y → ⊥
       unexported y is among =
@@ -225,12 +225,12 @@ module _ (laws : LawsOfElaboration) (g h : Graph) (offset back : ℕ) (both : In
     where
       unexported : (d : ℕ) → like d d' → Contains (exported_keys old.exports) d → ⊥
       unexported d is among =
-          let same : interface_place n d ≡ d' = one_like g h offset back both d (interface_place n d) d' (key_like d among) is in
-          apart (subst (Contains (exported_keys image.exports)) same (key_goes maps w old.exports d among))
+          let same : merged_interface n d ≡ d' = one_like g h offset back both d (merged_interface n d) d' (key_like d among) is in
+          apart (subst (Contains (exported_keys image.exports)) same (key_remapped maps w old.exports d among))
 
   -- ---- where its imports begin
 
-  import_like : (k : WorldKey) (id : ℕ) (stability : _) (docs : _) (span : _) (external_id : _) → IsImport g.interfaces g.types w k (item.Interface id stability docs span external_id) → like id (interface_place n id)
+  import_like : (k : WorldKey) (id : ℕ) (stability : _) (docs : _) (span : _) (external_id : _) → IsImport g.interfaces g.types w k (item.Interface id stability docs span external_id) → like id (merged_interface n id)
   import_like (key.Name label) id stability docs span external_id is = of_graph (held_within g.interfaces (key.Name label) (item.Interface id stability docs span external_id) id is (Contains-here id [])) refl
   import_like (key.Interface f) id stability docs span external_id is = of_graph (held_within g.interfaces (key.Interface f) (item.Interface id stability docs span external_id) id is (Contains-here id [])) refl
 
@@ -243,24 +243,24 @@ module _ (laws : LawsOfElaboration) (g h : Graph) (offset back : ℕ) (both : In
   own_type (key.Interface f) t span is = absurd is
   own_type (key.Name label) t span is =
       let found = found_at (λ (def : TypeDef). (def.name ≡ Some label) × (def.owner ≡ owner.World w)) g.types t is in
-      let beside : world_beside n w ≡ None = ap (option_and_then (slice_get h.worlds)) alone in
-      let unmatched : found_type n t ≡ None =
-      some_by (λ (def : TypeDef). found_by n def.name def.owner) (slice_get g.types t) found.0 found.1
-      ∙ ((λ k. found_by n (found.2.0 k) (found.2.1 k)) ∙ ap (option_and_then (λ (there : World). lookup (bytes_eq label) (world_types there))) beside) in
+      let beside : matched_world n w ≡ None = ap (option_and_then (slice_get h.worlds)) alone in
+      let unmatched : counterpart_type n t ≡ None =
+      some_by (λ (def : TypeDef). counterpart_type_by n def.name def.owner) (slice_get g.types t) found.0 found.1
+      ∙ ((λ k. counterpart_type_by n (found.2.0 k) (found.2.1 k)) ∙ ap (option_and_then (λ (there : World). lookup (bytes_eq label) (world_types there))) beside) in
       record { def = found.0; is = found.1; moves_so = ap (λ (o : Option ℕ). not (is_some o)) unmatched }
 
-  type_like : (t r : ℕ) → type_interface_dep g.types t ≡ Some r → like r (interface_place n r)
+  type_like : (t r : ℕ) → type_interface_dep g.types t ≡ Some r → like r (merged_interface n r)
   type_like t r dep = of_graph (named_within g.interfaces r (dep_is_named g.types g.interfaces t r both.valid.well_formed.references.aliases dep)) refl
 
   root_like : (k : WorldKey) (held : WorldItem) (r : ℕ) → Contains old.imports (entry k held) → Contains (roots_of (graph_uses there) k (role_of there.types held)) r
       → Like (Contains (roots_of (graph_uses here) (key_image maps w k) (role_of here.types (item_image maps w held)))) r
   root_like (key.Interface f) (item.Interface id stability docs span external_id) r listed has = record {
-    y = interface_place n id;
-    is = subst (λ (x : ℕ). like x (interface_place n id)) (one_of id r has) (import_like (key.Interface f) id stability docs span external_id (import_is (entry (key.Interface f) (item.Interface id stability docs span external_id)) listed));
-    has = Contains-here (interface_place n id) [];
+    y = merged_interface n id;
+    is = subst (λ (x : ℕ). like x (merged_interface n id)) (one_of id r has) (import_like (key.Interface f) id stability docs span external_id (import_is (entry (key.Interface f) (item.Interface id stability docs span external_id)) listed));
+    has = Contains-here (merged_interface n id) [];
   }
   root_like (key.Name label) (item.Interface id stability docs span external_id) r listed has =
-      let step = uses_like g h offset back both id (interface_place n id) r (import_like (key.Name label) id stability docs span external_id (import_is (entry (key.Name label) (item.Interface id stability docs span external_id)) listed)) has in
+      let step = uses_like g h offset back both id (merged_interface n id) r (import_like (key.Name label) id stability docs span external_id (import_is (entry (key.Name label) (item.Interface id stability docs span external_id)) listed)) has in
       record { y = step.y; is = step.like; has = step.used }
   root_like k (item.Function fn) r listed has = absurd (no_function_root (graph_uses there) (resource_of fn.kind) k r has)
   root_like k (item.Type_ t span) r listed has =
@@ -268,26 +268,26 @@ module _ (laws : LawsOfElaboration) (g h : Graph) (offset back : ℕ) (both : In
       let needs = old_needs m both.valid both.valid_other both.one t r own.def own.is (needs_from there.types t r (type_root (graph_uses there) (type_interface_dep there.types t) k r has)) in
       let goes = needs_goes n both.valid_other both.valid both.aliases_back t r needs in
       record {
-        y = interface_place n r;
+        y = merged_interface n r;
         is = type_like t r (needs_into g.types t r needs);
-        has = use_root (graph_uses here) (key_image maps w k) (type_interface_dep here.types (type_place n t)) (interface_place n r) (needs_into here.types (type_place n t) (interface_place n r) goes);
+        has = use_root (graph_uses here) (key_image maps w k) (type_interface_dep here.types (merged_type n t)) (merged_interface n r) (needs_into here.types (merged_type n t) (merged_interface n r) goes);
       }
 
   root_back : (k : WorldKey) (held : WorldItem) (y : ℕ) → Contains old.imports (entry k held) → Contains (roots_of (graph_uses here) (key_image maps w k) (role_of here.types (item_image maps w held))) y
       → LikeBack (Contains (roots_of (graph_uses there) k (role_of there.types held))) y
   root_back (key.Interface f) (item.Interface id stability docs span external_id) y listed has = record {
     x = id;
-    is = subst (like id) (one_of (interface_place n id) y has) (import_like (key.Interface f) id stability docs span external_id (import_is (entry (key.Interface f) (item.Interface id stability docs span external_id)) listed));
+    is = subst (like id) (one_of (merged_interface n id) y has) (import_like (key.Interface f) id stability docs span external_id (import_is (entry (key.Interface f) (item.Interface id stability docs span external_id)) listed));
     has = Contains-here id [];
   }
   root_back (key.Name label) (item.Interface id stability docs span external_id) y listed has =
       let is = import_like (key.Name label) id stability docs span external_id (import_is (entry (key.Name label) (item.Interface id stability docs span external_id)) listed) in
-      let step = uses_like h g back offset both_back (interface_place n id) id y (flip_at id (interface_place n id) is) has in
+      let step = uses_like h g back offset both_back (merged_interface n id) id y (flip_at id (merged_interface n id) is) has in
       record { x = step.y; is = flip h g back offset y step.y step.like; has = step.used }
   root_back k (item.Function fn) y listed has = absurd (no_function_root (graph_uses here) (resource_of (function_kind_image maps fn.kind)) (key_image maps w k) y has)
   root_back k (item.Type_ t span) y listed has =
       let own = own_type k t span (import_is (entry k (item.Type_ t span)) listed) in
-      let from = needs_back n both.valid_other both.valid t y own.def own.is own.moves_so (needs_from here.types (type_place n t) y (type_root (graph_uses here) (type_interface_dep here.types (type_place n t)) (key_image maps w k) y has)) in
+      let from = needs_back n both.valid_other both.valid t y own.def own.is own.moves_so (needs_from here.types (merged_type n t) y (type_root (graph_uses here) (type_interface_dep here.types (merged_type n t)) (key_image maps w k) y has)) in
       record {
         x = from.0;
         is = subst (like from.0) (sym from.1) (type_like t from.0 (needs_into g.types t from.0 from.2));

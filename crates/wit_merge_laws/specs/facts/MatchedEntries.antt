@@ -11,28 +11,28 @@ use Rattle.wit_data.specs.declared.world.WorldKey.TheVariants as key
 use Rattle.wit_elaboration.proofs.FreshEntries.{same_key-true}
 use Rattle.wit_elaboration.specs.Valid.{IsValid}
 use Rattle.wit_graph_theory.specs.facts.ListFacts.{place_of, same_at}
-use Rattle.wit_graph_theory.specs.steps.OnePlace.{entries_of}
+use Rattle.wit_graph_theory.specs.steps.UnnamedOnce.{entries_of}
 use Rattle.wit_merge_spec.specs.Agreement as differ
-use Rattle.wit_merge_spec.specs.Matches.{Merging, found_key, found_world}
-use Rattle.wit_merge_spec.specs.Reasons.{AreOne}
+use Rattle.wit_merge_spec.specs.Matches.{GraphMerge, counterpart_key, counterpart_world}
+use Rattle.wit_merge_spec.specs.Reasons.{HasNoMismatch}
 use Rattle.wit_merge_laws.specs.facts.Covering.{covers}
 use Rattle.wit_merge_laws.specs.facts.ListedStand.{interfaces_apart}
 use Rattle.wit_merge_laws.specs.facts.MatchedOnce.{lists_distinct}
-use Rattle.wit_merge_laws.specs.facts.UsesListed.{key_goes}
+use Rattle.wit_merge_laws.specs.facts.UsesListed.{key_remapped}
 use Rattle.wit_merge_laws.specs.facts.WorldsStand.{differs, entry, entry_there}
 
-module _ (m : Merging) (valid : IsValid m.graph) (valid_other : IsValid m.other) (one : AreOne m) where
+module _ (m : GraphMerge) (valid : IsValid m.graph) (valid_other : IsValid m.other) (one : HasNoMismatch m) where
   -- no two keys are looked for under one
-  key_once : (j k l : WorldKey) → found_key m j ≡ Some l → found_key m k ≡ Some l → j ≡ k
+  key_once : (j k l : WorldKey) → counterpart_key m j ≡ Some l → counterpart_key m k ≡ Some l → j ≡ k
   key_once (key.Name a) (key.Name b) l first second = cc
-  key_once (key.Name a) (key.Interface i) l first second = let other = key_goes m i l second in cc
-  key_once (key.Interface i) (key.Name b) l first second = let other = key_goes m i l first in cc
-  key_once (key.Interface i) (key.Interface j) l first second = ap (λ (x : ℕ). key.Interface x) (interfaces_apart m valid valid_other i j (one_key (sym (key_goes m i l first) ∙ key_goes m j l second)))
+  key_once (key.Name a) (key.Interface i) l first second = let other = key_remapped m i l second in cc
+  key_once (key.Interface i) (key.Name b) l first second = let other = key_remapped m i l first in cc
+  key_once (key.Interface i) (key.Interface j) l first second = ap (λ (x : ℕ). key.Interface x) (interfaces_apart m valid valid_other i j (one_key (sym (key_remapped m i l first) ∙ key_remapped m j l second)))
     where
       one_key : {a b : ℕ} → key.Interface a ≡ key.Interface b → a ≡ b
       one_key same = cc
 
-  module _ (w w' : ℕ) (old into : World) (there : slice_get m.other.worlds w ≡ Some old) (found : found_world m w ≡ Some w') (into_there : slice_get m.graph.worlds w' ≡ Some into) where
+  module _ (w w' : ℕ) (old into : World) (there : slice_get m.other.worlds w ≡ Some old) (found : counterpart_world m w ≡ Some w') (into_there : slice_get m.graph.worlds w' ≡ Some into) where
     -- matched worlds have as many entries
     pub same_count : (exported : Bool) → length (entries_of exported old) ≡ length (entries_of exported into)
     same_count exported = elim (cases_Bool (nat_eq (length (entries_of exported old)) (length (entries_of exported into)))) [
@@ -46,7 +46,7 @@ module _ (m : Merging) (valid : IsValid m.graph) (valid_other : IsValid m.other)
     record Goes (exported : Bool) (d : Entry) (p : ℕ) : Type 0 where
       e : Entry
       at : slice_get (entries_of exported into) p ≡ Some e
-      key_is : found_key m d.0 ≡ Some e.0
+      key_is : counterpart_key m d.0 ≡ Some e.0
 
     goes : (exported : Bool) (d : Entry) → Contains (entries_of exported old) d → (p : ℕ) × Goes exported d p
     goes exported d has =
@@ -61,7 +61,7 @@ module _ (m : Merging) (valid : IsValid m.graph) (valid_other : IsValid m.other)
         lists_distinct m.other valid_other w exported old there k l x y first second keys
 
     -- each entry is that of one of the other world
-    pub covered : (exported : Bool) (e : Entry) → Contains (entries_of exported into) e → (d : Entry) × Contains (entries_of exported old) d × (found_key m d.0 ≡ Some e.0)
+    pub covered : (exported : Bool) (e : Entry) → Contains (entries_of exported into) e → (d : Entry) × Contains (entries_of exported old) d × (counterpart_key m d.0 ≡ Some e.0)
     covered exported e has =
         let place = place_of (entries_of exported into) e has in
         let count = same_count exported in

@@ -18,11 +18,11 @@ use Rattle.wit_graph_data.specs.declared.graph.Graph.{Graph}
 use Rattle.wit_graph_data.specs.declared.graph.Package.{Package}
 use Rattle.wit_graph_theory.specs.facts.GoodWorlds.{same_one}
 use Rattle.wit_graph_theory.specs.facts.ListFacts.{found_at, place_of, same_at}
-use Rattle.wit_graph_theory.specs.steps.OnePlace.{HasOnePlace, Holds, entries_of}
-use Rattle.wit_graph_theory.specs.facts.OnePlaceFrom.{HasOnePlace-from_once}
+use Rattle.wit_graph_theory.specs.steps.UnnamedOnce.{Holds, StandsOnceOnly, entries_of}
+use Rattle.wit_graph_theory.specs.facts.UnnamedOnceFrom.{StandsOnceOnly-from_once}
 use Rattle.wit_graph_theory.specs.facts.OptionFacts.{some_parts, some_same}
-use Rattle.wit_merge_spec.specs.Matches.{Merging, found_as, found_interface, found_package, found_world, spots}
-use Rattle.wit_merge_laws.specs.facts.MatchFacts.{interface_is, named_is, package_is, spot_match, stands_at, world_is}
+use Rattle.wit_merge_spec.specs.Matches.{GraphMerge, counterpart_interface, counterpart_interface_by, counterpart_package, counterpart_world, world_labels}
+use Rattle.wit_merge_laws.specs.facts.MatchFacts.{interface_is, label_match, named_is, package_is, stands_at, world_is}
 
 -- under one key stands one thing
 pub one_under : {K V : Type 0} (es : List (K × V)) → HasDistinctKeys es → (k : K) (v w : V) → Contains es (k, v) → Contains es (k, w) → v ≡ w
@@ -62,13 +62,13 @@ module _ (g : Graph) (valid : IsValid g) where
   lists_distinct w false world at = valid.well_formed.worlds.distinct_imports w world at
   lists_distinct w true world at = valid.well_formed.worlds.distinct_exports w world at
 
-  pub one_place : HasOnePlace g.interfaces g.worlds
-  one_place = HasOnePlace-from_once g.interfaces g.worlds valid.well_formed.worlds.once
+  pub one_place : StandsOnceOnly g.interfaces g.worlds
+  one_place = StandsOnceOnly-from_once g.interfaces g.worlds valid.well_formed.worlds.once
 
 -- ---- matched once
 
-module _ (m : Merging) (valid : IsValid m.graph) (valid_other : IsValid m.other) where
-  pub package_once : (p q p' : ℕ) → found_package m p ≡ Some p' → found_package m q ≡ Some p' → p ≡ q
+module _ (m : GraphMerge) (valid : IsValid m.graph) (valid_other : IsValid m.other) where
+  pub package_once : (p q p' : ℕ) → counterpart_package m p ≡ Some p' → counterpart_package m q ≡ Some p' → p ≡ q
   package_once p q p' first second =
       let a = package_is m valid p p' first in
       let b = package_is m valid q p' second in
@@ -79,7 +79,7 @@ module _ (m : Merging) (valid : IsValid m.graph) (valid_other : IsValid m.other)
       let listed = valid_other.well_formed.package_names.listed in
       one_under m.other.package_names valid_other.well_formed.package_names.distinct b.0.name p q (subst (λ (n : PackageName). Contains m.other.package_names (n, p)) names (listed p a.0 a.1)) (listed q b.0 b.1)
 
-  pub world_once : (w v w' : ℕ) → found_world m w ≡ Some w' → found_world m v ≡ Some w' → w ≡ v
+  pub world_once : (w v w' : ℕ) → counterpart_world m w ≡ Some w' → counterpart_world m v ≡ Some w' → w ≡ v
   world_once w v w' first second =
       let a = world_is m valid w w' first in
       let b = world_is m valid v w' second in
@@ -95,7 +95,7 @@ module _ (m : Merging) (valid : IsValid m.graph) (valid_other : IsValid m.other)
 
   -- interfaces of one name
   named_once : (i j i' : ℕ) (a b : Interface) (name : List ℕ) → slice_get m.other.interfaces i ≡ Some a → slice_get m.other.interfaces j ≡ Some b → a.name ≡ Some name → b.name ≡ Some name
-      → found_as m i a.package (Some name) ≡ Some i' → found_as m j b.package (Some name) ≡ Some i' → i ≡ j
+      → counterpart_interface_by m i a.package (Some name) ≡ Some i' → counterpart_interface_by m j b.package (Some name) ≡ Some i' → i ≡ j
   named_once i j i' a b name at there called called_so first second =
       let x = named_is m valid name a.package i' first in
       let y = named_is m valid name b.package i' second in
@@ -108,41 +108,41 @@ module _ (m : Merging) (valid : IsValid m.graph) (valid_other : IsValid m.other)
       one_under other.0.interfaces (valid_other.well_formed.tables.distinct_interfaces y.at.p other.0 other.1) name i j (subst (λ (z : Package). Contains z.interfaces (name, i)) same one.2) other.2
 
   -- interfaces without a name
-  unnamed_once : (i j i' : ℕ) (home home_so : Option ℕ) → found_as m i home None ≡ Some i' → found_as m j home_so None ≡ Some i' → i ≡ j
+  unnamed_once : (i j i' : ℕ) (home home_so : Option ℕ) → counterpart_interface_by m i home None ≡ Some i' → counterpart_interface_by m j home_so None ≡ Some i' → i ≡ j
   unnamed_once i j i' home home_so first second =
-      let a = spot_match m i i' first in
-      let b = spot_match m j i' second in
-      let mine = place_of (entries_of a.spot.exported a.there) (key.Name a.spot.label, a.held) (Contains-from_lookup same_key-true (key.Name a.spot.label) a.held (entries_of a.spot.exported a.there) a.listed) in
-      let yours = place_of (entries_of b.spot.exported b.there) (key.Name b.spot.label, b.held) (Contains-from_lookup same_key-true (key.Name b.spot.label) b.held (entries_of b.spot.exported b.there) b.listed) in
-      let holds : Holds m.graph.worlds a.w' a.spot.exported mine.0 i' = record { world = a.there; there = a.there_is; entry = (key.Name a.spot.label, a.held); at = mine.1; held = a.is } in
-      let holds_so : Holds m.graph.worlds b.w' b.spot.exported yours.0 i' = record { world = b.there; there = b.there_is; entry = (key.Name b.spot.label, b.held); at = yours.1; held = b.is } in
-      let one = one_place m.graph valid i' a.w' b.w' a.spot.exported b.spot.exported mine.0 yours.0 a.unnamed holds holds_so in
+      let a = label_match m i i' first in
+      let b = label_match m j i' second in
+      let mine = place_of (entries_of a.world_label.exported a.there) (key.Name a.world_label.label, a.held) (Contains-from_lookup same_key-true (key.Name a.world_label.label) a.held (entries_of a.world_label.exported a.there) a.listed) in
+      let yours = place_of (entries_of b.world_label.exported b.there) (key.Name b.world_label.label, b.held) (Contains-from_lookup same_key-true (key.Name b.world_label.label) b.held (entries_of b.world_label.exported b.there) b.listed) in
+      let holds : Holds m.graph.worlds a.w' a.world_label.exported mine.0 i' = record { world = a.there; there = a.there_is; entry = (key.Name a.world_label.label, a.held); at = mine.1; held = a.is } in
+      let holds_so : Holds m.graph.worlds b.w' b.world_label.exported yours.0 i' = record { world = b.there; there = b.there_is; entry = (key.Name b.world_label.label, b.held); at = yours.1; held = b.is } in
+      let one = one_place m.graph valid i' a.w' b.w' a.world_label.exported b.world_label.exported mine.0 yours.0 a.unnamed holds holds_so in
       let worlds : a.there ≡ b.there = same_at m.graph.worlds a.w' b.w' a.there b.there one.0 a.there_is b.there_is in
-      let lists : entries_of a.spot.exported a.there ≡ entries_of b.spot.exported b.there = λ k. entries_of (one.1 k) (worlds k) in
-      let entries = same_at (entries_of b.spot.exported b.there) mine.0 yours.0 (key.Name a.spot.label, a.held) (key.Name b.spot.label, b.held) one.2
-      (subst (λ (es : List Entry). slice_get es mine.0 ≡ Some (key.Name a.spot.label, a.held)) lists mine.1) yours.1 in
-      let labels : key.Name a.spot.label ≡ key.Name b.spot.label = ap (λ (e : Entry). e.0) entries in
-      let from : a.spot.world ≡ b.spot.world = world_once a.spot.world b.spot.world b.w' (a.matched ∙ ap (λ (x : ℕ). Some x) one.0) b.matched in
-      let x = stands_at m.other.worlds i a.spot (Contains-from_lookup (λ u v. eqb-true u v) i a.spot (spots m.other.worlds) a.spot_is) in
-      let y = stands_at m.other.worlds j b.spot (Contains-from_lookup (λ u v. eqb-true u v) j b.spot (spots m.other.worlds) b.spot_is) in
-      let same_world : x.world ≡ y.world = same_at m.other.worlds a.spot.world b.spot.world x.world y.world from x.there y.there in
-      let listed : Contains (entries_of b.spot.exported y.world) (key.Name b.spot.label, x.held) = subst (λ (e : WorldKey). Contains (entries_of b.spot.exported y.world) (e, x.held)) labels (subst (λ (es : List Entry). Contains es (key.Name a.spot.label, x.held)) (λ k. entries_of (one.1 k) (same_world k)) x.listed) in
-      let held : x.held ≡ y.held = one_under (entries_of b.spot.exported y.world) (lists_distinct m.other valid_other b.spot.world b.spot.exported y.world y.there) (key.Name b.spot.label) x.held y.held listed y.listed in
+      let lists : entries_of a.world_label.exported a.there ≡ entries_of b.world_label.exported b.there = λ k. entries_of (one.1 k) (worlds k) in
+      let entries = same_at (entries_of b.world_label.exported b.there) mine.0 yours.0 (key.Name a.world_label.label, a.held) (key.Name b.world_label.label, b.held) one.2
+      (subst (λ (es : List Entry). slice_get es mine.0 ≡ Some (key.Name a.world_label.label, a.held)) lists mine.1) yours.1 in
+      let labels : key.Name a.world_label.label ≡ key.Name b.world_label.label = ap (λ (e : Entry). e.0) entries in
+      let from : a.world_label.world ≡ b.world_label.world = world_once a.world_label.world b.world_label.world b.w' (a.matched ∙ ap (λ (x : ℕ). Some x) one.0) b.matched in
+      let x = stands_at m.other.worlds i a.world_label (Contains-from_lookup (λ u v. eqb-true u v) i a.world_label (world_labels m.other.worlds) a.world_label_is) in
+      let y = stands_at m.other.worlds j b.world_label (Contains-from_lookup (λ u v. eqb-true u v) j b.world_label (world_labels m.other.worlds) b.world_label_is) in
+      let same_world : x.world ≡ y.world = same_at m.other.worlds a.world_label.world b.world_label.world x.world y.world from x.there y.there in
+      let listed : Contains (entries_of b.world_label.exported y.world) (key.Name b.world_label.label, x.held) = subst (λ (e : WorldKey). Contains (entries_of b.world_label.exported y.world) (e, x.held)) labels (subst (λ (es : List Entry). Contains es (key.Name a.world_label.label, x.held)) (λ k. entries_of (one.1 k) (same_world k)) x.listed) in
+      let held : x.held ≡ y.held = one_under (entries_of b.world_label.exported y.world) (lists_distinct m.other valid_other b.world_label.world b.world_label.exported y.world y.there) (key.Name b.world_label.label) x.held y.held listed y.listed in
       same_one i j (sym x.is ∙ (ap item_interface held ∙ y.is))
 
-  pub interface_once : (i j i' : ℕ) → found_interface m i ≡ Some i' → found_interface m j ≡ Some i' → i ≡ j
+  pub interface_once : (i j i' : ℕ) → counterpart_interface m i ≡ Some i' → counterpart_interface m j ≡ Some i' → i ≡ j
   interface_once i j i' first second =
-      let a = some_parts (λ (interface : Interface). found_as m i interface.package interface.name) (slice_get m.other.interfaces i) i' first in
-      let b = some_parts (λ (interface : Interface). found_as m j interface.package interface.name) (slice_get m.other.interfaces j) i' second in
+      let a = some_parts (λ (interface : Interface). counterpart_interface_by m i interface.package interface.name) (slice_get m.other.interfaces i) i' first in
+      let b = some_parts (λ (interface : Interface). counterpart_interface_by m j interface.package interface.name) (slice_get m.other.interfaces j) i' second in
       let x = interface_is m valid valid_other i i' first in
       let y = interface_is m valid valid_other j i' second in
       let into : x.into ≡ y.into = some_same x.into y.into (sym x.into_is ∙ y.into_is) in
       let x_is : x.from ≡ a.0 = some_same x.from a.0 (sym x.from_is ∙ a.1) in
       let y_is : y.from ≡ b.0 = some_same y.from b.0 (sym y.from_is ∙ b.1) in
       let names : b.0.name ≡ a.0.name = ap (λ (z : Interface). z.name) (sym y_is) ∙ (sym y.called ∙ (ap (λ (z : Interface). z.name) (sym into) ∙ (x.called ∙ ap (λ (z : Interface). z.name) x_is))) in
-      by a.0 b.0 a.1 b.1 a.0.name refl names a.2 (subst (λ (n : Option (List ℕ)). found_as m j b.0.package n ≡ Some i') names b.2)
+      by a.0 b.0 a.1 b.1 a.0.name refl names a.2 (subst (λ (n : Option (List ℕ)). counterpart_interface_by m j b.0.package n ≡ Some i') names b.2)
     where
-      by : (a b : Interface) → slice_get m.other.interfaces i ≡ Some a → slice_get m.other.interfaces j ≡ Some b → (n : Option (List ℕ)) → a.name ≡ n → b.name ≡ n → found_as m i a.package n ≡ Some i' → found_as m j b.package n ≡ Some i'
+      by : (a b : Interface) → slice_get m.other.interfaces i ≡ Some a → slice_get m.other.interfaces j ≡ Some b → (n : Option (List ℕ)) → a.name ≡ n → b.name ≡ n → counterpart_interface_by m i a.package n ≡ Some i' → counterpart_interface_by m j b.package n ≡ Some i'
           → i ≡ j
       by a b at there (Some name) called called_so first second = named_once i j i' a b name at there called called_so first second
       by a b at there None called called_so first second = unnamed_once i j i' a.package b.package first second

@@ -14,8 +14,8 @@ use Rattle.std.proofs.lemmas.Option.{slice_get_within}
 use Rattle.std.proofs.lemmas.Slice.Eq.{bytes_eq-Decides}
 use Rattle.wit_digraph.specs.facts.FreshFacts.{fresh_all}
 use Rattle.wit_digraph.specs.facts.MemberFacts.{Contains-cons_cases, Contains-flat_map, Contains-here, Contains-nil}
-use Rattle.wit_digraph.specs.facts.WalkFacts.{Contains-walk_end}
-use Rattle.wit_digraph.specs.Walks.{walk}
+use Rattle.wit_digraph.specs.facts.PostOrderFacts.{Contains-post_order_end}
+use Rattle.wit_digraph.specs.PostOrder.{post_order}
 use Rattle.wit_data.specs.Each.{SomeAt}
 use Rattle.wit_data.specs.Entries.{Entry, is_unnamed, item_interface}
 use Rattle.wit_data.specs.Ownership.{IsListed, world_types}
@@ -35,24 +35,24 @@ use Rattle.wit_data.specs.declared.world.WorldKey.TheVariants as key
 use Rattle.wit_elaboration.proofs.FreshEntries.{same_key-true}
 use Rattle.wit_elaboration.specs.Entries.{same_key}
 use Rattle.wit_elaboration.specs.Valid.{IsValid}
-use Rattle.wit_graph_data.specs.Questions.{topological_packages}
+use Rattle.wit_graph_data.specs.Queries.{topological_packages}
 use Rattle.wit_graph_data.specs.Relations.{package_needs, package_uses}
 use Rattle.wit_graph_data.specs.declared.graph.Graph.{Graph}
 use Rattle.wit_graph_data.specs.declared.graph.Package.{Package}
 use Rattle.wit_graph_theory.specs.facts.GoodTypes.{IsAliased, from_if}
 use Rattle.wit_graph_theory.specs.facts.GoodWorlds.{same_one}
 use Rattle.wit_graph_theory.specs.facts.ListFacts.{found_at}
-use Rattle.wit_graph_theory.specs.steps.OnePlace.{entries_of}
+use Rattle.wit_graph_theory.specs.steps.UnnamedOnce.{entries_of}
 use Rattle.wit_graph_theory.specs.facts.OptionFacts.{some_by, some_parts, some_same}
-use Rattle.wit_link_spec.specs.Lookup.{listed_type}
+use Rattle.wit_link_spec.specs.Lookup.{interface_type}
 use Rattle.wit_merge_structure.specs.Structure.{Content, Feature, FirstDifference, difference_text, held_features, here, is_named, named, names, path_text, primitive, structure, variant, variant_of, within}
 use Rattle.wit_merge_structure.specs.declared.kinds.Variant.{Variant}
 use Rattle.wit_merge_structure.specs.declared.kinds.Variant.TheVariants as variants
 use Rattle.wit_merge_spec.specs.Agreement.{StructuresDiffer}
 use Rattle.wit_merge_spec.specs.Agreement as differ
-use Rattle.wit_merge_spec.specs.Matches.{Merging, found_by, found_interface, found_type, found_world, interface_beside, spots, world_beside}
+use Rattle.wit_merge_spec.specs.Matches.{GraphMerge, counterpart_interface, counterpart_type, counterpart_type_by, counterpart_world, matched_interface, matched_world, world_labels}
 use Rattle.wit_merge_spec.specs.MismatchText.{entry_link, linked, part_links, side_word, type_link}
-use Rattle.wit_merge_spec.specs.Reasons.{AreOne}
+use Rattle.wit_merge_spec.specs.Reasons.{HasNoMismatch}
 use Rattle.wit_merge_spec.specs.TypePairs.{FirstDiffers, TypePair, common_entries, common_types, entry_pairs, in_package_order, interface_pairs, item_pairs, type_pairs, world_pairs}
 use Rattle.wit_merge_spec.specs.TypePairs.{paired as pair_of}
 use Rattle.wit_merge_laws.specs.facts.MatchFacts.{stands_at}
@@ -106,8 +106,8 @@ module _ (g : Graph) (valid : IsValid g) where
       let many = length-range_with_len 0 (length g.packages) in
       let is : get_or (range_with_len 0 (length g.packages)) p p ≡ 0 + p = get_or-range_with_len 0 (length g.packages) p p within in
       let among : Contains (range_with_len 0 (length g.packages)) p = (p, omega (arith, within, many), omega (arith, is)) in
-      fresh_all [] (flat_map (walk dependencies) (range_with_len 0 (length g.packages))) p
-      (Contains-flat_map (walk dependencies) (range_with_len 0 (length g.packages)) p p among (Contains-walk_end dependencies valid.no_cycles.packages p (omega (arith, within, long))))
+      fresh_all [] (flat_map (post_order dependencies) (range_with_len 0 (length g.packages))) p
+      (Contains-flat_map (post_order dependencies) (range_with_len 0 (length g.packages)) p p among (Contains-post_order_end dependencies valid.no_cycles.packages p (omega (arith, within, long))))
 
   package_listed : (p : ℕ) (home : Package) → slice_get g.packages p ≡ Some home → Contains (in_package_order g) home
   package_listed p home at =
@@ -116,7 +116,7 @@ module _ (g : Graph) (valid : IsValid g) where
 
 -- ---- pairs of interfaces and worlds
 
-module _ (m : Merging) where
+module _ (m : GraphMerge) where
   abbrev package_interfaces : Package → List TypePair
   package_interfaces home = flat_map (λ (e : List ℕ × ℕ). interface_pairs m (part_links home.name (codes "interface") e.0) e.1) home.interfaces
 
@@ -130,25 +130,25 @@ module _ (m : Merging) where
   of_worlds = flat_map package_worlds (in_package_order m.other)
 
   -- the types of one name of two matched interfaces are a pair
-  in_interface : (links : List (List ℕ)) (i i' : ℕ) (from into : Interface) (name : List ℕ) (t t' : ℕ) → slice_get m.other.interfaces i ≡ Some from → found_interface m i ≡ Some i' → slice_get m.graph.interfaces i' ≡ Some into
+  in_interface : (links : List (List ℕ)) (i i' : ℕ) (from into : Interface) (name : List ℕ) (t t' : ℕ) → slice_get m.other.interfaces i ≡ Some from → counterpart_interface m i ≡ Some i' → slice_get m.graph.interfaces i' ≡ Some into
       → Contains from.types (name, t) → lookup (bytes_eq name) into.types ≡ Some t' → Contains (interface_pairs m links i) (pair_of links name t t')
   in_interface links i i' from into name t t' from_is found into_is listed looked =
       let among : Contains (common_types links from into) (pair_of links name t t') =
       Contains-flat_map (λ (e : List ℕ × ℕ). option_map_or (λ x. pair_of links e.0 e.1 x ∷ []) (lookup (bytes_eq e.0) into.types) []) from.types (name, t) (pair_of links name t t') listed
       (subst (λ (o : Option ℕ). Contains (option_map_or (λ x. pair_of links name t x ∷ []) o []) (pair_of links name t t')) (sym looked) (Contains-here (pair_of links name t t') [])) in
-      let beside : interface_beside m i ≡ Some into = some_by (slice_get m.graph.interfaces) (found_interface m i) i' found ∙ into_is in
+      let beside : matched_interface m i ≡ Some into = some_by (slice_get m.graph.interfaces) (counterpart_interface m i) i' found ∙ into_is in
       let pairs : interface_pairs m links i ≡ common_types links from into =
-      ap (λ (o : Option Interface). option_map_or (λ (x : Interface). option_map_or (common_types links x) (interface_beside m i) []) o []) from_is ∙ ap (λ (o : Option Interface). option_map_or (common_types links from) o []) beside in
+      ap (λ (o : Option Interface). option_map_or (λ (x : Interface). option_map_or (common_types links x) (matched_interface m i) []) o []) from_is ∙ ap (λ (o : Option Interface). option_map_or (common_types links from) o []) beside in
       subst (λ (ps : List TypePair). Contains ps (pair_of links name t t')) (sym pairs) among
 
   -- what is a pair of two items under a label is one of their worlds
-  in_world : (links : List (List ℕ)) (w w' : ℕ) (from into : World) (exported : Bool) (label : List ℕ) (held there : WorldItem) (q : TypePair) → slice_get m.other.worlds w ≡ Some from → found_world m w ≡ Some w'
+  in_world : (links : List (List ℕ)) (w w' : ℕ) (from into : World) (exported : Bool) (label : List ℕ) (held there : WorldItem) (q : TypePair) → slice_get m.other.worlds w ≡ Some from → counterpart_world m w ≡ Some w'
       → slice_get m.graph.worlds w' ≡ Some into → Contains (entries_of exported from) (entry (key.Name label) held) → lookup (same_key (key.Name label)) (entries_of exported into) ≡ Some there
       → Contains (item_pairs m (links ++ (entry_link (side_word exported) label ∷ [])) label held there) q → Contains (world_pairs m links w) q
   in_world links w w' from into exported label held there q from_is found into_is listed looked has =
-      let beside : world_beside m w ≡ Some into = some_by (slice_get m.graph.worlds) (found_world m w) w' found ∙ into_is in
+      let beside : matched_world m w ≡ Some into = some_by (slice_get m.graph.worlds) (counterpart_world m w) w' found ∙ into_is in
       let pairs : world_pairs m links w ≡ common_entries m links from into =
-      ap (λ (o : Option World). option_map_or (λ (x : World). option_map_or (common_entries m links x) (world_beside m w) []) o []) from_is ∙ ap (λ (o : Option World). option_map_or (common_entries m links from) o []) beside in
+      ap (λ (o : Option World). option_map_or (λ (x : World). option_map_or (common_entries m links x) (matched_world m w) []) o []) from_is ∙ ap (λ (o : Option World). option_map_or (common_entries m links from) o []) beside in
       subst (λ (ps : List TypePair). Contains ps q) (sym pairs) (side exported listed looked has)
     where
       of_entry : (word : List ℕ) (entries : List Entry) → lookup (same_key (key.Name label)) entries ≡ Some there → Contains (item_pairs m (links ++ (entry_link word label ∷ [])) label held there) q
@@ -195,11 +195,11 @@ held_named types matched u is = ap (λ (b : Bool). map (within (codes "alias")) 
 -- ---- each matched type is one of a pair
 
 -- some pairs are among those that are compared
-record AreCompared (m : Merging) (pairs : List (List ℕ) → List TypePair) : Type 0 where
+record AreCompared (m : GraphMerge) (pairs : List (List ℕ) → List TypePair) : Type 0 where
   links : List (List ℕ)
   among : (q : TypePair) → Contains (pairs links) q → Contains (type_pairs m) q
 
-module _ (m : Merging) (valid : IsValid m.graph) (valid_other : IsValid m.other) (one : AreOne m) where
+module _ (m : GraphMerge) (valid : IsValid m.graph) (valid_other : IsValid m.other) (one : HasNoMismatch m) where
   -- those of a world
   world_compared : (w : ℕ) (world : World) → slice_get m.other.worlds w ≡ Some world → AreCompared m (λ links. world_pairs m links w)
   world_compared w world at =
@@ -214,7 +214,7 @@ module _ (m : Merging) (valid : IsValid m.graph) (valid_other : IsValid m.other)
       }
 
   -- those of a matched interface
-  interface_compared : (i i' : ℕ) (from : Interface) → slice_get m.other.interfaces i ≡ Some from → found_interface m i ≡ Some i' → AreCompared m (λ links. interface_pairs m links i)
+  interface_compared : (i i' : ℕ) (from : Interface) → slice_get m.other.interfaces i ≡ Some from → counterpart_interface m i ≡ Some i' → AreCompared m (λ links. interface_pairs m links i)
   interface_compared i i' from at found = by from.name refl
     where
       by : (o : Option (List ℕ)) → from.name ≡ o → AreCompared m (λ links. interface_pairs m links i)
@@ -231,16 +231,16 @@ module _ (m : Merging) (valid : IsValid m.graph) (valid_other : IsValid m.other)
       by None called =
           let unnamed : is_unnamed m.other.interfaces i ≡ true =
           ap (λ (o : Option Interface). option_map_or (λ (interface : Interface). not (is_some interface.name)) o false) at ∙ ap (λ (o : Option (List ℕ)). not (is_some o)) called in
-          let spot = spot_of m valid valid_other i i' unnamed found in
-          let stands = stands_at m.other.worlds i spot.spot (Contains-from_lookup (λ a b. eqb-true a b) i spot.spot (spots m.other.worlds) spot.spot_is) in
-          let world = world_compared spot.spot.world stands.world stands.there in
-          let links = world.links ++ (entry_link (side_word spot.spot.exported) spot.spot.label ∷ []) in
+          let world_label = spot_of m valid valid_other i i' unnamed found in
+          let stands = stands_at m.other.worlds i world_label.world_label (Contains-from_lookup (λ a b. eqb-true a b) i world_label.world_label (world_labels m.other.worlds) world_label.world_label_is) in
+          let world = world_compared world_label.world_label.world stands.world stands.there in
+          let links = world.links ++ (entry_link (side_word world_label.world_label.exported) world_label.world_label.label ∷ []) in
           record {
             links = links;
             among = λ q has.
                 world.among q
-                (in_world m world.links spot.spot.world spot.w' stands.world spot.there spot.spot.exported spot.spot.label stands.held spot.held q stands.there spot.matched spot.there_is stands.listed spot.listed
-                (of_unnamed m links spot.spot.label stands.held spot.held i q stands.is unnamed has));
+                (in_world m world.links world_label.world_label.world world_label.w' stands.world world_label.there world_label.world_label.exported world_label.world_label.label stands.held world_label.held q stands.there world_label.matched world_label.there_is stands.listed world_label.listed
+                (of_unnamed m links world_label.world_label.label stands.held world_label.held i q stands.is unnamed has));
           }
 
   -- two types are a pair
@@ -248,20 +248,20 @@ module _ (m : Merging) (valid : IsValid m.graph) (valid_other : IsValid m.other)
   ArePaired t t' = (links : List (List ℕ)) × Contains (type_pairs m) (record { from = t; into = t'; links = links })
 
   -- of an interface
-  of_interface : (t t' i : ℕ) (name : List ℕ) → SomeAt m.other.interfaces i (λ (interface : Interface). Contains interface.types (name, t)) → found_by m (Some name) (owner.Interface i) ≡ Some t' → ArePaired t t'
+  of_interface : (t t' i : ℕ) (name : List ℕ) → SomeAt m.other.interfaces i (λ (interface : Interface). Contains interface.types (name, t)) → counterpart_type_by m (Some name) (owner.Interface i) ≡ Some t' → ArePaired t t'
   of_interface t t' i name listed found =
       let from = found_at (λ (interface : Interface). Contains interface.types (name, t)) m.other.interfaces i listed in
-      let beside = some_parts (listed_type m.graph name) (found_interface m i) t' found in
+      let beside = some_parts (interface_type m.graph name) (counterpart_interface m i) t' found in
       let into = some_parts (λ (interface : Interface). lookup (bytes_eq name) interface.types) (slice_get m.graph.interfaces beside.0) t' beside.2 in
       let pairs = interface_compared i beside.0 from.0 from.1 beside.1 in
       (pairs.links ++ (type_link name ∷ []), pairs.among (pair_of pairs.links name t t') (in_interface m pairs.links i beside.0 from.0 into.0 name t t' from.1 beside.1 into.1 from.2 into.2))
 
   -- of a world
-  of_world : (t t' w : ℕ) (name : List ℕ) → SomeAt m.other.worlds w (λ (world : World). Contains (world_types world) (name, t)) → found_by m (Some name) (owner.World w) ≡ Some t' → ArePaired t t'
+  of_world : (t t' w : ℕ) (name : List ℕ) → SomeAt m.other.worlds w (λ (world : World). Contains (world_types world) (name, t)) → counterpart_type_by m (Some name) (owner.World w) ≡ Some t' → ArePaired t t'
   of_world t t' w name listed found =
       let from = found_at (λ (world : World). Contains (world_types world) (name, t)) m.other.worlds w listed in
-      let into = some_parts (λ (there : World). lookup (bytes_eq name) (world_types there)) (world_beside m w) t' found in
-      let beside = some_parts (slice_get m.graph.worlds) (found_world m w) into.0 into.1 in
+      let into = some_parts (λ (there : World). lookup (bytes_eq name) (world_types there)) (matched_world m w) t' found in
+      let beside = some_parts (slice_get m.graph.worlds) (counterpart_world m w) into.0 into.1 in
       let mine = listed_by from.0 name t from.2 in
       let theirs = listed_by into.0 name t' (Contains-from_lookup (λ a b. (bytes_eq-Decides a b).0) name t' (world_types into.0) into.2) in
       let here = entry_there m valid valid_other one w beside.0 from.0 into.0 from.1 beside.1 beside.2 false (key.Name name) (item.Type_ t mine.span) mine.has in
@@ -278,12 +278,12 @@ module _ (m : Merging) (valid : IsValid m.graph) (valid_other : IsValid m.other)
             (looked ∙ ap (λ (held : WorldItem). Some held) same) (Contains-here (pair_of links name t t') [])),
       )
 
-  pub paired : (t t' : ℕ) → found_type m t ≡ Some t' → ArePaired t t'
+  pub paired : (t t' : ℕ) → counterpart_type m t ≡ Some t' → ArePaired t t'
   paired t t' found =
-      let def = some_parts (λ (def : TypeDef). found_by m def.name def.owner) (slice_get m.other.types t) t' found in
+      let def = some_parts (λ (def : TypeDef). counterpart_type_by m def.name def.owner) (slice_get m.other.types t) t' found in
       by def.0.name def.0.owner (valid_other.well_formed.owners.listed t def.0 def.1) def.2
     where
-      by : (name : Option (List ℕ)) (of : TypeOwner) → IsListed m.other.interfaces m.other.worlds t name of → found_by m name of ≡ Some t' → ArePaired t t'
+      by : (name : Option (List ℕ)) (of : TypeOwner) → IsListed m.other.interfaces m.other.worlds t name of → counterpart_type_by m name of ≡ Some t' → ArePaired t t'
       by (Some name) (owner.Interface i) listed found = of_interface t t' i name listed found
       by (Some name) (owner.World w) listed found = of_world t t' w name listed found
       by (Some name) owner.None listed found = cc
@@ -296,16 +296,16 @@ module _ (m : Merging) (valid : IsValid m.graph) (valid_other : IsValid m.other)
   none_differ = none_behind (StructuresDiffer m) [] (type_pairs m) (λ message first. one message (differ.types message first)) (λ p ending has told. Contains-nil has)
 
   -- so there is no first difference between the structures of matched types
-  pub no_difference : (t t' : ℕ) (x y : Feature) → found_type m t ≡ Some t' → FirstDifference (structure m.other.types (found_type m) t) (structure m.graph.types Some t') x y → ⊥
+  pub no_difference : (t t' : ℕ) (x y : Feature) → counterpart_type m t ≡ Some t' → FirstDifference (structure m.other.types (counterpart_type m) t) (structure m.graph.types Some t') x y → ⊥
   no_difference t t' x y found first =
       let pair = paired t t' found in
       none_differ (record { from = t; into = t'; links = pair.0 }) (path_text x.path ++ difference_text x.content y.content) pair.1 (record { x = x; y = y; first = first; text_is = refl })
 
-  module _ (t t' : ℕ) (def def' : TypeDef) (at : slice_get m.other.types t ≡ Some def) (at' : slice_get m.graph.types t' ≡ Some def') (found : found_type m t ≡ Some t') where
+  module _ (t t' : ℕ) (def def' : TypeDef) (at : slice_get m.other.types t ≡ Some def) (at' : slice_get m.graph.types t' ≡ Some def') (found : counterpart_type m t ≡ Some t') where
     -- they are of one variant
     pub variant_matched : variant_of def.kind ≡ variant_of def'.kind
     variant_matched =
-        let mine = structure_begins m.other.types (found_type m) valid_other.no_cycles.types t def at in
+        let mine = structure_begins m.other.types (counterpart_type m) valid_other.no_cycles.types t def at in
         let theirs = structure_begins m.graph.types Some valid.no_cycles.types t' def' at' in
         same_variant (variant_of def.kind) (variant_of def'.kind)
         (λ other.
@@ -316,22 +316,22 @@ module _ (m : Merging) (valid : IsValid m.graph) (valid_other : IsValid m.other)
         one_variant same = cc
 
     -- an alias is matched with an alias, of what is matched with what it names
-    pub alias_matched : (u : ℕ) → alias_target def.kind ≡ Some u → (u' : ℕ) × (alias_target def'.kind ≡ Some u') × (found_type m u ≡ Some u')
+    pub alias_matched : (u : ℕ) → alias_target def.kind ≡ Some u → (u' : ℕ) × (alias_target def'.kind ≡ Some u') × (counterpart_type m u ≡ Some u')
     alias_matched u target =
         let is = alias_kind def.kind u target in
         let theirs = alias_variant def'.kind (sym variant_matched ∙ ap variant_of is) in
         by theirs.0 theirs.1
       where
-        mine : structure m.other.types (found_type m) t ≡ alias_front ++ (within (codes "alias") (here (named (found_type m u))) ∷ [])
+        mine : structure m.other.types (counterpart_type m) t ≡ alias_front ++ (within (codes "alias") (here (named (counterpart_type m u))) ∷ [])
         mine =
-            alias_structure m.other.types (found_type m) valid_other.no_cycles.types t def at (type.Id u) (alias_kind def.kind u target)
-            ∙ ap (λ (fs : List Feature). alias_front ++ fs) (held_named m.other.types (found_type m) u (target_named m.other valid_other t def u at target))
+            alias_structure m.other.types (counterpart_type m) valid_other.no_cycles.types t def at (type.Id u) (alias_kind def.kind u target)
+            ∙ ap (λ (fs : List Feature). alias_front ++ fs) (held_named m.other.types (counterpart_type m) u (target_named m.other valid_other t def u at target))
 
         theirs_are : (ty : Type_) (y : Content) → def'.kind ≡ kind.Type_ ty
             → map (within (codes "alias")) (held_features m.graph.types Some (structure m.graph.types Some) (Some ty)) ++ [] ≡ within (codes "alias") (here y) ∷ []
-            → (named (found_type m u) ≡ y → ⊥) → ⊥
+            → (named (counterpart_type m u) ≡ y → ⊥) → ⊥
         theirs_are ty y is features apart =
-            no_difference t t' (within (codes "alias") (here (named (found_type m u)))) (within (codes "alias") (here y)) found
+            no_difference t t' (within (codes "alias") (here (named (counterpart_type m u)))) (within (codes "alias") (here y)) found
             (record {
               before = alias_front;
               after = [];
@@ -347,12 +347,12 @@ module _ (m : Merging) (valid : IsValid m.graph) (valid_other : IsValid m.other)
         same_named : (o : Option ℕ) (x : ℕ) → named o ≡ named (Some x) → o ≡ Some x
         same_named o x same = cc
 
-        by : (ty : Type_) → def'.kind ≡ kind.Type_ ty → (u' : ℕ) × (alias_target def'.kind ≡ Some u') × (found_type m u ≡ Some u')
+        by : (ty : Type_) → def'.kind ≡ kind.Type_ ty → (u' : ℕ) × (alias_target def'.kind ≡ Some u') × (counterpart_type m u ≡ Some u')
         by (type.Id u') is =
             let names_it : alias_target def'.kind ≡ Some u' = ap alias_target is in (
               u',
               names_it,
-              same_id (found_type m u) u' (λ other.
-                  theirs_are (type.Id u') (named (Some u')) is (held_named m.graph.types Some u' (target_named m.graph valid t' def' u' at' names_it)) (λ same. other (same_named (found_type m u) u' same))),
+              same_id (counterpart_type m u) u' (λ other.
+                  theirs_are (type.Id u') (named (Some u')) is (held_named m.graph.types Some u' (target_named m.graph valid t' def' u' at' names_it)) (λ same. other (same_named (counterpart_type m u) u' same))),
             )
-        by ty is = absurd (theirs_are ty (primitive ty) is refl (not_primitive ty (found_type m u)))
+        by ty is = absurd (theirs_are ty (primitive ty) is refl (not_primitive ty (counterpart_type m u)))

@@ -21,24 +21,24 @@ use Rattle.wit_graph_theory.specs.facts.Covered.{InterfaceAt}
 use Rattle.wit_graph_theory.specs.Image.{identity, key_image}
 use Rattle.wit_graph_theory.specs.facts.LawsOfElaboration.{LawsOfElaboration}
 use Rattle.wit_graph_theory.specs.facts.ListFacts.{found_at, from_map, place_of, some_at}
-use Rattle.wit_graph_theory.specs.steps.OnePlace.{entries_of}
+use Rattle.wit_graph_theory.specs.steps.UnnamedOnce.{entries_of}
 use Rattle.wit_graph_theory.specs.Operations.{merge_sources}
 use Rattle.wit_graph_theory.specs.steps.Sources.{Source}
-use Rattle.wit_merge_spec.specs.Matches.{Merging, found_interface, found_world, spots}
-use Rattle.wit_merge_spec.specs.Moved.{interface_place, merge_maps, moves_interface, moves_world, world_place}
-use Rattle.wit_merge_spec.specs.Reasons.{AreOne}
+use Rattle.wit_merge_spec.specs.Matches.{GraphMerge, counterpart_interface, counterpart_world, world_labels}
+use Rattle.wit_merge_spec.specs.Remapped.{merge_maps, merged_interface, merged_world, moves_interface, moves_world}
+use Rattle.wit_merge_spec.specs.Reasons.{HasNoMismatch}
 use Rattle.wit_merge_spec.specs.United.{joined_graph, united}
-use Rattle.wit_merge_laws.specs.facts.InterfacesStand.{interface_at_from, interfaces_come, moved_interface_goes}
+use Rattle.wit_merge_laws.specs.facts.InterfacesStand.{interface_at_from, interfaces_come, moved_interface_remapped}
 use Rattle.wit_merge_laws.specs.facts.InterfacesStand as interfaces
-use Rattle.wit_merge_laws.specs.facts.JoinedGood.{CanElaborate}
+use Rattle.wit_merge_laws.specs.facts.JoinedGood.{UnionCanElaborate}
 use Rattle.wit_merge_laws.specs.facts.LabelsStay.{export_from, label_from}
 use Rattle.wit_merge_laws.specs.facts.ListedStand.{interfaces_apart, world_at_from}
 use Rattle.wit_merge_laws.specs.facts.ListedStand as worlds
-use Rattle.wit_merge_laws.specs.facts.MatchFacts.{goes_to, no_name, spot_home, stands_at}
+use Rattle.wit_merge_laws.specs.facts.MatchFacts.{goes_to, label_home, no_name, stands_at}
 use Rattle.wit_merge_laws.specs.laws.Names.{HasLabel, HasName, InterfaceName, IsInterface, IsNamedSo, IsPackage, IsUnnamedAt, IsWorld, Label, Name, at_label, in_package, of_export, of_function, of_interface, of_label, of_package, of_type, of_world}
-use Rattle.wit_merge_laws.specs.facts.NamesGo.{Part, interface_back, package_back, unnamed_back, world_back}
+use Rattle.wit_merge_laws.specs.facts.NamesGo.{MapsInto, interface_back, package_back, unnamed_back, world_back}
 use Rattle.wit_merge_laws.specs.facts.NamesParts.{going_to, graph_part, other_part, staying}
-use Rattle.wit_merge_laws.specs.facts.OnceStand.{image_held, spot_key, spot_of}
+use Rattle.wit_merge_laws.specs.facts.OnceStand.{image_held, spot_of, world_label_key}
 use Rattle.wit_merge_laws.specs.facts.PackagesStand.{package_at_from}
 use Rattle.wit_merge_laws.specs.facts.PackagesStand as packages
 use Rattle.wit_merge_laws.specs.facts.TypesStand.{matched_some}
@@ -48,11 +48,11 @@ use Rattle.wit_merge_laws.specs.facts.WorldsStand.{entry}
 use Rattle.wit_merge_laws.specs.facts.WholeFacts.{interface_from}
 
 -- a label comes of that label, the key of an interface of the key of one that goes there
-pub label_key : (m : Merging) (w : ℕ) (k : WorldKey) (label : List ℕ) → key_image (merge_maps m) w k ≡ key.Name label → k ≡ key.Name label
+pub label_key : (m : GraphMerge) (w : ℕ) (k : WorldKey) (label : List ℕ) → key_image (merge_maps m) w k ≡ key.Name label → k ≡ key.Name label
 label_key m w (key.Name a) label is = is
 label_key m w (key.Interface i) label is = cc
 
-interface_key : (m : Merging) (w : ℕ) (k : WorldKey) (i' : ℕ) → key_image (merge_maps m) w k ≡ key.Interface i' → (i : ℕ) × (k ≡ key.Interface i) × (i' ≡ interface_place m i)
+interface_key : (m : GraphMerge) (w : ℕ) (k : WorldKey) (i' : ℕ) → key_image (merge_maps m) w k ≡ key.Interface i' → (i : ℕ) × (k ≡ key.Interface i) × (i' ≡ merged_interface m i)
 interface_key m w (key.Name a) i' is = cc
 interface_key m w (key.Interface i) i' is = (i, refl, one is)
   where
@@ -67,7 +67,7 @@ module _ (h : Graph) (valid : IsValid h) where
   held_there : (w : ℕ) (world : World) (exported : Bool) (label : List ℕ) (d : WorldItem) (i : ℕ) → slice_get h.worlds w ≡ Some world → Contains (entries_of exported world) (entry (key.Name label) d) → item_interface d ≡ i ∷ []
       → (interface : Interface) × (slice_get h.interfaces i ≡ Some interface)
   held_there w world exported label d i there has held =
-      let found = found_at (λ (interface : Interface). _) h.interfaces i (spot_home h valid w world exported (key.Name label) d i there has held) in
+      let found = found_at (λ (interface : Interface). _) h.interfaces i (label_home h valid w world exported (key.Name label) d i there has held) in
       (found.0, found.1)
 
   exported_there : (w : ℕ) (world : World) (i : ℕ) (d : WorldItem) → slice_get h.worlds w ≡ Some world → Contains world.exports (entry (key.Interface i) d) → (interface : Interface) × (slice_get h.interfaces i ≡ Some interface)
@@ -77,22 +77,22 @@ module _ (h : Graph) (valid : IsValid h) where
       let found = found_at (λ (interface : Interface). IsSome interface.name) h.interfaces i named in
       (found.0, found.1)
 
-module _ (laws : LawsOfElaboration) (m : Merging) (valid : IsValid m.graph) (valid_other : IsValid m.other) (one : AreOne m) (can : CanElaborate m) where
+module _ (laws : LawsOfElaboration) (m : GraphMerge) (valid : IsValid m.graph) (valid_other : IsValid m.other) (one : HasNoMismatch m) (can : UnionCanElaborate m) where
   abbrev g : Graph
   g = joined_graph m
 
-  abbrev mine : Part m.graph (united m) staying
+  abbrev mine : MapsInto m.graph (united m) staying
   mine = graph_part laws m valid valid_other one can
 
-  abbrev theirs : Part m.other (united m) (going_to m)
+  abbrev theirs : MapsInto m.other (united m) (going_to m)
   theirs = other_part laws m valid valid_other one can
 
   -- ---- what stands under a label of a united world
 
   data LabelFrom (w' : ℕ) (exported : Bool) (label : List ℕ) (held : WorldItem) : Type 0 where
     under_graph : (old : World) (d : WorldItem) → slice_get m.graph.worlds w' ≡ Some old → Contains (entries_of exported old) (entry (key.Name label) d) → item_interface held ≡ item_interface d → LabelFrom w' exported label held
-    under_other : (w : ℕ) (old : World) (d : WorldItem) → slice_get m.other.worlds w ≡ Some old → moves_world m w ≡ true → w' ≡ world_place m w → Contains (entries_of exported old) (entry (key.Name label) d)
-        → ((i' : ℕ) → item_interface held ≡ i' ∷ [] → (i : ℕ) × (item_interface d ≡ i ∷ []) × (i' ≡ interface_place m i)) → LabelFrom w' exported label held
+    under_other : (w : ℕ) (old : World) (d : WorldItem) → slice_get m.other.worlds w ≡ Some old → moves_world m w ≡ true → w' ≡ merged_world m w → Contains (entries_of exported old) (entry (key.Name label) d)
+        → ((i' : ℕ) → item_interface held ≡ i' ∷ [] → (i : ℕ) × (item_interface d ≡ i ∷ []) × (i' ≡ merged_interface m i)) → LabelFrom w' exported label held
 
   stands_from : (w' : ℕ) (exported : Bool) (label : List ℕ) (held : WorldItem) → HasLabel (united m) w' exported label held → LabelFrom w' exported label held
   stands_from w' exported label held has =
@@ -129,44 +129,44 @@ module _ (laws : LawsOfElaboration) (m : Merging) (valid : IsValid m.graph) (val
           let from = goes i is.is in
           let here = held_there m.other valid_other w world l.exported l.label d from.0 there has from.1 in
           let unnamed = unnamed_back m.other (united m) (going_to m) theirs valid_other from.0 here.0 here.1 (subst (λ (x : ℕ). is_unnamed (united m).interfaces x ≡ true) from.2 is.unnamed) in
-          let next = moved_interface_goes m from.0 (unmatched m valid valid_other one w world there moves l.exported (entry (key.Name l.label) d) from.0 has from.1 unnamed) in
+          let next = moved_interface_remapped m from.0 (unmatched m valid valid_other one w world there moves l.exported (entry (key.Name l.label) d) from.0 has from.1 unnamed) in
           let within = slice_get_within m.graph.interfaces i old at in
           let goes_there = from.2 in
           absurd (omega (arith, within, next, goes_there))
 
-  unnamed_in_other : (l : Label) (i : ℕ) (old : Interface) → slice_get m.other.interfaces i ≡ Some old → IsUnnamedAt (united m) l (interface_place m i) → IsUnnamedAt m.other l i
+  unnamed_in_other : (l : Label) (i : ℕ) (old : Interface) → slice_get m.other.interfaces i ≡ Some old → IsUnnamedAt (united m) l (merged_interface m i) → IsUnnamedAt m.other l i
   unnamed_in_other l i old at is = by (stands_from is.w l.exported l.label is.held is.stands)
     where
       unnamed : is_unnamed m.other.interfaces i ≡ true
       unnamed = unnamed_back m.other (united m) (going_to m) theirs valid_other i old at is.unnamed
 
       -- it stands in a world of the graph, so it is matched
-      matched : (i' : ℕ) → found_interface m i ≡ Some i' → (world : World) (d : WorldItem) → slice_get m.graph.worlds is.w ≡ Some world → Contains (entries_of l.exported world) (entry (key.Name l.label) d) → item_interface d ≡ i' ∷ []
+      matched : (i' : ℕ) → counterpart_interface m i ≡ Some i' → (world : World) (d : WorldItem) → slice_get m.graph.worlds is.w ≡ Some world → Contains (entries_of l.exported world) (entry (key.Name l.label) d) → item_interface d ≡ i' ∷ []
           → IsUnnamedAt m.other l i
       matched i' found world d there has held =
-          let spot = spot_of m valid valid_other i i' unnamed found in
-          let stands = stands_at m.other.worlds i spot.spot (Contains-from_lookup (λ a b. eqb-true a b) i spot.spot (spots m.other.worlds) spot.spot_is) in
+          let world_label = spot_of m valid valid_other i i' unnamed found in
+          let stands = stands_at m.other.worlds i world_label.world_label (Contains-from_lookup (λ a b. eqb-true a b) i world_label.world_label (world_labels m.other.worlds) world_label.world_label_is) in
           let place = place_of (entries_of l.exported world) (entry (key.Name l.label) d) has in
-          let same = spot_key m.graph valid i' spot.w' is.w spot.spot.exported l.exported place.0 spot.there spot.spot.label spot.held spot.unnamed spot.there_is
-          (Contains-from_lookup same_key-true (key.Name spot.spot.label) spot.held (entries_of spot.spot.exported spot.there) spot.listed) spot.is
+          let same = world_label_key m.graph valid i' world_label.w' is.w world_label.world_label.exported l.exported place.0 world_label.there world_label.world_label.label world_label.held world_label.unnamed world_label.there_is
+          (Contains-from_lookup same_key-true (key.Name world_label.world_label.label) world_label.held (entries_of world_label.world_label.exported world_label.there) world_label.listed) world_label.is
           (record { world = world; there = there; entry = entry (key.Name l.label) d; at = place.1; held = held }) in
-          let w = spot.spot.world in
-          let goes : is.w ≡ world_place m w = sym (goes_to (found_world m w) _ spot.w' spot.matched ∙ same.0) in
-          let label : spot.spot.label ≡ l.label = same_label spot.spot.label l.label same.1 in
+          let w = world_label.world_label.world in
+          let goes : is.w ≡ merged_world m w = sym (goes_to (counterpart_world m w) _ world_label.w' world_label.matched ∙ same.0) in
+          let label : world_label.world_label.label ≡ l.label = same_label world_label.world_label.label l.label same.1 in
           record {
             w = w;
             of = world_back m.other (united m) (going_to m) theirs valid_other l.home l.world w stands.world stands.there (subst (IsWorld (united m) l.home l.world) goes is.of);
             held = stands.held;
             stands = some_at (λ (x : World). Contains (entries_of l.exported x) (entry (key.Name l.label) stands.held)) m.other.worlds w stands.world stands.there
                 (subst (λ (b : Bool). Contains (entries_of b stands.world) (entry (key.Name l.label) stands.held)) same.2
-                (subst (λ (x : List ℕ). Contains (entries_of spot.spot.exported stands.world) (entry (key.Name x) stands.held)) label stands.listed));
+                (subst (λ (x : List ℕ). Contains (entries_of world_label.world_label.exported stands.world) (entry (key.Name x) stands.held)) label stands.listed));
             is = stands.is;
             unnamed = unnamed;
           }
 
       by : LabelFrom is.w l.exported l.label is.held → IsUnnamedAt m.other l i
       by (under_other w world d there moves place has goes) =
-          let from = goes (interface_place m i) is.is in
+          let from = goes (merged_interface m i) is.is in
           let same : from.0 ≡ i = interfaces_apart m valid valid_other from.0 i (sym from.2) in
           record {
             w = w;
@@ -177,14 +177,14 @@ module _ (laws : LawsOfElaboration) (m : Merging) (valid : IsValid m.graph) (val
             unnamed = unnamed;
           }
       by (under_graph world d there has same) =
-          let held : item_interface d ≡ interface_place m i ∷ [] = sym same ∙ is.is in
-          let here = held_there m.graph valid is.w world l.exported l.label d (interface_place m i) there has held in
-          let within = slice_get_within m.graph.interfaces (interface_place m i) here.0 here.1 in
+          let held : item_interface d ≡ merged_interface m i ∷ [] = sym same ∙ is.is in
+          let here = held_there m.graph valid is.w world l.exported l.label d (merged_interface m i) there has held in
+          let within = slice_get_within m.graph.interfaces (merged_interface m i) here.0 here.1 in
           elim (cases_Bool (moves_interface m i)) [
-            | inl moves ↦ let next = moved_interface_goes m i moves in absurd (omega (arith, within, next))
+            | inl moves ↦ let next = moved_interface_remapped m i moves in absurd (omega (arith, within, next))
             | inr stays ↦
-                let some = matched_some (found_interface m i) stays in
-                matched some.0 some.1 world d there has (held ∙ ap (λ (x : ℕ). x ∷ []) (goes_to (found_interface m i) _ some.0 some.1))
+                let some = matched_some (counterpart_interface m i) stays in
+                matched some.0 some.1 world d there has (held ∙ ap (λ (x : ℕ). x ∷ []) (goes_to (counterpart_interface m i) _ some.0 some.1))
           ]
 
   -- ---- interfaces
@@ -193,7 +193,7 @@ module _ (laws : LawsOfElaboration) (m : Merging) (valid : IsValid m.graph) (val
   named_in_graph (in_package home name) i old at is = interface_back m.graph (united m) staying mine valid home name i old at is
   named_in_graph (at_label l) i old at is = unnamed_in_graph l i old at is
 
-  named_in_other : (name : InterfaceName) (i : ℕ) (old : Interface) → slice_get m.other.interfaces i ≡ Some old → IsNamedSo (united m) name (interface_place m i) → IsNamedSo m.other name i
+  named_in_other : (name : InterfaceName) (i : ℕ) (old : Interface) → slice_get m.other.interfaces i ≡ Some old → IsNamedSo (united m) name (merged_interface m i) → IsNamedSo m.other name i
   named_in_other (in_package home name) i old at is = interface_back m.other (united m) (going_to m) theirs valid_other home name i old at is
   named_in_other (at_label l) i old at is = unnamed_in_other l i old at is
 

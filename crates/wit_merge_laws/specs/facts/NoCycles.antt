@@ -1,4 +1,4 @@
--- In two graphs as one no type refers to itself; and where nothing speaks against the merge no interface uses itself
+-- In two graphs as one no type refers to itself; and where no cause holds against the merge no interface uses itself
 -- and no world is in conflict.
 use Rattle.std.proofs.Common.{◌≡◌, ◌∙◌, ℕ, ◌+◌, ◌<◌, ◌≤◌, zero, suc, true, List, [], ◌∷◌, ◌++◌, inl, inr, map, length, Option, None, Some, IsSome, get_or, option_and_then, option_map, slice_get, refl, sym, ap, subst, arith, Contains}
 use Rattle.std.specs.List.{enumerate_from}
@@ -8,7 +8,7 @@ use Rattle.std.proofs.lemmas.List.{length-append, length-map}
 use Rattle.std.proofs.lemmas.List.Elements.{Contains-get_or}
 use Rattle.std.proofs.lemmas.Option.{slice_get_within}
 use Rattle.wit_digraph.specs.Relation.{IsAcyclic, IsPath, direct}
-use Rattle.wit_digraph.specs.Walks.{walk}
+use Rattle.wit_digraph.specs.PostOrder.{post_order}
 use Rattle.wit_data.specs.Each.{SomeAt}
 use Rattle.wit_data.specs.Ownership.{IsNamed}
 use Rattle.wit_data.specs.Reference.{referred, type_references}
@@ -33,16 +33,16 @@ use Rattle.wit_graph_theory.specs.Operations.{merge_sources}
 use Rattle.wit_graph_theory.specs.facts.OptionFacts.{some_there}
 use Rattle.wit_graph_theory.specs.facts.Referred.{RefersUnder}
 use Rattle.wit_graph_theory.specs.facts.ReferredFacts.{kind_refers}
-use Rattle.wit_graph_theory.specs.facts.RowFacts.{walk_shorter}
+use Rattle.wit_graph_theory.specs.facts.RowFacts.{post_order_shorter}
 use Rattle.wit_graph_theory.specs.steps.Sources.{Source}
 use Rattle.wit_graph_theory.specs.facts.TypesAcyclic.{types_acyclic}
-use Rattle.wit_merge_spec.specs.Cause.{CanMerge, conflict_4, interface_cycle_22, merge_mismatch_24}
+use Rattle.wit_merge_spec.specs.Cause.{MergeIsAccepted, conflict_4, interface_cycle_22, merge_mismatch_24}
 use Rattle.wit_merge_spec.specs.Joined.{joined_type}
-use Rattle.wit_merge_spec.specs.Matches.{Merging, found_type}
-use Rattle.wit_merge_spec.specs.Moved.{added_owns, merge_maps, moves_type, type_place}
-use Rattle.wit_merge_spec.specs.Reasons.{AreOne}
+use Rattle.wit_merge_spec.specs.Matches.{GraphMerge, counterpart_type}
+use Rattle.wit_merge_spec.specs.Remapped.{merge_maps, merged_type, moves_type, owns_of_merge}
+use Rattle.wit_merge_spec.specs.Reasons.{HasNoMismatch}
 use Rattle.wit_merge_spec.specs.United.{joined_graph}
-use Rattle.wit_merge_laws.specs.facts.JoinedGood.{CanElaborate, aliases, in_order}
+use Rattle.wit_merge_laws.specs.facts.JoinedGood.{UnionCanElaborate, aliases, in_order}
 use Rattle.wit_merge_laws.specs.facts.MatchFacts.{goes_to, type_is}
 use Rattle.wit_merge_laws.specs.facts.PackagesStand.{interfaces_in_tables}
 use Rattle.wit_merge_laws.specs.facts.TypesStand.{images, joined_keeps, long_old, matched_some, new_type_at, old_types}
@@ -51,11 +51,11 @@ use Rattle.wit_merge_laws.specs.facts.WorldsStand.{joined_covered, joined_stands
 -- ---- no type refers to itself
 
 -- the types of the graph refer to what they referred to
-same_rows : (m : Merging) (n : ℕ) (xs : List TypeDef) → type_references (map (joined_type m) (enumerate_from n xs)) ≡ type_references xs
+same_rows : (m : GraphMerge) (n : ℕ) (xs : List TypeDef) → type_references (map (joined_type m) (enumerate_from n xs)) ≡ type_references xs
 same_rows m n [] = refl
 same_rows m n (x ∷ xs) = λ i. referred ((joined_keeps m (n, x)).kind i) ∷ same_rows m (n + 1) xs i
 
-module _ (m : Merging) (valid : IsValid m.graph) (valid_other : IsValid m.other) (one : AreOne m) where
+module _ (m : GraphMerge) (valid : IsValid m.graph) (valid_other : IsValid m.other) (one : HasNoMismatch m) where
   abbrev g : Graph
   g = joined_graph m
 
@@ -64,13 +64,13 @@ module _ (m : Merging) (valid : IsValid m.graph) (valid_other : IsValid m.other)
 
   -- the rank of a type of the other graph: the length of its walk
   abbrev rank : ℕ → ℕ → ℕ
-  rank k t = length (walk (type_references m.other.types) t)
+  rank k t = length (post_order (type_references m.other.types) t)
 
   -- a matched type goes to one of the graph
-  matched_before : (t t' : ℕ) → found_type m t ≡ Some t' → type_place m t < length m.graph.types
+  matched_before : (t t' : ℕ) → counterpart_type m t ≡ Some t' → merged_type m t < length m.graph.types
   matched_before t t' found =
       let is = type_is m valid t t' found in
-      subst (λ (x : ℕ). x < length m.graph.types) (sym (goes_to (found_type m t) _ t' found)) (slice_get_within m.graph.types t' is.into is.into_is)
+      subst (λ (x : ℕ). x < length m.graph.types) (sym (goes_to (counterpart_type m t) _ t' found)) (slice_get_within m.graph.types t' is.into is.into_is)
 
   abbrev RefersSo : ℕ → TypeDef → TypeDef → Type 0
   RefersSo k def new = RefersUnder (at k).maps (referred def.kind) (referred new.kind)
@@ -81,9 +81,9 @@ module _ (m : Merging) (valid : IsValid m.graph) (valid_other : IsValid m.other)
       let long = long_old m in
       absurd (omega (arith, within, past, long))
   carried (suc k) t def there takes past = elim (cases_Bool (moves_type m t)) [
-    | inl moves ↦ some_at (RefersSo 1 def) g.types (type_place m t) _ (new_type_at m t def there moves) (kind_refers (merge_maps m) def.kind)
+    | inl moves ↦ some_at (RefersSo 1 def) g.types (merged_type m t) _ (new_type_at m t def there moves) (kind_refers (merge_maps m) def.kind)
     | inr stays ↦
-        let found = matched_some (found_type m t) stays in
+        let found = matched_some (counterpart_type m t) stays in
         let before = matched_before t found.0 found.1 in
         let long = long_old m in
         absurd (omega (arith, before, past, long))
@@ -98,12 +98,12 @@ module _ (m : Merging) (valid : IsValid m.graph) (valid_other : IsValid m.other)
       let row = λ (def : TypeDef). referred def.kind in
       let long = length-map m.other.types row in
       let within = slice_get_within m.other.types t def there in
-      walk_shorter (type_references m.other.types) valid_other.no_cycles.types t u (omega (arith, within, long)) (in_row row m.other.types t def u there has)
+      post_order_shorter (type_references m.other.types) valid_other.no_cycles.types t u (omega (arith, within, long)) (in_row row m.other.types t def u there has)
 
   types_grow : TypesGrow at rank (old_types m) g
   types_grow = record {
-    longer = omega (arith, length-append (old_types m) (images m ++ added_owns m));
-    kept = λ i def before there. at_below (old_types m) (images m ++ added_owns m) i def before there;
+    longer = omega (arith, length-append (old_types m) (images m ++ owns_of_merge m));
+    kept = λ i def before there. at_below (old_types m) (images m ++ owns_of_merge m) i def before there;
     carried = carried;
     falls = falls;
   }
@@ -113,17 +113,17 @@ module _ (m : Merging) (valid : IsValid m.graph) (valid_other : IsValid m.other)
       types_acyclic at rank (old_types m) g (λ k. (sources_good m valid valid_other one k).closed) (joined_stands m valid valid_other one) (joined_covered m valid valid_other one) types_grow
       (subst IsAcyclic (sym (same_rows m 0 m.graph.types)) valid.no_cycles.types)
 
--- ---- where nothing speaks against the merge
+-- ---- where no cause holds against the merge
 
-pub are_one : (m : Merging) → CanMerge m → AreOne m
+pub are_one : (m : GraphMerge) → MergeIsAccepted m → HasNoMismatch m
 are_one m can message differs = can (Semantic None message cause.MergeMismatch) (merge_mismatch_24 message differs)
 
 has_home : (P : ℕ → Type 0) (o : Option ℕ) → IsSomeAnd o P → (p : ℕ) × (o ≡ Some p)
 has_home P None h = absurd h
 has_home P (Some p) h = (p, refl)
 
-module _ (m : Merging) (valid : IsValid m.graph) (valid_other : IsValid m.other) (can : CanMerge m) where
-  abbrev one : AreOne m
+module _ (m : GraphMerge) (valid : IsValid m.graph) (valid_other : IsValid m.other) (can : MergeIsAccepted m) where
+  abbrev one : HasNoMismatch m
   one = are_one m can
 
   abbrev joined : Graph
@@ -181,5 +181,5 @@ module _ (m : Merging) (valid : IsValid m.graph) (valid_other : IsValid m.other)
       (conflict_4 world.span name one (record { interfaces = no_interface_cycle; types = no_type_cycle; world = world; there = there; conflict = conflict; name_is = (k.0, k.1, refl); span_is = refl }))
 
   -- so all of it can be elaborated
-  pub can_elaborate : ConflictsAreRefused → CanElaborate m
+  pub can_elaborate : ConflictsAreRefused → UnionCanElaborate m
   can_elaborate refused = record { acyclic = joined_uses_acyclic; clear = joined_clear refused }

@@ -1,4 +1,4 @@
--- Where an empty graph goes into a valid one, nothing speaks against it, and nothing changes.
+-- Where an empty graph goes into a valid one, no cause holds against it, and nothing changes.
 use Rattle.std.proofs.Common.{◌≡◌, ◌∙◌, ℕ, ◌+◌, suc, List, [], ◌∷◌, ◌++◌, map, Option, refl, sym, ap, subst, Contains}
 use Rattle.std.proofs.lemmas.List.{append-nil}
 use Rattle.std.specs.List.{enumerate_from}
@@ -17,12 +17,12 @@ use Rattle.wit_graph_theory.specs.AllElaborated.{all_elaborated, elaborated_worl
 use Rattle.wit_graph_theory.specs.facts.ListFacts.{place_of}
 use Rattle.wit_merge_spec.specs.Agreement as differ
 use Rattle.wit_merge_spec.specs.Agreement.{GraphsDiffer}
-use Rattle.wit_merge_spec.specs.Cause.{CanMerge, borrow_in_result_15, conflict_4, interface_cycle_22, merge_mismatch_24, mismatch_8, offset_overflow_27, package_cycle_6}
-use Rattle.wit_merge_spec.specs.Matches.{Merging, Pair, found_interface, found_type, found_world}
+use Rattle.wit_merge_spec.specs.Cause.{MergeIsAccepted, borrow_in_result_15, conflict_4, interface_cycle_22, merge_mismatch_24, mismatch_8, offset_overflow_27, package_cycle_6}
+use Rattle.wit_merge_spec.specs.Matches.{GraphMerge, Pair, counterpart_interface, counterpart_type, counterpart_world}
 use Rattle.wit_merge_spec.specs.Reasons.{AreJoined, entries, interfaces, types, worlds}
 use Rattle.wit_merge_spec.specs.TypePairs.{TypePair}
 use Rattle.wit_merge_spec.specs.United.{joined_graph}
-use Rattle.wit_merge_laws.specs.laws.MergingLaws.{NothingComes, merging}
+use Rattle.wit_merge_laws.specs.laws.MergingLaws.{NothingComes, merge_of_graphs}
 
 -- the elements of a numbered list are the list
 pub unnumbered : {X : Type 0} (n : ℕ) (xs : List X) → map (λ (e : ℕ × X). e.1) (enumerate_from n xs) ≡ xs
@@ -34,7 +34,7 @@ pub map_same : {X : Type 0} (f : X → X) (xs : List X) → Each (λ x. f x ≡ 
 map_same f [] same = refl
 map_same f (x ∷ xs) same = λ i. same 0 x refl i ∷ map_same f xs (λ k y at. same (suc k) y at) i
 
-same_lists : (g : Graph) (offset : ℕ) → joined_graph (merging g empty_graph offset) ≡ g
+same_lists : (g : Graph) (offset : ℕ) → joined_graph (merge_of_graphs g empty_graph offset) ≡ g
 same_lists g offset = λ i. record {
   types = (append-nil (map (λ e. e.1) (enumerate_from 0 g.types)) ∙ unnumbered 0 g.types) i;
   interfaces = (append-nil (map (λ e. e.1) (enumerate_from 0 g.interfaces)) ∙ unnumbered 0 g.interfaces) i;
@@ -48,7 +48,7 @@ pub valid_is_elaborated : (g : Graph) → IsValid g → all_elaborated g ≡ g
 valid_is_elaborated g valid =
     ap (λ (worlds : List World). record g { worlds = worlds }) (map_same (elaborated_world g) g.worlds (λ i world at. sym (valid.canonical i world at).world_is))
 
--- ---- nothing speaks against it
+-- ---- no cause holds against it
 
 no_pair : {X : Type 0} (found : ℕ → Option ℕ) (ours : List X) → Pair found [] ours → ⊥
 no_pair found ours p = let is = p.from_is in cc
@@ -64,25 +64,25 @@ no_cycle : (rows : List (List ℕ)) → IsAcyclic rows → (p q : ℕ) → IsOnC
 no_cycle rows acyclic p q cycle = acyclic.no_cycle p q cycle.leads_back.0 (cycle.is_used, cycle.leads_back.1)
 
 module _ (g : Graph) (offset : ℕ) (valid : IsValid g) where
-  abbrev m : Merging
-  m = merging g empty_graph offset
+  abbrev m : GraphMerge
+  m = merge_of_graphs g empty_graph offset
 
   -- what holds of the graph holds of the two as one
   abbrev so : (P : Graph → Type 0) → P g → P (joined_graph m)
   so P holds = subst P (sym (same_lists g offset)) holds
 
   none_joined : (from into : Stability) → AreJoined m from into → ⊥
-  none_joined from into (types p) = no_pair (found_type m) g.types p
-  none_joined from into (interfaces p) = no_pair (found_interface m) g.interfaces p
-  none_joined from into (worlds p) = no_pair (found_world m) g.worlds p
-  none_joined from into (entries p exported i i' one other same has has_so) = no_pair (found_world m) g.worlds p
+  none_joined from into (types p) = no_pair (counterpart_type m) g.types p
+  none_joined from into (interfaces p) = no_pair (counterpart_interface m) g.interfaces p
+  none_joined from into (worlds p) = no_pair (counterpart_world m) g.worlds p
+  none_joined from into (entries p exported i i' one other same has has_so) = no_pair (counterpart_world m) g.worlds p
 
   none_differ : (message : List ℕ) → GraphsDiffer m message → ⊥
-  none_differ message (differ.interfaces p home there name text called of at other) = no_pair (found_interface m) g.interfaces p
-  none_differ message (differ.worlds p home there exported text of at other) = no_pair (found_world m) g.worlds p
+  none_differ message (differ.interfaces p home there name text called of at other) = no_pair (counterpart_interface m) g.interfaces p
+  none_differ message (differ.worlds p home there exported text of at other) = no_pair (counterpart_world m) g.worlds p
   none_differ message (differ.types text first) = no_first first.before first.pair first.after first.pairs_are
 
-  pub nothing_speaks : CanMerge m
+  pub nothing_speaks : MergeIsAccepted m
   nothing_speaks error (conflict_4 span name one is) = so (λ h. (world : World) → Contains h.worlds world → HasConflict (graph_uses h) world.exports → ⊥) (clear g valid) is.world is.there is.conflict
   nothing_speaks error (package_cycle_6 home one is) = no_cycle (graph_package_uses (joined_graph m)) (so (λ h. IsAcyclic (graph_package_uses h)) valid.no_cycles.packages) is.p is.q is.on_cycle
   nothing_speaks error (mismatch_8 from into is) = none_joined from into is.joined

@@ -18,28 +18,28 @@ use Rattle.wit_elaboration.specs.Valid.{IsValid}
 use Rattle.wit_graph_data.specs.declared.graph.Graph.{Graph}
 use Rattle.wit_graph_theory.specs.AllElaborated.{elaborated_world}
 use Rattle.wit_graph_theory.specs.Cut.{cut_interface, kept_whole, mapped_source}
-use Rattle.wit_graph_theory.specs.facts.ElaboratedCome.{settled_interface}
+use Rattle.wit_graph_theory.specs.facts.ElaboratedCome.{interface_without_span}
 use Rattle.wit_graph_theory.specs.facts.GoodWorlds.{same_one}
 use Rattle.wit_graph_theory.specs.Image.{Maps, entry_image, identity, item_image, key_image, world_image}
 use Rattle.wit_graph_theory.specs.facts.LawsOfElaboration.{LawsOfElaboration}
 use Rattle.wit_graph_theory.specs.facts.ListFacts.{Contains-map_cases, contained_at, found_at, from_map, place_of, same_at}
-use Rattle.wit_graph_theory.specs.steps.OnePlace.{HasOnePlace, Holds, Origin, entries_of}
-use Rattle.wit_graph_theory.specs.facts.OnePlaceCarried.{HasOnePlace-of_covered, named_not, unnamed_same}
-use Rattle.wit_graph_theory.specs.facts.OnePlaceFacts.{StandOnce-from_places}
-use Rattle.wit_graph_theory.specs.facts.OnePlaceFrom.{cut_has_one_place}
+use Rattle.wit_graph_theory.specs.steps.UnnamedOnce.{Holds, Origin, StandsOnceOnly, entries_of}
+use Rattle.wit_graph_theory.specs.facts.UnnamedOnceCarried.{StandsOnceOnly-of_covered, named_not, unnamed_same}
+use Rattle.wit_graph_theory.specs.facts.UnnamedOnceFacts.{StandOnce-from_entries}
+use Rattle.wit_graph_theory.specs.facts.UnnamedOnceFrom.{cut_has_one_place}
 use Rattle.wit_graph_theory.specs.Operations.{merge_sources}
 use Rattle.wit_graph_theory.specs.facts.OptionFacts.{some_parts, some_same}
 use Rattle.wit_graph_theory.specs.steps.Sources.{InterfaceStands, Source}
 use Rattle.wit_link_spec.specs.Include.{joined_entry, joined_item}
 use Rattle.wit_merge_spec.specs.Joined.{is_under_id, joined_interface, with_world}
-use Rattle.wit_merge_spec.specs.Matches.{Merging, found_as, found_interface, found_world, partner, spots}
-use Rattle.wit_merge_spec.specs.Moved.{interface_place, merge_maps, moves_interface, world_place}
-use Rattle.wit_merge_spec.specs.Reasons.{AreOne}
+use Rattle.wit_merge_spec.specs.Matches.{GraphMerge, counterpart_interface, counterpart_interface_by, counterpart_of, counterpart_world, world_labels}
+use Rattle.wit_merge_spec.specs.Remapped.{merge_maps, merged_interface, merged_world, moves_interface}
+use Rattle.wit_merge_spec.specs.Reasons.{HasNoMismatch}
 use Rattle.wit_merge_spec.specs.United.{joined_graph, united}
-use Rattle.wit_merge_laws.specs.facts.InterfacesStand.{interface_stands, joined_keeps, moved_interface_goes, old_interface_at}
-use Rattle.wit_merge_laws.specs.facts.JoinedGood.{CanElaborate}
+use Rattle.wit_merge_laws.specs.facts.InterfacesStand.{interface_stands, joined_keeps, moved_interface_remapped, old_interface_at}
+use Rattle.wit_merge_laws.specs.facts.JoinedGood.{UnionCanElaborate}
 use Rattle.wit_merge_laws.specs.facts.ListedStand.{WorldFrom, interfaces_apart, of_graph, of_other, world_at_from}
-use Rattle.wit_merge_laws.specs.facts.MatchFacts.{SpotMatch, goes_to, no_name, spot_home, spot_match, stands_at}
+use Rattle.wit_merge_laws.specs.facts.MatchFacts.{LabelMatch, goes_to, label_home, label_match, no_name, stands_at}
 use Rattle.wit_merge_laws.specs.facts.MatchedOnce.{lists_distinct, one_place}
 use Rattle.wit_merge_laws.specs.facts.TypesStand.{matched_some}
 use Rattle.wit_merge_laws.specs.facts.UnitedWorlds.{entries_from, exported_is_named, united_covered, united_stands, used_is_named}
@@ -55,14 +55,14 @@ unnamed_cut g f = by g.interfaces f
     by (x ∷ xs) (suc i) = by xs i
 
 module _ (g : Graph) (valid : IsValid g) where
-  -- a place in what all takes part of
+  -- a place in what all is selected of
   abbrev holds_from : (m : Maps) (w : ℕ) (b : Bool) (i f : ℕ) → Holds (mapped_source g m).graph.worlds w b i f → Holds g.worlds w b i f
   holds_from m w b i f h = record { world = h.world; there = world_from g valid m w h.world h.there; entry = h.entry; at = h.at; held = h.held }
 
   -- what stands under a label stands nowhere else
-  pub spot_key : (i w v : ℕ) (b c : Bool) (j : ℕ) (world : World) (label : List ℕ) (held : WorldItem) → is_unnamed g.interfaces i ≡ true → slice_get g.worlds w ≡ Some world
+  pub world_label_key : (i w v : ℕ) (b c : Bool) (j : ℕ) (world : World) (label : List ℕ) (held : WorldItem) → is_unnamed g.interfaces i ≡ true → slice_get g.worlds w ≡ Some world
       → Contains (entries_of b world) (key.Name label, held) → item_interface held ≡ i ∷ [] → (h : Holds g.worlds v c j i) → (w ≡ v) × (key.Name label ≡ h.entry.0) × (b ≡ c)
-  spot_key i w v b c j world label held unnamed there listed is h =
+  world_label_key i w v b c j world label held unnamed there listed is h =
       let place = place_of (entries_of b world) (key.Name label, held) listed in
       let places = one_place g valid i w v b c place.0 j unnamed (record { world = world; there = there; entry = (key.Name label, held); at = place.1; held = is }) h in
       let worlds = same_at g.worlds w v world h.world places.0 there h.there in
@@ -71,7 +71,7 @@ module _ (g : Graph) (valid : IsValid g) where
       (places.0, ap (λ (e : Entry). e.0) entries, places.1)
 
 -- the places of one source
-same_origin : (s : Source) (f' w' v' : ℕ) (c d : WorldKey) → ((f e : ℕ) → s.maps.interfaces f ≡ s.maps.interfaces e → f ≡ e) → HasOnePlace s.graph.interfaces s.graph.worlds → Origin s f' w' c → Origin s f' v' d
+same_origin : (s : Source) (f' w' v' : ℕ) (c d : WorldKey) → ((f e : ℕ) → s.maps.interfaces f ≡ s.maps.interfaces e → f ≡ e) → StandsOnceOnly s.graph.interfaces s.graph.worlds → Origin s f' w' c → Origin s f' v' d
     → (w' ≡ v') × (c ≡ d)
 same_origin s f' w' v' c d injective one x y =
     let same = injective x.f y.f (sym x.place ∙ y.place) in
@@ -81,11 +81,11 @@ same_origin s f' w' v' c d injective one x y =
     let entries = same_at (entries_of y.b y.holds.world) x.i y.i x.holds.entry y.holds.entry places.2 (subst (λ (es : List Entry). slice_get es x.i ≡ Some x.holds.entry) lists x.holds.at) y.holds.at in
     (x.world_place ∙ ap s.maps.worlds places.0 ∙ sym y.world_place, x.key ∙ (λ i. key_image s.maps (places.0 i) (entries i).0) ∙ sym y.key)
 
-module _ (m : Merging) (valid : IsValid m.graph) (valid_other : IsValid m.other) where
+module _ (m : GraphMerge) (valid : IsValid m.graph) (valid_other : IsValid m.other) where
   abbrev at : ℕ → Source
   at = merge_sources m.graph m.other (merge_maps m)
 
-  one_in : (k : ℕ) → HasOnePlace (at k).graph.interfaces (at k).graph.worlds
+  one_in : (k : ℕ) → StandsOnceOnly (at k).graph.interfaces (at k).graph.worlds
   one_in zero = cut_has_one_place (kept_whole m.graph) m.graph.interfaces m.graph.worlds (one_place m.graph valid) (lists_distinct m.graph valid)
   one_in (suc k) = cut_has_one_place (kept_whole m.other) m.other.interfaces m.other.worlds (one_place m.other valid_other) (lists_distinct m.other valid_other)
 
@@ -93,40 +93,40 @@ module _ (m : Merging) (valid : IsValid m.graph) (valid_other : IsValid m.other)
   injective zero f e same = same
   injective (suc k) f e same = interfaces_apart m valid valid_other f e same
 
-  -- what the spot of a matched interface without a name says of both its places
-  pub spot_of : (i i' : ℕ) → is_unnamed m.other.interfaces i ≡ true → found_interface m i ≡ Some i' → SpotMatch m i i'
+  -- what the label of a world of a matched interface without a name says of both its places
+  pub spot_of : (i i' : ℕ) → is_unnamed m.other.interfaces i ≡ true → counterpart_interface m i ≡ Some i' → LabelMatch m i i'
   spot_of i i' unnamed found =
-      let from = some_parts (λ (interface : Interface). found_as m i interface.package interface.name) (slice_get m.other.interfaces i) i' found in
+      let from = some_parts (λ (interface : Interface). counterpart_interface_by m i interface.package interface.name) (slice_get m.other.interfaces i) i' found in
       let none = no_name m.other.interfaces i unnamed in
       let same : none.0 ≡ from.0 = some_same none.0 from.0 (sym none.1 ∙ from.1) in
-      spot_match m i i' (subst (λ (n : Option (List ℕ)). found_as m i from.0.package n ≡ Some i') (ap (λ (x : Interface). x.name) (sym same) ∙ none.2) from.2)
+      label_match m i i' (subst (λ (n : Option (List ℕ)). counterpart_interface_by m i from.0.package n ≡ Some i') (ap (λ (x : Interface). x.name) (sym same) ∙ none.2) from.2)
 
   -- where two places of different sources meet, they are of one world and one label
   meets : (f' w' v' : ℕ) (c d : WorldKey) (k : ℕ) → Origin (at zero) f' w' c → Origin (at (suc k)) f' v' d → (w' ≡ v') × (c ≡ d)
   meets f' w' v' c d k x y = elim (cases_Bool (moves_interface m y.f)) [
     | inl goes ↦
         let low : x.f < length m.graph.interfaces = ltb-true x.f (length m.graph.interfaces) x.takes in
-        let high = moved_interface_goes m y.f goes in
+        let high = moved_interface_remapped m y.f goes in
         let p = x.place in
         let q = y.place in
         absurd (omega (arith, low, high, p, q))
-    | inr stays ↦ by (matched_some (found_interface m y.f) stays)
+    | inr stays ↦ by (matched_some (counterpart_interface m y.f) stays)
   ]
     where
-      by : (i' : ℕ) × (found_interface m y.f ≡ Some i') → (w' ≡ v') × (c ≡ d)
+      by : (i' : ℕ) × (counterpart_interface m y.f ≡ Some i') → (w' ≡ v') × (c ≡ d)
       by (i', found) =
           let unnamed : is_unnamed m.other.interfaces y.f ≡ true = sym (unnamed_cut m.other y.f) ∙ y.unnamed in
-          let spot = spot_of y.f i' unnamed found in
-          let stands = stands_at m.other.worlds y.f spot.spot (Contains-from_lookup (λ a b. eqb-true a b) y.f spot.spot (spots m.other.worlds) spot.spot_is) in
-          let mine = spot_key m.other valid_other y.f spot.spot.world y.w spot.spot.exported y.b y.i stands.world spot.spot.label stands.held unnamed stands.there stands.listed stands.is
+          let world_label = spot_of y.f i' unnamed found in
+          let stands = stands_at m.other.worlds y.f world_label.world_label (Contains-from_lookup (λ a b. eqb-true a b) y.f world_label.world_label (world_labels m.other.worlds) world_label.world_label_is) in
+          let mine = world_label_key m.other valid_other y.f world_label.world_label.world y.w world_label.world_label.exported y.b y.i stands.world world_label.world_label.label stands.held unnamed stands.there stands.listed stands.is
           (holds_from m.other valid_other (merge_maps m) y.w y.b y.i y.f y.holds) in
-          let goes : f' ≡ i' = y.place ∙ goes_to (found_interface m y.f) _ i' found in
+          let goes : f' ≡ i' = y.place ∙ goes_to (counterpart_interface m y.f) _ i' found in
           let here : i' ≡ x.f = sym goes ∙ x.place in
-          let theirs = spot_key m.graph valid i' spot.w' x.w spot.spot.exported x.b x.i spot.there spot.spot.label spot.held spot.unnamed spot.there_is
-          (Contains-from_lookup same_key-true (key.Name spot.spot.label) spot.held (entries_of spot.spot.exported spot.there) spot.listed) spot.is
+          let theirs = world_label_key m.graph valid i' world_label.w' x.w world_label.world_label.exported x.b x.i world_label.there world_label.world_label.label world_label.held world_label.unnamed world_label.there_is
+          (Contains-from_lookup same_key-true (key.Name world_label.world_label.label) world_label.held (entries_of world_label.world_label.exported world_label.there) world_label.listed) world_label.is
           (subst (λ (f : ℕ). Holds m.graph.worlds x.w x.b x.i f) (sym here) (holds_from m.graph valid identity x.w x.b x.i x.f x.holds)) in
-          let label = spot.spot.label in (
-            x.world_place ∙ (sym theirs.0 ∙ (sym (goes_to (found_world m spot.spot.world) _ spot.w' spot.matched) ∙ (ap (world_place m) mine.0 ∙ sym y.world_place))),
+          let label = world_label.world_label.label in (
+            x.world_place ∙ (sym theirs.0 ∙ (sym (goes_to (counterpart_world m world_label.world_label.world) _ world_label.w' world_label.matched) ∙ (ap (merged_world m) mine.0 ∙ sym y.world_place))),
             x.key ∙ (ap (key_image identity x.w) (sym theirs.1) ∙ (ap (key_image (merge_maps m) y.w) mine.1 ∙ sym y.key)),
           )
 
@@ -181,10 +181,10 @@ module _ (g : Graph) (valid : IsValid g) where
   -- one that an entry holds is there
   held_there : (w : ℕ) (world : World) (d : Entry) (f : ℕ) → slice_get g.worlds w ≡ Some world → Contains world.imports d → item_interface d.1 ≡ f ∷ [] → (interface : Interface) × (slice_get g.interfaces f ≡ Some interface)
   held_there w world d f there has held =
-      let found = found_at (λ (interface : Interface). (interface.name ≡ None) → interface.package ≡ world.package) g.interfaces f (spot_home g valid w world false d.0 d.1 f there has held) in
+      let found = found_at (λ (interface : Interface). (interface.name ≡ None) → interface.package ≡ world.package) g.interfaces f (label_home g valid w world false d.0 d.1 f there has held) in
       (found.0, found.1)
 
-module _ (m : Merging) (valid : IsValid m.graph) (valid_other : IsValid m.other) (f' : ℕ) (unnamed : is_unnamed (joined_graph m).interfaces f' ≡ true) where
+module _ (m : GraphMerge) (valid : IsValid m.graph) (valid_other : IsValid m.other) (f' : ℕ) (unnamed : is_unnamed (joined_graph m).interfaces f' ≡ true) where
   old_side : (w' : ℕ) (old : World) → slice_get m.graph.worlds w' ≡ Some old → (d e : Entry) → Contains old.imports d → item_interface d.1 ≡ f' ∷ [] → Contains old.exports e → item_interface e.1 ≡ f' ∷ [] → ⊥
   old_side w' old there d e has held other held_so =
       let is = held_there m.graph valid w' old d f' there has held in
@@ -208,8 +208,8 @@ module _ (m : Merging) (valid : IsValid m.graph) (valid_other : IsValid m.other)
       let b = image_held (merge_maps m) w y.0.1 f' (ap (λ (z : Entry). item_interface z.1) y.2 ∙ held_so) in
       let same : b.0 ≡ a.0 = interfaces_apart m valid valid_other b.0 a.0 (sym b.2 ∙ a.2) in
       let is = held_there m.other valid_other w old x.0 a.0 there x.1 a.1 in
-      let stands = found_at (InterfaceStands (mapped_source m.other (merge_maps m)) is.0) (joined_graph m).interfaces (interface_place m a.0) (interface_stands m valid valid_other a.0 is.0 is.1) in
-      let none = unnamed_same m.other.interfaces (joined_graph m).interfaces a.0 (interface_place m a.0) is.0 stands.0 is.1 stands.1 stands.2.name in
+      let stands = found_at (InterfaceStands (mapped_source m.other (merge_maps m)) is.0) (joined_graph m).interfaces (merged_interface m a.0) (interface_stands m valid valid_other a.0 is.0 is.1) in
+      let none = unnamed_same m.other.interfaces (joined_graph m).interfaces a.0 (merged_interface m a.0) is.0 stands.0 is.1 stands.1 stands.2.name in
       both_sides m.other valid_other w old a.0 x.0 y.0 there (sym none ∙ (ap (is_unnamed (joined_graph m).interfaces) (sym a.2) ∙ unnamed)) x.1 a.1 y.1 (b.1 ∙ ap (λ (z : ℕ). z ∷ []) same)
 
   listed_side : (w' : ℕ) (listed : World) → slice_get (joined_graph m).worlds w' ≡ Some listed → (d e : Entry) → Contains listed.imports d → item_interface d.1 ≡ f' ∷ [] → Contains listed.exports e → item_interface e.1 ≡ f' ∷ [] → ⊥
@@ -217,10 +217,10 @@ module _ (m : Merging) (valid : IsValid m.graph) (valid_other : IsValid m.other)
     where
       by : WorldFrom m w' listed → ⊥
       by (of_graph old is same) =
-          joined_side w' old is (partner (found_world m) m.other.worlds w') d e (subst (λ (x : World). Contains x.imports d) (sym same) has) held (subst (λ (x : World). Contains x.exports e) (sym same) other) held_so
+          joined_side w' old is (counterpart_of (counterpart_world m) m.other.worlds w') d e (subst (λ (x : World). Contains x.imports d) (sym same) has) held (subst (λ (x : World). Contains x.exports e) (sym same) other) held_so
       by (of_other w old is moves place same) = image_side w old is d e (subst (λ (x : World). Contains x.imports d) (sym same) has) held (subst (λ (x : World). Contains x.exports e) (sym same) other) held_so
 
-module _ (laws : LawsOfElaboration) (m : Merging) (valid : IsValid m.graph) (valid_other : IsValid m.other) (one : AreOne m) (can : CanElaborate m) where
+module _ (laws : LawsOfElaboration) (m : GraphMerge) (valid : IsValid m.graph) (valid_other : IsValid m.other) (one : HasNoMismatch m) (can : UnionCanElaborate m) where
   added_named : (j f' : ℕ) → j ∷ [] ≡ f' ∷ [] → IsNamed (united m).interfaces j → is_unnamed (united m).interfaces f' ≡ true → ⊥
   added_named j f' same named unnamed = named_not (united m).interfaces j named (ap (is_unnamed (united m).interfaces) (same_one j f' same) ∙ unnamed)
 
@@ -229,7 +229,7 @@ module _ (laws : LawsOfElaboration) (m : Merging) (valid : IsValid m.graph) (val
       → Contains (elaborated_world (joined_graph m) listed).imports e → item_interface e.1 ≡ f' ∷ [] → (d : Entry) × Contains listed.imports d × (item_interface d.1 ≡ f' ∷ [])
   listed_import w' listed there f' e unnamed has held =
       elim ((entries_from laws m valid valid_other one can w' listed there e).0 has) [
-        | inl stays ↦ (stays.0, stays.1, sym (settled_interface stays.0.1) ∙ (ap (λ (d : Entry). item_interface d.1) (sym stays.2) ∙ held))
+        | inl stays ↦ (stays.0, stays.1, sym (interface_without_span stays.0.1) ∙ (ap (λ (d : Entry). item_interface d.1) (sym stays.2) ∙ held))
         | inr made ↦ absurd (added_named made.1 f' (ap (λ (d : Entry). item_interface d.1) (sym made.2) ∙ held) (used_is_named laws m valid valid_other one can w' listed there made.1 made.3) unnamed)
       ]
 
@@ -253,6 +253,6 @@ module _ (laws : LawsOfElaboration) (m : Merging) (valid : IsValid m.graph) (val
   -- interfaces without names stay apart, so each has one place
   pub stand_once : StandOnce (united m).interfaces (united m).worlds
   stand_once =
-      StandOnce-from_places (united m).interfaces (united m).worlds
-      (HasOnePlace-of_covered (at m valid valid_other) (united m) (sources_good m valid valid_other one) (united_stands laws m valid valid_other one can) (united_covered laws m valid valid_other one can)
+      StandOnce-from_entries (united m).interfaces (united m).worlds
+      (StandsOnceOnly-of_covered (at m valid valid_other) (united m) (sources_good m valid valid_other one) (united_stands laws m valid valid_other one can) (united_covered laws m valid valid_other one can)
       (record { injective = λ k f e takes other same unnamed. injective m valid valid_other k f e same; meet = meet m valid valid_other (united m); one_side = one_side }) (one_in m valid valid_other))

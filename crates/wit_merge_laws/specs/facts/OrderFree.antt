@@ -26,19 +26,19 @@ use Rattle.wit_graph_theory.specs.Image.{world_image}
 use Rattle.wit_graph_theory.specs.Kept.{everything}
 use Rattle.wit_graph_theory.specs.facts.LawsOfElaboration.{LawsOfElaboration}
 use Rattle.wit_graph_theory.specs.facts.ListFacts.{at_map, found_at, from_map, get_at, place_of, same_at, some_at}
-use Rattle.wit_graph_theory.specs.steps.OnePlace.{entries_of}
+use Rattle.wit_graph_theory.specs.steps.UnnamedOnce.{entries_of}
 use Rattle.wit_graph_theory.specs.Operations.{merge_sources}
 use Rattle.wit_graph_theory.specs.facts.OptionFacts.{some_there}
 use Rattle.wit_merge_spec.specs.Agreement.{same_sort}
-use Rattle.wit_merge_spec.specs.Matches.{Merging, found_world}
-use Rattle.wit_merge_spec.specs.Moved.{merge_maps, moves_world, world_place}
-use Rattle.wit_merge_spec.specs.Reasons.{AreOne}
+use Rattle.wit_merge_spec.specs.Matches.{GraphMerge, counterpart_world}
+use Rattle.wit_merge_spec.specs.Remapped.{merge_maps, merged_world, moves_world}
+use Rattle.wit_merge_spec.specs.Reasons.{HasNoMismatch}
 use Rattle.wit_merge_spec.specs.United.{joined_graph, united}
 use Rattle.wit_merge_laws.specs.facts.AgreementBack.{agreement_is_symmetric}
 use Rattle.wit_merge_laws.specs.facts.BothNames.{names_of_both}
 use Rattle.wit_merge_laws.specs.facts.BothOrders.{Corresponds, InBothOrders, flip, of_graph, of_other, other_way}
 use Rattle.wit_merge_laws.specs.facts.FoundBack.{interface_back as interface_back_to, world_back as world_back_to}
-use Rattle.wit_merge_laws.specs.facts.JoinedGood.{CanElaborate}
+use Rattle.wit_merge_laws.specs.facts.JoinedGood.{UnionCanElaborate}
 use Rattle.wit_merge_laws.specs.facts.LabelSorts.{SortFrom, is_same_sort, matched_sort, sort_from, sort_of, sort_of_graph, sort_of_other}
 use Rattle.wit_merge_laws.specs.facts.ListedStand.{WorldFrom, world_at_from}
 use Rattle.wit_merge_laws.specs.facts.ListedStand as worlds
@@ -46,9 +46,9 @@ use Rattle.wit_merge_laws.specs.facts.LoneWorlds.{imports_back, imports_like, li
 use Rattle.wit_merge_laws.specs.facts.MatchFacts.{goes_to, world_is}
 use Rattle.wit_merge_laws.specs.facts.MatchedOnce.{lists_distinct, one_under}
 use Rattle.wit_merge_laws.specs.facts.MatchedTypes.{alias_matched}
-use Rattle.wit_merge_laws.specs.laws.MergingLaws.{merging}
+use Rattle.wit_merge_laws.specs.laws.MergingLaws.{merge_of_graphs}
 use Rattle.wit_merge_laws.specs.laws.Names.{HasImport, HasName, IsInterface, IsWorld, Label, Name, of_export, of_label}
-use Rattle.wit_merge_laws.specs.facts.NamesGo.{Part, home_is, interface_back, interface_goes, world_back, world_goes}
+use Rattle.wit_merge_laws.specs.facts.NamesGo.{MapsInto, home_is, interface_back, interface_remapped, world_back, world_remapped}
 use Rattle.wit_merge_laws.specs.facts.NamesParts.{going_to, graph_part, other_part, staying}
 use Rattle.wit_merge_laws.specs.laws.OrderLaws.{AreAlike, HasKey, MergingIsOrderFree, StandsUnder}
 use Rattle.wit_merge_laws.specs.facts.PackagesStand.{interfaces_in_tables}
@@ -72,12 +72,12 @@ named_text g of name i is =
     ∙ (ap (λ (o : Option ℕ). unwrap_or (option_map (λ (q : ℕ). id_text g.packages q name) o) []) found.2.1
     ∙ (ap (λ (o : Option Package). option_map_or (λ (p : Package). id_text_in p.name name) o []) home.1 ∙ ap (λ (n : PackageName). id_text_in n name) home.2)))
 
-module _ (laws : LawsOfElaboration) (g h : Graph) (offset back : ℕ) (both : InBothOrders g h offset back) (elaborates : CanElaborate (merging g h offset)) (elaborates_back : CanElaborate (merging h g back)) where
-  abbrev m : Merging
-  m = merging g h offset
+module _ (laws : LawsOfElaboration) (g h : Graph) (offset back : ℕ) (both : InBothOrders g h offset back) (elaborates : UnionCanElaborate (merge_of_graphs g h offset)) (elaborates_back : UnionCanElaborate (merge_of_graphs h g back)) where
+  abbrev m : GraphMerge
+  m = merge_of_graphs g h offset
 
-  abbrev n : Merging
-  n = merging h g back
+  abbrev n : GraphMerge
+  n = merge_of_graphs h g back
 
   abbrev there : Graph
   there = united m
@@ -85,16 +85,16 @@ module _ (laws : LawsOfElaboration) (g h : Graph) (offset back : ℕ) (both : In
   abbrev here : Graph
   here = united n
 
-  abbrev graph_there : Part g there staying
+  abbrev graph_there : MapsInto g there staying
   graph_there = graph_part laws m both.valid both.valid_other both.one elaborates
 
-  abbrev other_there : Part h there (going_to m)
+  abbrev other_there : MapsInto h there (going_to m)
   other_there = other_part laws m both.valid both.valid_other both.one elaborates
 
-  abbrev other_here : Part h here staying
+  abbrev other_here : MapsInto h here staying
   other_here = graph_part laws n both.valid_other both.valid both.one_back elaborates_back
 
-  abbrev graph_here : Part g here (going_to n)
+  abbrev graph_here : MapsInto g here (going_to n)
   graph_here = other_part laws n both.valid_other both.valid both.one_back elaborates_back
 
   -- ---- names
@@ -107,10 +107,10 @@ module _ (laws : LawsOfElaboration) (g h : Graph) (offset back : ℕ) (both : In
   like_named : (i j : ℕ) → Corresponds g h offset back i j → (of : PackageName) (name : List ℕ) → IsInterface there of name i → IsInterface here of name j
   like_named i j (of_graph within place) of name is =
       let old = get_at g.interfaces i within in
-      subst (IsInterface here of name) (sym place) (interface_goes g here (going_to n) graph_here of name i (interface_back g there staying graph_there both.valid of name i old.0 old.1 is))
+      subst (IsInterface here of name) (sym place) (interface_remapped g here (going_to n) graph_here of name i (interface_back g there staying graph_there both.valid of name i old.0 old.1 is))
   like_named i j (of_other within place) of name is =
       let old = get_at h.interfaces j within in
-      interface_goes h here staying other_here of name j (interface_back h there (going_to m) other_there both.valid_other of name j old.0 old.1 (subst (IsInterface there of name) place is))
+      interface_remapped h here staying other_here of name j (interface_back h there (going_to m) other_there both.valid_other of name j old.0 old.1 (subst (IsInterface there of name) place is))
 
   -- ---- imports
 
@@ -132,14 +132,14 @@ module _ (laws : LawsOfElaboration) (g h : Graph) (offset back : ℕ) (both : In
               let now : listed ≡ old = sym same ∙ stays_so laws g h offset back both elaborates elaborates_back w' old at moves in
               let like = imports_like laws g h offset back both elaborates elaborates_back w' old at moves i (subst (λ (x : World). Contains (keyed_interfaces (elaborated_world (joined_graph m) x).imports) i) now imported) in
               let image = world_image (merge_maps n) w' old in
-              let by = imports_it here (world_place n w') (elaborated_world (joined_graph n) image) like.0
-              (at_map (elaborated_world (joined_graph n)) (joined_graph n).worlds (world_place n w') image (listed_here laws g h offset back both elaborates elaborates_back w' old at moves)) like.2 in
-              (world_place n w', like.0, by.held, world_goes g here (going_to n) graph_here home world w' is_mine, like_named i like.0 like.1 of name is_interface, by.has)
+              let by = imports_it here (merged_world n w') (elaborated_world (joined_graph n) image) like.0
+              (at_map (elaborated_world (joined_graph n)) (joined_graph n).worlds (merged_world n w') image (listed_here laws g h offset back both elaborates elaborates_back w' old at moves)) like.2 in
+              (merged_world n w', like.0, by.held, world_remapped g here (going_to n) graph_here home world w' is_mine, like_named i like.0 like.1 of name is_interface, by.has)
           | inr stays ↦
-              let some = matched_some (found_world n w') stays in
+              let some = matched_some (counterpart_world n w') stays in
               let is = world_is n both.valid_other w' some.0 some.1 in
-              let place : world_place n w' ≡ some.0 = goes_to (found_world n w') _ some.0 some.1 in
-              let goes = subst (IsWorld here home world) place (world_goes g here (going_to n) graph_here home world w' is_mine) in
+              let place : merged_world n w' ≡ some.0 = goes_to (counterpart_world n w') _ some.0 some.1 in
+              let goes = subst (IsWorld here home world) place (world_remapped g here (going_to n) graph_here home world w' is_mine) in
               shared w' some.0 is_mine (world_back h here staying other_here both.valid_other home world some.0 is.into is.into_is goes) has
         ]
     import_goes w' i listed is_world is_interface has imported (worlds.of_other v old at moves place same) =
@@ -148,7 +148,7 @@ module _ (laws : LawsOfElaboration) (g h : Graph) (offset back : ℕ) (both : In
         let like = imports_back laws h g back offset back_so elaborates_back elaborates v old at moves i (subst (λ (x : World). Contains (keyed_interfaces (elaborated_world (joined_graph m) x).imports) i) (sym same) imported) in
         let by = imports_it here v (elaborated_world (joined_graph n) old) like.0
         (at_map (elaborated_world (joined_graph n)) (joined_graph n).worlds v old (listed_there laws h g back offset back_so elaborates_back elaborates v old at moves)) like.2 in
-        (v, like.0, by.held, world_goes h here staying other_here home world v is_theirs, like_named i like.0 (flip h g back offset like.0 i like.1) of name is_interface, by.has)
+        (v, like.0, by.held, world_remapped h here staying other_here home world v is_theirs, like_named i like.0 (flip h g back offset like.0 i like.1) of name is_interface, by.has)
 
     imports_go : HasImport there home world of name → HasImport here home world of name
     imports_go has =
@@ -190,25 +190,25 @@ module _ (laws : LawsOfElaboration) (g h : Graph) (offset back : ℕ) (both : In
         },
       )
 
-  key_goes : (home : PackageName) (world : List ℕ) (exported : Bool) (text : List ℕ) (w : ℕ) → IsWorld there home world w → (k : WorldKey) (held : WorldItem) → SomeAt there.worlds w (λ (x : World). Contains (entries_of exported x) (entry k held))
+  key_remapped : (home : PackageName) (world : List ℕ) (exported : Bool) (text : List ℕ) (w : ℕ) → IsWorld there home world w → (k : WorldKey) (held : WorldItem) → SomeAt there.worlds w (λ (x : World). Contains (entries_of exported x) (entry k held))
       → key_text there.packages there.interfaces k ≡ text → HasKey here home world exported text
-  key_goes home world exported text w is (key.Name label) held stands text_is =
+  key_remapped home world exported text w is (key.Name label) held stands text_is =
       let l : Label = record { home = home; world = world; exported = exported; label = label } in
       let goes = names_go (of_label l) (w, held, is, stands) in
       record { w = goes.0; of = goes.2; entry = entry (key.Name label) goes.1; listed = goes.3; text_is = text_is }
-  key_goes home world true text w is (key.Interface i) held stands text_is =
+  key_remapped home world true text w is (key.Interface i) held stands text_is =
       let at = found_at (λ (x : World). Contains x.exports (entry (key.Interface i) held)) there.worlds w stands in
       let named = interface_named i (key_named w true at.0 i held at.1 at.2) in
       let goes = names_go (of_export home world named.0 named.1) (w, i, held, is, named.2, stands) in
       record { w = goes.0; of = goes.3; entry = entry (key.Interface goes.1) goes.2; listed = goes.5; text_is = named_text here named.0 named.1 goes.1 goes.4 ∙ (sym (named_text there named.0 named.1 i named.2) ∙ text_is) }
-  key_goes home world false text w is (key.Interface i) held stands text_is =
+  key_remapped home world false text w is (key.Interface i) held stands text_is =
       let at = found_at (λ (x : World). Contains x.imports (entry (key.Interface i) held)) there.worlds w stands in
       let named = interface_named i (key_named w false at.0 i held at.1 at.2) in
       let goes = imports_go home named.0 world named.1 (w, i, held, is, named.2, stands) in
       record { w = goes.0; of = goes.3; entry = entry (key.Interface goes.1) goes.2; listed = goes.5; text_is = named_text here named.0 named.1 goes.1 goes.4 ∙ (sym (named_text there named.0 named.1 i named.2) ∙ text_is) }
 
   keys_go : (home : PackageName) (world : List ℕ) (exported : Bool) (text : List ℕ) → HasKey there home world exported text → HasKey here home world exported text
-  keys_go home world exported text has = key_goes home world exported text has.w has.of has.entry.0 has.entry.1 has.listed has.text_is
+  keys_go home world exported text has = key_remapped home world exported text has.w has.of has.entry.0 has.entry.1 has.listed has.text_is
 
   -- ---- sorts
 
@@ -223,16 +223,16 @@ module _ (laws : LawsOfElaboration) (g h : Graph) (offset back : ℕ) (both : In
     from_g : (old : World) → slice_get g.worlds w ≡ Some old → IsWorld g l.home l.world w
     from_g old at = world_back g there staying graph_there both.valid l.home l.world w old at is
 
-    from_h : (x : ℕ) (old : World) → slice_get h.worlds x ≡ Some old → w ≡ world_place m x → IsWorld h l.home l.world x
+    from_h : (x : ℕ) (old : World) → slice_get h.worlds x ≡ Some old → w ≡ merged_world m x → IsWorld h l.home l.world x
     from_h x old at place = world_back h there (going_to m) other_there both.valid_other l.home l.world x old at (subst (IsWorld there l.home l.world) place is)
 
     back_h : (old : World) → slice_get h.worlds v ≡ Some old → IsWorld h l.home l.world v
     back_h old at = world_back h here staying other_here both.valid_other l.home l.world v old at is_so
 
-    back_g : (x : ℕ) (old : World) → slice_get g.worlds x ≡ Some old → v ≡ world_place n x → IsWorld g l.home l.world x
+    back_g : (x : ℕ) (old : World) → slice_get g.worlds x ≡ Some old → v ≡ merged_world n x → IsWorld g l.home l.world x
     back_g x old at place = world_back g here (going_to n) graph_here both.valid l.home l.world x old at (subst (IsWorld here l.home l.world) place is_so)
 
-    found_so : (x y : ℕ) → IsWorld g l.home l.world x → IsWorld h l.home l.world y → (old : World) → slice_get g.worlds x ≡ Some old → found_world m y ≡ Some x
+    found_so : (x y : ℕ) → IsWorld g l.home l.world x → IsWorld h l.home l.world y → (old : World) → slice_get g.worlds x ≡ Some old → counterpart_world m y ≡ Some x
     found_so x y mine theirs old at = matched laws m both.valid both.valid_other both.one elaborates l.home l.home l.world l.world y x mine theirs old at
 
     one_sort : SortFrom laws m both.valid both.valid_other both.one elaborates w l.exported l.label held → SortFrom laws n both.valid_other both.valid both.one_back elaborates_back v l.exported l.label held' → sort_of held ≡ sort_of held'
@@ -244,7 +244,7 @@ module _ (laws : LawsOfElaboration) (g h : Graph) (offset back : ℕ) (both : In
     one_sort (sort_of_other x old d at moves place has sort) (sort_of_graph old' d' at' has' sort') =
         sym sort ∙ (ap sort_of (one_label h both.valid_other l.home l.world x v (from_h x old at place) (back_h old' at') old old' at at' l.exported l.label d d' has has') ∙ sort')
     one_sort (sort_of_other x old d at moves place has sort) (sort_of_other y old' d' at' moves' place' has' sort') =
-        absurd (unmatched_moves (found_world m x) y moves (found_so y x (back_g y old' at' place') (from_h x old at place) old' at'))
+        absurd (unmatched_moves (counterpart_world m x) y moves (found_so y x (back_g y old' at' place') (from_h x old at place) old' at'))
 
   sorts_same : (l : Label) (held held' : WorldItem) → StandsUnder there l held → StandsUnder here l held' → same_sort held held' ≡ true
   sorts_same l held held' first second =
@@ -253,7 +253,7 @@ module _ (laws : LawsOfElaboration) (g h : Graph) (offset back : ℕ) (both : In
 
 -- ---- the two unions are alike
 
-alike : LawsOfElaboration → (g h : Graph) (offset back : ℕ) → InBothOrders g h offset back → CanElaborate (merging g h offset) → CanElaborate (merging h g back) → AreAlike (united (merging g h offset)) (united (merging h g back))
+alike : LawsOfElaboration → (g h : Graph) (offset back : ℕ) → InBothOrders g h offset back → UnionCanElaborate (merge_of_graphs g h offset) → UnionCanElaborate (merge_of_graphs h g back) → AreAlike (united (merge_of_graphs g h offset)) (united (merge_of_graphs h g back))
 alike laws g h offset back both elaborates elaborates_back =
     let other_way_so = other_way g h offset back both in
     record {
@@ -267,7 +267,7 @@ alike laws g h offset back both elaborates elaborates_back =
 
 -- ---- where they agree one way
 
-in_both_orders : (g h : Graph) (offset back : ℕ) → IsValid g → IsValid h → AreOne (merging g h offset) → InBothOrders g h offset back
+in_both_orders : (g h : Graph) (offset back : ℕ) → IsValid g → IsValid h → HasNoMismatch (merge_of_graphs g h offset) → InBothOrders g h offset back
 in_both_orders g h offset back valid valid_other one =
     let one_back = agreement_is_symmetric g h offset back valid valid_other one in
     record {
@@ -279,8 +279,8 @@ in_both_orders g h offset back valid valid_other one =
       interface_there = interface_back_to h g back offset valid_other valid;
       world_back = world_back_to g h offset back valid valid_other;
       world_there = world_back_to h g back offset valid_other valid;
-      aliases = alias_matched (merging g h offset) valid valid_other one;
-      aliases_back = alias_matched (merging h g back) valid_other valid one_back;
+      aliases = alias_matched (merge_of_graphs g h offset) valid valid_other one;
+      aliases_back = alias_matched (merge_of_graphs h g back) valid_other valid one_back;
     }
 
 pub merging_is_order_free : LawsOfElaboration → MergingIsOrderFree

@@ -31,17 +31,17 @@ use Rattle.wit_graph_theory.specs.facts.LawsOfElaboration.{LawsOfElaboration}
 use Rattle.wit_graph_theory.specs.facts.ListFacts.{at_map, found_at, place_of, same_at, some_at}
 use Rattle.wit_graph_theory.specs.facts.OptionFacts.{some_same}
 use Rattle.wit_merge_spec.specs.Joined.{joined_world}
-use Rattle.wit_merge_spec.specs.Matches.{Merging, found_world}
-use Rattle.wit_merge_spec.specs.Moved.{interface_place, moves_world, world_place}
-use Rattle.wit_merge_spec.specs.Reasons.{AreOne}
+use Rattle.wit_merge_spec.specs.Matches.{GraphMerge, counterpart_world}
+use Rattle.wit_merge_spec.specs.Remapped.{merged_interface, merged_world, moves_world}
+use Rattle.wit_merge_spec.specs.Reasons.{HasNoMismatch}
 use Rattle.wit_merge_spec.specs.United.{joined_graph, united}
-use Rattle.wit_merge_laws.specs.facts.JoinedGood.{CanElaborate, in_order, listed_imports}
-use Rattle.wit_merge_laws.specs.facts.ListedStand.{moved_world_goes, old_world_at}
+use Rattle.wit_merge_laws.specs.facts.JoinedGood.{UnionCanElaborate, in_order, listed_imports}
+use Rattle.wit_merge_laws.specs.facts.ListedStand.{moved_world_remapped, old_world_at}
 use Rattle.wit_merge_laws.specs.facts.MatchFacts.{goes_to}
 use Rattle.wit_merge_laws.specs.facts.MatchedOnce.{has_some, one_under}
 use Rattle.wit_merge_laws.specs.laws.MergingLaws.{SharedWorldsKeepImports}
 use Rattle.wit_merge_laws.specs.laws.Names.{HasImport, HasName, IsInterface, IsPackage, IsWorld, of_world}
-use Rattle.wit_merge_laws.specs.facts.NamesGo.{Part, interface_back, interface_goes, world_goes}
+use Rattle.wit_merge_laws.specs.facts.NamesGo.{MapsInto, interface_back, interface_remapped, world_remapped}
 use Rattle.wit_merge_laws.specs.facts.NamesParts.{going_to, graph_part, other_part, staying}
 use Rattle.wit_merge_laws.specs.facts.NoCycles.{are_one, can_elaborate}
 use Rattle.wit_merge_laws.specs.facts.PackagesStand.{good_names, good_tables}
@@ -126,14 +126,14 @@ imported_by g w world i held there has =
     let same = same_at g.worlds w w found.0 world refl found.1 there in
     key_in world.imports i held (subst (λ (x : World). Contains x.imports (entry (key.Interface i) held)) same found.2)
 
-module _ (laws : LawsOfElaboration) (m : Merging) (valid : IsValid m.graph) (valid_other : IsValid m.other) (one : AreOne m) (elaborates : CanElaborate m) where
+module _ (laws : LawsOfElaboration) (m : GraphMerge) (valid : IsValid m.graph) (valid_other : IsValid m.other) (one : HasNoMismatch m) (elaborates : UnionCanElaborate m) where
   abbrev g : Graph
   g = joined_graph m
 
-  abbrev mine : Part m.graph (united m) staying
+  abbrev mine : MapsInto m.graph (united m) staying
   mine = graph_part laws m valid valid_other one elaborates
 
-  abbrev theirs : Part m.other (united m) (going_to m)
+  abbrev theirs : MapsInto m.other (united m) (going_to m)
   theirs = other_part laws m valid valid_other one elaborates
 
   united_apart : TellApart (united m)
@@ -143,21 +143,21 @@ module _ (laws : LawsOfElaboration) (m : Merging) (valid : IsValid m.graph) (val
 
   module _ (home of : PackageName) (world name : List ℕ) (w w' : ℕ) (is_mine : IsWorld m.graph home world w') (is_theirs : IsWorld m.other home world w) where
     -- worlds of one name are matched
-    pub matched : (into : World) → slice_get m.graph.worlds w' ≡ Some into → found_world m w ≡ Some w'
+    pub matched : (into : World) → slice_get m.graph.worlds w' ≡ Some into → counterpart_world m w ≡ Some w'
     matched into into_there =
-        let here = world_goes m.graph (united m) staying mine home world w' is_mine in
-        let there = world_goes m.other (united m) (going_to m) theirs home world w is_theirs in
-        let same = worlds_unique (united m) united_apart home world (world_place m w) w' there here in
+        let here = world_remapped m.graph (united m) staying mine home world w' is_mine in
+        let there = world_remapped m.other (united m) (going_to m) theirs home world w is_theirs in
+        let same = worlds_unique (united m) united_apart home world (merged_world m w) w' there here in
         elim (cases_Bool (moves_world m w)) [
           | inl goes ↦
-              let next = moved_world_goes m w goes in
+              let next = moved_world_remapped m w goes in
               let within = slice_get_within m.graph.worlds w' into into_there in
               absurd (omega (arith, next, within, same))
-          | inr stays ↦ let some = matched_some (found_world m w) stays in some.1 ∙ ap (λ (x : ℕ). Some x) (sym (goes_to (found_world m w) _ some.0 some.1) ∙ same)
+          | inr stays ↦ let some = matched_some (counterpart_world m w) stays in some.1 ∙ ap (λ (x : ℕ). Some x) (sym (goes_to (counterpart_world m w) _ some.0 some.1) ∙ same)
         ]
 
     module _ (into old : World) (into_there : slice_get m.graph.worlds w' ≡ Some into) (there : slice_get m.other.worlds w ≡ Some old) where
-      abbrev found : found_world m w ≡ Some w'
+      abbrev found : counterpart_world m w ≡ Some w'
       found = matched into into_there
 
       abbrev listed : World
@@ -183,7 +183,7 @@ module _ (laws : LawsOfElaboration) (m : Merging) (valid : IsValid m.graph) (val
       from_other (v, i, held, is_world, is_interface, has) =
           let same = world_unique m.other valid_other home world v w is_world is_theirs in
           let imported = imported_by m.other w old i held there (subst (λ (x : ℕ). SomeAt m.other.worlds x (λ (y : World). Contains y.imports (entry (key.Interface i) held))) same has) in
-          in_graph (interface_place m i) (import_into laws.least m valid valid_other one w w' old into there found into_there i imported) (interface_goes m.other (united m) (going_to m) theirs of name i is_interface)
+          in_graph (merged_interface m i) (import_into laws.least m valid valid_other one w w' old into there found into_there i imported) (interface_remapped m.other (united m) (going_to m) theirs of name i is_interface)
 
       into_other : HasImport m.graph home world of name → HasImport m.other home world of name
       into_other (v, i, held, is_world, is_interface, has) =
@@ -192,12 +192,12 @@ module _ (laws : LawsOfElaboration) (m : Merging) (valid : IsValid m.graph) (val
           let from = import_from laws.least m valid valid_other one w w' old into there found into_there i imported in
           let by = imports_it m.other w old from.0 there from.2 in
           let at = imported_there m.other valid_other w old from.0 there from.2 in
-          let placed = subst (IsInterface (united m) of name) from.1 (interface_goes m.graph (united m) staying mine of name i is_interface) in
+          let placed = subst (IsInterface (united m) of name) from.1 (interface_remapped m.graph (united m) staying mine of name i is_interface) in
           (w, from.0, by.held, is_theirs, interface_back m.other (united m) (going_to m) theirs valid_other of name from.0 at.0 at.1 placed, by.has)
 
       from_united : HasImport (united m) home world of name → HasImport m.graph home world of name
       from_united (v, i, held, is_world, is_interface, has) =
-          let same = worlds_unique (united m) united_apart home world v w' is_world (world_goes m.graph (united m) staying mine home world w' is_mine) in
+          let same = worlds_unique (united m) united_apart home world v w' is_world (world_remapped m.graph (united m) staying mine home world w' is_mine) in
           let imported = imported_by (united m) w' done i held done_at (subst (λ (x : ℕ). SomeAt (united m).worlds x (λ (y : World). Contains y.imports (entry (key.Interface i) held))) same has) in
           let all = (laws.least g.types (graph_uses g) listed done elaborates.acyclic (in_order m valid valid_other one w' listed listed_at) (is_elaborated laws m valid valid_other one elaborates w' listed listed_at)).1
           (λ j. list_any (nat_eq j) (keyed_interfaces into.imports)) (holds_test laws.least m valid valid_other one w w' old into there found into_there) in
@@ -215,14 +215,14 @@ module _ (laws : LawsOfElaboration) (m : Merging) (valid : IsValid m.graph) (val
           let root = Contains-flat_map (λ (e : Entry). roots_of (graph_uses g) e.0 (role_of g.types e.1)) listed.imports (entry (key.Interface i) now.0) i now.1 (key_root g.types (graph_uses g) now.0 i is) in
           let holds = (laws.least g.types (graph_uses g) listed done elaborates.acyclic (in_order m valid valid_other one w' listed listed_at) (is_elaborated laws m valid valid_other one elaborates w' listed listed_at)).0 in
           let by = imports_it (united m) w' done i done_at (holds.roots i root) in
-          (w', i, by.held, world_goes m.graph (united m) staying mine home world w' is_mine, interface_goes m.graph (united m) staying mine of name i is_interface, by.has)
+          (w', i, by.held, world_remapped m.graph (united m) staying mine home world w' is_mine, interface_remapped m.graph (united m) staying mine of name i is_interface, by.has)
 
 -- so where the two agree and can be elaborated as one
-abbrev pub KeepSharedImports : Merging → Type 0
+abbrev pub KeepSharedImports : GraphMerge → Type 0
 KeepSharedImports m = (home of : PackageName) (world name : List ℕ) → HasName m.graph (of_world home world) → HasName m.other (of_world home world)
     → (HasImport (united m) home world of name ↔ HasImport m.graph home world of name) × (HasImport m.other home world of name ↔ HasImport m.graph home world of name)
 
-pub imports_of_both : LawsOfElaboration → (m : Merging) → IsValid m.graph → IsValid m.other → AreOne m → CanElaborate m → KeepSharedImports m
+pub imports_of_both : LawsOfElaboration → (m : GraphMerge) → IsValid m.graph → IsValid m.other → HasNoMismatch m → UnionCanElaborate m → KeepSharedImports m
 imports_of_both laws m valid valid_other one can home of world name (w', is_mine) (w, is_theirs) =
     let into = found_at (λ (x : World). (x.name ≡ world) × (x.package ≡ Some is_mine.p)) m.graph.worlds w' is_mine.is in
     let old = found_at (λ (x : World). (x.name ≡ world) × (x.package ≡ Some is_theirs.p)) m.other.worlds w is_theirs.is in (

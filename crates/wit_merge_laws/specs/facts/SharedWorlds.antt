@@ -32,21 +32,21 @@ use Rattle.wit_graph_theory.specs.facts.EntryFacts.{export_uses, import_uses, in
 use Rattle.wit_graph_theory.specs.facts.EntryFacts as entries
 use Rattle.wit_graph_theory.specs.facts.GoodWorlds.{same_one}
 use Rattle.wit_graph_theory.specs.facts.ListFacts.{Contains-map_cases, found_at, place_of}
-use Rattle.wit_graph_theory.specs.steps.OnePlace.{entries_of}
+use Rattle.wit_graph_theory.specs.steps.UnnamedOnce.{entries_of}
 use Rattle.wit_graph_theory.specs.laws.PackageCycles.{ListsKey}
 use Rattle.wit_link_spec.specs.Include.{joined_entry, joined_item}
 use Rattle.wit_merge_spec.specs.Agreement.{same_sort}
 use Rattle.wit_merge_spec.specs.Joined.{joined_world, with_world}
-use Rattle.wit_merge_spec.specs.Matches.{Merging, found_key, found_world, partner}
-use Rattle.wit_merge_spec.specs.Moved.{interface_place}
-use Rattle.wit_merge_spec.specs.Reasons.{AreOne}
+use Rattle.wit_merge_spec.specs.Matches.{GraphMerge, counterpart_key, counterpart_of, counterpart_world}
+use Rattle.wit_merge_spec.specs.Remapped.{merged_interface}
+use Rattle.wit_merge_spec.specs.Reasons.{HasNoMismatch}
 use Rattle.wit_merge_spec.specs.United.{joined_graph}
 use Rattle.wit_merge_laws.specs.facts.ListedStand.{interfaces_apart}
 use Rattle.wit_merge_laws.specs.facts.MatchedEntries.{covered}
 use Rattle.wit_merge_laws.specs.facts.MatchedOnce.{lists_distinct, one_under}
 use Rattle.wit_merge_laws.specs.facts.NamesParts.{item_matched}
 use Rattle.wit_merge_laws.specs.facts.UsesFrom.{old_needs, use_from}
-use Rattle.wit_merge_laws.specs.facts.UsesListed.{held_one, key_goes, key_in, one_held, partner_lists_key, world_keeps_entries}
+use Rattle.wit_merge_laws.specs.facts.UsesListed.{counterpart_lists_key, held_one, key_in, key_remapped, one_held, world_keeps_entries}
 use Rattle.wit_merge_laws.specs.facts.WorldsStand.{entry, entry_there}
 
 -- ---- items
@@ -80,8 +80,8 @@ entry_before brought d t span = by (lookup (same_key d.0) brought)
     by None is = is
     by (Some from) is = type_before from d.1 t span is
 
-type_import : (m : Merging) (e : ℕ × World) (k : WorldKey) (t : ℕ) (span : _) → Contains (joined_world m e).imports (entry k (item.Type_ t span)) → Contains e.1.imports (entry k (item.Type_ t span))
-type_import m e k t span = by (partner (found_world m) m.other.worlds e.0)
+type_import : (m : GraphMerge) (e : ℕ × World) (k : WorldKey) (t : ℕ) (span : _) → Contains (joined_world m e).imports (entry k (item.Type_ t span)) → Contains e.1.imports (entry k (item.Type_ t span))
+type_import m e k t span = by (counterpart_of (counterpart_world m) m.other.worlds e.0)
   where
     came : (brought : List Entry) (d : Entry) → Contains e.1.imports d → joined_entry false brought d ≡ entry k (item.Type_ t span) → Contains e.1.imports (entry k (item.Type_ t span))
     came brought d has same =
@@ -128,56 +128,56 @@ module _ (least : ImportsAreLeast) (h : Graph) (valid : IsValid h) (w : ℕ) (wo
 
 -- ---- matched worlds
 
-module _ (least : ImportsAreLeast) (m : Merging) (valid : IsValid m.graph) (valid_other : IsValid m.other) (one : AreOne m) where
+module _ (least : ImportsAreLeast) (m : GraphMerge) (valid : IsValid m.graph) (valid_other : IsValid m.other) (one : HasNoMismatch m) where
   abbrev g : Graph
   g = joined_graph m
 
   abbrev uses : List (List ℕ)
   uses = graph_uses g
 
-  module _ (w w' : ℕ) (old into : World) (there : slice_get m.other.worlds w ≡ Some old) (found : found_world m w ≡ Some w') (into_there : slice_get m.graph.worlds w' ≡ Some into) where
+  module _ (w w' : ℕ) (old into : World) (there : slice_get m.other.worlds w ≡ Some old) (found : counterpart_world m w ≡ Some w') (into_there : slice_get m.graph.worlds w' ≡ Some into) where
     -- where an interface at the place of one stands, that one stands there
-    stands_too : (exported : Bool) (e : Entry) (i : ℕ) → Contains (entries_of exported into) e → item_interface e.1 ≡ interface_place m i ∷ [] → (d : Entry) × Contains (entries_of exported old) d × (item_interface d.1 ≡ i ∷ [])
+    stands_too : (exported : Bool) (e : Entry) (i : ℕ) → Contains (entries_of exported into) e → item_interface e.1 ≡ merged_interface m i ∷ [] → (d : Entry) × Contains (entries_of exported old) d × (item_interface d.1 ≡ i ∷ [])
     stands_too exported e i has is =
         let from = covered m valid valid_other one w w' old into there found into_there exported e has in
         let here = entry_there m valid valid_other one w w' old into there found into_there exported from.0.0 from.0.1 from.1 in
         let same_key_is : here.k' ≡ e.0 = some_key here.k' e.0 (sym here.key_is ∙ from.2) in
         let under = subst (λ (k : WorldKey). Contains (entries_of exported into) (entry k here.here)) same_key_is (Contains-from_lookup same_key-true here.k' here.here (entries_of exported into) here.looked) in
         let same : here.here ≡ e.1 = one_under (entries_of exported into) (lists_distinct m.graph valid w' exported into into_there) e.0 here.here e.1 under has in
-        let is_there : item_interface here.here ≡ interface_place m i ∷ [] = ap item_interface same ∙ is in
-        let sort = interface_sort from.0.1 here.here (interface_place m i) here.same is_there in
+        let is_there : item_interface here.here ≡ merged_interface m i ∷ [] = ap item_interface same ∙ is in
+        let sort = interface_sort from.0.1 here.here (merged_interface m i) here.same is_there in
         let goes_there = item_matched m from.0.1 here.here here.same here.agrees sort.0 sort.1 in
-        let back : sort.0 ≡ i = interfaces_apart m valid valid_other sort.0 i (same_one (interface_place m sort.0) (interface_place m i) (sym goes_there ∙ is_there)) in
+        let back : sort.0 ≡ i = interfaces_apart m valid valid_other sort.0 i (same_one (merged_interface m sort.0) (merged_interface m i) (sym goes_there ∙ is_there)) in
         (from.0, from.1, sort.1 ∙ ap (λ (x : ℕ). x ∷ []) back)
       where
         some_key : (a b : WorldKey) → Some a ≡ Some b → a ≡ b
         some_key a b same = cc
 
     -- what the other world imports, this one imports at its place; and the other way
-    pub import_into : (j : ℕ) → Contains (keyed_interfaces old.imports) j → Contains (keyed_interfaces into.imports) (interface_place m j)
+    pub import_into : (j : ℕ) → Contains (keyed_interfaces old.imports) j → Contains (keyed_interfaces into.imports) (merged_interface m j)
     import_into j has =
         let e = key_entry old.imports j has in
         let listed = subst (λ (k : WorldKey). Contains old.imports (entry k e.0.1)) e.2 e.1 in
         let here = entry_there m valid valid_other one w w' old into there found into_there false (key.Interface j) e.0.1 listed in
-        key_in into.imports (interface_place m j) here.here
-        (subst (λ (k : WorldKey). Contains into.imports (entry k here.here)) (key_goes m j here.k' here.key_is) (Contains-from_lookup same_key-true here.k' here.here into.imports here.looked))
+        key_in into.imports (merged_interface m j) here.here
+        (subst (λ (k : WorldKey). Contains into.imports (entry k here.here)) (key_remapped m j here.k' here.key_is) (Contains-from_lookup same_key-true here.k' here.here into.imports here.looked))
 
-    pub import_from : (i : ℕ) → Contains (keyed_interfaces into.imports) i → (j : ℕ) × (i ≡ interface_place m j) × Contains (keyed_interfaces old.imports) j
+    pub import_from : (i : ℕ) → Contains (keyed_interfaces into.imports) i → (j : ℕ) × (i ≡ merged_interface m j) × Contains (keyed_interfaces old.imports) j
     import_from i has =
         let e = key_entry into.imports i has in
         let from = covered m valid valid_other one w w' old into there found into_there false e.0 e.1 in
         by from.0.0 (from.2 ∙ ap (λ (k : WorldKey). Some k) e.2) from.0.1 from.1
       where
-        by : (k : WorldKey) → found_key m k ≡ Some (key.Interface i) → (held : WorldItem) → Contains old.imports (entry k held) → (j : ℕ) × (i ≡ interface_place m j) × Contains (keyed_interfaces old.imports) j
+        by : (k : WorldKey) → counterpart_key m k ≡ Some (key.Interface i) → (held : WorldItem) → Contains old.imports (entry k held) → (j : ℕ) × (i ≡ merged_interface m j) × Contains (keyed_interfaces old.imports) j
         by (key.Name label) is held has = cc
-        by (key.Interface j) is held has = (j, one_key (key_goes m j (key.Interface i) is), key_in old.imports j held has)
+        by (key.Interface j) is held has = (j, one_key (key_remapped m j (key.Interface i) is), key_in old.imports j held has)
           where
             one_key : {a b : ℕ} → key.Interface a ≡ key.Interface b → a ≡ b
             one_key same = cc
 
-    side_into : (exported : Bool) (j : ℕ) → SideLists exported old j → SideLists exported into (interface_place m j)
+    side_into : (exported : Bool) (j : ℕ) → SideLists exported old j → SideLists exported into (merged_interface m j)
     side_into false j lists = import_into j lists
-    side_into true j lists = partner_lists_key m valid valid_other one w w' old into j there found into_there lists
+    side_into true j lists = counterpart_lists_key m valid valid_other one w w' old into j there found into_there lists
 
     -- what an entry uses in the two as one the world lists
     used : (exported : Bool) (e : Entry) (i j : ℕ) → Contains (entries_of exported into) e → item_interface e.1 ≡ i ∷ [] → Contains (direct uses i) j → SideLists exported into j

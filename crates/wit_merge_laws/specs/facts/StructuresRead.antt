@@ -8,7 +8,7 @@ use Rattle.std.proofs.lemmas.List.Elements.{All-contains}
 use Rattle.std.proofs.lemmas.Option.{slice_get_within}
 use Rattle.wit_digraph.specs.facts.MemberFacts.{Contains-cons_cases, Contains-here, Contains-nil, Contains-there}
 use Rattle.wit_digraph.specs.Relation.{IsAcyclic, direct}
-use Rattle.wit_digraph.specs.facts.WalkFacts.{uses_ind}
+use Rattle.wit_digraph.specs.facts.PostOrderFacts.{uses_ind}
 use Rattle.wit_data.specs.Reference.{named_option, type_references}
 use Rattle.wit_data.specs.facts.ReferenceFacts.{length-references, references_at}
 use Rattle.wit_data.specs.declared.types.Handle.TheVariants as handle
@@ -288,11 +288,11 @@ module _ (others ours : List TypeDef) (found back : ℕ → Option ℕ) (acyclic
         | inr there ↦ let rest = parts_alike ps ps' steps.1 (later p p' ps ps' told) first.1 q there in (rest.0, Contains-there p rest.0 ps rest.1, rest.2)
       ]
 
-  pub record AreAlike (k l : TypeDefKind) : Type 0 where
+  pub record KindsAreAlike (k l : TypeDefKind) : Type 0 where
     pub same : variant_of k ≡ variant_of l
     pub parts : (p' : Part) → Contains (parts_of l) p' → IsLike (parts_of k) p'
 
-  pub kinds_alike : (t t' : ℕ) (def def' : TypeDef) → slice_get others t ≡ Some def → slice_get ours t' ≡ Some def' → mine t ≡ theirs t' → AreAlike def.kind def'.kind
+  pub kinds_alike : (t t' : ℕ) (def def' : TypeDef) → slice_get others t ≡ Some def → slice_get ours t' ≡ Some def' → mine t ≡ theirs t' → KindsAreAlike def.kind def'.kind
   kinds_alike t t' def def' at at' same =
       let within = slice_get_within others t def at in
       let within' = slice_get_within ours t' def' at' in

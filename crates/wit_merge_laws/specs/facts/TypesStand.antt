@@ -27,14 +27,14 @@ use Rattle.wit_graph_theory.specs.Operations.{merge_sources}
 use Rattle.wit_graph_theory.specs.facts.PackagesAcyclic.{length-numbered, numbered_from, numbered_into}
 use Rattle.wit_graph_theory.specs.facts.Referred.{RefersUnder}
 use Rattle.wit_graph_theory.specs.steps.Sources.{IsCarriedType, IsOwnOf, Source, Stands}
-use Rattle.wit_link_spec.specs.facts.RankFacts.{taken-at, taken_places-at, taken_places-from}
-use Rattle.wit_link_spec.specs.Ranks.{rank, taken_places}
+use Rattle.wit_link_spec.specs.facts.RankFacts.{selected-at, selected_with_index-at, selected_with_index-from}
+use Rattle.wit_link_spec.specs.Ranks.{rank, selected_with_index}
 use Rattle.wit_link_spec.specs.Resources.{leads_to_resource, own_of}
 use Rattle.wit_link_laws.specs.facts.LeadFacts.{filtered_range, leads_nowhere}
 use Rattle.wit_graph_theory.specs.facts.ReferredFacts.{plain_image}
 use Rattle.wit_merge_spec.specs.Joined.{joined_type, with_type}
-use Rattle.wit_merge_spec.specs.Matches.{Merging, found_type, partner}
-use Rattle.wit_merge_spec.specs.Moved.{added_owns, merge_maps, moved_types, moves_type, needs_own, plain_maps, plain_types, positions, type_place, value_place}
+use Rattle.wit_merge_spec.specs.Matches.{GraphMerge, counterpart_of, counterpart_type}
+use Rattle.wit_merge_spec.specs.Remapped.{merge_maps, merge_maps_without_owns, merge_types_without_owns, merged_type, merged_value, merged_value_needs_own, moved_types, moves_type, owns_of_merge, positions}
 use Rattle.wit_merge_spec.specs.United.{joined_graph}
 use Rattle.wit_merge_laws.specs.facts.MatchFacts.{goes_to, type_is}
 
@@ -58,8 +58,8 @@ pub record KeepsType (def new : TypeDef) : Type 0 where
   pub kind : new.kind ≡ def.kind
   pub owner : new.owner ≡ def.owner
 
-pub joined_keeps : (m : Merging) (e : ℕ × TypeDef) → KeepsType e.1 (joined_type m e)
-joined_keeps m e = by (partner (found_type m) m.other.types e.0)
+pub joined_keeps : (m : GraphMerge) (e : ℕ × TypeDef) → KeepsType e.1 (joined_type m e)
+joined_keeps m e = by (counterpart_of (counterpart_type m) m.other.types e.0)
   where
     by : (o : Option (ℕ × TypeDef)) → KeepsType e.1 (option_map_or (λ (p : ℕ × TypeDef). with_type p.1 e.1) o e.1)
     by None = record { name = refl; kind = refl; owner = refl }
@@ -78,7 +78,7 @@ carried_so s g old def new keeps carried = record {
 
 -- ---- where types stand
 
-module _ (m : Merging) where
+module _ (m : GraphMerge) where
   abbrev pub old_types : List TypeDef
   old_types = map (joined_type m) (enumerate_from 0 m.graph.types)
 
@@ -92,63 +92,63 @@ module _ (m : Merging) where
   pub old_type_at : (t : ℕ) (def : TypeDef) → slice_get m.graph.types t ≡ Some def → slice_get (joined_graph m).types t ≡ Some (joined_type m (t, def))
   old_type_at t def at =
       let place : 0 + t ≡ t = omega arith in
-      slice_get-append old_types (images ++ added_owns m) t (joined_type m (t, def))
+      slice_get-append old_types (images ++ owns_of_merge m) t (joined_type m (t, def))
       (at_map (joined_type m) (enumerate_from 0 m.graph.types) t (t, def) (numbered_into 0 m.graph.types t def at ∙ ap (λ (n : ℕ). Some (n, def)) place))
 
-  pub moved_type_goes : (t : ℕ) → moves_type m t ≡ true → type_place m t ≡ length m.graph.types + rank (moves_type m) t
-  moved_type_goes t moves = moved_next (found_type m t) _ moves
+  pub moved_type_remapped : (t : ℕ) → moves_type m t ≡ true → merged_type m t ≡ length m.graph.types + rank (moves_type m) t
+  moved_type_remapped t moves = moved_next (counterpart_type m t) _ moves
 
   -- one that moves stands at the next place, as its image
-  pub new_type_at : (t : ℕ) (def : TypeDef) → slice_get m.other.types t ≡ Some def → moves_type m t ≡ true → slice_get (joined_graph m).types (type_place m t) ≡ Some (type_image (merge_maps m) def)
+  pub new_type_at : (t : ℕ) (def : TypeDef) → slice_get m.other.types t ≡ Some def → moves_type m t ≡ true → slice_get (joined_graph m).types (merged_type m t) ≡ Some (type_image (merge_maps m) def)
   new_type_at t def at moves =
-      let goes = moved_type_goes t moves in
+      let goes = moved_type_remapped t moves in
       let long = long_old in
-      at_new old_types (images ++ added_owns m) (rank (moves_type m) t) (type_place m t) (type_image (merge_maps m) def) (omega (arith, goes, long))
-      (slice_get-append images (added_owns m) (rank (moves_type m) t) (type_image (merge_maps m) def)
-      (at_map (type_image (merge_maps m)) (moved_types m) (rank (moves_type m) t) def (taken-at (moves_type m) m.other.types t def at moves)))
+      at_new old_types (images ++ owns_of_merge m) (rank (moves_type m) t) (merged_type m t) (type_image (merge_maps m) def) (omega (arith, goes, long))
+      (slice_get-append images (owns_of_merge m) (rank (moves_type m) t) (type_image (merge_maps m) def)
+      (at_map (type_image (merge_maps m)) (moved_types m) (rank (moves_type m) t) def (selected-at (moves_type m) m.other.types t def at moves)))
 
   -- the `own` of a type that needs one stands behind those
-  pub own_at : (t : ℕ) (def : TypeDef) → slice_get m.other.types t ≡ Some def → needs_own m t ≡ true → slice_get (joined_graph m).types (value_place m t) ≡ Some (own_of (type_place m t))
+  pub own_at : (t : ℕ) (def : TypeDef) → slice_get m.other.types t ≡ Some def → merged_value_needs_own m t ≡ true → slice_get (joined_graph m).types (merged_value m t) ≡ Some (own_of (merged_type m t))
   own_at t def at needs =
-      let goes : value_place m t ≡ length m.graph.types + length (moved_types m) + rank (needs_own m) t =
-      ap (λ (b : Bool). if b then length m.graph.types + length (moved_types m) + rank (needs_own m) t else type_place m t) needs in
+      let goes : merged_value m t ≡ length m.graph.types + length (moved_types m) + rank (merged_value_needs_own m) t =
+      ap (λ (b : Bool). if b then length m.graph.types + length (moved_types m) + rank (merged_value_needs_own m) t else merged_type m t) needs in
       let long = long_old in
       let many : length images ≡ length (moved_types m) = length-map (moved_types m) (type_image (merge_maps m)) in
-      let listed : slice_get (filter (needs_own m) (range_with_len 0 (length m.other.types))) (rank (needs_own m) t) ≡ Some t =
-      ap (λ (l : List ℕ). slice_get l (rank (needs_own m) t)) (filtered_range (needs_own m) m.other.types 0)
-      ∙ at_map (λ (e : ℕ × TypeDef). e.0) (taken_places (needs_own m) m.other.types) (rank (needs_own m) t) (t, def) (taken_places-at (needs_own m) m.other.types t def at needs) in
-      at_new old_types (images ++ added_owns m) (length (moved_types m) + rank (needs_own m) t) (value_place m t) (own_of (type_place m t)) (omega (arith, goes, long))
-      (at_new images (added_owns m) (rank (needs_own m) t) (length (moved_types m) + rank (needs_own m) t) (own_of (type_place m t)) (omega (arith, many))
-      (at_map (λ (t : ℕ). own_of (type_place m t)) (filter (needs_own m) (range_with_len 0 (length m.other.types))) (rank (needs_own m) t) t listed))
+      let listed : slice_get (filter (merged_value_needs_own m) (range_with_len 0 (length m.other.types))) (rank (merged_value_needs_own m) t) ≡ Some t =
+      ap (λ (l : List ℕ). slice_get l (rank (merged_value_needs_own m) t)) (filtered_range (merged_value_needs_own m) m.other.types 0)
+      ∙ at_map (λ (e : ℕ × TypeDef). e.0) (selected_with_index (merged_value_needs_own m) m.other.types) (rank (merged_value_needs_own m) t) (t, def) (selected_with_index-at (merged_value_needs_own m) m.other.types t def at needs) in
+      at_new old_types (images ++ owns_of_merge m) (length (moved_types m) + rank (merged_value_needs_own m) t) (merged_value m t) (own_of (merged_type m t)) (omega (arith, goes, long))
+      (at_new images (owns_of_merge m) (rank (merged_value_needs_own m) t) (length (moved_types m) + rank (merged_value_needs_own m) t) (own_of (merged_type m t)) (omega (arith, many))
+      (at_map (λ (t : ℕ). own_of (merged_type m t)) (filter (merged_value_needs_own m) (range_with_len 0 (length m.other.types))) (rank (merged_value_needs_own m) t) t listed))
 
   -- what stands there is one of these
   pub data TypeFrom (t' : ℕ) (new : TypeDef) : Type 0 where
     of_graph : (old : TypeDef) → slice_get m.graph.types t' ≡ Some old → joined_type m (t', old) ≡ new → TypeFrom t' new
-    of_other : (t : ℕ) (old : TypeDef) → slice_get m.other.types t ≡ Some old → moves_type m t ≡ true → t' ≡ type_place m t → type_image (merge_maps m) old ≡ new → TypeFrom t' new
-    an_own : (t : ℕ) → t < length m.other.types → own_of (type_place m t) ≡ new → TypeFrom t' new
+    of_other : (t : ℕ) (old : TypeDef) → slice_get m.other.types t ≡ Some old → moves_type m t ≡ true → t' ≡ merged_type m t → type_image (merge_maps m) old ≡ new → TypeFrom t' new
+    an_own : (t : ℕ) → t < length m.other.types → own_of (merged_type m t) ≡ new → TypeFrom t' new
 
-  own_from : (t' k : ℕ) (new : TypeDef) → slice_get (added_owns m) k ≡ Some new → TypeFrom t' new
+  own_from : (t' k : ℕ) (new : TypeDef) → slice_get (owns_of_merge m) k ≡ Some new → TypeFrom t' new
   own_from t' k new at =
-      let from = from_map (λ (t : ℕ). own_of (type_place m t)) (filter (needs_own m) (range_with_len 0 (length m.other.types))) k new at in
-      let listed : slice_get (map (λ (e : ℕ × TypeDef). e.0) (taken_places (needs_own m) m.other.types)) k ≡ Some from.0 = ap (λ (l : List ℕ). slice_get l k) (sym (filtered_range (needs_own m) m.other.types 0)) ∙ from.1 in
-      let e = from_map (λ (e : ℕ × TypeDef). e.0) (taken_places (needs_own m) m.other.types) k from.0 listed in
-      let is = taken_places-from (needs_own m) m.other.types k e.0 e.1 in
+      let from = from_map (λ (t : ℕ). own_of (merged_type m t)) (filter (merged_value_needs_own m) (range_with_len 0 (length m.other.types))) k new at in
+      let listed : slice_get (map (λ (e : ℕ × TypeDef). e.0) (selected_with_index (merged_value_needs_own m) m.other.types)) k ≡ Some from.0 = ap (λ (l : List ℕ). slice_get l k) (sym (filtered_range (merged_value_needs_own m) m.other.types 0)) ∙ from.1 in
+      let e = from_map (λ (e : ℕ × TypeDef). e.0) (selected_with_index (merged_value_needs_own m) m.other.types) k from.0 listed in
+      let is = selected_with_index-from (merged_value_needs_own m) m.other.types k e.0 e.1 in
       an_own from.0 (slice_get_within m.other.types from.0 e.0.1 (ap (slice_get m.other.types) (sym e.2) ∙ is.0)) from.2
 
   pub type_at_from : (t' : ℕ) (new : TypeDef) → slice_get (joined_graph m).types t' ≡ Some new → TypeFrom t' new
   type_at_from t' new at =
-      elim (old_or_new old_types (images ++ added_owns m) t' new at) [
+      elim (old_or_new old_types (images ++ owns_of_merge m) t' new at) [
         | inl old ↦
             let from = from_map (joined_type m) (enumerate_from 0 m.graph.types) t' new old in
             let is = numbered_from 0 m.graph.types t' from.0 from.1 in
             let place : from.0.0 ≡ t' = let n = is.0 in omega (arith, n) in
             of_graph from.0.1 is.1 (ap (λ (k : ℕ). joined_type m (k, from.0.1)) (sym place) ∙ from.2)
-        | inr behind ↦ elim (old_or_new images (added_owns m) behind.0 new behind.2) [
+        | inr behind ↦ elim (old_or_new images (owns_of_merge m) behind.0 new behind.2) [
           | inl image ↦
               let from = from_map (type_image (merge_maps m)) (moved_types m) behind.0 new image in
-              let taken_from = from_map (λ (e : ℕ × TypeDef). e.1) (taken_places (moves_type m) m.other.types) behind.0 from.0 from.1 in
-              let is = taken_places-from (moves_type m) m.other.types behind.0 taken_from.0 taken_from.1 in
-              let goes = moved_type_goes taken_from.0.0 is.1 in
+              let taken_from = from_map (λ (e : ℕ × TypeDef). e.1) (selected_with_index (moves_type m) m.other.types) behind.0 from.0 from.1 in
+              let is = selected_with_index-from (moves_type m) m.other.types behind.0 taken_from.0 taken_from.1 in
+              let goes = moved_type_remapped taken_from.0.0 is.1 in
               let long = long_old in
               let n = behind.1 in
               let r = is.2 in
@@ -159,12 +159,12 @@ module _ (m : Merging) where
 
 -- ---- they stand, and come of the two
 
-module _ (m : Merging) (valid : IsValid m.graph) (valid_other : IsValid m.other) where
+module _ (m : GraphMerge) (valid : IsValid m.graph) (valid_other : IsValid m.other) where
   -- each type of the other graph stands at its place
-  pub type_stands : (t : ℕ) (def : TypeDef) → slice_get m.other.types t ≡ Some def → SomeAt (joined_graph m).types (type_place m t) (Stands (merge_maps m) def)
+  pub type_stands : (t : ℕ) (def : TypeDef) → slice_get m.other.types t ≡ Some def → SomeAt (joined_graph m).types (merged_type m t) (Stands (merge_maps m) def)
   type_stands t def at = elim (cases_Bool (moves_type m t)) [
-    | inl moves ↦ some_at (Stands (merge_maps m) def) (joined_graph m).types (type_place m t) (type_image (merge_maps m) def) (new_type_at m t def at moves) (image_stands (merge_maps m) def)
-    | inr stays ↦ matched (matched_some (found_type m t) stays)
+    | inl moves ↦ some_at (Stands (merge_maps m) def) (joined_graph m).types (merged_type m t) (type_image (merge_maps m) def) (new_type_at m t def at moves) (image_stands (merge_maps m) def)
+    | inr stays ↦ matched (matched_some (counterpart_type m t) stays)
   ]
     where
       called : (by : TypeOwner) (name : Option (List ℕ)) → option_map (name_image (merge_maps m) by) name ≡ name
@@ -173,23 +173,23 @@ module _ (m : Merging) (valid : IsValid m.graph) (valid_other : IsValid m.other)
       called (owner.Interface i) (Some n) = refl
       called owner.None (Some n) = refl
 
-      matched : (t' : ℕ) × (found_type m t ≡ Some t') → SomeAt (joined_graph m).types (type_place m t) (Stands (merge_maps m) def)
+      matched : (t' : ℕ) × (counterpart_type m t ≡ Some t') → SomeAt (joined_graph m).types (merged_type m t) (Stands (merge_maps m) def)
       matched (t', found) =
           let is = type_is m valid t t' found in
           let same : is.from ≡ def = let first = is.from_is in cc in
           let keeps = joined_keeps m (t', is.into) in
-          let there : slice_get (joined_graph m).types (type_place m t) ≡ Some (joined_type m (t', is.into)) = ap (slice_get (joined_graph m).types) (goes_to (found_type m t) _ t' found) ∙ old_type_at m t' is.into is.into_is in
-          some_at (Stands (merge_maps m) def) (joined_graph m).types (type_place m t) (joined_type m (t', is.into)) there (record {
+          let there : slice_get (joined_graph m).types (merged_type m t) ≡ Some (joined_type m (t', is.into)) = ap (slice_get (joined_graph m).types) (goes_to (counterpart_type m t) _ t' found) ∙ old_type_at m t' is.into is.into_is in
+          some_at (Stands (merge_maps m) def) (joined_graph m).types (merged_type m t) (joined_type m (t', is.into)) there (record {
             name = keeps.name ∙ (is.called_so ∙ (sym is.called ∙ (ap (λ (d : TypeDef). d.name) same ∙ sym (called def.owner def.name))));
             owner = keeps.owner ∙ (is.owner_is ∙ ap (λ (d : TypeDef). owner_image (merge_maps m) d.owner) same);
             through = λ none. let named = is.called in let here = ap (λ (d : TypeDef). d.name) same in cc;
           })
 
   -- a type that leads to a resource has a name
-  leads_named : (t : ℕ) (def : TypeDef) → slice_get m.other.types t ≡ Some def → leads_to_resource (plain_types m) (type_place m t) ≡ true → IsSome def.name
+  leads_named : (t : ℕ) (def : TypeDef) → slice_get m.other.types t ≡ Some def → leads_to_resource (merge_types_without_owns m) (merged_type m t) ≡ true → IsSome def.name
   leads_named t def at leads = elim (cases_Bool (moves_type m t)) [
     | inr stays ↦
-        let found = matched_some (found_type m t) stays in
+        let found = matched_some (counterpart_type m t) stays in
         let is = type_is m valid t found.0 found.1 in
         let same : is.from ≡ def = let first = is.from_is in cc in
         subst (λ (o : Option (List ℕ)). IsSome o) (sym (sym (ap (λ (d : TypeDef). d.name) same) ∙ is.called)) refl
@@ -199,22 +199,22 @@ module _ (m : Merging) (valid : IsValid m.graph) (valid_other : IsValid m.other)
       by : (o : Option (List ℕ)) → def.name ≡ o → moves_type m t ≡ true → IsSome def.name
       by (Some n) called moves = subst (λ (o : Option (List ℕ)). IsSome o) (sym called) refl
       by None called moves =
-          let there : slice_get (plain_types m) (type_place m t) ≡ Some (type_image (plain_maps m) def) =
-          at_new m.graph.types (map (type_image (plain_maps m)) (moved_types m)) (rank (moves_type m) t) (type_place m t) (type_image (plain_maps m) def) (moved_type_goes m t moves)
-          (at_map (type_image (plain_maps m)) (moved_types m) (rank (moves_type m) t) def (taken-at (moves_type m) m.other.types t def at moves)) in
+          let there : slice_get (merge_types_without_owns m) (merged_type m t) ≡ Some (type_image (merge_maps_without_owns m) def) =
+          at_new m.graph.types (map (type_image (merge_maps_without_owns m)) (moved_types m)) (rank (moves_type m) t) (merged_type m t) (type_image (merge_maps_without_owns m) def) (moved_type_remapped m t moves)
+          (at_map (type_image (merge_maps_without_owns m)) (moved_types m) (rank (moves_type m) t) def (selected-at (moves_type m) m.other.types t def at moves)) in
           absurd
           (false≢true
-          (sym (leads_nowhere (plain_types m) (type_place m t) (type_image (plain_maps m) def) there (plain_image (plain_maps m) def.kind (valid_other.well_formed.references.unnamed t def at called))) ∙ leads))
+          (sym (leads_nowhere (merge_types_without_owns m) (merged_type m t) (type_image (merge_maps_without_owns m) def) there (plain_image (merge_maps_without_owns m) def.kind (valid_other.well_formed.references.unnamed t def at called))) ∙ leads))
 
   -- and where a value of it goes is that place or, of a named type, an `own` of it
-  pub values_stand : (t : ℕ) (def : TypeDef) → slice_get m.other.types t ≡ Some def → (value_place m t ≡ type_place m t) ⊎ (IsSome def.name × IsOwnOf (joined_graph m).types (value_place m t) (type_place m t))
-  values_stand t def at = elim (cases_Bool (needs_own m t)) [
+  pub values_stand : (t : ℕ) (def : TypeDef) → slice_get m.other.types t ≡ Some def → (merged_value m t ≡ merged_type m t) ⊎ (IsSome def.name × IsOwnOf (joined_graph m).types (merged_value m t) (merged_type m t))
+  values_stand t def at = elim (cases_Bool (merged_value_needs_own m t)) [
     | inl needs ↦
         inr (
-          leads_named t def at (and_parts (list_any (nat_eq t) (positions m)) (leads_to_resource (plain_types m) (type_place m t)) needs).1,
-          some_at (λ (there : TypeDef). (there.name ≡ None) × (there.owner ≡ owner.None) × (there.kind ≡ kind.Handle (Own (type_place m t)))) (joined_graph m).types (value_place m t) (own_of (type_place m t)) (own_at m t def at needs) (refl, refl, refl),
+          leads_named t def at (and_parts (list_any (nat_eq t) (positions m)) (leads_to_resource (merge_types_without_owns m) (merged_type m t)) needs).1,
+          some_at (λ (there : TypeDef). (there.name ≡ None) × (there.owner ≡ owner.None) × (there.kind ≡ kind.Handle (Own (merged_type m t)))) (joined_graph m).types (merged_value m t) (own_of (merged_type m t)) (own_at m t def at needs) (refl, refl, refl),
         )
-    | inr plain ↦ inl (ap (λ (b : Bool). if b then length m.graph.types + length (moved_types m) + rank (needs_own m) t else type_place m t) plain)
+    | inr plain ↦ inl (ap (λ (b : Bool). if b then length m.graph.types + length (moved_types m) + rank (merged_value_needs_own m) t else merged_type m t) plain)
   ]
 
   -- each type of the two graphs as one comes of a type of one of them, or is an `own`

@@ -17,7 +17,7 @@ use Rattle.wit_elaboration.specs.Elaborated.{Elaborated}
 use Rattle.wit_elaboration.specs.Elaboration.{graph_uses}
 use Rattle.wit_elaboration.specs.Entries.{by_class, key_interface}
 use Rattle.wit_elaboration.specs.Imported.{exported_keys}
-use Rattle.wit_elaboration.specs.laws.KeptByElaboration.{IsMadeExport, IsMadeImport, IsSettled, IsUsed, is_label, labelled, settled}
+use Rattle.wit_elaboration.specs.laws.KeptByElaboration.{IsListedWithoutSpan, IsMadeExport, IsMadeImport, IsUsed, is_label, labelled, listed_without_span}
 use Rattle.wit_elaboration.specs.Sound.{HasSoundEntries}
 use Rattle.wit_elaboration.specs.Valid.{IsValid}
 use Rattle.wit_graph_data.specs.declared.graph.Graph.{Graph}
@@ -30,12 +30,12 @@ use Rattle.wit_graph_theory.specs.facts.ListFacts.{Contains-map, at_map, contain
 use Rattle.wit_graph_theory.specs.facts.NamedUses.{IsUsed_named}
 use Rattle.wit_graph_theory.specs.Operations.{merge_sources}
 use Rattle.wit_graph_theory.specs.steps.Sources.{Carries, Source, WorldStands}
-use Rattle.wit_merge_spec.specs.Matches.{Merging}
-use Rattle.wit_merge_spec.specs.Moved.{merge_maps}
-use Rattle.wit_merge_spec.specs.Reasons.{AreOne}
+use Rattle.wit_merge_spec.specs.Matches.{GraphMerge}
+use Rattle.wit_merge_spec.specs.Remapped.{merge_maps}
+use Rattle.wit_merge_spec.specs.Reasons.{HasNoMismatch}
 use Rattle.wit_merge_spec.specs.United.{joined_graph, united}
 use Rattle.wit_merge_laws.specs.facts.InterfacesStand as interfaces
-use Rattle.wit_merge_laws.specs.facts.JoinedGood.{CanElaborate, aliases, in_order, listed_exports}
+use Rattle.wit_merge_laws.specs.facts.JoinedGood.{UnionCanElaborate, aliases, in_order, listed_exports}
 use Rattle.wit_merge_laws.specs.facts.ListedStand.{worlds_come}
 use Rattle.wit_merge_laws.specs.facts.TypesStand as types
 use Rattle.wit_merge_laws.specs.facts.WorldsStand.{entry, joined_stands, listed_by, lists_it}
@@ -50,7 +50,7 @@ named_key interfaces (key.Interface f) (item.Interface i stability docs span ext
 named_key interfaces (key.Interface f) (item.Function fn) j has is = absurd is
 named_key interfaces (key.Interface f) (item.Type_ t span) j has is = absurd is
 
-module _ (laws : LawsOfElaboration) (m : Merging) (valid : IsValid m.graph) (valid_other : IsValid m.other) (one : AreOne m) (can : CanElaborate m) where
+module _ (laws : LawsOfElaboration) (m : GraphMerge) (valid : IsValid m.graph) (valid_other : IsValid m.other) (one : HasNoMismatch m) (can : UnionCanElaborate m) where
   abbrev g : Graph
   g = joined_graph m
 
@@ -73,8 +73,8 @@ module _ (laws : LawsOfElaboration) (m : Merging) (valid : IsValid m.graph) (val
         let sorted = in_by_class g.types listed.imports e by.has in
         let under : Contains (labelled (by_class g.types listed.imports)) e = Contains-filtered (λ (d : Entry). is_label d.0) (by_class g.types listed.imports) e sorted refl in
         let stays = laws.labels g.types (graph_uses g) listed done can.acyclic order (worlds_come m valid valid_other w' listed there).distinct_imports is_elaborated in
-        let among : Contains (labelled done.imports) (settled e) = subst (λ (es : List Entry). Contains es (settled e)) (sym stays) (Contains-map settled (labelled (by_class g.types listed.imports)) e under) in
-        lists_it done name t by.span (Contains-filter (λ (d : Entry). is_label d.0) done.imports (settled e) among).0
+        let among : Contains (labelled done.imports) (listed_without_span e) = subst (λ (es : List Entry). Contains es (listed_without_span e)) (sym stays) (Contains-map listed_without_span (labelled (by_class g.types listed.imports)) e under) in
+        lists_it done name t by.span (Contains-filter (λ (d : Entry). is_label d.0) done.imports (listed_without_span e) among).0
 
     -- what elaboration adds has a name
     pub used_is_named : (j : ℕ) → IsUsed g.types (graph_uses g) listed.imports j → IsNamed g.interfaces j
@@ -87,7 +87,7 @@ module _ (laws : LawsOfElaboration) (m : Merging) (valid : IsValid m.graph) (val
         named_key g.interfaces from.0.0 from.0.1 j from.1.1 (listed_exports m valid valid_other one w' listed there place.0 from.0 place.1)
 
     -- an entry was listed, or is added
-    pub entries_from : (e : Entry) → (Contains (elaborated_world g listed).imports e → IsSettled listed.imports e ⊎ IsMadeImport g.types (graph_uses g) listed.imports listed.exports e)
+    pub entries_from : (e : Entry) → (Contains (elaborated_world g listed).imports e → IsListedWithoutSpan listed.imports e ⊎ IsMadeImport g.types (graph_uses g) listed.imports listed.exports e)
         × (Contains (elaborated_world g listed).exports e → Contains listed.exports e ⊎ IsMadeExport listed.exports e)
     entries_from e = laws.entries g.types (graph_uses g) listed (elaborated_world g listed) e can.acyclic order is_elaborated
 

@@ -20,16 +20,16 @@ use Rattle.wit_graph_theory.specs.steps.Sources.{Stands}
 use Rattle.wit_graph_theory.specs.facts.UsesAcyclic.{other_from}
 use Rattle.wit_link_spec.specs.Resources.{own_of}
 use Rattle.wit_merge_spec.specs.Joined.{joined_type}
-use Rattle.wit_merge_spec.specs.Matches.{Merging}
-use Rattle.wit_merge_spec.specs.Moved.{interface_place, merge_maps, type_place}
-use Rattle.wit_merge_spec.specs.Reasons.{AreOne}
+use Rattle.wit_merge_spec.specs.Matches.{GraphMerge}
+use Rattle.wit_merge_spec.specs.Remapped.{merge_maps, merged_interface, merged_type}
+use Rattle.wit_merge_spec.specs.Reasons.{HasNoMismatch}
 use Rattle.wit_merge_spec.specs.United.{joined_graph}
 use Rattle.wit_merge_laws.specs.facts.JoinedGood.{joined_good}
 use Rattle.wit_merge_laws.specs.facts.TypesStand.{TypeFrom, an_own, joined_keeps, of_graph, of_other, old_type_at, type_at_from, type_stands}
 
 -- ---- images of names and owners
 
-owner_from : (m : Merging) (by : TypeOwner) (f' : ℕ) → owner_image (merge_maps m) by ≡ owner.Interface f' → (i : ℕ) × (by ≡ owner.Interface i) × (f' ≡ interface_place m i)
+owner_from : (m : GraphMerge) (by : TypeOwner) (f' : ℕ) → owner_image (merge_maps m) by ≡ owner.Interface f' → (i : ℕ) × (by ≡ owner.Interface i) × (f' ≡ merged_interface m i)
 owner_from m (owner.Interface i) f' is = (i, refl, place is)
   where
     place : {a b : ℕ} → owner.Interface a ≡ owner.Interface b → b ≡ a
@@ -37,7 +37,7 @@ owner_from m (owner.Interface i) f' is = (i, refl, place is)
 owner_from m (owner.World w) f' is = cc
 owner_from m owner.None f' is = cc
 
-name_from : (m : Merging) (by : TypeOwner) (o : Option (List ℕ)) (name : List ℕ) → option_map (name_image (merge_maps m) by) o ≡ Some name → o ≡ Some name
+name_from : (m : GraphMerge) (by : TypeOwner) (o : Option (List ℕ)) (name : List ℕ) → option_map (name_image (merge_maps m) by) o ≡ Some name → o ≡ Some name
 name_from m by None name is = cc
 name_from m (owner.World w) (Some n) name is = is
 name_from m (owner.Interface i) (Some n) name is = is
@@ -68,7 +68,7 @@ target_there g valid t def u at names =
     let found = found_at (λ (named : TypeDef). IsSome named.name × _) g.types u (from_if (IsAliased g.types g.interfaces def.owner) (alias_target def.kind) u (valid.well_formed.references.aliases t def at) names) in
     (found.0, found.1)
 
-module _ (m : Merging) (valid : IsValid m.graph) (valid_other : IsValid m.other) (one : AreOne m) where
+module _ (m : GraphMerge) (valid : IsValid m.graph) (valid_other : IsValid m.other) (one : HasNoMismatch m) where
   abbrev g : Graph
   g = joined_graph m
 
@@ -76,8 +76,8 @@ module _ (m : Merging) (valid : IsValid m.graph) (valid_other : IsValid m.other)
   pub record UseOfOther (f' j' : ℕ) : Type 0 where
     pub i : ℕ
     pub j : ℕ
-    pub place : f' ≡ interface_place m i
-    pub used_place : j' ≡ interface_place m j
+    pub place : f' ≡ merged_interface m i
+    pub used_place : j' ≡ merged_interface m j
     pub used : Contains (direct (graph_uses m.other) i) j
 
   -- what a type of the graph needs in the two as one it needed
@@ -111,13 +111,13 @@ module _ (m : Merging) (valid : IsValid m.graph) (valid_other : IsValid m.other)
     new_use : (t : ℕ) (old : TypeDef) → slice_get m.other.types t ≡ Some old → type_image (merge_maps m) old ≡ needs.alias → UseOfOther f' j'
     new_use t old is same =
         let by = owner_from m old.owner f' (ap (λ (d : TypeDef). d.owner) same ∙ by_is) in
-        let target = from_mapped (type_place m) (alias_target old.kind) needs.target (sym (alias_image (merge_maps m) old.kind) ∙ (ap (λ (d : TypeDef). alias_target d.kind) same ∙ needs.names)) in
+        let target = from_mapped (merged_type m) (alias_target old.kind) needs.target (sym (alias_image (merge_maps m) old.kind) ∙ (ap (λ (d : TypeDef). alias_target d.kind) same ∙ needs.names)) in
         let named = target_there m.other valid_other t old target.0 is target.1 in
-        let stands = found_at (Stands (merge_maps m) named.0) g.types (type_place m target.0) (type_stands m valid valid_other target.0 named.0 named.1) in
-        let same_named = same_at g.types (type_place m target.0) needs.target stands.0 needs.named (sym target.2) stands.1 needs.target_there in
-        let mine : needs.alias.owner ≡ owner.Interface (interface_place m by.0) = by_is ∙ ap (λ (x : ℕ). owner.Interface x) by.2 in
+        let stands = found_at (Stands (merge_maps m) named.0) g.types (merged_type m target.0) (type_stands m valid valid_other target.0 named.0 named.1) in
+        let same_named = same_at g.types (merged_type m target.0) needs.target stands.0 needs.named (sym target.2) stands.1 needs.target_there in
+        let mine : needs.alias.owner ≡ owner.Interface (merged_interface m by.0) = by_is ∙ ap (λ (x : ℕ). owner.Interface x) by.2 in
         let theirs : needs.named.owner ≡ owner_image (merge_maps m) named.0.owner = ap (λ (d : TypeDef). d.owner) (sym same_named) ∙ stands.2.owner in
-        let needs_other : other_owner (owner.Interface (interface_place m by.0)) (owner_image (merge_maps m) named.0.owner) ≡ Some j' = (λ k. other_owner (sym mine k) (sym theirs k)) ∙ needs.other in
+        let needs_other : other_owner (owner.Interface (merged_interface m by.0)) (owner_image (merge_maps m) named.0.owner) ≡ Some j' = (λ k. other_owner (sym mine k) (sym theirs k)) ∙ needs.other in
         let other = other_from (merge_maps m) by.0 named.0.owner j' needs_other in
         record {
           i = by.0;
@@ -140,7 +140,7 @@ module _ (m : Merging) (valid : IsValid m.graph) (valid_other : IsValid m.other)
     made_by (of_other t old is moves place same) = inr (new_use t old is same)
     made_by (an_own t within same) = absurd (no_alias (ap (λ (d : TypeDef). alias_target d.kind) same ∙ needs.names))
       where
-        no_alias : alias_target (own_of (type_place m t)).kind ≡ Some needs.target → ⊥
+        no_alias : alias_target (own_of (merged_type m t)).kind ≡ Some needs.target → ⊥
         no_alias is = cc
 
   -- a use of the two as one is one of the graph or of the other

@@ -25,31 +25,31 @@ use Rattle.wit_graph_theory.specs.Cut.{mapped_source}
 use Rattle.wit_graph_theory.specs.facts.EntryFacts.{canonical_lists_uses, key_entry}
 use Rattle.wit_graph_theory.specs.Image.{entry_image, world_image}
 use Rattle.wit_graph_theory.specs.facts.ListFacts.{Contains-map, Contains-map_cases, found_at, from_row, place_of}
-use Rattle.wit_graph_theory.specs.steps.OnePlace.{entries_of}
-use Rattle.wit_graph_theory.specs.facts.OnePlaceCarried.{unnamed_same}
+use Rattle.wit_graph_theory.specs.steps.UnnamedOnce.{entries_of}
+use Rattle.wit_graph_theory.specs.facts.UnnamedOnceCarried.{unnamed_same}
 use Rattle.wit_graph_theory.specs.laws.PackageCycles.{ListsKey, ListsUses}
 use Rattle.wit_graph_theory.specs.steps.Sources.{InterfaceStands}
 use Rattle.wit_link_spec.specs.Include.{joined_entry}
 use Rattle.wit_merge_spec.specs.Joined.{is_under_id, joined_interface, joined_world, with_world}
-use Rattle.wit_merge_spec.specs.Matches.{Merging, found_interface, found_key, found_world, partner, spots}
-use Rattle.wit_merge_spec.specs.Moved.{interface_place, merge_maps, moves_interface, moves_world}
-use Rattle.wit_merge_spec.specs.Reasons.{AreOne}
+use Rattle.wit_merge_spec.specs.Matches.{GraphMerge, counterpart_interface, counterpart_key, counterpart_of, counterpart_world, world_labels}
+use Rattle.wit_merge_spec.specs.Remapped.{merge_maps, merged_interface, moves_interface, moves_world}
+use Rattle.wit_merge_spec.specs.Reasons.{HasNoMismatch}
 use Rattle.wit_merge_spec.specs.United.{joined_graph}
-use Rattle.wit_merge_laws.specs.facts.InterfacesStand.{interface_stands, joined_keeps, moved_interface_goes, old_interface_at}
+use Rattle.wit_merge_laws.specs.facts.InterfacesStand.{interface_stands, joined_keeps, moved_interface_remapped, old_interface_at}
 use Rattle.wit_merge_laws.specs.facts.ListedStand.{WorldFrom, interfaces_apart, of_graph, of_other, world_at_from}
-use Rattle.wit_merge_laws.specs.facts.MatchFacts.{goes_to, interface_is, spot_home, stands_at}
-use Rattle.wit_merge_laws.specs.facts.OnceStand.{entry_held, image_held, spot_key, spot_of}
+use Rattle.wit_merge_laws.specs.facts.MatchFacts.{goes_to, interface_is, label_home, stands_at}
+use Rattle.wit_merge_laws.specs.facts.OnceStand.{entry_held, image_held, spot_of, world_label_key}
 use Rattle.wit_merge_laws.specs.facts.TypesStand.{matched_some}
 use Rattle.wit_merge_laws.specs.facts.UsesFrom.{UseOfOther, use_from}
 use Rattle.wit_merge_laws.specs.facts.WorldsStand.{entry, entry_there}
 
 -- the key of an interface is looked for as the key of that at its place
-pub key_goes : (m : Merging) (j : ℕ) (k : WorldKey) → found_key m (key.Interface j) ≡ Some k → k ≡ key.Interface (interface_place m j)
-key_goes m j k = by (found_interface m j) refl
+pub key_remapped : (m : GraphMerge) (j : ℕ) (k : WorldKey) → counterpart_key m (key.Interface j) ≡ Some k → k ≡ key.Interface (merged_interface m j)
+key_remapped m j k = by (counterpart_interface m j) refl
   where
-    by : (o : Option ℕ) → found_interface m j ≡ o → option_map (λ i'. key.Interface i') o ≡ Some k → k ≡ key.Interface (interface_place m j)
+    by : (o : Option ℕ) → counterpart_interface m j ≡ o → option_map (λ i'. key.Interface i') o ≡ Some k → k ≡ key.Interface (merged_interface m j)
     by None is looked = cc
-    by (Some j') is looked = let same : key.Interface j' ≡ k = cc in sym same ∙ ap (λ (x : ℕ). key.Interface x) (sym (goes_to (found_interface m j) _ j' is))
+    by (Some j') is looked = let same : key.Interface j' ≡ k = cc in sym same ∙ ap (λ (x : ℕ). key.Interface x) (sym (goes_to (counterpart_interface m j) _ j' is))
 
 -- ---- keys that a world lists
 
@@ -120,8 +120,8 @@ entries_from brought es e has =
 entries_into : (brought es : List Entry) (d : Entry) → Contains es d → (held : WorldItem) × Contains (map (joined_entry false brought) es) (entry d.0 held) × (item_interface held ≡ item_interface d.1)
 entries_into brought es d has = ((joined_entry false brought d).1, Contains-map (joined_entry false brought) es d has, entry_held brought d)
 
-pub world_keeps_entries : (m : Merging) (e : ℕ × World) → KeepsEntries e.1 (joined_world m e)
-world_keeps_entries m e = by (partner (found_world m) m.other.worlds e.0)
+pub world_keeps_entries : (m : GraphMerge) (e : ℕ × World) → KeepsEntries e.1 (joined_world m e)
+world_keeps_entries m e = by (counterpart_of (counterpart_world m) m.other.worlds e.0)
   where
     some_from : (p : ℕ × World) (exported : Bool) (x : Entry) → Contains (entries_of exported (with_world m p e.1)) x
         → (d : Entry) × Contains (entries_of exported e.1) d × (x.0 ≡ d.0) × (item_interface x.1 ≡ item_interface d.1)
@@ -138,14 +138,14 @@ world_keeps_entries m e = by (partner (found_world m) m.other.worlds e.0)
 
 -- ---- worlds of the other graph
 
-module _ (m : Merging) (valid : IsValid m.graph) (valid_other : IsValid m.other) (one : AreOne m) where
-  -- what a matched world lists, its partner lists at its place
-  pub partner_lists_key : (w w' : ℕ) (from into : World) (j : ℕ) → slice_get m.other.worlds w ≡ Some from → found_world m w ≡ Some w' → slice_get m.graph.worlds w' ≡ Some into → ListsKey from j → ListsKey into (interface_place m j)
-  partner_lists_key w w' from into j there found into_there lists =
+module _ (m : GraphMerge) (valid : IsValid m.graph) (valid_other : IsValid m.other) (one : HasNoMismatch m) where
+  -- what a matched world lists, its counterpart lists at its place
+  pub counterpart_lists_key : (w w' : ℕ) (from into : World) (j : ℕ) → slice_get m.other.worlds w ≡ Some from → counterpart_world m w ≡ Some w' → slice_get m.graph.worlds w' ≡ Some into → ListsKey from j → ListsKey into (merged_interface m j)
+  counterpart_lists_key w w' from into j there found into_there lists =
       let listed = keyed from j lists in
       let here = entry_there m valid valid_other one w w' from into there found into_there listed.exported (key.Interface j) listed.held listed.has in
-      lists_key listed.exported into (interface_place m j) here.here
-      (subst (λ (k : WorldKey). Contains (entries_of listed.exported into) (entry k here.here)) (key_goes m j here.k' here.key_is) (Contains-from_lookup same_key-true here.k' here.here (entries_of listed.exported into) here.looked))
+      lists_key listed.exported into (merged_interface m j) here.here
+      (subst (λ (k : WorldKey). Contains (entries_of listed.exported into) (entry k here.here)) (key_remapped m j here.k' here.key_is) (Contains-from_lookup same_key-true here.k' here.here (entries_of listed.exported into) here.looked))
 
   -- a world that moves
   module _ (w : ℕ) (old : World) (there : slice_get m.other.worlds w ≡ Some old) (moves : moves_world m w ≡ true) where
@@ -154,13 +154,13 @@ module _ (m : Merging) (valid : IsValid m.graph) (valid_other : IsValid m.other)
     unmatched exported d i has held unnamed = elim (cases_Bool (moves_interface m i)) [
       | inl goes ↦ goes
       | inr stays ↦
-          let some = matched_some (found_interface m i) stays in
-          let spot = spot_of m valid valid_other i some.0 unnamed some.1 in
-          let stands = stands_at m.other.worlds i spot.spot (Contains-from_lookup (λ a b. eqb-true a b) i spot.spot (spots m.other.worlds) spot.spot_is) in
+          let some = matched_some (counterpart_interface m i) stays in
+          let world_label = spot_of m valid valid_other i some.0 unnamed some.1 in
+          let stands = stands_at m.other.worlds i world_label.world_label (Contains-from_lookup (λ a b. eqb-true a b) i world_label.world_label (world_labels m.other.worlds) world_label.world_label_is) in
           let place = place_of (entries_of exported old) d has in
-          let mine = spot_key m.other valid_other i spot.spot.world w spot.spot.exported exported place.0 stands.world spot.spot.label stands.held unnamed stands.there stands.listed stands.is
+          let mine = world_label_key m.other valid_other i world_label.world_label.world w world_label.world_label.exported exported place.0 stands.world world_label.world_label.label stands.held unnamed stands.there stands.listed stands.is
           (record { world = old; there = there; entry = d; at = place.1; held = held }) in
-          absurd (found_moves (found_world m w) spot.w' (ap (found_world m) (sym mine.0) ∙ spot.matched) moves)
+          absurd (found_moves (counterpart_world m w) world_label.w' (ap (counterpart_world m) (sym mine.0) ∙ world_label.matched) moves)
     ]
       where
         found_moves : (o : Option ℕ) (x : ℕ) → o ≡ Some x → not (is_some o) ≡ true → ⊥
@@ -177,7 +177,7 @@ module _ (m : Merging) (valid : IsValid m.graph) (valid_other : IsValid m.other)
 
 -- ---- the worlds of the two as one
 
-module _ (least : ImportsAreLeast) (m : Merging) (valid : IsValid m.graph) (valid_other : IsValid m.other) (one : AreOne m) where
+module _ (least : ImportsAreLeast) (m : GraphMerge) (valid : IsValid m.graph) (valid_other : IsValid m.other) (one : HasNoMismatch m) where
   abbrev g : Graph
   g = joined_graph m
 
@@ -189,31 +189,31 @@ module _ (least : ImportsAreLeast) (m : Merging) (valid : IsValid m.graph) (vali
     brought_listed exported d f j has held unnamed within brought = elim (cases_Bool (moves_interface m brought.i)) [
       | inl goes ↦
           let place = brought.place in
-          let next = moved_interface_goes m brought.i goes in
+          let next = moved_interface_remapped m brought.i goes in
           absurd (omega (arith, within, place, next))
       | inr stays ↦
-          let some = matched_some (found_interface m brought.i) stays in
-          let same : some.0 ≡ f = sym (goes_to (found_interface m brought.i) _ some.0 some.1) ∙ sym brought.place in
+          let some = matched_some (counterpart_interface m brought.i) stays in
+          let same : some.0 ≡ f = sym (goes_to (counterpart_interface m brought.i) _ some.0 some.1) ∙ sym brought.place in
           by (some.1 ∙ ap (λ (x : ℕ). Some x) same)
     ]
       where
-        by : found_interface m brought.i ≡ Some f → ListsKey old j
+        by : counterpart_interface m brought.i ≡ Some f → ListsKey old j
         by found =
             let is = interface_is m valid valid_other brought.i f found in
             let nameless : is_unnamed m.other.interfaces brought.i ≡ true = sym (unnamed_same m.other.interfaces m.graph.interfaces brought.i f is.from is.into is.from_is is.into_is is.called) ∙ unnamed in
-            let spot = spot_of m valid valid_other brought.i f nameless found in
-            let stands = stands_at m.other.worlds brought.i spot.spot (Contains-from_lookup (λ a b. eqb-true a b) brought.i spot.spot (spots m.other.worlds) spot.spot_is) in
+            let world_label = spot_of m valid valid_other brought.i f nameless found in
+            let stands = stands_at m.other.worlds brought.i world_label.world_label (Contains-from_lookup (λ a b. eqb-true a b) brought.i world_label.world_label (world_labels m.other.worlds) world_label.world_label_is) in
             let place = place_of (entries_of exported old) d has in
-            let mine = spot_key m.graph valid f spot.w' w' spot.spot.exported exported place.0 spot.there spot.spot.label spot.held unnamed spot.there_is
-            (Contains-from_lookup same_key-true (key.Name spot.spot.label) spot.held (entries_of spot.spot.exported spot.there) spot.listed) spot.is
+            let mine = world_label_key m.graph valid f world_label.w' w' world_label.world_label.exported exported place.0 world_label.there world_label.world_label.label world_label.held unnamed world_label.there_is
+            (Contains-from_lookup same_key-true (key.Name world_label.world_label.label) world_label.held (entries_of world_label.world_label.exported world_label.there) world_label.listed) world_label.is
             (record { world = old; there = there; entry = d; at = place.1; held = held }) in
-            let listed = valid_lists least m.other valid_other spot.spot.world stands.world stands.there spot.spot.exported (entry (key.Name spot.spot.label) stands.held) brought.i brought.j stands.listed stands.is nameless brought.used in
+            let listed = valid_lists least m.other valid_other world_label.world_label.world stands.world stands.there world_label.world_label.exported (entry (key.Name world_label.world_label.label) stands.held) brought.i brought.j stands.listed stands.is nameless brought.used in
             subst (ListsKey old) (sym brought.used_place)
-            (partner_lists_key m valid valid_other one spot.spot.world w' stands.world old brought.j stands.there (spot.matched ∙ ap (λ (x : ℕ). Some x) mine.0) there listed)
+            (counterpart_lists_key m valid valid_other one world_label.world_label.world w' stands.world old brought.j stands.there (world_label.matched ∙ ap (λ (x : ℕ). Some x) mine.0) there listed)
 
     old_lists : ListsUse g.interfaces (graph_uses g) old
     old_lists exported d f j has held unnamed edge =
-        let here = found_at (λ (interface : Interface). (interface.name ≡ None) → interface.package ≡ old.package) m.graph.interfaces f (spot_home m.graph valid w' old exported d.0 d.1 f there has held) in
+        let here = found_at (λ (interface : Interface). (interface.name ≡ None) → interface.package ≡ old.package) m.graph.interfaces f (label_home m.graph valid w' old exported d.0 d.1 f there has held) in
         let nameless : is_unnamed m.graph.interfaces f ≡ true = sym (unnamed_same m.graph.interfaces g.interfaces f f here.0 (joined_interface m (f, here.0)) here.1 (old_interface_at m f here.0 here.1) (joined_keeps m (f, here.0)).name) ∙ unnamed in
         elim (use_from m valid valid_other one f j edge) [
           | inl used ↦ valid_lists least m.graph valid w' old there exported d f j has held nameless used
@@ -235,14 +235,14 @@ module _ (least : ImportsAreLeast) (m : Merging) (valid : IsValid m.graph) (vali
         let from = image_entry m valid valid_other one w old there moves exported e has in
         let is = image_held (merge_maps m) w from.0.1 f (ap (λ (x : Entry). item_interface x.1) from.2 ∙ held) in
         let i = is.0 in
-        let here = found_at (λ (interface : Interface). (interface.name ≡ None) → interface.package ≡ old.package) m.other.interfaces i (spot_home m.other valid_other w old exported from.0.0 from.0.1 i there from.1 is.1) in
-        let stands = found_at (InterfaceStands (mapped_source m.other (merge_maps m)) here.0) g.interfaces (interface_place m i) (interface_stands m valid valid_other i here.0 here.1) in
-        let nameless : is_unnamed m.other.interfaces i ≡ true = sym (unnamed_same m.other.interfaces g.interfaces i (interface_place m i) here.0 stands.0 here.1 stands.1 stands.2.name) ∙ (ap (is_unnamed g.interfaces) (sym is.2) ∙ unnamed) in
+        let here = found_at (λ (interface : Interface). (interface.name ≡ None) → interface.package ≡ old.package) m.other.interfaces i (label_home m.other valid_other w old exported from.0.0 from.0.1 i there from.1 is.1) in
+        let stands = found_at (InterfaceStands (mapped_source m.other (merge_maps m)) here.0) g.interfaces (merged_interface m i) (interface_stands m valid valid_other i here.0 here.1) in
+        let nameless : is_unnamed m.other.interfaces i ≡ true = sym (unnamed_same m.other.interfaces g.interfaces i (merged_interface m i) here.0 stands.0 here.1 stands.1 stands.2.name) ∙ (ap (is_unnamed g.interfaces) (sym is.2) ∙ unnamed) in
         elim (use_from m valid valid_other one f j edge) [
           | inl used ↦
               let row = from_row (interface_uses m.graph.types) m.graph.interfaces f j used in
               let within = slice_get_within m.graph.interfaces f row.0 row.1 in
-              let next = moved_interface_goes m i (unmatched m valid valid_other one w old there moves exported from.0 i from.1 is.1 nameless) in
+              let next = moved_interface_remapped m i (unmatched m valid valid_other one w old there moves exported from.0 i from.1 is.1 nameless) in
               let place = is.2 in
               absurd (omega (arith, within, next, place))
           | inr brought ↦
@@ -250,7 +250,7 @@ module _ (least : ImportsAreLeast) (m : Merging) (valid : IsValid m.graph) (vali
               let edge_there : Contains (direct (graph_uses m.other) i) brought.j = subst (λ (x : ℕ). Contains (direct (graph_uses m.other) x) brought.j) same brought.used in
               let listed = keyed old brought.j (valid_lists least m.other valid_other w old there exported from.0 i brought.j from.1 is.1 nameless edge_there) in
               subst (ListsKey (world_image (merge_maps m) w old)) (sym brought.used_place)
-              (lists_key listed.exported (world_image (merge_maps m) w old) (interface_place m brought.j) (entry_image (merge_maps m) w (entry (key.Interface brought.j) listed.held)).1
+              (lists_key listed.exported (world_image (merge_maps m) w old) (merged_interface m brought.j) (entry_image (merge_maps m) w (entry (key.Interface brought.j) listed.held)).1
               (entry_imaged m valid valid_other one w old there moves listed.exported (entry (key.Interface brought.j) listed.held) listed.has))
         ]
 

@@ -1,4 +1,4 @@
--- What is united of two valid graphs against which nothing speaks is valid: what is shown of its types, interfaces,
+-- What is united of two valid graphs against which no cause holds is valid: what is shown of its types, interfaces,
 -- worlds and packages, joined.
 use Rattle.std.proofs.Common.{None, refl, subst}
 use Rattle.wit_digraph.specs.Relation.{IsAcyclic}
@@ -15,13 +15,13 @@ use Rattle.wit_graph_theory.specs.facts.LawsOfElaboration.{LawsOfElaboration}
 use Rattle.wit_graph_theory.specs.facts.ListFacts.{from_map}
 use Rattle.wit_graph_theory.specs.Operations.{merge_sources}
 use Rattle.wit_graph_theory.specs.facts.PackageCycleFacts.{acyclic_packages, packages_stay_acyclic}
-use Rattle.wit_graph_theory.specs.laws.PackageCycles.{AreElaborated}
-use Rattle.wit_merge_spec.specs.Cause.{CanMerge, package_cycle_6}
-use Rattle.wit_merge_spec.specs.Matches.{Merging}
-use Rattle.wit_merge_spec.specs.Moved.{merge_maps}
-use Rattle.wit_merge_spec.specs.Reasons.{AreOne}
+use Rattle.wit_graph_theory.specs.laws.PackageCycles.{AreElaboratedFrom}
+use Rattle.wit_merge_spec.specs.Cause.{MergeIsAccepted, package_cycle_6}
+use Rattle.wit_merge_spec.specs.Matches.{GraphMerge}
+use Rattle.wit_merge_spec.specs.Remapped.{merge_maps}
+use Rattle.wit_merge_spec.specs.Reasons.{HasNoMismatch}
 use Rattle.wit_merge_spec.specs.United.{joined_graph, united}
-use Rattle.wit_merge_laws.specs.facts.JoinedGood.{CanElaborate, aliases, listed_exports, listed_imports}
+use Rattle.wit_merge_laws.specs.facts.JoinedGood.{UnionCanElaborate, aliases, listed_exports, listed_imports}
 use Rattle.wit_merge_laws.specs.laws.MergingLaws.{UnionsStayValid}
 use Rattle.wit_merge_laws.specs.facts.NoCycles.{are_one, can_elaborate, joined_types_acyclic}
 use Rattle.wit_merge_laws.specs.facts.OnceStand.{stand_once}
@@ -30,14 +30,14 @@ use Rattle.wit_merge_laws.specs.facts.UnitedWorlds.{is_elaborated, united_canoni
 use Rattle.wit_merge_laws.specs.facts.UsesListed.{joined_lists_uses}
 use Rattle.wit_merge_laws.specs.facts.WorldsStand.{sources_good}
 
-module _ (laws : LawsOfElaboration) (m : Merging) (valid : IsValid m.graph) (valid_other : IsValid m.other) (can : CanMerge m) where
+module _ (laws : LawsOfElaboration) (m : GraphMerge) (valid : IsValid m.graph) (valid_other : IsValid m.other) (can : MergeIsAccepted m) where
   abbrev g : Graph
   g = joined_graph m
 
-  abbrev one : AreOne m
+  abbrev one : HasNoMismatch m
   one = are_one m can
 
-  elaborates : CanElaborate m
+  elaborates : UnionCanElaborate m
   elaborates = can_elaborate m valid valid_other can laws.refused
 
   -- no package depends on itself, with worlds as they are listed
@@ -47,7 +47,7 @@ module _ (laws : LawsOfElaboration) (m : Merging) (valid : IsValid m.graph) (val
       can (PackageCycle None home.name)
       (package_cycle_6 home.name one (record { p = p; q = q; on_cycle = cycle; there = home; is = there; home_is = refl })))
 
-  are_elaborated : AreElaborated g.types g.interfaces g.packages g.worlds (united m).worlds
+  are_elaborated : AreElaboratedFrom g.types g.interfaces g.packages g.worlds (united m).worlds
   are_elaborated = record {
     aliases = aliases m valid valid_other one;
     uses = elaborates.acyclic;

@@ -1,4 +1,4 @@
--- Of a valid graph all takes part, so what is cut to what takes part is as it was.
+-- Of a valid graph all is selected, so what is cut to what is selected is as it was.
 use Rattle.std.proofs.Common.{◌≡◌, ◌∙◌, ℕ, suc, Bool, true, List, [], ◌∷◌, cond, filter, length, Some, slice_get, refl, sym, ap}
 use Rattle.std.proofs.lemmas.Bool.{lt-ltb}
 use Rattle.std.proofs.lemmas.Option.{slice_get_within}

@@ -11,7 +11,7 @@ use Rattle.std.specs.Cmp.Lexicographic.{nat_list_eq_equiv}
 use Rattle.wit_digraph.specs.facts.MemberFacts.{Contains-cons_cases, Contains-flat_map, Contains-flat_map_cases, Contains-here, Contains-nil}
 use Rattle.wit_data.specs.Each.{SomeAt}
 use Rattle.wit_data.specs.Entries.{Entry}
-use Rattle.wit_data.specs.Ownership.{listed_type, world_types}
+use Rattle.wit_data.specs.Ownership.{entry_type, world_types}
 use Rattle.wit_data.specs.declared.interface.Interface.{Interface}
 use Rattle.wit_data.specs.declared.types.TypeDef.{TypeDef}
 use Rattle.wit_data.specs.declared.types.TypeOwner.TheVariants as owner
@@ -31,7 +31,7 @@ use Rattle.wit_graph_theory.specs.facts.GraphSource.{graph_stands, mapped_is_goo
 use Rattle.wit_graph_theory.specs.Image.{entry_image, identity, world_image}
 use Rattle.wit_graph_theory.specs.Kept.{everything}
 use Rattle.wit_graph_theory.specs.facts.ListFacts.{Contains-map, found_at, some_at}
-use Rattle.wit_graph_theory.specs.steps.OnePlace.{entries_of}
+use Rattle.wit_graph_theory.specs.steps.UnnamedOnce.{entries_of}
 use Rattle.wit_graph_theory.specs.Operations.{merge_sources}
 use Rattle.wit_graph_theory.specs.facts.OptionFacts.{some_by, some_parts, some_same}
 use Rattle.wit_graph_theory.specs.steps.Sources.{Carries, IsGoodSource, WorldStands}
@@ -39,13 +39,13 @@ use Rattle.wit_link_spec.specs.Include.{joined_entry, joined_item}
 use Rattle.wit_merge_spec.specs.Agreement.{same_sort}
 use Rattle.wit_merge_spec.specs.Agreement as differ
 use Rattle.wit_merge_spec.specs.Joined.{is_under_id, joined_world, with_world}
-use Rattle.wit_merge_spec.specs.Matches.{Merging, found_by, found_item, found_key, found_type, found_world, partner, world_beside}
+use Rattle.wit_merge_spec.specs.Matches.{GraphMerge, counterpart_item, counterpart_key, counterpart_of, counterpart_type, counterpart_type_by, counterpart_world, matched_world}
 use Rattle.wit_merge_spec.specs.MismatchText.{side_word}
-use Rattle.wit_merge_spec.specs.Moved.{merge_maps, moves_world, type_place, world_place}
-use Rattle.wit_merge_spec.specs.Reasons.{AreOne}
+use Rattle.wit_merge_spec.specs.Remapped.{merge_maps, merged_type, merged_world, moves_world}
+use Rattle.wit_merge_spec.specs.Reasons.{HasNoMismatch}
 use Rattle.wit_merge_spec.specs.United.{joined_graph}
 use Rattle.wit_merge_laws.specs.facts.InterfacesStand as interfaces
-use Rattle.wit_merge_laws.specs.facts.InterfacesStand.{partner_is}
+use Rattle.wit_merge_laws.specs.facts.InterfacesStand.{counterpart_is}
 use Rattle.wit_merge_laws.specs.facts.ListedStand.{new_world_at, old_world_at, worlds_come}
 use Rattle.wit_merge_laws.specs.facts.MatchFacts.{WorldMatch, goes_to, world_is, world_type_is}
 use Rattle.wit_merge_laws.specs.facts.MatchedOnce.{world_in_table, world_once}
@@ -63,10 +63,10 @@ pub record ListsType (e : Entry) (name : List ℕ) (t : ℕ) : Type 0 where
   pub span : Option (ℕ × ℕ)
   pub is : e ≡ entry (key.Name name) (item.Type_ t span)
 
-pub lists_is : (e : Entry) (name : List ℕ) (t : ℕ) → Contains (listed_type e.0 e.1) (name, t) → ListsType e name t
+pub lists_is : (e : Entry) (name : List ℕ) (t : ℕ) → Contains (entry_type e.0 e.1) (name, t) → ListsType e name t
 lists_is e name t has = by e.0 e.1 has
   where
-    by : (k : WorldKey) (held : WorldItem) → Contains (listed_type k held) (name, t) → ListsType (entry k held) name t
+    by : (k : WorldKey) (held : WorldItem) → Contains (entry_type k held) (name, t) → ListsType (entry k held) name t
     by (key.Name label) (item.Type_ u span) has = elim (Contains-cons_cases (label, u) (name, t) [] has) [
       | inl same ↦ record { span = span; is = λ i. entry (key.Name (same i).0) (item.Type_ (same i).1 span) }
       | inr none ↦ absurd (Contains-nil none)
@@ -82,12 +82,12 @@ pub record ListedBy (world : World) (name : List ℕ) (t : ℕ) : Type 0 where
 
 pub listed_by : (world : World) (name : List ℕ) (t : ℕ) → Contains (world_types world) (name, t) → ListedBy world name t
 listed_by world name t has =
-    let from = Contains-flat_map_cases (λ (e : Entry). listed_type e.0 e.1) world.imports (name, t) has in
+    let from = Contains-flat_map_cases (λ (e : Entry). entry_type e.0 e.1) world.imports (name, t) has in
     let is = lists_is from.0 name t from.1.1 in
     record { span = is.span; has = subst (Contains world.imports) is.is from.1.0 }
 
 pub lists_it : (world : World) (name : List ℕ) (t : ℕ) (span : Option (ℕ × ℕ)) → Contains world.imports (entry (key.Name name) (item.Type_ t span)) → Contains (world_types world) (name, t)
-lists_it world name t span has = Contains-flat_map (λ (e : Entry). listed_type e.0 e.1) world.imports (entry (key.Name name) (item.Type_ t span)) (name, t) has (Contains-here (name, t) [])
+lists_it world name t span has = Contains-flat_map (λ (e : Entry). entry_type e.0 e.1) world.imports (entry (key.Name name) (item.Type_ t span)) (name, t) has (Contains-here (name, t) [])
 
 -- nothing is joined to a type
 type_unjoined : (brought : List Entry) (k : WorldKey) (t : ℕ) (span : Option (ℕ × ℕ)) → joined_entry false brought (entry k (item.Type_ t span)) ≡ entry k (item.Type_ t span)
@@ -103,7 +103,7 @@ type_unjoined brought k t span = by (lookup (same_key k) brought)
     by (Some from) = ap (entry k) (same from)
 
 -- so a world lists its types with whatever joined to its entries
-types_unjoined : (m : Merging) (p : ℕ × World) (into : World) (name : List ℕ) (t : ℕ) → Contains (world_types into) (name, t) → Contains (world_types (with_world m p into)) (name, t)
+types_unjoined : (m : GraphMerge) (p : ℕ × World) (into : World) (name : List ℕ) (t : ℕ) → Contains (world_types into) (name, t) → Contains (world_types (with_world m p into)) (name, t)
 types_unjoined m p into name t has =
     let by = listed_by into name t has in
     let brought = map (entry_image (merge_maps m) p.0) (filter (λ (e : Entry). is_under_id e.0) p.1.imports) in
@@ -122,9 +122,9 @@ has_one : {X : Type 0} (o : Option X) → IsSome o → (x : X) × (o ≡ Some x)
 has_one None some = cc
 has_one (Some x) some = (x, refl)
 
-module _ (m : Merging) (valid : IsValid m.graph) (valid_other : IsValid m.other) (one : AreOne m) where
-  -- a type that a matched world lists is listed by its partner, under its name
-  module _ (w w' : ℕ) (old into : World) (there : slice_get m.other.worlds w ≡ Some old) (found : found_world m w ≡ Some w') (into_there : slice_get m.graph.worlds w' ≡ Some into) where
+module _ (m : GraphMerge) (valid : IsValid m.graph) (valid_other : IsValid m.other) (one : HasNoMismatch m) where
+  -- a type that a matched world lists is listed by its counterpart, under its name
+  module _ (w w' : ℕ) (old into : World) (there : slice_get m.other.worlds w ≡ Some old) (found : counterpart_world m w ≡ Some w') (into_there : slice_get m.graph.worlds w' ≡ Some into) where
     abbrev is : WorldMatch m valid w w'
     is = world_is m valid w w' found
 
@@ -135,7 +135,7 @@ module _ (m : Merging) (valid : IsValid m.graph) (valid_other : IsValid m.other)
     pub record EntryThere (exported : Bool) (k : WorldKey) (held : WorldItem) : Type 0 where
       pub k' : WorldKey
       pub here : WorldItem
-      pub key_is : found_key m k ≡ Some k'
+      pub key_is : counterpart_key m k ≡ Some k'
       pub looked : lookup (same_key k') (entries_of exported into) ≡ Some here
       pub same : same_sort held here ≡ true
       pub agrees : (text : List ℕ) → differ.ItemsDiffer m held here text → ⊥
@@ -153,19 +153,19 @@ module _ (m : Merging) (valid : IsValid m.graph) (valid_other : IsValid m.other)
         (subst (λ (x : World). differ.EntriesDiffer m (side_word exported) (entries_of exported old) (entries_of exported x) text) (sym same_into) other)))
 
     pub entry_there : (exported : Bool) (k : WorldKey) (held : WorldItem) → Contains (entries_of exported old) (entry k held) → EntryThere exported k held
-    entry_there exported k held has = by (found_item m (entries_of exported into) k) refl
+    entry_there exported k held has = by (counterpart_item m (entries_of exported into) k) refl
       where
-        by : (o : Option WorldItem) → found_item m (entries_of exported into) k ≡ o → EntryThere exported k held
+        by : (o : Option WorldItem) → counterpart_item m (entries_of exported into) k ≡ o → EntryThere exported k held
         by None none = absurd (differs exported (differ.absent (entry k held) has none))
         by (Some here) at =
-            let at_key = some_parts (λ (k' : WorldKey). lookup (same_key k') (entries_of exported into)) (found_key m k) here at in
+            let at_key = some_parts (λ (k' : WorldKey). lookup (same_key k') (entries_of exported into)) (counterpart_key m k) here at in
             elim (cases_Bool (same_sort held here)) [
               | inl same ↦ record { k' = at_key.0; here = here; key_is = at_key.1; looked = at_key.2; same = same; agrees = λ text other. differs exported (differ.apart (entry k held) here text has at other) }
               | inr other ↦ absurd (differs exported (differ.apart (entry k held) here _ has at (differ.sorts other)))
             ]
 
-    partner_lists : (name : List ℕ) (t : ℕ) → Contains (world_types old) (name, t) → Contains (world_types into) (name, type_place m t)
-    partner_lists name t has =
+    counterpart_lists : (name : List ℕ) (t : ℕ) → Contains (world_types old) (name, t) → Contains (world_types into) (name, merged_type m t)
+    counterpart_lists name t has =
         let by = listed_by old name t has in
         let here = entry_there false (key.Name name) (item.Type_ t by.span) by.has in
         let sort = type_sort t by.span here.here here.same in
@@ -176,36 +176,36 @@ module _ (m : Merging) (valid : IsValid m.graph) (valid_other : IsValid m.other)
         let listed : Contains (world_types into) (name, sort.0) = lists_it into name sort.0 sort.1 stands in
         let some = has_one (lookup (bytes_eq name) (world_types into)) (IsSome-lookup_from_Contains nat_list_eq_equiv name (world_types into) (Contains-map (λ (e : List ℕ × ℕ). e.0) (world_types into) (name, sort.0) listed)) in
         let own = found_at (λ (def : TypeDef). (def.name ≡ Some name) × (def.owner ≡ owner.World w)) m.other.types t (world_type_is m.other valid_other w old name t there has) in
-        let beside : world_beside m w ≡ Some into = some_by (slice_get m.graph.worlds) (found_world m w) w' found ∙ into_there in
-        let goes : found_type m t ≡ Some some.0 =
-        some_by (λ (def : TypeDef). found_by m def.name def.owner) (slice_get m.other.types t) own.0 own.1
-        ∙ ((λ k. found_by m (own.2.0 k) (own.2.1 k)) ∙ (some_by (λ (there : World). lookup (bytes_eq name) (world_types there)) (world_beside m w) into beside ∙ some.1)) in
-        subst (λ (x : ℕ). Contains (world_types into) (name, x)) (sym (goes_to (found_type m t) _ some.0 goes)) (Contains-from_lookup (λ a b. (bytes_eq-Decides a b).0) name some.0 (world_types into) some.1)
+        let beside : matched_world m w ≡ Some into = some_by (slice_get m.graph.worlds) (counterpart_world m w) w' found ∙ into_there in
+        let goes : counterpart_type m t ≡ Some some.0 =
+        some_by (λ (def : TypeDef). counterpart_type_by m def.name def.owner) (slice_get m.other.types t) own.0 own.1
+        ∙ ((λ k. counterpart_type_by m (own.2.0 k) (own.2.1 k)) ∙ (some_by (λ (there : World). lookup (bytes_eq name) (world_types there)) (matched_world m w) into beside ∙ some.1)) in
+        subst (λ (x : ℕ). Contains (world_types into) (name, x)) (sym (goes_to (counterpart_type m t) _ some.0 goes)) (Contains-from_lookup (λ a b. (bytes_eq-Decides a b).0) name some.0 (world_types into) some.1)
 
   -- each world of the other graph stands at its place, as it is listed
-  pub world_stands : (w : ℕ) (old : World) → slice_get m.other.worlds w ≡ Some old → SomeAt (joined_graph m).worlds (world_place m w) (WorldStands (mapped_source m.other (merge_maps m)) w old)
+  pub world_stands : (w : ℕ) (old : World) → slice_get m.other.worlds w ≡ Some old → SomeAt (joined_graph m).worlds (merged_world m w) (WorldStands (mapped_source m.other (merge_maps m)) w old)
   world_stands w old there = elim (cases_Bool (moves_world m w)) [
     | inl goes ↦
-        some_at (WorldStands (mapped_source m.other (merge_maps m)) w old) (joined_graph m).worlds (world_place m w) (world_image (merge_maps m) w old) (new_world_at m w old there goes) (record {
+        some_at (WorldStands (mapped_source m.other (merge_maps m)) w old) (joined_graph m).worlds (merged_world m w) (world_image (merge_maps m) w old) (new_world_at m w old there goes) (record {
           types = λ name t has taken.
               let by = listed_by old name t has in
-              lists_it (world_image (merge_maps m) w old) name (type_place m t) _ (Contains-map (entry_image (merge_maps m) w) old.imports (entry (key.Name name) (item.Type_ t by.span)) by.has);
+              lists_it (world_image (merge_maps m) w old) name (merged_type m t) _ (Contains-map (entry_image (merge_maps m) w) old.imports (entry (key.Name name) (item.Type_ t by.span)) by.has);
           home = refl;
         })
-    | inr stays ↦ matched (matched_some (found_world m w) stays)
+    | inr stays ↦ matched (matched_some (counterpart_world m w) stays)
   ]
     where
-      matched : (w' : ℕ) × (found_world m w ≡ Some w') → SomeAt (joined_graph m).worlds (world_place m w) (WorldStands (mapped_source m.other (merge_maps m)) w old)
+      matched : (w' : ℕ) × (counterpart_world m w ≡ Some w') → SomeAt (joined_graph m).worlds (merged_world m w) (WorldStands (mapped_source m.other (merge_maps m)) w old)
       matched (w', found) =
           let is = world_is m valid w w' found in
           let same : is.from ≡ old = some_same is.from old (sym is.from_is ∙ there) in
           let joined : joined_world m (w', is.into) ≡ with_world m (w, old) is.into =
           ap (λ (o : Option (ℕ × World)). option_map_or (λ (p : ℕ × World). with_world m p is.into) o is.into)
-          (partner_is (found_world m) m.other.worlds w' (λ i j. world_once m valid valid_other i j w') w old there found) in
-          let at : slice_get (joined_graph m).worlds (world_place m w) ≡ Some (with_world m (w, old) is.into) =
-          ap (slice_get (joined_graph m).worlds) (goes_to (found_world m w) _ w' found) ∙ (old_world_at m w' is.into is.into_is ∙ ap (λ (x : World). Some x) joined) in
-          some_at (WorldStands (mapped_source m.other (merge_maps m)) w old) (joined_graph m).worlds (world_place m w) (with_world m (w, old) is.into) at (record {
-            types = λ name t has taken. types_unjoined m (w, old) is.into name (type_place m t) (partner_lists w w' old is.into there found is.into_is name t has);
+          (counterpart_is (counterpart_world m) m.other.worlds w' (λ i j. world_once m valid valid_other i j w') w old there found) in
+          let at : slice_get (joined_graph m).worlds (merged_world m w) ≡ Some (with_world m (w, old) is.into) =
+          ap (slice_get (joined_graph m).worlds) (goes_to (counterpart_world m w) _ w' found) ∙ (old_world_at m w' is.into is.into_is ∙ ap (λ (x : World). Some x) joined) in
+          some_at (WorldStands (mapped_source m.other (merge_maps m)) w old) (joined_graph m).worlds (merged_world m w) (with_world m (w, old) is.into) at (record {
+            types = λ name t has taken. types_unjoined m (w, old) is.into name (merged_type m t) (counterpart_lists w w' old is.into there found is.into_is name t has);
             home = is.home ∙ ap (λ (x : World). (merge_maps m).home x.package) same;
           })
 
@@ -220,7 +220,7 @@ module _ (m : Merging) (valid : IsValid m.graph) (valid_other : IsValid m.other)
         some_at (λ (new : Interface). (new.name ≡ interface.name) × (new.package ≡ interface.package) × ((e : List ℕ × ℕ) → Contains interface.types e → Contains new.types e)) (joined_graph m).interfaces f _ (interfaces.old_interface_at m f interface at)
         (keeps.name, keeps.home, keeps.types);
     worlds = λ w world at.
-        some_at (λ (new : World). (new.package ≡ world.package) × ((e : List ℕ × ℕ) → Contains (world_types world) e → Contains (world_types new) e)) (joined_graph m).worlds w _ (old_world_at m w world at) (world_keeps w world (partner (found_world m) m.other.worlds w));
+        some_at (λ (new : World). (new.package ≡ world.package) × ((e : List ℕ × ℕ) → Contains (world_types world) e → Contains (world_types new) e)) (joined_graph m).worlds w _ (old_world_at m w world at) (world_keeps w world (counterpart_of (counterpart_world m) m.other.worlds w));
   }
     where
       world_keeps : (w : ℕ) (world : World) (o : Option (ℕ × World)) → ((option_map_or (λ (p : ℕ × World). with_world m p world) o world).package ≡ world.package)

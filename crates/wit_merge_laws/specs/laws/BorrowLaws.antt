@@ -4,12 +4,12 @@ use Rattle.wit_data.specs.Reference.{named_option}
 use Rattle.wit_data.specs.declared.function.Function.{Function}
 use Rattle.wit_elaboration.specs.Valid.{IsValid}
 use Rattle.wit_link_spec.specs.Reasons.{HoldsBorrow}
-use Rattle.wit_merge_spec.specs.Matches.{Merging}
-use Rattle.wit_merge_spec.specs.Moved.{moved_functions}
-use Rattle.wit_merge_spec.specs.Reasons.{AreOne, ReturnsBorrow}
+use Rattle.wit_merge_spec.specs.Matches.{GraphMerge}
+use Rattle.wit_merge_spec.specs.Remapped.{moved_functions}
+use Rattle.wit_merge_spec.specs.Reasons.{HasNoMismatch, MergeReturnsBorrow}
 
 -- a function that moves returns a borrow in the incoming graph already
-pub record ReturnsItsBorrow (m : Merging) : Type 0 where
+pub record ReturnsItsBorrow (m : GraphMerge) : Type 0 where
   pub f : Function
   pub t : ℕ
   pub moved : Contains (moved_functions m) f
@@ -19,4 +19,4 @@ pub record ReturnsItsBorrow (m : Merging) : Type 0 where
 -- a merge refuses a result that holds a borrow (15) only where the incoming graph has a function of such a result; adding
 -- a package refuses those that are active
 abbrev pub MergesMakeNoBorrow : Type 0
-MergesMakeNoBorrow = (m : Merging) (message : List ℕ) → IsValid m.graph → IsValid m.other → AreOne m → ReturnsBorrow m message → ReturnsItsBorrow m
+MergesMakeNoBorrow = (m : GraphMerge) (message : List ℕ) → IsValid m.graph → IsValid m.other → HasNoMismatch m → MergeReturnsBorrow m message → ReturnsItsBorrow m

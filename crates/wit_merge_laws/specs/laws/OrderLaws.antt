@@ -9,20 +9,20 @@ use Rattle.wit_data.specs.declared.world.WorldItem.{WorldItem}
 use Rattle.wit_elaboration.specs.Valid.{IsValid}
 use Rattle.wit_graph_data.specs.IdText.{key_text}
 use Rattle.wit_graph_data.specs.declared.graph.Graph.{Graph}
-use Rattle.wit_graph_theory.specs.steps.OnePlace.{entries_of}
+use Rattle.wit_graph_theory.specs.steps.UnnamedOnce.{entries_of}
 use Rattle.wit_link_spec.specs.Resources.{leads_to_resource}
 use Rattle.wit_merge_spec.specs.Agreement.{same_sort}
-use Rattle.wit_merge_spec.specs.Matches.{Merging}
-use Rattle.wit_merge_spec.specs.Moved.{type_place}
-use Rattle.wit_merge_spec.specs.Reasons.{AreOne}
+use Rattle.wit_merge_spec.specs.Matches.{GraphMerge}
+use Rattle.wit_merge_spec.specs.Remapped.{merged_type}
+use Rattle.wit_merge_spec.specs.Reasons.{HasNoMismatch}
 use Rattle.wit_merge_spec.specs.United.{united}
-use Rattle.wit_merge_laws.specs.facts.JoinedGood.{CanElaborate}
-use Rattle.wit_merge_laws.specs.laws.MergingLaws.{merging}
+use Rattle.wit_merge_laws.specs.facts.JoinedGood.{UnionCanElaborate}
+use Rattle.wit_merge_laws.specs.laws.MergingLaws.{merge_of_graphs}
 use Rattle.wit_merge_laws.specs.laws.Names.{HasLabel, HaveSameNames, IsWorld, Label}
 
 -- if nothing differs between two graphs one way, nothing differs the other way
 abbrev pub AgreementIsSymmetric : Type 0
-AgreementIsSymmetric = (g h : Graph) (offset back : ℕ) → IsValid g → IsValid h → AreOne (merging g h offset) → AreOne (merging h g back)
+AgreementIsSymmetric = (g h : Graph) (offset back : ℕ) → IsValid g → IsValid h → HasNoMismatch (merge_of_graphs g h offset) → HasNoMismatch (merge_of_graphs h g back)
 
 -- ---- the order of a merge
 
@@ -50,13 +50,13 @@ pub record AreAlike (g h : Graph) : Type 0 where
 -- merging in either order gives the same, where two graphs agree, and in neither order an interface would use itself or
 -- a world is in conflict
 abbrev pub MergingIsOrderFree : Type 0
-MergingIsOrderFree = (g h : Graph) (offset back : ℕ) → IsValid g → IsValid h → AreOne (merging g h offset) → CanElaborate (merging g h offset) → CanElaborate (merging h g back)
-    → AreAlike (united (merging g h offset)) (united (merging h g back))
+MergingIsOrderFree = (g h : Graph) (offset back : ℕ) → IsValid g → IsValid h → HasNoMismatch (merge_of_graphs g h offset) → UnionCanElaborate (merge_of_graphs g h offset) → UnionCanElaborate (merge_of_graphs h g back)
+    → AreAlike (united (merge_of_graphs g h offset)) (united (merge_of_graphs h g back))
 
 -- ---- resources
 
 -- a type of either graph that is a resource, or leads to one by aliases, still does where it is in the united graph; so
 -- does each that is the argument of an `own` or a `borrow`
 abbrev pub ResourcesStay : Type 0
-ResourcesStay = (m : Merging) (t : ℕ) → IsValid m.graph → IsValid m.other → AreOne m
-    → (leads_to_resource m.graph.types t ≡ true → leads_to_resource (united m).types t ≡ true) × (leads_to_resource m.other.types t ≡ true → leads_to_resource (united m).types (type_place m t) ≡ true)
+ResourcesStay = (m : GraphMerge) (t : ℕ) → IsValid m.graph → IsValid m.other → HasNoMismatch m
+    → (leads_to_resource m.graph.types t ≡ true → leads_to_resource (united m).types t ≡ true) × (leads_to_resource m.other.types t ≡ true → leads_to_resource (united m).types (merged_type m t) ≡ true)

@@ -7,36 +7,36 @@ use Rattle.wit_graph_data.specs.declared.graph.Graph.{Graph}
 use Rattle.wit_merge_spec.specs.Agreement as agreement
 use Rattle.wit_merge_spec.specs.Agreement.{EntriesDiffer, GraphsDiffer, ItemsDiffer}
 use Rattle.wit_merge_spec.specs.Reasons as reasons
-use Rattle.wit_merge_spec.specs.Reasons.{AreJoined, AreOne, Mismatches}
-use Rattle.wit_merge_match.specs.Differing.{merging_by}
+use Rattle.wit_merge_spec.specs.Reasons.{AreJoined, HasNoMismatch, StabilitiesMismatch}
+use Rattle.wit_merge_match.specs.Differing.{merge_of_graphs_by}
 
 module _ (g other : Graph) (a b : ℕ) where
-  items_by : (from into : WorldItem) (text : List ℕ) → ItemsDiffer (merging_by g other a) from into text → ItemsDiffer (merging_by g other b) from into text
+  items_by : (from into : WorldItem) (text : List ℕ) → ItemsDiffer (merge_of_graphs_by g other a) from into text → ItemsDiffer (merge_of_graphs_by g other b) from into text
   items_by from into _ (agreement.sorts off) = agreement.sorts off
   items_by from into _ (agreement.interfaces i i' from_is into_is apart) = agreement.interfaces i i' from_is into_is apart
   items_by from into _ (agreement.unnamed text p from_is into_is nameless apart) = agreement.unnamed text p from_is into_is nameless apart
 
-  entries_by : (word : List ℕ) (from into : List Entry) (text : List ℕ) → EntriesDiffer (merging_by g other a) word from into text → EntriesDiffer (merging_by g other b) word from into text
+  entries_by : (word : List ℕ) (from into : List Entry) (text : List ℕ) → EntriesDiffer (merge_of_graphs_by g other a) word from into text → EntriesDiffer (merge_of_graphs_by g other b) word from into text
   entries_by word from into _ (agreement.count apart) = agreement.count apart
   entries_by word from into _ (agreement.absent e listed none) = agreement.absent e listed none
   entries_by word from into _ (agreement.apart e there text listed found d) = agreement.apart e there text listed found (items_by e.1 there text d)
 
   -- a message of a mismatch is one by any offset
-  pub differ_by : (message : List ℕ) → GraphsDiffer (merging_by g other a) message → GraphsDiffer (merging_by g other b) message
+  pub differ_by : (message : List ℕ) → GraphsDiffer (merge_of_graphs_by g other a) message → GraphsDiffer (merge_of_graphs_by g other b) message
   differ_by _ (agreement.interfaces p home there name text named of is apart) = agreement.interfaces p home there name text named of is apart
   differ_by _ (agreement.worlds p home there exported text of is d) = agreement.worlds p home there exported text of is (entries_by _ _ _ text d)
   differ_by _ (agreement.types message first) = agreement.types message first
 
-  joined_by : (from into : Stability) → AreJoined (merging_by g other a) from into → AreJoined (merging_by g other b) from into
+  joined_by : (from into : Stability) → AreJoined (merge_of_graphs_by g other a) from into → AreJoined (merge_of_graphs_by g other b) from into
   joined_by _ _ (reasons.types p) = reasons.types p
   joined_by _ _ (reasons.interfaces p) = reasons.interfaces p
   joined_by _ _ (reasons.worlds p) = reasons.worlds p
   joined_by _ _ (reasons.entries p exported i i' from into matched comes there) = reasons.entries p exported i i' from into matched comes there
 
   -- so are two stabilities that can't be joined
-  pub mismatches_by : (from into : Stability) → Mismatches (merging_by g other a) from into → Mismatches (merging_by g other b) from into
+  pub mismatches_by : (from into : Stability) → StabilitiesMismatch (merge_of_graphs_by g other a) from into → StabilitiesMismatch (merge_of_graphs_by g other b) from into
   mismatches_by from into d = record { joined = joined_by from into d.joined; apart = d.apart }
 
 -- and nothing differs by one offset where nothing does by another
-pub one_by : (g other : Graph) (a b : ℕ) → AreOne (merging_by g other a) → AreOne (merging_by g other b)
+pub one_by : (g other : Graph) (a b : ℕ) → HasNoMismatch (merge_of_graphs_by g other a) → HasNoMismatch (merge_of_graphs_by g other b)
 one_by g other a b one message d = one message (differ_by g other b a message d)

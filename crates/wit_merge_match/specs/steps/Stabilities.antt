@@ -11,9 +11,9 @@ use Rattle.wit_data.specs.declared.world.WorldItem.TheVariants as item
 use Rattle.wit_data.specs.declared.world.WorldKey.{WorldKey}
 use Rattle.wit_data.specs.declared.world.WorldKey.TheVariants as key
 use Rattle.wit_elaboration.specs.Entries.{same_key}
-use Rattle.wit_graph_theory.specs.steps.OnePlace.{entries_of}
+use Rattle.wit_graph_theory.specs.steps.UnnamedOnce.{entries_of}
 use Rattle.wit_link_spec.specs.WorldReasons.{Disagree, HasStability}
-use Rattle.wit_merge_spec.specs.Matches.{Merging, found_interface, found_type, found_world}
+use Rattle.wit_merge_spec.specs.Matches.{GraphMerge, counterpart_interface, counterpart_type, counterpart_world}
 use Rattle.wit_merge_match.specs.Differing.{DifferAt}
 
 -- two stabilities disagree, and these are the two
@@ -30,41 +30,41 @@ own_stability (key.Interface i) (item.Interface id stability docs span external_
 own_stability k held = None
 
 -- that of the interface that is matched with the one of a key, where it stands under its own
-abbrev pub stability_beside : Merging → List Entry → WorldKey → Option Stability
-stability_beside m into (key.Interface i) =
-    option_and_then (λ i'. option_and_then (own_stability (key.Interface i')) (lookup (same_key (key.Interface i')) into)) (found_interface m i)
-stability_beside m into (key.Name label) = None
+abbrev pub matched_stability : GraphMerge → List Entry → WorldKey → Option Stability
+matched_stability m into (key.Interface i) =
+    option_and_then (λ i'. option_and_then (own_stability (key.Interface i')) (lookup (same_key (key.Interface i')) into)) (counterpart_interface m i)
+matched_stability m into (key.Name label) = None
 
 -- those of an entry and of the one under its key
-pub record EntryApart (m : Merging) (into : List Entry) (k : WorldKey) (held : WorldItem) (s : Stability × Stability) : Type 0 where
+pub record EntryApart (m : GraphMerge) (into : List Entry) (k : WorldKey) (held : WorldItem) (s : Stability × Stability) : Type 0 where
   pub comes : own_stability k held ≡ Some s.0
-  pub there : stability_beside m into k ≡ Some s.1
+  pub there : matched_stability m into k ≡ Some s.1
   pub apart : Disagree s.0 s.1
 
 -- two of two lists of entries
-pub record EntriesApart (m : Merging) (from into : List Entry) (s : Stability × Stability) : Type 0 where
+pub record EntriesApart (m : GraphMerge) (from into : List Entry) (s : Stability × Stability) : Type 0 where
   pub i : ℕ
   pub i' : ℕ
-  pub matched : found_interface m i ≡ Some i'
+  pub matched : counterpart_interface m i ≡ Some i'
   pub comes : HasStability from i s.0
   pub there : HasStability into i' s.1
   pub apart : Disagree s.0 s.1
 
 -- those of two worlds themselves, or of their imports or exports
-pub data WorldsApart (m : Merging) (from into : World) (s : Stability × Stability) : Type 0 where
+pub data WorldsApart (m : GraphMerge) (from into : World) (s : Stability × Stability) : Type 0 where
   own : AreApart from.stability into.stability s → WorldsApart m from into s
   entries : (exported : Bool) → EntriesApart m (entries_of exported from) (entries_of exported into) s → WorldsApart m from into s
 
 -- ---- types, interfaces and worlds
 
 -- those of type t of the other graph and of the one with which it is matched
-abbrev pub TypesApartAt : Merging → ℕ → Stability × Stability → Type 0
-TypesApartAt m = DifferAt (found_type m) m.other.types m.graph.types (λ (from into : TypeDef). AreApart from.stability into.stability)
+abbrev pub TypesApartAt : GraphMerge → ℕ → Stability × Stability → Type 0
+TypesApartAt m = DifferAt (counterpart_type m) m.other.types m.graph.types (λ (from into : TypeDef). AreApart from.stability into.stability)
 
 -- so of interface i
-abbrev pub InterfacesApartAt : Merging → ℕ → Stability × Stability → Type 0
-InterfacesApartAt m = DifferAt (found_interface m) m.other.interfaces m.graph.interfaces (λ (from into : Interface). AreApart from.stability into.stability)
+abbrev pub InterfacesApartAt : GraphMerge → ℕ → Stability × Stability → Type 0
+InterfacesApartAt m = DifferAt (counterpart_interface m) m.other.interfaces m.graph.interfaces (λ (from into : Interface). AreApart from.stability into.stability)
 
 -- and of world w
-abbrev pub WorldsApartAt : Merging → ℕ → Stability × Stability → Type 0
-WorldsApartAt m = DifferAt (found_world m) m.other.worlds m.graph.worlds (WorldsApart m)
+abbrev pub WorldsApartAt : GraphMerge → ℕ → Stability × Stability → Type 0
+WorldsApartAt m = DifferAt (counterpart_world m) m.other.worlds m.graph.worlds (WorldsApart m)

@@ -12,24 +12,24 @@ use Rattle.wit_data.specs.declared.world.WorldItem.TheVariants as item
 use Rattle.wit_elaboration.specs.Valid.{IsValid}
 use Rattle.wit_graph_data.specs.declared.graph.Package.{Package}
 use Rattle.wit_merge_spec.specs.Agreement.{StructuresDiffer}
-use Rattle.wit_merge_spec.specs.Matches.{Merging}
+use Rattle.wit_merge_spec.specs.Matches.{GraphMerge}
 use Rattle.wit_merge_spec.specs.MismatchText.{part_links}
 use Rattle.wit_merge_spec.specs.TypePairs.{FirstDiffers, TypePair, entry_pairs, interface_pairs, paired, world_pairs}
 use Rattle.wit_merge_match.specs.Differing.{AreKnown}
-use Rattle.wit_merge_match.specs.declared.comparing.Comparing.{Comparing}
-use Rattle.wit_merge_structure.specs.steps.Comparing.{IsSound}
+use Rattle.wit_merge_match.specs.declared.matched_graphs.MatchedGraphs.{MatchedGraphs}
+use Rattle.wit_merge_structure.specs.steps.ComparisonSteps.{IsSound}
 use Rattle.wit_merge_structure.specs.declared.comparison.Comparison.{Comparison}
 
 -- ---- what is compared
 
 -- two valid graphs, of which is known what is matched
-pub record AreComparable (c : Comparing) : Type 0 where
+pub record AreComparable (c : MatchedGraphs) : Type 0 where
   pub known : AreKnown c
   pub graph : IsValid c.graph.now
   pub other : IsValid c.other.now
 
 -- a comparison is of the types of these two graphs, by what is matched of them
-pub record IsOf (c : Comparing) (comparison : Comparison) : Type 0 where
+pub record IsOf (c : MatchedGraphs) (comparison : Comparison) : Type 0 where
   pub from : comparison.sides.from.now ≡ c.other.now.types
   pub into : comparison.sides.into.now ≡ c.graph.now.types
   pub matches : comparison.sides.matches.now ≡ c.matches.now.types
@@ -51,30 +51,30 @@ ListsThere types listed = (e : List ℕ × ℕ) → Contains listed e → e.1 < 
 -- ---- what differs
 
 -- none of some pairs differ
-abbrev pub NoneDiffer : Merging → List TypePair → Type 0
+abbrev pub NoneDiffer : GraphMerge → List TypePair → Type 0
 NoneDiffer m pairs = (p : TypePair) (ending : List ℕ) → Contains pairs p → StructuresDiffer m p.from p.into ending → ⊥
 
 -- of some pairs the first that differ are told
-abbrev pub FirstTold : Merging → List TypePair → List ℕ → Type 0
-FirstTold m = FirstDiffers (StructuresDiffer m)
+abbrev pub FirstMismatch : GraphMerge → List TypePair → List ℕ → Type 0
+FirstMismatch m = FirstDiffers (StructuresDiffer m)
 
 -- ---- the pairs of a package, of an interface and of the imports or the exports of a world
 
 -- those of an entry of the table of interfaces of a package, and of that of worlds
-abbrev pub interface_part : Merging → PackageName → List ℕ × ℕ → List TypePair
+abbrev pub interface_part : GraphMerge → PackageName → List ℕ × ℕ → List TypePair
 interface_part m home e = interface_pairs m (part_links home (codes "interface") e.0) e.1
 
-abbrev pub world_part : Merging → PackageName → List ℕ × ℕ → List TypePair
+abbrev pub world_part : GraphMerge → PackageName → List ℕ × ℕ → List TypePair
 world_part m home e = world_pairs m (part_links home (codes "world") e.0) e.1
 
 -- those of a package, if it is there
-abbrev pub of_package : Merging → (Package → List TypePair) → ℕ → List TypePair
+abbrev pub of_package : GraphMerge → (Package → List TypePair) → ℕ → List TypePair
 of_package m pairs p = option_map_or pairs (slice_get m.other.packages p) []
 
-abbrev pub package_interface_pairs : Merging → ℕ → List TypePair
+abbrev pub package_interface_pairs : GraphMerge → ℕ → List TypePair
 package_interface_pairs m = of_package m (λ home. flat_map (interface_part m home.name) home.interfaces)
 
-abbrev pub package_world_pairs : Merging → ℕ → List TypePair
+abbrev pub package_world_pairs : GraphMerge → ℕ → List TypePair
 package_world_pairs m = of_package m (λ home. flat_map (world_part m home.name) home.worlds)
 
 -- that of a type under its name and of the one under it among others
@@ -82,8 +82,8 @@ abbrev pub common_pair : List (List ℕ × ℕ) → List ℕ × ℕ → List Typ
 common_pair others e = option_map_or (λ t'. paired [] e.0 e.1 t' ∷ []) (lookup (bytes_eq e.0) others) []
 
 -- those of an interface, if it has no name
-abbrev pub unnamed_pairs : Merging → ℕ → List TypePair
+abbrev pub unnamed_pairs : GraphMerge → ℕ → List TypePair
 unnamed_pairs m i = if is_unnamed m.other.interfaces i then interface_pairs m [] i else []
 
-abbrev pub side_pairs : Merging → List ℕ → List Entry → List Entry → List TypePair
+abbrev pub side_pairs : GraphMerge → List ℕ → List Entry → List Entry → List TypePair
 side_pairs m word from into = flat_map (entry_pairs m [] word into) from

@@ -6,7 +6,7 @@ use Rattle.std.specs.Option.{option_map_or}
 use Rattle.std.proofs.lemmas.List.Folds.{flat_map-map}
 use Rattle.wit_digraph.specs.facts.MemberFacts.{Contains-flat_map, Contains-here, flat_map-same}
 use Rattle.wit_digraph.specs.Relation.{IsAcyclic, direct}
-use Rattle.wit_digraph.specs.facts.WalkFacts.{HasShortPaths, IsAcyclic-short}
+use Rattle.wit_digraph.specs.facts.PostOrderFacts.{HasShortPaths, IsAcyclic-short}
 use Rattle.wit_data.specs.Reference.{named_option, named_type, referred, type_references}
 use Rattle.wit_data.specs.facts.ReferenceFacts.{length-references, references_at}
 use Rattle.wit_data.specs.declared.types.Case.{Case}

@@ -12,9 +12,9 @@ use Rattle.wit_data.specs.Reference.{type_references}
 use Rattle.wit_data.specs.declared.types.TypeDef.{TypeDef}
 use Rattle.wit_data.specs.declared.types.Type_.{Type_}
 use Rattle.wit_data.specs.declared.types.Type_.TheVariants as type
-use Rattle.wit_graph_data.specs.facts.HeldFacts.{held_acyclic, held_long, held_row}
-use Rattle.wit_graph_data.specs.Questions.{HasAllBitsValid, has_fixed_parts, held_rows}
-use Rattle.wit_queries.specs.ValidBits.{AreValidBits, TellValidBits, is_valid_by}
+use Rattle.wit_graph_data.specs.facts.ContentFacts.{content_row, contents_acyclic, held_long}
+use Rattle.wit_graph_data.specs.Queries.{HasAllBitsValid, has_fixed_parts, type_contents}
+use Rattle.wit_queries.specs.ValidBits.{AreValidBits, AreValidBitsOf, is_valid_by}
 
 -- a type that isn't there doesn't have all bits valid
 pub no_type : (types : List TypeDef) (t : ℕ) → slice_get types t ≡ None → HasAllBitsValid types (type.Id t) → ⊥
@@ -28,13 +28,13 @@ no_flag (flag ∷ flags) (x ∷ xs) (suc u) long none = no_flag flags xs u (omeg
 no_flag [] (x ∷ xs) u long none = absurd (omega (arith, long))
 no_flag (flag ∷ flags) [] u long none = absurd (omega (arith, long))
 
-by_its_flag : (types : List TypeDef) (flags : List Bool) → TellValidBits types flags → (t : ℕ) (o : Option Bool) → slice_get flags t ≡ o
+by_its_flag : (types : List TypeDef) (flags : List Bool) → AreValidBitsOf types flags → (t : ℕ) (o : Option Bool) → slice_get flags t ≡ o
     → IsTrue (unwrap_or o false) ↔ HasAllBitsValid types (type.Id t)
 by_its_flag types flags tells t (Some flag) at = tells.exact t flag at
 by_its_flag types flags tells t None at = (λ is. absurd (false≢true is), λ valid. absurd (no_type types t (no_flag flags types t tells.each at) valid))
 
 -- by the flags of all types, all bits of a type are valid exactly where they are
-pub valid_by_flags : (types : List TypeDef) (flags : List Bool) → TellValidBits types flags → (ty : Type_) → IsTrue (is_valid_by flags ty) ↔ HasAllBitsValid types ty
+pub valid_by_flags : (types : List TypeDef) (flags : List Bool) → AreValidBitsOf types flags → (ty : Type_) → IsTrue (is_valid_by flags ty) ↔ HasAllBitsValid types ty
 valid_by_flags types flags tells (type.Id t) = by_its_flag types flags tells t (slice_get flags t) refl
 valid_by_flags types flags tells type.Bool = (λ is. is, λ is. is)
 valid_by_flags types flags tells type.U8 = (λ is. is, λ is. is)
@@ -70,19 +70,19 @@ module _ (old new : List TypeDef) (acyclic : IsAcyclic (type_references old)) (b
     | inr past ↦ absurd (omega (arith, low, past.0))
   ]
 
-  same_row : (i : ℕ) → i < length old → direct (held_rows new) i ≡ direct (held_rows old) i
-  same_row i low = let here = stands i low in held_row new i here.0 here.1.1 ∙ sym (held_row old i here.0 here.1.0)
+  same_row : (i : ℕ) → i < length old → direct (type_contents new) i ≡ direct (type_contents old) i
+  same_row i low = let here = stands i low in content_row new i here.0 here.1.1 ∙ sym (content_row old i here.0 here.1.0)
 
-  below : (i j : ℕ) → Contains (direct (held_rows old) i) j → j < length old
-  below i j has = subst (λ n. j < n) (held_long old) (All-contains (λ k. k < length (held_rows old)) (direct (held_rows old) i) j ((held_acyclic old acyclic).in_range i) has)
+  below : (i j : ℕ) → Contains (direct (type_contents old) i) j → j < length old
+  below i j has = subst (λ n. j < n) (held_long old) (All-contains (λ k. k < length (type_contents old)) (direct (type_contents old) i) j ((contents_acyclic old acyclic).in_range i) has)
 
-  path_before : (path : List ℕ) (i j : ℕ) → i < length old → IsPath (held_rows new) i path j → IsPath (held_rows old) i path j × (j < length old)
+  path_before : (path : List ℕ) (i j : ℕ) → i < length old → IsPath (type_contents new) i path j → IsPath (type_contents old) i path j × (j < length old)
   path_before [] i j low leads = (leads, subst (λ k. k < length old) leads low)
   path_before (k ∷ path) i j low leads =
-      let has : Contains (direct (held_rows old) i) k = subst (λ ks. Contains ks k) (same_row i low) leads.0 in
+      let has : Contains (direct (type_contents old) i) k = subst (λ ks. Contains ks k) (same_row i low) leads.0 in
       let rest = path_before path k j (below i k has) leads.1 in ((has, rest.0), rest.1)
 
-  path_after : (path : List ℕ) (i j : ℕ) → i < length old → IsPath (held_rows old) i path j → IsPath (held_rows new) i path j × (j < length old)
+  path_after : (path : List ℕ) (i j : ℕ) → i < length old → IsPath (type_contents old) i path j → IsPath (type_contents new) i path j × (j < length old)
   path_after [] i j low leads = (leads, subst (λ k. k < length old) leads low)
   path_after (k ∷ path) i j low leads =
       let rest = path_after path k j (below i k leads.0) leads.1 in
@@ -100,7 +100,7 @@ module _ (old new : List TypeDef) (acyclic : IsAcyclic (type_references old)) (b
   IsFixed def = has_fixed_parts def.kind ≡ true
 
   -- flags that tell of all types tell of them where others come behind
-  pub flags_stay : (flags : List Bool) → TellValidBits old flags → AreValidBits new flags
+  pub flags_stay : (flags : List Bool) → AreValidBitsOf old flags → AreValidBits new flags
   flags_stay flags tells t flag at =
       let within = slice_get_within flags t flag at in
       let low : t < length old = omega (arith, within, tells.each) in

@@ -3,14 +3,14 @@
 use Rattle.std.specs.Prelude.{◌≡◌, ◌<◌, ℕ, List, [], ◌∷◌, ◌++◌, All, Contains, filter, length, nat_lt, reverse}
 use Rattle.std.specs.List.{flat_map}
 use Rattle.wit_digraph.specs.Relation.{direct}
-use Rattle.wit_digraph.specs.Walks.{first_of_each, walk}
+use Rattle.wit_digraph.specs.PostOrder.{first_of_each, post_order}
 use Rattle.wit_data.specs.declared.types.TypeDef.{TypeDef}
-use Rattle.wit_graph_data.specs.Questions.{is_future}
+use Rattle.wit_graph_data.specs.Queries.{is_future}
 
 -- the futures and streams that the values of type t hold, as rows tell what they hold: those inside others
 -- before them, with repeats
 abbrev pub futures_of : List TypeDef → List (List ℕ) → ℕ → List ℕ
-futures_of types held t = filter (is_future types) (walk held t)
+futures_of types held t = filter (is_future types) (post_order held t)
 
 -- the types of an order that are not marked hold neither futures nor streams
 abbrev pub OthersHoldNone : List TypeDef → List (List ℕ) → List ℕ → List ℕ → Type 0
@@ -28,5 +28,5 @@ places_within count places = filter (λ t. nat_lt t count) places
 -- what was told and what the types on the stack still tell is what the roots tell
 pub record IsUnfolding (types : List TypeDef) (held : List (List ℕ)) (roots stack told : List ℕ) : Type 0 where
   pub in_range : (t : ℕ) → Contains stack t → t < length held
-  pub reached : (t : ℕ) → Contains stack t → Contains (first_of_each (flat_map (walk held) roots)) t
+  pub reached : (t : ℕ) → Contains stack t → Contains (first_of_each (flat_map (post_order held) roots)) t
   pub tells : flat_map (futures_of types held) stack ++ reverse told ≡ flat_map (futures_of types held) roots

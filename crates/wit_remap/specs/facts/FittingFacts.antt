@@ -20,7 +20,7 @@ use Rattle.wit_data.specs.declared.world.World.{World}
 use Rattle.wit_data.specs.declared.world.WorldInclude.{WorldInclude}
 use Rattle.wit_data.specs.declared.world.WorldItem.{WorldItem}
 use Rattle.wit_data.specs.declared.world.WorldItem.TheVariants as item
-use Rattle.wit_link_spec.specs.Gates.{Place}
+use Rattle.wit_link_spec.specs.Gates.{OptionalSpan}
 use Rattle.wit_link_spec.specs.Spans.{function_spans, interface_spans, item_spans, kind_spans, type_spans, world_spans}
 use Rattle.wit_values.specs.facts.Lists.{slice_get-append}
 use Rattle.wit_graph_theory.specs.facts.ListFacts.{Each-map, at_map}
@@ -67,7 +67,7 @@ module _ {X Y : Type 0} (P : X → Type 0) (Q : Y → Type 0) where
 -- ---- what fits has spans that fit, and nothing else has
 
 module _ (offset : ℕ) where
-  abbrev pub AllFit : List Place → Type 0
+  abbrev pub AllFit : List OptionalSpan → Type 0
   AllFit spans = Each (Fits offset) spans
 
   all_kind : (k : TypeDefKind) → KindFits (Fits offset) k → AllFit (kind_spans k)
@@ -93,7 +93,7 @@ module _ (offset : ℕ) where
     parts = kind_fits def.kind (Each-tail (Fits offset) def.span (kind_spans def.kind) all);
   }
 
-  abbrev param_spans : Function → List Place
+  abbrev param_spans : Function → List OptionalSpan
   param_spans f = map (λ (p : Param). p.span) f.params
 
   all_function : (f : Function) → FunctionFits (Fits offset) f → AllFit (function_spans f)
@@ -105,7 +105,7 @@ module _ (offset : ℕ) where
     params = Each-unmapped (Fits offset) (λ (p : Param). Fits offset p.span) (λ (p : Param). p.span) f.params (λ p h. h) (Each-tail (Fits offset) f.span (param_spans f) all);
   }
 
-  abbrev named_spans : List ℕ × Function → List Place
+  abbrev named_spans : List ℕ × Function → List OptionalSpan
   named_spans e = function_spans e.1
 
   abbrev NamedFits : List ℕ × Function → Type 0
@@ -134,13 +134,13 @@ module _ (offset : ℕ) where
   item_fits (item.Function f) all = function_fits f all
   item_fits (item.Type_ id span) all = Each-head (Fits offset) span [] all
 
-  abbrev entry_spans : Entry → List Place
+  abbrev entry_spans : Entry → List OptionalSpan
   entry_spans e = item_spans e.1
 
   abbrev EntryFits : Entry → Type 0
   EntryFits e = ItemFits (Fits offset) e.1
 
-  abbrev include_spans : List WorldInclude → List Place
+  abbrev include_spans : List WorldInclude → List OptionalSpan
   include_spans includes = map (λ (i : WorldInclude). i.span) includes
 
   abbrev IncludeFits : WorldInclude → Type 0
@@ -152,7 +152,7 @@ module _ (offset : ℕ) where
   entries_fit : (entries : List Entry) → AllFit (flat_map entry_spans entries) → EntriesFit (Fits offset) entries
   entries_fit entries all = Each-unflat (Fits offset) EntryFits entry_spans (λ e h. item_fits e.1 h) entries all
 
-  abbrev world_rest : World → List Place
+  abbrev world_rest : World → List OptionalSpan
   world_rest world = flat_map entry_spans world.imports ++ (flat_map entry_spans world.exports ++ include_spans world.includes)
 
   all_world : (world : World) → WholeWorldFits offset world → AllFit (world_spans world)
@@ -180,7 +180,7 @@ module _ (offset : ℕ) where
 
   -- ---- types, interfaces and worlds together
 
-  abbrev pub parts_spans : List TypeDef → List Interface → List World → List Place
+  abbrev pub parts_spans : List TypeDef → List Interface → List World → List OptionalSpan
   parts_spans types interfaces worlds = flat_map type_spans types ++ (flat_map interface_spans interfaces ++ flat_map world_spans worlds)
 
   pub all_parts : (types : List TypeDef) (interfaces : List Interface) (worlds : List World) → PartsFit offset types interfaces worlds → AllFit (parts_spans types interfaces worlds)
@@ -201,14 +201,14 @@ module _ (offset : ℕ) where
   -- ---- spans that fit and spans that pass the end
 
   -- some span of these passes the end
-  abbrev pub SomePasses : List Place → Type 0
+  abbrev pub SomePasses : List OptionalSpan → Type 0
   SomePasses spans = (from : ℕ) × (to : ℕ) × Contains spans (Some (from, to)) × (2 ^ 32 ≤ to + offset)
 
-  passes_later : (span : Place) (spans : List Place) → SomePasses spans → SomePasses (span ∷ spans)
+  passes_later : (span : OptionalSpan) (spans : List OptionalSpan) → SomePasses spans → SomePasses (span ∷ spans)
   passes_later span spans passes = (passes.0, passes.1, Contains-append_right (span ∷ []) spans (Some (passes.0, passes.1)) passes.2, passes.3)
 
   -- all fit, or some span passes
-  pub fit_or_pass : offset < 2 ^ 32 → (spans : List Place) → AllFit spans ⊎ SomePasses spans
+  pub fit_or_pass : offset < 2 ^ 32 → (spans : List OptionalSpan) → AllFit spans ⊎ SomePasses spans
   fit_or_pass small [] = inl (λ i place at. cc)
   fit_or_pass small (None ∷ spans) =
       elim (fit_or_pass small spans) [

@@ -12,10 +12,10 @@ use Rattle.wit_graph_data.specs.declared.graph.Graph.{Graph}
 use Rattle.wit_graph_data.specs.declared.graph.Package.{Package}
 use Rattle.wit_graph_theory.specs.Cut.{cut_interface}
 use Rattle.wit_graph_theory.specs.Image.{Maps, interface_image, type_image, world_image}
-use Rattle.wit_graph_theory.specs.Kept.{Kept}
+use Rattle.wit_graph_theory.specs.Kept.{KeptIds}
 use Rattle.wit_link_spec.specs.Addition.{Addition, active_includes, addition_maps, own_worlds}
-use Rattle.wit_link_spec.specs.Ranks.{taken, taken_places}
-use Rattle.wit_link_spec.specs.declared.adding.Places.{Places}
+use Rattle.wit_link_spec.specs.Ranks.{selected, selected_with_index}
+use Rattle.wit_link_spec.specs.declared.addition.NewIds.{NewIds}
 use Rattle.wit_remap.specs.steps.Fits.{Fits, InterfaceFits, TypeFits, WorldFits}
 use Rattle.wit_remap.specs.steps.Parts.{is_new}
 use Rattle.wit_remap.specs.steps.Tables.{interfaces_at, worlds_at}
@@ -25,53 +25,53 @@ use Rattle.wit_remap.specs.declared.worlds.PlacedWorld.{PlacedWorld}
 
 -- the addition of a package to a graph
 abbrev pub addition : Part → Graph → UnresolvedPackage → ℕ → Addition
-addition part g u offset = record { features = part.features.now; graph = g; handed = u; offset = offset }
+addition part g u offset = record { features = part.features.now; graph = g; unresolved = u; offset = offset }
 
--- the worlds of its own of a package, at their places, each with the includes that take part
+-- the worlds of its own of a package, at their places, each with the includes that are active
 abbrev pub added_world : Addition → ℕ × World → PlacedWorld
 added_world a e = record { place = e.0; world = world_image (addition_maps a) e.0 e.1; includes = active_includes a e.1 }
 
 abbrev pub added_worlds : Addition → List PlacedWorld
 added_worlds a = map (added_world a) (own_worlds a)
 
--- ---- the same by where ids go, whatever the addition
+-- ---- the same by what ids are remapped to, whatever the addition
 
 -- what can be moved to the ends of a graph: its spans fit, and names and keys differ at their places
-pub record IsReady (places : Places) (m : Maps) (kept : Kept) (g : Graph) (u : UnresolvedPackage) : Type 0 where
+pub record CanMoveParts (places : NewIds) (m : Maps) (kept : KeptIds) (g : Graph) (u : UnresolvedPackage) : Type 0 where
   pub new : lookup (same_package u.name) g.package_names ≡ None
   pub types : Each (TypeFits (Fits m.offset)) u.types
   pub interfaces : Each (InterfaceFits (Fits m.offset)) u.interfaces
   pub worlds : Each (WorldFits (Fits m.offset)) u.worlds
-  pub interface_names : IsDistinct bytes_eq (keys_of (interfaces_at m (taken_places (is_new (length g.interfaces) places.interfaces) u.interfaces)))
-  pub world_names : IsDistinct bytes_eq (keys_of (worlds_at m (taken_places (is_new (length g.worlds) places.worlds) u.worlds)))
-  pub keys : Each (λ (e : ℕ × World). HasKeysApart m kept e.1) (taken_places (is_new (length g.worlds) places.worlds) u.worlds)
+  pub interface_names : IsDistinct bytes_eq (keys_of (interfaces_at m (selected_with_index (is_new (length g.interfaces) places.interfaces) u.interfaces)))
+  pub world_names : IsDistinct bytes_eq (keys_of (worlds_at m (selected_with_index (is_new (length g.worlds) places.worlds) u.worlds)))
+  pub keys : Each (λ (e : ℕ × World). HasKeysApart m kept e.1) (selected_with_index (is_new (length g.worlds) places.worlds) u.worlds)
 
 -- the package with the tables of what goes to new ids
 abbrev pub moved_package : Maps → UnresolvedPackage → (ℕ → Bool) → (ℕ → Bool) → Package
 moved_package m u own_interface own_world = record {
   name = u.name;
   docs = u.docs;
-  interfaces = interfaces_at m (taken_places own_interface u.interfaces);
-  worlds = worlds_at m (taken_places own_world u.worlds);
+  interfaces = interfaces_at m (selected_with_index own_interface u.interfaces);
+  worlds = worlds_at m (selected_with_index own_world u.worlds);
 }
 
 -- the graph with the parts that go to new ids
-abbrev pub moved_parts : Places → Maps → Kept → List TypeDef → UnresolvedPackage → Graph → Graph
+abbrev pub moved_parts : NewIds → Maps → KeptIds → List TypeDef → UnresolvedPackage → Graph → Graph
 moved_parts places m kept owns u g = record {
-  types = g.types ++ (map (type_image m) (taken (is_new (length g.types) places.types) u.types) ++ owns);
-  interfaces = g.interfaces ++ map (interface_image m) (map (cut_interface kept) (taken (is_new (length g.interfaces) places.interfaces) u.interfaces));
+  types = g.types ++ (map (type_image m) (selected (is_new (length g.types) places.types) u.types) ++ owns);
+  interfaces = g.interfaces ++ map (interface_image m) (map (cut_interface kept) (selected (is_new (length g.interfaces) places.interfaces) u.interfaces));
   worlds = g.worlds;
   packages = g.packages ++ moved_package m u (is_new (length g.interfaces) places.interfaces) (is_new (length g.worlds) places.worlds) ∷ [];
   package_names = g.package_names ++ (u.name, length g.packages) ∷ [];
 }
 
 -- the graph with its interfaces and the package, with a table of worlds
-abbrev pub with_interfaces : Places → Maps → Kept → UnresolvedPackage → List (List ℕ × ℕ) → Graph → Graph
+abbrev pub with_interfaces : NewIds → Maps → KeptIds → UnresolvedPackage → List (List ℕ × ℕ) → Graph → Graph
 with_interfaces places m kept u worlds g =
     let own = is_new (length g.interfaces) places.interfaces in
-    let home : Package = record { name = u.name; docs = u.docs; interfaces = interfaces_at m (taken_places own u.interfaces); worlds = worlds } in
+    let home : Package = record { name = u.name; docs = u.docs; interfaces = interfaces_at m (selected_with_index own u.interfaces); worlds = worlds } in
     record g {
-      interfaces = g.interfaces ++ map (interface_image m) (map (cut_interface kept) (taken own u.interfaces));
+      interfaces = g.interfaces ++ map (interface_image m) (map (cut_interface kept) (selected own u.interfaces));
       packages = g.packages ++ home ∷ [];
       package_names = g.package_names ++ (u.name, length g.packages) ∷ [];
     }

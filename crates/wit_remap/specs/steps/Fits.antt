@@ -16,14 +16,14 @@ use Rattle.wit_data.specs.declared.types.TypeDefKind.TheVariants as kind
 use Rattle.wit_data.specs.declared.world.World.{World}
 use Rattle.wit_data.specs.declared.world.WorldItem.{WorldItem}
 use Rattle.wit_data.specs.declared.world.WorldItem.TheVariants as item
-use Rattle.wit_link_spec.specs.Gates.{Place}
+use Rattle.wit_link_spec.specs.Gates.{OptionalSpan}
 
 -- the place still ends within the last position
-abbrev pub Fits : ℕ → Place → Type 0
+abbrev pub Fits : ℕ → OptionalSpan → Type 0
 Fits offset place = end_of place + offset < 2 ^ 32
 
 -- of any condition on places: those of the parts of a kind meet it
-abbrev pub KindFits : (Place → Type 0) → TypeDefKind → Type 0
+abbrev pub KindFits : (OptionalSpan → Type 0) → TypeDefKind → Type 0
 KindFits P (kind.Record fields) = Each (λ (f : Field). P f.span) fields
 KindFits P (kind.Variant cases) = Each (λ (c : Case). P c.span) cases
 KindFits P (kind.Flags flags) = Each (λ (f : Flag). P f.span) flags
@@ -31,32 +31,32 @@ KindFits P (kind.Enum cases) = Each (λ (c : EnumCase). P c.span) cases
 KindFits P _ = Unit {0}
 
 -- those of a type
-pub record TypeFits (P : Place → Type 0) (def : TypeDef) : Type 0 where
+pub record TypeFits (P : OptionalSpan → Type 0) (def : TypeDef) : Type 0 where
   pub own : P def.span
   pub parts : KindFits P def.kind
 
 -- those of a function
-pub record FunctionFits (P : Place → Type 0) (f : Function) : Type 0 where
+pub record FunctionFits (P : OptionalSpan → Type 0) (f : Function) : Type 0 where
   pub own : P f.span
   pub params : Each (λ (p : Param). P p.span) f.params
 
 -- those of an interface
-pub record InterfaceFits (P : Place → Type 0) (interface : Interface) : Type 0 where
+pub record InterfaceFits (P : OptionalSpan → Type 0) (interface : Interface) : Type 0 where
   pub own : P interface.span
   pub functions : Each (λ (e : List ℕ × Function). FunctionFits P e.1) interface.functions
 
--- those of what a world holds under a key
-abbrev pub ItemFits : (Place → Type 0) → WorldItem → Type 0
+-- the spans of what a world holds under a key fit
+abbrev pub ItemFits : (OptionalSpan → Type 0) → WorldItem → Type 0
 ItemFits P (item.Interface id stability docs span external_id) = P span
 ItemFits P (item.Function function) = FunctionFits P function
 ItemFits P (item.Type_ id span) = P span
 
--- those of entries
-abbrev pub EntriesFit : (Place → Type 0) → List Entry → Type 0
+-- the spans of entries fit
+abbrev pub EntriesFit : (OptionalSpan → Type 0) → List Entry → Type 0
 EntriesFit P entries = Each (λ (e : Entry). ItemFits P e.1) entries
 
 -- those of a world and of its entries
-pub record WorldFits (P : Place → Type 0) (world : World) : Type 0 where
+pub record WorldFits (P : OptionalSpan → Type 0) (world : World) : Type 0 where
   pub own : P world.span
   pub imports : EntriesFit P world.imports
   pub exports : EntriesFit P world.exports

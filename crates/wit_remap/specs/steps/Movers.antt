@@ -1,7 +1,7 @@
--- Where the things of a package go, as maps.
+-- What the things of a package are remapped to, as maps.
 use Rattle.std.specs.Prelude.{ℕ, List, Option, None, Some, slice_get, unwrap_or}
 use Rattle.wit_graph_theory.specs.Image.{Maps}
-use Rattle.wit_link_spec.specs.declared.adding.Places.{Places}
+use Rattle.wit_link_spec.specs.declared.addition.NewIds.{NewIds}
 use Rattle.wit_remap.specs.declared.mover.Mover.{Mover}
 
 -- the id that is there, or else the old one
@@ -10,12 +10,12 @@ id_or old None = old
 id_or old (Some None) = old
 id_or old (Some (Some new)) = new
 
--- where an id goes by a list of places: one that goes nowhere stays
+-- what an id is remapped to by a list of places: one that isn't remapped stays
 abbrev pub goes : List (Option ℕ) → ℕ → ℕ
 goes places id = id_or id (slice_get places id)
 
 -- the maps by such lists
-abbrev pub maps_with : Places → List ℕ → ℕ → ℕ → Maps
+abbrev pub maps_with : NewIds → List ℕ → ℕ → ℕ → Maps
 maps_with places values home offset = record {
   types = goes places.types;
   values = λ t. unwrap_or (slice_get values t) t;

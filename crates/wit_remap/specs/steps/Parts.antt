@@ -1,25 +1,25 @@
--- What of a package takes part, and what of that is its own.
+-- What of a package is active, and what of that is its own.
 use Rattle.std.specs.Prelude.{ℕ, Bool, false, List, Option, None, Some, nat_le, slice_get, unwrap_or}
 use Rattle.wit_data.specs.declared.world.WorldItem.{WorldItem}
 use Rattle.wit_data.specs.declared.world.WorldItem.TheVariants as item
 use Rattle.wit_graph_data.specs.declared.features.Features.{Features}
-use Rattle.wit_graph_theory.specs.Kept.{Kept}
+use Rattle.wit_graph_theory.specs.Kept.{KeptIds}
 use Rattle.wit_link_spec.specs.Gates.{function_is_active, is_active}
-use Rattle.wit_link_spec.specs.declared.adding.Activity.{Activity}
+use Rattle.wit_link_spec.specs.declared.addition.Activity.{Activity}
 use Rattle.wit_remap.specs.declared.part.Part.{Part}
 
 -- the flag at a place
 abbrev pub flag : List Bool → ℕ → Bool
 flag flags i = unwrap_or (slice_get flags i) false
 
--- an entry of a world that takes part, where it is told of types which do
+-- an entry of a world that is active, where it is told of types which do
 abbrev pub has_item : Features → (ℕ → Bool) → WorldItem → Bool
 has_item features types (item.Interface id stability docs span external_id) = is_active features stability
 has_item features types (item.Function function) = function_is_active features function
 has_item features types (item.Type_ id span) = types id
 
--- what takes part
-abbrev pub kept_with : Features → Activity → Kept
+-- what is active
+abbrev pub kept_with : Features → Activity → KeptIds
 kept_with features activity = record {
   types = flag activity.types;
   interfaces = flag activity.interfaces;
@@ -28,7 +28,7 @@ kept_with features activity = record {
   items = has_item features (flag activity.types);
 }
 
-abbrev pub kept_of : Part → Kept
+abbrev pub kept_of : Part → KeptIds
 kept_of part = kept_with part.features.now part.activity.now
 
 -- an id that isn't below the first one

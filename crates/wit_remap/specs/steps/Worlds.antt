@@ -7,14 +7,14 @@ use Rattle.wit_data.specs.facts.WorldKeyFacts.{same_key}
 use Rattle.wit_data.specs.declared.world.World.{World}
 use Rattle.wit_graph_theory.specs.Cut.{cut_world}
 use Rattle.wit_graph_theory.specs.Image.{Maps, entry_image, world_image}
-use Rattle.wit_graph_theory.specs.Kept.{Kept}
+use Rattle.wit_graph_theory.specs.Kept.{KeptIds}
 use Rattle.wit_link_spec.specs.Gates.{include_is_active}
 use Rattle.wit_remap.specs.steps.Parts.{kept_of}
 use Rattle.wit_remap.specs.declared.part.Part.{Part}
 use Rattle.wit_remap.specs.declared.worlds.PlacedWorld.{PlacedWorld}
 
--- the keys of what takes part still differ at their places
-pub record HasKeysApart (m : Maps) (kept : Kept) (world : World) : Type 0 where
+-- the keys of what is active still differ at their places
+pub record HasKeysApart (m : Maps) (kept : KeptIds) (world : World) : Type 0 where
   pub imports : IsDistinct same_key (keys_of (map (entry_image m 0) (filter (λ (e : Entry). kept.items e.1) world.imports)))
   pub exports : IsDistinct same_key (keys_of (map (entry_image m 0) (filter (λ (e : Entry). kept.items e.1) world.exports)))
 

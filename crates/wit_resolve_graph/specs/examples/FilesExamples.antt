@@ -1,4 +1,4 @@
--- Files that are handed in with groups or with another state: the last position at which they fit, and the next one.
+-- Files that come in with groups or with another state: the last position at which they fit, and the next one.
 use Rattle.std.specs.Prelude.{ℕ, [], ◌∷◌}
 use Rattle.wit_graph_data.specs.declared.error_kind.ResolveErrorKind.TheVariants.{OffsetOverflow, OutOfMemory}
 use Rattle.wit_link.specs.Groups.{FilesPassTheEnd}

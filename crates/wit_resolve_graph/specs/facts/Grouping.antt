@@ -5,16 +5,16 @@ use Rattle.wit_graph_data.specs.declared.error_kind.ResolveErrorKind.{ResolveErr
 use Rattle.wit_graph_data.specs.declared.features.Features.{Features}
 use Rattle.wit_graph_data.specs.declared.graph.Graph.{Graph}
 use Rattle.wit_link.specs.Several.{ArePushed}
-use Rattle.wit_link_order.specs.Sorting.{AreSorted, Handed, IsSortCause, names_of}
+use Rattle.wit_link_order.specs.GroupOrder.{AreSorted, IsSortCause, Unresolved, names_of}
 
--- packages are added in their order, nothing speaks against it, and the one of a name has this id
-pub record AreAdded (features : Features) (g : Graph) (handed : List Handed) (name : PackageName) (id : ℕ) (new : Graph) : Type 0 where
+-- packages are added in their order, no cause holds against it, and the one of a name has this id
+pub record AreAdded (features : Features) (g : Graph) (unresolved : List Unresolved) (name : PackageName) (id : ℕ) (new : Graph) : Type 0 where
   pub order : List ℕ
-  pub sorted : List Handed
+  pub sorted : List Unresolved
   pub ids : List ℕ
   pub place : ℕ
-  pub sortable : (error : ResolveErrorKind) → IsSortCause handed error → ⊥
-  pub are_sorted : AreSorted handed order sorted
+  pub sortable : (error : ResolveErrorKind) → IsSortCause unresolved error → ⊥
+  pub are_sorted : AreSorted unresolved order sorted
   pub are_pushed : ArePushed features g sorted new ids
   pub name_is : slice_get (names_of sorted) place ≡ Some name
   pub id_is : slice_get ids place ≡ Some id

@@ -7,16 +7,16 @@ use Rattle.wit_data.specs.declared.types.TypeDef.{TypeDef}
 use Rattle.wit_data.specs.declared.world.World.{World}
 use Rattle.wit_graph_data.specs.declared.graph.Graph.{Graph}
 use Rattle.wit_graph_data.specs.declared.graph.Package.{Package}
-use Rattle.wit_merge_spec.specs.facts.Staying.{SameHome, SameInterface, SamePackage}
-use Rattle.wit_semver_spec.specs.laws.Staying.{SameKind}
+use Rattle.wit_merge_spec.specs.facts.Unchanged.{SameHome, SameInterface, SamePackage}
+use Rattle.wit_semver_spec.specs.laws.Unchanged.{SameKind}
 use Rattle.wit_semver_spec.specs.Rewritten.{rewritten}
 use Rattle.wit_data.specs.declared.track.TrackRule.{TrackRule}
 use Rattle.wit_data.specs.declared.unresolved.UnresolvedPackageGroup.{UnresolvedPackageGroup}
 use Rattle.wit_link_spec.specs.Addition.{Addition}
 use Rattle.wit_link.specs.Appending.{IsAdded}
-use Rattle.wit_merge_spec.specs.Matches.{Merging}
+use Rattle.wit_merge_spec.specs.Matches.{GraphMerge}
 use Rattle.wit_merge_spec.specs.United.{united}
-use Rattle.wit_transform.specs.Turned.{Turn, turned}
+use Rattle.wit_transform.specs.Transformed.{WorldLists, transformed}
 use Rattle.wit_resolve_graph.specs.Sources.{PushesAnswer}
 use Rattle.wit_resolve_graph.specs.State.{State}
 use Rattle.wit_resolve_graph.specs.Step.{PushesGroups, Run}
@@ -29,7 +29,7 @@ pub record KeepsType (old new : TypeDef) : Type 0 where
   pub kind : SameKind old.kind new.kind
 
 -- everything of a graph is in another at its id: types as they were but for these, interfaces with what they had, worlds
--- of their packages (a turned world has another name and other lists), packages under their names with their interfaces
+-- of their packages (a transformed world has another name and other lists), packages under their names with their interfaces
 pub record Keeps (old new : Graph) : Type 0 where
   pub types : EachAt (λ t (def : TypeDef). SomeAt new.types t (KeepsType def)) old.types
   pub interfaces : EachAt (λ i (interface : Interface). SomeAt new.interfaces i (SameInterface interface)) old.interfaces
@@ -55,11 +55,11 @@ SourcesKeep = (old new : State) (group : UnresolvedPackageGroup) (id : ℕ) → 
 
 -- a world is transformed, whatever a filter answers
 abbrev pub TransformationsKeep : Type 0
-TransformationsKeep = (g : Graph) (w : ℕ) (change : World → Turn) → Keeps g (turned g w change)
+TransformationsKeep = (g : Graph) (w : ℕ) (change : World → WorldLists) → Keeps g (transformed g w change)
 
 -- another graph is merged into it, or the imports of a world are merged by a rule of tracks
 abbrev pub MergesKeep : Type 0
-MergesKeep = (m : Merging) → Keeps m.graph (united m)
+MergesKeep = (m : GraphMerge) → Keeps m.graph (united m)
 
 abbrev pub SemverMergesKeep : Type 0
 SemverMergesKeep = (rule : TrackRule) (g : Graph) (w : ℕ) → Keeps g (rewritten rule g w)

@@ -12,9 +12,9 @@ use Rattle.wit_data.specs.declared.unresolved.AstItem.{AstItem}
 use Rattle.wit_data.specs.declared.unresolved.AstItem.TheVariants as item
 use Rattle.wit_script_package.specs.Adding.{empty_interface, empty_world, with_interface_type}
 use Rattle.wit_script_package.specs.Mention.{is_world, mentioned_at}
-use Rattle.wit_script_package.specs.Naming.{Place, foreign_named}
+use Rattle.wit_script_package.specs.Naming.{OptionalSpan, foreign_named}
 use Rattle.wit_script_package.specs.declared.draft.Draft.{Draft}
-use Rattle.wit_script_package.specs.declared.draft.Standing.{Standing}
+use Rattle.wit_script_package.specs.declared.draft.LineContext.{LineContext}
 use Rattle.wit_script_package.specs.declared.mention.Mention.{Mention}
 use Rattle.wit_script_package.specs.declared.mention.MentionKind.{MentionKind}
 use Rattle.wit_script_package.specs.declared.mention.MentionKind.TheVariants as taken
@@ -46,21 +46,21 @@ fits takes named = if is_world takes then is_world_item named else not (is_world
 abbrev pub with_gate : Stability → AstItem × List Stability → AstItem × List Stability
 with_gate gate noted = (noted.0, noted.1 ++ gate ∷ [])
 
-abbrev pub with_item_note : List ℕ → AstItem → Stability → List ForeignItem → List ForeignItem
-with_item_note name named gate items = with_value (bytes_eq name) name (named, []) (with_gate gate) items
+abbrev pub with_item_gate : List ℕ → AstItem → Stability → List ForeignItem → List ForeignItem
+with_item_gate name named gate items = with_value (bytes_eq name) name (named, []) (with_gate gate) items
 
-abbrev pub with_package_note : PackageName → List ℕ → AstItem → Stability → ForeignItems → ForeignItems
-with_package_note parent name named gate deps = with_value (same_package parent) parent [] (with_item_note name named gate) deps
+abbrev pub with_package_gate : PackageName → List ℕ → AstItem → Stability → ForeignItems → ForeignItems
+with_package_gate parent name named gate deps = with_value (same_package parent) parent [] (with_item_gate name named gate) deps
 
 -- the places of packages, with that of one more, where it is the first mention of its package
-abbrev pub with_dep_span : ForeignItems → PackageName → Place → List Place → List Place
+abbrev pub with_dep_span : ForeignItems → PackageName → OptionalSpan → List OptionalSpan → List OptionalSpan
 with_dep_span deps parent span spans = if is_some (lookup (same_package parent) deps) then spans else spans ++ span ∷ []
 
--- a note of a foreign item
-abbrev pub with_note : Draft → Mention → AstItem → Draft
-with_note p m named = record p {
+-- a gate of a foreign item
+abbrev pub with_foreign_gate : Draft → Mention → AstItem → Draft
+with_foreign_gate p m named = record p {
   foreign = record p.foreign {
-    deps = with_package_note m.parent m.name named m.gate p.foreign.deps;
+    deps = with_package_gate m.parent m.name named m.gate p.foreign.deps;
     dep_spans = with_dep_span p.foreign.deps m.parent m.span p.foreign.dep_spans;
   };
 }
@@ -75,11 +75,11 @@ abbrev pub with_foreign : Draft → Mention → AstItem × Draft
 with_foreign p m = with_foreign_as p m m.kind
 
 -- a type that is used first
-abbrev pub with_type_span : Place → Draft → Draft
+abbrev pub with_type_span : OptionalSpan → Draft → Draft
 with_type_span span p = record p { foreign = record p.foreign { type_spans = p.foreign.type_spans ++ span ∷ [] } }
 
 -- a foreign type, where the interface has none of that name yet
-abbrev pub with_foreign_type : Draft → List ℕ → Standing → ℕ → Draft
+abbrev pub with_foreign_type : Draft → List ℕ → LineContext → ℕ → Draft
 with_foreign_type p name here at = option_map_or (with_type_span here.span) (with_interface_type p name kind.Unknown here at) p
 
 abbrev pub with_use_as : Draft → Mention → AstItem → MentionKind → Draft
@@ -90,7 +90,7 @@ with_use_as p m named taken.World = p
 
 -- a mention of this item
 abbrev pub with_counted : Draft → Mention → AstItem → Draft
-with_counted p m named = with_use_as (with_note p m named) m named m.kind
+with_counted p m named = with_use_as (with_foreign_gate p m named) m named m.kind
 
 abbrev pub with_mention_of : Draft → Mention → Option AstItem → Draft
 with_mention_of p m (Some named) = if fits m.kind named then with_counted p m named else p

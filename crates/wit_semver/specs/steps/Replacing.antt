@@ -10,14 +10,14 @@ use Rattle.wit_data.specs.declared.world.World.{World}
 use Rattle.wit_elaboration.specs.Entries.{Entry}
 use Rattle.wit_graph_data.specs.declared.graph.Graph.{Graph}
 use Rattle.wit_graph_theory.specs.FunctionMismatch.{HaveFunctionMismatch}
-use Rattle.wit_semver_spec.specs.Rewritten.{relisted_at, replaced_use, retargeted, target_name, type_named}
+use Rattle.wit_semver_spec.specs.Rewritten.{interface_type, replaced_use, retargeted, target_name, with_new_entries_at}
 use Rattle.wit_semver_spec.specs.TrackCause.{Disagrees, IsComplete, disagreement_text, missing_text, upgrade_message}
 use Rattle.wit_semver_spec.specs.Tracks.{Versioned, both, is_below, track_key, versioned}
 use Rattle.wit_semver_spec.specs.Upgrade.{Upgrade, is_replaced, newest}
 use Rattle.wit_semver.specs.contracts.tracks.TrackKeyPartialEq.TheImpl.{eq-value}
 use Rattle.wit_semver.specs.declared.tracks.TrackKey.{TrackKey}
 use Rattle.wit_semver.specs.declared.tracks.VersionedInterface.{VersionedInterface}
-use Rattle.wit_semver.specs.declared.upgrading.Upgrading.{Upgrading}
+use Rattle.wit_semver.specs.declared.upgrade_plan.UpgradePlan.{UpgradePlan}
 
 -- the imports of a world of a graph are to be merged by a rule
 abbrev pub upgrade : TrackRule → Graph → World → Upgrade
@@ -59,7 +59,7 @@ is_newer g None v = true
 is_newer g (Some j) v = option_map_or (λ w. is_below w v) (versioned g.packages g.interfaces j) true
 
 -- a table tells of each track on which some interfaces are one of them, of which none is of a greater version
-pub record TellsNewest (rule : TrackRule) (g : Graph) (ids : List ℕ) (table : List (TrackKey × ℕ)) : Type 0 where
+pub record IsNewestTable (rule : TrackRule) (g : Graph) (ids : List ℕ) (table : List (TrackKey × ℕ)) : Type 0 where
   pub from : (k : TrackKey) (j : ℕ) → lookup (same_track k) table ≡ Some j → Contains ids j × (key_at rule g j ≡ Some k)
   pub into : (i : ℕ) (k : TrackKey) → Contains ids i → key_at rule g i ≡ Some k → (j : ℕ) × (lookup (same_track k) table ≡ Some j) × (is_smaller g j i ≡ false)
 
@@ -72,12 +72,12 @@ IsFilled f ids count found = (length found ≡ count) × ((i : ℕ) → get_or f
 -- ---- a world whose imports are to be merged
 
 -- what is told of it, as an upgrade
-abbrev pub upgrade_of : Upgrading → Upgrade
+abbrev pub upgrade_of : UpgradePlan → Upgrade
 upgrade_of a = upgrade a.rule a.graph.now a.world.now
 
 -- it tells of each interface what replaces it
-abbrev pub IsReady : Upgrading → Type 0
-IsReady a = AreReplacements (upgrade_of a) a.replaced
+abbrev pub IsUpgradeReady : UpgradePlan → Type 0
+IsUpgradeReady a = AreReplacements (upgrade_of a) a.replaced
 
 -- the name of the type that type t names as an alias
 abbrev pub name_used : List TypeDef → ℕ → Option (List ℕ)
@@ -85,7 +85,7 @@ name_used types t = option_and_then (target_name types) (slice_get types t)
 
 -- what type t names after the rewriting, if it follows
 abbrev pub used_target : Upgrade → ℕ → Option ℕ
-used_target u t = option_and_then (λ f. option_and_then (type_named u.graph.interfaces (newest u f)) (name_used u.graph.types t)) (replaced_use u t)
+used_target u t = option_and_then (λ f. option_and_then (interface_type u.graph.interfaces (newest u f)) (name_used u.graph.types t)) (replaced_use u t)
 
 -- type t uses a type of a replaced interface, and the newest has none of its name
 pub record LacksTypeAt (u : Upgrade) (t : ℕ) (message : List ℕ) : Type 0 where
@@ -93,7 +93,7 @@ pub record LacksTypeAt (u : Upgrade) (t : ℕ) (message : List ℕ) : Type 0 whe
   pub name : List ℕ
   pub uses : replaced_use u t ≡ Some f
   pub named : name_used u.graph.types t ≡ Some name
-  pub absent : type_named u.graph.interfaces (newest u f) name ≡ None
+  pub absent : interface_type u.graph.interfaces (newest u f) name ≡ None
   pub message_is : message ≡ upgrade_message u f (missing_text name)
 
 -- one of some types does
@@ -122,11 +122,11 @@ abbrev pub with_lists : Graph → ℕ → List Entry → List (Option ℕ) → G
 with_lists g w imports targets =
     record g { types = with_targets g.types targets; worlds = option_map_or (λ (world : World). slice_set g.worlds w (record world { imports = imports })) (slice_get g.worlds w) g.worlds }
 
--- nothing of what reads the graph as it was speaks against merging the imports of the world at a place, and it is listed
+-- nothing of what reads the graph as it was holds against merging the imports of the world at a place, and it is listed
 -- anew
-pub record IsRelisted (rule : TrackRule) (g : Graph) (w : ℕ) (made : Graph) : Type 0 where
+pub record HasNewEntries (rule : TrackRule) (g : Graph) (w : ℕ) (made : Graph) : Type 0 where
   pub world : World
   pub there : slice_get g.worlds w ≡ Some world
   pub complete : IsComplete (upgrade rule g world)
   pub agree : (message : List ℕ) → Disagrees (upgrade rule g world) message → ⊥
-  pub is : made ≡ relisted_at (upgrade rule g world) w
+  pub is : made ≡ with_new_entries_at (upgrade rule g world) w

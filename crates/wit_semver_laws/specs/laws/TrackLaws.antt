@@ -15,9 +15,9 @@ use Rattle.wit_elaboration.specs.Entries.{keyed_interfaces}
 use Rattle.wit_elaboration.specs.laws.KeptByElaboration.{labelled}
 use Rattle.wit_elaboration.specs.Valid.{IsValid}
 use Rattle.wit_graph_data.specs.declared.graph.Graph.{Graph}
-use Rattle.wit_semver_spec.specs.Rewritten.{following, relisted, replaced_use, rewritten, target_name, type_named}
-use Rattle.wit_semver_spec.specs.laws.Staying.{SameButLists, SameButTarget}
-use Rattle.wit_semver_spec.specs.TrackCause.{IsAccepted}
+use Rattle.wit_semver_spec.specs.Rewritten.{interface_type, replaced_use, rewritable_types, rewritten, target_name, with_new_entries}
+use Rattle.wit_semver_spec.specs.laws.Unchanged.{SameButLists, SameButTarget}
+use Rattle.wit_semver_spec.specs.TrackCause.{SemverMergeIsAccepted}
 use Rattle.wit_semver_spec.specs.Tracks.{Versioned, are_on_one_track, versioned}
 use Rattle.wit_semver_spec.specs.Upgrade.{Upgrade, imported, is_replaced, newest}
 
@@ -33,41 +33,41 @@ pub record IsGreatest (u : Upgrade) (f n : ℕ) : Type 0 where
 abbrev pub NewestIsGreatest : Type 0
 NewestIsGreatest = (u : Upgrade) (f : ℕ) → is_replaced u f ≡ true → IsGreatest u f (newest u f)
 
--- a merge of a valid graph against which nothing speaks, of world `old` at place w, which becomes `new`
-pub record IsMerged (rule : TrackRule) (g : Graph) (w : ℕ) (old new : World) : Type 0 where
+-- a merge of a valid graph against which no cause holds, of world `old` at place w, which becomes `new`
+pub record IsSemverMerged (rule : TrackRule) (g : Graph) (w : ℕ) (old new : World) : Type 0 where
   pub valid : IsValid g
   pub there : slice_get g.worlds w ≡ Some old
-  pub accepted : IsAccepted rule g w
+  pub accepted : SemverMergeIsAccepted rule g w
   pub is : slice_get (rewritten rule g w).worlds w ≡ Some new
 
 -- the interfaces that the world imports under their own keys are exactly the former ones less the replaced: nothing
 -- comes back and nothing new is needed
 abbrev pub KeysAreExact : Type 0
-KeysAreExact = (rule : TrackRule) (g : Graph) (w : ℕ) (old new : World) (j : ℕ) → IsMerged rule g w old new
+KeysAreExact = (rule : TrackRule) (g : Graph) (w : ℕ) (old new : World) (j : ℕ) → IsSemverMerged rule g w old new
     → Contains (keyed_interfaces new.imports) j ↔ (Contains (keyed_interfaces old.imports) j × (is_replaced (record { rule = rule; graph = g; world = old }) j ≡ false))
 
 -- no two of them are on one track
 abbrev pub OneOnEachTrack : Type 0
-OneOnEachTrack = (rule : TrackRule) (g : Graph) (w : ℕ) (old new : World) (i j : ℕ) → IsMerged rule g w old new → Contains (keyed_interfaces new.imports) i → Contains (keyed_interfaces new.imports) j
+OneOnEachTrack = (rule : TrackRule) (g : Graph) (w : ℕ) (old new : World) (i j : ℕ) → IsSemverMerged rule g w old new → Contains (keyed_interfaces new.imports) i → Contains (keyed_interfaces new.imports) j
     → are_on_one_track rule (rewritten rule g w).packages (rewritten rule g w).interfaces i j ≡ true → i ≡ j
 
 -- the imports under labels stay as they were
 abbrev pub LabelsAreKept : Type 0
-LabelsAreKept = (rule : TrackRule) (g : Graph) (w : ℕ) (old new : World) → IsMerged rule g w old new → labelled new.imports ≡ labelled old.imports
+LabelsAreKept = (rule : TrackRule) (g : Graph) (w : ℕ) (old new : World) → IsSemverMerged rule g w old new → labelled new.imports ≡ labelled old.imports
 
 -- and so do the keys of the exports
 abbrev pub ExportsAreKept : Type 0
-ExportsAreKept = (rule : TrackRule) (g : Graph) (w : ℕ) (old new : World) (k : WorldKey) → IsMerged rule g w old new → Contains (keys_of new.exports) k ↔ Contains (keys_of old.exports) k
+ExportsAreKept = (rule : TrackRule) (g : Graph) (w : ℕ) (old new : World) (k : WorldKey) → IsSemverMerged rule g w old new → Contains (keys_of new.exports) k ↔ Contains (keys_of old.exports) k
 
 -- each world is the elaboration of its list: the named one's less the replaced, of each other its former one
 abbrev pub WorldsAreElaborated : Type 0
-WorldsAreElaborated = (rule : TrackRule) (g : Graph) (w : ℕ) (old : World) (v : ℕ) (listed new : World) → IsValid g → slice_get g.worlds w ≡ Some old → IsAccepted rule g w
-    → slice_get (relisted rule g w).worlds v ≡ Some listed → slice_get (rewritten rule g w).worlds v ≡ Some new
+WorldsAreElaborated = (rule : TrackRule) (g : Graph) (w : ℕ) (old : World) (v : ℕ) (listed new : World) → IsValid g → slice_get g.worlds w ≡ Some old → SemverMergeIsAccepted rule g w
+    → slice_get (with_new_entries rule g w).worlds v ≡ Some listed → slice_get (rewritten rule g w).worlds v ≡ Some new
     → Elaborated (rewritten rule g w).types (graph_uses (rewritten rule g w)) listed new
 
 -- and the graph stays valid
 abbrev pub RewrittenStayValid : Type 0
-RewrittenStayValid = (rule : TrackRule) (g : Graph) (w : ℕ) (old : World) → IsValid g → slice_get g.worlds w ≡ Some old → IsAccepted rule g w → IsValid (rewritten rule g w)
+RewrittenStayValid = (rule : TrackRule) (g : Graph) (w : ℕ) (old : World) → IsValid g → slice_get g.worlds w ≡ Some old → SemverMergeIsAccepted rule g w → IsValid (rewritten rule g w)
 
 -- everything of a graph is in another at its id: types as they were but for what aliases name, worlds but for their
 -- lists, interfaces, packages and their names as they were
@@ -90,6 +90,6 @@ AliasesKeepNames = (rule : TrackRule) (g : Graph) (w : ℕ) → IsValid g
 -- and each alias that follows and uses a replaced interface f comes to name the type of the newest that has the name of
 -- what it named
 abbrev pub AliasesNameNewest : Type 0
-AliasesNameNewest = (u : Upgrade) (w t f : ℕ) (def : TypeDef) → IsValid u.graph → slice_get u.graph.worlds w ≡ Some u.world → IsAccepted u.rule u.graph w
-    → Contains (following u) t → replaced_use u t ≡ Some f → slice_get u.graph.types t ≡ Some def
-    → SomeAt (rewritten u.rule u.graph w).types t (λ (new : TypeDef). (name : List ℕ) × (s : ℕ) × (target_name u.graph.types def ≡ Some name) × (type_named u.graph.interfaces (newest u f) name ≡ Some s) × (alias_target new.kind ≡ Some s))
+AliasesNameNewest = (u : Upgrade) (w t f : ℕ) (def : TypeDef) → IsValid u.graph → slice_get u.graph.worlds w ≡ Some u.world → SemverMergeIsAccepted u.rule u.graph w
+    → Contains (rewritable_types u) t → replaced_use u t ≡ Some f → slice_get u.graph.types t ≡ Some def
+    → SomeAt (rewritten u.rule u.graph w).types t (λ (new : TypeDef). (name : List ℕ) × (s : ℕ) × (target_name u.graph.types def ≡ Some name) × (interface_type u.graph.interfaces (newest u f) name ≡ Some s) × (alias_target new.kind ≡ Some s))

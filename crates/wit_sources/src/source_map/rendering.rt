@@ -2,7 +2,7 @@
 ghost use Rattle.std.specs.Prelude.{◌≡◌, Some, IfOk, IfSome, replicate, string_bytes};
 ghost use Rattle.std.specs.Option.{option_copied, option_map};
 ghost use Rattle.wit_sources.specs.Lines.{column, line_number};
-ghost use Rattle.wit_sources.specs.Shown.{IsIn, file_of, has_position, highlighted, highlighted_in, in_four, location_of, offset_in, place_text};
+ghost use Rattle.wit_sources.specs.Locations.{IsIn, file_at, has_position, highlight_text, highlight_text_in, in_four, location_of, location_text, offset_in};
 ghost use Rattle.wit_sources.specs.Span.{start_of};
 
 use super::{SourceFile, SourceMap};
@@ -22,7 +22,7 @@ impl SourceMap {
     pub fn render_location(&self, alloc: Global, span: Span) -> Result<String, AllocError>
         ensures { IfOk result (λ text. string_bytes text ≡ location_of self.now.files span) }
     {
-        match self.file_of(span) {
+        match self.file_at(span) {
             Some(file) => {
                 let location = file.location(span);
                 format!(in alloc; "{location}")
@@ -42,17 +42,17 @@ impl SourceMap {
         span: Span,
         text: &str,
     ) -> Result<Option<String>, AllocError>
-        ensures { IfOk result (λ shown. option_map string_bytes shown ≡ highlighted self.now.files span text.now) }
+        ensures { IfOk result (λ shown. option_map string_bytes shown ≡ highlight_text self.now.files span text.now) }
     {
-        match self.file_of(span) {
-            Some(file) => Ok(Some(file.highlighted(alloc, span, text)?)),
+        match self.file_at(span) {
+            Some(file) => Ok(Some(file.highlight_text(alloc, span, text)?)),
             None => Ok(None),
         }
     }
 
     /// The file in which a span begins.
-    fn file_of(&self, span: Span) -> Option<&SourceFile>
-        ensures file { option_copied result ≡ file_of self.now.files span }
+    fn file_at(&self, span: Span) -> Option<&SourceFile>
+        ensures file { option_copied result ≡ file_at self.now.files span }
         ensures inside { IfSome result (λ file. IsIn file.now span) }
     {
         if !span.is_known() {
@@ -91,9 +91,9 @@ impl SourceFile {
     }
 
     /// A text with the line in which a span of this file begins.
-    fn highlighted(&self, alloc: Global, span: Span, text: &str) -> Result<String, AllocError>
+    fn highlight_text(&self, alloc: Global, span: Span, text: &str) -> Result<String, AllocError>
         requires { IsIn self.now span }
-        ensures { IfOk result (λ shown. string_bytes shown ≡ highlighted_in self.now span text.now) }
+        ensures { IfOk result (λ shown. string_bytes shown ≡ highlight_text_in self.now span text.now) }
     {
         let location = self.location(span);
         let contents = self.contents.as_str();
@@ -120,7 +120,7 @@ struct Location<'a> {
 }
 
 impl<'a> fmt::Display for Location<'a> {
-    ghost output = { λ l. Some (place_text l.path.now l.line l.column) };
+    ghost output = { λ l. Some (location_text l.path.now l.line l.column) };
 
     fn fmt<W: fmt::Write>(&self, f: &mut fmt::Formatter<W>) -> fmt::Result {
         let (path, line, column) = (self.path, self.line, self.column);

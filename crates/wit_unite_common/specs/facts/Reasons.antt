@@ -7,11 +7,11 @@ use Rattle.wit_graph_data.specs.declared.cause.Cause.TheVariants as cause
 use Rattle.wit_graph_data.specs.declared.error_kind.ResolveErrorKind.{ResolveErrorKind}
 use Rattle.wit_graph_data.specs.declared.error_kind.ResolveErrorKind.TheVariants.{InvalidTransitiveDependency, PackageCycle, Semantic}
 use Rattle.wit_graph_data.specs.declared.graph.Graph.{Graph}
-use Rattle.wit_graph_theory.specs.AllElaborated.{DependsOnItself, IsInConflict, RefersToItself, UsesItself}
+use Rattle.wit_graph_theory.specs.AllElaborated.{DependsOnItself, HasWorldInConflict, RefersToItself, UsesItself}
 
--- why a graph can't be settled
-pub data SettleCause (g : Graph) : ResolveErrorKind → Type 0 where
-  conflict_4 : (span : Option (ℕ × ℕ)) (name : List ℕ) → IsInConflict g span name → SettleCause g (InvalidTransitiveDependency span name)
-  package_cycle_6 : (home : PackageName) → DependsOnItself g home → SettleCause g (PackageCycle None home)
-  interface_cycle_22 : (message : List ℕ) → UsesItself g message → SettleCause g (Semantic None message cause.InterfaceCycle)
-  type_cycle_23 : (message : List ℕ) → RefersToItself g message → SettleCause g (Semantic None message cause.TypeCycle)
+-- why a graph can't be checked for cycles and elaborated
+pub data ElaborationCause (g : Graph) : ResolveErrorKind → Type 0 where
+  conflict_4 : (span : Option (ℕ × ℕ)) (name : List ℕ) → HasWorldInConflict g span name → ElaborationCause g (InvalidTransitiveDependency span name)
+  package_cycle_6 : (home : PackageName) → DependsOnItself g home → ElaborationCause g (PackageCycle None home)
+  interface_cycle_22 : (message : List ℕ) → UsesItself g message → ElaborationCause g (Semantic None message cause.InterfaceCycle)
+  type_cycle_23 : (message : List ℕ) → RefersToItself g message → ElaborationCause g (Semantic None message cause.TypeCycle)

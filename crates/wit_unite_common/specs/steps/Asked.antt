@@ -27,8 +27,8 @@ pub record IsSomeNamed (types : List TypeDef) (ids : List ℕ) : Type 0 where
 abbrev pub CyclesHaveNames : List TypeDef → Type 0
 CyclesHaveNames types = (t k : ℕ) (path : List ℕ) → IsPath (type_references types) t (k ∷ path) t → IsSomeNamed types (t ∷ k ∷ path)
 
--- a graph, whose worlds were listed anew, can be settled
-pub record CanSettle (g : Graph) : Type 0 where
+-- a graph, whose worlds have their new entries, can be checked for cycles and elaborated
+pub record CanBeElaborated (g : Graph) : Type 0 where
   pub types_there : IsInRange (type_references g.types)
   pub interfaces_there : IsInRange (graph_uses g)
   pub packages_there : IsInRange (graph_package_uses g)

@@ -3,7 +3,7 @@ use Rattle.wit_elaboration.specs.Valid.{HasKebabNames, HasOwners, HasPackageName
 use Rattle.wit_graph_data.specs.declared.graph.Graph.{Graph}
 
 -- each thing stands under its name where it should, and the names are kebab names
-pub record IsNamed (g : Graph) : Type 0 where
+pub record HasKebabNamesInTables (g : Graph) : Type 0 where
   pub package_names : HasPackageNames g.packages g.package_names
   pub tables : HasTables g.packages g.interfaces g.worlds
   pub names : HasKebabNames g.packages g.interfaces

@@ -1,5 +1,5 @@
 use Rattle.std.proofs.Common.{◌≡◌, ◌∙◌, ◌⊎◌, ◌+◌, take, sym, subst, arith}
-use Rattle.wit_graph_data.specs.facts.AnswerFacts.{told_err}
+use Rattle.wit_graph_data.specs.facts.ResultFacts.{residual_error}
 use Rattle.wit_graph_data.specs.declared.error_kind.ResolveErrorKind.{ResolveErrorKind}
 use Rattle.wit_graph_data.specs.declared.error_kind.ResolveErrorKind.TheVariants.{OutOfMemory}
 use Rattle.wit_elaboration.specs.AllWorlds.{AreListsOf, IsRefusedWorld}
@@ -8,7 +8,7 @@ use Rattle.wit_elaboration.proofs.all_worlds.all_lists.Goals as goal
 
 pub returns-in_err-lists-clause-cause : goal.returns-in_err-lists-clause-cause
 returns-in_err-lists-clause-cause c =
-    told_err c.from_residual-in_err-lists.result c.from_residual-in_err-lists.ensures.1
+    residual_error c.from_residual-in_err-lists.result c.from_residual-in_err-lists.ensures.1
     (λ e is.
     let same : e ≡ c.in_err-lists.field-0.0 = is in
     subst (λ (x : ResolveErrorKind). (x ≡ OutOfMemory) ⊎ IsRefusedWorld c.args.graph.now x) (sym same)

@@ -2,7 +2,7 @@ use Rattle.std.proofs.Common.{◌≡◌, ◌∙◌, bit_or, sym, ap, subst, arit
 use Rattle.std.specs.Prelude.{EachIndex, slice_index}
 use Rattle.std.proofs.lemmas.List.{take_at, take_more, take_all}
 use Rattle.wit_digraph.specs.Relation.{direct}
-use Rattle.wit_elaboration.specs.steps.Closures.{RowTells}
+use Rattle.wit_elaboration.specs.steps.Closures.{IsRowOf}
 use Rattle.wit_elaboration.proofs.ReachedColumns.{HasReached-more, HasReached-end}
 use Rattle.wit_elaboration.proofs.closure_rows.row_of.Goals as goal
 
@@ -16,8 +16,8 @@ loop-index-preserved c =
     let whole = take_at c.or_into.new.into (drop (length c.or_into.new.into) c.loop-index.row.items) c.loop-index.row.len (omega arith) in
     let row : list ≡ direct uses c.args.node = c.direct_uses-used.ensures in
     let told = c.requires.told at 0 (omega (arith, ap length row)) in
-    let told' : RowTells uses (direct rows used) used = subst (λ xs. RowTells uses (direct rows (get_or xs at 0)) (get_or xs at 0)) (sym row) told in
-    let told'' : RowTells uses c.row_at.result.now used = subst (λ xs. RowTells uses xs used) (sym c.row_at.ensures) told' in
+    let told' : IsRowOf uses (direct rows used) used = subst (λ xs. IsRowOf uses (direct rows (get_or xs at 0)) (get_or xs at 0)) (sym row) told in
+    let told'' : IsRowOf uses c.row_at.result.now used = subst (λ xs. IsRowOf uses xs used) (sym c.row_at.ensures) told' in
     record {
       reached = rw (whole, take_more list at 0 (omega arith))
           (HasReached-more uses c.loop-index.row.items c.row_at.result.now c.or_into.new.into c.args.node used _ c.loop-index.invariant.reached told'' (omega arith)

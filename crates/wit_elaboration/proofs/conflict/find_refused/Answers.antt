@@ -1,6 +1,6 @@
 use Rattle.std.proofs.Common.{List, ℕ, ap, sym, subst}
-use Rattle.wit_digraph.specs.Walks.{Listed}
-use Rattle.wit_elaboration.specs.steps.Elaborating.{TellsExported}
+use Rattle.wit_digraph.specs.PostOrder.{Listed}
+use Rattle.wit_elaboration.specs.steps.Elaborating.{IsExportedList}
 use Rattle.wit_elaboration.proofs.ConflictIs.{tells_keys, conflict_from}
 use Rattle.wit_elaboration.proofs.Refusing.{always_ok}
 use Rattle.wit_elaboration.proofs.conflict.find_refused.Goals as goal
@@ -11,8 +11,8 @@ find_conflict-requires-clause-exported c = tells_keys c.list_exported.new.export
 pub returns-clause-exported : goal.returns-clause-exported
 returns-clause-exported c =
     let tells = tells_keys c.list_exported.new.exported.order c.args.exports.now c.in_ok-list_exported.ensures.ok in
-    always_ok c.find_conflict.result (TellsExported c.find_conflict.new.marks.exported.order c.args.exports.now)
-    (subst (λ (xs : List ℕ). TellsExported xs c.args.exports.now) (sym (ap (λ (l : Listed). l.order) c.find_conflict.ensures.exported)) tells)
+    always_ok c.find_conflict.result (IsExportedList c.find_conflict.new.marks.exported.order c.args.exports.now)
+    (subst (λ (xs : List ℕ). IsExportedList xs c.args.exports.now) (sym (ap (λ (l : Listed). l.order) c.find_conflict.ensures.exported)) tells)
 
 pub returns-then-not-may-clause-found : goal.returns-then-not-may-clause-found
 returns-then-not-may-clause-found c = λ e has conflict.

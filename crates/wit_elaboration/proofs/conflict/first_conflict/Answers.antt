@@ -1,7 +1,7 @@
 use Rattle.std.proofs.Common.{◌<◌, length, arith}
 use Rattle.std.proofs.lemmas.List.Elements.{All-contains}
 use Rattle.wit_elaboration.specs.Entries.{Entry, item_interface}
-use Rattle.wit_elaboration.specs.Imported.{IsInConflict, exported_interfaces}
+use Rattle.wit_elaboration.specs.Imported.{IsEntryInConflict, exported_interfaces}
 use Rattle.wit_elaboration.proofs.ExportSteps.{given_at, nothing_given}
 use Rattle.wit_elaboration.proofs.FirstConflict.{conflict_here, conflict_passed, marked_use, no_interface, use_marked}
 use Rattle.wit_elaboration.proofs.Marking.{none_all, none_next}
@@ -25,7 +25,7 @@ returns-then-has_any c =
 pub loop-index-preserved : goal.loop-index-preserved
 loop-index-preserved c =
     let e : Entry = (c.entry_at.result.0.now, c.entry_at.result.1.now) in
-    none_next (λ (f : Entry). IsInConflict c.args.uses.now c.args.exports.now f) c.args.exports.now c.loop-index.index e c.entry_at.ensures c.loop-index.invariant
+    none_next (λ (f : Entry). IsEntryInConflict c.args.uses.now c.args.exports.now f) c.args.exports.now c.loop-index.index e c.entry_at.ensures c.loop-index.invariant
     (elim c.match-item_interface.branch [
       | in-Some+else-has_any w ↦
           conflict_passed c.args.uses.now c.args.exports.now c.args.leading.now.order c.requires.marked c.loop-index.index e c.entry_at.ensures w.in-Some.id w.in-Some.ensures
@@ -40,4 +40,4 @@ loop-index-preserved c =
 
 pub returns : goal.returns
 returns c =
-    none_all (λ (f : Entry). IsInConflict c.args.uses.now c.args.exports.now f) c.args.exports.now c.loop-index.index (omega arith) c.loop-index.invariant
+    none_all (λ (f : Entry). IsEntryInConflict c.args.uses.now c.args.exports.now f) c.args.exports.now c.loop-index.index (omega arith) c.loop-index.invariant

@@ -1,6 +1,6 @@
 use Rattle.std.proofs.Common.{◌≡◌, ◌++◌}
 use Rattle.wit_elaboration.specs.Imported.{exported_keys}
-use Rattle.wit_digraph.specs.Walks.{first_of_each, fresh}
+use Rattle.wit_digraph.specs.PostOrder.{first_of_each, fresh}
 use Rattle.wit_elaboration.proofs.conflict.list_exported.Given as goal
 
 -- those so far, and those that are left

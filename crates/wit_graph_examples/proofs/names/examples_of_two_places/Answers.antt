@@ -7,7 +7,7 @@ pub returns : goal.returns
 unfolding digits
 returns c = record {
   text = refl;
-  not_turned = differ _ _ refl;
+  not_transformed = differ _ _ refl;
   not_first_alone = differ _ _ refl;
   not_on_one_line = differ _ _ refl;
   not_ended = differ _ _ refl;

@@ -1,10 +1,10 @@
 use Rattle.std.proofs.Common.{refl}
-use Rattle.wit_digraph.specs.Walks.{walk, walk_within}
+use Rattle.wit_digraph.specs.PostOrder.{post_order, post_order_within}
 use Rattle.wit_values.specs.facts.Lists.{differ}
 use Rattle.wit_graph_examples.proofs.orders.examples_of_package_order.Goals as goal
 
 pub returns : goal.returns
-unfolding walk walk_within
+unfolding post_order post_order_within
 returns c = record {
   by_id = refl;
   not_reversed = differ _ _ refl;

@@ -1,8 +1,8 @@
 use Rattle.std.proofs.Common.{◌≡◌, ℕ, map, take}
 use Rattle.wit_data.specs.Entries.{Entry}
-use Rattle.wit_labels.specs.Setters.{awaited, places}
+use Rattle.wit_labels.specs.Setters.{indexed_entries, later_getter}
 use Rattle.wit_labels.proofs.placing.getters_of.Given as goal
 
 -- those so far
 abbrev pub invariant-loop-place : goal.invariant-loop-place
-invariant-loop-place l = l.getters ≡ map (λ (p : ℕ × Entry). awaited l.entries.entries p.0 p.1) (take l.place (places l.entries.entries))
+invariant-loop-place l = l.getters ≡ map (λ (p : ℕ × Entry). later_getter l.entries.entries p.0 p.1) (take l.place (indexed_entries l.entries.entries))

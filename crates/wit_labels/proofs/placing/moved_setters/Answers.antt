@@ -1,8 +1,8 @@
 use Rattle.wit_labels.proofs.PlacingSteps.{getters-below, placing-below, placing-differ, placing-of, placing-once, placing-placed}
 use Rattle.wit_labels.proofs.placing.moved_setters.Goals as goal
 
-pub placed_order-requires : goal.placed_order-requires
-placed_order-requires c = rw c.in_ok-getters.ensures (getters-below c.into_map-map.result.entries)
+pub order_after_getters-requires : goal.order_after_getters-requires
+order_after_getters-requires c = rw c.in_ok-getters.ensures (getters-below c.into_map-map.result.entries)
 
 pub in_order-requires-clause-once : goal.in_order-requires-clause-once
 in_order-requires-clause-once c =

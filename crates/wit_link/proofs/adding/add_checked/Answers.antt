@@ -5,7 +5,7 @@ use Rattle.wit_data.specs.facts.EachFacts.{nil_from_length}
 use Rattle.wit_data.specs.Uses.{uses_of}
 use Rattle.wit_data.specs.declared.interface.Interface.{Interface}
 use Rattle.wit_data.specs.declared.types.TypeDef.{TypeDef}
-use Rattle.wit_graph_data.specs.facts.AnswerFacts.{told_err}
+use Rattle.wit_graph_data.specs.facts.ResultFacts.{residual_error}
 use Rattle.wit_elaboration.specs.Valid.{IsValid}
 use Rattle.wit_graph_data.specs.declared.error_kind.ResolveErrorKind.{ResolveErrorKind}
 use Rattle.wit_graph_data.specs.declared.error_kind.ResolveErrorKind.TheVariants.{OutOfMemory}
@@ -57,7 +57,7 @@ loop-placed-preserved c =
       adding =
           adding-next a c.loop-placed.yielded (into_iter_items c.next.new.self) c.in-Some.placed c.loop-placed.graph c.loop-placed.invariant.adding are c.add_world.new.graph
           (c.in_ok-add_world.ensures.ok ∙ ap (λ (home : ℕ). local.with_including home c.loop-placed.graph c.in-Some.placed.world c.in-Some.placed.includes) id)
-          (subst (λ (home : ℕ). local.IsFineWorld home c.loop-placed.graph c.in-Some.placed.world c.in-Some.placed.includes) id c.in_ok-add_world.ensures.fine);
+          (subst (λ (home : ℕ). local.IsAcceptedWorld home c.loop-placed.graph c.in-Some.placed.world c.in-Some.placed.includes) id c.in_ok-add_world.ensures.fine);
       uses = c.in_ok-add_world.ensures.uses;
       grown = Grown-then c.args.graph.now c.loop-placed.graph c.add_world.new.graph c.loop-placed.invariant.grown c.add_world.ensures.grown;
       rows = Begins-then c.args.elaborator.now c.loop-placed.elaborator c.add_world.new.elaborator c.loop-placed.invariant.rows c.add_world.ensures.rows;
@@ -92,7 +92,7 @@ returns-in_err-add_world-clause-cause c =
     let a = addition c.args.features.now c.args.graph.now c.args.package c.args.span_offset in
     let are : c.loop-placed.yielded ++ c.in-Some.placed ∷ into_iter_items c.next.new.self ≡ ready_worlds a = search rules in
     let id : c.from_index-id.result ≡ length c.args.graph.now.packages = search rules in
-    told_err c.from_residual-in_err-add_world.result c.from_residual-in_err-add_world.ensures.1
+    residual_error c.from_residual-in_err-add_world.result c.from_residual-in_err-add_world.ensures.1
     (λ e is.
     let same : e ≡ c.in_err-add_world.field-0.0 = is in
     subst (λ (x : ResolveErrorKind). (x ≡ OutOfMemory) ⊎ IsCause a x) (sym same)

@@ -1,6 +1,6 @@
 use Rattle.std.proofs.Common.{◌≡◌, ◌∙◌, IfOk, List, Ok, Err, Result, ap, map}
-use Rattle.wit_link_spec.specs.steps.Adding.{places_of}
-use Rattle.wit_link_spec.specs.declared.adding.Places.{Places}
+use Rattle.wit_link_spec.specs.steps.AdditionRefs.{new_ids_of}
+use Rattle.wit_link_spec.specs.declared.addition.NewIds.{NewIds}
 use Rattle.wit_remap.specs.declared.worlds.PlacedWorld.{PlacedWorld}
 use Rattle.wit_link.specs.Appending.{addition}
 use Rattle.wit_link.specs.steps.Including.{world_with}
@@ -15,4 +15,4 @@ pub returns-clause-worlds : goal.returns-clause-worlds
 returns-clause-worlds c =
     let a = addition c.args.features.now c.args.graph.now c.args.package c.args.span_offset in
     if_ok c.place_includes.result _ _ c.place_includes.ensures
-    (ap (λ (p : Places). map (world_with p c.args.span_offset) c.in_ok-placed.placed) c.requires.places ∙ ap (map (world_with (places_of a) c.args.span_offset)) c.in_ok-placed.ensures.worlds ∙ worlds_ready a c.requires.shaped)
+    (ap (λ (p : NewIds). map (world_with p c.args.span_offset) c.in_ok-placed.placed) c.requires.places ∙ ap (map (world_with (new_ids_of a) c.args.span_offset)) c.in_ok-placed.ensures.worlds ∙ worlds_ready a c.requires.shaped)

@@ -1,7 +1,7 @@
 use Rattle.std.proofs.Common.{rules, ◌≡◌, ◌∙◌, ◌⊎◌, ◌++◌, ◌∷◌, [], ℕ, List, subst, sym}
 use Rattle.std.proofs.lemmas.List.{append_assoc}
 use Rattle.std.specs.Vec.Iter.{into_iter_items}
-use Rattle.wit_graph_data.specs.facts.AnswerFacts.{told_err}
+use Rattle.wit_graph_data.specs.facts.ResultFacts.{residual_error}
 use Rattle.wit_graph_data.specs.declared.error_kind.ResolveErrorKind.{ResolveErrorKind}
 use Rattle.wit_graph_data.specs.declared.error_kind.ResolveErrorKind.TheVariants.{OutOfMemory}
 use Rattle.wit_remap.specs.facts.GrownFacts.{Begins-then, Grown-then}
@@ -27,7 +27,7 @@ loop-package-preserved c =
 pub returns-in_err-id-clause-cause : goal.returns-in_err-id-clause-cause
 returns-in_err-id-clause-cause c =
     let are : c.loop-package.yielded ++ c.in-Some.package ∷ into_iter_items c.next.new.self ≡ c.args.packages = search rules in
-    told_err c.from_residual.result c.from_residual.ensures.1
+    residual_error c.from_residual.result c.from_residual.ensures.1
     (λ e is.
     let same : e ≡ c.in_err-id.field-0.0 = is in
     subst (λ (x : ResolveErrorKind). (x ≡ OutOfMemory) ⊎ IsOneRefused c.args.features.now c.args.graph.now c.args.packages x) (sym same)

@@ -1,7 +1,7 @@
 use Rattle.std.proofs.Common.{◌∙◌, None, Option, ℕ, ap, arith, map, refl, subst}
 use Rattle.std.specs.List.{range_with_len}
-use Rattle.wit_link_spec.specs.steps.Adding.{addition_of}
-use Rattle.wit_link_foreign.specs.steps.Finding.{AreThere, found_among}
+use Rattle.wit_link_spec.specs.steps.AdditionRefs.{addition_of}
+use Rattle.wit_link_foreign.specs.steps.ForeignItems.{AreThere, found_among}
 use Rattle.wit_link_foreign.proofs.NamedItems.{before-all}
 use Rattle.wit_link_foreign.proofs.Steps.{nothing-found, nothing-there}
 use Rattle.wit_link_foreign.proofs.foreign.find_foreign.Goals as goal
@@ -19,11 +19,11 @@ loop-place-init c =
 
 pub returns-clause-found : goal.returns-clause-found
 returns-clause-found c =
-    c.loop-place.invariant.found ∙ ap (found_among (addition_of c.args.adding.now)) (before-all c.args.adding.now.handed.now.foreign_deps c.loop-place.place (omega (arith, c.loop-place-test.false, c.len-place-end.ensures.len)))
+    c.loop-place.invariant.found ∙ ap (found_among (addition_of c.args.adding.now)) (before-all c.args.adding.now.unresolved.now.foreign_deps c.loop-place.place (omega (arith, c.loop-place-test.false, c.len-place-end.ensures.len)))
 
 pub returns-clause-there : goal.returns-clause-there
 returns-clause-there c =
-    subst (AreThere (addition_of c.args.adding.now)) (before-all c.args.adding.now.handed.now.foreign_deps c.loop-place.place (omega (arith, c.loop-place-test.false, c.len-place-end.ensures.len))) c.loop-place.invariant.there
+    subst (AreThere (addition_of c.args.adding.now)) (before-all c.args.adding.now.unresolved.now.foreign_deps c.loop-place.place (omega (arith, c.loop-place-test.false, c.len-place-end.ensures.len))) c.loop-place.invariant.there
 
 pub returns-clause-packages : goal.returns-clause-packages
 returns-clause-packages c = λ span requested known lacks below. c.loop-place.invariant.packages span requested known lacks (omega (arith, below, c.loop-place-test.false, c.len-place-end.ensures.len))

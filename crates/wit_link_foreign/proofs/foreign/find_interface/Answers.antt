@@ -1,6 +1,6 @@
 use Rattle.std.proofs.Common.{◌≡◌, ◌∙◌, ap, inr, slice_get, sym, true}
 use Rattle.std.proofs.lemmas.Bool.{false≢true}
-use Rattle.wit_link_spec.specs.steps.Adding.{addition_of}
+use Rattle.wit_link_spec.specs.steps.AdditionRefs.{addition_of}
 use Rattle.wit_link_spec.specs.facts.FlagFacts.{interface-flag, interface-inside}
 use Rattle.wit_link_spec.specs.Gates.{interface_is_active}
 use Rattle.wit_link_foreign.proofs.Causes.{interface_missing}
@@ -22,13 +22,13 @@ at-requires-then-at c =
 pub returns-then-at-clause-cause : goal.returns-then-at-clause-cause
 returns-then-at-clause-cause c =
     let a = addition_of c.args.adding.now in
-    let active : interface_is_active c.args.adding.now.features.now c.args.adding.now.handed.now c.args.id ≡ true =
-    ap (interface_is_active c.args.adding.now.features.now c.args.adding.now.handed.now) (sym c.index.ensures) ∙ sym (interface-flag a c.args.activity.now c.requires.activity c.index.result c.at.result.now c.at.ensures)
+    let active : interface_is_active c.args.adding.now.features.now c.args.adding.now.unresolved.now c.args.id ≡ true =
+    ap (interface_is_active c.args.adding.now.features.now c.args.adding.now.unresolved.now) (sym c.index.ensures) ∙ sym (interface-flag a c.args.activity.now c.requires.activity c.index.result c.at.result.now c.at.ensures)
     ∙ c.if-at.true in
     rw c.in_ok-interface_not_found.ensures
     (inr (interface_missing a c.args.home.now.name.now c.args.home.now.id c.args.requested.now c.args.id c.at-then-at.result.now c.requires.named active
     (sym c.interface_of-there.ensures ∙ none_from_test c.interface_of-there.result c.is_none.result c.is_none.ensures c.if-is_none.true)
-    (ap (slice_get c.args.adding.now.handed.now.interfaces) (sym c.index-then-at.ensures) ∙ c.at-then-at.ensures)))
+    (ap (slice_get c.args.adding.now.unresolved.now.interfaces) (sym c.index-then-at.ensures) ∙ c.at-then-at.ensures)))
 
 pub returns-clause-there : goal.returns-clause-there
 returns-clause-there c = λ active none. elim c.else-is_none.branch [
@@ -36,6 +36,6 @@ returns-clause-there c = λ active none. elim c.else-is_none.branch [
       false≢true
       (sym w.if-at.false
       ∙ (interface-flag (addition_of c.args.adding.now) c.args.activity.now c.requires.activity w.index.result w.at.result.now w.at.ensures
-      ∙ (ap (interface_is_active c.args.adding.now.features.now c.args.adding.now.handed.now) w.index.ensures ∙ active)))
+      ∙ (ap (interface_is_active c.args.adding.now.features.now c.args.adding.now.unresolved.now) w.index.ensures ∙ active)))
   | else-is_none-via-else-is_none w ↦ some_from_test c.interface_of-there.result c.is_none.result c.is_none.ensures w.if-is_none.false none
 ]

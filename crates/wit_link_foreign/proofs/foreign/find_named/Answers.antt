@@ -1,6 +1,6 @@
 use Rattle.std.proofs.Common.{◌∙◌, ap, arith, subst}
-use Rattle.wit_link_spec.specs.steps.Adding.{addition_of}
-use Rattle.wit_link_foreign.specs.steps.Finding.{AreThere, found_among}
+use Rattle.wit_link_spec.specs.steps.AdditionRefs.{addition_of}
+use Rattle.wit_link_foreign.specs.steps.ForeignItems.{AreThere, found_among}
 use Rattle.wit_link_foreign.specs.declared.foreign.Found.{Found}
 use Rattle.wit_link_foreign.proofs.Causes.{is_named, packages-next}
 use Rattle.wit_link_foreign.proofs.FoundLists.{found_interface-inside, found_world-inside, named_interface-inside, named_world-inside}
@@ -18,7 +18,7 @@ pub set-requires : goal.set-requires
 set-requires c =
     let a = addition_of c.args.adding.now in
     rw c.index.ensures
-    (found_interface-inside a (named_until c.args.adding.now.handed.now.foreign_deps c.args.place c.in_ok-home.home.name.now c.in_ok-home.home.items.now c.loop-index.index) c.loop-index.found c.loop-index.invariant.found
+    (found_interface-inside a (named_until c.args.adding.now.unresolved.now.foreign_deps c.args.place c.in_ok-home.home.name.now c.in_ok-home.home.items.now c.loop-index.index) c.loop-index.found c.loop-index.invariant.found
     c.in-Interface.id
     (named_interface-inside a c.requires.shaped c.in_ok-home.home.name.now c.in_ok-home.home.id c.entry_at.result.0.now c.in-Interface.id
     (is_named a c.args.place c.in_ok-home.home.name.now c.in_ok-home.home.items.now c.in_ok-home.home.id c.loop-index.index c.entry_at.result.0.now c.entry_at.result.1.now _ c.in_ok-home.ensures.home c.entry_at.ensures
@@ -33,7 +33,7 @@ pub set-requires-in-World : goal.set-requires-in-World
 set-requires-in-World c =
     let a = addition_of c.args.adding.now in
     rw c.index-in-World.ensures
-    (found_world-inside a (named_until c.args.adding.now.handed.now.foreign_deps c.args.place c.in_ok-home.home.name.now c.in_ok-home.home.items.now c.loop-index.index) c.loop-index.found c.loop-index.invariant.found
+    (found_world-inside a (named_until c.args.adding.now.unresolved.now.foreign_deps c.args.place c.in_ok-home.home.name.now c.in_ok-home.home.items.now c.loop-index.index) c.loop-index.found c.loop-index.invariant.found
     c.in-World.id
     (named_world-inside a c.requires.shaped c.in_ok-home.home.name.now c.in_ok-home.home.id c.entry_at.result.0.now c.in-World.id
     (is_named a c.args.place c.in_ok-home.home.name.now c.in_ok-home.home.items.now c.in_ok-home.home.id c.loop-index.index c.entry_at.result.0.now c.entry_at.result.1.now _ c.in_ok-home.ensures.home c.entry_at.ensures
@@ -59,12 +59,12 @@ pub returns-clause-found : goal.returns-clause-found
 returns-clause-found c =
     c.loop-index.invariant.found
     ∙ ap (found_among (addition_of c.args.adding.now))
-    (until-all c.args.adding.now.handed.now.foreign_deps c.args.place c.in_ok-home.home.name.now c.in_ok-home.home.items.now c.in_ok-home.ensures.home.is c.loop-index.index (omega (arith, c.loop-index-test.false, c.len-index-end.ensures.len)))
+    (until-all c.args.adding.now.unresolved.now.foreign_deps c.args.place c.in_ok-home.home.name.now c.in_ok-home.home.items.now c.in_ok-home.ensures.home.is c.loop-index.index (omega (arith, c.loop-index-test.false, c.len-index-end.ensures.len)))
 
 pub returns-clause-there : goal.returns-clause-there
 returns-clause-there c =
     subst (AreThere (addition_of c.args.adding.now))
-    (until-all c.args.adding.now.handed.now.foreign_deps c.args.place c.in_ok-home.home.name.now c.in_ok-home.home.items.now c.in_ok-home.ensures.home.is c.loop-index.index (omega (arith, c.loop-index-test.false, c.len-index-end.ensures.len)))
+    (until-all c.args.adding.now.unresolved.now.foreign_deps c.args.place c.in_ok-home.home.name.now c.in_ok-home.home.items.now c.in_ok-home.ensures.home.is c.loop-index.index (omega (arith, c.loop-index-test.false, c.len-index-end.ensures.len)))
     c.loop-index.invariant.there
 
 pub returns-clause-packages : goal.returns-clause-packages

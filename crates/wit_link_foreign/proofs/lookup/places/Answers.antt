@@ -1,4 +1,4 @@
-use Rattle.wit_link_spec.specs.steps.Adding.{addition_of}
+use Rattle.wit_link_spec.specs.steps.AdditionRefs.{addition_of}
 use Rattle.wit_link_foreign.proofs.Assembled.{all_found}
 use Rattle.wit_link_foreign.proofs.lookup.places.Goals as goal
 

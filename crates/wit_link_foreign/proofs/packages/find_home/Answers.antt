@@ -1,6 +1,6 @@
 use Rattle.std.proofs.Common.{◌∙◌, ap, inr, length, sym}
 use Rattle.std.proofs.lemmas.Bool.{false≢true}
-use Rattle.wit_link_spec.specs.steps.Adding.{addition_of}
+use Rattle.wit_link_spec.specs.steps.AdditionRefs.{addition_of}
 use Rattle.wit_link_foreign.proofs.Causes.{found_home, no_home, own_home, package_missing}
 use Rattle.wit_link_foreign.proofs.packages.find_home.Goals as goal
 use Rattle.wit_link_foreign.proofs.packages.find_home.Goals.{else-eq+in-None, else-eq+in-Some, then-eq}

@@ -1,11 +1,11 @@
 use Rattle.std.proofs.Common.{◌≡◌, ◌∙◌, Option, ℕ, ap, arith, length, subst, sym, true}
 use Rattle.std.proofs.lemmas.Bool.{false≢true, lt-ltb, ltb-true}
 use Rattle.std.specs.Prelude.{IfOk}
-use Rattle.wit_link_spec.specs.steps.Adding.{addition_of}
+use Rattle.wit_link_spec.specs.steps.AdditionRefs.{addition_of}
 use Rattle.wit_link_spec.specs.facts.FlagFacts.{type-flag, type-inside}
 use Rattle.wit_link_spec.specs.Gates.{type_is_active}
 use Rattle.wit_link_spec.specs.Lookup.{is_foreign_type}
-use Rattle.wit_link_foreign.proofs.Going.{foreign_type_goes, own_type_step}
+use Rattle.wit_link_foreign.proofs.Remapped.{foreign_type_remapped, own_type_step}
 use Rattle.wit_link_foreign.proofs.types.type_place.Goals as goal
 use Rattle.wit_link_foreign.proofs.types.type_place.Goals.{else-active-via-else-active, else-active-via-then-active+else-t-len}
 
@@ -19,41 +19,41 @@ pub returns-then-t-len-clause-place : goal.returns-then-t-len-clause-place
 returns-then-t-len-clause-place c =
     let a = addition_of c.args.adding.now in
     subst (λ (x : Option ℕ). IfOk c.foreign_type.result (λ place. place ≡ x))
-    (foreign_type_goes a c.args.t (sym (type-flag a c.args.activity.now c.requires.activity c.args.t c.at-active.result.now c.at-active.ensures) ∙ c.if-active.true)
-    (lt-ltb c.args.t (length c.args.adding.now.handed.now.unknown_type_spans) (omega (arith, c.if-t-len.true, c.len.ensures)))) c.foreign_type.ensures.place
+    (foreign_type_remapped a c.args.t (sym (type-flag a c.args.activity.now c.requires.activity c.args.t c.at-active.result.now c.at-active.ensures) ∙ c.if-active.true)
+    (lt-ltb c.args.t (length c.args.adding.now.unresolved.now.unknown_type_spans) (omega (arith, c.if-t-len.true, c.len.ensures)))) c.foreign_type.ensures.place
 
 pub returns-clause-place : goal.returns-clause-place
 returns-clause-place c =
     let a = addition_of c.args.adding.now in
-    let own : type_is_active c.args.adding.now.features.now c.args.adding.now.handed.now.types c.args.t ≡ true → is_foreign_type c.args.adding.now.handed.now c.args.t ≡ true → ⊥ =
+    let own : type_is_active c.args.adding.now.features.now c.args.adding.now.unresolved.now.types c.args.t ≡ true → is_foreign_type c.args.adding.now.unresolved.now c.args.t ≡ true → ⊥ =
     λ active foreign. elim c.else-active.branch [
-      | else-active-via-then-active+else-t-len w ↦ let below = ltb-true c.args.t (length c.args.adding.now.handed.now.unknown_type_spans) foreign in omega (arith, w.if-t-len.false, w.len.ensures)
+      | else-active-via-then-active+else-t-len w ↦ let below = ltb-true c.args.t (length c.args.adding.now.unresolved.now.unknown_type_spans) foreign in omega (arith, w.if-t-len.false, w.len.ensures)
       | else-active-via-else-active w ↦
           false≢true (sym w.if-active.false ∙ (type-flag a c.args.activity.now c.requires.activity c.args.t c.at-active.result.now c.at-active.ensures ∙ active))
     ] in
-    (own_type_step a c.args.t c.at-active.result.now c.args.next.now c.next_place.new.next c.in_ok-next_place.field-0
-    (type-flag a c.args.activity.now c.requires.activity c.args.t c.at-active.result.now c.at-active.ensures) own c.requires.next c.in_ok-next_place.ensures.place c.in_ok-next_place.ensures.next).0
+    (own_type_step a c.args.t c.at-active.result.now c.args.next.now c.next_new_id.new.next c.in_ok-next_new_id.field-0
+    (type-flag a c.args.activity.now c.requires.activity c.args.t c.at-active.result.now c.at-active.ensures) own c.requires.next c.in_ok-next_new_id.ensures.place c.in_ok-next_new_id.ensures.next).0
 
 pub returns-clause-next : goal.returns-clause-next
 returns-clause-next c =
     let a = addition_of c.args.adding.now in
-    let own : type_is_active c.args.adding.now.features.now c.args.adding.now.handed.now.types c.args.t ≡ true → is_foreign_type c.args.adding.now.handed.now c.args.t ≡ true → ⊥ =
+    let own : type_is_active c.args.adding.now.features.now c.args.adding.now.unresolved.now.types c.args.t ≡ true → is_foreign_type c.args.adding.now.unresolved.now c.args.t ≡ true → ⊥ =
     λ active foreign. elim c.else-active.branch [
-      | else-active-via-then-active+else-t-len w ↦ let below = ltb-true c.args.t (length c.args.adding.now.handed.now.unknown_type_spans) foreign in omega (arith, w.if-t-len.false, w.len.ensures)
+      | else-active-via-then-active+else-t-len w ↦ let below = ltb-true c.args.t (length c.args.adding.now.unresolved.now.unknown_type_spans) foreign in omega (arith, w.if-t-len.false, w.len.ensures)
       | else-active-via-else-active w ↦
           false≢true (sym w.if-active.false ∙ (type-flag a c.args.activity.now c.requires.activity c.args.t c.at-active.result.now c.at-active.ensures ∙ active))
     ] in
-    (own_type_step a c.args.t c.at-active.result.now c.args.next.now c.next_place.new.next c.in_ok-next_place.field-0
-    (type-flag a c.args.activity.now c.requires.activity c.args.t c.at-active.result.now c.at-active.ensures) own c.requires.next c.in_ok-next_place.ensures.place c.in_ok-next_place.ensures.next).1
+    (own_type_step a c.args.t c.at-active.result.now c.args.next.now c.next_new_id.new.next c.in_ok-next_new_id.field-0
+    (type-flag a c.args.activity.now c.requires.activity c.args.t c.at-active.result.now c.at-active.ensures) own c.requires.next c.in_ok-next_new_id.ensures.place c.in_ok-next_new_id.ensures.next).1
 
 pub returns-clause-there : goal.returns-clause-there
 returns-clause-there c =
     let a = addition_of c.args.adding.now in
-    let own : type_is_active c.args.adding.now.features.now c.args.adding.now.handed.now.types c.args.t ≡ true → is_foreign_type c.args.adding.now.handed.now c.args.t ≡ true → ⊥ =
+    let own : type_is_active c.args.adding.now.features.now c.args.adding.now.unresolved.now.types c.args.t ≡ true → is_foreign_type c.args.adding.now.unresolved.now c.args.t ≡ true → ⊥ =
     λ active foreign. elim c.else-active.branch [
-      | else-active-via-then-active+else-t-len w ↦ let below = ltb-true c.args.t (length c.args.adding.now.handed.now.unknown_type_spans) foreign in omega (arith, w.if-t-len.false, w.len.ensures)
+      | else-active-via-then-active+else-t-len w ↦ let below = ltb-true c.args.t (length c.args.adding.now.unresolved.now.unknown_type_spans) foreign in omega (arith, w.if-t-len.false, w.len.ensures)
       | else-active-via-else-active w ↦
           false≢true (sym w.if-active.false ∙ (type-flag a c.args.activity.now c.requires.activity c.args.t c.at-active.result.now c.at-active.ensures ∙ active))
     ] in
     λ span message lacks same.
-    own (ap (type_is_active c.args.adding.now.features.now c.args.adding.now.handed.now.types) (sym same) ∙ lacks.active) (ap (is_foreign_type c.args.adding.now.handed.now) (sym same) ∙ lacks.foreign)
+    own (ap (type_is_active c.args.adding.now.features.now c.args.adding.now.unresolved.now.types) (sym same) ∙ lacks.active) (ap (is_foreign_type c.args.adding.now.unresolved.now) (sym same) ∙ lacks.foreign)

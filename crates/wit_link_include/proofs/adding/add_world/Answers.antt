@@ -2,7 +2,7 @@ use Rattle.std.proofs.Common.{rules, ◌≡◌, ◌∙◌, ◌⊎◌, List, ap, 
 use Rattle.wit_data.specs.Uses.{uses_of}
 use Rattle.wit_data.specs.declared.interface.Interface.{Interface}
 use Rattle.wit_data.specs.declared.types.TypeDef.{TypeDef}
-use Rattle.wit_graph_data.specs.facts.AnswerFacts.{told_err}
+use Rattle.wit_graph_data.specs.facts.ResultFacts.{residual_error}
 use Rattle.wit_graph_data.specs.declared.error_kind.ResolveErrorKind.{ResolveErrorKind}
 use Rattle.wit_graph_data.specs.declared.error_kind.ResolveErrorKind.TheVariants.{OutOfMemory}
 use Rattle.wit_remap.specs.Grown.{Grown}
@@ -14,7 +14,7 @@ use Rattle.wit_link_include.proofs.adding.add_world.Goals as goal
 
 pub returns-in_err-world-clause-cause : goal.returns-in_err-world-clause-cause
 returns-in_err-world-clause-cause c =
-    told_err c.from_residual.result c.from_residual.ensures.1
+    residual_error c.from_residual.result c.from_residual.ensures.1
     (λ e is.
     let same : e ≡ c.in_err-world.field-0.0 = is in
     subst (λ (x : ResolveErrorKind). (x ≡ OutOfMemory) ⊎ IsWorldCause c.args.home c.args.graph.now c.args.world c.args.includes.now x) (sym same)
@@ -38,7 +38,7 @@ finish_world-requires-clause-listed c =
 
 pub returns-in_err-finish_world-clause-cause : goal.returns-in_err-finish_world-clause-cause
 returns-in_err-finish_world-clause-cause c =
-    told_err c.from_residual-in_err-finish_world.result c.from_residual-in_err-finish_world.ensures.1
+    residual_error c.from_residual-in_err-finish_world.result c.from_residual-in_err-finish_world.ensures.1
     (λ e is.
     let same : e ≡ c.in_err-finish_world.field-0.0 = is in
     subst (λ (x : ResolveErrorKind). (x ≡ OutOfMemory) ⊎ IsWorldCause c.args.home c.args.graph.now c.args.world c.args.includes.now x) (sym same)

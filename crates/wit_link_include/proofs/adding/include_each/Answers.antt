@@ -1,5 +1,5 @@
 use Rattle.std.proofs.Common.{◌≡◌, ◌⊎◌, ℕ, arith, sym, subst}
-use Rattle.wit_graph_data.specs.facts.AnswerFacts.{told_err}
+use Rattle.wit_graph_data.specs.facts.ResultFacts.{residual_error}
 use Rattle.wit_graph_data.specs.declared.error_kind.ResolveErrorKind.{ResolveErrorKind}
 use Rattle.wit_graph_data.specs.declared.error_kind.ResolveErrorKind.TheVariants.{OutOfMemory}
 use Rattle.wit_remap.specs.facts.GrownFacts.{Grown-then}
@@ -29,7 +29,7 @@ loop-place-preserved c =
 
 pub returns-in_err-world-clause-cause : goal.returns-in_err-world-clause-cause
 returns-in_err-world-clause-cause c =
-    told_err c.from_residual.result c.from_residual.ensures.1
+    residual_error c.from_residual.result c.from_residual.ensures.1
     (λ e is.
     let same : e ≡ c.in_err-world.field-0.0 = is in
     subst (λ (x : ResolveErrorKind). (x ≡ OutOfMemory) ⊎ ((j : ℕ) × StopsAtInclude c.args.home c.args.graph.now c.args.world c.args.includes.now j x)) (sym same)

@@ -5,14 +5,14 @@ use Rattle.wit_data.specs.declared.world.World.{World}
 use Rattle.wit_graph_data.specs.declared.graph.Graph.{Graph}
 use Rattle.wit_graph_theory.specs.Image.{Maps}
 use Rattle.wit_graph_theory.specs.Operations.{include_maps}
-use Rattle.wit_labels.specs.Rename.{renamed}
-use Rattle.wit_link_spec.specs.Include.{copy_maps, goes_with, interface_copy, is_copied, type_copy}
+use Rattle.wit_labels.specs.Rename.{renamed_label}
+use Rattle.wit_link_spec.specs.Include.{belongs_to, copy_maps, interface_copy, is_copied, type_copy}
 use Rattle.wit_remap.specs.Grown.{Grown}
 use Rattle.wit_remap.specs.facts.GrownFacts.{Grown-same}
 use Rattle.wit_link_include.specs.steps.Copied.{NamesThere, goes, numbered, places, with_images}
 use Rattle.wit_link_include.proofs.RisingIds.{numbered-keys}
 use Rattle.wit_link_include.proofs.Standing.{copied_there, goes_there, keys_there, some_there}
-use Rattle.wit_link_include.proofs.TakenPlaces.{goes_where, told_where}
+use Rattle.wit_link_include.proofs.SelectedIndices.{goes_where, told_where}
 use Rattle.wit_link_include.proofs.fresh_copies.add_copies.Goals as goal
 
 -- ---- the tables, of one graph
@@ -22,37 +22,37 @@ TypesAt g from table = (world : World) → slice_get g.worlds from ≡ Some worl
 
 module _ (g : Graph) (from : ℕ) (world : World) (types interfaces : List (ℕ × ℕ))
     (types_is : types ≡ numbered (length g.types) (places (is_copied g from world) g.types))
-    (interfaces_is : interfaces ≡ numbered (length g.interfaces) (places (goes_with g world) g.interfaces)) where
+    (interfaces_is : interfaces ≡ numbered (length g.interfaces) (places (belongs_to g world) g.interfaces)) where
   types_go : goes types ≡ type_copy g from world
   types_go = λ j t. (ap (λ (table : List (ℕ × ℕ)). goes table t) types_is ∙ goes_where (is_copied g from world) g.types (copied_there g from world) (length g.types) t) j
 
   interfaces_go : goes interfaces ≡ interface_copy g world
-  interfaces_go = λ j i. (ap (λ (table : List (ℕ × ℕ)). goes table i) interfaces_is ∙ goes_where (goes_with g world) g.interfaces (goes_there g world) (length g.interfaces) i) j
+  interfaces_go = λ j i. (ap (λ (table : List (ℕ × ℕ)). goes table i) interfaces_is ∙ goes_where (belongs_to g world) g.interfaces (goes_there g world) (length g.interfaces) i) j
 
-  maps_go : (names : List IncludeName) (into home : ℕ) → include_maps (goes types) (goes interfaces) (renamed names) from into home ≡ copy_maps g from world names into home
-  maps_go names into home = λ j. include_maps (types_go j) (interfaces_go j) (renamed names) from into home
+  maps_go : (names : List IncludeName) (into home : ℕ) → include_maps (goes types) (goes interfaces) (renamed_label names) from into home ≡ copy_maps g from world names into home
+  maps_go names into home = λ j. include_maps (types_go j) (interfaces_go j) (renamed_label names) from into home
 
   type_keys : keys_of types ≡ places (is_copied g from world) g.types
   type_keys = ap keys_of types_is ∙ numbered-keys (length g.types) (places (is_copied g from world) g.types)
 
-  interface_keys : keys_of interfaces ≡ places (goes_with g world) g.interfaces
-  interface_keys = ap keys_of interfaces_is ∙ numbered-keys (length g.interfaces) (places (goes_with g world) g.interfaces)
+  interface_keys : keys_of interfaces ≡ places (belongs_to g world) g.interfaces
+  interface_keys = ap keys_of interfaces_is ∙ numbered-keys (length g.interfaces) (places (belongs_to g world) g.interfaces)
 
 -- renamings that are those of the include
 names_go : (types interfaces : List (ℕ × ℕ)) (made names : List IncludeName) (from into home : ℕ) → made ≡ names
-    → include_maps (goes types) (goes interfaces) (renamed made) from into home ≡ include_maps (goes types) (goes interfaces) (renamed names) from into home
-names_go types interfaces made names from into home is = ap (λ (n : List IncludeName). include_maps (goes types) (goes interfaces) (renamed n) from into home) is
+    → include_maps (goes types) (goes interfaces) (renamed_label made) from into home ≡ include_maps (goes types) (goes interfaces) (renamed_label names) from into home
+names_go types interfaces made names from into home is = ap (λ (n : List IncludeName). include_maps (goes types) (goes interfaces) (renamed_label n) from into home) is
 
 pub returns-in_err-names-clause-grown : goal.returns-in_err-names-clause-grown
 returns-in_err-names-clause-grown c = Grown-same c.args.graph.now
 
-pub copied_types-requires-clause-going : goal.copied_types-requires-clause-going
-copied_types-requires-clause-going c =
+pub copied_types-requires-clause-belonging_interfaces : goal.copied_types-requires-clause-belonging_interfaces
+copied_types-requires-clause-belonging_interfaces c =
     let g = c.args.graph.now in
     let table = c.in_ok-interfaces.interfaces in
-    subst (λ (x : Graph). (world : World) → slice_get x.worlds c.args.from ≡ Some world → (i : ℕ) → is_some (lookup (nat_eq i) table) ≡ goes_with x world i) (sym c.in_ok-interfaces.ensures.same)
+    subst (λ (x : Graph). (world : World) → slice_get x.worlds c.args.from ≡ Some world → (i : ℕ) → is_some (lookup (nat_eq i) table) ≡ belongs_to x world i) (sym c.in_ok-interfaces.ensures.same)
     (λ world at i. ap (λ (es : List (ℕ × ℕ)). is_some (lookup (nat_eq i) es)) (c.in_ok-interfaces.ensures.table world at)
-    ∙ told_where (goes_with g world) g.interfaces (goes_there g world) (length g.interfaces) i)
+    ∙ told_where (belongs_to g world) g.interfaces (goes_there g world) (length g.interfaces) i)
 
 pub copied_types-requires-clause-named : goal.copied_types-requires-clause-named
 copied_types-requires-clause-named c =
@@ -73,7 +73,7 @@ append_copies-requires-clause-interfaces c =
     let same : c.copied_types.new.graph ≡ g = c.in_ok-types.ensures.same ∙ c.in_ok-interfaces.ensures.same in
     let world = some_there g.worlds c.args.from c.requires.there in
     subst (λ (x : Graph). (i : ℕ) → Contains (keys_of c.in_ok-interfaces.interfaces) i → i < length x.interfaces) (sym same)
-    (keys_there (goes_with g world.0) g.interfaces (length g.interfaces) c.in_ok-interfaces.interfaces (c.in_ok-interfaces.ensures.table world.0 world.1))
+    (keys_there (belongs_to g world.0) g.interfaces (length g.interfaces) c.in_ok-interfaces.interfaces (c.in_ok-interfaces.ensures.table world.0 world.1))
 
 pub returns-clause-maps : goal.returns-clause-maps
 returns-clause-maps c = λ world at.
@@ -91,14 +91,14 @@ returns-clause-ok c = λ world at.
     let types_is = tables world at in
     let interfaces_is = c.in_ok-interfaces.ensures.table world at in
     let copied = is_copied g from world in
-    let going = goes_with g world in
-    let m : Maps = include_maps (goes c.in_ok-types.types) (goes c.in_ok-interfaces.interfaces) (renamed c.in_ok-names.names) from c.args.into c.args.home in
+    let belonging_interfaces = belongs_to g world in
+    let m : Maps = include_maps (goes c.in_ok-types.types) (goes c.in_ok-interfaces.interfaces) (renamed_label c.in_ok-names.names) from c.args.into c.args.home in
     let m_is : m ≡ copy_maps g from world c.args.names.now c.args.into c.args.home =
     names_go c.in_ok-types.types c.in_ok-interfaces.interfaces c.in_ok-names.names c.args.names.now from c.args.into c.args.home c.in_ok-names.ensures ∙ maps_go g from world c.in_ok-types.types c.in_ok-interfaces.interfaces types_is interfaces_is c.args.names.now c.args.into c.args.home in
-    c.in_ok-append_copies.ensures.ok copied going
+    c.in_ok-append_copies.ensures.ok copied belonging_interfaces
     (type_keys g from world c.in_ok-types.types c.in_ok-interfaces.interfaces types_is interfaces_is ∙ ap (λ (x : Graph). places copied x.types) (sym same))
-    (interface_keys g from world c.in_ok-types.types c.in_ok-interfaces.interfaces types_is interfaces_is ∙ ap (λ (x : Graph). places going x.interfaces) (sym same))
-    ∙ (ap (λ (x : Graph). with_images x m copied going) same ∙ ap (λ (n : Maps). with_images g n copied going) m_is)
+    (interface_keys g from world c.in_ok-types.types c.in_ok-interfaces.interfaces types_is interfaces_is ∙ ap (λ (x : Graph). places belonging_interfaces x.interfaces) (sym same))
+    ∙ (ap (λ (x : Graph). with_images x m copied belonging_interfaces) same ∙ ap (λ (n : Maps). with_images g n copied belonging_interfaces) m_is)
 
 pub returns-in_err-interfaces-clause-grown : goal.returns-in_err-interfaces-clause-grown
 returns-in_err-interfaces-clause-grown c = subst (Grown c.args.graph.now) (sym c.in_err-interfaces.ensures.same) (Grown-same c.args.graph.now)

@@ -6,7 +6,7 @@ use Rattle.std.specs.Ordering.{nat_cmp}
 use Rattle.wit_link_spec.specs.Include.{is_copied}
 use Rattle.wit_link_include.specs.steps.Copied.{known_of, places, roots_of}
 use Rattle.wit_link_include.proofs.Steps.{if_ok_both}
-use Rattle.wit_link_include.proofs.TakenPlaces.{are_places}
+use Rattle.wit_link_include.proofs.SelectedIndices.{are_places}
 use Rattle.wit_link_include.proofs.Standing.{copied_there}
 use Rattle.wit_link_include.proofs.WhatIsCopied.{said_is_copied}
 use Rattle.wit_link_include.proofs.fresh_copies.copied_ids.Goals as goal

@@ -4,10 +4,10 @@ use Rattle.std.proofs.lemmas.List.{length_push, take_all}
 use Rattle.std.proofs.lemmas.Map.Iter.{iter_end, iter_turn}
 use Rattle.wit_data.specs.declared.interface.Interface.{Interface}
 use Rattle.wit_graph_theory.specs.Image.{interface_image}
-use Rattle.wit_link_spec.specs.Ranks.{taken}
+use Rattle.wit_link_spec.specs.Ranks.{selected}
 use Rattle.wit_link_include.specs.steps.Copied.{maps_of}
 use Rattle.wit_link_include.proofs.Steps.{map_added}
-use Rattle.wit_link_include.proofs.TakenPlaces.{key_below, key_takes, takes_all}
+use Rattle.wit_link_include.proofs.SelectedIndices.{key_below, key_takes, takes_all}
 use Rattle.wit_link_include.proofs.fresh_copies.interface_copies.Goals as goal
 
 pub at-requires : goal.at-requires
@@ -23,10 +23,10 @@ loop-id-preserved c = λ kept keys.
     let table = c.args.copies.now.interfaces in
     let xs : List Interface = c.args.graph.now.interfaces in
     let turn = iter_turn deref_pair table c.loop-id.yielded _ _ _ _ (c.into_iter-id-iterator.ensures.into_iter_gives ∙ c.iter-id-items.ensures.rest) c.loop-id.yielded_by _ c.in-Some.is c.next.ensures.steps in
-    let at : slice_get (taken kept xs) (length c.loop-id.yielded) ≡ Some c.at.result.now = key_takes kept xs table (length c.loop-id.yielded) c.in-Some.id.now _ c.at.result.now keys turn.1
+    let at : slice_get (selected kept xs) (length c.loop-id.yielded) ≡ Some c.at.result.now = key_takes kept xs table (length c.loop-id.yielded) c.in-Some.id.now _ c.at.result.now keys turn.1
     (ap (slice_get xs) (sym c.index.ensures) ∙ c.at.ensures) in
     rw length_push
-    (map_added (interface_image (maps_of c.args.copies.now)) (taken kept xs) (length c.loop-id.yielded) c.at.result.now [] c.loop-id.interfaces c.push.new.self
+    (map_added (interface_image (maps_of c.args.copies.now)) (selected kept xs) (length c.loop-id.yielded) c.at.result.now [] c.loop-id.interfaces c.push.new.self
     at (c.loop-id.invariant kept keys) (c.in_ok-push.ensures.ok ∙ ap (λ (x : Interface). c.loop-id.interfaces ++ x ∷ []) c.in_ok-of_interface.ensures))
 
 pub returns : goal.returns
@@ -34,5 +34,5 @@ returns c = λ kept keys.
     let table = c.args.copies.now.interfaces in
     let xs : List Interface = c.args.graph.now.interfaces in
     let end = iter_end deref_pair table c.loop-id.yielded _ _ _ _ (c.into_iter-id-iterator.ensures.into_iter_gives ∙ c.iter-id-items.ensures.rest) c.loop-id.yielded_by c.in-None.is c.next.ensures.steps in
-    let long : length (taken kept xs) ≡ length c.loop-id.yielded = takes_all kept xs table keys ∙ sym end.1 in
-    c.loop-id.invariant kept keys ∙ ap (map (interface_image (maps_of c.args.copies.now))) (take_all (length c.loop-id.yielded) (taken kept xs) (omega arith))
+    let long : length (selected kept xs) ≡ length c.loop-id.yielded = takes_all kept xs table keys ∙ sym end.1 in
+    c.loop-id.invariant kept keys ∙ ap (map (interface_image (maps_of c.args.copies.now))) (take_all (length c.loop-id.yielded) (selected kept xs) (omega arith))

@@ -1,10 +1,10 @@
 use Rattle.std.proofs.Common.{◌≡◌, ℕ, Bool, length, map, take}
 use Rattle.std.specs.Map.{keys_of}
 use Rattle.wit_graph_theory.specs.Image.{interface_image}
-use Rattle.wit_link_spec.specs.Ranks.{taken}
+use Rattle.wit_link_spec.specs.Ranks.{selected}
 use Rattle.wit_link_include.specs.steps.Copied.{maps_of, places}
 use Rattle.wit_link_include.proofs.fresh_copies.interface_copies.Given as goal
 
 -- those of the first ones
 abbrev pub invariant-loop-id : goal.invariant-loop-id
-invariant-loop-id l = (kept : ℕ → Bool) → keys_of l.copies.interfaces ≡ places kept l.graph.interfaces → l.interfaces ≡ map (interface_image (maps_of l.copies)) (take (length l.yielded) (taken kept l.graph.interfaces))
+invariant-loop-id l = (kept : ℕ → Bool) → keys_of l.copies.interfaces ≡ places kept l.graph.interfaces → l.interfaces ≡ map (interface_image (maps_of l.copies)) (take (length l.yielded) (selected kept l.graph.interfaces))

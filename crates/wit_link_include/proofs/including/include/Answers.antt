@@ -1,5 +1,5 @@
 use Rattle.std.proofs.Common.{◌≡◌, ◌∙◌, ◌⊎◌, slice_get, refl, ap, sym, subst, IfErr, IfOk, OnOk, Ok, Err, Result}
-use Rattle.wit_graph_data.specs.facts.AnswerFacts.{told_err}
+use Rattle.wit_graph_data.specs.facts.ResultFacts.{residual_error}
 use Rattle.wit_graph_data.specs.declared.error_kind.ResolveErrorKind.{ResolveErrorKind}
 use Rattle.wit_graph_data.specs.declared.error_kind.ResolveErrorKind.TheVariants.{OutOfMemory}
 use Rattle.wit_data.specs.declared.world.World.{World}
@@ -7,7 +7,7 @@ use Rattle.wit_link_spec.specs.Include.{is_other_package}
 use Rattle.wit_link_include.specs.steps.Copied.{maps_of}
 use Rattle.wit_remap.specs.facts.GrownFacts.{Grown-same}
 use Rattle.wit_link_include.specs.steps.Included.{IsIncludeCause, IsIncluded, before_includes, copied_entries}
-use Rattle.wit_link_include.proofs.IncludeSteps.{answered, names_cause, stay_apart, step_cause, step_exports_once, step_fine, step_graph, step_imports_once, step_world}
+use Rattle.wit_link_include.proofs.IncludeSteps.{entries_by_answer, names_cause, stay_apart, step_cause, step_exports_once, step_fine, step_graph, step_imports_once, step_world}
 use Rattle.wit_link_include.proofs.NamesThere.{names_there}
 use Rattle.wit_link_include.proofs.including.include.Goals as goal
 
@@ -30,7 +30,7 @@ if_err (Err e) p gives = gives e p
 pub returns-in_err-check_names-clause-cause : goal.returns-in_err-check_names-clause-cause
 returns-in_err-check_names-clause-cause c =
     let at = ap (slice_get c.args.graph.now.worlds) (sym c.index.ensures) ∙ c.at-included.ensures in
-    told_err c.from_residual.result c.from_residual.ensures.1
+    residual_error c.from_residual.result c.from_residual.ensures.1
     (λ e is.
     let same : e ≡ c.in_err-check_names.field-0.0 = is in
     subst (λ (x : ResolveErrorKind). (x ≡ OutOfMemory) ⊎ ((old : World) × IsIncluded (before_includes c.args.graph.now c.args.world) c.args.include.now old × IsIncludeCause c.args.home (before_includes c.args.graph.now c.args.world) c.args.include.now old x)) (sym same)
@@ -52,7 +52,7 @@ join_copies-requires-clause-imports c =
     let again = ap (slice_get c.add_copies.new.graph.worlds) (sym c.index-2.ensures) ∙ c.at-included-2.ensures in
     let made = c.in_ok-copies.ensures in
     let step =
-    answered g include c.args.home c.from_index-into.result c.at-included.result.now old c.add_copies.new.graph (maps_of copies) copies.from (copied_entries copies old.imports) (copied_entries copies old.exports) (is_other_package old.package c.args.home)
+    entries_by_answer g include c.args.home c.from_index-into.result c.at-included.result.now old c.add_copies.new.graph (maps_of copies) copies.from (copied_entries copies old.imports) (copied_entries copies old.exports) (is_other_package old.package c.args.home)
     at (c.requires.can c.at-included.result.now at).world (c.from_index-into.ensures ∙ c.len.ensures) (made.ok c.at-included.result.now at) (made.maps c.at-included.result.now at) made.from again refl refl refl in
     step_imports_once g include c.args.home c.args.world c.add_copies.new.graph (copied_entries copies old.imports) (copied_entries copies old.exports) (is_other_package old.package c.args.home) step
 
@@ -66,7 +66,7 @@ join_copies-requires-clause-exports c =
     let again = ap (slice_get c.add_copies.new.graph.worlds) (sym c.index-2.ensures) ∙ c.at-included-2.ensures in
     let made = c.in_ok-copies.ensures in
     let step =
-    answered g include c.args.home c.from_index-into.result c.at-included.result.now old c.add_copies.new.graph (maps_of copies) copies.from (copied_entries copies old.imports) (copied_entries copies old.exports) (is_other_package old.package c.args.home)
+    entries_by_answer g include c.args.home c.from_index-into.result c.at-included.result.now old c.add_copies.new.graph (maps_of copies) copies.from (copied_entries copies old.imports) (copied_entries copies old.exports) (is_other_package old.package c.args.home)
     at (c.requires.can c.at-included.result.now at).world (c.from_index-into.ensures ∙ c.len.ensures) (made.ok c.at-included.result.now at) (made.maps c.at-included.result.now at) made.from again refl refl refl in
     step_exports_once g include c.args.home c.args.world c.add_copies.new.graph (copied_entries copies old.imports) (copied_entries copies old.exports) (is_other_package old.package c.args.home) step
 
@@ -80,7 +80,7 @@ returns-clause-graph c =
     let again = ap (slice_get c.add_copies.new.graph.worlds) (sym c.index-2.ensures) ∙ c.at-included-2.ensures in
     let made = c.in_ok-copies.ensures in
     let step =
-    answered g include c.args.home c.from_index-into.result c.at-included.result.now old c.add_copies.new.graph (maps_of copies) copies.from (copied_entries copies old.imports) (copied_entries copies old.exports) (is_other_package old.package c.args.home)
+    entries_by_answer g include c.args.home c.from_index-into.result c.at-included.result.now old c.add_copies.new.graph (maps_of copies) copies.from (copied_entries copies old.imports) (copied_entries copies old.exports) (is_other_package old.package c.args.home)
     at (c.requires.can c.at-included.result.now at).world (c.from_index-into.ensures ∙ c.len.ensures) (made.ok c.at-included.result.now at) (made.maps c.at-included.result.now at) made.from again refl refl refl in
     on_ok c.join_copies.result (step_graph g include c.args.home c.args.world c.add_copies.new.graph (copied_entries copies old.imports) (copied_entries copies old.exports) (is_other_package old.package c.args.home) step)
 
@@ -94,7 +94,7 @@ returns-clause-world c =
     let again = ap (slice_get c.add_copies.new.graph.worlds) (sym c.index-2.ensures) ∙ c.at-included-2.ensures in
     let made = c.in_ok-copies.ensures in
     let step =
-    answered g include c.args.home c.from_index-into.result c.at-included.result.now old c.add_copies.new.graph (maps_of copies) copies.from (copied_entries copies old.imports) (copied_entries copies old.exports) (is_other_package old.package c.args.home)
+    entries_by_answer g include c.args.home c.from_index-into.result c.at-included.result.now old c.add_copies.new.graph (maps_of copies) copies.from (copied_entries copies old.imports) (copied_entries copies old.exports) (is_other_package old.package c.args.home)
     at (c.requires.can c.at-included.result.now at).world (c.from_index-into.ensures ∙ c.len.ensures) (made.ok c.at-included.result.now at) (made.maps c.at-included.result.now at) made.from again refl refl refl in
     if_ok c.join_copies.result c.join_copies.ensures.ok (step_world g include c.args.home c.args.world c.add_copies.new.graph (copied_entries copies old.imports) (copied_entries copies old.exports) (is_other_package old.package c.args.home) step)
 
@@ -108,7 +108,7 @@ returns-clause-fine c =
     let again = ap (slice_get c.add_copies.new.graph.worlds) (sym c.index-2.ensures) ∙ c.at-included-2.ensures in
     let made = c.in_ok-copies.ensures in
     let step =
-    answered g include c.args.home c.from_index-into.result c.at-included.result.now old c.add_copies.new.graph (maps_of copies) copies.from (copied_entries copies old.imports) (copied_entries copies old.exports) (is_other_package old.package c.args.home)
+    entries_by_answer g include c.args.home c.from_index-into.result c.at-included.result.now old c.add_copies.new.graph (maps_of copies) copies.from (copied_entries copies old.imports) (copied_entries copies old.exports) (is_other_package old.package c.args.home)
     at (c.requires.can c.at-included.result.now at).world (c.from_index-into.ensures ∙ c.len.ensures) (made.ok c.at-included.result.now at) (made.maps c.at-included.result.now at) made.from again refl refl refl in
     on_ok_two c.join_copies.result c.join_copies.ensures.imports c.join_copies.ensures.exports (step_fine g include c.args.home c.args.world c.add_copies.new.graph (copied_entries copies old.imports) (copied_entries copies old.exports) (is_other_package old.package c.args.home) step c.at-included.result.now at c.in_ok-check_names.ensures.fine)
 
@@ -122,7 +122,7 @@ returns-clause-cause c =
     let again = ap (slice_get c.add_copies.new.graph.worlds) (sym c.index-2.ensures) ∙ c.at-included-2.ensures in
     let made = c.in_ok-copies.ensures in
     let step =
-    answered g include c.args.home c.from_index-into.result c.at-included.result.now old c.add_copies.new.graph (maps_of copies) copies.from (copied_entries copies old.imports) (copied_entries copies old.exports) (is_other_package old.package c.args.home)
+    entries_by_answer g include c.args.home c.from_index-into.result c.at-included.result.now old c.add_copies.new.graph (maps_of copies) copies.from (copied_entries copies old.imports) (copied_entries copies old.exports) (is_other_package old.package c.args.home)
     at (c.requires.can c.at-included.result.now at).world (c.from_index-into.ensures ∙ c.len.ensures) (made.ok c.at-included.result.now at) (made.maps c.at-included.result.now at) made.from again refl refl refl in
     if_err c.join_copies.result c.join_copies.ensures.cause (step_cause g include c.args.home c.args.world c.add_copies.new.graph (copied_entries copies old.imports) (copied_entries copies old.exports) (is_other_package old.package c.args.home) step c.requires.own_keys)
 

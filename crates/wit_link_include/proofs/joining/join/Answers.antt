@@ -2,7 +2,7 @@ use Rattle.std.proofs.Common.{rules, ◌≡◌, ◌∙◌, inr, ◌++◌, ◌∷
 use Rattle.std.proofs.lemmas.List.{append_assoc}
 use Rattle.std.specs.Map.{keys_of, lookup}
 use Rattle.std.specs.Vec.Iter.{into_iter_items}
-use Rattle.wit_graph_data.specs.facts.AnswerFacts.{told_err}
+use Rattle.wit_graph_data.specs.facts.ResultFacts.{residual_error}
 use Rattle.wit_graph_data.specs.declared.error_kind.ResolveErrorKind.TheVariants.{ItemShadowing}
 use Rattle.wit_data.specs.facts.WorldKeyFacts.{same_key}
 use Rattle.wit_data.specs.declared.world.WorldKey.{WorldKey}
@@ -64,7 +64,7 @@ returns-in_err-join_at-in-Interface-clause-cause c =
     let called : c.in-Some.key ≡ key.Interface c.in-Interface.field-0 = search rules in
     let at : position (same_key c.in-Some.key) (keys_of c.loop-key.entries.entries) ≡ Some c.in-Some-get_index_of.place = sym c.in-Some-get_index_of.ensures.index in
     let found = found_key c.in-Some.key c.loop-key.entries.entries c.in-Some-get_index_of.place at in
-    told_err c.from_residual-in_err-join_at-in-Interface.result c.from_residual-in_err-join_at-in-Interface.ensures.1
+    residual_error c.from_residual-in_err-join_at-in-Interface.result c.from_residual-in_err-join_at-in-Interface.ensures.1
     (λ e is.
     let same : e ≡ c.in_err-join_at-in-Interface.field-0.0 = is in
     inr (subst (IsJoinCause c.args.other c.args.span c.args.word.now c.args.current c.args.brought) (sym same)

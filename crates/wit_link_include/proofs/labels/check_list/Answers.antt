@@ -10,5 +10,5 @@ use Rattle.wit_link_include.proofs.labels.check_list.Goals as goal
 pub returns-in-Some-clause-cause : goal.returns-in-Some-clause-cause
 returns-in-Some-clause-cause c =
     let clash : Clashes (keys_of c.args.entries.now) c.in-Some.clash.label.now c.in-Some.clash.earlier.now = search rules in
-    let is : c.in_ok-too_alike.field-0 ≡ Semantic None (clash_text c.args.word.now c.in-Some.clash.label.now c.args.world.now c.in-Some.clash.earlier.now) cause.NotStronglyUnique = search rules in
-    clash_error c.args.world.now c.args.word.now c.args.entries.now c.in-Some.clash.label.now c.in-Some.clash.earlier.now clash c.in_ok-too_alike.field-0 is
+    let is : c.in_ok-not_strongly_unique.field-0 ≡ Semantic None (clash_text c.args.word.now c.in-Some.clash.label.now c.args.world.now c.in-Some.clash.earlier.now) cause.NotStronglyUnique = search rules in
+    clash_error c.args.world.now c.args.word.now c.args.entries.now c.in-Some.clash.label.now c.in-Some.clash.earlier.now clash c.in_ok-not_strongly_unique.field-0 is

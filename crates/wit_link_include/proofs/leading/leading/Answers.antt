@@ -3,7 +3,7 @@ use Rattle.std.specs.List.{flat_map}
 use Rattle.std.specs.Map.{keys_of, lookup}
 use Rattle.wit_digraph.specs.facts.FreshFacts.{any_from_contains, no_any_from}
 use Rattle.wit_digraph.specs.Relation.{IsAcyclic, direct}
-use Rattle.wit_digraph.specs.Walks.{walk}
+use Rattle.wit_digraph.specs.PostOrder.{post_order}
 use Rattle.wit_data.specs.Reference.{type_references}
 use Rattle.wit_link_include.specs.steps.Copied.{known_of, leads, open_rows, said}
 use Rattle.wit_link_include.specs.declared.leading.Step.{Step}
@@ -123,14 +123,14 @@ in_the_end : (o : Origin) (acyclic : IsAcyclic (type_references o.graph.now.type
 in_the_end o acyclic roots known done right t = by (lookup (nat_eq t) known) refl
   where
     all : List ℕ
-    all = flat_map (walk (open_rows o)) roots
+    all = flat_map (post_order (open_rows o)) roots
 
     by : (r : Option Bool) → lookup (nat_eq t) known ≡ r → lookup (nat_eq t) known ≡ known_of o roots t
     by (Some b) at =
-        let on = any_from_contains t (flat_map (walk (open_rows o)) roots) (done_within (open_rows o) (open_acyclic o acyclic) roots (keys_of known) done t (key_at known t b at)) in
+        let on = any_from_contains t (flat_map (post_order (open_rows o)) roots) (done_within (open_rows o) (open_acyclic o acyclic) roots (keys_of known) done t (key_at known t b at)) in
         at ∙ (ap Some (right t b at) ∙ sym (ap (λ (x : Bool). if x then Some (leads o t) else None) on))
     by None at =
-        let off = no_any_from t (flat_map (walk (open_rows o)) roots) (λ has.
+        let off = no_any_from t (flat_map (post_order (open_rows o)) roots) (λ has.
         let found = value_at known t (done_all (open_rows o) (open_acyclic o acyclic) roots (keys_of known) done t has) in
         let both : None ≡ Some found.0 = sym at ∙ found.1 in cc) in
         at ∙ sym (ap (λ (x : Bool). if x then Some (leads o t) else None) off)

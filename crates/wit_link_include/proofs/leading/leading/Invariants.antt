@@ -4,7 +4,7 @@ use Rattle.wit_link_include.specs.steps.Copied.{leads, open_rows}
 use Rattle.wit_link_include.proofs.Walking.{IsWalking, turns}
 use Rattle.wit_link_include.proofs.leading.leading.Given as goal
 
--- what is known so far is right, and the walk is on its way
+-- what is known so far is right, and the walk is running
 abbrev pub invariant-loop-step : goal.invariant-loop-step
 invariant-loop-step l = record {
   walking : IsWalking (open_rows l.origin) l.roots (keys_of l.known.entries) l.stack;

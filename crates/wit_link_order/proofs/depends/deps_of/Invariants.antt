@@ -4,7 +4,7 @@ use Rattle.std.specs.Map.{lookup}
 use Rattle.wit_data.specs.Foreign.{ForeignItem}
 use Rattle.wit_data.specs.PackageOrder.{same_package}
 use Rattle.wit_data.specs.declared.package_name.PackageName.{PackageName}
-use Rattle.wit_link_order.specs.steps.SortingSteps.{found_deps}
+use Rattle.wit_link_order.specs.steps.GroupOrderSteps.{found_deps}
 use Rattle.wit_link_order.proofs.depends.deps_of.Given as goal
 
 -- those so far, and those that are left

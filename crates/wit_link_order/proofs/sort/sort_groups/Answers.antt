@@ -1,24 +1,24 @@
 use Rattle.std.proofs.Common.{◌≡◌, List, ℕ, subst, slice_get, Some}
 use Rattle.std.specs.List.{AllZip}
-use Rattle.wit_link_order.specs.Sorting.{Handed}
+use Rattle.wit_link_order.specs.GroupOrder.{Unresolved}
 use Rattle.wit_link_order.proofs.Orders.{order-below, order-once}
 use Rattle.wit_link_order.proofs.Refusals.{no-cause}
 use Rattle.wit_link_order.proofs.sort.sort_groups.Goals as goal
 
 pub in_order-requires-clause-once : goal.in_order-requires-clause-once
-in_order-requires-clause-once c = rw c.as_slice.ensures (order-once c.args.handed c.in_ok-order.order c.in_ok-order.ensures.ok.is)
+in_order-requires-clause-once c = rw c.as_slice.ensures (order-once c.args.unresolved c.in_ok-order.order c.in_ok-order.ensures.ok.is)
 
 pub in_order-requires-clause-in_range : goal.in_order-requires-clause-in_range
-in_order-requires-clause-in_range c = rw c.as_slice.ensures (order-below c.args.handed c.in_ok-order.order c.in_ok-order.ensures.ok.acyclic c.in_ok-order.ensures.ok.is)
+in_order-requires-clause-in_range c = rw c.as_slice.ensures (order-below c.args.unresolved c.in_ok-order.order c.in_ok-order.ensures.ok.acyclic c.in_ok-order.ensures.ok.is)
 
 pub returns-clause-ok : goal.returns-clause-ok
 returns-clause-ok c = (
   c.in_ok-order.order,
   record {
     is_order = c.in_ok-order.ensures.ok.is;
-    are = subst (λ (order : List ℕ). AllZip (λ i (p : Handed). slice_get c.args.handed i ≡ Some p) order c.in_ok-in_order.field-0) c.as_slice.ensures c.in_ok-in_order.ensures;
+    are = subst (λ (order : List ℕ). AllZip (λ i (p : Unresolved). slice_get c.args.unresolved i ≡ Some p) order c.in_ok-in_order.field-0) c.as_slice.ensures c.in_ok-in_order.ensures;
   },
 )
 
 pub returns-clause-refuses : goal.returns-clause-refuses
-returns-clause-refuses c = λ kind cause. no-cause c.args.handed c.in_ok-order.order kind c.in_ok-order.ensures.ok cause
+returns-clause-refuses c = λ kind cause. no-cause c.args.unresolved c.in_ok-order.order kind c.in_ok-order.ensures.ok cause

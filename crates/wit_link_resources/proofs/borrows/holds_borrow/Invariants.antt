@@ -1,13 +1,13 @@
 use Rattle.std.proofs.Common.{length}
 use Rattle.std.specs.List.{flat_map}
-use Rattle.wit_digraph.specs.Walks.{walk}
-use Rattle.wit_graph_data.specs.Questions.{held_rows}
+use Rattle.wit_digraph.specs.PostOrder.{post_order}
+use Rattle.wit_graph_data.specs.Queries.{type_contents}
 use Rattle.wit_link_spec.specs.Reasons.{IsBorrow}
 use Rattle.wit_link_resources.proofs.Searching.{IsSearching}
 use Rattle.wit_link_resources.proofs.borrows.holds_borrow.Given as goal
 
 abbrev pub invariant-loop-place : goal.invariant-loop-place
-invariant-loop-place l = IsSearching (held_rows l.types) (IsBorrow l.types) l.fn.id l.free.keys l.stack
+invariant-loop-place l = IsSearching (type_contents l.types) (IsBorrow l.types) l.fn.id l.free.keys l.stack
 
 abbrev pub decreases-loop-place : goal.decreases-loop-place
-decreases-loop-place l = length (flat_map (walk (held_rows l.types)) l.stack)
+decreases-loop-place l = length (flat_map (post_order (type_contents l.types)) l.stack)

@@ -2,8 +2,8 @@ use Rattle.std.proofs.Common.{◌≡◌, ◌∙◌, ◌<◌, inl, Bool, true, fa
 use Rattle.std.proofs.lemmas.Bool.{false≢true, le-ltb, lt-ltb}
 use Rattle.std.proofs.lemmas.Result.{IfOk-weaker}
 use Rattle.wit_data.specs.declared.types.TypeDef.{TypeDef}
-use Rattle.wit_link_spec.specs.steps.Adding.{addition_of}
-use Rattle.wit_link_spec.specs.Addition.{Addition, taken_type}
+use Rattle.wit_link_spec.specs.steps.AdditionRefs.{addition_of}
+use Rattle.wit_link_spec.specs.Addition.{Addition, active_type_id}
 use Rattle.wit_link_spec.specs.facts.FlagFacts.{place-inside, place-is}
 use Rattle.wit_link_spec.specs.Lookup.{is_foreign_type}
 use Rattle.wit_link_spec.specs.Reasons.{HoldsBorrow}
@@ -18,17 +18,17 @@ at-requires c = place-inside (addition_of c.args.adding.now) c.args.places.now c
 pub holds_borrow-requires-clause-there : goal.holds_borrow-requires-clause-there
 holds_borrow-requires-clause-there c =
     let a : Addition = addition_of c.args.adding.now in
-    let taken : taken_type a c.args.place ≡ Some c.in-Some.found = sym (place-is a c.args.places.now c.requires.places c.args.place c.at.result.now c.at.ensures) ∙ c.in-Some.is in
-    let below : c.args.place < length a.handed.unknown_type_spans = let first = c.if-place-len.true in let len = c.len.ensures in omega arith in
-    let back = foreign_back a c.requires.shaped c.args.place c.in-Some.found (lt-ltb c.args.place (length a.handed.unknown_type_spans) below) taken in
+    let taken : active_type_id a c.args.place ≡ Some c.in-Some.found = sym (place-is a c.args.places.now c.requires.places c.args.place c.at.result.now c.at.ensures) ∙ c.in-Some.is in
+    let below : c.args.place < length a.unresolved.unknown_type_spans = let first = c.if-place-len.true in let len = c.len.ensures in omega arith in
+    let back = foreign_back a c.requires.shaped c.args.place c.in-Some.found (lt-ltb c.args.place (length a.unresolved.unknown_type_spans) below) taken in
     subst (λ (types : List TypeDef). c.in-Some.found < length types) (sym c.as_slice.ensures) (found_in_graph a c.requires.valid c.args.place c.in-Some.found back.1)
 
 pub returns-in-Some-clause-holds : goal.returns-in-Some-clause-holds
 returns-in-Some-clause-holds c =
     let a : Addition = addition_of c.args.adding.now in
-    let taken : taken_type a c.args.place ≡ Some c.in-Some.found = sym (place-is a c.args.places.now c.requires.places c.args.place c.at.result.now c.at.ensures) ∙ c.in-Some.is in
-    let below : c.args.place < length a.handed.unknown_type_spans = let first = c.if-place-len.true in let len = c.len.ensures in omega arith in
-    let foreign : is_foreign_type a.handed c.args.place ≡ true = lt-ltb c.args.place (length a.handed.unknown_type_spans) below in
+    let taken : active_type_id a c.args.place ≡ Some c.in-Some.found = sym (place-is a c.args.places.now c.requires.places c.args.place c.at.result.now c.at.ensures) ∙ c.in-Some.is in
+    let below : c.args.place < length a.unresolved.unknown_type_spans = let first = c.if-place-len.true in let len = c.len.ensures in omega arith in
+    let foreign : is_foreign_type a.unresolved c.args.place ≡ true = lt-ltb c.args.place (length a.unresolved.unknown_type_spans) below in
     IfOk-weaker c.holds_borrow.result (λ (b : Bool). (IsTrue b → HoldsBorrow c.as_slice.result.now c.in-Some.found) × (HoldsBorrow c.as_slice.result.now c.in-Some.found → IsTrue b))
     (λ (b : Bool). (IsTrue b → IsBorrowThere a c.args.place) × (IsBorrowThere a c.args.place → IsTrue b))
     (λ b tells. (
@@ -39,16 +39,16 @@ returns-in-Some-clause-holds c =
 pub returns-in-None-clause-holds : goal.returns-in-None-clause-holds
 returns-in-None-clause-holds c =
     let a : Addition = addition_of c.args.adding.now in
-    let taken : taken_type a c.args.place ≡ None = sym (place-is a c.args.places.now c.requires.places c.args.place c.at.result.now c.at.ensures) ∙ c.in-None.is in
-    let below : c.args.place < length a.handed.unknown_type_spans = let first = c.if-place-len.true in let len = c.len.ensures in omega arith in
-    let foreign : is_foreign_type a.handed c.args.place ≡ true = lt-ltb c.args.place (length a.handed.unknown_type_spans) below in
+    let taken : active_type_id a c.args.place ≡ None = sym (place-is a c.args.places.now c.requires.places c.args.place c.at.result.now c.at.ensures) ∙ c.in-None.is in
+    let below : c.args.place < length a.unresolved.unknown_type_spans = let first = c.if-place-len.true in let len = c.len.ensures in omega arith in
+    let foreign : is_foreign_type a.unresolved c.args.place ≡ true = lt-ltb c.args.place (length a.unresolved.unknown_type_spans) below in
     (λ h. absurd (false≢true h), λ is. absurd (nowhere_none a c.requires.shaped c.args.place foreign taken is))
 
 pub returns-else-place-len-clause-holds : goal.returns-else-place-len-clause-holds
 returns-else-place-len-clause-holds c =
     let a : Addition = addition_of c.args.adding.now in
-    let its : is_foreign_type a.handed c.args.place ≡ false = le-ltb c.args.place (length a.handed.unknown_type_spans) (let past = c.if-place-len.false in let len = c.len.ensures in omega arith) in
+    let its : is_foreign_type a.unresolved c.args.place ≡ false = le-ltb c.args.place (length a.unresolved.unknown_type_spans) (let past = c.if-place-len.false in let len = c.len.ensures in omega arith) in
     let def : TypeDef = c.at-else-place-len.result.now in (
-      λ h. inl (borrow_here a.handed.types c.args.place def c.at-else-place-len.ensures (c.is_borrow.ensures.0 h)),
+      λ h. inl (borrow_here a.unresolved.types c.args.place def c.at-else-place-len.ensures (c.is_borrow.ensures.0 h)),
       λ is. c.is_borrow.ensures.1 (own_back a c.requires.shaped c.args.place def c.at-else-place-len.ensures its is),
     )

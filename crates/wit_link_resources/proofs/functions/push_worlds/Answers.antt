@@ -1,6 +1,6 @@
 use Rattle.std.proofs.Common.{◌∙◌, ◌++◌, ap, sym, arith, List, append_assoc}
 use Rattle.wit_data.specs.declared.function.Function.{Function}
-use Rattle.wit_link_spec.specs.steps.Adding.{addition_of}
+use Rattle.wit_link_spec.specs.steps.AdditionRefs.{addition_of}
 use Rattle.wit_link_spec.specs.Addition.{Addition}
 use Rattle.wit_link_spec.specs.facts.FlagFacts.{world-flag, world-inside}
 use Rattle.wit_link_resources.specs.steps.Active.{active_entries, seen, world_functions}

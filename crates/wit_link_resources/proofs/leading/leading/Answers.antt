@@ -1,5 +1,5 @@
 use Rattle.std.proofs.Common.{◌≡◌, ◌∙◌, ◌≤◌, ℕ, Bool, true, false, List, Option, Some, slice_get, unwrap_or, ap, subst, sym, arith}
-use Rattle.wit_link_spec.specs.steps.Adding.{addition_of}
+use Rattle.wit_link_spec.specs.steps.AdditionRefs.{addition_of}
 use Rattle.wit_link_spec.specs.Addition.{Addition}
 use Rattle.wit_link_spec.specs.facts.RangeFacts.{range-at, range-pushed}
 use Rattle.wit_link_resources.specs.steps.Leading.{AreRight, leads_if_wanted, leads_there}

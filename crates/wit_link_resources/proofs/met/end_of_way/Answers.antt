@@ -5,7 +5,7 @@ use Rattle.std.proofs.lemmas.Bool.{eqb-true}
 use Rattle.std.proofs.lemmas.Map.Views.{Contains-from_lookup}
 use Rattle.std.proofs.lemmas.Option.{slice_get-get_or}
 use Rattle.wit_graph_theory.specs.steps.Sources.{alias_rows}
-use Rattle.wit_digraph.specs.Walks.{walk}
+use Rattle.wit_digraph.specs.PostOrder.{post_order}
 use Rattle.wit_data.specs.declared.types.TypeDef.{TypeDef}
 use Rattle.wit_link_spec.specs.Resources.{is_resource_kind, leads_to_resource}
 use Rattle.wit_link_resources.proofs.Leads.{leads_here, leads_on, target_there, walk_falls}
@@ -16,7 +16,7 @@ pub loop-target-smaller : goal.loop-target-smaller
 loop-target-smaller c =
     let types = c.args.types.now in
     let on = c.in-Some.ensures.some c.in-Some.target refl in
-    subst (λ (k : ℕ). length (walk (alias_rows types) k) < length (walk (alias_rows types) c.loop-target.place)) (sym c.index-place.ensures)
+    subst (λ (k : ℕ). length (post_order (alias_rows types) k) < length (post_order (alias_rows types) c.loop-target.place)) (sym c.index-place.ensures)
     (walk_falls types (alias_acyclic types c.requires.acyclic) c.loop-target.place c.in-Some.target on.1.0 on.1.1 on.1.2)
 
 pub loop-target-preserved : goal.loop-target-preserved

@@ -1,5 +1,5 @@
 use Rattle.std.proofs.Common.{◌≡◌, ◌<◌, length}
-use Rattle.wit_digraph.specs.Walks.{walk}
+use Rattle.wit_digraph.specs.PostOrder.{post_order}
 use Rattle.wit_graph_theory.specs.steps.Sources.{alias_rows}
 use Rattle.wit_link_spec.specs.Resources.{leads_to_resource}
 use Rattle.wit_link_resources.proofs.met.end_of_way.Given as goal
@@ -12,4 +12,4 @@ invariant-loop-target l = record {
 }
 
 abbrev pub decreases-loop-target : goal.decreases-loop-target
-decreases-loop-target l = length (walk (alias_rows l.types) l.place)
+decreases-loop-target l = length (post_order (alias_rows l.types) l.place)

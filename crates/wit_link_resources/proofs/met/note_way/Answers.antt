@@ -1,6 +1,6 @@
 use Rattle.std.proofs.Common.{◌≡◌, ◌∙◌, ◌++◌, ◌∷◌, [], ◌<◌, ℕ, length, ap, refl, sym, subst}
 use Rattle.wit_graph_theory.specs.steps.Sources.{alias_rows}
-use Rattle.wit_digraph.specs.Walks.{walk}
+use Rattle.wit_digraph.specs.PostOrder.{post_order}
 use Rattle.wit_link_spec.specs.Resources.{leads_to_resource}
 use Rattle.wit_link_resources.proofs.Leads.{leads_on, target_there, walk_falls}
 use Rattle.wit_link_resources.proofs.MetTypes.{right-more}
@@ -11,7 +11,7 @@ pub loop-target-smaller : goal.loop-target-smaller
 loop-target-smaller c =
     let types = c.args.types.now in
     let on = c.in-Some.ensures.some c.in-Some.target refl in
-    subst (λ (k : ℕ). length (walk (alias_rows types) k) < length (walk (alias_rows types) c.loop-target.place)) (sym c.index-place.ensures)
+    subst (λ (k : ℕ). length (post_order (alias_rows types) k) < length (post_order (alias_rows types) c.loop-target.place)) (sym c.index-place.ensures)
     (walk_falls types (alias_acyclic types c.requires.acyclic) c.loop-target.place c.in-Some.target on.1.0 on.1.1 on.1.2)
 
 pub loop-target-preserved : goal.loop-target-preserved

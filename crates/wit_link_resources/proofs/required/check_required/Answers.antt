@@ -1,7 +1,7 @@
 use Rattle.std.proofs.Common.{◌≡◌, ◌∙◌, ◌<◌, true, false, ℕ, None, Some, List, length, slice_get, ap, sym, subst, inr}
 use Rattle.wit_data.specs.declared.types.TypeDef.{TypeDef}
-use Rattle.wit_link_spec.specs.steps.Adding.{addition_of}
-use Rattle.wit_link_spec.specs.Addition.{Addition, taken_type}
+use Rattle.wit_link_spec.specs.steps.AdditionRefs.{addition_of}
+use Rattle.wit_link_spec.specs.Addition.{Addition, active_type_id}
 use Rattle.wit_link_spec.specs.facts.FlagFacts.{place-inside, place-is}
 use Rattle.wit_link_spec.specs.Resources.{leads_to_resource}
 use Rattle.wit_link_resources.specs.steps.Leading.{AreRight}
@@ -19,16 +19,16 @@ pub returns-in_default-clause-ok : goal.returns-in_default-clause-ok
 returns-in_default-clause-ok c = λ t' active found.
     let a : Addition = addition_of c.args.adding.now in
     let there = required_is_foreign a c.requires.shaped c.args.id c.args.span c.requires.required in
-    let taken : taken_type a c.args.id ≡ None =
+    let taken : active_type_id a c.args.id ≡ None =
     sym (place-is a c.args.places.now c.requires.places c.args.id c.at.result.now (subst (λ (k : ℕ). slice_get c.args.places.now.types k ≡ Some c.at.result.now) c.index.ensures c.at.ensures)) ∙ c.in_default.is in
-    let goes : taken_type a c.args.id ≡ Some t' = found_on a c.requires.shaped c.args.id t' active found in
+    let goes : active_type_id a c.args.id ≡ Some t' = found_on a c.requires.shaped c.args.id t' active found in
     cc
 
 pub leads_to_resource-requires-clause-there : goal.leads_to_resource-requires-clause-there
 leads_to_resource-requires-clause-there c =
     let a : Addition = addition_of c.args.adding.now in
     let there = required_is_foreign a c.requires.shaped c.args.id c.args.span c.requires.required in
-    let taken : taken_type a c.args.id ≡ Some c.in-Some.found =
+    let taken : active_type_id a c.args.id ≡ Some c.in-Some.found =
     sym (place-is a c.args.places.now c.requires.places c.args.id c.at.result.now (subst (λ (k : ℕ). slice_get c.args.places.now.types k ≡ Some c.at.result.now) c.index.ensures c.at.ensures)) ∙ c.in-Some.is in
     let back = foreign_back a c.requires.shaped c.args.id c.in-Some.found there.1 taken in
     subst (λ (types : List TypeDef). c.in-Some.found < length types) (sym c.as_slice.ensures) (found_there a c.requires.valid c.args.id c.in-Some.found back.1)
@@ -37,9 +37,9 @@ pub returns-then-leads-clause-ok : goal.returns-then-leads-clause-ok
 returns-then-leads-clause-ok c = λ t' active found.
     let a : Addition = addition_of c.args.adding.now in
     let there = required_is_foreign a c.requires.shaped c.args.id c.args.span c.requires.required in
-    let taken : taken_type a c.args.id ≡ Some c.in-Some.found =
+    let taken : active_type_id a c.args.id ≡ Some c.in-Some.found =
     sym (place-is a c.args.places.now c.requires.places c.args.id c.at.result.now (subst (λ (k : ℕ). slice_get c.args.places.now.types k ≡ Some c.at.result.now) c.index.ensures c.at.ensures)) ∙ c.in-Some.is in
-    let goes : taken_type a c.args.id ≡ Some t' = found_on a c.requires.shaped c.args.id t' active found in
+    let goes : active_type_id a c.args.id ≡ Some t' = found_on a c.requires.shaped c.args.id t' active found in
     let same : c.in-Some.found ≡ t' = cc in
     subst (λ (k : ℕ). leads_to_resource a.graph.types k ≡ true) same
     (ap (λ (types : List TypeDef). leads_to_resource types c.in-Some.found) (sym c.as_slice.ensures) ∙ (sym c.in_ok-leads.ensures.leads ∙ c.if-leads.true))
@@ -48,7 +48,7 @@ pub returns-clause-cause : goal.returns-clause-cause
 returns-clause-cause c =
     let a : Addition = addition_of c.args.adding.now in
     let there = required_is_foreign a c.requires.shaped c.args.id c.args.span c.requires.required in
-    let taken : taken_type a c.args.id ≡ Some c.in-Some.found =
+    let taken : active_type_id a c.args.id ≡ Some c.in-Some.found =
     sym (place-is a c.args.places.now c.requires.places c.args.id c.at.result.now (subst (λ (k : ℕ). slice_get c.args.places.now.types k ≡ Some c.at.result.now) c.index.ensures c.at.ensures)) ∙ c.in-Some.is in
     let back = foreign_back a c.requires.shaped c.args.id c.in-Some.found there.1 taken in
     let none : leads_to_resource a.graph.types c.in-Some.found ≡ false =

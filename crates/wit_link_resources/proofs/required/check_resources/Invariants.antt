@@ -1,12 +1,12 @@
 use Rattle.std.proofs.Common.{◌≡◌, ◌<◌, ℕ, Some, slice_get}
-use Rattle.wit_link_spec.specs.steps.Adding.{addition_of}
-use Rattle.wit_link_spec.specs.Gates.{Place}
+use Rattle.wit_link_spec.specs.steps.AdditionRefs.{addition_of}
+use Rattle.wit_link_spec.specs.Gates.{OptionalSpan}
 use Rattle.wit_link_resources.specs.steps.Leading.{AreRight, LeadsWhereFound}
 use Rattle.wit_link_resources.proofs.required.check_resources.Given as goal
 
 -- the first ones are fine, and what is noted is right
 abbrev pub invariant-loop-index : goal.invariant-loop-index
 invariant-loop-index l = record {
-  fine : (k : ℕ) → k < l.index → (r : ℕ × Place) → slice_get l.adding.handed.now.required_resource_types k ≡ Some r → LeadsWhereFound (addition_of l.adding) r.0;
+  fine : (k : ℕ) → k < l.index → (r : ℕ × OptionalSpan) → slice_get l.adding.unresolved.now.required_resource_types k ≡ Some r → LeadsWhereFound (addition_of l.adding) r.0;
   met : AreRight l.adding.graph.now.types l.met;
 }

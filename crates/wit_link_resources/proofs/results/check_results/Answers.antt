@@ -3,7 +3,7 @@ use Rattle.std.specs.Borrow.{Bor}
 use Rattle.std.proofs.lemmas.Option.{slice_get-get_or, slice_get_within}
 use Rattle.wit_data.specs.declared.function.Function.{Function}
 use Rattle.wit_graph_theory.specs.facts.ListFacts.{Contains-map, Contains-map_cases, contained_at, place_of, same_at}
-use Rattle.wit_link_spec.specs.steps.Adding.{addition_of}
+use Rattle.wit_link_spec.specs.steps.AdditionRefs.{addition_of}
 use Rattle.wit_link_spec.specs.Addition.{Addition}
 use Rattle.wit_link_resources.specs.steps.Active.{active_functions, seen}
 use Rattle.wit_link_resources.specs.steps.Borrows.{ReturnsNone}
@@ -27,7 +27,7 @@ loop-function-preserved c =
     let at : slice_get items i ≡ Some c.function-item.result = slice_get-get_or items i c.function-item.result c.loop-function-test.true ∙ ap Some (sym c.function-item.is) in
     record {
       none = below_more _ _ c.loop-function.invariant.none (λ f there. subst (λ (g : Bor Function). ReturnsNone a g.now) (same_at items i i c.function-item.result f refl at there) c.in_ok-check_result.ensures.none);
-      handed = c.in_ok-check_result.ensures.handed;
+      unresolved = c.in_ok-check_result.ensures.unresolved;
       graph = c.in_ok-check_result.ensures.graph;
     }
 

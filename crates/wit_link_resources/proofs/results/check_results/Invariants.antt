@@ -1,14 +1,14 @@
 use Rattle.std.proofs.Common.{◌≡◌, ◌<◌, ℕ, Some, slice_get}
 use Rattle.std.specs.Borrow.{Bor}
 use Rattle.wit_data.specs.declared.function.Function.{Function}
-use Rattle.wit_link_spec.specs.steps.Adding.{addition_of}
-use Rattle.wit_link_resources.specs.steps.Borrows.{AreFreeHanded, AreFreeTypes, ReturnsNone}
+use Rattle.wit_link_spec.specs.steps.AdditionRefs.{addition_of}
+use Rattle.wit_link_resources.specs.steps.Borrows.{AreFreeOfUnresolved, AreFreeTypes, ReturnsNone}
 use Rattle.wit_link_resources.proofs.results.check_results.Given as goal
 
 abbrev pub invariant-loop-function : goal.invariant-loop-function
 invariant-loop-function l = record {
   -- the first ones return none
   none : (k : ℕ) → k < l.function-index → (f : Bor Function) → slice_get l.function-items k ≡ Some f → ReturnsNone (addition_of l.adding) f.now;
-  handed : AreFreeHanded (addition_of l.adding) l.free.handed.keys;
+  unresolved : AreFreeOfUnresolved (addition_of l.adding) l.free.unresolved.keys;
   graph : AreFreeTypes l.adding.graph.now.types l.free.graph.keys;
 }

@@ -1,7 +1,7 @@
 use Rattle.std.proofs.Common.{rules, ◌≡◌, inr, None, string_bytes, subst, sym}
 use Rattle.wit_graph_data.specs.declared.cause.Cause.TheVariants as cause
 use Rattle.wit_graph_data.specs.declared.error_kind.ResolveErrorKind.TheVariants.{OffsetOverflow, Semantic, StabilityMismatch}
-use Rattle.wit_merge_match.specs.Differing.{merging_by}
+use Rattle.wit_merge_match.specs.Differing.{merge_of_graphs_by}
 use Rattle.wit_merge_match.specs.facts.OffsetFacts.{differ_by, mismatches_by, one_by}
 use Rattle.wit_merge_spec.specs.Cause.{IsMergeCause, merge_mismatch_24, mismatch_8, offset_overflow_27}
 use Rattle.wit_merge.proofs.agreement.check_agreement.Goals as goal
@@ -12,7 +12,7 @@ returns-in-Some-clause-cause c =
     let other = c.args.other.now in
     let told : c.into.result ≡ Semantic None (string_bytes c.in-Some.message) cause.MergeMismatch = search rules in
     let differ = rw c.in-Some.is at c.in_ok-message.ensures.some in
-    inr (subst (IsMergeCause (merging_by g other c.args.offset)) (sym told) (merge_mismatch_24 (string_bytes c.in-Some.message) (differ_by g other 0 c.args.offset (string_bytes c.in-Some.message) differ)))
+    inr (subst (IsMergeCause (merge_of_graphs_by g other c.args.offset)) (sym told) (merge_mismatch_24 (string_bytes c.in-Some.message) (differ_by g other 0 c.args.offset (string_bytes c.in-Some.message) differ)))
 
 pub returns-in-Some-2-clause-cause : goal.returns-in-Some-2-clause-cause
 returns-in-Some-2-clause-cause c =
@@ -21,13 +21,13 @@ returns-in-Some-2-clause-cause c =
     let pair = c.in-Some-2.pair in
     let told : c.into-in-Some-2.result ≡ StabilityMismatch None pair.from pair.into = search rules in
     let apart = rw c.in-Some-2.is at c.in_ok-pair.ensures.some in
-    inr (subst (IsMergeCause (merging_by g other c.args.offset)) (sym told) (mismatch_8 pair.from pair.into (mismatches_by g other 0 c.args.offset pair.from pair.into apart)))
+    inr (subst (IsMergeCause (merge_of_graphs_by g other c.args.offset)) (sym told) (mismatch_8 pair.from pair.into (mismatches_by g other 0 c.args.offset pair.from pair.into apart)))
 
 pub returns-then-not-spans_fit-clause-cause : goal.returns-then-not-spans_fit-clause-cause
 returns-then-not-spans_fit-clause-cause c =
     let g = c.args.graph.now in
     let told : c.into-then-not-spans_fit.result ≡ OffsetOverflow = search rules in
-    inr (subst (IsMergeCause (merging_by g c.args.other.now c.args.offset)) (sym told) (offset_overflow_27 (c.spans_fit.ensures.pass c.if-not-spans_fit.true g)))
+    inr (subst (IsMergeCause (merge_of_graphs_by g c.args.other.now c.args.offset)) (sym told) (offset_overflow_27 (c.spans_fit.ensures.pass c.if-not-spans_fit.true g)))
 
 pub returns-clause-agree : goal.returns-clause-agree
 returns-clause-agree c =

@@ -4,8 +4,8 @@ use Rattle.std.proofs.lemmas.List.{append-nil}
 use Rattle.wit_data.specs.declared.types.TypeDef.{TypeDef}
 use Rattle.wit_graph_theory.specs.facts.ListFacts.{get_at}
 use Rattle.wit_link_spec.specs.Resources.{value_positions}
-use Rattle.wit_merge_match.specs.steps.Going.{moves}
-use Rattle.wit_merge.proofs.Left.{left-more, of_taken, taken-first}
+use Rattle.wit_merge_match.specs.steps.MergeRemaps.{moves}
+use Rattle.wit_merge.proofs.Left.{left-more, of_selected, selected-first}
 use Rattle.wit_merge.proofs.Numbered.{first_behind}
 use Rattle.wit_merge.proofs.asked.push_types.Goals.{then-moves+in_ok-value_positions+in_ok-append, else-moves}
 use Rattle.wit_merge.proofs.asked.push_types.Goals as goal
@@ -19,12 +19,12 @@ loop-place-preserved c =
     let kept : ℕ × TypeDef → Bool = λ e. moves found e.0 in
     let its : TypeDef → List ℕ = λ def. value_positions def.kind in
     let all : List (ℕ × TypeDef) → List ℕ = λ es. flat_map its (map (λ (e : ℕ × TypeDef). e.1) (filter kept es)) in
-    let next : (def : TypeDef) → slice_get types place ≡ Some def → c.if-moves.ids ≡ before ++ of_taken kept its (place, def)
+    let next : (def : TypeDef) → slice_get types place ≡ Some def → c.if-moves.ids ≡ before ++ of_selected kept its (place, def)
     → c.if-moves.ids ++ all (enumerate_from (place + 1) (drop (place + 1) types)) ≡ c.args.ids.now ++ all (enumerate_from 0 types) =
     λ def at added.
-    left-more all (of_taken kept its) (taken-first kept its) before c.if-moves.ids _ (enumerate_from place (drop place types)) (place, def) _
+    left-more all (of_selected kept its) (selected-first kept its) before c.if-moves.ids _ (enumerate_from place (drop place types)) (place, def) _
     (first_behind types place (place + 1) def refl at) c.loop-place.invariant added in
-    let given : (def : TypeDef) (b : Bool) → moves found place ≡ b → of_taken kept its (place, def) ≡ (if b then value_positions def.kind else []) = λ def b is. ap (λ (b : Bool). if b then value_positions def.kind else []) is in
+    let given : (def : TypeDef) (b : Bool) → moves found place ≡ b → of_selected kept its (place, def) ≡ (if b then value_positions def.kind else []) = λ def b is. ap (λ (b : Bool). if b then value_positions def.kind else []) is in
     elim c.if-moves.branch [
       | then-moves+in_ok-value_positions+in_ok-append w ↦
           let def : TypeDef = w.at.result.now in

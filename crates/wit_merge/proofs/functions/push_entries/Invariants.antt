@@ -1,7 +1,7 @@
 use Rattle.std.proofs.Common.{◌≡◌, ◌++◌}
 use Rattle.std.specs.List.{flat_map}
 use Rattle.wit_data.specs.Entries.{Entry}
-use Rattle.wit_merge_spec.specs.Moved.{item_function}
+use Rattle.wit_merge_spec.specs.Remapped.{item_function}
 use Rattle.wit_link_resources.specs.steps.Active.{seen}
 use Rattle.wit_merge.proofs.functions.push_entries.Given as goal
 

@@ -3,23 +3,23 @@ use Rattle.std.specs.List.{enumerate_from, flat_map}
 use Rattle.std.specs.Option.{option_map_or}
 use Rattle.wit_data.specs.declared.function.Function.{Function}
 use Rattle.wit_data.specs.declared.interface.Interface.{Interface}
-use Rattle.wit_merge_spec.specs.Matches.{Merging}
-use Rattle.wit_merge_spec.specs.Moved.{brought_functions, interface_functions}
+use Rattle.wit_merge_spec.specs.Matches.{GraphMerge}
+use Rattle.wit_merge_spec.specs.Remapped.{brought_functions, interface_functions}
 use Rattle.wit_link_resources.specs.steps.Active.{seen}
-use Rattle.wit_merge_match.specs.steps.Found.{merging}
+use Rattle.wit_merge_match.specs.steps.Matched.{merge_of_graphs}
 use Rattle.wit_merge.proofs.Left.{left-more}
 use Rattle.wit_merge.proofs.Numbered.{first_behind}
 use Rattle.wit_merge.proofs.functions.push_interfaces.Goals as goal
 
 pub loop-place-preserved : goal.loop-place-preserved
 loop-place-preserved c =
-    let m : Merging = merging c.args.graph.now c.args.other.now in
+    let m : GraphMerge = merge_of_graphs c.args.graph.now c.args.other.now in
     let place : ℕ = c.loop-place.place in
     let from : Interface = c.at.result.now in
     let before : List Function = seen c.loop-place.functions.items in
     let brought : ℕ × Interface → List Function = λ e. interface_functions m e.0 e.1 in
     let added : seen c.push_brought.new.functions.items ≡ before ++ interface_functions m place from =
     c.in_ok-push_brought.ensures ∙ ap (λ (o : Option Interface). before ++ map (λ (e : List ℕ × Function). e.1) (option_map_or (brought_functions from) o from.functions))
-    (c.interface_beside-into.ensures ∙ ap (option_and_then (slice_get m.graph.interfaces)) (c.requires.interfaces.each place)) in
+    (c.matched_interface-into.ensures ∙ ap (option_and_then (slice_get m.graph.interfaces)) (c.requires.interfaces.each place)) in
     left-more (flat_map brought) brought (λ e es. refl) before (seen c.push_brought.new.functions.items) _ (enumerate_from place (drop place m.other.interfaces)) (place, from) _
     (first_behind m.other.interfaces place (place + 1) from refl c.at.ensures) c.loop-place.invariant added

@@ -1,14 +1,14 @@
 use Rattle.std.proofs.Common.{◌≡◌, ◌++◌, ℕ, drop, filter}
 use Rattle.std.specs.List.{enumerate_from, flat_map}
 use Rattle.wit_data.specs.declared.world.World.{World}
-use Rattle.wit_link_spec.specs.Ranks.{taken_places}
-use Rattle.wit_merge_spec.specs.Moved.{world_functions}
+use Rattle.wit_link_spec.specs.Ranks.{selected_with_index}
+use Rattle.wit_merge_spec.specs.Remapped.{world_functions}
 use Rattle.wit_link_resources.specs.steps.Active.{seen}
-use Rattle.wit_merge_match.specs.steps.Going.{moves}
+use Rattle.wit_merge_match.specs.steps.MergeRemaps.{moves}
 use Rattle.wit_merge.proofs.functions.push_worlds.Given as goal
 
 -- what has been added, and what those will add that are left
 abbrev pub invariant-loop-place : goal.invariant-loop-place
 invariant-loop-place l =
     seen l.functions.items ++ flat_map (λ (e : ℕ × World). world_functions e.1) (filter (λ (e : ℕ × World). moves l.matches.worlds e.0) (enumerate_from l.place (drop l.place l.other.worlds)))
-    ≡ seen l.fn.functions.items ++ flat_map (λ (e : ℕ × World). world_functions e.1) (taken_places (moves l.matches.worlds) l.other.worlds)
+    ≡ seen l.fn.functions.items ++ flat_map (λ (e : ℕ × World). world_functions e.1) (selected_with_index (moves l.matches.worlds) l.other.worlds)

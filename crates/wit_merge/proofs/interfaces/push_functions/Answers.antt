@@ -5,9 +5,9 @@ use Rattle.std.specs.Str.{bytes_eq}
 use Rattle.wit_digraph.specs.facts.MemberFacts.{Contains-here, Contains-there}
 use Rattle.wit_data.specs.declared.function.Function.{Function}
 use Rattle.wit_graph_theory.specs.Image.{function_image}
-use Rattle.wit_merge_spec.specs.Moved.{merge_maps}
-use Rattle.wit_merge.specs.steps.Joined.{brought_beside, functions_image}
-use Rattle.wit_merge.specs.steps.Uniting.{merging_of}
+use Rattle.wit_merge_spec.specs.Remapped.{merge_maps}
+use Rattle.wit_merge.specs.steps.Joined.{brought_matched, functions_image}
+use Rattle.wit_merge.specs.steps.UnionSteps.{merging_of}
 use Rattle.wit_merge.proofs.Chosen.{key_is_new, none_left, one_more, passed_over, split}
 use Rattle.wit_merge.proofs.interfaces.push_functions.Goals as goal
 
@@ -19,7 +19,7 @@ loop-name-init c =
     let m = merging_of c.args.uniting.now in
     let whole = c.into_iter-name-iterator.ensures.into_iter_gives ∙ c.iter-name-items.ensures.rest in
     record {
-      all = ap (λ (l : List Named). c.args.into.now ++ functions_image m (brought_beside c.args.known.now l)) whole;
+      all = ap (λ (l : List Named). c.args.into.now ++ functions_image m (brought_matched c.args.known.now l)) whole;
       can = λ e has. c.requires.functions e (subst (λ (l : List Named). Contains l e) whole has);
     }
 
@@ -32,7 +32,7 @@ pub push-requires : goal.push-requires
 push-requires c =
     let m = merging_of c.args.uniting.now in
     let known = c.args.known.now in
-    let whole = c.args.into.now ++ functions_image m (brought_beside known c.args.from.now) in
+    let whole = c.args.into.now ++ functions_image m (brought_matched known c.args.from.now) in
     let e : Named = (c.in-Some.name.now, c.in-Some.function.now) in
     let image = λ (d : Named). let r : Named = (d.0, function_image (merge_maps m) d.1) in r in
     let test = λ (d : Named). not (is_some (lookup (bytes_eq d.0) known)) in
@@ -45,7 +45,7 @@ pub loop-name-preserved-in_ok-push : goal.loop-name-preserved-in_ok-push
 loop-name-preserved-in_ok-push c =
     let m = merging_of c.args.uniting.now in
     let known = c.args.known.now in
-    let whole = c.args.into.now ++ functions_image m (brought_beside known c.args.from.now) in
+    let whole = c.args.into.now ++ functions_image m (brought_matched known c.args.from.now) in
     let e : Named = (c.in-Some.name.now, c.in-Some.function.now) in
     let image = λ (d : Named). let r : Named = (d.0, function_image (merge_maps m) d.1) in r in
     let test = λ (d : Named). not (is_some (lookup (bytes_eq d.0) known)) in
@@ -60,7 +60,7 @@ pub loop-name-preserved : goal.loop-name-preserved
 loop-name-preserved c =
     let m = merging_of c.args.uniting.now in
     let known = c.args.known.now in
-    let whole = c.args.into.now ++ functions_image m (brought_beside known c.args.from.now) in
+    let whole = c.args.into.now ++ functions_image m (brought_matched known c.args.from.now) in
     let e : Named = (c.in-Some.name.now, c.in-Some.function.now) in
     let image = λ (d : Named). let r : Named = (d.0, function_image (merge_maps m) d.1) in r in
     let test = λ (d : Named). not (is_some (lookup (bytes_eq d.0) known)) in
@@ -75,5 +75,5 @@ returns c =
     let m = merging_of c.args.uniting.now in
     let known = c.args.known.now in
     let image = λ (d : Named). let r : Named = (d.0, function_image (merge_maps m) d.1) in r in
-    none_left image (λ (d : Named). not (is_some (lookup (bytes_eq d.0) known))) c.loop-name.into _ (c.args.into.now ++ functions_image m (brought_beside known c.args.from.now)) c.in-None.ensures.steps.0
+    none_left image (λ (d : Named). not (is_some (lookup (bytes_eq d.0) known))) c.loop-name.into _ (c.args.into.now ++ functions_image m (brought_matched known c.args.from.now)) c.in-None.ensures.steps.0
     c.loop-name.invariant.all

@@ -1,11 +1,11 @@
 use Rattle.std.proofs.Common.{◌≡◌, ◌++◌}
-use Rattle.wit_merge.specs.steps.Joined.{FunctionsMove, brought_beside, functions_image}
-use Rattle.wit_merge.specs.steps.Uniting.{merging_of}
+use Rattle.wit_merge.specs.steps.Joined.{FunctionsMove, brought_matched, functions_image}
+use Rattle.wit_merge.specs.steps.UnionSteps.{merging_of}
 use Rattle.wit_merge.proofs.interfaces.push_functions.Given as goal
 
 -- what has been added, and what those will add that are left, which can move
 abbrev pub invariant-loop-name : goal.invariant-loop-name
 invariant-loop-name l = record {
-  all : l.into ++ functions_image (merging_of l.uniting) (brought_beside l.known l.name-iterator) ≡ l.fn.into ++ functions_image (merging_of l.uniting) (brought_beside l.known l.from);
+  all : l.into ++ functions_image (merging_of l.uniting) (brought_matched l.known l.name-iterator) ≡ l.fn.into ++ functions_image (merging_of l.uniting) (brought_matched l.known l.from);
   can : FunctionsMove (merging_of l.uniting) l.name-iterator;
 }

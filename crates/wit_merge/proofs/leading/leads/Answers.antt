@@ -1,6 +1,6 @@
 use Rattle.std.proofs.Common.{◌≡◌, ◌∙◌, ◌<◌, ℕ, None, Some, length, get_or, slice_get, ap, refl, sym, subst}
 use Rattle.std.proofs.lemmas.Option.{slice_get-get_or}
-use Rattle.wit_digraph.specs.Walks.{walk}
+use Rattle.wit_digraph.specs.PostOrder.{post_order}
 use Rattle.wit_data.specs.declared.types.TypeDef.{TypeDef}
 use Rattle.wit_graph_theory.specs.steps.Sources.{alias_rows}
 use Rattle.wit_merge.proofs.Ways.{next_same, next_shorter, next_there}
@@ -10,7 +10,7 @@ pub loop-target-smaller : goal.loop-target-smaller
 loop-target-smaller c =
     let types = c.args.types.now in
     let names = c.in-Some.ensures.some c.in-Some.target refl in
-    subst (λ (k : ℕ). length (walk (alias_rows types) k) < length (walk (alias_rows types) c.loop-target.place)) (sym c.index-place.ensures)
+    subst (λ (k : ℕ). length (post_order (alias_rows types) k) < length (post_order (alias_rows types) c.loop-target.place)) (sym c.index-place.ensures)
     (next_shorter types c.requires.acyclic c.args.known.now c.loop-target.place c.in-Some.target names)
 
 pub loop-target-preserved : goal.loop-target-preserved

@@ -1,6 +1,6 @@
 use Rattle.std.proofs.Common.{◌∙◌, ◌<◌, ℕ, Some, length, ap, refl, sym, subst}
 use Rattle.std.proofs.lemmas.List.{length-set}
-use Rattle.wit_digraph.specs.Walks.{walk}
+use Rattle.wit_digraph.specs.PostOrder.{post_order}
 use Rattle.wit_graph_theory.specs.steps.Sources.{alias_rows}
 use Rattle.wit_merge.proofs.Ways.{next_same, next_shorter, next_there, noted}
 use Rattle.wit_merge.proofs.leading.note_way.Goals as goal
@@ -9,7 +9,7 @@ pub loop-target-smaller : goal.loop-target-smaller
 loop-target-smaller c =
     let types = c.args.types.now in
     let names = c.in-Some.ensures.some c.in-Some.target refl in
-    subst (λ (k : ℕ). length (walk (alias_rows types) k) < length (walk (alias_rows types) c.loop-target.place)) (sym c.index-place.ensures)
+    subst (λ (k : ℕ). length (post_order (alias_rows types) k) < length (post_order (alias_rows types) c.loop-target.place)) (sym c.index-place.ensures)
     (next_shorter types c.requires.acyclic c.loop-target.known c.loop-target.place c.in-Some.target names)
 
 pub loop-target-preserved : goal.loop-target-preserved

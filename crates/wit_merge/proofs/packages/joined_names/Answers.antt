@@ -7,11 +7,11 @@ use Rattle.wit_graph_theory.specs.facts.ListFacts.{found_at, place_of}
 use Rattle.std.proofs.lemmas.Option.{slice_get_within}
 use Rattle.std.specs.Map.{lookup}
 use Rattle.wit_data.specs.PackageOrder.{same_package}
-use Rattle.wit_merge_match.specs.steps.Going.{moves}
-use Rattle.wit_merge_spec.specs.Moved.{moves_package, package_place}
+use Rattle.wit_merge_match.specs.steps.MergeRemaps.{moves}
+use Rattle.wit_merge_spec.specs.Remapped.{merged_package, moves_package}
 use Rattle.wit_merge_laws.specs.facts.PackagesStand.{good_names}
 use Rattle.wit_merge.specs.steps.Joined.{brought_names}
-use Rattle.wit_merge.specs.steps.Uniting.{merging_of}
+use Rattle.wit_merge.specs.steps.UnionSteps.{merging_of}
 use Rattle.wit_merge.proofs.Chosen.{key_is_new, none_left, one_more, passed_over, split}
 use Rattle.wit_merge.proofs.packages.joined_names.Goals as goal
 
@@ -37,11 +37,11 @@ push-requires c =
     let m = merging_of u in
     let whole = u.graph.now.package_names ++ brought_names m u.other.now.package_names in
     let e : Listed = (c.in-Some.name.now, c.in-Some.id.now) in
-    let image = λ (d : Listed). let r : Listed = (d.0, package_place m d.1) in r in
+    let image = λ (d : Listed). let r : Listed = (d.0, merged_package m d.1) in r in
     let takes = ap (λ (o : Option ℕ). not (is_some o)) (sym (c.requires.matches.packages.each e.1)) ∙ ap (moves u.matches.now.packages) (sym c.index.ensures) ∙ sym c.moves.ensures ∙ c.if-moves.true in
     let here = split image (λ (d : Listed). moves_package m d.1) c.loop-name.names _ _ e whole c.in-Some.ensures.steps takes c.loop-name.invariant.all in
     subst (λ (k : PackageName). lookup (same_package k) c.loop-name.names ≡ None) (sym c.in_ok-try_clone.ensures)
-    (key_is_new (λ a b. (same_package-Decides a b).0) c.loop-name.names _ whole e.0 (package_place m e.1) (good_names m c.requires.valid c.requires.valid_other).distinct here)
+    (key_is_new (λ a b. (same_package-Decides a b).0) c.loop-name.names _ whole e.0 (merged_package m e.1) (good_names m c.requires.valid c.requires.valid_other).distinct here)
 
 pub loop-name-preserved-in_ok-push : goal.loop-name-preserved-in_ok-push
 loop-name-preserved-in_ok-push c =
@@ -49,12 +49,12 @@ loop-name-preserved-in_ok-push c =
     let m = merging_of u in
     let whole = u.graph.now.package_names ++ brought_names m u.other.now.package_names in
     let e : Listed = (c.in-Some.name.now, c.in-Some.id.now) in
-    let image = λ (d : Listed). let r : Listed = (d.0, package_place m d.1) in r in
+    let image = λ (d : Listed). let r : Listed = (d.0, merged_package m d.1) in r in
     let takes = ap (λ (o : Option ℕ). not (is_some o)) (sym (c.requires.matches.packages.each e.1)) ∙ ap (moves u.matches.now.packages) (sym c.index.ensures) ∙ sym c.moves.ensures ∙ c.if-moves.true in
     let there = c.loop-name.invariant.there e (subst (λ (l : List Listed). Contains l e) (sym c.in-Some.ensures.steps) (Contains-here e c.next.new.self)) in
     record {
       all = one_more image (λ (d : Listed). moves_package m d.1) c.loop-name.names c.push.new.self _ _ e _ whole c.in-Some.ensures.steps takes c.loop-name.invariant.all c.in_ok-push.ensures.ok
-          (λ j. let r : Listed = (c.in_ok-try_clone.ensures j, c.package_place.ensures there j) in r);
+          (λ j. let r : Listed = (c.in_ok-try_clone.ensures j, c.merged_package.ensures there j) in r);
       there = λ d has. c.loop-name.invariant.there d (subst (λ (l : List Listed). Contains l d) (sym c.in-Some.ensures.steps) (Contains-there e d c.next.new.self has));
     }
 
@@ -64,7 +64,7 @@ loop-name-preserved c =
     let m = merging_of u in
     let whole = u.graph.now.package_names ++ brought_names m u.other.now.package_names in
     let e : Listed = (c.in-Some.name.now, c.in-Some.id.now) in
-    let image = λ (d : Listed). let r : Listed = (d.0, package_place m d.1) in r in
+    let image = λ (d : Listed). let r : Listed = (d.0, merged_package m d.1) in r in
     let leaves = ap (λ (o : Option ℕ). not (is_some o)) (sym (c.requires.matches.packages.each e.1)) ∙ ap (moves u.matches.now.packages) (sym c.index.ensures) ∙ sym c.moves.ensures ∙ c.if-moves.false in
     record {
       all = passed_over image (λ (d : Listed). moves_package m d.1) c.loop-name.names _ _ e whole c.in-Some.ensures.steps leaves c.loop-name.invariant.all;
@@ -75,5 +75,5 @@ pub returns : goal.returns
 returns c =
     let u = c.args.uniting.now in
     let m = merging_of u in
-    let image = λ (d : Listed). let r : Listed = (d.0, package_place m d.1) in r in
+    let image = λ (d : Listed). let r : Listed = (d.0, merged_package m d.1) in r in
     none_left image (λ (d : Listed). moves_package m d.1) c.loop-name.names _ (u.graph.now.package_names ++ brought_names m u.other.now.package_names) c.in-None.ensures.steps.0 c.loop-name.invariant.all

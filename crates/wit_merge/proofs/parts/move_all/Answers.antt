@@ -1,7 +1,7 @@
 use Rattle.std.proofs.Common.{◌∙◌, ◌++◌, ◌≤◌, ◌<◌, ◌+◌, ℕ, filter, length, map, refl, sym, ap, arith}
-use Rattle.wit_link_spec.specs.Ranks.{taken_places}
-use Rattle.wit_merge_match.specs.steps.Going.{moves}
-use Rattle.wit_merge.specs.steps.Uniting.{merging_of}
+use Rattle.wit_link_spec.specs.Ranks.{selected_with_index}
+use Rattle.wit_merge_match.specs.steps.MergeRemaps.{moves}
+use Rattle.wit_merge.specs.steps.UnionSteps.{merging_of}
 use Rattle.wit_merge.proofs.Numbered.{all_behind, kept_all, kept_behind, kept_next, left_next}
 use Rattle.wit_merge.proofs.parts.move_all.Goals as goal
 use Rattle.wit_merge.proofs.parts.move_all.Goals.{then-moves+in_ok-moved+in_ok-push, else-moves}
@@ -18,7 +18,7 @@ loop-index-preserved g c =
     let kept = moves c.args.found.now in
     let others = c.args.others.now in
     let k : ℕ = c.loop-index.index in
-    let whole = map image (taken_places kept others) in
+    let whole = map image (selected_with_index kept others) in
     elim c.if-moves.branch [
       | then-moves+in_ok-moved+in_ok-push w ↦
           kept_next others image kept k (k + 1) w.at.result.now c.loop-index.made c.if-moves.made whole w.in_ok-moved.field-0 refl w.at.ensures (sym c.moves.ensures ∙ w.if-moves.true) c.loop-index.invariant
@@ -32,4 +32,4 @@ pub returns : goal.returns
 returns g c =
     let image = g.T.Part.image (merging_of c.args.uniting.now) in
     let past : length c.args.others.now ≤ c.loop-index.index = let over = c.loop-index-test.false in let long = c.len-index-end.ensures in omega arith in
-    kept_all c.args.others.now image (moves c.args.found.now) c.loop-index.index c.loop-index.made (map image (taken_places (moves c.args.found.now) c.args.others.now)) past c.loop-index.invariant
+    kept_all c.args.others.now image (moves c.args.found.now) c.loop-index.index c.loop-index.made (map image (selected_with_index (moves c.args.found.now) c.args.others.now)) past c.loop-index.invariant

@@ -1,10 +1,10 @@
 use Rattle.std.proofs.Common.{◌≡◌, ◌++◌, map}
-use Rattle.wit_link_spec.specs.Ranks.{taken_places}
-use Rattle.wit_merge_match.specs.steps.Going.{moves}
-use Rattle.wit_merge.specs.steps.Uniting.{merging_of}
+use Rattle.wit_link_spec.specs.Ranks.{selected_with_index}
+use Rattle.wit_merge_match.specs.steps.MergeRemaps.{moves}
+use Rattle.wit_merge.specs.steps.UnionSteps.{merging_of}
 use Rattle.wit_merge.proofs.Numbered.{kept_behind}
 use Rattle.wit_merge.proofs.parts.move_all.Given as goal
 
 -- those so far, and those behind that move
 abbrev pub invariant-loop-index : goal.invariant-loop-index
-invariant-loop-index g l = l.made ++ map (g.T.Part.image (merging_of l.uniting)) (kept_behind l.others (moves l.found) l.index) ≡ map (g.T.Part.image (merging_of l.uniting)) (taken_places (moves l.found) l.others)
+invariant-loop-index g l = l.made ++ map (g.T.Part.image (merging_of l.uniting)) (kept_behind l.others (moves l.found) l.index) ≡ map (g.T.Part.image (merging_of l.uniting)) (selected_with_index (moves l.found) l.others)

@@ -3,16 +3,16 @@ use Rattle.std.specs.Borrow.{Bor}
 use Rattle.std.proofs.lemmas.Option.{slice_get-get_or, slice_get_within}
 use Rattle.wit_data.specs.declared.function.Function.{Function}
 use Rattle.wit_graph_theory.specs.facts.ListFacts.{Contains-map, Contains-map_cases, contained_at, place_of, same_at}
-use Rattle.wit_merge_spec.specs.Matches.{Merging}
-use Rattle.wit_merge_spec.specs.Moved.{moved_functions}
+use Rattle.wit_merge_spec.specs.Matches.{GraphMerge}
+use Rattle.wit_merge_spec.specs.Remapped.{moved_functions}
 use Rattle.wit_link_resources.specs.steps.Active.{seen}
 use Rattle.wit_merge.specs.facts.Returned.{ReturnsFree}
-use Rattle.wit_merge.specs.steps.Uniting.{merging_of}
+use Rattle.wit_merge.specs.steps.UnionSteps.{merging_of}
 use Rattle.wit_merge.proofs.results.check_results.Goals as goal
 
 pub check_result-requires-clause-moved : goal.check_result-requires-clause-moved
 check_result-requires-clause-moved c =
-    let m : Merging = merging_of c.args.uniting.now in
+    let m : GraphMerge = merging_of c.args.uniting.now in
     let items : List (Bor Function) = c.deref-function-items.result.now in
     let i : ℕ = c.loop-function.function-index in
     let at : slice_get items i ≡ Some c.function-item.result = slice_get-get_or items i c.function-item.result c.loop-function-test.true ∙ ap Some (sym c.function-item.is) in
@@ -21,7 +21,7 @@ check_result-requires-clause-moved c =
 
 pub loop-function-preserved : goal.loop-function-preserved
 loop-function-preserved c =
-    let m : Merging = merging_of c.args.uniting.now in
+    let m : GraphMerge = merging_of c.args.uniting.now in
     let items : List (Bor Function) = c.deref-function-items.result.now in
     let i : ℕ = c.loop-function.function-index in
     let at : slice_get items i ≡ Some c.function-item.result = slice_get-get_or items i c.function-item.result c.loop-function-test.true ∙ ap Some (sym c.function-item.is) in
@@ -32,7 +32,7 @@ loop-function-preserved c =
 
 pub returns-clause-none : goal.returns-clause-none
 returns-clause-none c = λ message is.
-    let m : Merging = merging_of c.args.uniting.now in
+    let m : GraphMerge = merging_of c.args.uniting.now in
     let items : List (Bor Function) = c.deref-function-items.result.now in
     let are : seen items ≡ moved_functions m = ap seen c.deref-function-items.ensures.value ∙ c.in_ok-functions.ensures in
     let from = Contains-map_cases (λ (f : Bor Function). f.now) items is.f (subst (λ (fs : List Function). Contains fs is.f) (sym are) is.moved) in

@@ -2,11 +2,11 @@ use Rattle.std.proofs.Common.{◌∙◌, ◌++◌, ℕ, List, ap, append_assoc, 
 use Rattle.std.specs.List.{enumerate_from}
 use Rattle.wit_data.specs.declared.types.TypeDef.{TypeDef}
 use Rattle.wit_graph_theory.specs.Image.{type_image}
-use Rattle.wit_link_spec.specs.Ranks.{taken_places}
+use Rattle.wit_link_spec.specs.Ranks.{selected_with_index}
 use Rattle.wit_merge_spec.specs.Joined.{joined_type, with_type}
-use Rattle.wit_merge_spec.specs.Matches.{found_type}
-use Rattle.wit_merge_spec.specs.Moved.{added_owns, merge_maps, moved_types, moves_type}
-use Rattle.wit_merge.specs.steps.Uniting.{merging_of}
+use Rattle.wit_merge_spec.specs.Matches.{counterpart_type}
+use Rattle.wit_merge_spec.specs.Remapped.{merge_maps, moved_types, moves_type, owns_of_merge}
+use Rattle.wit_merge.specs.steps.UnionSteps.{merging_of}
 use Rattle.wit_merge.proofs.Movable.{types_move}
 use Rattle.wit_merge.proofs.UnitedIs.{united_is, without_places}
 use Rattle.wit_merge.proofs.types.joined_types.Goals as goal
@@ -22,6 +22,6 @@ returns c =
     let kept = map (joined_type m) (enumerate_from 0 u.graph.now.types) in
     let told =
     c.in_ok-types.ensures
-    ∙ united_is (found_type m) _ u.matches.now.types c.requires.ready.matches.types (λ (p : ℕ × TypeDef). with_type p.1) image u.other.now.types u.graph.now.types
-    ∙ ap (λ (l : List TypeDef). kept ++ l) (without_places (type_image (merge_maps m)) (taken_places (moves_type m) u.other.now.types)) in
-    c.in_ok-append.ensures.ok ∙ (λ j. told j ++ c.requires.owns j) ∙ append_assoc kept (map (type_image (merge_maps m)) (moved_types m)) (added_owns m)
+    ∙ united_is (counterpart_type m) _ u.matches.now.types c.requires.ready.matches.types (λ (p : ℕ × TypeDef). with_type p.1) image u.other.now.types u.graph.now.types
+    ∙ ap (λ (l : List TypeDef). kept ++ l) (without_places (type_image (merge_maps m)) (selected_with_index (moves_type m) u.other.now.types)) in
+    c.in_ok-append.ensures.ok ∙ (λ j. told j ++ c.requires.owns j) ∙ append_assoc kept (map (type_image (merge_maps m)) (moved_types m)) (owns_of_merge m)

@@ -1,9 +1,9 @@
 use Rattle.std.proofs.Common.{◌≡◌, ◌∙◌, ◌⊎◌, ◌<◌, ◌^◌, ap, subst, sym}
-use Rattle.wit_graph_data.specs.facts.AnswerFacts.{told_err}
+use Rattle.wit_graph_data.specs.facts.ResultFacts.{residual_error}
 use Rattle.wit_graph_data.specs.declared.error_kind.ResolveErrorKind.{ResolveErrorKind}
 use Rattle.wit_graph_data.specs.declared.error_kind.ResolveErrorKind.TheVariants.{OutOfMemory}
 use Rattle.wit_graph_data.specs.declared.graph.Graph.{Graph}
-use Rattle.wit_merge_match.specs.Differing.{merging_by}
+use Rattle.wit_merge_match.specs.Differing.{merge_of_graphs_by}
 use Rattle.wit_merge_spec.specs.Cause.{IsMergeCause}
 use Rattle.wit_merge.proofs.Outcome.{all_fit, borrow_told}
 use Rattle.wit_merge.proofs.whole.as_listed.Goals as goal
@@ -17,10 +17,10 @@ joined_graph-requires-clause-ready c =
       valid_other = c.requires.other;
       one = agree.one;
       matches = c.requires.matches;
-      going = c.requires.going;
-      values = c.in_ok-value_places.ensures.0;
-      partners = rw c.len.ensures at c.in_ok-partners.ensures;
-      fits = all_fit (merging_by c.args.graph.now c.args.other.now c.args.offset) small agree.spans;
+      merge_remap = c.requires.merge_remap;
+      values = c.in_ok-value_ids.ensures.0;
+      counterparts = rw c.len.ensures at c.in_ok-counterparts.ensures;
+      fits = all_fit (merge_of_graphs_by c.args.graph.now c.args.other.now c.args.offset) small agree.spans;
     }
 
 pub check_results-requires-clause-ready : goal.check_results-requires-clause-ready
@@ -32,16 +32,16 @@ check_results-requires-clause-ready c =
       valid_other = c.requires.other;
       one = agree.one;
       matches = c.requires.matches;
-      going = c.requires.going;
-      values = c.in_ok-value_places.ensures.0;
-      partners = rw c.len.ensures at c.in_ok-partners.ensures;
-      fits = all_fit (merging_by c.args.graph.now c.args.other.now c.args.offset) small agree.spans;
+      merge_remap = c.requires.merge_remap;
+      values = c.in_ok-value_ids.ensures.0;
+      counterparts = rw c.len.ensures at c.in_ok-counterparts.ensures;
+      fits = all_fit (merge_of_graphs_by c.args.graph.now c.args.other.now c.args.offset) small agree.spans;
     }
 
 pub returns-in_err-check_results-clause-cause : goal.returns-in_err-check_results-clause-cause
 returns-in_err-check_results-clause-cause c =
-    let m = merging_by c.args.graph.now c.args.other.now c.args.offset in
-    told_err c.from_residual-in_err-check_results.result c.from_residual-in_err-check_results.ensures.1
+    let m = merge_of_graphs_by c.args.graph.now c.args.other.now c.args.offset in
+    residual_error c.from_residual-in_err-check_results.result c.from_residual-in_err-check_results.ensures.1
     (λ e is.
     let same : e ≡ c.in_err-check_results.field-0.0 = is in
     subst (λ (x : ResolveErrorKind). (x ≡ OutOfMemory) ⊎ IsMergeCause m x) (sym same)

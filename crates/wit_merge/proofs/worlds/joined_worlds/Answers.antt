@@ -3,9 +3,9 @@ use Rattle.std.proofs.lemmas.Result.{IfOk-weaker}
 use Rattle.wit_data.specs.declared.world.World.{World}
 use Rattle.wit_graph_theory.specs.Image.{world_image}
 use Rattle.wit_merge_spec.specs.Joined.{with_world}
-use Rattle.wit_merge_spec.specs.Matches.{found_world}
-use Rattle.wit_merge_spec.specs.Moved.{merge_maps}
-use Rattle.wit_merge.specs.steps.Uniting.{merging_of}
+use Rattle.wit_merge_spec.specs.Matches.{counterpart_world}
+use Rattle.wit_merge_spec.specs.Remapped.{merge_maps}
+use Rattle.wit_merge.specs.steps.UnionSteps.{merging_of}
 use Rattle.wit_merge.proofs.Movable.{worlds_join, worlds_move}
 use Rattle.wit_merge.proofs.UnitedIs.{united_is}
 use Rattle.wit_merge.proofs.worlds.joined_worlds.Goals as goal
@@ -20,5 +20,5 @@ pub returns : goal.returns
 returns c =
     let u = c.args.uniting.now in
     let m = merging_of u in
-    let same = united_is (found_world m) _ u.matches.now.worlds c.requires.matches.worlds (with_world m) (λ (e : ℕ × World). world_image (merge_maps m) e.0 e.1) u.other.now.worlds u.graph.now.worlds in
+    let same = united_is (counterpart_world m) _ u.matches.now.worlds c.requires.matches.worlds (with_world m) (λ (e : ℕ × World). world_image (merge_maps m) e.0 e.1) u.other.now.worlds u.graph.now.worlds in
     IfOk-weaker c.joined_list.result _ _ (λ made is. is ∙ same) c.joined_list.ensures

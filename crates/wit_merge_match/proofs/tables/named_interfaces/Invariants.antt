@@ -1,5 +1,5 @@
 use Rattle.std.proofs.Common.{◌≡◌, map, take}
-use Rattle.wit_merge_match.specs.steps.Found.{interface_under}
+use Rattle.wit_merge_match.specs.steps.Matched.{interface_under}
 use Rattle.wit_merge_match.proofs.tables.named_interfaces.Given as goal
 
 -- those of the first ones

@@ -1,8 +1,8 @@
 use Rattle.std.proofs.Common.{sym}
 use Rattle.wit_values.specs.facts.Lists.{map-next}
-use Rattle.wit_merge_match.specs.steps.Found.{world_under}
+use Rattle.wit_merge_match.specs.steps.Matched.{world_under}
 use Rattle.wit_merge_match.proofs.tables.world_matches.Goals as goal
 
 pub loop-index-preserved : goal.loop-index-preserved
 loop-index-preserved c =
-    rw (c.in_ok-push.ensures.ok, c.loop-index.invariant, c.world_in.ensures, c.as_str.ensures, c.package_beside-home.ensures) (sym (map-next (world_under c.args.graph.now c.args.packages.now) _ _ _ c.at-world.ensures))
+    rw (c.in_ok-push.ensures.ok, c.loop-index.invariant, c.world_in.ensures, c.as_str.ensures, c.matched_package-home.ensures) (sym (map-next (world_under c.args.graph.now c.args.packages.now) _ _ _ c.at-world.ensures))

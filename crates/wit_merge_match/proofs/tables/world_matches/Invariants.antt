@@ -1,5 +1,5 @@
 use Rattle.std.proofs.Common.{◌≡◌, map, take}
-use Rattle.wit_merge_match.specs.steps.Found.{world_under}
+use Rattle.wit_merge_match.specs.steps.Matched.{world_under}
 use Rattle.wit_merge_match.proofs.tables.world_matches.Given as goal
 
 -- those of the first ones

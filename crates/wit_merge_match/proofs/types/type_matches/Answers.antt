@@ -1,6 +1,6 @@
 use Rattle.std.proofs.Common.{sym}
 use Rattle.wit_values.specs.facts.Lists.{map-next}
-use Rattle.wit_merge_match.specs.steps.Found.{type_under}
+use Rattle.wit_merge_match.specs.steps.Matched.{type_under}
 use Rattle.wit_merge_match.proofs.types.type_matches.Goals as goal
 
 pub loop-index-preserved : goal.loop-index-preserved

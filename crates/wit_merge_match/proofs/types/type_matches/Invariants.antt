@@ -1,5 +1,5 @@
 use Rattle.std.proofs.Common.{◌≡◌, map, take}
-use Rattle.wit_merge_match.specs.steps.Found.{type_under}
+use Rattle.wit_merge_match.specs.steps.Matched.{type_under}
 use Rattle.wit_merge_match.proofs.types.type_matches.Given as goal
 
 -- those of the first ones

@@ -3,7 +3,7 @@ use Rattle.std.proofs.lemmas.List.{take_all, take_more}
 use Rattle.std.proofs.lemmas.List.Elements.{Contains-get_or}
 use Rattle.std.proofs.lemmas.Option.{slice_get-get_or}
 use Rattle.wit_digraph.specs.Relation.{direct}
-use Rattle.wit_digraph.specs.facts.WalkFacts.{UsesFirst-at}
+use Rattle.wit_digraph.specs.facts.PostOrderFacts.{UsesFirst-at}
 use Rattle.wit_queries.specs.steps.Unfolding.{OthersHoldNone}
 use Rattle.wit_queries.proofs.futures.mark_holding.Goals as goal
 

@@ -1,5 +1,5 @@
 use Rattle.std.proofs.Common.{◌≡◌}
-use Rattle.wit_queries.specs.Left.{other_packages}
+use Rattle.wit_queries.specs.RemainingUses.{other_packages}
 use Rattle.wit_queries.proofs.package_deps.next_other.Given as goal
 
 -- what was passed over is of the package itself

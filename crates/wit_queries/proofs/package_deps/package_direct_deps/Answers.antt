@@ -1,6 +1,6 @@
 use Rattle.std.proofs.Common.{◌∙◌, List, ℕ, ap, slice_get, sym}
 use Rattle.wit_data.specs.declared.interface.Interface.{Interface}
-use Rattle.wit_queries.specs.Left.{other_packages}
+use Rattle.wit_queries.specs.RemainingUses.{other_packages}
 use Rattle.wit_queries.proofs.PackageRows.{row_of}
 use Rattle.wit_queries.proofs.package_deps.package_direct_deps.Goals as goal
 

@@ -4,7 +4,7 @@ use Rattle.wit_data.specs.Each.{Each}
 use Rattle.wit_data.specs.declared.interface.Interface.{Interface}
 use Rattle.wit_graph_theory.specs.Cut.{cut_interface}
 use Rattle.wit_graph_theory.specs.Image.{interface_image}
-use Rattle.wit_link_spec.specs.Ranks.{taken_places}
+use Rattle.wit_link_spec.specs.Ranks.{selected_with_index}
 use Rattle.wit_remap.specs.steps.Fits.{Fits, InterfaceFits}
 use Rattle.wit_remap.specs.facts.GrownFacts.{Begins-as, Begins-by, Grown-same, interfaces_grow}
 use Rattle.wit_remap.specs.steps.Movers.{maps_of}
@@ -30,7 +30,7 @@ pub returns-clause-ok : goal.returns-clause-ok
 returns-clause-ok c =
     let f = interface_image (maps_of c.args.mover.now) in
     let cut = cut_interface (kept_of c.args.part.now) in
-    let own = taken_places (is_new (length c.args.graph.now.interfaces) c.args.mover.now.places.now.interfaces) c.args.interfaces in
+    let own = selected_with_index (is_new (length c.args.graph.now.interfaces) c.args.mover.now.places.now.interfaces) c.args.interfaces in
     rw (c.in_ok-append.ensures.ok, c.in_ok-placed.ensures, c.in_ok-own.ensures, c.from_index-first.ensures, c.len.ensures, c.as_slice-places.ensures)
     (rw (map-pairs (λ (i : Interface). f (cut i)) own, joined f cut (map (λ (e : ℕ × Interface). e.1) own)) refl)
 

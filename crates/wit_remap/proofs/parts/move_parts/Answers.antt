@@ -3,7 +3,7 @@ use Rattle.std.specs.List.{enumerate_from}
 use Rattle.wit_data.specs.Each.{Each}
 use Rattle.wit_data.specs.declared.types.TypeDef.{TypeDef}
 use Rattle.wit_data.specs.declared.world.World.{World}
-use Rattle.wit_link_spec.specs.Ranks.{taken_places}
+use Rattle.wit_link_spec.specs.Ranks.{selected_with_index}
 use Rattle.wit_remap.specs.steps.Fits.{Fits, TypeFits, WorldFits}
 use Rattle.wit_remap.specs.facts.GrownFacts.{Grown-then}
 use Rattle.wit_remap.specs.steps.Movers.{maps_of}
@@ -23,7 +23,7 @@ placed_worlds-requires-clause-fits c =
 
 pub placed_worlds-requires-clause-keys : goal.placed_worlds-requires-clause-keys
 placed_worlds-requires-clause-keys c =
-    let same : c.in_ok-own.own ≡ taken_places (is_new (length c.args.graph.now.worlds) c.args.mover.now.places.now.worlds) c.args.handed.worlds =
+    let same : c.in_ok-own.own ≡ selected_with_index (is_new (length c.args.graph.now.worlds) c.args.mover.now.places.now.worlds) c.args.unresolved.worlds =
     rw (c.in_ok-own.ensures, c.from_index-first.ensures, c.len.ensures, c.as_slice.ensures, c.in_ok-add_types.ensures.ok, c.replace-worlds.ensures.value) refl in
     subst (λ (es : List (ℕ × World)). Each (λ (e : ℕ × World). HasKeysApart (maps_of c.args.mover.now) (kept_of c.args.part.now) e.1) es) (sym same) c.requires.keys
 

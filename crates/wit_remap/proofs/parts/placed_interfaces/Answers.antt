@@ -4,7 +4,7 @@ use Rattle.wit_data.specs.declared.function.Function.{Function}
 use Rattle.wit_data.specs.declared.interface.Interface.{Interface}
 use Rattle.wit_graph_theory.specs.Cut.{cut_interface}
 use Rattle.wit_graph_theory.specs.Image.{interface_image}
-use Rattle.wit_graph_theory.specs.Kept.{Kept}
+use Rattle.wit_graph_theory.specs.Kept.{KeptIds}
 use Rattle.wit_remap.specs.steps.Fits.{Fits, FunctionFits, InterfaceFits}
 use Rattle.wit_remap.specs.steps.Movers.{maps_of}
 use Rattle.wit_remap.specs.steps.Parts.{kept_of}
@@ -12,7 +12,7 @@ use Rattle.wit_remap.proofs.Kept.{Each-filter, first_of, others_of, mapped-next}
 use Rattle.wit_remap.proofs.parts.placed_interfaces.Goals as goal
 
 -- what is left of an interface fits
-cut_fits : (offset : ℕ) (kept : Kept) (interface : Interface) → InterfaceFits (Fits offset) interface → InterfaceFits (Fits offset) (cut_interface kept interface)
+cut_fits : (offset : ℕ) (kept : KeptIds) (interface : Interface) → InterfaceFits (Fits offset) interface → InterfaceFits (Fits offset) (cut_interface kept interface)
 cut_fits offset kept interface fits = record {
   own = fits.own;
   functions = Each-filter (λ (e : List ℕ × Function). FunctionFits (Fits offset) e.1) (λ (e : List ℕ × Function). kept.functions e.1) interface.functions fits.functions;

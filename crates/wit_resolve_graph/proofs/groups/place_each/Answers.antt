@@ -1,7 +1,7 @@
 use Rattle.std.proofs.Common.{◌≡◌, ◌∙◌, ◌⊎◌, ◌∷◌, ◌++◌, [], ap, refl, sym, subst, rules, List}
 use Rattle.std.specs.Vec.Iter.{into_iter_items}
 use Rattle.std.proofs.lemmas.List.{append_assoc}
-use Rattle.wit_graph_data.specs.facts.AnswerFacts.{told_err}
+use Rattle.wit_graph_data.specs.facts.ResultFacts.{residual_error}
 use Rattle.wit_graph_data.specs.declared.error_kind.ResolveErrorKind.{ResolveErrorKind}
 use Rattle.wit_graph_data.specs.declared.error_kind.ResolveErrorKind.TheVariants.{OutOfMemory}
 use Rattle.wit_data.specs.declared.unresolved.UnresolvedPackageGroup.{UnresolvedPackageGroup}
@@ -13,7 +13,7 @@ use Rattle.wit_resolve_graph.proofs.groups.place_each.Goals as goal
 
 pub returns-in_err-place_group-clause-cause : goal.returns-in_err-place_group-clause-cause
 returns-in_err-place_group-clause-cause c =
-    told_err c.from_residual.result c.from_residual.ensures.1
+    residual_error c.from_residual.result c.from_residual.ensures.1
     (λ e is.
     let same : e ≡ c.in_err-place_group.field-0.0 = is in
     subst (λ (x : ResolveErrorKind). (x ≡ OutOfMemory) ⊎ FilesPassTheEnd c.args.source_map.now.end (c.args.main ∷ c.args.deps) x) (sym same)
@@ -39,7 +39,7 @@ returns-in_err-place_group-2-clause-begins c =
 pub returns-in_err-place_group-2-clause-cause : goal.returns-in_err-place_group-2-clause-cause
 returns-in_err-place_group-2-clause-cause c =
     let are : c.loop-group.yielded ++ c.in-Some.group ∷ into_iter_items c.next.new.self ≡ c.args.deps = search rules in
-    told_err c.from_residual-in_err-place_group-2.result c.from_residual-in_err-place_group-2.ensures.1
+    residual_error c.from_residual-in_err-place_group-2.result c.from_residual-in_err-place_group-2.ensures.1
     (λ e is.
     let same : e ≡ c.in_err-place_group-2.field-0.0 = is in
     subst (λ (x : ResolveErrorKind). (x ≡ OutOfMemory) ⊎ FilesPassTheEnd c.args.source_map.now.end (c.args.main ∷ c.args.deps) x) (sym same)

@@ -1,7 +1,7 @@
 use Rattle.std.proofs.Common.{subst, sym}
 use Rattle.wit_semver_spec.specs.Rewritten.{rewritten}
 use Rattle.wit_resolve_graph.specs.laws.RunLaws.{Keeps}
-use Rattle.wit_resolve_graph.proofs.RunsKeep.{keeps_pushed, keeps_pushes, keeps_things, keeps_turned, keeps_united}
+use Rattle.wit_resolve_graph.proofs.RunsKeep.{keeps_pushed, keeps_pushes, keeps_things, keeps_transformed, keeps_united}
 use Rattle.wit_resolve_graph.proofs.laws.calls_keep.Goals as goal
 
 pub returns-clause-additions : goal.returns-clause-additions
@@ -14,7 +14,7 @@ pub returns-clause-sources : goal.returns-clause-sources
 returns-clause-sources c = λ old new group id answer. keeps_pushes old.features old.graph answer.pushes.sorted new.graph answer.pushes.ids answer.pushes.are_pushed
 
 pub returns-clause-transformations : goal.returns-clause-transformations
-returns-clause-transformations c = keeps_turned
+returns-clause-transformations c = keeps_transformed
 
 pub returns-clause-merges : goal.returns-clause-merges
 returns-clause-merges c = keeps_united

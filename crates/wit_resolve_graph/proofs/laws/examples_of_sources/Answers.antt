@@ -1,6 +1,6 @@
 use Rattle.std.proofs.Common.{ℕ, ◌≡◌, Some, inl, inr, ap, refl, length, lit≤, arith}
 use Rattle.std.specs.Fmt.{digits}
-use Rattle.wit_resolve_graph.specs.Sources.{PassesTheEnd}
+use Rattle.wit_resolve_graph.specs.Sources.{FaultOverflows}
 use Rattle.wit_resolve_graph.specs.examples.SourcesExamples.{once, source}
 use Rattle.wit_resolve_graph.specs.State.{State}
 use Rattle.wit_resolve_graph.specs.declared.sources.SourceFault.{SourceFault}
@@ -8,7 +8,7 @@ use Rattle.wit_resolve_graph.specs.declared.sources.SourceFault.TheVariants as f
 use Rattle.wit_sources.specs.Span.{start_of}
 use Rattle.wit_resolve_graph.proofs.laws.examples_of_sources.Goals as goal
 
-room : PassesTheEnd once source (Some (13, 18)) → ⊥
+room : FaultOverflows once source (Some (13, 18)) → ⊥
 room (inl far) = absurd (omega (arith, far))
 room (inr far) = absurd (omega (arith, far))
 

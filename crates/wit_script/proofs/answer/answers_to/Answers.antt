@@ -2,8 +2,8 @@ use Rattle.std.proofs.Common.{◌≡◌, ◌++◌, ◌∙◌, ◌∷◌, [], ap,
 use Rattle.std.specs.Vec.Iter.{into_iter_items}
 use Rattle.wit_resolve_graph.specs.State.{new_state}
 use Rattle.wit_resolve_graph.specs.Step.{Run}
-use Rattle.wit_script.specs.Answer.{AnswersAll, IsChoice, alone}
-use Rattle.wit_script.specs.Ready.{MayAllCome}
+use Rattle.wit_script.specs.Answer.{AnswersAll, IsChoice, only_first}
+use Rattle.wit_script.specs.Ready.{CanAllBeAsked}
 use Rattle.wit_script.specs.declared.ready.ScriptCommand.{ScriptCommand}
 use Rattle.wit_script.proofs.Answered.{AnswersAll-more}
 use Rattle.wit_script.proofs.Waiting.{first-comes, others-come}
@@ -13,7 +13,7 @@ pub answer_to-requires : goal.answer_to-requires
 answer_to-requires c =
     let left : into_iter_items c.loop-command.command-iterator ≡ c.in-Some.command ∷ into_iter_items c.next.new.self = search rules in
     first-comes c.in-Some.command (into_iter_items c.next.new.self) (is_some c.loop-command.stage.second)
-    (subst (λ (l : List ScriptCommand). MayAllCome l (is_some c.loop-command.stage.second)) left c.loop-command.invariant.come)
+    (subst (λ (l : List ScriptCommand). CanAllBeAsked l (is_some c.loop-command.stage.second)) left c.loop-command.invariant.come)
 
 pub loop-command-preserved : goal.loop-command-preserved
 loop-command-preserved c =
@@ -21,11 +21,11 @@ loop-command-preserved c =
     let longer : string_bytes c.push_str.new.self ≡ string_bytes c.loop-command.answers ++ string_bytes c.in_ok-answer.answer =
     c.in_ok-push_str.ensures.bytes ∙ ap (λ (t : List ℕ). string_bytes c.loop-command.answers ++ t) c.deref.ensures in
     record {
-      answered =
-          subst (λ (t : List ℕ). AnswersAll Run IsChoice (alone new_state) (c.loop-command.yielded ++ c.in-Some.command ∷ []) t c.answer_to.new.stage) (sym longer)
-          (AnswersAll-more Run IsChoice (alone new_state) c.loop-command.stage c.answer_to.new.stage c.loop-command.yielded c.in-Some.command
-          (string_bytes c.loop-command.answers) (string_bytes c.in_ok-answer.answer) c.loop-command.invariant.answered c.in_ok-answer.ensures);
+      entries_by_answer =
+          subst (λ (t : List ℕ). AnswersAll Run IsChoice (only_first new_state) (c.loop-command.yielded ++ c.in-Some.command ∷ []) t c.answer_to.new.stage) (sym longer)
+          (AnswersAll-more Run IsChoice (only_first new_state) c.loop-command.stage c.answer_to.new.stage c.loop-command.yielded c.in-Some.command
+          (string_bytes c.loop-command.answers) (string_bytes c.in_ok-answer.answer) c.loop-command.invariant.entries_by_answer c.in_ok-answer.ensures);
       come =
           others-come Run IsChoice c.loop-command.stage c.answer_to.new.stage c.in-Some.command (into_iter_items c.next.new.self) (string_bytes c.in_ok-answer.answer) c.in_ok-answer.ensures
-          (subst (λ (l : List ScriptCommand). MayAllCome l (is_some c.loop-command.stage.second)) left c.loop-command.invariant.come);
+          (subst (λ (l : List ScriptCommand). CanAllBeAsked l (is_some c.loop-command.stage.second)) left c.loop-command.invariant.come);
     }

@@ -1,9 +1,9 @@
 use Rattle.std.proofs.Common.{◌≡◌, ◌∙◌, ◌++◌, ◌∷◌, [], List, ap, sym, rules}
 use Rattle.std.proofs.lemmas.List.{append_assoc}
 use Rattle.std.specs.Vec.Iter.{into_iter_items}
-use Rattle.wit_script_package.specs.Draft.{grouped}
+use Rattle.wit_script_package.specs.Draft.{as_group}
 use Rattle.wit_script_package.specs.declared.draft.Draft.{Draft}
-use Rattle.wit_script_lines.specs.steps.IsRead.{fault-of}
+use Rattle.wit_script_lines.specs.steps.ReadResult.{fault-of}
 use Rattle.wit_script_lines.specs.Signature.{each_of}
 use Rattle.wit_script.proofs.Pushed.{each-fails, each-next}
 use Rattle.wit_script.proofs.reader.into_groups.Goals as goal
@@ -11,7 +11,7 @@ use Rattle.wit_script.proofs.reader.into_groups.Goals as goal
 pub returns-in-Err : goal.returns-in-Err
 returns-in-Err c =
     let are : c.loop-package.yielded ++ c.in-Some.package ∷ into_iter_items c.next.new.self ≡ c.args.packages = search rules in
-    fault-of c.in-Err.fault c.in-Err.ensures (λ fails. ap (λ (l : List Draft). each_of grouped l) (sym are) ∙ each-fails c.loop-package.yielded c.in-Some.package (into_iter_items c.next.new.self) fails)
+    fault-of c.in-Err.fault c.in-Err.ensures (λ fails. ap (λ (l : List Draft). each_of as_group l) (sym are) ∙ each-fails c.loop-package.yielded c.in-Some.package (into_iter_items c.next.new.self) fails)
 
 pub loop-package-preserved : goal.loop-package-preserved
 loop-package-preserved c =

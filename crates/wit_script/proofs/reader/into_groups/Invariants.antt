@@ -1,12 +1,12 @@
 use Rattle.std.proofs.Common.{◌≡◌, ◌++◌, Some}
 use Rattle.std.specs.Vec.Iter.{into_iter_items}
-use Rattle.wit_script_package.specs.Draft.{grouped}
+use Rattle.wit_script_package.specs.Draft.{as_group}
 use Rattle.wit_script_lines.specs.Signature.{each_of}
 use Rattle.wit_script.proofs.reader.into_groups.Given as goal
 
 -- the packages so far are groups
 abbrev pub invariant-loop-package : goal.invariant-loop-package
 invariant-loop-package l = record {
-  read : each_of grouped l.yielded ≡ Some l.groups;
+  read : each_of as_group l.yielded ≡ Some l.groups;
   all : l.yielded ++ into_iter_items l.package-iterator ≡ l.fn.packages;
 }

@@ -7,7 +7,7 @@ use Rattle.wit_elaboration.specs.Entries.{keyed_interfaces}
 use Rattle.wit_elaboration.specs.Valid.{IsValid}
 use Rattle.wit_graph_data.specs.declared.graph.Graph.{Graph}
 use Rattle.wit_semver_spec.specs.Tracks.{Versioned, is_below, versioned}
-use Rattle.wit_semver.specs.steps.Replacing.{TellsNewest, key_of, replacement, same_track, told, upgrade}
+use Rattle.wit_semver.specs.steps.Replacing.{IsNewestTable, key_of, replacement, same_track, told, upgrade}
 use Rattle.wit_semver.specs.declared.tracks.TrackKey.{TrackKey}
 use Rattle.wit_semver.proofs.NewestTold.{greater_replaces, is_known, level_stays, n_at, unversioned_stays}
 use Rattle.wit_semver.proofs.replaced.replacement.Goals as goal
@@ -17,7 +17,7 @@ known : (rule : TrackRule) (table : List (TrackKey × ℕ)) (v : Versioned) (k :
 known rule table v k o is found = sym (found ∙ ap (λ (q : TrackKey). lookup (same_track q) table) is)
 
 module _ (rule : TrackRule) (g : Graph) (valid : IsValid g) (table : List (TrackKey × ℕ)) (id n : ℕ) (v : Versioned) (is_v : versioned g.packages g.interfaces id ≡ Some v) (found : lookup (same_track (key_of rule v)) table ≡ Some n)
-    (world : World) (tells : TellsNewest rule g (keyed_interfaces world.imports) table) (has : Contains (keyed_interfaces world.imports) id) where
+    (world : World) (tells : IsNewestTable rule g (keyed_interfaces world.imports) table) (has : Contains (keyed_interfaces world.imports) id) where
   below_is : (b : Bool) → b ≡ option_map_or (is_below v) (versioned g.packages g.interfaces n) false → is_below v (n_at (upgrade rule g world) valid table tells id has v is_v n found).0 ≡ b
   below_is b is = sym (is ∙ ap (λ (o : Option Versioned). option_map_or (is_below v) o false) (n_at (upgrade rule g world) valid table tells id has v is_v n found).1)
 

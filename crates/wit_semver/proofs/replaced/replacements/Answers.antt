@@ -3,7 +3,7 @@ use Rattle.std.proofs.lemmas.List.{append-nil, take_all}
 use Rattle.std.specs.List.{list_any}
 use Rattle.wit_data.specs.declared.world.WorldKey.{WorldKey}
 use Rattle.wit_elaboration.specs.Entries.{Entry, key_interface, keyed_interfaces}
-use Rattle.wit_semver_spec.specs.Tracks.{is_outdone_by}
+use Rattle.wit_semver_spec.specs.Tracks.{is_older_than}
 use Rattle.wit_semver_spec.specs.Upgrade.{Upgrade, imported, newest}
 use Rattle.wit_semver.specs.steps.Replacing.{IsFilled, replacement, upgrade}
 use Rattle.wit_semver.proofs.Filled.{filled-next}
@@ -14,7 +14,7 @@ use Rattle.wit_semver.proofs.replaced.replacements.Goals.{in-Interface+in_ok-by-
 -- what isn't imported isn't replaced
 not_imported : (u : Upgrade) (i : ℕ) (b : Bool) → list_any (nat_eq i) (imported u) ≡ b → (if b then replacement u i else None) ≡ replacement u i
 not_imported u i true is = refl
-not_imported u i false is = sym (ap (λ (b : Bool). if b && list_any (is_outdone_by u.rule u.graph.packages u.graph.interfaces i) (imported u) then Some (newest u i) else None) is)
+not_imported u i false is = sym (ap (λ (b : Bool). if b && list_any (is_older_than u.rule u.graph.packages u.graph.interfaces i) (imported u) then Some (newest u i) else None) is)
 
 pub set-requires : goal.set-requires
 set-requires c =

@@ -1,4 +1,4 @@
-use Rattle.wit_transform.proofs.TurnedBack.{exportized_imports_nothing}
+use Rattle.wit_transform.proofs.TransformedBack.{exportized_imports_nothing}
 use Rattle.wit_transform.proofs.laws.exportized_imports_nothing.Goals as goal
 
 pub returns : goal.returns

@@ -1,4 +1,4 @@
-use Rattle.wit_transform.proofs.TurnedBack.{importized_exports_nothing}
+use Rattle.wit_transform.proofs.TransformedBack.{importized_exports_nothing}
 use Rattle.wit_transform.proofs.laws.importized_exports_nothing.Goals as goal
 
 pub returns : goal.returns

@@ -1,7 +1,7 @@
 use Rattle.std.proofs.Common.{rules}
 use Rattle.wit_digraph.specs.Cycles.{IsOnCycle}
 use Rattle.wit_elaboration.specs.Elaboration.{graph_uses}
-use Rattle.wit_unite_common.specs.facts.Told.{TellsInterface}
+use Rattle.wit_unite_common.specs.facts.Errors.{IsInterfaceCycleError}
 use Rattle.wit_unite_common.proofs.OnCycles.{interface_told, user_used}
 use Rattle.wit_unite_common.proofs.cycles.check_interfaces.Goals as goal
 
@@ -14,5 +14,5 @@ interface_cycle-requires c =
 pub returns-in-Some-clause-cause : goal.returns-in-Some-clause-cause
 returns-in-Some-clause-cause c =
     let on : IsOnCycle (graph_uses c.args.graph.now) c.in-Some.found.user c.in-Some.found.used = search rules in
-    let told : TellsInterface c.args.graph.now c.in-Some.found.user c.in_ok-interface_cycle-in-Some.field-0 = search rules in
+    let told : IsInterfaceCycleError c.args.graph.now c.in-Some.found.user c.in_ok-interface_cycle-in-Some.field-0 = search rules in
     interface_told c.args.graph.now c.in-Some.found.user c.in-Some.found.used c.in_ok-interface_cycle-in-Some.field-0 on told

@@ -1,7 +1,7 @@
 use Rattle.std.proofs.Common.{rules}
 use Rattle.wit_data.specs.Reference.{type_references}
 use Rattle.wit_unite_common.specs.facts.Rounds.{IsRound}
-use Rattle.wit_unite_common.specs.facts.Told.{TellsTypeOf}
+use Rattle.wit_unite_common.specs.facts.Errors.{IsTypeCycleError}
 use Rattle.wit_unite_common.proofs.OnCycles.{round_named, round_there, type_told}
 use Rattle.wit_unite_common.proofs.cycles.check_types.Goals as goal
 
@@ -20,5 +20,5 @@ type_cycle-requires-clause-named c =
 pub returns-in-Some-clause-cause : goal.returns-in-Some-clause-cause
 returns-in-Some-clause-cause c =
     let round : IsRound (type_references c.args.graph.now.types) c.in_ok-ids-in-Some.ids = search rules in
-    let told : TellsTypeOf c.args.graph.now.types c.in_ok-ids-in-Some.ids c.in_ok-type_cycle-in-Some.field-0 = search rules in
+    let told : IsTypeCycleError c.args.graph.now.types c.in_ok-ids-in-Some.ids c.in_ok-type_cycle-in-Some.field-0 = search rules in
     type_told c.args.graph.now c.in_ok-ids-in-Some.ids c.in_ok-type_cycle-in-Some.field-0 round told

@@ -1,6 +1,6 @@
 use Rattle.wit_elaboration.specs.facts.SoundFacts.{HasSoundEntries-of_world}
 use Rattle.wit_graph_data.specs.declared.graph.Graph.{Graph}
-use Rattle.wit_validity.specs.facts.Parts.{IsNamed, IsOwned}
+use Rattle.wit_validity.specs.facts.Parts.{HasKebabNamesInTables, IsOwned}
 use Rattle.wit_validity.proofs.Refusals.{IfOk-weaker}
 use Rattle.wit_validity.proofs.valid.is_valid.Goals as goal
 
@@ -12,7 +12,7 @@ are_canonical-requires-clause-listed c =
 pub returns-clause-holds : goal.returns-clause-holds
 returns-clause-holds c =
     let g : Graph = c.args.graph.now in
-    let named : IsNamed g = c.is_named.ensures.0 c.if-not-is_named.false in
+    let named : HasKebabNamesInTables g = c.is_named.ensures.0 c.if-not-is_named.false in
     let owned : IsOwned g = c.in_ok-is_owned.ensures.0 c.if-not-branch-2.false in
     IfOk-weaker c.are_canonical.result (λ b test. (
       λ passed. record {

@@ -3,7 +3,7 @@ use Rattle.std.specs.List.{flat_map}
 use Rattle.wit_data.specs.declared.types.TypeDef.{TypeDef}
 use Rattle.wit_digraph.specs.Relation.{IsAcyclic}
 use Rattle.wit_elaboration.specs.AllWorlds.{elaborated_world}
-use Rattle.wit_elaboration.specs.Elaborated.{elaborated_imports, import_walk}
+use Rattle.wit_elaboration.specs.Elaborated.{elaborated_imports, import_with_needs}
 use Rattle.wit_elaboration.specs.Elaboration.{graph_uses}
 use Rattle.wit_elaboration.specs.Entries.{Entry, by_class, fresh_entries}
 use Rattle.wit_elaboration.specs.Sound.{AreSound}
@@ -42,7 +42,7 @@ returns-clause-own c =
     both _ _ _ c.are_complete.result
     (λ complete sorted whole yes.
     let in_order = subst (λ (ts : List TypeDef). by_class ts imports ≡ imports) types (sorted yes) in
-    let walked = subst (λ (us : List (List ℕ)). fresh_entries [] (flat_map (import_walk g.types us) (by_class g.types imports)) ≡ imports) uses
-    (subst (λ (ts : List TypeDef). fresh_entries [] (flat_map (import_walk ts c.as_slice-uses.result.now) (by_class ts imports)) ≡ imports) types (whole yes)) in
+    let walked = subst (λ (us : List (List ℕ)). fresh_entries [] (flat_map (import_with_needs g.types us) (by_class g.types imports)) ≡ imports) uses
+    (subst (λ (ts : List TypeDef). fresh_entries [] (flat_map (import_with_needs ts c.as_slice-uses.result.now) (by_class ts imports)) ≡ imports) types (whole yes)) in
     sym (kept_lists g world (imports_stay g.types (graph_uses g) world.exports none imports in_order walked) (exports_stay g.types (graph_uses g) world.exports none)))
     c.are_complete.ensures.sorted c.are_complete.ensures.complete

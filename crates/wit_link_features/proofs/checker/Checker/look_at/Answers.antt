@@ -5,4 +5,4 @@ use Rattle.wit_link_features.proofs.checker.Checker.look_at.Goals as goal
 
 pub returns-clause-cause : goal.returns-clause-cause
 returns-clause-cause c =
-    told-excluded c.args.self.now (thing_of c.args.needed) c.args.span c.in_ok-excluded.field-0 c.requires.referred (sym c.takes_part.ensures ∙ c.if-takes_part.false) c.in_ok-excluded.ensures
+    told-excluded c.args.self.now (thing_of c.args.needed) c.args.span c.in_ok-excluded.field-0 c.requires.referred (sym c.thing_is_active.ensures ∙ c.if-thing_is_active.false) c.in_ok-excluded.ensures

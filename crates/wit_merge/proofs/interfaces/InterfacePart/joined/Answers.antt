@@ -3,8 +3,8 @@ use Rattle.wit_values.specs.Table.{HasDistinctKeys}
 use Rattle.wit_data.specs.declared.function.Function.{Function}
 use Rattle.wit_link_spec.specs.Include.{joined_stability}
 use Rattle.wit_merge_spec.specs.Joined.{with_interface}
-use Rattle.wit_merge.specs.steps.Joined.{brought_beside, functions_image, moved_names}
-use Rattle.wit_merge.specs.steps.Uniting.{merging_of}
+use Rattle.wit_merge.specs.steps.Joined.{brought_matched, functions_image, moved_names}
+use Rattle.wit_merge.specs.steps.UnionSteps.{merging_of}
 use Rattle.wit_merge.proofs.MovedNames.{Table, types_moved}
 use Rattle.wit_merge.proofs.interfaces.InterfacePart.joined.Goals as goal
 
@@ -12,7 +12,7 @@ pub push_moved-requires : goal.push_moved-requires
 push_moved-requires c =
     let u = c.args.uniting.now in
     let from = c.args.from.now in
-    let types : c.in_ok-joined.joined.types ++ moved_names u.matches.now.types u.going.now.places.types from.types ≡ (with_interface (merging_of u) from c.args.self.now).types =
+    let types : c.in_ok-joined.joined.types ++ moved_names u.matches.now.types u.merge_remap.now.places.types from.types ≡ (with_interface (merging_of u) from c.args.self.now).types =
     λ j. (c.in_ok-joined.ensures j).types ++ types_moved u c.requires.ready from.types c.requires.can.types j in
     subst (λ (l : Table). HasDistinctKeys l) (sym types) c.requires.can.types_apart
 
@@ -20,7 +20,7 @@ pub push_functions-requires-clause-apart : goal.push_functions-requires-clause-a
 push_functions-requires-clause-apart c =
     let u = c.args.uniting.now in
     let from = c.args.from.now in
-    let brought = functions_image (merging_of u) (brought_beside c.args.self.now.functions from.functions) in
+    let brought = functions_image (merging_of u) (brought_matched c.args.self.now.functions from.functions) in
     let functions : c.in_ok-joined.joined.functions ++ brought ≡ (with_interface (merging_of u) from c.args.self.now).functions = λ j. (c.in_ok-joined.ensures j).functions ++ brought in
     subst (λ (l : List (List ℕ × Function)). HasDistinctKeys l) (sym functions) c.requires.can.functions_apart
 
@@ -30,9 +30,9 @@ returns c =
     let m = merging_of u in
     let from = c.args.from.now in
     let self = c.args.self.now in
-    let brought = functions_image m (brought_beside self.functions from.functions) in
+    let brought = functions_image m (brought_matched self.functions from.functions) in
     let kept = c.in_ok-joined.ensures in
-    let listed : c.in_ok-joined.joined.types ++ moved_names u.matches.now.types u.going.now.places.types from.types ≡ (with_interface m from self).types = λ j. (kept j).types ++ types_moved u c.requires.ready from.types c.requires.can.types j in
+    let listed : c.in_ok-joined.joined.types ++ moved_names u.matches.now.types u.merge_remap.now.places.types from.types ≡ (with_interface m from self).types = λ j. (kept j).types ++ types_moved u c.requires.ready from.types c.requires.can.types j in
     let types : c.push_moved.new.into ≡ (with_interface m from self).types = c.in_ok-push_moved.ensures ∙ listed in
     let had : c.in_ok-joined.joined.functions ++ brought ≡ (with_interface m from self).functions = λ j. (kept j).functions ++ brought in
     let functions : c.push_functions.new.into ≡ (with_interface m from self).functions = c.in_ok-push_functions.ensures ∙ had in

@@ -2,8 +2,8 @@ use Rattle.std.proofs.Common.{◌≡◌, ◌∙◌, map, sym}
 use Rattle.wit_link_spec.specs.Include.{joined_stability}
 use Rattle.wit_merge_spec.specs.Joined.{with_entries}
 use Rattle.wit_merge.specs.steps.Joined.{entry_joined}
-use Rattle.wit_merge.specs.steps.Uniting.{merging_of}
-use Rattle.wit_merge.proofs.Beside.{entry_is}
+use Rattle.wit_merge.specs.steps.UnionSteps.{merging_of}
+use Rattle.wit_merge.proofs.MatchedThings.{entry_is}
 use Rattle.wit_merge.proofs.SameImages.{each_same}
 use Rattle.wit_merge.proofs.worlds.WorldPart.joined.Goals as goal
 
@@ -17,8 +17,8 @@ returns c =
     let self = c.args.self.now in
     let w = c.args._place in
     let kept = c.in_ok-joined.ensures in
-    let listed : map (entry_joined u.partners.now from.imports) self.imports ≡ with_entries m w from.imports self.imports = each_same _ _ self.imports (λ e has. sym (entry_is u ready w from.imports e.0 e.1 (can.imports e has))) in
-    let given : map (entry_joined u.partners.now from.exports) self.exports ≡ with_entries m w from.exports self.exports = each_same _ _ self.exports (λ e has. sym (entry_is u ready w from.exports e.0 e.1 (can.exports e has))) in
+    let listed : map (entry_joined u.counterparts.now from.imports) self.imports ≡ with_entries m w from.imports self.imports = each_same _ _ self.imports (λ e has. sym (entry_is u ready w from.imports e.0 e.1 (can.imports e has))) in
+    let given : map (entry_joined u.counterparts.now from.exports) self.exports ≡ with_entries m w from.exports self.exports = each_same _ _ self.exports (λ e has. sym (entry_is u ready w from.exports e.0 e.1 (can.exports e has))) in
     let imports = (c.in_ok-imports.ensures ∙ listed) in
     let exports = (c.in_ok-exports.ensures ∙ given) in
     let was : joined_stability from.stability c.in_ok-joined.joined.stability ≡ joined_stability from.stability self.stability = λ j. joined_stability from.stability (kept j).stability in

@@ -8,8 +8,8 @@ use Rattle.wit_sources.specs.Span.{moved_by}
 use Rattle.wit_graph_theory.specs.Image.{entry_image}
 use Rattle.wit_remap.specs.steps.Fits.{EntriesFit, Fits}
 use Rattle.wit_remap.specs.steps.Movers.{maps_of}
-use Rattle.wit_merge_spec.specs.Moved.{package_place}
-use Rattle.wit_merge.specs.steps.Uniting.{merging_of}
+use Rattle.wit_merge_spec.specs.Remapped.{merged_package}
+use Rattle.wit_merge.specs.steps.UnionSteps.{merging_of}
 use Rattle.wit_merge.proofs.Agrees.{entries_are}
 use Rattle.wit_merge.proofs.Chosen.{told_apart}
 use Rattle.wit_merge.proofs.worlds.WorldPart.moved.Goals as goal
@@ -57,8 +57,8 @@ returns c =
     ∙ entries_are u c.requires.ready mover c.mover-mover.ensures.places c.mover-mover.ensures.values c.mover-mover.ensures.offset w self.imports can.imports) in
     let exports = (c.in_ok-exports.ensures w ∙ ap (map (entry_image (maps_of mover) w)) given
     ∙ entries_are u c.requires.ready mover c.mover-mover.ensures.places c.mover-mover.ensures.values c.mover-mover.ensures.offset w self.exports can.exports) in
-    let place : Some mover.«package» ≡ Some (package_place m can.home) = ap (λ (p : ℕ). Some p) (c.mover-mover.ensures.home can.home can.home_is can.there) in
-    let home = sym (c.home.ensures None) ∙ place ∙ ap (option_map (package_place m)) (sym can.home_is) in
+    let place : Some mover.«package» ≡ Some (merged_package m can.home) = ap (λ (p : ℕ). Some p) (c.mover-mover.ensures.home can.home can.home_is can.there) in
+    let home = sym (c.home.ensures None) ∙ place ∙ ap (option_map (merged_package m)) (sym can.home_is) in
     let there : moved_by mover.offset c.in_ok-moved.moved.span ≡ moved_by m.offset self.span = λ j. moved_by (c.mover-mover.ensures.offset j) (kept j).span in
     let span = c.span-moved.ensures ∙ there in
     let includes = ap (λ (world : World). world.includes) kept ∙ can.includes in

@@ -1,6 +1,6 @@
 use Rattle.std.proofs.Common.{◌≡◌, ◌∙◌, List, ap, subst, sym}
 use Rattle.wit_data.specs.declared.types.TypeDefKind.{TypeDefKind}
-use Rattle.wit_merge_structure.specs.steps.Comparing.{kind_at}
+use Rattle.wit_merge_structure.specs.steps.ComparisonSteps.{kind_at}
 use Rattle.wit_merge_structure.specs.steps.Kinds.{HeadsDiffer}
 use Rattle.wit_merge_structure.specs.Structure.{Feature, head_features}
 use Rattle.wit_merge_structure.proofs.WalkSteps.{kind_is}

@@ -1,5 +1,5 @@
 use Rattle.std.proofs.Common.{◌∙◌, ◌<◌, ◌≤◌, ◌++◌, List, length, ap, arith, subst, sym}
-use Rattle.wit_merge_structure.specs.steps.Comparing.{AreAtParts, path_of, structure_of}
+use Rattle.wit_merge_structure.specs.steps.ComparisonSteps.{AreAtParts, path_of, structure_of}
 use Rattle.wit_merge_structure.specs.steps.Kinds.{ending_text}
 use Rattle.wit_merge_structure.specs.Structure.{parts_of, path_text}
 use Rattle.wit_merge_structure.specs.declared.frames.Frame.{Frame}

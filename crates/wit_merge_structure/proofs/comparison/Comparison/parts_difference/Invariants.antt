@@ -1,5 +1,5 @@
 use Rattle.std.proofs.Common.{◌≡◌}
-use Rattle.wit_merge_structure.specs.steps.Comparing.{HasClasses}
+use Rattle.wit_merge_structure.specs.steps.ComparisonSteps.{HasClasses}
 use Rattle.wit_merge_structure.proofs.WalkSteps.{IsWalking, turns}
 use Rattle.wit_merge_structure.proofs.comparison.Comparison.parts_difference.Given as goal
 

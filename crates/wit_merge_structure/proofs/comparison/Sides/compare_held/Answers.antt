@@ -1,6 +1,6 @@
 use Rattle.std.proofs.Common.{◌≡◌, Option, Some, rules, subst}
 use Rattle.wit_data.specs.declared.types.Type_.{Type_}
-use Rattle.wit_merge_structure.specs.steps.Comparing.{AreThere}
+use Rattle.wit_merge_structure.specs.steps.ComparisonSteps.{AreThere}
 use Rattle.wit_merge_structure.proofs.CompareSteps.{none_some_by, some_none_by}
 use Rattle.wit_merge_structure.proofs.comparison.Sides.compare_held.Goals as goal
 

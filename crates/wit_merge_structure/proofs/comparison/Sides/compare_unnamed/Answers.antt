@@ -1,6 +1,6 @@
 use Rattle.std.proofs.Common.{◌≡◌, ◌∙◌, ◌+◌, ℕ, ap, arith, subst, sym}
 use Rattle.wit_data.specs.declared.types.TypeDefKind.{TypeDefKind}
-use Rattle.wit_merge_structure.specs.steps.Comparing.{kind_at, structure_of}
+use Rattle.wit_merge_structure.specs.steps.ComparisonSteps.{kind_at, structure_of}
 use Rattle.wit_merge_structure.specs.steps.Kinds.{HeadsDiffer}
 use Rattle.wit_merge_structure.proofs.CompareSteps.{from_is, into_is, kinds_apart, of_from, of_into}
 use Rattle.wit_merge_structure.proofs.WalkSteps.{kind_is}

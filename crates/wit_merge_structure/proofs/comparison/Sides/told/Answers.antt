@@ -3,7 +3,7 @@ use Rattle.std.proofs.lemmas.Option.{slice_get-get_or}
 use Rattle.wit_data.specs.declared.types.TypeDefKind.{TypeDefKind}
 use Rattle.wit_merge_structure.specs.Structure.{parts_of}
 use Rattle.wit_merge_structure.specs.declared.frames.Frame.{Frame}
-use Rattle.wit_merge_structure.specs.steps.Comparing.{frame_step}
+use Rattle.wit_merge_structure.specs.steps.ComparisonSteps.{frame_step}
 use Rattle.wit_merge_structure.specs.steps.Kinds.{step_at}
 use Rattle.wit_merge_structure.proofs.PathText.{told_behind, told_first}
 use Rattle.wit_merge_structure.proofs.WalkSteps.{kind_is}

@@ -1,5 +1,5 @@
 use Rattle.std.proofs.Common.{◌≡◌, ◌++◌, codes, string_bytes, take}
-use Rattle.wit_merge_structure.specs.steps.Comparing.{path_of}
+use Rattle.wit_merge_structure.specs.steps.ComparisonSteps.{path_of}
 use Rattle.wit_merge_structure.specs.Structure.{dotted}
 use Rattle.wit_merge_structure.proofs.comparison.Sides.told.Given as goal
 

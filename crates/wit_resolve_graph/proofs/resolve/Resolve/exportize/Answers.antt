@@ -1,7 +1,7 @@
 use Rattle.std.proofs.Common.{option_map, string_bytes, subst, sym}
-use Rattle.wit_transform.specs.Turned.{exportized}
+use Rattle.wit_transform.specs.Transformed.{exportized}
 use Rattle.wit_graph_data.specs.declared.graph.Graph.{Graph}
-use Rattle.wit_resolve_graph.proofs.KeptRows.{LeavesTypes, kept_after, turned_leaves}
+use Rattle.wit_resolve_graph.proofs.KeptRows.{LeavesTypes, kept_after, transformed_leaves}
 use Rattle.wit_resolve_graph.proofs.resolve.Resolve.exportize.Goals as goal
 
 pub returns-clause-ok : goal.returns-clause-ok
@@ -16,4 +16,4 @@ returns-clause-refuses g c = rw (← c.self.view_is) c.exportize.ensures.refuses
 pub invariant_of-self : goal.invariant_of-self
 invariant_of-self g c =
     kept_after c.exportize.result c.self.inside.graph c.exportize.new.graph c.self.inside.kept c.self.invariant c.exportize.ensures.valid c.exportize.ensures.ok
-    (λ is. subst (λ (h : Graph). LeavesTypes c.self.inside.graph h) (sym is.is_turned) (turned_leaves c.self.inside.graph c.args.world (exportized is.answers (option_map string_bytes c.args.out)))) c.exportize.ensures.err
+    (λ is. subst (λ (h : Graph). LeavesTypes c.self.inside.graph h) (sym is.is_transformed) (transformed_leaves c.self.inside.graph c.args.world (exportized is.answers (option_map string_bytes c.args.out)))) c.exportize.ensures.err

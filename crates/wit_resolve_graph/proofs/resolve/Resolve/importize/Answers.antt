@@ -1,6 +1,6 @@
 use Rattle.std.proofs.Common.{option_map, string_bytes}
-use Rattle.wit_transform.specs.Turned.{importized}
-use Rattle.wit_resolve_graph.proofs.KeptRows.{kept_turned}
+use Rattle.wit_transform.specs.Transformed.{importized}
+use Rattle.wit_resolve_graph.proofs.KeptRows.{kept_transformed}
 use Rattle.wit_resolve_graph.proofs.resolve.Resolve.importize.Goals as goal
 
 pub returns-clause-cause : goal.returns-clause-cause
@@ -11,5 +11,5 @@ returns-clause-refuses c = rw (← c.self.view_is) c.importize.ensures.refuses
 
 pub invariant_of-self : goal.invariant_of-self
 invariant_of-self c =
-    kept_turned c.importize.result c.self.inside.graph c.importize.new.graph c.self.inside.kept c.args.world (importized (option_map string_bytes c.args.out)) c.self.invariant c.importize.ensures.valid c.importize.ensures.ok
+    kept_transformed c.importize.result c.self.inside.graph c.importize.new.graph c.self.inside.kept c.args.world (importized (option_map string_bytes c.args.out)) c.self.invariant c.importize.ensures.valid c.importize.ensures.ok
     c.importize.ensures.err

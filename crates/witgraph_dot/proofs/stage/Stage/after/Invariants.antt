@@ -1,6 +1,6 @@
 use Rattle.std.proofs.Common.{is_some}
 use Rattle.std.specs.Vec.Iter.{into_iter_items}
-use Rattle.wit_script.specs.Ready.{MayAllCome}
+use Rattle.wit_script.specs.Ready.{CanAllBeAsked}
 use Rattle.witgraph_dot.specs.Drawn.{FollowsAll, graphs}
 use Rattle.witgraph_dot.proofs.stage.Stage.after.Given as goal
 
@@ -8,5 +8,5 @@ use Rattle.witgraph_dot.proofs.stage.Stage.after.Given as goal
 abbrev pub invariant-loop-command : goal.invariant-loop-command
 invariant-loop-command l = record {
   followed : FollowsAll l.yielded (graphs l.stage.active l.stage.waiting);
-  come : MayAllCome (into_iter_items l.command-iterator) (is_some l.stage.waiting);
+  come : CanAllBeAsked (into_iter_items l.command-iterator) (is_some l.stage.waiting);
 }

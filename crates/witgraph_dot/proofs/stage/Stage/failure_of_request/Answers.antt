@@ -1,21 +1,21 @@
 use Rattle.std.proofs.Common.{rules, true}
 use Rattle.wit_resolve_graph.specs.declared.command.Command.TheVariants.{AddFeature, SetAllFeatures, SetTrackRule, Importize, Exportize, Semver}
-use Rattle.wit_script.specs.Answer.{quiet_text, reply_text}
+use Rattle.wit_script.specs.Answer.{line_unless_done, reply_text}
 use Rattle.wit_script_lines.specs.declared.request.Request.TheVariants as request
 use Rattle.witgraph_dot.proofs.Staged.{as-asked, opens-as, prints-as, selects-as, works-as}
 use Rattle.witgraph_dot.proofs.stage.Stage.failure_of_request.Goals as goal
 
 pub returns-in-Feature : goal.returns-in-Feature
 returns-in-Feature c =
-    works-as quiet_text c.change.result c.args.self.now.active c.change.new.self c.args.self.now.waiting _ (request.Feature c.in-Feature.name) (AddFeature c.in-Feature.name) (λ text works. works) (search rules) c.change.ensures
+    works-as line_unless_done c.change.result c.args.self.now.active c.change.new.self c.args.self.now.waiting _ (request.Feature c.in-Feature.name) (AddFeature c.in-Feature.name) (λ text works. works) (search rules) c.change.ensures
 
 pub returns-in-AllFeatures : goal.returns-in-AllFeatures
 returns-in-AllFeatures c =
-    works-as quiet_text c.change-in-AllFeatures.result c.args.self.now.active c.change-in-AllFeatures.new.self c.args.self.now.waiting _ request.AllFeatures (SetAllFeatures true) (λ text works. works) (search rules) c.change-in-AllFeatures.ensures
+    works-as line_unless_done c.change-in-AllFeatures.result c.args.self.now.active c.change-in-AllFeatures.new.self c.args.self.now.waiting _ request.AllFeatures (SetAllFeatures true) (λ text works. works) (search rules) c.change-in-AllFeatures.ensures
 
 pub returns-in-Tracks : goal.returns-in-Tracks
 returns-in-Tracks c =
-    works-as quiet_text c.change-in-Tracks.result c.args.self.now.active c.change-in-Tracks.new.self c.args.self.now.waiting _ (request.Tracks c.in-Tracks.rule) (SetTrackRule c.in-Tracks.rule) (λ text works. works) (search rules) c.change-in-Tracks.ensures
+    works-as line_unless_done c.change-in-Tracks.result c.args.self.now.active c.change-in-Tracks.new.self c.args.self.now.waiting _ (request.Tracks c.in-Tracks.rule) (SetTrackRule c.in-Tracks.rule) (λ text works. works) (search rules) c.change-in-Tracks.ensures
 
 pub returns-in-Other : goal.returns-in-Other
 returns-in-Other c =

@@ -1,6 +1,6 @@
 use Rattle.std.proofs.Common.{◌∙◌, List, ℕ, ap, subst}
 use Rattle.std.specs.Fmt.{HasWritten, styled_decimal}
-use Rattle.wit_sources.proofs.ShownLemmas.{filled_to_four}
+use Rattle.wit_sources.proofs.LocationLemmas.{filled_to_four}
 use Rattle.wit_sources.proofs.source_map.rendering.InFourDisplay.fmt.Goals as goal
 
 pub returns-clause-writes : goal.returns-clause-writes

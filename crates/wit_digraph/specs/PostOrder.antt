@@ -1,0 +1,40 @@
+-- The post-order of a node: the post-orders of its direct uses, in order, then the node; and the first of each member.
+use Rattle.std.specs.Prelude.{◌↔◌, ℕ, ◌<◌, ◌≤◌, ◌*◌, zero, suc, List, [], ◌∷◌, ◌++◌, length, Contains, All, nat_eq, if◌then◌else◌}
+use Rattle.std.specs.List.{flat_map, list_any}
+use Rattle.wit_digraph.specs.Relation.{direct}
+use Rattle.wit_digraph.specs.steps.Rows.{HasBit}
+
+-- the post-orders of i's direct uses in order, then i, along paths of at most `members` members
+unfoldable pub post_order_within : List (List ℕ) → ℕ → ℕ → List ℕ
+post_order_within uses zero i = []
+post_order_within uses (suc members) i = flat_map (post_order_within uses members) (direct uses i) ++ i ∷ []
+
+-- the post-orders of i's direct uses in order, then i: where uses are acyclic, no path has more members
+-- than there are nodes, so nothing is cut off (the law `PostOrdersUnfold` says so)
+unfoldable pub post_order : List (List ℕ) → ℕ → List ℕ
+post_order uses i = post_order_within uses (length uses) i
+
+-- the members of a list that are not among those seen, each where it comes first
+abbrev pub fresh : List ℕ → List ℕ → List ℕ
+fresh seen [] = []
+fresh seen (x ∷ xs) = if list_any (nat_eq x) seen then fresh seen xs else x ∷ fresh (seen ++ x ∷ []) xs
+
+-- the first of each member
+abbrev pub first_of_each : List ℕ → List ℕ
+first_of_each xs = fresh [] xs
+
+-- each member's direct uses are among those seen, or stand before it
+abbrev pub UsesFirst : List (List ℕ) → List ℕ → List ℕ → Type 0
+UsesFirst uses seen [] = Unit {0}
+UsesFirst uses seen (i ∷ rest) = All (Contains seen) (direct uses i) × UsesFirst uses (seen ++ i ∷ []) rest
+
+-- what a listing of nodes is: how many nodes there are, and the order of those that are listed
+pub record Listed : Type 0 where
+  pub nodes : ℕ
+  pub order : List ℕ
+
+-- the bits of the marks tell which nodes are listed, and no other is
+pub record AreMarksOf (nodes : ℕ) (marks order : List ℕ) : Type 0 where
+  pub enough : nodes ≤ 64 * length marks
+  pub each : (i : ℕ) → HasBit marks i ↔ Contains order i
+  pub in_range : All (λ i. i < nodes) order

@@ -1,0 +1,157 @@
+-- What is answered to questions about a graph.
+-- Source: the questions of the same names of wit-parser 0.263.0, whose documentation says what they answer;
+-- canonical interface names in the component model's explainer. In which order futures and streams come is
+-- a rule of this project.
+use Rattle.std.specs.Prelude.{◌≡◌, ℕ, Bool, true, false, List, [], ◌∷◌, ◌++◌, map, filter, length, slice_get, Option, None, Some, option_and_then, unwrap_or}
+use Rattle.std.specs.List.{flat_map, list_all, range_with_len}
+use Rattle.std.specs.Option.{option_map, option_map_or}
+use Rattle.wit_values.specs.Version.{Parts}
+use Rattle.wit_digraph.specs.Relation.{Reaches, direct}
+use Rattle.wit_digraph.specs.PostOrder.{first_of_each, post_order}
+use Rattle.wit_data.specs.Each.{SomeAt}
+use Rattle.wit_data.specs.Reference.{named_option, named_type, referred}
+use Rattle.wit_data.specs.Track.{track_suffix, track_text}
+use Rattle.wit_data.specs.Uses.{uses_of}
+use Rattle.wit_data.specs.declared.function.Function.{Function}
+use Rattle.wit_data.specs.declared.function.Param.{Param}
+use Rattle.wit_data.specs.declared.interface.Interface.{Interface}
+use Rattle.wit_data.specs.declared.package_name.PackageName.{PackageName}
+use Rattle.wit_data.specs.declared.types.Field.{Field}
+use Rattle.wit_data.specs.declared.types.TypeDef.{TypeDef}
+use Rattle.wit_data.specs.declared.types.TypeDefKind.{TypeDefKind}
+use Rattle.wit_data.specs.declared.types.TypeDefKind.TheVariants as kind
+use Rattle.wit_data.specs.declared.types.Type_.{Type_}
+use Rattle.wit_data.specs.declared.types.Type_.TheVariants as type
+use Rattle.wit_data.specs.declared.world.World.{World}
+use Rattle.wit_data.specs.declared.world.WorldItem.{WorldItem}
+use Rattle.wit_data.specs.declared.world.WorldItem.TheVariants as item
+use Rattle.wit_data.specs.declared.world.WorldKey.{WorldKey}
+use Rattle.wit_data.specs.declared.world.WorldKey.TheVariants as key
+use Rattle.wit_graph_data.specs.Relations.{package_uses}
+use Rattle.wit_graph_data.specs.declared.graph.Package.{Package}
+
+-- ---- dependencies
+
+-- the interfaces that interface i uses directly, in the order of its types, with repeats
+abbrev pub interface_direct_deps : List TypeDef → List Interface → ℕ → List ℕ
+interface_direct_deps types interfaces i = direct (uses_of types interfaces) i
+
+-- all packages in the order of their ids, but each after those that it depends on, in order, and each once
+abbrev pub topological_packages : List TypeDef → List Interface → List World → List Package → List ℕ
+topological_packages types interfaces worlds packages =
+    first_of_each (flat_map (post_order (package_uses types interfaces worlds packages)) (range_with_len 0 (length packages)))
+
+-- ---- canonical names: with the text of the track in the place of the version
+
+-- `@` and the text of the track, where there is a version
+abbrev pub track_part : Option Parts → List ℕ
+track_part None = []
+track_part (Some version) = 64 ∷ track_text version
+
+-- `namespace:package/name`, and `@track` where the package has a version
+abbrev pub canonical_id_text_in : PackageName → List ℕ → List ℕ
+canonical_id_text_in home name = home.namespace ++ (58 ∷ (home.name ++ (47 ∷ (name ++ track_part home.version))))
+
+-- `namespace:package/name`, and `@track` where there is a version, of a name in package p; empty where that isn't
+-- there
+abbrev pub canonical_id_text : List Package → ℕ → List ℕ → List ℕ
+canonical_id_text packages p name = option_map_or (λ (home : Package). canonical_id_text_in home.name name) (slice_get packages p) []
+
+-- the canonical id of an interface that has a name and a package
+abbrev pub canonical_interface_id : List Package → Interface → Option (List ℕ)
+canonical_interface_id packages interface = option_and_then (λ name. option_map (λ p. canonical_id_text packages p name) interface.package) interface.name
+
+-- the canonical id of interface i, where it is there and has a name and a package
+abbrev pub canonical_interface_id_at : List Package → List Interface → ℕ → Option (List ℕ)
+canonical_interface_id_at packages interfaces i = option_and_then (canonical_interface_id packages) (slice_get interfaces i)
+
+-- what names a key: a label as it stands, an interface by its canonical id
+abbrev pub canonical_key_text : List Package → List Interface → WorldKey → List ℕ
+canonical_key_text packages interfaces (key.Name label) = label
+canonical_key_text packages interfaces (key.Interface i) = unwrap_or (canonical_interface_id_at packages interfaces i) []
+
+-- what the canonical id of interface i leaves out of its version
+abbrev pub version_suffix_of : List Package → List Interface → ℕ → Option (List ℕ)
+version_suffix_of packages interfaces i =
+    option_and_then (λ (interface : Interface). option_and_then (λ p. option_and_then (λ (home : Package). option_and_then track_suffix home.name.version) (slice_get packages p)) interface.package) (slice_get interfaces i)
+
+-- ---- entries of worlds
+
+-- interface i, where it has a name
+abbrev pub named_interface : List Interface → ℕ → Option ℕ
+named_interface interfaces i = option_and_then (λ (interface : Interface). option_map (λ (name : List ℕ). i) interface.name) (slice_get interfaces i)
+
+-- the interface with a name that stands under a label
+abbrev pub implements_interface : List Interface → WorldKey → WorldItem → Option ℕ
+implements_interface interfaces (key.Name label) (item.Interface i stability docs span external_id) = named_interface interfaces i
+implements_interface interfaces k held = None
+
+-- the external id of an entry: its own, or that of its function or type
+abbrev pub external_id_value : List TypeDef → WorldItem → Option (List ℕ)
+external_id_value types (item.Interface i stability docs span external_id) = external_id
+external_id_value types (item.Function f) = f.external_id
+external_id_value types (item.Type_ t span) = option_and_then (λ (def : TypeDef). def.external_id) (slice_get types t)
+
+-- ---- values
+
+-- the ten number types
+abbrev pub is_number : Type_ → Bool
+is_number type.U8 = true
+is_number type.U16 = true
+is_number type.U32 = true
+is_number type.U64 = true
+is_number type.S8 = true
+is_number type.S16 = true
+is_number type.S32 = true
+is_number type.S64 = true
+is_number type.F32 = true
+is_number type.F64 = true
+is_number _ = false
+
+-- a number, or a type of the list, of which others say whether all its bits are valid
+abbrev pub is_number_or_listed : Type_ → Bool
+is_number_or_listed (type.Id t) = true
+is_number_or_listed other = is_number other
+
+-- the kind is a handle, or has numbers and types of the list as parts, all of them at fixed places
+abbrev pub has_fixed_parts : TypeDefKind → Bool
+has_fixed_parts (kind.Handle handle) = true
+has_fixed_parts (kind.Type_ ty) = is_number_or_listed ty
+has_fixed_parts (kind.FixedLengthList ty len) = is_number_or_listed ty
+has_fixed_parts (kind.Record fields) = list_all (λ (f : Field). is_number_or_listed f.ty) fields
+has_fixed_parts (kind.Tuple types) = list_all is_number_or_listed types
+has_fixed_parts _ = false
+
+-- what the values of a kind hold: a handle and a resource hold nothing more
+abbrev pub content_types : TypeDefKind → List ℕ
+content_types (kind.Handle handle) = []
+content_types other = referred other
+
+-- as adjacency lists: list t has what the values of type t hold
+abbrev pub type_contents : List TypeDef → List (List ℕ)
+type_contents types = map (λ (def : TypeDef). content_types def.kind) types
+
+-- whatever its bits, a value of the type is valid: it is a number, or a type whose values hold nothing
+-- but numbers and handles at fixed places
+abbrev pub HasAllBitsValid : List TypeDef → Type_ → Type 0
+HasAllBitsValid types (type.Id t) = (s : ℕ) → Reaches (type_contents types) t s → SomeAt types s (λ (def : TypeDef). has_fixed_parts def.kind ≡ true)
+HasAllBitsValid types other = is_number other ≡ true
+
+-- the kind is a future or a stream
+abbrev pub is_future_kind : TypeDefKind → Bool
+is_future_kind (kind.Future ty) = true
+is_future_kind (kind.Stream ty) = true
+is_future_kind _ = false
+
+-- is the type at place t a future or a stream?
+abbrev pub is_future : List TypeDef → ℕ → Bool
+is_future types t = option_map_or (λ (def : TypeDef). is_future_kind def.kind) (slice_get types t) false
+
+-- the types of the parameters and of the result of a function
+abbrev pub signature_types : Function → List ℕ
+signature_types f = flat_map (λ (p : Param). named_type p.ty) f.params ++ named_option f.result_
+
+-- the futures and streams that the values of a function's parameters and of its result hold, those inside
+-- others before them, with repeats
+abbrev pub futures_and_streams : List TypeDef → Function → List ℕ
+futures_and_streams types f = filter (is_future types) (flat_map (post_order (type_contents types)) (signature_types f))

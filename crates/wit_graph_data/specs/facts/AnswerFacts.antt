@@ -1,9 +1,0 @@
--- Facts on what calls answer, for the proofs of the crates above.
-use Rattle.std.proofs.Common.{Result, Ok, Err}
-use Rattle.std.specs.Prelude.{IfErr}
-use Rattle.std.specs.Result.{IsErrAnd}
-
--- what is told of the error of a refusal
-pub told_err : {T E : Type 0} {P Q : E → Type 0} (r : Result T E) → IsErrAnd r P → ((e : E) → P e → Q e) → IfErr r Q
-told_err (Ok v) is gives = tt
-told_err (Err e) is gives = gives e is

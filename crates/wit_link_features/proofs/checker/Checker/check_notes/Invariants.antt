@@ -1,8 +1,0 @@
-use Rattle.wit_data.specs.facts.EachFacts.{EachBelow}
-use Rattle.wit_link_features.specs.steps.GateSteps.{IsMet}
-use Rattle.wit_link_features.proofs.AskedNotes.{NoneActive}
-use Rattle.wit_link_features.proofs.checker.Checker.check_notes.Given as goal
-
--- the first ones let nothing take part, and are met
-abbrev pub invariant-loop-index : goal.invariant-loop-index
-invariant-loop-index l = NoneActive l.self.adding.features.now l.index l.notes × EachBelow l.index (λ _. IsMet l.self) l.notes

@@ -1,7 +1,0 @@
-use Rattle.std.proofs.Common.{take}
-use Rattle.wit_link_features.specs.steps.GateSteps.{IsMarked}
-use Rattle.wit_link_features.proofs.taking_part.mark_items.Given as goal
-
--- the first ones are added
-abbrev pub invariant-loop-index : goal.invariant-loop-index
-invariant-loop-index l = IsMarked l.features (take l.index l.items) l.fn.activity l.activity

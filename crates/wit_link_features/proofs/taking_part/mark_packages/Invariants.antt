@@ -1,8 +1,0 @@
-use Rattle.std.proofs.Common.{take}
-use Rattle.wit_link_spec.specs.Gates.{foreign_items}
-use Rattle.wit_link_features.specs.steps.GateSteps.{IsMarked}
-use Rattle.wit_link_features.proofs.taking_part.mark_packages.Given as goal
-
--- those of the first packages are added
-abbrev pub invariant-loop-index : goal.invariant-loop-index
-invariant-loop-index l = IsMarked l.features (foreign_items (take l.index l.deps)) l.fn.activity l.activity

@@ -1,8 +1,0 @@
-use Rattle.wit_merge_match.specs.Differing.{merging_of}
-use Rattle.wit_merge_match.proofs.Apart.{EntryApartAt}
-use Rattle.wit_merge_match.proofs.Steps.{NoneBelow}
-use Rattle.wit_merge_match.proofs.comparing.Comparing.entries_apart.Given as goal
-
--- the first ones can be joined
-abbrev pub invariant-loop-index : goal.invariant-loop-index
-invariant-loop-index l = NoneBelow (EntryApartAt (merging_of l.self) l.from l.into) l.index

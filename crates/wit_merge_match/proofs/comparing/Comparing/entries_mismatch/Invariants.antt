@@ -1,7 +1,0 @@
-use Rattle.wit_merge_match.specs.Differing.{merging_of}
-use Rattle.wit_merge_match.proofs.Steps.{EntryDiffersAt, NoneBelow}
-use Rattle.wit_merge_match.proofs.comparing.Comparing.entries_mismatch.Given as goal
-
--- nothing is told of the first ones
-abbrev pub invariant-loop-index : goal.invariant-loop-index
-invariant-loop-index l = NoneBelow (EntryDiffersAt (merging_of l.self) l.word l.into l.from) l.index

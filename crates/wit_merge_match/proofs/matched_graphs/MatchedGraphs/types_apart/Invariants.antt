@@ -1,0 +1,8 @@
+use Rattle.wit_merge_match.specs.Differing.{merging_of}
+use Rattle.wit_merge_match.specs.steps.Stabilities.{TypesApartAt}
+use Rattle.wit_merge_match.proofs.Steps.{NoneBelow}
+use Rattle.wit_merge_match.proofs.matched_graphs.MatchedGraphs.types_apart.Given as goal
+
+-- the first ones can be joined
+abbrev pub invariant-loop-index : goal.invariant-loop-index
+invariant-loop-index l = NoneBelow (TypesApartAt (merging_of l.self)) l.index

@@ -1,0 +1,14 @@
+use Rattle.std.proofs.Common.{arith}
+use Rattle.wit_merge_spec.specs.Matches.{counterpart_world}
+use Rattle.wit_merge_match.specs.Differing.{merging_of}
+use Rattle.wit_merge_match.specs.steps.Stabilities.{WorldsApart, WorldsApartAt}
+use Rattle.wit_merge_match.proofs.Steps.{none_anywhere, none_next}
+use Rattle.wit_merge_match.proofs.matched_graphs.MatchedGraphs.worlds_apart.Goals as goal
+
+pub loop-index-preserved : goal.loop-index-preserved
+loop-index-preserved c = none_next (WorldsApartAt (merging_of c.args.self.now)) c.loop-index.index c.loop-index.invariant c.in-None.ensures.none
+
+pub returns-clause-none : goal.returns-clause-none
+returns-clause-none c =
+    let m = merging_of c.args.self.now in
+    none_anywhere (counterpart_world m) m.other.worlds m.graph.worlds (WorldsApart m) c.loop-index.index (omega arith) c.loop-index.invariant

@@ -1,8 +1,0 @@
-use Rattle.std.proofs.Common.{◌≡◌, map, take}
-use Rattle.wit_graph_data.specs.Questions.{held_types}
-use Rattle.wit_data.specs.declared.types.TypeDef.{TypeDef}
-use Rattle.wit_queries.proofs.held.held_rows.Given as goal
-
--- the rows so far
-abbrev pub invariant-loop-def : goal.invariant-loop-def
-invariant-loop-def l = l.rows ≡ map (λ (def : TypeDef). held_types def.kind) (take l.def-index l.types)

@@ -1,0 +1,197 @@
+//! The commands that change a world.
+ghost use Rattle.std.specs.Prelude.{◌≡◌, ◌⊎◌, ◌<◌, IfErr, IfNone, IfOk, IfSome, OnErr, OnOk, length, string_bytes};
+ghost use Rattle.std.specs.List.{list_any};
+ghost use Rattle.std.specs.Map.{lookup};
+ghost use Rattle.std.specs.Option.{option_map};
+ghost use Rattle.std.specs.Str.{bytes_eq};
+ghost use Rattle.wit_graph_data.specs.declared.error_kind.ResolveErrorKind.{ResolveErrorKind};
+ghost use Rattle.wit_graph_data.specs.declared.error_kind.ResolveErrorKind.TheVariants.{OutOfMemory};
+ghost use Rattle.wit_resolve_graph.specs.Named.{HasWorld};
+ghost use Rattle.wit_resolve_graph.specs.Step.{IsAbsent, Step, answers_at, is_listed_key, listed_answers};
+ghost use Rattle.wit_resolve_graph.specs.declared.command.Command.TheVariants as command;
+ghost use Rattle.wit_transform.specs.TransformCause.{IsExportizeCause};
+ghost use Rattle.wit_transform.specs.Transformed.{exportized, transformed};
+
+use crate::command::Reply;
+use crate::resolve::Resolve;
+use std::alloc::Global;
+use wit_data::{Items, PackageName, Table, Text, WorldId, WorldItem, WorldKey};
+use wit_graph_data::{Graph, Package, ResolveResult};
+
+/// The world of a name in a package.
+fn world_in(home: &Package, world: &str) -> Option<WorldId>
+    ensures { result ≡ lookup (bytes_eq world.now) home.now.worlds }
+{
+    match home.worlds.get(world) {
+        Some(id) => Some(*id),
+        None => None,
+    }
+}
+
+/// The world of a name in the package of a name.
+fn world_named(resolve: &Resolve, package: &PackageName, world: &Text) -> Option<WorldId>
+    ensures some { IfSome result (HasWorld resolve.now.graph «package».now world.now) }
+    ensures within { IfSome result (λ w. w < length resolve.now.graph.worlds) }
+    ensures none { IfNone result (IsAbsent resolve.now «package».now world.now) }
+{
+    let graph = resolve.graph();
+    match graph.package_names.get(package) {
+        Some(id) => world_in(graph.packages.at(id.index()), world.as_str()),
+        None => None,
+    }
+}
+
+/// The text of a name, where there is one.
+fn out_name(out: Option<Text>) -> Option<String>
+    ensures { option_map string_bytes result ≡ out }
+{
+    match out {
+        Some(name) => Some(name.into_string()),
+        None => None,
+    }
+}
+
+/// The reply to `Importize`.
+pub(crate) fn importize(
+    alloc: Global,
+    resolve: &mut Resolve,
+    package: PackageName,
+    world: Text,
+    out: Option<Text>,
+) -> Reply
+    ensures { Step resolve.old (command.Importize «package» world out) result resolve.new }
+{
+    let found = world_named(resolve, &package, &world);
+    match found {
+        Some(id) => match resolve.importize(alloc, id, out_name(out)) {
+            Ok(()) => Reply::Done,
+            Err(refusal) => Reply::Refused(refusal),
+        },
+        None => Reply::NoWorld,
+    }
+}
+
+/// Whether a text is among keys.
+fn is_among(keys: &Items<Text>, text: &str) -> bool
+    ensures { result ≡ list_any (bytes_eq text.now) keys.now }
+{
+    for key in keys.as_slice() {
+        if text == key.as_str() {
+            return true;
+        }
+    }
+    false
+}
+
+/// Whether what names a key is listed; true without a list.
+fn is_listed(
+    alloc: Global,
+    graph: &Graph,
+    keys: &Option<Items<Text>>,
+    key: &WorldKey,
+) -> ResolveResult<bool>
+    ensures ok { IfOk result (λ listed. listed ≡ is_listed_key graph.now keys.now key.now) }
+    ensures err { IfErr result (λ kind. kind ≡ OutOfMemory) }
+{
+    match keys {
+        Some(keys) => {
+            let name = graph.name_world_key(alloc, key)?;
+            Ok(is_among(keys, name.as_str()))
+        }
+        None => Ok(true),
+    }
+}
+
+/// For each import whether what names its key is listed.
+fn key_answers(
+    alloc: Global,
+    graph: &Graph,
+    imports: &Table<WorldKey, WorldItem>,
+    keys: &Option<Items<Text>>,
+) -> ResolveResult<Items<bool>>
+    ensures ok { IfOk result (λ answers. answers ≡ listed_answers graph.now keys.now imports.now) }
+    ensures err { IfErr result (λ kind. kind ≡ OutOfMemory) }
+{
+    let mut answers = Items::new(alloc);
+    for index in 0..imports.len() {
+        let (key, _) = imports.entry_at(index);
+        answers.push(is_listed(alloc, graph, keys, key)?)?;
+    }
+    Ok(answers)
+}
+
+/// The answers for the imports of a world.
+fn world_answers(
+    alloc: Global,
+    resolve: &Resolve,
+    world: WorldId,
+    keys: &Option<Items<Text>>,
+) -> ResolveResult<Items<bool>>
+    requires { world < length resolve.now.graph.worlds }
+    ensures ok { IfOk result (λ answers. answers ≡ answers_at resolve.now keys.now world) }
+    ensures err { IfErr result (λ kind. kind ≡ OutOfMemory) }
+{
+    let graph = resolve.graph();
+    let current = graph.worlds.at(world.index());
+    key_answers(alloc, graph, &current.imports, keys)
+}
+
+/// Exports the imports of a world that are listed.
+fn exportize_listed(
+    alloc: Global,
+    resolve: &mut Resolve,
+    world: WorldId,
+    out: Option<Text>,
+    keys: Option<Items<Text>>,
+) -> ResolveResult<()>
+    requires { world < length resolve.old.graph.worlds }
+    ensures ok { OnOk result (resolve.new ≡ record resolve.old { graph = transformed resolve.old.graph world (exportized (answers_at resolve.old keys world) out) }) }
+    ensures err { OnErr result (resolve.new ≡ resolve.old) }
+    ensures cause { IfErr result (λ kind. (kind ≡ OutOfMemory) ⊎ IsExportizeCause resolve.old.graph world (answers_at resolve.old keys world) out kind) }
+    ensures refuses { (kind : ResolveErrorKind) → IsExportizeCause resolve.old.graph world (answers_at resolve.old keys world) out kind → OnOk result ⊥ }
+{
+    let answers = world_answers(alloc, resolve, world, &keys)?;
+    drop(keys);
+    resolve.exportize_answered(alloc, world, out_name(out), &answers)?;
+    Ok(())
+}
+
+/// The reply to `Exportize`.
+pub(crate) fn exportize(
+    alloc: Global,
+    resolve: &mut Resolve,
+    package: PackageName,
+    world: Text,
+    out: Option<Text>,
+    keys: Option<Items<Text>>,
+) -> Reply
+    ensures { Step resolve.old (command.Exportize «package» world out keys) result resolve.new }
+{
+    let found = world_named(resolve, &package, &world);
+    match found {
+        Some(id) => match exportize_listed(alloc, resolve, id, out, keys) {
+            Ok(()) => Reply::Done,
+            Err(refusal) => Reply::Refused(refusal),
+        },
+        None => Reply::NoWorld,
+    }
+}
+
+/// The reply to `Semver`.
+pub(crate) fn merge_world_imports(
+    alloc: Global,
+    resolve: &mut Resolve,
+    package: PackageName,
+    world: Text,
+) -> Reply
+    ensures { Step resolve.old (command.Semver «package» world) result resolve.new }
+{
+    let found = world_named(resolve, &package, &world);
+    match found {
+        Some(id) => match resolve.merge_world_imports_based_on_semver(alloc, id) {
+            Ok(()) => Reply::Done,
+            Err(refusal) => Reply::Refused(refusal),
+        },
+        None => Reply::NoWorld,
+    }
+}

@@ -1,0 +1,30 @@
+use Rattle.std.proofs.Common.{◌≡◌, ◌∙◌, ◌+◌, ◌≤◌, ◌++◌, ◌∷◌, [], ℕ, List, None, get_or, length, map, sym, ap, arith}
+use Rattle.std.specs.List.{enumerate_from}
+use Rattle.std.proofs.lemmas.List.{take_all}
+use Rattle.std.proofs.lemmas.Option.{get_or_from_slice_get}
+use Rattle.wit_values.specs.facts.Lists.{map-next}
+use Rattle.wit_data.specs.declared.types.TypeDef.{TypeDef}
+use Rattle.wit_graph_theory.specs.facts.PackagesAcyclic.{length-numbered, numbered_into}
+use Rattle.wit_semver_spec.specs.Rewritten.{retargeted}
+use Rattle.wit_semver.proofs.new_entries.retargeted_types.Goals as goal
+
+pub loop-place-preserved : goal.loop-place-preserved
+loop-place-preserved c =
+    let types = c.args.types.now in
+    let targets = c.args.targets.now in
+    let place = c.loop-place.place in
+    let def = c.at.result.now in
+    let f = λ (e : ℕ × TypeDef). retargeted e.1 (get_or targets e.0 None) in
+    let zero_more : 0 + place ≡ place = omega arith in
+    let item : c.in_ok-retargeted.field-0 ≡ f (0 + place, def) =
+    c.in_ok-retargeted.ensures ∙ ap (retargeted def) (sym (get_or_from_slice_get targets place c.at-in-loop-place.result.now None c.at-in-loop-place.ensures))
+    ∙ ap (λ (i : ℕ). retargeted def (get_or targets i None)) (sym zero_more) in
+    c.in_ok-push.ensures.ok ∙ ap (λ (x : TypeDef). c.loop-place.made ++ x ∷ []) item ∙ ap (λ (xs : List TypeDef). xs ++ f (0 + place, def) ∷ []) c.loop-place.invariant
+    ∙ sym (map-next f (enumerate_from 0 types) place (0 + place, def) (numbered_into 0 types place def c.at.ensures))
+
+pub returns : goal.returns
+returns c =
+    let types = c.args.types.now in
+    let long = length-numbered 0 types in
+    let past : length (enumerate_from 0 types) ≤ c.loop-place.place = omega (arith, long, c.loop-place-test.false, c.len-place-end.ensures) in
+    c.loop-place.invariant ∙ ap (map (λ (e : ℕ × TypeDef). retargeted e.1 (get_or c.args.targets.now e.0 None))) (take_all c.loop-place.place (enumerate_from 0 types) past)

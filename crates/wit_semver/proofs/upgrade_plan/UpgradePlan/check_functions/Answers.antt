@@ -1,0 +1,45 @@
+use Rattle.std.proofs.Common.{◌≡◌, ◌∙◌, ◌+◌, ◌<◌, ◌⊎◌, inl, inr, ℕ, List, None, subst, sym, arith}
+use Rattle.std.proofs.lemmas.Bool.{cases_order}
+use Rattle.std.proofs.lemmas.Option.{slice_get_within}
+use Rattle.wit_graph_data.specs.facts.ResultFacts.{residual_error}
+use Rattle.wit_graph_data.specs.declared.cause.Cause.TheVariants as cause
+use Rattle.wit_graph_data.specs.declared.error_kind.ResolveErrorKind.{ResolveErrorKind}
+use Rattle.wit_graph_data.specs.declared.error_kind.ResolveErrorKind.TheVariants.{OutOfMemory, Semantic}
+use Rattle.wit_semver_spec.specs.TrackCause.{Disagrees}
+use Rattle.wit_semver_spec.specs.Upgrade.{Upgrade}
+use Rattle.wit_semver.specs.steps.Replacing.{DisagreesAt, upgrade_of}
+use Rattle.wit_semver.proofs.Used.{disagrees_from, disagrees_into}
+use Rattle.wit_semver.proofs.upgrade_plan.UpgradePlan.check_functions.Goals as goal
+
+abbrev CauseOf : Upgrade → ResolveErrorKind → Type 0
+CauseOf u e = (e ≡ OutOfMemory) ⊎ ((message : List ℕ) × Disagrees u message × (e ≡ Semantic None message cause.UpgradeMismatch))
+
+widened : (u : Upgrade) (f : ℕ) (e : ResolveErrorKind) → (e ≡ OutOfMemory) ⊎ ((message : List ℕ) × DisagreesAt u f message × (e ≡ Semantic None message cause.UpgradeMismatch)) → CauseOf u e
+widened u f e (inl memory) = inl memory
+widened u f e (inr told) = inr (told.0, disagrees_from u f told.0 told.1, told.2)
+
+pub returns-in_err-check_interface-clause-cause : goal.returns-in_err-check_interface-clause-cause
+returns-in_err-check_interface-clause-cause c =
+    let u = upgrade_of c.args.self.now in
+    residual_error c.from_residual.result c.from_residual.ensures.1
+    (λ e is. let same : e ≡ c.in_err-check_interface.field-0.0 = is in subst (CauseOf u) (sym same) (widened u c.from_index.result c.in_err-check_interface.field-0.0 c.in_err-check_interface.ensures.cause))
+
+pub loop-place-preserved : goal.loop-place-preserved
+loop-place-preserved c f below message differ = elim (cases_order f c.loop-place.place) [
+  | inl same ↦ c.in_ok-check_interface.ensures.agree message (subst (λ (i : ℕ). DisagreesAt (upgrade_of c.args.self.now) i message) (same ∙ sym c.from_index.ensures) differ)
+  | inr order ↦ elim order [
+    | inl less ↦ c.loop-place.invariant f less message differ
+    | inr more ↦ absurd (apart f c.loop-place.place below more)
+  ]
+]
+  where
+    apart : (f place : ℕ) → f < place + 1 → place < f → ⊥
+    apart f place below more = omega (arith, below, more)
+
+pub returns-clause-agree : goal.returns-clause-agree
+returns-clause-agree c message differ =
+    let interfaces = c.args.self.now.graph.now.interfaces in
+    let within = slice_get_within interfaces differ.f differ.old differ.old_is in
+    let long = c.requires.ready.0 in
+    let less : differ.f < c.loop-place.place = omega (arith, within, long, c.loop-place-test.false, c.len-place-end.ensures) in
+    c.loop-place.invariant differ.f less message (disagrees_into (upgrade_of c.args.self.now) message differ)

@@ -1,5 +1,0 @@
-use Rattle.wit_transform.proofs.TurnExamples.{examples_of_refused_turns}
-use Rattle.wit_transform.proofs.laws.examples_of_refused_turns.Goals as goal
-
-pub returns : goal.returns
-returns c = examples_of_refused_turns

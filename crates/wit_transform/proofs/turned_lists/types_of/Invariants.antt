@@ -1,7 +1,0 @@
-use Rattle.std.proofs.Common.{◌≡◌, take}
-use Rattle.wit_transform.specs.Turned.{type_entries}
-use Rattle.wit_transform.proofs.turned_lists.types_of.Given as goal
-
--- the types so far
-abbrev pub invariant-loop-index : goal.invariant-loop-index
-invariant-loop-index l = l.types ≡ type_entries (take l.index l.entries)

@@ -1,0 +1,186 @@
+//! The lists of a transformed world, before they are elaborated.
+ghost use Rattle.std.specs.Prelude.{◌≡◌, ◌++◌, ◌∷◌, ◌⊎◌, [], false, true, IfErr, IfNone, IfOk, IfSome, None, OnOk, Contains, List, ℕ, length, not, if◌then◌else◌};
+ghost use Rattle.std.specs.Map.{keys_of, lookup};
+ghost use Rattle.wit_data.specs.contracts.world.WorldKeyPartialEq.TheImpl.{eq-value};
+ghost use Rattle.wit_graph_data.specs.declared.cause.Cause.TheVariants as cause;
+ghost use Rattle.wit_graph_data.specs.declared.error_kind.ResolveErrorKind.TheVariants.{OutOfMemory, Semantic};
+ghost use Rattle.wit_data.specs.declared.world.WorldKey.{WorldKey};
+ghost use Rattle.wit_data.specs.declared.world.WorldKey.TheVariants as key;
+ghost use Rattle.wit_transform.specs.TransformCause.{HasClash, HasTypeAt, label_clash_text, type_exported_text};
+ghost use Rattle.wit_transform.specs.Transformed.{AreUnderLabels, entries_by_answer, is_type, type_entries};
+
+use crate::refusal::{label_clash, type_exported};
+use std::alloc::{AllocError, Global};
+use wit_data::{Items, Table, Text, World, WorldItem, WorldKey};
+use wit_elaboration::Lists;
+use wit_graph_data::ResolveResult;
+use wit_values::try_clone_two;
+
+/// Whether an item is a type.
+fn holds_type(item: &WorldItem) -> bool
+    ensures { result ≡ is_type item.now }
+{
+    match item {
+        WorldItem::Interface { .. } => false,
+        WorldItem::Function(_) => false,
+        WorldItem::Type_ { .. } => true,
+    }
+}
+
+/// Adds a copy of an entry at the end, whose key is new.
+fn push_copy(
+    entries: &mut Table<WorldKey, WorldItem>,
+    key: &WorldKey,
+    item: &WorldItem,
+) -> Result<(), AllocError>
+    requires { lookup (eq-value.it key.now) entries.old ≡ None }
+    ensures { OnOk result (entries.new ≡ entries.old ++ (key.now, item.now) ∷ []) }
+{
+    let (key, item) = try_clone_two(key, item)?;
+    entries.push(key, item)
+}
+
+/// Copies of the types among some entries.
+fn types_of(
+    alloc: Global,
+    entries: &Table<WorldKey, WorldItem>,
+) -> Result<Table<WorldKey, WorldItem>, AllocError>
+    ensures { IfOk result (λ types. types ≡ type_entries entries.now) }
+{
+    let mut types = Table::new(alloc);
+    for index in 0..entries.len() {
+        let (key, item) = entries.entry_at(index);
+        if holds_type(item) {
+            push_copy(&mut types, key, item)?;
+        }
+    }
+    Ok(types)
+}
+
+/// The first label of some exports that other entries have too.
+fn common_label<'a>(
+    entries: &Table<WorldKey, WorldItem>,
+    exports: &'a Table<WorldKey, WorldItem>,
+) -> Option<&'a Text>
+    ensures some { IfSome result (λ label. Contains (keys_of exports.now) (key.Name label.now) × Contains (keys_of entries.now) (key.Name label.now)) }
+    ensures none { IfNone result ((label : List ℕ) → Contains (keys_of exports.now) (key.Name label) → Contains (keys_of entries.now) (key.Name label) → ⊥) }
+{
+    for index in 0..exports.len() {
+        let (key, _) = exports.entry_at(index);
+        match key {
+            WorldKey::Name(label) => {
+                if entries.contains_key(key) {
+                    return Some(label);
+                }
+            }
+            WorldKey::Interface(_) => {}
+        }
+    }
+    None
+}
+
+/// Adds copies of entries at the end, whose keys are new.
+fn add_copies(
+    entries: &mut Table<WorldKey, WorldItem>,
+    more: &Table<WorldKey, WorldItem>,
+) -> Result<(), AllocError>
+    requires { (k : WorldKey) → Contains (keys_of more.now) k → Contains (keys_of entries.old) k → ⊥ }
+    ensures { OnOk result (entries.new ≡ entries.old ++ more.now) }
+{
+    for index in 0..more.len() {
+        let (key, item) = more.entry_at(index);
+        push_copy(entries, key, item)?;
+    }
+    Ok(())
+}
+
+/// The lists of a world whose exports become its imports. Refused where an export has the label of a
+/// type import (19).
+pub(crate) fn importized_lists(alloc: Global, world: &World) -> ResolveResult<Lists>
+    requires { AreUnderLabels (type_entries world.now.imports) }
+    ensures imports { IfOk result (λ lists. lists.imports ≡ type_entries world.now.imports ++ world.now.exports) }
+    ensures exports { IfOk result (λ lists. lists.exports ≡ []) }
+    ensures no_clash { OnOk result ((label : List ℕ) → HasClash world.now label → ⊥) }
+    ensures cause { IfErr result (λ e. (e ≡ OutOfMemory) ⊎ ((label : List ℕ) × HasClash world.now label × (e ≡ Semantic None (label_clash_text label) cause.LabelClash))) }
+{
+    let mut imports = types_of(alloc, &world.imports)?;
+    match common_label(&imports, &world.exports) {
+        Some(label) => Err(label_clash(alloc, label)?),
+        None => {
+            add_copies(&mut imports, &world.exports)?;
+            Ok(Lists {
+                imports,
+                exports: Table::new(alloc),
+            })
+        }
+    }
+}
+
+/// Whether what was given is an answer.
+fn is_answer(answer: bool, given: bool) -> bool
+    ensures { result ≡ (if answer then given else not given) }
+{
+    if answer { given } else { !given }
+}
+
+/// Copies of the entries for which this was answered.
+fn with_answer(
+    alloc: Global,
+    entries: &Table<WorldKey, WorldItem>,
+    answers: &Items<bool>,
+    answer: bool,
+) -> Result<Table<WorldKey, WorldItem>, AllocError>
+    requires { length answers.now ≡ length entries.now }
+    ensures { IfOk result (λ table. table ≡ entries_by_answer answer entries.now answers.now) }
+{
+    let mut table = Table::new(alloc);
+    for index in 0..entries.len() {
+        let (key, item) = entries.entry_at(index);
+        if is_answer(answer, *answers.at(index)) {
+            push_copy(&mut table, key, item)?;
+        }
+    }
+    Ok(table)
+}
+
+/// The first label under which some entries have a type.
+fn type_label(entries: &Table<WorldKey, WorldItem>) -> Option<&Text>
+    ensures some { IfSome result (λ label. HasTypeAt entries.now label.now) }
+    ensures none { IfNone result ((label : List ℕ) → HasTypeAt entries.now label → ⊥) }
+{
+    for index in 0..entries.len() {
+        let (key, item) = entries.entry_at(index);
+        match key {
+            WorldKey::Name(label) => {
+                if holds_type(item) {
+                    return Some(label);
+                }
+            }
+            WorldKey::Interface(_) => {}
+        }
+    }
+    None
+}
+
+/// The lists of a world whose imports become its exports where true was answered. Refused where a type
+/// would be exported (21).
+pub(crate) fn exportized_lists(
+    alloc: Global,
+    world: &World,
+    answers: &Items<bool>,
+) -> ResolveResult<Lists>
+    requires { length answers.now ≡ length world.now.imports }
+    ensures imports { IfOk result (λ lists. lists.imports ≡ entries_by_answer false world.now.imports answers.now) }
+    ensures exports { IfOk result (λ lists. lists.exports ≡ entries_by_answer true world.now.imports answers.now) }
+    ensures no_type { OnOk result ((label : List ℕ) → HasTypeAt (entries_by_answer true world.now.imports answers.now) label → ⊥) }
+    ensures cause { IfErr result (λ e. (e ≡ OutOfMemory) ⊎ ((label : List ℕ) × HasTypeAt (entries_by_answer true world.now.imports answers.now) label × (e ≡ Semantic None (type_exported_text label) cause.TypeExported))) }
+{
+    let exports = with_answer(alloc, &world.imports, answers, true)?;
+    match type_label(&exports) {
+        Some(label) => Err(type_exported(alloc, label)?),
+        None => {
+            let imports = with_answer(alloc, &world.imports, answers, false)?;
+            Ok(Lists { imports, exports })
+        }
+    }
+}

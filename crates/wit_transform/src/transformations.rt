@@ -1,0 +1,269 @@
+//! Turning a world of a graph.
+//!
+//! Everything is made aside, from the graph as it is, and put in its place at the end: the transformed world
+//! and the table of its package. All else stays.
+ghost use Rattle.std.specs.Prelude.{◌≡◌, ◌⊎◌, ◌<◌, Bool, IfErr, IfOk, IfSome, IsSome, List, OnErr, OnOk, Some, length, slice_get, string_bytes};
+ghost use Rattle.std.specs.Option.{option_map};
+ghost use Rattle.wit_elaboration.specs.Elaborated.{elaborated_exports, elaborated_imports};
+ghost use Rattle.wit_elaboration.specs.Elaboration.{IsConflictError, graph_uses};
+ghost use Rattle.wit_elaboration.specs.Imported.{HasConflict};
+ghost use Rattle.wit_elaboration.specs.Sound.{HasSoundEntries};
+ghost use Rattle.wit_elaboration.specs.Valid.{IsValid};
+ghost use Rattle.wit_graph_data.specs.declared.error_kind.ResolveErrorKind.{ResolveErrorKind};
+ghost use Rattle.wit_graph_data.specs.declared.error_kind.ResolveErrorKind.TheVariants.{OutOfMemory};
+ghost use Rattle.wit_data.specs.declared.world.World.{World};
+ghost use Rattle.wit_digraph.specs.Relation.{IsAcyclic};
+ghost use Rattle.wit_transform.specs.TransformCause.{AreAnswers, Exportizes, ExportsAreInConflict, HasNameTakenAt, HasPackageAt, IsExportizeCause, IsImportizeCause, MayAnswer, MayGive, NameIsFreeAt, RefusesExportize, imports_at};
+ghost use Rattle.wit_transform.specs.Transformed.{exportized, importized, listed_world, new_name, transformed, with_world};
+
+use crate::laws::{exportized_stay_valid, importized_stay_valid};
+use crate::refusal::name_taken;
+use crate::renaming::{is_taken, renamed, with_last};
+use crate::new_lists::{exportized_lists, importized_lists};
+use std::alloc::{AllocError, Global};
+use wit_data::{Items, Names, PackageId, Table, Text, World, WorldId, WorldItem, WorldKey};
+use wit_elaboration::{Elaborator, Lists};
+use wit_graph_data::{Graph, ResolveResult};
+use wit_values::try_clone_three;
+
+/// The package of a world.
+fn home_of(world: &World) -> PackageId
+    requires { IsSome world.now.package }
+    ensures { world.now.package ≡ Some result }
+{
+    match world.package {
+        Some(home) => home,
+        None => unreachable!(),
+    }
+}
+
+/// The new name of a world, which no other world of its package has. Refused where one has it (20).
+fn free_name(
+    alloc: Global,
+    graph: &Graph,
+    world: WorldId,
+    out: Option<String>,
+    suffix: &str,
+) -> ResolveResult<Text>
+    requires world { HasPackageAt graph.now world }
+    ensures ok { IfOk result (λ name. (current : World) × (slice_get graph.now.worlds world ≡ Some current) × (name ≡ new_name suffix.now (option_map string_bytes out) current.name)) }
+    ensures free { IfOk result (λ name. NameIsFreeAt graph.now world name) }
+    ensures cause { IfErr result (λ e. (e ≡ OutOfMemory) ⊎ HasNameTakenAt graph.now world suffix.now (option_map string_bytes out) e) }
+{
+    let current = graph.worlds.at(world.index());
+    let home = graph.packages.at(home_of(current).index());
+    let name = renamed(alloc, &current.name, out, suffix)?;
+    if is_taken(home, world, name.as_str()) {
+        return Err(name_taken(alloc, &name, home)?);
+    }
+    Ok(name)
+}
+
+/// A world of these lists, of which the rest is as of another.
+fn with_lists(world: &World, name: Text, lists: Lists) -> Result<World, AllocError>
+    ensures { IfOk result (λ new. new ≡ listed_world world.now (record { name = name; imports = lists.imports; exports = lists.exports })) }
+{
+    let (docs, stability, includes) = try_clone_three(
+        &world.docs,
+        &world.stability,
+        &world.includes,
+    )?;
+    Ok(World {
+        name,
+        imports: lists.imports,
+        exports: lists.exports,
+        docs,
+        stability,
+        package: world.package,
+        includes,
+        span: world.span,
+    })
+}
+
+/// The elaboration of a world over the types and interfaces of a graph.
+fn elaborated(alloc: Global, graph: &Graph, world: World) -> ResolveResult<World>
+    requires acyclic { IsAcyclic (graph_uses graph.now) }
+    requires listed { HasSoundEntries graph.now.types (length graph.now.interfaces) world.imports world.exports }
+    ensures ok { IfOk result (λ new. new ≡ record world { imports = elaborated_imports graph.now.types (graph_uses graph.now) world.imports world.exports; exports = elaborated_exports graph.now.types (graph_uses graph.now) world.exports }) }
+    ensures no_conflict { OnOk result (HasConflict (graph_uses graph.now) world.exports → ⊥) }
+    ensures cause { IfErr result (IsConflictError graph.now world) }
+{
+    let mut world = world;
+    let types = graph.types.as_slice();
+    let interfaces = graph.interfaces.as_slice();
+    let mut elaborator = Elaborator::new(alloc, types, interfaces)?;
+    let lists = elaborator.lists_for(alloc, graph, &world)?;
+    world.imports = lists.imports;
+    world.exports = lists.exports;
+    Ok(world)
+}
+
+/// Puts a world in the place of another, and a table of worlds in that of its package.
+fn put(graph: &mut Graph, world: WorldId, transformed: World, home: PackageId, table: Names<WorldId>)
+    requires world { world < length graph.old.worlds }
+    requires home { home < length graph.old.packages }
+    ensures { graph.new ≡ with_world graph.old world transformed home table }
+{
+    graph.worlds.set(world.index(), transformed);
+    let home = graph.packages.at_mut(home.index());
+    home.worlds = table;
+}
+
+/// Turns a world, whose new name is free and whose lists are in order. Refused for a conflict of the
+/// exports (4).
+fn transform(
+    alloc: Global,
+    graph: &mut Graph,
+    world: WorldId,
+    name: Text,
+    lists: Lists,
+) -> ResolveResult<()>
+    requires world { HasPackageAt graph.old world }
+    requires acyclic { IsAcyclic (graph_uses graph.old) }
+    requires listed { HasSoundEntries graph.old.types (length graph.old.interfaces) lists.imports lists.exports }
+    requires free { NameIsFreeAt graph.old world name }
+    ensures ok { OnOk result (graph.new ≡ transformed graph.old world (λ _. record { name = name; imports = lists.imports; exports = lists.exports })) }
+    ensures no_conflict { OnOk result (HasConflict (graph_uses graph.old) lists.exports → ⊥) }
+    ensures err { OnErr result (graph.new ≡ graph.old) }
+    ensures cause { IfErr result (λ e. (e ≡ OutOfMemory) ⊎ ExportsAreInConflict graph.old world lists.exports e) }
+{
+    let current = graph.worlds.at(world.index());
+    let home = home_of(current);
+    let listed = with_lists(current, name, lists)?;
+    let transformed = elaborated(alloc, graph, listed)?;
+    let table = with_last(alloc, graph.packages.at(home.index()), world, &transformed.name)?;
+    put(graph, world, transformed, home, table);
+    Ok(())
+}
+
+/// Turns a world of a valid graph into one that imports what it exported: of its imports the types
+/// alone stay, its exports stand behind them, and they are elaborated. It is then the last world of its
+/// package, under the given name, or under its own with `-importized` behind it. The graph stays valid.
+///
+/// Refused where an export has the label of a type import (19), where the new name is another world's
+/// of the package (20), and for memory (28); the graph is as before then.
+///
+/// Source: `importize` of wit-parser 0.263.0.
+pub fn importize(
+    alloc: Global,
+    graph: &mut Graph,
+    world: WorldId,
+    out: Option<String>,
+) -> ResolveResult<()>
+    requires valid { IsValid graph.old }
+    requires world { world < length graph.old.worlds }
+    ensures ok { OnOk result (graph.new ≡ transformed graph.old world (importized (option_map string_bytes out))) }
+    ensures valid { IsValid graph.new }
+    ensures err { OnErr result (graph.new ≡ graph.old) }
+    ensures cause { IfErr result (λ e. (e ≡ OutOfMemory) ⊎ IsImportizeCause graph.old world (option_map string_bytes out) e) }
+    ensures refuses { (e : ResolveErrorKind) → IsImportizeCause graph.old world (option_map string_bytes out) e → OnOk result ⊥ }
+{
+    importized_stay_valid();
+    let name = free_name(alloc, graph, world, out, "-importized")?;
+    let lists = importized_lists(alloc, graph.worlds.at(world.index()))?;
+    transform(alloc, graph, world, name, lists)?;
+    Ok(())
+}
+
+/// What a filter answers of an import.
+fn answer<F: Fn(&WorldKey, &WorldItem) -> bool>(
+    filter: &F,
+    key: &WorldKey,
+    item: &WorldItem,
+) -> bool
+    requires { F.IsAlwaysCallable filter.now }
+    ensures { MayGive F.Fn filter.now (key.now, item.now) result }
+{
+    filter(key, item)
+}
+
+/// The same, and true without a filter.
+fn answer_of<F: Fn(&WorldKey, &WorldItem) -> bool>(
+    filter: &Option<F>,
+    key: &WorldKey,
+    item: &WorldItem,
+) -> bool
+    requires { IfSome filter.now (λ f. F.IsAlwaysCallable f) }
+    ensures { MayAnswer F.Fn filter.now (key.now, item.now) result }
+{
+    match filter {
+        Some(filter) => answer(filter, key, item),
+        None => true,
+    }
+}
+
+/// What a filter answers of each import, in order; true without a filter.
+fn answers_of<F: Fn(&WorldKey, &WorldItem) -> bool>(
+    alloc: Global,
+    imports: &Table<WorldKey, WorldItem>,
+    filter: &Option<F>,
+) -> Result<Items<bool>, AllocError>
+    requires { IfSome filter.now (λ f. F.IsAlwaysCallable f) }
+    ensures { IfOk result (AreAnswers F.Fn filter.now imports.now) }
+{
+    let mut answers = Items::new(alloc);
+    for index in 0..imports.len() {
+        let (key, item) = imports.entry_at(index);
+        answers.push(answer_of(filter, key, item))?;
+    }
+    Ok(answers)
+}
+
+/// As `exportize`, with the answers of a filter: one for each import, in order. The refusals are those
+/// of `exportize`; the graph is as before then.
+///
+/// Source: `exportize` of wit-parser 0.263.0.
+pub fn exportize_answered(
+    alloc: Global,
+    graph: &mut Graph,
+    world: WorldId,
+    out: Option<String>,
+    answers: &Items<bool>,
+) -> ResolveResult<()>
+    requires valid { IsValid graph.old }
+    requires world { world < length graph.old.worlds }
+    requires answers { length answers.now ≡ length (imports_at graph.old world) }
+    ensures ok { OnOk result (graph.new ≡ transformed graph.old world (exportized answers.now (option_map string_bytes out))) }
+    ensures valid { IsValid graph.new }
+    ensures err { OnErr result (graph.new ≡ graph.old) }
+    ensures cause { IfErr result (λ e. (e ≡ OutOfMemory) ⊎ IsExportizeCause graph.old world answers.now (option_map string_bytes out) e) }
+    ensures refuses { (e : ResolveErrorKind) → IsExportizeCause graph.old world answers.now (option_map string_bytes out) e → OnOk result ⊥ }
+{
+    exportized_stay_valid();
+    let name = free_name(alloc, graph, world, out, "-exportized")?;
+    let lists = exportized_lists(alloc, graph.worlds.at(world.index()), answers)?;
+    transform(alloc, graph, world, name, lists)?;
+    Ok(())
+}
+
+/// Turns a world of a valid graph into one that exports what it imported: the exports are dropped, the
+/// imports for which the filter answers true become the exports (all without a filter), and both lists
+/// are elaborated. The filter can always be called, and is asked once for each import, in order. The
+/// world is then the last of its package, under the given name, or under its own with `-exportized`
+/// behind it. The graph stays valid.
+///
+/// Refused where the exports are in conflict (4), where the new name is another world's of the package
+/// (20), where a type would be exported (21), and for memory (28); the graph is as before then.
+///
+/// Source: `exportize` of wit-parser 0.263.0.
+pub fn exportize<F: Fn(&WorldKey, &WorldItem) -> bool + Drop>(
+    alloc: Global,
+    graph: &mut Graph,
+    world: WorldId,
+    out: Option<String>,
+    filter: Option<F>,
+) -> ResolveResult<()>
+    requires valid { IsValid graph.old }
+    requires world { world < length graph.old.worlds }
+    requires filter { IfSome filter (λ f. F.IsAlwaysCallable f) }
+    ensures ok { OnOk result (Exportizes F.Fn filter graph.old world (option_map string_bytes out) graph.new) }
+    ensures valid { IsValid graph.new }
+    ensures err { OnErr result (graph.new ≡ graph.old) }
+    ensures cause { IfErr result (λ e. (e ≡ OutOfMemory) ⊎ RefusesExportize F.Fn filter graph.old world (option_map string_bytes out) e) }
+    ensures refuses { ((answers : List Bool) → AreAnswers F.Fn filter (imports_at graph.old world) answers → (e : ResolveErrorKind) × IsExportizeCause graph.old world answers (option_map string_bytes out) e) → OnOk result ⊥ }
+{
+    let answers = answers_of(alloc, &graph.worlds.at(world.index()).imports, &filter)?;
+    drop(filter);
+    exportize_answered(alloc, graph, world, out, &answers)?;
+    Ok(())
+}

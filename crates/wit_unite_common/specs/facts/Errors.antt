@@ -1,0 +1,25 @@
+-- The errors that tell of what is on a cycle.
+use Rattle.std.specs.Prelude.{◌≡◌, ℕ, List, None, Some, slice_get, Contains}
+use Rattle.wit_data.specs.declared.types.TypeDef.{TypeDef}
+use Rattle.wit_graph_data.specs.IdText.{interface_id_at}
+use Rattle.wit_graph_data.specs.declared.cause.Cause.TheVariants as cause
+use Rattle.wit_graph_data.specs.declared.error_kind.ResolveErrorKind.{ResolveErrorKind}
+use Rattle.wit_graph_data.specs.declared.error_kind.ResolveErrorKind.TheVariants.{Semantic}
+use Rattle.wit_graph_data.specs.declared.graph.Graph.{Graph}
+use Rattle.wit_graph_theory.specs.AllElaborated.{interface_cycle_text, type_cycle_text}
+
+-- this interface uses itself
+pub record IsInterfaceCycleError (g : Graph) (interface : ℕ) (error : ResolveErrorKind) : Type 0 where
+  pub id : List ℕ
+  pub id_is : interface_id_at g.packages g.interfaces interface ≡ Some id
+  pub error_is : error ≡ Semantic None (interface_cycle_text id) cause.InterfaceCycle
+
+-- one of these types, which has a name, refers to itself
+pub record IsTypeCycleError (types : List TypeDef) (ids : List ℕ) (error : ResolveErrorKind) : Type 0 where
+  pub id : ℕ
+  pub def : TypeDef
+  pub name : List ℕ
+  pub among : Contains ids id
+  pub is : slice_get types id ≡ Some def
+  pub name_is : def.name ≡ Some name
+  pub error_is : error ≡ Semantic None (type_cycle_text name) cause.TypeCycle
