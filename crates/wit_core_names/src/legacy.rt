@@ -10,8 +10,8 @@ ghost use Rattle.wit_digraph.specs.Relation.{IsAcyclic};
 use crate::export::{WasmExport, WasmExportKind};
 use crate::import::WasmImport;
 use crate::parts::{
-    async_prefix, export_prefix, exported_prefix, future_word, import_prefix, is_export_intrinsic,
-    future_index_text, resource_mark, resource_name, stream_word,
+    async_prefix, export_prefix, exported_prefix, future_index_text, future_word, import_prefix,
+    is_export_intrinsic, resource_mark, resource_name, stream_word,
 };
 use std::alloc::Global;
 use wit_data::{Function, LiftLowerAbi, TypeId, WorldKey};

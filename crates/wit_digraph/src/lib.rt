@@ -10,12 +10,12 @@ mod arrange;
 mod cycle;
 mod frame;
 pub mod laws;
+mod post_order;
 mod relation;
 mod row;
-mod post_order;
 
 pub use crate::arrange::in_order;
 pub use crate::cycle::{CycleUse, find_cycle, is_acyclic};
+pub use crate::post_order::{Listing, post_order_of_roots};
 pub use crate::relation::{direct_uses, is_in_range};
 pub use crate::row::{has_bit, set_bit};
-pub use crate::post_order::{Listing, post_order_of_roots};

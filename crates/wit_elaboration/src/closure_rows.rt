@@ -15,7 +15,7 @@ use crate::role::item_interface;
 use crate::rows::{meets, or_into};
 use std::alloc::{AllocError, Global};
 use wit_data::{WorldItem, WorldKey};
-use wit_digraph::{Listing, direct_uses, has_bit, set_bit, post_order_of_roots};
+use wit_digraph::{Listing, direct_uses, has_bit, post_order_of_roots, set_bit};
 use wit_values::{Items, Table};
 
 /// How many columns a row has.

@@ -10,7 +10,7 @@ ghost use Rattle.wit_elaboration.specs.Imported.{exported_interfaces};
 ghost use Rattle.wit_digraph.specs.Relation.{IsAcyclic};
 
 use crate::entries::{InheritedData, Lists, add_copy, add_dependencies, export_data};
-use crate::imports::{order_from, list_needs};
+use crate::imports::{list_needs, order_from};
 use crate::role::{Role, item_interface};
 use std::alloc::{AllocError, Global};
 use wit_data::{InterfaceId, WorldItem, WorldKey};

@@ -5,7 +5,7 @@ use std::fmt::Write;
 use std::process::Abort;
 use wit_data::{Id, Items, TryClone};
 use wit_graph_data::Graph;
-use wit_merge_match::{MergeRemap, Matches, find_matches, find_remap};
+use wit_merge_match::{Matches, MergeRemap, find_matches, find_remap};
 use wit_validity::is_valid;
 
 /// Of each package, world, interface and type of the graph with this change the place of that of the valid graph with

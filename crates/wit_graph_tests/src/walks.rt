@@ -22,7 +22,9 @@ fn orders(rt: &impl Abort, alloc: Global) -> String {
     assert_eq!(rt; uses.len(), 4);
     let both = post_order_of_roots(alloc, &uses, &[2, 3]).expect(rt, "memory");
     let mut listing = Listing::new(alloc, uses.len()).expect(rt, "memory");
-    listing.list_post_order(alloc, &uses, 3).expect(rt, "memory");
+    listing
+        .list_post_order(alloc, &uses, 3)
+        .expect(rt, "memory");
     let one = listing.order();
     format!(in alloc; "{both:?} {one:?}").expect(rt, "memory")
 }

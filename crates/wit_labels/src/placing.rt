@@ -110,7 +110,10 @@ fn after(place: usize, found: Option<usize>) -> Option<usize>
 }
 
 /// The places with each setter after its getter.
-fn order_after_getters(alloc: Global, getters: &Items<Option<usize>>) -> Result<Items<usize>, AllocError>
+fn order_after_getters(
+    alloc: Global,
+    getters: &Items<Option<usize>>,
+) -> Result<Items<usize>, AllocError>
     requires { (s g : ℕ) → slice_get getters.now s ≡ Some (Some g) → g < length getters.now }
     ensures { IfOk result (λ order. order ≡ order_after_getters getters.now) }
 {

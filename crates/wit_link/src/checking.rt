@@ -65,7 +65,11 @@ fn checked_activity(alloc: Global, adding: &AdditionRef<'_>) -> ResolveResult<Ac
 /// Refuses a package that names what isn't there (1 to 3 and 13), where a type has to be a resource that is none (14)
 /// or a result holds a borrow (15), else answers what its things are remapped to.
 #[tactic(auto, using(crate::proofs::Checks::passed_image))]
-fn checked_places(alloc: Global, adding: &AdditionRef<'_>, activity: &Activity) -> ResolveResult<NewIds>
+fn checked_places(
+    alloc: Global,
+    adding: &AdditionRef<'_>,
+    activity: &Activity,
+) -> ResolveResult<NewIds>
     requires shaped { IsShaped adding.now.unresolved.now }
     requires valid { IsValid adding.now.graph.now }
     requires activity { activity.now ≡ activity_of (addition_of adding.now) }

@@ -27,7 +27,11 @@ pub fn activity(alloc: Global, adding: &AdditionRef<'_>) -> Result<Activity, All
     ensures { IfOk result (λ activity. activity ≡ activity_of (addition_of adding.now)) }
 {
     let mut activity = own_activity(alloc, adding.features, adding.unresolved)?;
-    mark_packages(adding.features, &adding.unresolved.foreign_deps, &mut activity);
+    mark_packages(
+        adding.features,
+        &adding.unresolved.foreign_deps,
+        &mut activity,
+    );
     Ok(activity)
 }
 

@@ -2,12 +2,12 @@
 //! out.
 #![tactic(auto)]
 
+mod active_parts;
 mod checker;
 mod needs;
 mod references;
-mod active_parts;
 mod versions;
 
-pub use crate::references::check_references;
 pub use crate::active_parts::activity;
+pub use crate::references::check_references;
 pub use crate::versions::check_versions;

@@ -38,7 +38,11 @@ use wit_link_spec::{Activity, AdditionRef};
 /// 4294967295, so the caller looks at the spans first.
 ///
 /// Source: `include_stability` of wit-parser 0.263.0; WIT.md of the component model.
-pub fn check_versions(alloc: Global, adding: &AdditionRef<'_>, activity: &Activity) -> ResolveResult<()>
+pub fn check_versions(
+    alloc: Global,
+    adding: &AdditionRef<'_>,
+    activity: &Activity,
+) -> ResolveResult<()>
     requires shaped { IsShaped adding.now.unresolved.now }
     requires activity { activity.now ≡ activity_of (addition_of adding.now) }
     ensures met { OnOk result (GatesAreMet (addition_of adding.now)) }

@@ -12,8 +12,8 @@ ghost use Rattle.wit_graph_theory.specs.Image.{interface_image, type_image};
 ghost use Rattle.wit_remap.specs.Grown.{Grown};
 ghost use Rattle.wit_link_include.specs.steps.Copied.{IsOrigin, NamesThere, StayApart, maps_of, numbered, places, with_images};
 
-use crate::copies::Copies;
 use crate::belonging::belonging_interfaces;
+use crate::copies::Copies;
 use crate::leading::{leading, those_leading};
 use crate::mentions::named_types;
 use crate::numbering::{in_order, numbered};

@@ -6,10 +6,10 @@
 #![tactic(auto)]
 
 mod adding;
+mod belonging;
 mod copies;
 mod finishing;
 mod fresh_copies;
-mod belonging;
 mod including;
 mod joining;
 mod labels;

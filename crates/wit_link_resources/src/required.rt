@@ -24,7 +24,11 @@ use wit_values::Table;
 /// name.
 ///
 /// Source: `process_foreign_deps` of wit-parser 0.263.0.
-pub fn check_resources(alloc: Global, adding: &AdditionRef<'_>, places: &NewIds) -> ResolveResult<()>
+pub fn check_resources(
+    alloc: Global,
+    adding: &AdditionRef<'_>,
+    places: &NewIds,
+) -> ResolveResult<()>
     requires shaped { IsShaped adding.now.unresolved.now }
     requires valid { IsValid adding.now.graph.now }
     requires places { places.now ≡ new_ids_of (addition_of adding.now) }

@@ -3,6 +3,7 @@
 
 mod agreement;
 mod asked;
+mod counterparts;
 mod functions;
 mod interfaces;
 mod joined;
@@ -10,7 +11,6 @@ mod leading;
 mod names;
 mod owning;
 mod packages;
-mod counterparts;
 mod parts;
 mod results;
 mod stabilities;

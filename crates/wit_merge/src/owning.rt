@@ -17,7 +17,7 @@ use wit_data::{Items, TypeId};
 use wit_graph_data::Graph;
 use wit_link_resources::{own_of, type_place};
 use wit_link_spec::Values;
-use wit_merge_match::{MergeRemap, Matches};
+use wit_merge_match::{Matches, MergeRemap};
 
 /// What types are remapped to at value positions, and the `own`s that come for that. The offset by which spans move is for the
 /// contract alone.

@@ -56,7 +56,11 @@ impl Part for Package {
 }
 
 /// Adds the interfaces and worlds of a package of the other graph that move.
-fn push_tables(uniting: &UnionPlan<'_>, into: &mut Package, from: &Package) -> Result<(), AllocError>
+fn push_tables(
+    uniting: &UnionPlan<'_>,
+    into: &mut Package,
+    from: &Package,
+) -> Result<(), AllocError>
     requires interfaces { HasDistinctKeys (into.old.interfaces ++ moved_names uniting.now.matches.now.interfaces uniting.now.merge_remap.now.places.interfaces from.now.interfaces) }
     requires worlds { HasDistinctKeys (into.old.worlds ++ moved_names uniting.now.matches.now.worlds uniting.now.merge_remap.now.places.worlds from.now.worlds) }
     ensures { OnOk result (into.new ≡ record into.old {

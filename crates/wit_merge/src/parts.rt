@@ -8,8 +8,8 @@ ghost use Rattle.wit_merge_spec.specs.Matches.{GraphMerge, counterpart_of};
 ghost use Rattle.wit_merge.specs.steps.Counterparts.{placed_at};
 ghost use Rattle.wit_merge.specs.steps.UnionSteps.{CanUnite, merging_of};
 
-use crate::names::moves;
 use crate::counterparts::counterparts;
+use crate::names::moves;
 use crate::union_plan::UnionPlan;
 use std::alloc::{AllocError, Global};
 use wit_data::{Id, Items, TryClone};
@@ -29,7 +29,12 @@ pub(crate) trait Part: TryClone + Drop {
     ghost union: { GraphMerge → ℕ × Self → Self → Self };
 
     /// A copy as it comes to be where it goes; it stands at a place of the other graph.
-    fn moved(&self, alloc: Global, uniting: &UnionPlan<'_>, place: usize) -> Result<Self, AllocError>
+    fn moved(
+        &self,
+        alloc: Global,
+        uniting: &UnionPlan<'_>,
+        place: usize,
+    ) -> Result<Self, AllocError>
         requires ready { CanUnite uniting.now }
         requires can { can_move (merging_of uniting.now) (place, self.now) }
         ensures { IfOk result (λ made. made ≡ image (merging_of uniting.now) (place, self.now)) };

@@ -5,7 +5,7 @@ ghost use Rattle.wit_merge.specs.steps.UnionSteps.{CanUnite, merging_of};
 
 use wit_data::{Items, PackageId, TypeId};
 use wit_graph_data::Graph;
-use wit_merge_match::{MergeRemap, Matches};
+use wit_merge_match::{Matches, MergeRemap};
 use wit_remap::Mover;
 
 /// Two graphs that become one: what is matched of them, and where the things of the other one go.

@@ -14,16 +14,16 @@ ghost use Rattle.wit_merge.specs.facts.Agreeing.{DoAgree};
 ghost use Rattle.wit_merge.specs.Remapped.{remap_of};
 
 use crate::agreement::check_agreement;
+use crate::counterparts::counterparts;
 use crate::joined::joined_graph;
 use crate::owning::values;
-use crate::counterparts::counterparts;
 use crate::results::check_results;
 use crate::union_plan::UnionPlan;
 use std::alloc::Global;
 use wit_graph_data::{Graph, ResolveResult};
 use wit_link_spec::{NewIds, Values};
 use wit_merge_laws::laws::unions_stay_valid;
-use wit_merge_match::{MergeRemap, Matches, find_matches, find_remap};
+use wit_merge_match::{Matches, MergeRemap, find_matches, find_remap};
 use wit_remap::Remap;
 use wit_unite_common::check_and_elaborate;
 

@@ -3,21 +3,21 @@
 //! that would pass the last position.
 #![tactic(auto)]
 
-mod matched_graphs;
 mod entries;
-mod merge_remap;
+mod matched_graphs;
 mod matches;
+mod merge_remap;
 mod messages;
 mod mismatch;
 mod spans;
-mod world_labels;
 mod stabilities;
 mod structures;
 mod tables;
 mod types;
+mod world_labels;
 
-pub use crate::merge_remap::{MergeRemap, find_remap};
 pub use crate::matches::{Matches, find_matches};
+pub use crate::merge_remap::{MergeRemap, find_remap};
 pub use crate::mismatch::find_mismatch;
 pub use crate::spans::spans_fit;
 pub use crate::stabilities::{StabilityPair, find_stability_mismatch};

@@ -3,9 +3,9 @@ ghost use Rattle.std.specs.Prelude.{IfOk};
 ghost use Rattle.wit_elaboration.specs.Valid.{IsValid};
 ghost use Rattle.wit_merge_match.specs.steps.Matched.{AreMatches};
 
-use crate::world_labels::LabelNotes;
 use crate::tables::{named_interfaces, package_matches, world_matches};
 use crate::types::type_matches;
+use crate::world_labels::LabelNotes;
 use std::alloc::{AllocError, Global};
 use wit_data::{InterfaceId, Items, PackageId, TypeId, WorldId};
 use wit_graph_data::Graph;

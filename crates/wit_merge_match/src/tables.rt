@@ -37,7 +37,10 @@ pub(crate) fn match_at<T: Copy>(found: &Items<Option<T>>, place: usize) -> Optio
 }
 
 /// The package that is matched with one of the other graph.
-fn matched_package(packages: &Items<Option<PackageId>>, home: Option<PackageId>) -> Option<PackageId>
+fn matched_package(
+    packages: &Items<Option<PackageId>>,
+    home: Option<PackageId>,
+) -> Option<PackageId>
     ensures { result ≡ option_and_then (λ p. get_or packages.now p None) home }
 {
     match_at(packages, home?.index())

@@ -3,9 +3,9 @@
 #![tactic(auto)]
 
 mod canonical;
+mod contents;
 mod entries;
 mod futures;
-mod contents;
 mod interface_deps;
 pub mod laws;
 mod next;
@@ -16,11 +16,11 @@ mod world_deps;
 pub use crate::canonical::{
     canonicalized_id_of, canonicalized_id_of_name, name_canonicalized_world_key, version_suffix_of,
 };
+pub use crate::contents::type_contents;
 pub use crate::entries::{
     external_id_of, external_id_value, implements_interface, named_interface,
 };
 pub use crate::futures::{find_futures_and_streams, holds_future_or_stream};
-pub use crate::contents::type_contents;
 pub use crate::interface_deps::{InterfaceDirectDeps, interface_direct_deps};
 pub use crate::package_deps::{
     PackageDirectDeps, package_direct_deps, package_uses, topological_packages,

@@ -96,7 +96,13 @@ fn files_stand_up_to_the_last_position(rt: HostRuntime) {
 fn groups_up_to(rt: &impl Abort, alloc: Global, end: u32, contents: &str) -> String {
     let mut resolve = first(rt, alloc);
     let before = shown(rt, alloc, resolve.graph());
-    let mut main = group(rt, alloc, "", "", text_between(rt, alloc, "a", Span::unknown()));
+    let mut main = group(
+        rt,
+        alloc,
+        "",
+        "",
+        text_between(rt, alloc, "a", Span::unknown()),
+    );
     main.source_map = SourceMap::with_base(alloc, end);
     let dep = text_between(rt, alloc, "b", Span::unknown());
     let dep = group(rt, alloc, "dep.wit", contents, dep);

@@ -3,7 +3,7 @@ ghost use Rattle.std.specs.Prelude.{◌≡◌, ◌<◌, length, IfOk, OnOk};
 ghost use Rattle.wit_script_package.specs.Adding.{empty_interface, empty_world, root_of, type_with, with_export, with_export_at, with_function, with_function_at, with_import, with_import_at, with_include, with_include_at, with_interface, with_interface_type, with_named, with_type, with_type_name, with_world, with_world_type};
 ghost use Rattle.wit_script_package.specs.steps.DraftResult.{DraftResult};
 
-use crate::draft::{Draft, Scope, LineContext};
+use crate::draft::{Draft, LineContext, Scope};
 use std::alloc::{AllocError, Global};
 use wit_data::{
     Docs, Function, Interface, InterfaceId, Items, Names, Table, Text, TryClone, Type_, TypeDef,
@@ -127,7 +127,12 @@ impl Draft {
     /// Begins a world; the next lines go into it. Not understood where the package has one of its own
     /// of that name. Else only want of memory is an error. After a fault nothing is told of the
     /// package.
-    pub fn add_world(&mut self, alloc: Global, name: Text, here: &LineContext) -> Result<(), LineFault>
+    pub fn add_world(
+        &mut self,
+        alloc: Global,
+        name: Text,
+        here: &LineContext,
+    ) -> Result<(), LineFault>
         ensures { DraftResult (with_world self.old name here.now) result self.new }
     {
         if self.world_ids.contains_key(name.as_str()) {

@@ -10,5 +10,5 @@ mod mention;
 mod naming;
 mod role;
 
-pub use crate::draft::{Draft, Foreign, Scope, LineContext, span_of};
+pub use crate::draft::{Draft, Foreign, LineContext, Scope, span_of};
 pub use crate::mention::{Mention, MentionKind, mention_of};

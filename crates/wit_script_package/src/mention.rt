@@ -41,7 +41,12 @@ impl MentionKind {
 }
 
 /// What a path mentions: a name of the same package is no mention.
-fn path_mention(path: ParsedUsePath, kind: MentionKind, gate: Stability, span: Span) -> Option<Mention>
+fn path_mention(
+    path: ParsedUsePath,
+    kind: MentionKind,
+    gate: Stability,
+    span: Span,
+) -> Option<Mention>
     ensures { option_to_list result ≡ path_mention path kind gate span }
 {
     match path {

@@ -16,7 +16,10 @@ use wit_values::try_clone_two;
 
 impl<'a> UpgradePlan<'a> {
     /// Copies of the imports of the world that aren't replaced.
-    pub(crate) fn kept_imports(&self, alloc: Global) -> Result<Table<WorldKey, WorldItem>, AllocError>
+    pub(crate) fn kept_imports(
+        &self,
+        alloc: Global,
+    ) -> Result<Table<WorldKey, WorldItem>, AllocError>
         requires { IsUpgradeReady self.now }
         ensures { IfOk result (λ imports. imports ≡ kept_imports (upgrade_of self.now)) }
     {

@@ -3,12 +3,12 @@
 #![tactic(auto)]
 
 mod agreement;
+mod kept_imports;
 mod merging;
+mod new_entries;
 mod newest;
 mod refusal;
-mod new_entries;
 mod replaced;
-mod kept_imports;
 mod targets;
 mod tracks;
 mod upgrade_plan;

@@ -7,8 +7,8 @@ ghost use Rattle.wit_semver_spec.specs.Rewritten.{rewritten};
 ghost use Rattle.wit_semver_spec.specs.TrackCause.{IsTrackCause};
 ghost use Rattle.wit_semver.specs.steps.Replacing.{HasNewEntries};
 
-use crate::new_entries::with_new_entries;
 use crate::kept_imports::types_of_entries;
+use crate::new_entries::with_new_entries;
 use crate::upgrade_plan::UpgradePlan;
 use std::alloc::Global;
 use wit_data::{TrackRule, WorldId};

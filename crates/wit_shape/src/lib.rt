@@ -7,13 +7,13 @@
 
 mod foreign;
 pub mod keys;
+pub mod named_owners;
 pub mod names;
 mod numbers;
 pub mod own;
 pub mod owners;
 mod package;
 pub mod references;
-pub mod named_owners;
 pub mod unknown;
 pub mod worlds;
 

@@ -2,9 +2,9 @@
 #![tactic(auto)]
 
 pub mod laws;
+mod new_lists;
 mod refusal;
 mod renaming;
-mod new_lists;
 mod transformations;
 
 pub use crate::transformations::{exportize, exportize_answered, importize};

@@ -17,9 +17,9 @@ ghost use Rattle.wit_transform.specs.TransformCause.{AreAnswers, Exportizes, Exp
 ghost use Rattle.wit_transform.specs.Transformed.{exportized, importized, listed_world, new_name, transformed, with_world};
 
 use crate::laws::{exportized_stay_valid, importized_stay_valid};
+use crate::new_lists::{exportized_lists, importized_lists};
 use crate::refusal::name_taken;
 use crate::renaming::{is_taken, renamed, with_last};
-use crate::new_lists::{exportized_lists, importized_lists};
 use std::alloc::{AllocError, Global};
 use wit_data::{Items, Names, PackageId, Table, Text, World, WorldId, WorldItem, WorldKey};
 use wit_elaboration::{Elaborator, Lists};
@@ -99,7 +99,13 @@ fn elaborated(alloc: Global, graph: &Graph, world: World) -> ResolveResult<World
 }
 
 /// Puts a world in the place of another, and a table of worlds in that of its package.
-fn put(graph: &mut Graph, world: WorldId, transformed: World, home: PackageId, table: Names<WorldId>)
+fn put(
+    graph: &mut Graph,
+    world: WorldId,
+    transformed: World,
+    home: PackageId,
+    table: Names<WorldId>,
+)
     requires world { world < length graph.old.worlds }
     requires home { home < length graph.old.packages }
     ensures { graph.new ≡ with_world graph.old world transformed home table }
@@ -131,7 +137,12 @@ fn transform(
     let home = home_of(current);
     let listed = with_lists(current, name, lists)?;
     let transformed = elaborated(alloc, graph, listed)?;
-    let table = with_last(alloc, graph.packages.at(home.index()), world, &transformed.name)?;
+    let table = with_last(
+        alloc,
+        graph.packages.at(home.index()),
+        world,
+        &transformed.name,
+    )?;
     put(graph, world, transformed, home, table);
     Ok(())
 }

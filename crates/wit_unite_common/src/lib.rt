@@ -3,11 +3,11 @@
 #![tactic(auto)]
 
 mod cycles;
+mod elaboration;
 mod functions;
 mod interfaces;
 mod round;
-mod elaboration;
 
+pub use crate::elaboration::check_and_elaborate;
 pub use crate::functions::function_mismatch;
 pub use crate::interfaces::interface_mismatch;
-pub use crate::elaboration::check_and_elaborate;

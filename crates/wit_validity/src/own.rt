@@ -11,12 +11,12 @@ use std::alloc::{AllocError, Global};
 use wit_data::{Interface, Items, TypeDef, World};
 use wit_graph_data::Graph;
 use wit_shape::keys::{interfaces_keys_differ, worlds_keys_differ};
+use wit_shape::named_owners::{NamedOwners, shown_by_each};
 use wit_shape::own::{
     all_exports_use_own, all_functions_use_own, all_imports_use_own, all_refer_to_own,
 };
 use wit_shape::owners::{all_list_own, all_name_functions, are_listed};
 use wit_shape::references::{all_alias_named, are_plain_if_unnamed};
-use wit_shape::named_owners::{NamedOwners, shown_by_each};
 use wit_shape::worlds::{all_have_exports, all_have_imports, stand_once};
 
 /// Whether owners, references and worlds are in order.
