@@ -33,6 +33,9 @@ module _ (types : List TypeDef) where
   five : {a a' b b' c c' d d' e e' : List Entry} → a ≡ a' → b ≡ b' → c ≡ c' → d ≡ d' → e ≡ e' → joined a b c d e ≡ joined a' b' c' d' e'
   five p q r s t = cc
 
+  as_it_is : (es : List Entry) (k : ℕ) → of_class types k es ≡ of_class types k es
+  as_it_is es k = refl
+
   module _ (e : Entry) (es : List Entry) (lower : (k : ℕ) → k < elaboration_class (role_of types e.1) → of_class types k es ≡ []) (rest : by_class types es ≡ es) where
     pass : (c : ℕ) → elaboration_class (role_of types e.1) ≡ c → of_class types c (e ∷ es) ≡ e ∷ of_class types c es
     pass c is = filter-pass (λ (f : Entry). nat_eq (elaboration_class (role_of types f.1)) c) e es (subst (λ (n : ℕ). eqb n c ≡ true) (sym is) (self c))
@@ -54,19 +57,19 @@ module _ (types : List TypeDef) where
     first (TypeUse i) is =
         let at : elaboration_class (role_of types e.1) ≡ 1 = ap elaboration_class is in
         five (other 0 1 at (λ s. cc) ∙ none 0 1 at (omega arith)) (pass 1 at) (other 2 1 at (λ s. cc)) (other 3 1 at (λ s. cc)) (other 4 1 at (λ s. cc))
-        ∙ ap (λ (l : List Entry). e ∷ l) (sym (five (none 0 1 at (omega arith)) refl refl refl refl) ∙ rest)
+        ∙ ap (λ (l : List Entry). e ∷ l) (sym (five (none 0 1 at (omega arith)) (as_it_is es 1) (as_it_is es 2) (as_it_is es 3) (as_it_is es 4)) ∙ rest)
     first TypeDefinition is =
         let at : elaboration_class (role_of types e.1) ≡ 2 = ap elaboration_class is in
         five (other 0 2 at (λ s. cc) ∙ none 0 2 at (omega arith)) (other 1 2 at (λ s. cc) ∙ none 1 2 at (omega arith)) (pass 2 at) (other 3 2 at (λ s. cc)) (other 4 2 at (λ s. cc))
-        ∙ ap (λ (l : List Entry). e ∷ l) (sym (five (none 0 2 at (omega arith)) (none 1 2 at (omega arith)) refl refl refl) ∙ rest)
+        ∙ ap (λ (l : List Entry). e ∷ l) (sym (five (none 0 2 at (omega arith)) (none 1 2 at (omega arith)) (as_it_is es 2) (as_it_is es 3) (as_it_is es 4)) ∙ rest)
     first FreeFunction is =
         let at : elaboration_class (role_of types e.1) ≡ 3 = ap elaboration_class is in
         five (other 0 3 at (λ s. cc) ∙ none 0 3 at (omega arith)) (other 1 3 at (λ s. cc) ∙ none 1 3 at (omega arith)) (other 2 3 at (λ s. cc) ∙ none 2 3 at (omega arith)) (pass 3 at) (other 4 3 at (λ s. cc))
-        ∙ ap (λ (l : List Entry). e ∷ l) (sym (five (none 0 3 at (omega arith)) (none 1 3 at (omega arith)) (none 2 3 at (omega arith)) refl refl) ∙ rest)
+        ∙ ap (λ (l : List Entry). e ∷ l) (sym (five (none 0 3 at (omega arith)) (none 1 3 at (omega arith)) (none 2 3 at (omega arith)) (as_it_is es 3) (as_it_is es 4)) ∙ rest)
     first ResourceFunction is =
         let at : elaboration_class (role_of types e.1) ≡ 4 = ap elaboration_class is in
         five (other 0 4 at (λ s. cc) ∙ none 0 4 at (omega arith)) (other 1 4 at (λ s. cc) ∙ none 1 4 at (omega arith)) (other 2 4 at (λ s. cc) ∙ none 2 4 at (omega arith)) (other 3 4 at (λ s. cc) ∙ none 3 4 at (omega arith)) (pass 4 at)
-        ∙ ap (λ (l : List Entry). e ∷ l) (sym (five (none 0 4 at (omega arith)) (none 1 4 at (omega arith)) (none 2 4 at (omega arith)) (none 3 4 at (omega arith)) refl) ∙ rest)
+        ∙ ap (λ (l : List Entry). e ∷ l) (sym (five (none 0 4 at (omega arith)) (none 1 4 at (omega arith)) (none 2 4 at (omega arith)) (none 3 4 at (omega arith)) (as_it_is es 4)) ∙ rest)
 
   sorted : (c : ℕ) (es : List Entry) → Rises c es → by_class types es ≡ es
   sorted c [] rises = refl

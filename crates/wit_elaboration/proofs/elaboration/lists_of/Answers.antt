@@ -18,7 +18,8 @@ returns-clause-imports c =
     let exports : List Entry = c.args.world.now.exports in
     let order = in_order c.args.types.now (length uses) c.args.world.now.imports exports c.requires.listed in
     let start : List Entry = c.in_ok-imports.imports in
-    imports_are c.args.types.now uses c.requires.acyclic c.args.world.now.imports exports order c.requires.no_conflict start c.export_listed.new.lists.imports c.in_ok-imports-2.imports c.in_ok-imports.ensures.imports
+    c.shrink.ensures
+    ∙ imports_are c.args.types.now uses c.requires.acyclic c.args.world.now.imports exports order c.requires.no_conflict start c.export_listed.new.lists.imports c.in_ok-imports-2.imports c.in_ok-imports.ensures.imports
     (c.in_ok-export_listed.ensures.imports
     ∙ ap (λ (t : ℕ → Bool). start ++ fresh_entries (keys_of start) (flat_map (walked_imports uses t) exports)) (listed_is c.args.marks.now.exported exports c.requires.exported))
     c.in_ok-imports-2.ensures
@@ -29,7 +30,8 @@ returns-clause-exports c =
     let exports : List Entry = c.args.world.now.exports in
     let order = in_order c.args.types.now (length uses) c.args.world.now.imports exports c.requires.listed in
     let start : List Entry = c.add_functions.new.exports in
-    exports_are c.args.types.now uses c.requires.acyclic c.args.world.now.imports exports order c.requires.no_conflict c.keys_differ.ensures.test start c.export_listed.new.lists.exports
+    c.shrink-2.ensures
+    ∙ exports_are c.args.types.now uses c.requires.acyclic c.args.world.now.imports exports order c.requires.no_conflict c.keys_differ.ensures.test start c.export_listed.new.lists.exports
     (c.in_ok-add_functions.ensures ∙ ap (λ (xs : List Entry). xs ++ fresh_entries (keys_of xs) (filter (λ (e : Entry). not (is_interface e)) exports)) c.new.ensures)
     (c.in_ok-export_listed.ensures.exports
     ∙ ap (λ (t : ℕ → Bool). start ++ fresh_entries (keys_of start) (flat_map (walked_exports uses t) (filter is_interface exports))) (listed_is c.args.marks.now.exported exports c.requires.exported))
