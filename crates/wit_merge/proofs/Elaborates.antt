@@ -22,9 +22,9 @@ use Rattle.wit_merge_laws.specs.facts.JoinedGood.{aliases, in_order}
 use Rattle.wit_merge_laws.specs.facts.NoCycles.{joined_types_acyclic}
 use Rattle.wit_merge_laws.specs.facts.PackagesStand.{interfaces_in_tables}
 use Rattle.wit_unite_common.specs.steps.Asked.{CanBeElaborated}
-use Rattle.wit_unite_common.specs.facts.Reasons.{ElaborationCause}
-use Rattle.wit_unite_common.specs.facts.Reasons as settles
-use Rattle.wit_merge.specs.facts.Agreeing.{DoAgree}
+use Rattle.wit_unite_common.specs.steps.Reasons.{ElaborationCause}
+use Rattle.wit_unite_common.specs.steps.Reasons as settles
+use Rattle.wit_merge.specs.steps.Asked.{DoAgree}
 use Rattle.wit_merge.proofs.IdTexts.{id_of_named}
 
 module _ (m : GraphMerge) (valid : IsValid m.graph) (valid_other : IsValid m.other) (one : HasNoMismatch m) where

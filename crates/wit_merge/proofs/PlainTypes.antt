@@ -30,7 +30,7 @@ use Rattle.wit_merge_spec.specs.Remapped.{merge_maps_without_owns, merge_types_w
 use Rattle.wit_merge_laws.specs.facts.MatchFacts.{goes_to, type_is}
 use Rattle.wit_merge_laws.specs.facts.TypesStand.{matched_some, moved_type_remapped}
 use Rattle.wit_merge_match.specs.steps.Matched.{AreFound}
-use Rattle.wit_merge.specs.facts.Leading.{AreLeadFlags}
+use Rattle.wit_merge.specs.steps.Asked.{AreLeadFlags}
 use Rattle.wit_link_resources.proofs.Leads.{leads_here, leads_on, leads_stays, target_there, walk_falls}
 use Rattle.wit_link_resources.proofs.Rows.{alias_acyclic}
 

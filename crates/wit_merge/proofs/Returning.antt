@@ -26,7 +26,7 @@ use Rattle.wit_merge_spec.specs.Remapped.{merge_maps, merged_type, merged_value,
 use Rattle.wit_merge_spec.specs.Reasons.{MergeReturnsBorrow}
 use Rattle.wit_merge_spec.specs.United.{joined_graph}
 use Rattle.wit_merge_laws.specs.facts.TypesStand.{type_stands, values_stand}
-use Rattle.wit_merge.specs.facts.Returned.{ReturnsFree}
+use Rattle.wit_merge.specs.steps.Asked.{ReturnsFree}
 use Rattle.wit_merge_laws.specs.facts.FunctionsThere.{moved_refers}
 
 one_of : (x y : ℕ) → Contains (x ∷ []) y → x ≡ y

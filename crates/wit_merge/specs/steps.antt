@@ -1,3 +1,4 @@
+pub mod Asked
 pub mod Counterparts
 pub mod Joined
 pub mod UnionSteps

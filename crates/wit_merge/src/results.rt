@@ -7,7 +7,7 @@ ghost use Rattle.wit_merge_spec.specs.Remapped.{moved_functions};
 ghost use Rattle.wit_merge_spec.specs.Reasons.{MergeReturnsBorrow};
 ghost use Rattle.wit_merge_spec.specs.United.{joined_graph};
 ghost use Rattle.wit_link_resources.specs.steps.Borrows.{AreFreeTypes};
-ghost use Rattle.wit_merge.specs.facts.Returned.{IsBorrowError, ReturnsFree};
+ghost use Rattle.wit_merge.specs.steps.Asked.{IsBorrowError, ReturnsFree};
 ghost use Rattle.wit_merge.specs.steps.UnionSteps.{CanUnite, merging_of};
 
 use crate::functions::moved_functions;

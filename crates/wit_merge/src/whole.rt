@@ -10,7 +10,7 @@ ghost use Rattle.wit_merge_spec.specs.Remapped.{merge_remap as ids_of};
 ghost use Rattle.wit_merge_spec.specs.Cause.{IsMergeCause};
 ghost use Rattle.wit_merge_spec.specs.Reasons.{MergeReturnsBorrow};
 ghost use Rattle.wit_merge_spec.specs.United.{joined_graph, united};
-ghost use Rattle.wit_merge.specs.facts.Agreeing.{DoAgree};
+ghost use Rattle.wit_merge.specs.steps.Asked.{DoAgree};
 ghost use Rattle.wit_merge.specs.Remapped.{remap_of};
 
 use crate::agreement::check_agreement;

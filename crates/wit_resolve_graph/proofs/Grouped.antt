@@ -34,7 +34,7 @@ use Rattle.wit_link.specs.Groups.{FilesPassTheEnd, IsGroupsCause, IsPushCause, f
 use Rattle.wit_link.specs.Several.{ArePushed, CanAppend, IsOneRefused}
 use Rattle.wit_remap.specs.Grown.{Begins}
 use Rattle.wit_remap.specs.facts.GrownFacts.{Begins-then}
-use Rattle.wit_resolve_graph.specs.facts.Grouping.{AreAdded}
+use Rattle.wit_resolve_graph.specs.steps.Grouping.{AreAdded}
 use Rattle.wit_resolve_graph.specs.State.{State}
 use Rattle.wit_resolve_graph.specs.Step.{PushesGroups, RefusesGroups, with_files}
 use Rattle.wit_resolve_graph.proofs.OneOrder.{Differ, one_place, one_sorted}

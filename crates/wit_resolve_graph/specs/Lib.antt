@@ -6,5 +6,5 @@ pub mod Sources
 pub mod State
 pub mod Step
 pub mod examples
-pub mod facts
 pub mod laws
+pub mod steps

@@ -7,7 +7,7 @@ ghost use Rattle.wit_data.specs.declared.unresolved.UnresolvedPackage.{Unresolve
 ghost use Rattle.wit_link.specs.Groups.{FilesPassTheEnd, IsPushCause, files_end, packages_of};
 ghost use Rattle.wit_link.specs.Several.{CanAppend};
 ghost use Rattle.wit_remap.specs.Grown.{Begins};
-ghost use Rattle.wit_resolve_graph.specs.facts.Grouping.{AreAdded};
+ghost use Rattle.wit_resolve_graph.specs.steps.Grouping.{AreAdded};
 ghost use Rattle.wit_resolve_graph.specs.Kept.{AreKept};
 ghost use Rattle.wit_resolve_graph.specs.Step.{with_files};
 ghost use Rattle.wit_link_order.specs.GroupOrder.{IsSortCause, names_of};

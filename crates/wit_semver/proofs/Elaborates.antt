@@ -29,8 +29,8 @@ use Rattle.wit_semver_laws.proofs.Accepting.{id_of_named, in_order, new_aliases,
 use Rattle.wit_semver_laws.proofs.TypesAfter.{type_after}
 use Rattle.wit_semver_laws.proofs.TypesGood.{refers_in_range, unnamed_plain}
 use Rattle.wit_unite_common.specs.steps.Asked.{CanBeElaborated, IsSomeNamed}
-use Rattle.wit_unite_common.specs.facts.Reasons.{ElaborationCause}
-use Rattle.wit_unite_common.specs.facts.Reasons as settles
+use Rattle.wit_unite_common.specs.steps.Reasons.{ElaborationCause}
+use Rattle.wit_unite_common.specs.steps.Reasons as settles
 use Rattle.wit_semver.specs.steps.Replacing.{upgrade}
 
 module _ (u : Upgrade) (valid : IsValid u.graph) (w : ℕ) (there : slice_get u.graph.worlds w ≡ Some u.world) where

@@ -8,8 +8,7 @@ ghost use Rattle.wit_graph_theory.specs.AllElaborated.{graph_package_uses, type_
 ghost use Rattle.wit_data.specs.Reference.{type_references};
 ghost use Rattle.wit_digraph.specs.Relation.{IsAcyclic, IsInRange};
 ghost use Rattle.wit_unite_common.specs.steps.Asked.{CyclesHaveNames, IsSomeNamed, UsedHaveNames};
-ghost use Rattle.wit_unite_common.specs.facts.Reasons.{ElaborationCause};
-ghost use Rattle.wit_unite_common.specs.facts.Errors.{IsInterfaceCycleError, IsTypeCycleError};
+ghost use Rattle.wit_unite_common.specs.steps.Reasons.{ElaborationCause, IsInterfaceCycleError, IsTypeCycleError};
 
 use crate::round::find_round;
 use std::alloc::{AllocError, Global};

@@ -2,7 +2,7 @@
 use Rattle.std.specs.Prelude.{◌≡◌, ℕ, List, length, map}
 use Rattle.std.specs.List.{range_with_len}
 use Rattle.wit_elaboration.specs.Valid.{IsValid}
-use Rattle.wit_remap.specs.facts.Fitting.{PartsFit}
+use Rattle.wit_remap.specs.steps.Fits.{PartsFit}
 use Rattle.wit_merge_spec.specs.Matches.{GraphMerge}
 use Rattle.wit_merge_spec.specs.Remapped.{merged_value}
 use Rattle.wit_merge_spec.specs.Reasons.{HasNoMismatch}

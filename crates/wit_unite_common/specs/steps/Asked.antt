@@ -1,5 +1,5 @@
 -- What settling asks of a graph: that what it names is there, and that what is told of a cycle has a name.
-use Rattle.std.specs.Prelude.{◌≡◌, ℕ, List, ◌∷◌, IsSome, Some, length, slice_get, Contains}
+use Rattle.std.specs.Prelude.{◌≡◌, ℕ, List, ◌∷◌, IsSome, Some, length, slice_get, Contains, [], ◌++◌}
 use Rattle.wit_data.specs.Each.{Each}
 use Rattle.wit_data.specs.Reference.{type_references}
 use Rattle.wit_data.specs.declared.types.TypeDef.{TypeDef}
@@ -35,3 +35,10 @@ pub record CanBeElaborated (g : Graph) : Type 0 where
   pub used_named : UsedHaveNames g
   pub cycles_named : CyclesHaveNames g.types
   pub listed : Each (λ (world : World). HasSoundEntries g.types (length g.interfaces) world.imports world.exports) g.worlds
+
+-- each node uses the next one, and the last one the first
+pub record IsRound (uses : List (List ℕ)) (nodes : List ℕ) : Type 0 where
+  pub first : ℕ
+  pub others : List ℕ
+  pub nodes_are : nodes ≡ first ∷ others
+  pub leads_back : IsPath uses first (others ++ first ∷ []) first
