@@ -1,4 +1,2 @@
 pub mod Appending
-pub mod Groups
-pub mod Several
 pub mod steps

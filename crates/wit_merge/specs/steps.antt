@@ -1,4 +1,2 @@
-pub mod Asked
-pub mod Counterparts
 pub mod Joined
 pub mod UnionSteps

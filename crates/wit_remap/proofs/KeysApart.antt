@@ -19,7 +19,7 @@ use Rattle.wit_link_spec.specs.Addition.{Addition, active, addition_maps, own_wo
 use Rattle.wit_link_spec.specs.facts.ApartFacts.{KeyIsActive, keys_apart}
 use Rattle.wit_link_spec.specs.facts.ClosedCut.{closed_part}
 use Rattle.wit_link_spec.specs.Reasons.{IsResolved}
-use Rattle.wit_remap.specs.steps.Worlds.{HasKeysApart}
+use Rattle.wit_remap.specs.steps.Added.{HasKeysApart}
 
 module _ (f : Entry → Entry) (kept : Entry → Bool) where
   -- a key that no other has

@@ -1,7 +1,5 @@
-pub mod CommandShape
 pub mod Kept
 pub mod Merging
-pub mod Named
 pub mod Sources
 pub mod State
 pub mod Step
