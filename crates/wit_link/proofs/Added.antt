@@ -20,7 +20,7 @@ use Rattle.wit_link_spec.specs.Cause.{AdditionIsAccepted, IsCause, borrow_in_res
 use Rattle.wit_link_spec.specs.Gates.{include_is_active}
 use Rattle.wit_link_spec.specs.Pushed.{pushed}
 use Rattle.wit_link_spec.specs.WorldReasons.{WorldIsAccepted}
-use Rattle.wit_link_spec.specs.steps.Passed.{has_image}
+use Rattle.wit_link_spec.specs.facts.PassedFacts.{has_image}
 use Rattle.wit_link_spec.specs.Reasons.{HasPackage, IsResolved}
 use Rattle.wit_link_spec.specs.facts.OwnThingFacts.{own_world_from}
 use Rattle.wit_link_include.specs.facts.AdditionFacts.{placed_include, placed_includes}

@@ -162,7 +162,3 @@ owns_of_addition a = map (λ t. own_of (remapped_type a t)) (filter (value_needs
 -- what ids are remapped to
 abbrev pub addition_maps : Addition → Maps
 addition_maps a = record (maps_without_owns a) { values = remapped_value a }
-
--- what is active as a source: all that is active, but worlds of other packages, of which nothing is taken over
-abbrev pub part : Addition → KeptIds
-part a = record (active a) { worlds = own_world a }

@@ -4,4 +4,5 @@ pub mod Request
 pub mod Statement
 pub mod Token
 pub mod TypeText
+pub mod facts
 pub mod steps
