@@ -123,8 +123,7 @@ legacy_key g (Some k) = key_text g.packages g.interfaces k ++ codes "#"
 
 -- ---- imports
 
--- the module and the field of an import; nothing is said (two empty texts) of futures and streams under
--- Standard32
+-- the module and the field of an import; nothing is said (two empty texts) of futures and streams under Standard32
 abbrev pub import_names : Graph → ManglingAndAbi → WasmImport → List ℕ × List ℕ
 import_names g Standard32 (imports.Func interface func) = (standard_module g (option_copied interface), func.now.name)
 import_names g Standard32 (imports.ResourceIntrinsic interface r ImportedDrop) = (standard_module g (option_copied interface), resource_name g.types r ++ codes "_drop")
