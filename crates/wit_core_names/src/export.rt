@@ -1,7 +1,6 @@
 //! What core wasm exports, and its names.
 ghost use Rattle.std.specs.Prelude.{◌≡◌, IfErr, IfOk, string_bytes, true};
-ghost use Rattle.wit_core_names.specs.Conditions.{can_name_export};
-ghost use Rattle.wit_core_names.specs.Names.{export_name};
+ghost use Rattle.wit_core_names.specs.Names.{can_name_export, export_name};
 ghost use Rattle.wit_graph_data.specs.declared.error_kind.ResolveErrorKind.TheVariants.{OutOfMemory};
 
 use crate::legacy::legacy_export;

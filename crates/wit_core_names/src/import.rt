@@ -1,7 +1,6 @@
 //! What core wasm imports, and its names.
 ghost use Rattle.std.specs.Prelude.{◌≡◌, IfErr, IfOk, string_bytes, true};
-ghost use Rattle.wit_core_names.specs.Conditions.{can_name_import};
-ghost use Rattle.wit_core_names.specs.Names.{import_names};
+ghost use Rattle.wit_core_names.specs.Names.{can_name_import, import_names};
 ghost use Rattle.wit_graph_data.specs.declared.error_kind.ResolveErrorKind.TheVariants.{OutOfMemory};
 ghost use Rattle.wit_data.specs.Reference.{type_references};
 ghost use Rattle.wit_digraph.specs.Relation.{IsAcyclic};

@@ -1,8 +1,7 @@
 //! The names of the build targets, which begin with `cm32p2`.
 ghost use Rattle.std.specs.Prelude.{◌≡◌, IfErr, IfOk, string_bytes, true};
 ghost use Rattle.std.specs.Option.{option_copied};
-ghost use Rattle.wit_core_names.specs.Conditions.{can_name_export, can_name_import};
-ghost use Rattle.wit_core_names.specs.Names.{export_name, import_names, standard_key, standard_module};
+ghost use Rattle.wit_core_names.specs.Names.{can_name_export, can_name_import, export_name, import_names, standard_key, standard_module};
 ghost use Rattle.wit_core_names.specs.declared.import.WasmImport.TheVariants as imports;
 ghost use Rattle.wit_graph_data.specs.declared.error_kind.ResolveErrorKind.TheVariants.{OutOfMemory};
 ghost use Rattle.wit_data.specs.declared.abi.ManglingAndAbi.TheVariants.{Standard32};

@@ -7,9 +7,8 @@ use Rattle.wit_graph_theory.specs.Image.{Maps}
 use Rattle.wit_graph_theory.specs.Kept.{KeptIds}
 use Rattle.wit_graph_theory.specs.steps.Sources.{Source}
 
--- adding a package: the graph, and what is selected of the package. Foreign interfaces and types are selected
--- (they go to those of the graph), foreign worlds don't: nothing is owned by them, and their package is
--- another
+-- adding a package: the graph, and what is selected of the package. Foreign interfaces and types are selected (they go
+-- to those of the graph), foreign worlds don't: nothing is owned by them, and their package is another
 abbrev pub add_sources : KeptIds → Graph → UnresolvedPackage → Maps → ℕ → Source
 add_sources kept g u m zero = graph_source g
 add_sources kept g u m (suc k) = cut_source kept u.types u.interfaces u.worlds m

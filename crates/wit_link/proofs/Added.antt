@@ -20,7 +20,7 @@ use Rattle.wit_link_spec.specs.Cause.{AdditionIsAccepted, IsCause, borrow_in_res
 use Rattle.wit_link_spec.specs.Gates.{include_is_active}
 use Rattle.wit_link_spec.specs.Pushed.{pushed}
 use Rattle.wit_link_spec.specs.WorldReasons.{WorldIsAccepted}
-use Rattle.wit_link_spec.specs.steps.Passed.{has_image}
+use Rattle.wit_link_spec.specs.facts.PassedFacts.{has_image}
 use Rattle.wit_link_spec.specs.Reasons.{HasPackage, IsResolved}
 use Rattle.wit_link_spec.specs.facts.OwnThingFacts.{own_world_from}
 use Rattle.wit_link_include.specs.facts.AdditionFacts.{placed_include, placed_includes}
@@ -28,8 +28,7 @@ use Rattle.wit_remap.specs.steps.Added.{added_world}
 use Rattle.wit_remap.specs.steps.Movers.{goes, id_or}
 use Rattle.wit_remap.specs.declared.worlds.PlacedWorld.{PlacedWorld}
 use Rattle.wit_link.specs.Appending.{IsAdded}
-use Rattle.wit_link.specs.facts.Checked.{IsChecked, IsNew}
-use Rattle.wit_link.specs.steps.Fits.{IsNameTaken, PackageFits}
+use Rattle.wit_link.specs.steps.Checked.{IsChecked, IsNameTaken, IsNew, PackageFits}
 use Rattle.wit_link.specs.steps.Including.{include_at, ready_world, ready_worlds, world_with}
 use Rattle.wit_link.proofs.FitsIsExact.{fitting_passes_not, passes-of_not_fitting}
 

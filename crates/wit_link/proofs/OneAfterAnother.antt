@@ -6,8 +6,7 @@ use Rattle.wit_graph_data.specs.declared.features.Features.{Features}
 use Rattle.wit_graph_data.specs.declared.graph.Graph.{Graph}
 use Rattle.wit_link_order.specs.GroupOrder.{Unresolved}
 use Rattle.wit_link_spec.specs.Cause.{IsCause}
-use Rattle.wit_link.specs.Appending.{IsAdded, addition}
-use Rattle.wit_link.specs.Several.{ArePushed, IsOneRefused}
+use Rattle.wit_link.specs.Appending.{ArePushed, IsAdded, IsOneRefused, addition}
 
 -- one package more is added
 pub pushed_more : (features : Features) (g : Graph) (ps : List Unresolved) (mid : Graph) (ids : List ℕ) (p : Unresolved) (new : Graph) (id : ℕ) → ArePushed features g ps mid ids → IsAdded (addition features mid p.0 p.1) new id

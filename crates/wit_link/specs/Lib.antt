@@ -1,5 +1,2 @@
 pub mod Appending
-pub mod Groups
-pub mod Several
-pub mod facts
 pub mod steps

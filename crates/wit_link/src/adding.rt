@@ -8,8 +8,7 @@ ghost use Rattle.wit_graph_data.specs.declared.error_kind.ResolveErrorKind.{Reso
 ghost use Rattle.wit_graph_data.specs.declared.error_kind.ResolveErrorKind.TheVariants.{OutOfMemory};
 ghost use Rattle.wit_data.specs.Shape.{IsShaped};
 ghost use Rattle.wit_link.specs.Appending.{IsAdded, addition};
-ghost use Rattle.wit_link.specs.facts.Checked.{IsChecked, IsNew};
-ghost use Rattle.wit_link.specs.steps.Fits.{IsNameTaken};
+ghost use Rattle.wit_link.specs.steps.Checked.{IsChecked, IsNameTaken, IsNew};
 ghost use Rattle.wit_link_spec.specs.Pushed.{with_parts};
 ghost use Rattle.wit_link.specs.steps.Including.{ready_worlds};
 ghost use Rattle.wit_remap.specs.Grown.{Begins, Grown};

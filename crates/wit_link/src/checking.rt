@@ -7,7 +7,7 @@ ghost use Rattle.wit_link_spec.specs.Reasons.{AdditionOverflows};
 ghost use Rattle.wit_elaboration.specs.Valid.{IsValid};
 ghost use Rattle.wit_graph_data.specs.declared.error_kind.ResolveErrorKind.TheVariants.{OutOfMemory};
 ghost use Rattle.wit_data.specs.Shape.{IsShaped};
-ghost use Rattle.wit_link.specs.facts.Checked.{IsChecked};
+ghost use Rattle.wit_link.specs.steps.Checked.{IsChecked};
 
 use std::alloc::Global;
 use wit_graph_data::ResolveResult;

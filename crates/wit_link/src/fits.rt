@@ -1,7 +1,7 @@
 //! Whether the spans of a package can be moved.
 ghost use Rattle.std.specs.Prelude.{◌↔◌, IsTrue};
 ghost use Rattle.wit_data.specs.Each.{Each};
-ghost use Rattle.wit_link.specs.steps.Fits.{ForeignFits, PackageFits, RequiredFits};
+ghost use Rattle.wit_link.specs.steps.Checked.{ForeignFits, PackageFits, RequiredFits};
 
 use wit_data::{Span, TypeId, UnresolvedPackage};
 use wit_remap::{all_fit, fits, parts_fit};

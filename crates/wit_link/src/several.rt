@@ -5,7 +5,7 @@ ghost use Rattle.wit_elaboration.specs.Elaboration.{graph_uses};
 ghost use Rattle.wit_elaboration.specs.Valid.{IsValid};
 ghost use Rattle.wit_graph_data.specs.declared.error_kind.ResolveErrorKind.{ResolveErrorKind};
 ghost use Rattle.wit_graph_data.specs.declared.error_kind.ResolveErrorKind.TheVariants.{OutOfMemory};
-ghost use Rattle.wit_link.specs.Several.{ArePushed, CanAppend, IsOneRefused};
+ghost use Rattle.wit_link.specs.Appending.{ArePushed, CanAppend, IsOneRefused};
 ghost use Rattle.wit_remap.specs.Grown.{Begins, Grown};
 
 use crate::adding::append_with;

@@ -1,5 +1,4 @@
--- Small packages that are refused for a world of theirs, and packages that just lack the reason, whatever is
--- told.
+-- Small packages that are refused for a world of theirs, and packages that just lack the reason, whatever is told.
 use Rattle.std.specs.Prelude.{ℕ, List, [], ◌∷◌, Some, None, codes}
 use Rattle.wit_data.specs.Entries.{Entry}
 use Rattle.wit_data.specs.declared.stability.Stability.{Stability}

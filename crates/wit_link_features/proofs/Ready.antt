@@ -12,7 +12,7 @@ use Rattle.wit_data.specs.declared.world.World.{World}
 use Rattle.wit_graph_data.specs.declared.features.Features.{Features}
 use Rattle.wit_link_spec.specs.Gates.{foreign_gates, interface_is_active, is_active, some_active, type_is_active, world_is_active}
 use Rattle.wit_link_spec.specs.declared.addition.Activity.{Activity}
-use Rattle.wit_link_features.specs.steps.GateSteps.{IsCheckerReady}
+use Rattle.wit_link_features.specs.steps.FeatureSteps.{IsCheckerReady}
 use Rattle.wit_link_features.specs.declared.checker.Checker.{Checker}
 use Rattle.wit_link_features.proofs.Flags.{flag_is}
 

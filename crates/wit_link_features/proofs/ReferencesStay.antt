@@ -24,8 +24,7 @@ use Rattle.wit_link_spec.specs.CauseText.{excluded_owner_text, excluded_text}
 use Rattle.wit_link_spec.specs.Gates.{HasEntry, OptionalSpan, world_is_active}
 use Rattle.wit_link_spec.specs.steps.Passed.{NeedsNothingExcluded}
 use Rattle.wit_link_spec.specs.Reasons.{AType, AWorld, AnInterface, IsActiveFunction, IsExcluded, Thing, kind_references, of_entry, of_foreign_type, of_function, of_include, of_interface, of_type, of_world, owner_thing, word_of}
-use Rattle.wit_link_features.specs.steps.GateSteps.{MayRefuse, seen}
-use Rattle.wit_link_features.specs.steps.ReferenceSteps.{FieldStays, FunctionsStay, IsActiveType, IsReferred, ItemStays, KindRefers, KindStays, PartsStay, RefersByItem, RefersInField, Stays, TypesStay, thing_is_active}
+use Rattle.wit_link_features.specs.steps.FeatureSteps.{FieldStays, FunctionsStay, IsActiveType, IsReferred, ItemStays, KindRefers, KindStays, MayRefuse, PartsStay, RefersByItem, RefersInField, Stays, TypesStay, seen, thing_is_active}
 use Rattle.wit_link_features.specs.declared.checker.Checker.{Checker}
 
 -- ---- what is active is not left out

@@ -31,7 +31,7 @@ use Rattle.wit_link_spec.specs.Cause.{IsCause, gate_unreleased_10, gate_without_
 use Rattle.wit_link_spec.specs.CauseText.{gate_unreleased_text, gate_without_version_text}
 use Rattle.wit_link_spec.specs.Gates.{IsAsked, OptionalSpan, asked_gates, foreign_gates, foreign_items, interface_gates, is_active, of_entry, of_function, of_include, of_interface, of_type, of_world, world_gates}
 use Rattle.wit_link_spec.specs.steps.Passed.{GatesAreMet}
-use Rattle.wit_link_features.specs.steps.GateSteps.{Asks, HasReached, IsAt, IsCheckerReady, IsMet, IsThere, MayRefuse, MeetsForeign, MeetsFunctions, MeetsItem, MeetsParts, seen}
+use Rattle.wit_link_features.specs.steps.FeatureSteps.{Asks, HasReached, IsAt, IsCheckerReady, IsMet, IsThere, MayRefuse, MeetsForeign, MeetsFunctions, MeetsItem, MeetsParts, seen}
 use Rattle.wit_link_features.specs.declared.checker.Checker.{Checker}
 use Rattle.wit_link_features.proofs.AskedGates.{take_member}
 use Rattle.wit_link_features.proofs.ForeignGates.{named_ids, named_ids-items, note_from, notes_alone}

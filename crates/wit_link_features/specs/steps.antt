@@ -1,2 +1,1 @@
-pub mod GateSteps
-pub mod ReferenceSteps
+pub mod FeatureSteps

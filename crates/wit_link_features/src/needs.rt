@@ -2,7 +2,7 @@
 ghost use Rattle.std.specs.Prelude.{◌≡◌, map, unwrap_or, slice_get, false};
 ghost use Rattle.std.specs.Option.{option_to_list};
 ghost use Rattle.wit_link_spec.specs.Reasons.{owner_thing, word_of};
-ghost use Rattle.wit_link_features.specs.steps.ReferenceSteps.{thing_of};
+ghost use Rattle.wit_link_features.specs.steps.FeatureSteps.{thing_of};
 
 use wit_data::{InterfaceId, Items, TypeId, TypeOwner, WorldId};
 

@@ -13,8 +13,7 @@ ghost use Rattle.wit_link_spec.specs.Cause.{IsCause};
 ghost use Rattle.wit_link_spec.specs.CauseText.{excluded_owner_text, excluded_text};
 ghost use Rattle.wit_link_spec.specs.steps.Passed.{NeedsNothingExcluded};
 ghost use Rattle.wit_link_spec.specs.Reasons.{AType, word_of};
-ghost use Rattle.wit_link_features.specs.steps.GateSteps.{IsCheckerReady, MayRefuse, seen};
-ghost use Rattle.wit_link_features.specs.steps.ReferenceSteps.{FieldStays, ForeignStays, FunctionStays, FunctionsStay, IncludeStays, IsActiveType, IsReferred, ItemStays, KindRefers, KindStays, MayBeActive, OwnerStays, PartsStay, RefersByInclude, RefersByItem, RefersInField, Stays, TypeStays, TypesStay, thing_is_active, thing_of};
+ghost use Rattle.wit_link_features.specs.steps.FeatureSteps.{FieldStays, ForeignStays, FunctionStays, FunctionsStay, IncludeStays, IsActiveType, IsCheckerReady, IsReferred, ItemStays, KindRefers, KindStays, MayBeActive, MayRefuse, OwnerStays, PartsStay, RefersByInclude, RefersByItem, RefersInField, Stays, TypeStays, TypesStay, seen, thing_is_active, thing_of};
 
 use crate::checker::Checker;
 use crate::needs::{Needed, flag_at};

@@ -19,7 +19,7 @@ ghost use Rattle.wit_link_spec.specs.Cause.{IsCause};
 ghost use Rattle.wit_link_spec.specs.CauseText.{gate_unreleased_text, gate_without_version_text};
 ghost use Rattle.wit_link_spec.specs.Gates.{asked_gates, foreign_items};
 ghost use Rattle.wit_link_spec.specs.steps.Passed.{GatesAreMet};
-ghost use Rattle.wit_link_features.specs.steps.GateSteps.{Asks, AsksItem, HasReached, IsAt, IsCheckerReady, IsMet, IsThere, MayRefuse, MeetsForeign, MeetsFunctions, MeetsItem, MeetsParts};
+ghost use Rattle.wit_link_features.specs.steps.FeatureSteps.{Asks, AsksItem, HasReached, IsAt, IsCheckerReady, IsMet, IsThere, MayRefuse, MeetsForeign, MeetsFunctions, MeetsItem, MeetsParts};
 
 use crate::checker::Checker;
 use crate::needs::flag_at;

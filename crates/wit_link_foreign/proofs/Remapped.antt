@@ -11,13 +11,12 @@ use Rattle.wit_data.specs.declared.package_name.PackageName.{PackageName}
 use Rattle.wit_data.specs.declared.unresolved.AstItem.{AstItem}
 use Rattle.wit_data.specs.declared.unresolved.AstItem.TheVariants as item
 use Rattle.wit_graph_theory.specs.facts.ListFacts.{place_of}
-use Rattle.wit_link_spec.specs.Addition.{Addition, active_interface_id, active_type_id, active_world_id, own_interface, own_type, own_world}
+use Rattle.wit_link_spec.specs.Addition.{Addition, active_interface_id, active_type_id, active_world_id, own_interface, own_type, own_world, rank}
 use Rattle.wit_link_spec.specs.facts.ForeignFound.{find-passes, find-some, interface_of}
 use Rattle.wit_link_spec.specs.Gates.{interface_is_active, is_foreign_interface, is_foreign_world, type_is_active, world_is_active}
 use Rattle.wit_link_spec.specs.facts.ClosedCut.{member_of_first}
 use Rattle.wit_link_spec.specs.Lookup.{find_interface, find_world, foreign_interface_id, foreign_type_id, foreign_world_id, is_foreign_type, named_items, naming_item}
 use Rattle.wit_link_spec.specs.facts.RankFacts.{after, rank-suc}
-use Rattle.wit_link_spec.specs.Ranks.{rank}
 use Rattle.wit_link_foreign.specs.steps.ForeignItems.{AreThere, NamedItem, goes, has_new_id}
 use Rattle.wit_link_foreign.proofs.NamedItems.{ids_named}
 

@@ -17,7 +17,7 @@ use Rattle.wit_labels.specs.Setters.{IsSetter, LacksGetterAt, getter_label, plac
 use Rattle.wit_labels.specs.Strong.{Clashes}
 use Rattle.wit_link_spec.specs.CauseText.{clash_text, getter_text}
 use Rattle.wit_link_include.specs.steps.Finished.{CanFinish, IsFinishCause, conflict_4, no_getter_18, not_strongly_unique_17}
-use Rattle.wit_link_include.specs.steps.Labels.{IsLabelError, IsListError, LabelsAreAccepted, ListIsAccepted, alone, clash}
+use Rattle.wit_link_include.specs.steps.Included.{IsLabelError, IsListError, LabelsAreAccepted, ListIsAccepted, alone, clash}
 
 -- ---- labels
 

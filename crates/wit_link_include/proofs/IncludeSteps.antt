@@ -35,9 +35,7 @@ use Rattle.wit_link_spec.specs.Include.{EntryLists, PartiallyLinked, belongs_to,
 use Rattle.wit_link_spec.specs.WorldReasons.{Disagree, HasStability, IsListCalled, IsShadowed, renamed_key}
 use Rattle.wit_link_laws.specs.laws.StageFacts.{CanInclude}
 use Rattle.wit_link_include.specs.steps.Copied.{StayApart}
-use Rattle.wit_link_include.specs.steps.Joined.{CanJoin, ComeOnce, IsJoinCause, StandsWith, item_shadowing_7, stability_mismatch_8}
-use Rattle.wit_link_include.specs.steps.Renamed.{AreRenamed, IsFirstUnmatched}
-use Rattle.wit_link_include.specs.steps.Included.{HasNoIncludeCause, HaveOwnKeys, IsIncludeCause, IsIncluded, before_includes, mismatch_8, rename_unmatched_16, shadowing_7, with_lists, with_one}
+use Rattle.wit_link_include.specs.steps.Included.{AreRenamed, CanJoin, ComeOnce, HasNoIncludeCause, HaveOwnKeys, IsFirstUnmatched, IsIncludeCause, IsIncluded, IsJoinCause, StandsWith, before_includes, item_shadowing_7, mismatch_8, rename_unmatched_16, shadowing_7, stability_mismatch_8, with_lists, with_one}
 
 -- ---- a list of a good world
 

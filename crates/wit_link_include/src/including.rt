@@ -2,9 +2,8 @@
 ghost use Rattle.std.specs.Prelude.{◌≡◌, ◌⊎◌, ◌<◌, IfErr, IfOk, OnOk, codes, length};
 ghost use Rattle.wit_link_spec.specs.Include.{is_other_package, lists_of};
 ghost use Rattle.wit_graph_data.specs.declared.error_kind.ResolveErrorKind.TheVariants.{OutOfMemory};
-ghost use Rattle.wit_link_include.specs.steps.Included.{CanBeIncluded, HasNoIncludeCause, HaveOwnKeys, IsIncludeCause, IsIncluded, before_includes, copied_entries, with_joined, with_lists, with_one};
+ghost use Rattle.wit_link_include.specs.steps.Included.{CanBeIncluded, CanJoin, ComeOnce, HasNoIncludeCause, HaveOwnKeys, IsIncludeCause, IsIncluded, IsJoinCause, before_includes, copied_entries, with_joined, with_lists, with_one};
 ghost use Rattle.wit_data.specs.declared.world.World.{World};
-ghost use Rattle.wit_link_include.specs.steps.Joined.{CanJoin, ComeOnce, IsJoinCause};
 ghost use Rattle.wit_remap.specs.Grown.{Grown};
 
 use crate::copies::Copies;

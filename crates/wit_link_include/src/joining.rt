@@ -7,7 +7,7 @@ ghost use Rattle.wit_graph_data.specs.declared.error_kind.ResolveErrorKind.TheVa
 ghost use Rattle.wit_data.specs.declared.world.WorldItem.{WorldItem};
 ghost use Rattle.wit_data.specs.declared.world.WorldKey.{WorldKey};
 ghost use Rattle.wit_data.specs.facts.WorldKeyFacts.{same_key};
-ghost use Rattle.wit_link_include.specs.steps.Joined.{CanJoin, ComeOnce, IsItemError, IsJoinCause, ItemsAgree};
+ghost use Rattle.wit_link_include.specs.steps.Included.{CanJoin, ComeOnce, IsItemError, IsJoinCause, ItemsAgree};
 
 use crate::stabilities::join_stability;
 use indexmap::IndexMap;

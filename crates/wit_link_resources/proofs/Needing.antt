@@ -4,14 +4,13 @@ use Rattle.std.specs.List.{enumerate_from, range_with_len}
 use Rattle.std.proofs.lemmas.List.{length-append, length-map}
 use Rattle.std.proofs.lemmas.List.Elements.{filter-append}
 use Rattle.wit_data.specs.Shape.{IsShaped}
-use Rattle.wit_link_spec.specs.Addition.{Addition, remapped_type, types_without_owns, value_needs_own}
+use Rattle.wit_link_spec.specs.Addition.{Addition, rank, remapped_type, selected, selected_with_index, types_without_owns, value_needs_own}
 use Rattle.wit_link_spec.specs.Gates.{type_is_active}
 use Rattle.wit_link_spec.specs.facts.RangeFacts.{range-more}
 use Rattle.wit_link_spec.specs.facts.RankFacts.{after, rank-kept, rank-left, rank-suc}
-use Rattle.wit_link_spec.specs.Ranks.{rank, selected, selected_with_index}
 use Rattle.wit_link_spec.specs.Reasons.{IsResolved}
 use Rattle.wit_link_spec.specs.Resources.{leads_to_resource}
-use Rattle.wit_link_resources.specs.steps.Asked.{is_asked}
+use Rattle.wit_link_resources.specs.steps.Active.{is_asked}
 use Rattle.wit_link_resources.specs.steps.Leading.{leads_there}
 use Rattle.wit_link_resources.proofs.Positions.{asked_active}
 use Rattle.wit_link_resources.proofs.Where.{conj}

@@ -27,17 +27,15 @@ use Rattle.wit_data.specs.declared.world.WorldKey.{WorldKey}
 use Rattle.wit_elaboration.proofs.Filters.{Contains-filter, Contains-filtered}
 use Rattle.wit_graph_theory.specs.Cut.{cut_interface, cut_world}
 use Rattle.wit_graph_theory.specs.facts.ListFacts.{Contains-map, Contains-map_cases, contained_at, found_at, get_at, place_of, same_at, some_at}
-use Rattle.wit_link_spec.specs.Addition.{Addition, active, function_positions, own_interface, own_interfaces, own_type, own_types, own_world, own_worlds, positions}
+use Rattle.wit_link_spec.specs.Addition.{Addition, active, function_positions, own_interface, own_interfaces, own_type, own_types, own_world, own_worlds, positions, rank, selected, selected_with_index}
 use Rattle.wit_link_spec.specs.facts.ClosedCut.{function_kept, member_of_first, references_kept, there_where}
 use Rattle.wit_link_spec.specs.Gates.{HasEntry, function_is_active, interface_is_active, is_active, is_foreign_interface, is_foreign_world, item_is_active, type_is_active, world_is_active}
 use Rattle.wit_link_spec.specs.Lookup.{is_foreign_type}
 use Rattle.wit_link_spec.specs.facts.RangeFacts.{in_range, range_below}
 use Rattle.wit_link_spec.specs.facts.RankFacts.{selected-at, selected_with_index-at, selected_with_index-from}
-use Rattle.wit_link_spec.specs.Ranks.{rank, selected, selected_with_index}
 use Rattle.wit_link_spec.specs.Reasons.{IsActiveFunction, IsResolved, of_interface, of_world}
 use Rattle.wit_link_spec.specs.Resources.{signature_positions, value_positions}
-use Rattle.wit_link_resources.specs.steps.Active.{active_functions}
-use Rattle.wit_link_resources.specs.steps.Asked.{gathered_positions, is_asked, positions_of_type}
+use Rattle.wit_link_resources.specs.steps.Active.{active_functions, gathered_positions, is_asked, positions_of_type}
 use Rattle.wit_link_resources.proofs.ActiveOnes.{active_back, active_in}
 use Rattle.wit_link_resources.proofs.Where.{both}
 

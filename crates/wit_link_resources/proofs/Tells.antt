@@ -21,7 +21,7 @@ use Rattle.wit_link_spec.specs.Lookup.{foreign_type_id}
 use Rattle.wit_link_spec.specs.Reasons.{IsActiveFunction, MayHoldBorrow, of_interface, of_world}
 use Rattle.wit_link_spec.specs.Resources.{leads_to_resource}
 use Rattle.wit_link_spec.specs.Spans.{function_spans, interface_spans, item_spans, package_spans, type_spans, world_spans}
-use Rattle.wit_link_resources.specs.steps.KnownBorrows.{IsErrorAtSpan}
+use Rattle.wit_link_resources.specs.steps.Borrows.{IsErrorAtSpan}
 
 module _ (a : Addition) where
   -- a place that would pass the end

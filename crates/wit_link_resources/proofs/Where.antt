@@ -29,13 +29,12 @@ use Rattle.wit_graph_theory.specs.facts.ListFacts.{at_map, at_new, contained_at,
 use Rattle.wit_graph_theory.specs.facts.ReferredFacts.{alias_image}
 use Rattle.wit_graph_theory.specs.facts.RowFacts.{IsAcyclic-grown}
 use Rattle.wit_graph_theory.specs.steps.Sources.{alias_rows}
-use Rattle.wit_link_spec.specs.Addition.{Addition, active_type_id, maps_without_owns, own_type, own_types, remapped_type, types_without_owns}
+use Rattle.wit_link_spec.specs.Addition.{Addition, active_type_id, maps_without_owns, own_type, own_types, rank, remapped_type, selected_with_index, types_without_owns}
 use Rattle.wit_link_spec.specs.facts.ClosedCut.{references_kept, there_where}
 use Rattle.wit_link_spec.specs.facts.ForeignFound.{find-passes, named_at}
 use Rattle.wit_link_spec.specs.Gates.{is_active, type_is_active}
 use Rattle.wit_link_spec.specs.Lookup.{find_interface, foreign_interface_id, foreign_type_id, interface_type, is_foreign_type, named_items, naming_item, owning_interface}
 use Rattle.wit_link_spec.specs.facts.RankFacts.{rank-strict, selected-at, selected_with_index-from}
-use Rattle.wit_link_spec.specs.Ranks.{rank, selected_with_index}
 use Rattle.wit_link_spec.specs.Reasons.{IsResolved}
 use Rattle.wit_link_spec.specs.Resources.{is_resource_kind, leads_to_resource}
 use Rattle.wit_link_spec.specs.facts.Standing.{foreign_interface_remapped, foreign_type, listed_is, own_type_remapped}

@@ -5,7 +5,7 @@ ghost use Rattle.wit_data.specs.Shape.{IsShaped};
 ghost use Rattle.wit_link_spec.specs.steps.AdditionRefs.{activity_of, addition_of};
 ghost use Rattle.wit_link_spec.specs.Reasons.{IsResolved};
 ghost use Rattle.wit_link_spec.specs.Resources.{signature_positions, value_positions};
-ghost use Rattle.wit_link_resources.specs.steps.Asked.{gathered_positions, is_asked, positions_of_type};
+ghost use Rattle.wit_link_resources.specs.steps.Active.{gathered_positions, is_asked, positions_of_type};
 
 use crate::functions::active_functions;
 use std::alloc::{AllocError, Global};

@@ -2,7 +2,7 @@
 ghost use Rattle.std.specs.Prelude.{IfOk, string_bytes};
 ghost use Rattle.wit_link_spec.specs.CauseText.{borrow_text, not_a_resource_text};
 ghost use Rattle.wit_graph_data.specs.declared.cause.Cause.TheVariants as cause;
-ghost use Rattle.wit_link_resources.specs.steps.KnownBorrows.{IsErrorAtSpan};
+ghost use Rattle.wit_link_resources.specs.steps.Borrows.{IsErrorAtSpan};
 
 use std::alloc::{AllocError, Global};
 use wit_data::{Function, Span, Text};

@@ -1,7 +1,7 @@
 -- What an addition is made of, what of its package is active, and what its things are remapped to: the things of other
 -- packages to those of the graph that they name, its own to the next ids, in their order.
-use Rattle.std.specs.Prelude.{ℕ, ◌+◌, ◌&&◌, Bool, not, List, [], ◌++◌, map, filter, length, nat_eq, Option, None, Some, unwrap_or, if◌then◌else◌}
-use Rattle.std.specs.List.{flat_map, list_any, range_with_len}
+use Rattle.std.specs.Prelude.{ℕ, ◌+◌, ◌&&◌, Bool, not, List, [], ◌++◌, map, filter, length, nat_eq, Option, None, Some, unwrap_or, if◌then◌else◌, zero, suc}
+use Rattle.std.specs.List.{enumerate_from, flat_map, list_any, range_with_len}
 use Rattle.wit_data.specs.Entries.{Entry}
 use Rattle.wit_data.specs.declared.function.Function.{Function}
 use Rattle.wit_data.specs.declared.interface.Interface.{Interface}
@@ -18,8 +18,20 @@ use Rattle.wit_graph_theory.specs.Image.{Maps, type_image}
 use Rattle.wit_graph_theory.specs.Kept.{KeptIds}
 use Rattle.wit_link_spec.specs.Gates.{is_foreign_interface, is_foreign_world, function_is_active, include_is_active, interface_is_active, item_is_active, type_is_active, world_is_active}
 use Rattle.wit_link_spec.specs.Lookup.{foreign_interface_id, foreign_type_id, foreign_world_id, is_foreign_type}
-use Rattle.wit_link_spec.specs.Ranks.{rank, selected, selected_with_index}
 use Rattle.wit_link_spec.specs.Resources.{leads_to_resource, own_of, signature_positions, value_positions}
+
+-- how many places before place i are active
+abbrev pub rank : (ℕ → Bool) → ℕ → ℕ
+rank kept zero = zero
+rank kept (suc i) = if kept i then suc (rank kept i) else rank kept i
+
+-- what stands at the places that are active, each with its place
+abbrev pub selected_with_index : {X : Type 0} → (ℕ → Bool) → List X → List (ℕ × X)
+selected_with_index kept xs = filter (λ e. kept e.0) (enumerate_from 0 xs)
+
+-- what stands at the places that are active
+abbrev pub selected : {X : Type 0} → (ℕ → Bool) → List X → List X
+selected kept xs = map (λ e. e.1) (selected_with_index kept xs)
 
 -- an unresolved package to be added to a graph, under features, its spans to move by an offset
 pub record Addition : Type 0 where
@@ -150,7 +162,3 @@ owns_of_addition a = map (λ t. own_of (remapped_type a t)) (filter (value_needs
 -- what ids are remapped to
 abbrev pub addition_maps : Addition → Maps
 addition_maps a = record (maps_without_owns a) { values = remapped_value a }
-
--- what is active as a source: all that is active, but worlds of other packages, of which nothing is taken over
-abbrev pub part : Addition → KeptIds
-part a = record (active a) { worlds = own_world a }

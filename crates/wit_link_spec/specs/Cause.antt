@@ -16,8 +16,7 @@ use Rattle.wit_link_spec.specs.WorldReasons.{AreNotStronglyUnique, IncludeIsAcce
 abbrev pub IsReached : Addition → ℕ → Type 0
 IsReached a k = (i : ℕ) → i < k → WorldIsAccepted a i
 
--- the package has an image, every world before world k is accepted, and so is every include of world k before include
--- j
+-- the package has an image, every world before world k is accepted, and so is every include of world k before include j
 pub record IncludeIsReached (a : Addition) (k j : ℕ) : Type 0 where
   pub has_image : IsResolved a
   pub worlds : IsReached a k

@@ -1,7 +1,6 @@
--- Feature gates: which things of an unresolved package are active, which are excluded, and whose gates are
--- asked. A gate is a note on an item: none, `@since(version = ..)`, or `@unstable(feature = ..)`, of which
--- the deprecation is never asked. A foreign interface or world has several notes, those of the places that
--- name it.
+-- Feature gates: which things of an unresolved package are active, which are excluded, and whose gates are asked. A
+-- gate is a note on an item: none, `@since(version = ..)`, or `@unstable(feature = ..)`, of which the deprecation is
+-- never asked. A foreign interface or world has several notes, those of the places that name it.
 -- Source: the WIT page of the component model, "Feature gates"; `include_stability` of wit-parser 0.263.0.
 pub use Rattle.wit_link_order.specs.GroupOrder.{OptionalSpan}
 use Rattle.std.specs.Prelude.{◌≡◌, ◌⊎◌, ◌||◌, ℕ, suc, Bool, true, false, List, [], ◌∷◌, length, take, nat_eq, nat_lt, slice_get, Some, Contains, if◌then◌else◌}
@@ -93,8 +92,7 @@ world_is_active features u w = some_active features (world_gates u w)
 abbrev pub function_is_active : Features → Function → Bool
 function_is_active features f = is_active features f.stability
 
--- an entry of a world that is active does so where its gate is active; an entry that is a type has the
--- note of the type
+-- an entry of a world that is active does so where its gate is active; an entry that is a type has the note of the type
 abbrev pub item_is_active : Features → List TypeDef → WorldItem → Bool
 item_is_active features types (item.Interface id stability docs span external_id) = is_active features stability
 item_is_active features types (item.Function function) = function_is_active features function

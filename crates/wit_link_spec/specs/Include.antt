@@ -26,7 +26,7 @@ use Rattle.wit_elaboration.specs.Entries.{same_key}
 use Rattle.wit_graph_data.specs.declared.graph.Graph.{Graph}
 use Rattle.wit_graph_theory.specs.Image.{Maps, entry_image, interface_image, type_image}
 use Rattle.wit_graph_theory.specs.Operations.{include_maps}
-use Rattle.wit_link_spec.specs.Ranks.{rank, selected}
+use Rattle.wit_link_spec.specs.Addition.{rank, selected}
 use Rattle.wit_labels.specs.Rename.{renamed_label}
 
 -- the two lists of a world

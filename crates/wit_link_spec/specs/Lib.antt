@@ -5,7 +5,6 @@ pub mod Gates
 pub mod Include
 pub mod Lookup
 pub mod Pushed
-pub mod Ranks
 pub mod Reasons
 pub mod Resources
 pub mod Spans

@@ -65,8 +65,7 @@ owning_interface (owner.Interface i) = Some i
 owning_interface (owner.World w) = None
 owning_interface owner.None = None
 
--- the type of the graph that foreign type t of the package names: in the interface that its owner names, under its
--- name
+-- the type of the graph that foreign type t of the package names: in the interface that its owner names, under its name
 abbrev pub foreign_type_id : Graph → UnresolvedPackage → ℕ → Option ℕ
 foreign_type_id g u t =
     option_and_then (λ (def : TypeDef). option_and_then (λ (name : List ℕ).

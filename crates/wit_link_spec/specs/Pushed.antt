@@ -12,10 +12,9 @@ use Rattle.wit_elaboration.specs.Elaboration.{graph_uses}
 use Rattle.wit_graph_data.specs.declared.graph.Graph.{Graph}
 use Rattle.wit_graph_data.specs.declared.graph.Package.{Package}
 use Rattle.wit_graph_theory.specs.Image.{interface_image, type_image, world_image}
-use Rattle.wit_link_spec.specs.Addition.{Addition, active_includes, addition_maps, own_interface, own_interfaces, own_types, own_world, own_worlds, owns_of_addition, remapped_interface, remapped_world}
+use Rattle.wit_link_spec.specs.Addition.{Addition, active_includes, addition_maps, own_interface, own_interfaces, own_types, own_world, own_worlds, owns_of_addition, remapped_interface, remapped_world, selected_with_index}
 use Rattle.wit_link_spec.specs.Include.{PartiallyLinked, lists_of, with_include_of}
 use Rattle.wit_labels.specs.Setters.{placed}
-use Rattle.wit_link_spec.specs.Ranks.{selected_with_index}
 
 -- ---- the package
 

@@ -70,8 +70,7 @@ pub record LacksPackage (a : Addition) (span : OptionalSpan) (requested : Packag
   pub span_is : SomeAt a.unresolved.foreign_dep_spans at (λ (s : OptionalSpan). span ≡ moved_by a.offset s)
   pub known_are : known ≡ known_packages a
 
--- 2: a world that is active isn't in the table of its package; the package that is added counts as there
--- and empty
+-- 2: a world that is active isn't in the table of its package; the package that is added counts as there and empty
 pub record LacksWorld (a : Addition) (span : OptionalSpan) (requested : List ℕ) (home : PackageName) : Type 0 where
   pub at : ℕ
   pub w : ℕ

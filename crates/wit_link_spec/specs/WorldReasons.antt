@@ -122,9 +122,8 @@ pub record IncludeIsAccepted (a : Addition) (k j : ℕ) : Type 0 where
 
 -- ---- 17, 18: of the lists of a world
 
--- the lists of world k, by which its labels are told: with all its includes, where the package has an image; or
--- as it is written where it lists no include, image or not; the spans of its entries are then still to move by
--- `moves`
+-- the lists of world k, by which its labels are told: with all its includes, where the package has an image; or as it
+-- is written where it lists no include, image or not; the spans of its entries are then still to move by `moves`
 pub data HaveLists (a : Addition) (k : ℕ) : World → EntryLists → ℕ → Type 0 where
   made : (at : AtWorld a k) → IsResolved a → ((j : ℕ) → IncludeIsAccepted a k j) → HaveLists a k at.world (with_all_includes a at.place at.world (with_worlds a k)).lists 0
   written : (at : AtWorld a k) → at.world.includes ≡ [] → HaveLists a k at.world (lists_of at.world) a.offset

@@ -1,8 +1,10 @@
+pub mod ActivePart
 pub mod ApartFacts
 pub mod ClosedCut
 pub mod FlagFacts
 pub mod ForeignFound
 pub mod OwnThingFacts
+pub mod PassedFacts
 pub mod PositionFacts
 pub mod RangeFacts
 pub mod RankFacts

@@ -10,7 +10,7 @@ use Rattle.wit_link_spec.specs.facts.RangeFacts.{range-same, range-set}
 use Rattle.wit_merge_spec.specs.Matches.{counterpart_of}
 use Rattle.wit_merge_laws.specs.facts.InterfacesStand.{option_so}
 use Rattle.wit_merge.proofs.Numbered.{some_there}
-use Rattle.wit_merge.specs.steps.Counterparts.{first_from, firsts_from, placed_at}
+use Rattle.wit_merge.specs.steps.UnionSteps.{first_from, firsts_from, placed_at}
 
 drop_at : {X : Type 0} (xs : List X) (k : ℕ) (x : X) → slice_get xs k ≡ Some x → drop k xs ≡ x ∷ drop (suc k) xs
 drop_at [] k x at = cc

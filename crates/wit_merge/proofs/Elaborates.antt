@@ -14,17 +14,15 @@ use Rattle.wit_graph_data.specs.declared.graph.Graph.{Graph}
 use Rattle.wit_graph_theory.specs.AllElaborated.{graph_package_uses}
 use Rattle.wit_graph_theory.specs.facts.NamedUses.{used_is_named}
 use Rattle.wit_graph_theory.specs.facts.PackageCycleFacts.{used_package}
-use Rattle.wit_merge_spec.specs.Cause.{IsMergeCause, MergeIsAccepted, borrow_in_result_15, conflict_4, interface_cycle_22, merge_mismatch_24, mismatch_8, offset_overflow_27, package_cycle_6}
+use Rattle.wit_merge_spec.specs.Cause.{HasNoMismatch, IsMergeCause, MergeIsAccepted, MergeReturnsBorrow, borrow_in_result_15, conflict_4, interface_cycle_22, merge_mismatch_24, mismatch_8, offset_overflow_27, package_cycle_6}
 use Rattle.wit_merge_spec.specs.Matches.{GraphMerge}
-use Rattle.wit_merge_spec.specs.Reasons.{HasNoMismatch, MergeReturnsBorrow}
 use Rattle.wit_merge_spec.specs.United.{joined_graph}
 use Rattle.wit_merge_laws.specs.facts.JoinedGood.{aliases, in_order}
 use Rattle.wit_merge_laws.specs.facts.NoCycles.{joined_types_acyclic}
 use Rattle.wit_merge_laws.specs.facts.PackagesStand.{interfaces_in_tables}
-use Rattle.wit_unite_common.specs.steps.Asked.{CanBeElaborated}
-use Rattle.wit_unite_common.specs.facts.Reasons.{ElaborationCause}
-use Rattle.wit_unite_common.specs.facts.Reasons as settles
-use Rattle.wit_merge.specs.facts.Agreeing.{DoAgree}
+use Rattle.wit_unite_common.specs.steps.Reasons.{CanBeElaborated, ElaborationCause}
+use Rattle.wit_unite_common.specs.steps.Reasons as settles
+use Rattle.wit_merge.specs.steps.UnionSteps.{DoAgree}
 use Rattle.wit_merge.proofs.IdTexts.{id_of_named}
 
 module _ (m : GraphMerge) (valid : IsValid m.graph) (valid_other : IsValid m.other) (one : HasNoMismatch m) where

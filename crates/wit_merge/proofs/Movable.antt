@@ -29,10 +29,9 @@ use Rattle.wit_graph_theory.specs.facts.GraphSource.{mapped_is_good}
 use Rattle.wit_graph_theory.specs.Image.{identity}
 use Rattle.wit_graph_theory.specs.facts.ListFacts.{found_at, place_of}
 use Rattle.wit_graph_theory.specs.steps.Sources.{IsGoodSource, OwnerIsActive, Source}
-use Rattle.wit_merge_spec.specs.Joined.{joined_package, with_interface, with_package}
+use Rattle.wit_merge_spec.specs.United.{joined_graph, joined_package, united, with_interface, with_package}
 use Rattle.wit_merge_spec.specs.Matches.{GraphMerge, counterpart_interface, counterpart_interface_by, counterpart_package, counterpart_world, named_in_counterpart}
 use Rattle.wit_merge_spec.specs.Remapped.{moves_package}
-use Rattle.wit_merge_spec.specs.United.{joined_graph, united}
 use Rattle.wit_merge_laws.specs.facts.InterfacesStand.{counterpart_is, old_interface_at, with_counterpart}
 use Rattle.wit_merge_laws.specs.facts.JoinedGood.{joined_good}
 use Rattle.wit_merge_laws.specs.facts.ListedStand.{moved_comes}

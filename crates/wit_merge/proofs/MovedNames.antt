@@ -2,7 +2,7 @@
 use Rattle.std.proofs.Common.{◌≡◌, ◌∙◌, ℕ, ◌<◌, Bool, true, cond, List, [], ◌∷◌, Option, filter, length, map, refl, ap, Contains}
 use Rattle.wit_digraph.specs.facts.MemberFacts.{Contains-here, Contains-there}
 use Rattle.wit_elaboration.proofs.Filters.{Contains-filter}
-use Rattle.wit_merge_match.specs.steps.MergeRemaps.{moves}
+use Rattle.wit_merge_match.specs.steps.Matched.{moves}
 use Rattle.wit_remap.specs.steps.Movers.{goes}
 use Rattle.wit_merge_spec.specs.Matches.{GraphMerge, counterpart_interface, counterpart_type, counterpart_world}
 use Rattle.wit_merge_spec.specs.Remapped.{merged_interface, merged_type, merged_world, moves_interface, moves_type, moves_world}

@@ -1,20 +1,17 @@
 -- What is handed to the last steps of a merge, and what its refusals and its end tell.
 use Rattle.std.proofs.Common.{◌≡◌, ◌∙◌, ◌⊎◌, inl, inr, ℕ, ◌<◌, ◌^◌, List, sym, ap, subst}
-use Rattle.wit_remap.specs.facts.Fitting.{PartsFit}
+use Rattle.wit_remap.specs.steps.Fits.{PartsFit}
 use Rattle.wit_remap.specs.facts.FittingFacts.{fit_or_pass, parts_fit}
 use Rattle.wit_elaboration.specs.Valid.{IsValid}
 use Rattle.wit_graph_data.specs.declared.error_kind.ResolveErrorKind.{ResolveErrorKind}
 use Rattle.wit_graph_data.specs.declared.error_kind.ResolveErrorKind.TheVariants.{OutOfMemory}
 use Rattle.wit_graph_data.specs.declared.graph.Graph.{Graph}
 use Rattle.wit_graph_theory.specs.AllElaborated.{all_elaborated}
-use Rattle.wit_merge_spec.specs.Cause.{IsMergeCause, MergeIsAccepted, borrow_in_result_15}
+use Rattle.wit_merge_spec.specs.Cause.{HasNoMismatch, IsMergeCause, MergeIsAccepted, MergeOverflows, MergeReturnsBorrow, borrow_in_result_15, graph_spans}
 use Rattle.wit_merge_spec.specs.Matches.{GraphMerge}
-use Rattle.wit_merge_spec.specs.Reasons.{HasNoMismatch, MergeOverflows, MergeReturnsBorrow, graph_spans}
 use Rattle.wit_merge_spec.specs.United.{joined_graph, united}
-use Rattle.wit_unite_common.specs.steps.Asked.{CanBeElaborated}
-use Rattle.wit_unite_common.specs.facts.Reasons.{ElaborationCause}
-use Rattle.wit_merge.specs.facts.Agreeing.{DoAgree}
-use Rattle.wit_merge.specs.facts.Returned.{IsBorrowError}
+use Rattle.wit_unite_common.specs.steps.Reasons.{CanBeElaborated, ElaborationCause}
+use Rattle.wit_merge.specs.steps.UnionSteps.{DoAgree, IsBorrowError}
 use Rattle.wit_merge.proofs.Elaborates.{can_merge, can_settle, cause_from}
 
 -- where no span passes the end all fit

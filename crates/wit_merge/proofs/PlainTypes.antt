@@ -23,14 +23,14 @@ use Rattle.wit_graph_theory.specs.facts.RowFacts.{IsAcyclic-grown}
 use Rattle.wit_graph_theory.specs.steps.Sources.{alias_rows}
 use Rattle.wit_link_spec.specs.facts.RangeFacts.{range-at, range-read}
 use Rattle.wit_link_spec.specs.facts.RankFacts.{selected-at, selected_with_index-from}
-use Rattle.wit_link_spec.specs.Ranks.{rank, selected_with_index}
+use Rattle.wit_link_spec.specs.Addition.{rank, selected_with_index}
 use Rattle.wit_link_spec.specs.Resources.{is_resource_kind, leads_to_resource}
 use Rattle.wit_merge_spec.specs.Matches.{GraphMerge, counterpart_type}
 use Rattle.wit_merge_spec.specs.Remapped.{merge_maps_without_owns, merge_types_without_owns, merged_type, moved_types, moves_type}
 use Rattle.wit_merge_laws.specs.facts.MatchFacts.{goes_to, type_is}
 use Rattle.wit_merge_laws.specs.facts.TypesStand.{matched_some, moved_type_remapped}
 use Rattle.wit_merge_match.specs.steps.Matched.{AreFound}
-use Rattle.wit_merge.specs.facts.Leading.{AreLeadFlags}
+use Rattle.wit_merge.specs.steps.UnionSteps.{AreLeadFlags}
 use Rattle.wit_link_resources.proofs.Leads.{leads_here, leads_on, leads_stays, target_there, walk_falls}
 use Rattle.wit_link_resources.proofs.Rows.{alias_acyclic}
 

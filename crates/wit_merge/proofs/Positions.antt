@@ -15,7 +15,7 @@ use Rattle.wit_elaboration.specs.Valid.{IsValid}
 use Rattle.wit_graph_data.specs.declared.graph.Graph.{Graph}
 use Rattle.wit_graph_theory.specs.facts.ListFacts.{from_map, in_row, place_of}
 use Rattle.wit_link_spec.specs.facts.RankFacts.{selected_with_index-from}
-use Rattle.wit_link_spec.specs.Ranks.{selected_with_index}
+use Rattle.wit_link_spec.specs.Addition.{selected_with_index}
 use Rattle.wit_link_spec.specs.Resources.{signature_positions, value_positions}
 use Rattle.wit_merge_spec.specs.Matches.{GraphMerge}
 use Rattle.wit_merge_spec.specs.Remapped.{moved_functions, moved_types, moves_type, positions}

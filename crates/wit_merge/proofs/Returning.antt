@@ -23,10 +23,10 @@ use Rattle.wit_link_spec.specs.Reasons.{HoldsBorrow}
 use Rattle.wit_link_spec.specs.Resources.{signature_positions}
 use Rattle.wit_merge_spec.specs.Matches.{GraphMerge}
 use Rattle.wit_merge_spec.specs.Remapped.{merge_maps, merged_type, merged_value, moved_functions}
-use Rattle.wit_merge_spec.specs.Reasons.{MergeReturnsBorrow}
+use Rattle.wit_merge_spec.specs.Cause.{MergeReturnsBorrow}
 use Rattle.wit_merge_spec.specs.United.{joined_graph}
 use Rattle.wit_merge_laws.specs.facts.TypesStand.{type_stands, values_stand}
-use Rattle.wit_merge.specs.facts.Returned.{ReturnsFree}
+use Rattle.wit_merge.specs.steps.UnionSteps.{ReturnsFree}
 use Rattle.wit_merge_laws.specs.facts.FunctionsThere.{moved_refers}
 
 one_of : (x y : ℕ) → Contains (x ∷ []) y → x ≡ y

@@ -7,7 +7,7 @@ use Rattle.wit_data.specs.Reference.{type_references}
 use Rattle.wit_data.specs.Uses.{alias_target}
 use Rattle.wit_data.specs.declared.types.TypeDef.{TypeDef}
 use Rattle.wit_graph_theory.specs.steps.Sources.{alias_rows}
-use Rattle.wit_merge.specs.facts.Leading.{AreLeadFlags}
+use Rattle.wit_merge.specs.steps.UnionSteps.{AreLeadFlags}
 use Rattle.wit_link_resources.proofs.Leads.{target_there, walk_falls}
 use Rattle.wit_link_resources.proofs.Rows.{alias_acyclic}
 

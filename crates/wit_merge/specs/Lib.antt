@@ -1,3 +1,2 @@
 pub mod Remapped
-pub mod facts
 pub mod steps

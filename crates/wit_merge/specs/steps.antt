@@ -1,3 +1,2 @@
-pub mod Counterparts
 pub mod Joined
 pub mod UnionSteps

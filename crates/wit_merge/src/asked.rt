@@ -3,11 +3,10 @@ ghost use Rattle.std.specs.Prelude.{◌≡◌, ◌++◌, IfOk, OnOk, length, map
 ghost use Rattle.std.specs.List.{flat_map, list_any, range_with_len};
 ghost use Rattle.wit_data.specs.declared.types.TypeDef.{TypeDef};
 ghost use Rattle.wit_elaboration.specs.Valid.{IsValid};
-ghost use Rattle.wit_link_spec.specs.Ranks.{selected};
+ghost use Rattle.wit_link_spec.specs.Addition.{selected};
 ghost use Rattle.wit_link_spec.specs.Resources.{value_positions};
 ghost use Rattle.wit_merge_spec.specs.Remapped.{positions};
-ghost use Rattle.wit_merge_match.specs.steps.Matched.{AreMatches, merge_of_graphs};
-ghost use Rattle.wit_merge_match.specs.steps.MergeRemaps.{moves};
+ghost use Rattle.wit_merge_match.specs.steps.Matched.{AreMatches, merge_of_graphs, moves};
 
 use crate::functions::moved_functions;
 use crate::names::moves;

@@ -19,7 +19,7 @@ use wit_remap::Place;
 /// the other is joined to its own.
 impl Part for Interface {
     ghost use Rattle.wit_graph_theory.specs.Image.{interface_image};
-    ghost use Rattle.wit_merge_spec.specs.Joined.{with_interface};
+    ghost use Rattle.wit_merge_spec.specs.United.{with_interface};
     ghost use Rattle.wit_merge.specs.steps.Joined.{InterfaceJoins, InterfaceMoves};
 
     ghost can_move = { λ m e. InterfaceMoves m e.1 };

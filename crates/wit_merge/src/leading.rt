@@ -10,7 +10,7 @@ ghost use Rattle.wit_link_spec.specs.Resources.{leads_to_resource};
 ghost use Rattle.wit_merge_spec.specs.Remapped.{merge_types_without_owns, merged_type};
 ghost use Rattle.wit_merge_match.specs.Differing.{merge_of_graphs_by};
 ghost use Rattle.wit_merge_match.specs.steps.Matched.{AreMatches};
-ghost use Rattle.wit_merge.specs.facts.Leading.{AreLeadFlags};
+ghost use Rattle.wit_merge.specs.steps.UnionSteps.{AreLeadFlags};
 
 use std::alloc::{AllocError, Global};
 use wit_data::{Items, TypeDef, TypeId, alias_target};

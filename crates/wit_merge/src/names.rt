@@ -1,7 +1,7 @@
 //! Tables that take the names of what moves.
 ghost use Rattle.std.specs.Prelude.{◌≡◌, ◌++◌, IfOk, OnOk};
 ghost use Rattle.wit_values.specs.Table.{HasDistinctKeys};
-ghost use Rattle.wit_merge_match.specs.steps.MergeRemaps.{moves};
+ghost use Rattle.wit_merge_match.specs.steps.Matched.{moves};
 ghost use Rattle.wit_remap.specs.steps.Movers.{goes};
 ghost use Rattle.wit_merge.specs.steps.Joined.{moved_names};
 

@@ -2,11 +2,10 @@
 ghost use Rattle.std.specs.Prelude.{◌≡◌, ◌+◌, ◌^◌, ◌<◌, ℕ, IfOk, length, map};
 ghost use Rattle.std.specs.List.{range_with_len};
 ghost use Rattle.wit_elaboration.specs.Valid.{IsValid};
-ghost use Rattle.wit_link_spec.specs.Ranks.{rank};
+ghost use Rattle.wit_link_spec.specs.Addition.{rank};
 ghost use Rattle.wit_merge_spec.specs.Remapped.{merged_value_needs_own, owns_of_merge};
 ghost use Rattle.wit_merge_match.specs.Differing.{merge_of_graphs_by};
-ghost use Rattle.wit_merge_match.specs.steps.Matched.{AreMatches};
-ghost use Rattle.wit_merge_match.specs.steps.MergeRemaps.{merge_remap_of, moves};
+ghost use Rattle.wit_merge_match.specs.steps.Matched.{AreMatches, merge_remap_of, moves};
 ghost use Rattle.wit_merge.specs.steps.UnionSteps.{value_ids};
 
 use crate::asked::asked;

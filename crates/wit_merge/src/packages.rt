@@ -14,8 +14,7 @@ use wit_graph_data::Package;
 
 /// Behind the interfaces and worlds of one that stays come those of the other that move.
 impl Part for Package {
-    ghost use Rattle.wit_merge_spec.specs.Joined.{with_package};
-    ghost use Rattle.wit_merge_spec.specs.United.{package_image};
+    ghost use Rattle.wit_merge_spec.specs.United.{package_image, with_package};
     ghost use Rattle.wit_merge.specs.steps.Joined.{PackageJoins, PackageMoves};
 
     ghost can_move = { λ m e. PackageMoves m e.1 };

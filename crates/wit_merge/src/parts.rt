@@ -2,11 +2,10 @@
 ghost use Rattle.std.specs.Prelude.{◌≡◌, ◌++◌, ℕ, IfOk, None, Some, get_or, length, map, slice_get, true};
 ghost use Rattle.std.specs.List.{enumerate_from};
 ghost use Rattle.std.specs.Option.{option_map_or};
-ghost use Rattle.wit_link_spec.specs.Ranks.{selected_with_index};
-ghost use Rattle.wit_merge_match.specs.steps.MergeRemaps.{moves};
+ghost use Rattle.wit_link_spec.specs.Addition.{selected_with_index};
+ghost use Rattle.wit_merge_match.specs.steps.Matched.{moves};
 ghost use Rattle.wit_merge_spec.specs.Matches.{GraphMerge, counterpart_of};
-ghost use Rattle.wit_merge.specs.steps.Counterparts.{placed_at};
-ghost use Rattle.wit_merge.specs.steps.UnionSteps.{CanUnite, merging_of};
+ghost use Rattle.wit_merge.specs.steps.UnionSteps.{CanUnite, merging_of, placed_at};
 
 use crate::counterparts::counterparts;
 use crate::names::moves;

@@ -14,7 +14,7 @@ use wit_remap::Place;
 /// One that moves takes its place; to one that stays the stability of the other is joined.
 impl Part for TypeDef {
     ghost use Rattle.wit_graph_theory.specs.Image.{type_image};
-    ghost use Rattle.wit_merge_spec.specs.Joined.{with_type};
+    ghost use Rattle.wit_merge_spec.specs.United.{with_type};
     ghost use Rattle.wit_merge_spec.specs.Remapped.{merge_maps};
     ghost use Rattle.wit_merge.specs.steps.Joined.{TypeMoves};
 

@@ -4,13 +4,11 @@ ghost use Rattle.wit_elaboration.specs.Valid.{IsValid};
 ghost use Rattle.wit_graph_data.specs.declared.error_kind.ResolveErrorKind.{ResolveErrorKind};
 ghost use Rattle.wit_graph_data.specs.declared.error_kind.ResolveErrorKind.TheVariants.{OutOfMemory};
 ghost use Rattle.wit_merge_match.specs.Differing.{merge_of_graphs_by};
-ghost use Rattle.wit_merge_match.specs.steps.Matched.{AreMatches};
-ghost use Rattle.wit_merge_match.specs.steps.MergeRemaps.{merge_remap_of};
+ghost use Rattle.wit_merge_match.specs.steps.Matched.{AreMatches, merge_remap_of};
 ghost use Rattle.wit_merge_spec.specs.Remapped.{merge_remap as ids_of};
-ghost use Rattle.wit_merge_spec.specs.Cause.{IsMergeCause};
-ghost use Rattle.wit_merge_spec.specs.Reasons.{MergeReturnsBorrow};
+ghost use Rattle.wit_merge_spec.specs.Cause.{IsMergeCause, MergeReturnsBorrow};
 ghost use Rattle.wit_merge_spec.specs.United.{joined_graph, united};
-ghost use Rattle.wit_merge.specs.facts.Agreeing.{DoAgree};
+ghost use Rattle.wit_merge.specs.steps.UnionSteps.{DoAgree};
 ghost use Rattle.wit_merge.specs.Remapped.{remap_of};
 
 use crate::agreement::check_agreement;

@@ -18,7 +18,7 @@ use wit_remap::{Moves, placed_entries};
 /// stabilities of the other are joined.
 impl Part for World {
     ghost use Rattle.wit_graph_theory.specs.Image.{world_image};
-    ghost use Rattle.wit_merge_spec.specs.Joined.{with_world};
+    ghost use Rattle.wit_merge_spec.specs.United.{with_world};
     ghost use Rattle.wit_merge_spec.specs.Remapped.{merge_maps};
     ghost use Rattle.wit_merge.specs.steps.Joined.{WorldJoins, WorldMoves};
 

@@ -21,9 +21,8 @@ use Rattle.wit_merge_spec.specs.Agreement.{EntriesDiffer, StructuresDiffer}
 use Rattle.wit_merge_spec.specs.Agreement as mismatch
 use Rattle.wit_merge_spec.specs.Cause.{IsMergeCause}
 use Rattle.wit_merge_spec.specs.Cause as reason
-use Rattle.wit_merge_spec.specs.Matches.{GraphMerge}
+use Rattle.wit_merge_spec.specs.Matches.{GraphMerge, TypePair, type_pairs}
 use Rattle.wit_merge_spec.specs.MismatchText.{linked, part_links, side_word, type_link}
-use Rattle.wit_merge_spec.specs.TypePairs.{TypePair, type_pairs}
 use Rattle.wit_merge_structure.specs.facts.DifferenceFacts.{first_here}
 use Rattle.wit_merge_structure.specs.Structure.{Feature, here, named, names, structure, structure_within, variant}
 use Rattle.wit_merge_structure.specs.declared.kinds.Variant.TheVariants as variants

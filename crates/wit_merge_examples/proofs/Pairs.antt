@@ -6,7 +6,7 @@ use Rattle.wit_digraph.specs.facts.MemberFacts.{Contains-here}
 use Rattle.wit_digraph.specs.PostOrder.{post_order, post_order_within}
 use Rattle.wit_graph_theory.specs.examples.TestFacts.{none_in, only_one}
 use Rattle.wit_merge_spec.specs.MismatchText.{linked}
-use Rattle.wit_merge_spec.specs.TypePairs.{FirstDiffers, TypePair}
+use Rattle.wit_merge_spec.specs.Matches.{FirstDiffers, TypePair}
 use Rattle.wit_merge_examples.specs.Pairs.{AllDiffer, ExamplesOfPairs, in_i, mismatch_t, pair}
 
 abbrev of_t : TypePair

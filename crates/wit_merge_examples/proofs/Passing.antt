@@ -39,14 +39,12 @@ use Rattle.wit_link_spec.specs.Reasons.{HoldsBorrow}
 use Rattle.wit_link_spec.specs.WorldReasons.{Disagree, HasStability}
 use Rattle.wit_merge_spec.specs.Agreement.{EntriesDiffer, ItemsDiffer, StructuresDiffer, same_sort}
 use Rattle.wit_merge_spec.specs.Agreement as differ
-use Rattle.wit_merge_spec.specs.Cause.{IsMergeCause, MergeIsAccepted}
+use Rattle.wit_merge_spec.specs.Cause.{AreJoined, HasNoMismatch, IsMergeCause, MergeIsAccepted, MergeOverflows, MergeReturnsBorrow, StabilitiesMismatch, graph_spans}
 use Rattle.wit_merge_spec.specs.Cause as reason
-use Rattle.wit_merge_spec.specs.Matches.{GraphMerge, Pair, counterpart_interface, counterpart_item, counterpart_type, counterpart_world, matched_interface, matched_world}
+use Rattle.wit_merge_spec.specs.Matches.{FirstDiffers, GraphMerge, Pair, TypePair, counterpart_interface, counterpart_item, counterpart_type, counterpart_world, matched_interface, matched_world, type_pairs}
 use Rattle.wit_merge_spec.specs.MismatchText.{side_word}
 use Rattle.wit_merge_spec.specs.Remapped.{merge_maps, moved_functions}
-use Rattle.wit_merge_spec.specs.Reasons.{AreJoined, HasNoMismatch, MergeOverflows, MergeReturnsBorrow, StabilitiesMismatch, graph_spans}
-use Rattle.wit_merge_spec.specs.Reasons as joins
-use Rattle.wit_merge_spec.specs.TypePairs.{FirstDiffers, TypePair, type_pairs}
+use Rattle.wit_merge_spec.specs.Cause as joins
 use Rattle.wit_merge_spec.specs.United.{joined_graph}
 use Rattle.wit_merge_structure.specs.facts.DifferenceFacts.{same_no_first}
 use Rattle.wit_merge_structure.specs.Structure.{Feature, structure}

@@ -10,11 +10,10 @@ use Rattle.wit_graph_data.specs.declared.graph.Graph.{Graph}
 use Rattle.wit_graph_theory.specs.examples.TestFacts.{feature_of}
 use Rattle.wit_link_spec.specs.Gates.{OptionalSpan}
 use Rattle.wit_link_spec.specs.WorldReasons.{Disagree}
-use Rattle.wit_merge_spec.specs.Cause.{IsMergeCause}
+use Rattle.wit_merge_spec.specs.Cause.{AreJoined, IsMergeCause, StabilitiesMismatch}
 use Rattle.wit_merge_spec.specs.Cause as reason
 use Rattle.wit_merge_spec.specs.Matches.{GraphMerge}
-use Rattle.wit_merge_spec.specs.Reasons.{AreJoined, StabilitiesMismatch}
-use Rattle.wit_merge_spec.specs.Reasons as joins
+use Rattle.wit_merge_spec.specs.Cause as joins
 use Rattle.wit_merge_structure.specs.Structure.{structure, structure_within}
 use Rattle.wit_merge_examples.proofs.Passing.{GatesJoin, can_merge, joined_accepted}
 use Rattle.wit_merge_examples.specs.Graphs.{gate_f, gate_g, merge_of_graphs}

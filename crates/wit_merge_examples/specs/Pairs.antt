@@ -8,7 +8,7 @@ use Rattle.wit_data.specs.declared.world.WorldItem.TheVariants as item
 use Rattle.wit_data.specs.declared.world.WorldKey.TheVariants as key
 use Rattle.wit_graph_data.specs.examples.Samples.{instance, interface_of, type_of, world_of}
 use Rattle.wit_graph_data.specs.declared.graph.Graph.{Graph}
-use Rattle.wit_merge_spec.specs.TypePairs.{FirstDiffers, TypePair, type_pairs}
+use Rattle.wit_merge_spec.specs.Matches.{FirstDiffers, TypePair, type_pairs}
 use Rattle.wit_merge_examples.specs.Graphs.{alias_in, b_uses_a, foo_bar_alone, foo_named, inner, interface_in, merge_of_graphs, more, number_in, one_number, package_named}
 
 -- ---- graphs

@@ -13,9 +13,8 @@ use Rattle.wit_graph_data.specs.declared.error_kind.ResolveErrorKind.TheVariants
 use Rattle.wit_graph_data.specs.declared.graph.Graph.{Graph}
 use Rattle.wit_graph_theory.specs.AllElaborated.{DependsOnItself, UsesItself}
 use Rattle.wit_link_spec.specs.Gates.{OptionalSpan}
-use Rattle.wit_merge_spec.specs.Cause.{IsMergeCause}
+use Rattle.wit_merge_spec.specs.Cause.{IsMergeCause, MergeReturnsBorrow}
 use Rattle.wit_merge_spec.specs.Matches.{GraphMerge}
-use Rattle.wit_merge_spec.specs.Reasons.{MergeReturnsBorrow}
 use Rattle.wit_merge_spec.specs.United.{joined_graph}
 use Rattle.wit_merge_examples.specs.Graphs.{alias_in, foo_named, gate_f, gate_g, interface_in, merge_of_graphs, number_in, package_named, taking, with_functions}
 use Rattle.wit_merge_examples.specs.Refusals.{handle_t, holding, returning, x_uses_y, y_uses_x}

@@ -25,8 +25,8 @@ use Rattle.wit_graph_theory.specs.facts.OptionFacts.{some_parts, some_same, some
 use Rattle.wit_link_spec.specs.Gates.{OptionalSpan}
 use Rattle.wit_link_spec.specs.WorldReasons.{Disagree, HasStability}
 use Rattle.wit_merge_spec.specs.Matches.{GraphMerge, Pair, counterpart_interface, counterpart_type, counterpart_world}
-use Rattle.wit_merge_spec.specs.Reasons as reasons
-use Rattle.wit_merge_spec.specs.Reasons.{AreJoined, StabilitiesMismatch}
+use Rattle.wit_merge_spec.specs.Cause as reasons
+use Rattle.wit_merge_spec.specs.Cause.{AreJoined, StabilitiesMismatch}
 use Rattle.wit_merge_match.specs.steps.Stabilities as stabilities
 use Rattle.wit_merge_match.specs.steps.Stabilities.{AreApart, EntriesApart, EntryApart, InterfacesApartAt, TypesApartAt, WorldsApart, WorldsApartAt, matched_stability, own_stability}
 use Rattle.wit_merge_match.proofs.Steps.{NoneBelow, from_pair, to_pair}

@@ -1,4 +1,3 @@
 pub mod Matched
-pub mod MergeRemaps
 pub mod Stabilities
 pub mod Structures

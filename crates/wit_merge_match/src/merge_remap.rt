@@ -2,8 +2,7 @@
 ghost use Rattle.std.specs.Prelude.{◌≡◌, IfOk, OnOk, Some, is_some, length, map, not, unwrap_or};
 ghost use Rattle.std.specs.List.{range_with_len};
 ghost use Rattle.wit_link_spec.specs.facts.RankFacts.{after};
-ghost use Rattle.wit_merge_match.specs.steps.Matched.{AreMatches, merge_of_graphs};
-ghost use Rattle.wit_merge_match.specs.steps.MergeRemaps.{merge_remap_of, place_from};
+ghost use Rattle.wit_merge_match.specs.steps.Matched.{AreMatches, merge_of_graphs, merge_remap_of, place_from};
 
 use crate::matches::Matches;
 use std::alloc::{AllocError, Global};

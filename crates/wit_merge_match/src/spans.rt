@@ -1,7 +1,7 @@
 //! Whether the spans of a graph can be moved.
 ghost use Rattle.std.specs.Prelude.{◌≡◌, false, true};
 ghost use Rattle.wit_graph_data.specs.declared.graph.Graph.{Graph};
-ghost use Rattle.wit_merge_spec.specs.Reasons.{MergeOverflows};
+ghost use Rattle.wit_merge_spec.specs.Cause.{MergeOverflows};
 ghost use Rattle.wit_merge_match.specs.Differing.{merge_of_graphs_by};
 
 use wit_graph_data::Graph;

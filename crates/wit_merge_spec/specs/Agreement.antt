@@ -10,9 +10,8 @@ use Rattle.wit_graph_data.specs.IdText.{key_text}
 use Rattle.wit_graph_data.specs.declared.graph.Package.{Package}
 use Rattle.wit_graph_theory.specs.FunctionMismatch.{HaveFunctionMismatch}
 use Rattle.wit_graph_theory.specs.steps.UnnamedOnce.{entries_of}
-use Rattle.wit_merge_spec.specs.Matches.{GraphMerge, Pair, counterpart_interface, counterpart_item, counterpart_type, counterpart_world}
+use Rattle.wit_merge_spec.specs.Matches.{FirstDiffers, GraphMerge, Pair, counterpart_interface, counterpart_item, counterpart_type, counterpart_world, type_pairs}
 use Rattle.wit_merge_spec.specs.MismatchText.{absent_text, entry_count_text, entry_link, linked, other_interface_text, other_sort_text, part_links, side_word}
-use Rattle.wit_merge_spec.specs.TypePairs.{FirstDiffers, type_pairs}
 use Rattle.wit_merge_structure.specs.Structure.{DifferInStructure}
 
 -- ---- types

@@ -1,10 +1,7 @@
 pub mod Agreement
 pub mod Cause
-pub mod Joined
 pub mod Matches
 pub mod MismatchText
-pub mod Reasons
 pub mod Remapped
-pub mod TypePairs
 pub mod United
 pub mod facts

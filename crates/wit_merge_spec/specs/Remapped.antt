@@ -14,7 +14,7 @@ use Rattle.wit_data.specs.declared.world.World.{World}
 use Rattle.wit_data.specs.declared.world.WorldItem.{WorldItem}
 use Rattle.wit_data.specs.declared.world.WorldItem.TheVariants as item
 use Rattle.wit_graph_theory.specs.Image.{Maps, type_image}
-use Rattle.wit_link_spec.specs.Ranks.{rank, selected, selected_with_index}
+use Rattle.wit_link_spec.specs.Addition.{rank, selected, selected_with_index}
 use Rattle.wit_link_spec.specs.Resources.{leads_to_resource, own_of, signature_positions, value_positions}
 use Rattle.wit_merge_spec.specs.Matches.{GraphMerge, counterpart_interface, counterpart_package, counterpart_type, counterpart_world, matched_interface}
 

@@ -1,19 +1,90 @@
 -- What merging another graph makes of a graph: a function of the two graphs and of the offset. Everything of the
--- graph stays at its ids, joined with what is matched with it. Behind it come the images of what moves, in the
--- order of their ids, and the `own`s that values ask for. Then every world is elaborated.
--- Source: `merge` of wit-parser 0.263.0.
-use Rattle.std.specs.Prelude.{ℕ, List, ◌++◌, map, filter}
+-- graph stays at its ids: it keeps its data, but for a stability that is joined to its own and for what is appended to
+-- it. Behind it come the images of what moves, in the order of their ids, and the `own`s that values ask for. Then
+-- every world is elaborated.
+-- Source: `merge`, `update_stability` and `update_world_imports_stability` of wit-parser 0.263.0.
+use Rattle.std.specs.Prelude.{ℕ, List, ◌++◌, map, filter, Bool, true, false}
 use Rattle.std.specs.List.{enumerate_from}
+use Rattle.std.specs.Option.{option_map_or}
+use Rattle.wit_data.specs.Entries.{Entry}
+use Rattle.wit_data.specs.declared.function.Function.{Function}
+use Rattle.wit_data.specs.declared.interface.Interface.{Interface}
 use Rattle.wit_data.specs.declared.package_name.PackageName.{PackageName}
+use Rattle.wit_data.specs.declared.types.TypeDef.{TypeDef}
 use Rattle.wit_data.specs.declared.world.World.{World}
+use Rattle.wit_data.specs.declared.world.WorldKey.{WorldKey}
+use Rattle.wit_data.specs.declared.world.WorldKey.TheVariants as key
 use Rattle.wit_graph_data.specs.declared.graph.Graph.{Graph}
 use Rattle.wit_graph_data.specs.declared.graph.Package.{Package}
 use Rattle.wit_graph_theory.specs.AllElaborated.{all_elaborated}
-use Rattle.wit_graph_theory.specs.Image.{interface_image, type_image, world_image}
-use Rattle.wit_link_spec.specs.Ranks.{selected}
-use Rattle.wit_merge_spec.specs.Joined.{joined_interface, joined_package, joined_type, joined_world}
-use Rattle.wit_merge_spec.specs.Matches.{GraphMerge}
-use Rattle.wit_merge_spec.specs.Remapped.{merge_maps, merged_interface, merged_package, merged_world, moved_interfaces, moved_types, moved_worlds, moves_package, owns_of_merge}
+use Rattle.wit_graph_theory.specs.Image.{entry_image, function_image, interface_image, type_image, world_image}
+use Rattle.wit_link_spec.specs.Include.{joined_entry, joined_stability}
+use Rattle.wit_link_spec.specs.Addition.{selected}
+use Rattle.wit_merge_spec.specs.Matches.{GraphMerge, counterpart_interface, counterpart_of, counterpart_package, counterpart_type, counterpart_world}
+use Rattle.wit_merge_spec.specs.Remapped.{brought_functions, brought_types, merge_maps, merged_interface, merged_package, merged_type, merged_world, moved_interfaces, moved_types, moved_worlds, moves_interface, moves_package, moves_world, owns_of_merge}
+
+-- ---- types
+
+-- a type, with the stability of another joined to it
+abbrev pub with_type : TypeDef → TypeDef → TypeDef
+with_type from into = record into { stability = joined_stability from.stability into.stability }
+
+-- a type of the graph, by its place and what it is: with what is matched with it, if something is
+abbrev pub joined_type : GraphMerge → ℕ × TypeDef → TypeDef
+joined_type m e = option_map_or (λ (p : ℕ × TypeDef). with_type p.1 e.1) (counterpart_of (counterpart_type m) m.other.types e.0) e.1
+
+-- ---- interfaces
+
+-- an interface, with what another brings behind what it has
+abbrev pub with_interface : GraphMerge → Interface → Interface → Interface
+with_interface m from into = record into {
+  types = into.types ++ map (λ (e : List ℕ × ℕ). (e.0, merged_type m e.1)) (brought_types m from);
+  functions = into.functions ++ map (λ (e : List ℕ × Function). (e.0, function_image (merge_maps m) e.1)) (brought_functions from into);
+  stability = joined_stability from.stability into.stability;
+}
+
+-- an interface of the graph, by its id and what it is: with what its counterpart brings, if it has one
+abbrev pub joined_interface : GraphMerge → ℕ × Interface → Interface
+joined_interface m e = option_map_or (λ (p : ℕ × Interface). with_interface m p.1 e.1) (counterpart_of (counterpart_interface m) m.other.interfaces e.0) e.1
+
+-- ---- worlds
+
+-- the entry stands under the key of an interface
+abbrev pub is_under_id : WorldKey → Bool
+is_under_id (key.Name label) = false
+is_under_id (key.Interface i) = true
+
+-- entries of a world, each with the stability joined to it of the entry under its key among those of world w of the
+-- graph that comes in; so under keys of interfaces alone
+abbrev pub with_entries : GraphMerge → ℕ → List Entry → List Entry → List Entry
+with_entries m w from into = map (joined_entry false (map (entry_image (merge_maps m) w) (filter (λ (e : Entry). is_under_id e.0) from))) into
+
+-- a world, with the stabilities of another, which comes with its place, joined to its own
+abbrev pub with_world : GraphMerge → ℕ × World → World → World
+with_world m p into = record into {
+  imports = with_entries m p.0 p.1.imports into.imports;
+  exports = with_entries m p.0 p.1.exports into.exports;
+  stability = joined_stability p.1.stability into.stability;
+}
+
+-- a world of the graph, by its id and what it is: with the stabilities of its counterpart joined to its own, if it
+-- has one
+abbrev pub joined_world : GraphMerge → ℕ × World → World
+joined_world m e = option_map_or (λ (p : ℕ × World). with_world m p e.1) (counterpart_of (counterpart_world m) m.other.worlds e.0) e.1
+
+-- ---- packages
+
+-- a package, with the interfaces and worlds of another that move behind its own
+abbrev pub with_package : GraphMerge → Package → Package → Package
+with_package m from into = record into {
+  interfaces = into.interfaces ++ map (λ (e : List ℕ × ℕ). (e.0, merged_interface m e.1)) (filter (λ (e : List ℕ × ℕ). moves_interface m e.1) from.interfaces);
+  worlds = into.worlds ++ map (λ (e : List ℕ × ℕ). (e.0, merged_world m e.1)) (filter (λ (e : List ℕ × ℕ). moves_world m e.1) from.worlds);
+}
+
+-- a package of the graph, by its id and what it is: with the interfaces and worlds that its counterpart brings, if it
+-- has one
+abbrev pub joined_package : GraphMerge → ℕ × Package → Package
+joined_package m e = option_map_or (λ (p : ℕ × Package). with_package m p.1 e.1) (counterpart_of (counterpart_package m) m.other.packages e.0) e.1
 
 -- a package that moves, with what its tables list at the new ids
 abbrev pub package_image : GraphMerge → Package → Package

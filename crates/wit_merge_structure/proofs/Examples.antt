@@ -7,7 +7,7 @@ use Rattle.wit_data.specs.declared.types.TypeDefKind.{TypeDefKind}
 use Rattle.wit_data.specs.declared.types.TypeDefKind.TheVariants as kind
 use Rattle.wit_data.specs.declared.types.Type_.TheVariants as type
 use Rattle.wit_merge_structure.specs.facts.DifferenceFacts.{first_here, one_first, same_no_first}
-use Rattle.wit_merge_structure.specs.Examples.{Differ, ExamplesOfHeads, ExamplesOfParts, ExamplesOfTypes, ExamplesOfVariants, bytes, record_ab, shorts, with_name, without_name}
+use Rattle.wit_merge_structure.specs.examples.Examples.{Differ, ExamplesOfHeads, ExamplesOfParts, ExamplesOfTypes, ExamplesOfVariants, bytes, record_ab, shorts, with_name, without_name}
 use Rattle.wit_merge_structure.specs.Structure.{Content, DifferInStructure, Feature, FirstDifference, absent, difference_text, fixed, named, names, path_text, primitive, structure, structure_within, variant}
 use Rattle.wit_merge_structure.specs.declared.kinds.Variant.TheVariants as variants
 

@@ -1,4 +1,4 @@
-pub mod Examples
 pub mod Structure
+pub mod examples
 pub mod facts
 pub mod steps

@@ -1,5 +1,5 @@
 //! Laws of the definitions: each function has no body, and its contract is what is proved.
-ghost use Rattle.wit_merge_structure.specs.Examples.{ExamplesOfHeads, ExamplesOfParts, ExamplesOfTypes, ExamplesOfVariants};
+ghost use Rattle.wit_merge_structure.specs.examples.Examples.{ExamplesOfHeads, ExamplesOfParts, ExamplesOfTypes, ExamplesOfVariants};
 
 /// The worked examples.
 pub fn examples_of_structure()

@@ -15,11 +15,12 @@ use Rattle.wit_data.specs.declared.world.WorldKey.TheVariants as key
 use Rattle.wit_elaboration.specs.Valid.{IsValid}
 use Rattle.wit_graph_theory.specs.Cut.{ItemIsKept}
 use Rattle.wit_graph_theory.specs.Image.{entry_image}
-use Rattle.wit_link_spec.specs.Addition.{Addition, active, addition_maps, own_world, part}
+use Rattle.wit_link_spec.specs.Addition.{Addition, active, addition_maps, own_world}
+use Rattle.wit_link_spec.specs.facts.ActivePart.{part}
 use Rattle.wit_link_spec.specs.facts.ApartFacts.{KeyIsActive, keys_apart}
 use Rattle.wit_link_spec.specs.facts.ClosedCut.{closed_part}
 use Rattle.wit_link_spec.specs.Reasons.{IsResolved}
-use Rattle.wit_remap.specs.steps.Worlds.{HasKeysApart}
+use Rattle.wit_remap.specs.steps.Added.{HasKeysApart}
 
 module _ (f : Entry → Entry) (kept : Entry → Bool) where
   -- a key that no other has

@@ -5,10 +5,9 @@ use Rattle.wit_data.specs.Shape.{IsShaped}
 use Rattle.wit_data.specs.declared.world.WorldItem.{WorldItem}
 use Rattle.wit_data.specs.declared.world.WorldItem.TheVariants as item
 use Rattle.wit_link_spec.specs.steps.AdditionRefs.{activity_of, new_ids_of, values_of}
-use Rattle.wit_link_spec.specs.Addition.{Addition, active, active_interface_id, active_type_id, active_world_id, addition_maps, own_types, remapped_interface, remapped_type, remapped_value, remapped_world, value_needs_own}
+use Rattle.wit_link_spec.specs.Addition.{Addition, active, active_interface_id, active_type_id, active_world_id, addition_maps, own_types, rank, remapped_interface, remapped_type, remapped_value, remapped_world, value_needs_own}
 use Rattle.wit_link_spec.specs.Gates.{function_is_active, interface_is_active, item_is_active, type_is_active, world_is_active}
 use Rattle.wit_link_spec.specs.facts.PositionFacts.{needs_active}
-use Rattle.wit_link_spec.specs.Ranks.{rank}
 use Rattle.wit_link_spec.specs.Reasons.{IsResolved}
 use Rattle.wit_remap.specs.steps.Movers.{goes, maps_with}
 use Rattle.wit_remap.specs.steps.Parts.{flag, has_item, kept_with}

@@ -18,18 +18,15 @@ use Rattle.wit_graph_theory.specs.Cut.{cut_interface, cut_world}
 use Rattle.wit_graph_theory.specs.Image.{Maps, interface_image, type_image, world_image}
 use Rattle.wit_graph_theory.specs.Kept.{KeptIds}
 use Rattle.wit_link_spec.specs.steps.AdditionRefs.{new_ids_of}
-use Rattle.wit_link_spec.specs.Addition.{Addition, active, addition_maps, own_interface, own_type, own_world, owns_of_addition}
+use Rattle.wit_link_spec.specs.Addition.{Addition, active, addition_maps, own_interface, own_type, own_world, owns_of_addition, selected, selected_with_index}
 use Rattle.wit_link_spec.specs.Gates.{include_is_active, interface_is_active, world_is_active}
 use Rattle.wit_link_spec.specs.Pushed.{with_parts}
 use Rattle.wit_link_spec.specs.facts.RankFacts.{selected_with_index-from}
-use Rattle.wit_link_spec.specs.Ranks.{selected, selected_with_index}
 use Rattle.wit_link_spec.specs.Reasons.{AdditionOverflows, IsResolved}
 use Rattle.wit_link_spec.specs.declared.addition.NewIds.{NewIds}
-use Rattle.wit_remap.specs.steps.Added.{CanMoveParts, added_world, added_worlds, moved_package, moved_parts}
+use Rattle.wit_remap.specs.steps.Added.{CanMoveParts, added_world, added_worlds, interfaces_at, moved_package, moved_parts, placed_world, worlds_at}
 use Rattle.wit_remap.specs.steps.Movers.{maps_with}
 use Rattle.wit_remap.specs.steps.Parts.{is_new, kept_of}
-use Rattle.wit_remap.specs.steps.Tables.{interfaces_at, worlds_at}
-use Rattle.wit_remap.specs.steps.Worlds.{placed_world}
 use Rattle.wit_remap.specs.declared.part.Part.{Part}
 use Rattle.wit_remap.specs.declared.worlds.PlacedWorld.{PlacedWorld}
 use Rattle.wit_remap.proofs.KeysApart.{world_keys_apart}

@@ -2,5 +2,3 @@ pub mod Added
 pub mod Fits
 pub mod Movers
 pub mod Parts
-pub mod Tables
-pub mod Worlds

@@ -8,8 +8,7 @@ ghost use Rattle.wit_data.specs.declared.types.EnumCase.{EnumCase};
 ghost use Rattle.wit_data.specs.declared.types.Field.{Field};
 ghost use Rattle.wit_data.specs.declared.types.Flag.{Flag};
 ghost use Rattle.wit_data.specs.declared.world.WorldInclude.{WorldInclude};
-ghost use Rattle.wit_remap.specs.steps.Fits.{EntriesFit, Fits, FunctionFits, InterfaceFits, ItemFits, KindFits, TypeFits, WorldFits};
-ghost use Rattle.wit_remap.specs.facts.Fitting.{PartsFit, WholeWorldFits};
+ghost use Rattle.wit_remap.specs.steps.Fits.{EntriesFit, Fits, FunctionFits, InterfaceFits, ItemFits, KindFits, PartsFit, TypeFits, WholeWorldFits, WorldFits};
 
 use wit_data::{
     Case, EnumCase, Field, Flag, Function, Interface, Param, Span, Table, TypeDef, TypeDefKind,

@@ -3,7 +3,7 @@ ghost use Rattle.std.specs.Prelude.{◌≡◌, IfOk, drop, filter, slice_get};
 ghost use Rattle.std.specs.Option.{option_copied};
 ghost use Rattle.std.specs.Slice.Iter.{iter_rest};
 ghost use Rattle.wit_link_spec.specs.Gates.{include_is_active, is_active};
-ghost use Rattle.wit_link_spec.specs.Ranks.{selected, selected_with_index};
+ghost use Rattle.wit_link_spec.specs.Addition.{selected, selected_with_index};
 ghost use Rattle.wit_graph_theory.specs.Cut.{cut_interface};
 ghost use Rattle.wit_remap.specs.steps.Parts.{is_from, is_new, kept_of};
 

@@ -8,7 +8,7 @@ ghost use Rattle.wit_data.specs.facts.WorldKeyFacts.{same_key};
 ghost use Rattle.wit_remap.specs.steps.Fits.{EntriesFit, Fits, ItemFits, WorldFits};
 ghost use Rattle.wit_remap.specs.steps.Movers.{maps_of};
 ghost use Rattle.wit_remap.specs.steps.Parts.{kept_of};
-ghost use Rattle.wit_remap.specs.steps.Worlds.{HasKeysApart, placed_world};
+ghost use Rattle.wit_remap.specs.steps.Added.{HasKeysApart, placed_world};
 
 use crate::mover::Mover;
 use crate::moves::Moves;

@@ -29,12 +29,10 @@ use Rattle.wit_link_order.specs.GroupOrder.{AreSorted, IsGroupOrder, IsSortCause
 use Rattle.wit_link_spec.specs.Addition.{own_worlds}
 use Rattle.wit_link_spec.specs.Cause.{AdditionIsAccepted, duplicate_5}
 use Rattle.wit_link_spec.specs.Pushed.{pushed, with_parts}
-use Rattle.wit_link.specs.Appending.{IsAdded, addition}
-use Rattle.wit_link.specs.Groups.{FilesPassTheEnd, IsGroupsCause, IsPushCause, files_end, packages_of}
-use Rattle.wit_link.specs.Several.{ArePushed, CanAppend, IsOneRefused}
+use Rattle.wit_link.specs.Appending.{ArePushed, CanAppend, FilesPassTheEnd, IsAdded, IsGroupsCause, IsOneRefused, IsPushCause, addition, files_end, packages_of}
 use Rattle.wit_remap.specs.Grown.{Begins}
 use Rattle.wit_remap.specs.facts.GrownFacts.{Begins-then}
-use Rattle.wit_resolve_graph.specs.facts.Grouping.{AreAdded}
+use Rattle.wit_resolve_graph.specs.steps.Grouping.{AreAdded}
 use Rattle.wit_resolve_graph.specs.State.{State}
 use Rattle.wit_resolve_graph.specs.Step.{PushesGroups, RefusesGroups, with_files}
 use Rattle.wit_resolve_graph.proofs.OneOrder.{Differ, one_place, one_sorted}

@@ -15,7 +15,7 @@ use Rattle.wit_elaboration.specs.Valid.{IsValid}
 use Rattle.wit_graph_data.specs.declared.graph.Graph.{Graph}
 use Rattle.wit_graph_data.specs.declared.graph.Package.{Package}
 use Rattle.wit_graph_theory.specs.facts.ListFacts.{found_at, place_of, same_at, some_at}
-use Rattle.wit_resolve_graph.specs.Named.{HasWorld}
+use Rattle.wit_resolve_graph.specs.Step.{HasWorld}
 use Rattle.wit_transform.proofs.Distinct.{key_of_entry, same_entry}
 
 faithful : (a b : List ℕ) → bytes_eq a b ≡ true → a ≡ b

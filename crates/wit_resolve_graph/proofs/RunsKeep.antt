@@ -19,8 +19,7 @@ use Rattle.wit_link_spec.specs.Addition.{Addition, active_includes, addition_map
 use Rattle.wit_link_spec.specs.Include.{PartiallyLinked, lists_of, with_copies, with_world_included}
 use Rattle.wit_link_spec.specs.Pushed.{linked_world, new_package, pushed, with_all_includes, with_include, with_parts, with_world}
 use Rattle.wit_graph_theory.specs.Image.{Maps, world_image}
-use Rattle.wit_link.specs.Appending.{addition}
-use Rattle.wit_link.specs.Several.{ArePushed}
+use Rattle.wit_link.specs.Appending.{ArePushed, addition}
 use Rattle.wit_merge_spec.specs.Matches.{GraphMerge}
 use Rattle.wit_merge_spec.specs.facts.Unchanged.{SameHome, SameInterface, SamePackage, SameType}
 use Rattle.wit_merge_spec.specs.United.{united}

@@ -10,7 +10,7 @@ use Rattle.wit_data.specs.declared.unresolved.UnresolvedPackageGroup.{Unresolved
 use Rattle.wit_graph_data.specs.RenderedText.{rendered_text, text_at}
 use Rattle.wit_graph_data.specs.declared.error_kind.ResolveErrorKind.{ResolveErrorKind}
 use Rattle.wit_graph_data.specs.declared.error_kind.ResolveErrorKind.TheVariants.{OffsetOverflow, OutOfMemory}
-use Rattle.wit_link.specs.Groups.{IsGroupsCause}
+use Rattle.wit_link.specs.Appending.{IsGroupsCause}
 use Rattle.wit_resolve_graph.specs.State.{State}
 use Rattle.wit_resolve_graph.specs.Step.{PushesGroups, RefusesGroups}
 use Rattle.wit_resolve_graph.specs.declared.sources.ParseFault.{ParseFault}

@@ -1,10 +1,12 @@
 -- What a command does, and runs of commands. A command changes the state and answers, or refuses with an
 -- error that has a reason and then leaves all but the sources as it was. Want of memory is no reason, but
 -- may always be answered where memory is taken. Only their own commands change features and the rule of tracks.
-use Rattle.std.specs.Prelude.{◌≡◌, ◌⊎◌, ◌≤◌, ◌<◌, ◌^◌, ℕ, Bool, true, List, [], ◌∷◌, ◌++◌, length, map, slice_get, Option, None, Some, if◌then◌else◌}
-use Rattle.std.specs.List.{list_any}
+use Rattle.std.specs.Prelude.{◌≡◌, ◌⊎◌, ◌≤◌, ◌<◌, ◌^◌, ℕ, Bool, true, List, [], ◌∷◌, ◌++◌, length, map, slice_get, Option, None, Some, if◌then◌else◌, Contains}
+use Rattle.std.specs.List.{AllByRecursion, list_any}
 use Rattle.std.specs.Str.{bytes_eq}
 use Rattle.wit_sources.specs.SourceMap.{Sources, with_sources}
+use Rattle.wit_data.specs.Each.{SomeAt}
+use Rattle.wit_data.specs.Shape.{IsGroupShaped}
 use Rattle.wit_data.specs.declared.package_name.PackageName.{PackageName}
 use Rattle.wit_data.specs.declared.unresolved.UnresolvedPackageGroup.{UnresolvedPackageGroup}
 use Rattle.wit_data.specs.declared.world.WorldKey.{WorldKey}
@@ -14,20 +16,23 @@ use Rattle.wit_graph_data.specs.IdText.{key_text}
 use Rattle.wit_graph_data.specs.declared.error_kind.ResolveErrorKind.{ResolveErrorKind}
 use Rattle.wit_graph_data.specs.declared.error_kind.ResolveErrorKind.TheVariants.{OffsetOverflow, OutOfMemory}
 use Rattle.wit_graph_data.specs.declared.features.Features.{Features}
-use Rattle.wit_link.specs.Groups.{IsGroupsCause, files_end, packages_of}
-use Rattle.wit_link.specs.Several.{ArePushed}
+use Rattle.wit_graph_data.specs.declared.graph.Package.{Package}
+use Rattle.wit_link.specs.Appending.{ArePushed, IsGroupsCause, files_end, packages_of}
 use Rattle.wit_link_order.specs.GroupOrder.{AreSorted, IsSortCause, Unresolved}
 use Rattle.wit_resolve_graph.specs.Merging.{HasSourcesAfter, Merges, RefusesMerge}
-use Rattle.wit_resolve_graph.specs.Named.{HasWorld}
 use Rattle.wit_semver_spec.specs.Rewritten.{rewritten}
 use Rattle.wit_semver_spec.specs.TrackCause.{IsTrackCause}
 use Rattle.wit_transform.specs.TransformCause.{IsExportizeCause, IsImportizeCause, imports_at}
 use Rattle.wit_transform.specs.Transformed.{exportized, importized, transformed}
 use Rattle.wit_resolve_graph.specs.State.{State}
 use Rattle.wit_resolve_graph.specs.declared.command.Command.{Command}
-use Rattle.wit_resolve_graph.specs.declared.command.Command.TheVariants.{AddFeature, SetAllFeatures, SetTrackRule, PushGroups, Merge, Importize, Exportize, Semver}
+use Rattle.wit_resolve_graph.specs.declared.command.Command.TheVariants.{AddFeature, Exportize, Importize, Merge, PushGroups, Semver, SetAllFeatures, SetTrackRule}
 use Rattle.wit_resolve_graph.specs.declared.command.Reply.{Reply}
 use Rattle.wit_resolve_graph.specs.declared.command.Reply.TheVariants.{Done, Pushed, Merged, NoWorld, Refused}
+
+-- the graph has a world of this name in the package of that name
+abbrev pub HasWorld : Graph → PackageName → List ℕ → ℕ → Type 0
+HasWorld g home name w = (p : ℕ) × Contains g.package_names (home, p) × SomeAt g.packages p (λ (there : Package). Contains there.worlds (name, w))
 
 -- ---- features
 
@@ -145,3 +150,14 @@ Run old [] [] new = new ≡ old
 Run old (command ∷ commands) (reply ∷ replies) new = (mid : State) × Step old command reply mid × Run mid commands replies new
 Run old [] (reply ∷ replies) new = ⊥
 Run old (command ∷ commands) [] new = ⊥
+
+-- groups that are pushed have their shape; nothing else has one
+abbrev pub IsCommandShaped : Command → Type 0
+IsCommandShaped (AddFeature name) = Unit {0}
+IsCommandShaped (SetAllFeatures all) = Unit {0}
+IsCommandShaped (SetTrackRule rule) = Unit {0}
+IsCommandShaped (PushGroups main deps) = AllByRecursion IsGroupShaped (main ∷ deps)
+IsCommandShaped (Importize home world out) = Unit {0}
+IsCommandShaped (Exportize home world out keys) = Unit {0}
+IsCommandShaped (Semver home world) = Unit {0}
+IsCommandShaped (Merge other) = Unit {0}

@@ -1,8 +1,7 @@
 //! The names in core wasm of what a `Resolve` has. Each call hands on to the one of the same name over its
 //! graph.
 ghost use Rattle.std.specs.Prelude.{◌≡◌, IfErr, IfOk, string_bytes, true};
-ghost use Rattle.wit_core_names.specs.Conditions.{can_name_export, can_name_import};
-ghost use Rattle.wit_core_names.specs.Names.{export_name, import_names};
+ghost use Rattle.wit_core_names.specs.Names.{can_name_export, can_name_import, export_name, import_names};
 ghost use Rattle.wit_graph_data.specs.declared.error_kind.ResolveErrorKind.TheVariants.{OutOfMemory};
 
 use crate::resolve::Resolve;

@@ -3,10 +3,9 @@ ghost use Rattle.std.specs.Prelude.{◌≡◌, ◌≤◌, ◌<◌, ◌^◌, ◌�
 ghost use Rattle.wit_graph_data.specs.declared.error_kind.ResolveErrorKind.{ResolveErrorKind};
 ghost use Rattle.wit_data.specs.Shape.{IsGroupShaped};
 ghost use Rattle.wit_data.specs.declared.unresolved.UnresolvedPackageGroup.{UnresolvedPackageGroup};
-ghost use Rattle.wit_link.specs.Groups.{IsGroupsCause};
-ghost use Rattle.wit_resolve_graph.specs.Sources.{IsNotPlaced, IsPlaced, MayParse, PushesSource, RefusesSource};
+ghost use Rattle.wit_link.specs.Appending.{IsGroupsCause};
+ghost use Rattle.wit_resolve_graph.specs.Sources.{IsNotPlaced, IsPlaced, MayParse, PushesSource, RefusesSource, only_file};
 ghost use Rattle.wit_resolve_graph.specs.declared.sources.ParseFault.TheVariants as parse;
-ghost use Rattle.wit_resolve_graph.specs.Sources.{only_file};
 ghost use Rattle.wit_sources.specs.SourceMap.{end_after};
 
 use crate::resolve::Resolve;

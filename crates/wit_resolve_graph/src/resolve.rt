@@ -9,8 +9,7 @@ ghost use Rattle.wit_graph_data.specs.declared.error_kind.ResolveErrorKind.TheVa
 ghost use Rattle.wit_data.specs.Shape.{IsGroupShaped, IsShaped};
 ghost use Rattle.wit_sources.specs.SourceMap.{with_sources};
 ghost use Rattle.wit_link_spec.specs.Cause.{IsCause};
-ghost use Rattle.wit_link.specs.Appending.{IsAdded, addition};
-ghost use Rattle.wit_link.specs.Groups.{IsGroupsCause};
+ghost use Rattle.wit_link.specs.Appending.{IsAdded, IsGroupsCause, addition};
 ghost use Rattle.wit_merge_spec.specs.Cause.{IsMergeCause};
 ghost use Rattle.wit_queries.specs.ValidBits.{AreValidBitsOf};
 ghost use Rattle.wit_selection.specs.Selection.{IsSelectionError, selected_world};

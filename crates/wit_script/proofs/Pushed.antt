@@ -7,7 +7,7 @@ use Rattle.wit_data.specs.Shape.{IsGroupShaped}
 use Rattle.wit_data.specs.declared.unresolved.UnresolvedPackageGroup.{UnresolvedPackageGroup}
 use Rattle.wit_script_package.specs.Draft.{as_group}
 use Rattle.wit_script_package.specs.declared.draft.Draft.{Draft}
-use Rattle.wit_script_lines.specs.Signature.{each_of}
+use Rattle.wit_script_lines.specs.PackageLine.{each_of}
 use Rattle.wit_script.specs.Ready.{AreReady, AreShaped, IsReady}
 use Rattle.wit_script.specs.Script.{IsBad, with_groups}
 use Rattle.wit_script.specs.declared.reader.Reading.{Reading}

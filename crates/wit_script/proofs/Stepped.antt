@@ -5,7 +5,7 @@ use Rattle.wit_data.specs.declared.unresolved.UnresolvedPackageGroup.{Unresolved
 use Rattle.wit_script_package.specs.Draft.{as_group, new_draft}
 use Rattle.wit_script_package.specs.Lines.{with_line}
 use Rattle.wit_script_package.specs.declared.draft.Draft.{Draft}
-use Rattle.wit_script_lines.specs.Signature.{each_of}
+use Rattle.wit_script_lines.specs.PackageLine.{each_of}
 use Rattle.wit_script_lines.specs.declared.request.Request.{Request}
 use Rattle.wit_script_lines.specs.declared.statement.Statement.{Statement}
 use Rattle.wit_script_lines.specs.declared.statement.Statement.TheVariants as says

@@ -9,7 +9,7 @@ use Rattle.wit_script_package.specs.Draft.{as_group, new_draft}
 use Rattle.wit_script_package.specs.Lines.{with_line}
 use Rattle.wit_script_package.specs.declared.draft.Draft.{Draft}
 use Rattle.wit_script_lines.specs.Line.{last_statement_line, lines_of}
-use Rattle.wit_script_lines.specs.Signature.{each_of}
+use Rattle.wit_script_lines.specs.PackageLine.{each_of}
 use Rattle.wit_script_lines.specs.Statement.{statement_of}
 use Rattle.wit_script_lines.specs.declared.fault.LineFault.{LineFault}
 use Rattle.wit_script_lines.specs.declared.fault.LineFault.TheVariants as line_fault

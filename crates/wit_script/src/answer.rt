@@ -2,8 +2,7 @@
 ghost use Rattle.std.specs.Prelude.{◌≡◌, ◌≢◌, ℕ, None, Some, Ok, Err, IfErr, IfOk, false, is_some, string_bytes};
 ghost use Rattle.std.specs.List.{flat_map};
 ghost use Rattle.wit_resolve_graph.specs.State.{new_state};
-ghost use Rattle.wit_resolve_graph.specs.Step.{Run};
-ghost use Rattle.wit_resolve_graph.specs.CommandShape.{IsCommandShaped};
+ghost use Rattle.wit_resolve_graph.specs.Step.{IsCommandShaped, Run};
 ghost use Rattle.wit_resolve_graph.specs.declared.command.Command.TheVariants.{Exportize};
 ghost use Rattle.wit_script.specs.Answer.{AnswersCommand, IsChoice, Answers, AnswersAll, AnswersMerge, AnswersPrint, AnswersSelect, IsResultLine, Replies, AnswersByRun, working_state, only_first, line_of, refusal_text, selected_text, pushed_text, line_unless_done, reply_text, world_named};
 ghost use Rattle.wit_script.specs.Ready.{CanAllBeAsked, CanBeAsked};

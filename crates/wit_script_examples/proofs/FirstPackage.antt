@@ -36,9 +36,7 @@ use Rattle.wit_link_spec.specs.Reasons.{IsActiveFunction, IsResolved, RefersTo, 
 use Rattle.wit_link_spec.specs.Reasons as part
 use Rattle.wit_link_spec.specs.WorldReasons.{AtWorld, HaveLists}
 use Rattle.wit_link_spec.specs.WorldReasons as reached
-use Rattle.wit_link.specs.Appending.{addition}
-use Rattle.wit_link.specs.Groups.{FilesPassTheEnd, IsGroupsCause, files_end}
-use Rattle.wit_link.specs.Several.{ArePushed}
+use Rattle.wit_link.specs.Appending.{ArePushed, FilesPassTheEnd, IsGroupsCause, addition, files_end}
 use Rattle.wit_resolve_graph.specs.examples.Examples.{first_package}
 use Rattle.wit_script_examples.specs.SourceExamples.{made_of}
 

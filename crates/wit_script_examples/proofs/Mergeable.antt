@@ -13,11 +13,10 @@ use Rattle.wit_graph_theory.specs.FunctionMismatch.{HaveFunctionMismatch}
 use Rattle.wit_graph_theory.specs.examples.TestFacts.{all_uses, falls, no_cycle, none_some, only_one}
 use Rattle.wit_merge_spec.specs.Agreement.{GraphsDiffer}
 use Rattle.wit_merge_spec.specs.Agreement as differ
-use Rattle.wit_merge_spec.specs.Cause.{IsMergeCause, MergeIsAccepted}
+use Rattle.wit_merge_spec.specs.Cause.{AreJoined, IsMergeCause, MergeIsAccepted, StabilitiesMismatch}
 use Rattle.wit_merge_spec.specs.Cause as reason
 use Rattle.wit_merge_spec.specs.Matches.{GraphMerge, Pair, counterpart_interface, counterpart_type, counterpart_world}
-use Rattle.wit_merge_spec.specs.Reasons.{AreJoined, StabilitiesMismatch}
-use Rattle.wit_merge_spec.specs.Reasons as joins
+use Rattle.wit_merge_spec.specs.Cause as joins
 use Rattle.wit_merge_spec.specs.United.{joined_graph}
 use Rattle.wit_merge_structure.specs.Structure.{DifferInStructure, Feature, structure, structure_within}
 use Rattle.wit_script_examples.specs.SmallGraphs.{bare, gate, gated}

@@ -12,8 +12,7 @@ use Rattle.wit_graph_data.specs.declared.error_kind.ResolveErrorKind.TheVariants
 use Rattle.wit_graph_data.specs.declared.graph.Graph.{Graph}
 use Rattle.wit_link_order.specs.GroupOrder.{Unresolved}
 use Rattle.wit_link_spec.specs.Pushed.{pushed}
-use Rattle.wit_link.specs.Groups.{IsGroupsCause, files_end}
-use Rattle.wit_link.specs.Several.{ArePushed}
+use Rattle.wit_link.specs.Appending.{ArePushed, IsGroupsCause, files_end}
 use Rattle.wit_resolve_graph.specs.examples.Examples.{first_package}
 use Rattle.wit_resolve_graph.specs.examples.FilesExamples.{ending}
 use Rattle.wit_resolve_graph.specs.Merging.{HasSourcesAfter}

@@ -13,11 +13,10 @@ use Rattle.wit_graph_data.specs.declared.cause.Cause.TheVariants.{UpgradeMismatc
 use Rattle.wit_graph_data.specs.declared.error_kind.ResolveErrorKind.TheVariants.{Semantic}
 use Rattle.wit_graph_data.specs.declared.graph.Graph.{Graph}
 use Rattle.wit_graph_data.specs.declared.graph.Package.{Package}
-use Rattle.wit_resolve_graph.specs.Named.{HasWorld}
+use Rattle.wit_resolve_graph.specs.Step.{HasWorld, Run}
 use Rattle.wit_resolve_graph.specs.State.{State, new_state}
 use Rattle.wit_resolve_graph.specs.declared.command.Reply.{Reply}
 use Rattle.wit_resolve_graph.specs.declared.command.Reply.TheVariants as reply
-use Rattle.wit_resolve_graph.specs.Step.{Run}
 use Rattle.wit_resolve_graph.specs.declared.command.Command.TheVariants.{SetTrackRule}
 use Rattle.wit_semver_spec.specs.Rewritten.{rewritten}
 use Rattle.wit_semver_spec.specs.TrackCause.{IsTrackCause}

@@ -1,7 +1,7 @@
 -- The arguments of a line before its last.
 use Rattle.std.proofs.Common.{◌≡◌, ℕ, ◌+◌, ◌-◌, List, [], ◌∷◌, ◌++◌, Bor, Some, true, false, length, take, map, slice_get, refl, sym, ap, ◌∙◌, length-append, arith}
 use Rattle.std.proofs.lemmas.List.{map-append}
-use Rattle.wit_script_lines.specs.Gate.{is_gate, ungated_of}
+use Rattle.wit_script_lines.specs.PackageLine.{is_gate, ungated_of}
 
 last_at : {X : Type 0} (xs : List X) (x : X) → slice_get (xs ++ x ∷ []) (length xs) ≡ Some x
 last_at [] x = refl

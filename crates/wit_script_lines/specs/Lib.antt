@@ -1,9 +1,8 @@
-pub mod Gate
 pub mod Line
 pub mod PackageLine
 pub mod Request
-pub mod Signature
 pub mod Statement
 pub mod Token
 pub mod TypeText
+pub mod facts
 pub mod steps

@@ -1,15 +1,54 @@
--- What a line of a package says by its tokens alone, without its gate.
-use Rattle.std.specs.Prelude.{ℕ, List, [], ◌∷◌, Option, Some, None, option_and_then, codes, if◌then◌else◌}
-use Rattle.std.specs.Option.{option_map}
+-- What a line of a package says by its tokens alone: names with types, functions, whole lines, and the gate that may end
+-- a line, `@since=VERSION` or `@unstable=FEATURE`.
+use Rattle.std.specs.List.{slice_split}
+use Rattle.std.specs.Prelude.{ℕ, List, [], ◌∷◌, Option, Some, None, option_and_then, codes, if◌then◌else◌, ◌==◌, ◌-◌, ◌||◌, Bool, false, length, take, slice_get, is_some}
+use Rattle.std.specs.Option.{option_map, option_map_or}
 use Rattle.std.specs.Str.{bytes_eq}
+use Rattle.wit_data.specs.declared.stability.Stability.{Stability}
+use Rattle.wit_data.specs.declared.stability.Stability.TheVariants.{Unknown, Stable, Unstable}
 use Rattle.wit_data.specs.declared.use_path.ParsedUsePath.{ParsedUsePath}
 use Rattle.wit_data.specs.declared.world.IncludeName.{IncludeName}
-use Rattle.wit_script_lines.specs.Signature.{each_of, signature_of, typed_name_of}
-use Rattle.wit_script_lines.specs.Token.{part_of, path_of, split_at}
+use Rattle.wit_script_lines.specs.Token.{after_prefix, part_of, path_of, split_at, version_of}
 use Rattle.wit_script_lines.specs.TypeText.{type_text_of}
 use Rattle.wit_script_lines.specs.declared.package_line.PackageLine.{PackageLine}
 use Rattle.wit_script_lines.specs.declared.package_line.PackageLine.TheVariants as line
 use Rattle.wit_script_lines.specs.declared.signature.Signature.{Signature}
+use Rattle.wit_script_lines.specs.declared.signature.TypedName.{TypedName}
+use Rattle.wit_script_lines.specs.declared.type_text.TypeText.{TypeText}
+
+-- what each of them is read as, where each is read
+abbrev pub each_of : {A B : Type 0} → (A → Option B) → List A → Option (List B)
+each_of read [] = Some []
+each_of read (x ∷ xs) = option_and_then (λ y. option_map (λ ys. y ∷ ys) (each_of read xs)) (read x)
+
+-- a name, which has at least one byte, with a type of this text
+abbrev pub typed_name_with : List ℕ → List ℕ → Option TypedName
+typed_name_with name ty = option_map (λ (own : List ℕ). record { name = own; ty = type_text_of ty }) (part_of name)
+
+-- `NAME:TYPE`; the name ends at the first colon
+abbrev pub typed_name_of : List ℕ → Option TypedName
+typed_name_of token = option_and_then (λ (parts : List ℕ × List ℕ). typed_name_with parts.0 parts.1) (split_at 58 token)
+
+-- the parameters between the brackets, which commas part
+abbrev pub params_of : List ℕ → Option (List TypedName)
+params_of [] = Some []
+params_of (b ∷ bs) = each_of typed_name_of (slice_split (λ c. c == 44) (b ∷ bs))
+
+-- what follows the closing bracket: nothing, or `->TYPE`
+abbrev pub answer_of : List ℕ → Option (Option TypeText)
+answer_of [] = Some None
+answer_of (b ∷ bs) = option_map (λ ty. Some (type_text_of ty)) (after_prefix (codes "->") (b ∷ bs))
+
+-- the function of this name from what stands between its brackets and after them
+abbrev pub signature_with : List ℕ → List ℕ → List ℕ → Option Signature
+signature_with name between after =
+    option_and_then (λ (own : List ℕ). option_and_then (λ (params : List TypedName). option_map (λ (answer : Option TypeText).
+    record { name = own; params = params; answer = answer }) (answer_of after)) (params_of between)) (part_of name)
+
+-- `NAME(P:TYPE,..)` or `NAME(P:TYPE,..)->TYPE`; the name ends at the first `(`, the parameters at the first `)` after it
+abbrev pub signature_of : List ℕ → Option Signature
+signature_of token =
+    option_and_then (λ (named : List ℕ × List ℕ). option_and_then (λ (parts : List ℕ × List ℕ). signature_with named.0 parts.0 parts.1) (split_at 41 named.1)) (split_at 40 token)
 
 -- one name
 abbrev pub named_line_of : List (List ℕ) → Option (List ℕ)
@@ -89,3 +128,37 @@ package_line_by word arguments =
     else if bytes_eq word (codes "export-func") then option_map line.ExportFunction (signed_line_of arguments)
     else if bytes_eq word (codes "include") then include_line_of arguments
     else None
+
+-- an argument that is a gate by its beginning
+abbrev pub is_gate : List ℕ → Bool
+is_gate argument = is_some (after_prefix (codes "@since=") argument) || is_some (after_prefix (codes "@unstable=") argument)
+
+-- the gate of what follows `@since=`, or else of what follows `@unstable=`: a version, a feature
+abbrev pub gate_by : Option (List ℕ) → Option (List ℕ) → Option Stability
+gate_by (Some version) feature = option_map (λ since. Stable since None) (version_of version)
+gate_by None (Some feature) = option_map (λ name. Unstable name None) (part_of feature)
+gate_by None None = Some Unknown
+
+-- the gate of a line whose last argument this is: one that looks like a gate has to be one, any other says no gate
+abbrev pub gate_of : List ℕ → Option Stability
+gate_of last = gate_by (after_prefix (codes "@since=") last) (after_prefix (codes "@unstable=") last)
+
+-- the last argument of a line
+abbrev pub last_of : List (List ℕ) → Option (List ℕ)
+last_of arguments = slice_get arguments (length arguments - 1)
+
+abbrev pub gate_of_last : Option (List ℕ) → Option Stability
+gate_of_last None = Some Unknown
+gate_of_last (Some last) = gate_of last
+
+-- the gate of a line of these arguments
+abbrev pub gate_of_line : List (List ℕ) → Option Stability
+gate_of_line arguments = gate_of_last (last_of arguments)
+
+-- a line of these arguments ends with a gate
+abbrev pub has_gate : List (List ℕ) → Bool
+has_gate arguments = option_map_or is_gate (last_of arguments) false
+
+-- the arguments of a line without its gate
+abbrev pub ungated_of : List (List ℕ) → List (List ℕ)
+ungated_of arguments = if has_gate arguments then take (length arguments - 1) arguments else arguments

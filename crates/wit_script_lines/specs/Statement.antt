@@ -2,9 +2,8 @@
 use Rattle.std.specs.Prelude.{ℕ, List, [], ◌∷◌, Option, Some, None, option_and_then, codes, if◌then◌else◌}
 use Rattle.std.specs.Option.{option_map}
 use Rattle.std.specs.Str.{bytes_eq}
-use Rattle.wit_script_lines.specs.Gate.{gate_of_line, ungated_of}
+use Rattle.wit_script_lines.specs.PackageLine.{gate_of_line, package_line_by, ungated_of}
 use Rattle.wit_script_lines.specs.Line.{is_comment, tokens_of}
-use Rattle.wit_script_lines.specs.PackageLine.{package_line_by}
 use Rattle.wit_script_lines.specs.Request.{is_request, request_by}
 use Rattle.wit_script_lines.specs.Token.{package_name_of}
 use Rattle.wit_script_lines.specs.declared.statement.Statement.{Statement}

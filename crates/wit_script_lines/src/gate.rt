@@ -1,6 +1,6 @@
 //! Feature gates, one of which may end a line of a package.
 ghost use Rattle.std.specs.Prelude.{◌≡◌, map};
-ghost use Rattle.wit_script_lines.specs.Gate.{gate_of, gate_of_line, is_gate, ungated_of};
+ghost use Rattle.wit_script_lines.specs.PackageLine.{gate_of, gate_of_line, is_gate, ungated_of};
 ghost use Rattle.wit_script_lines.specs.steps.ReadResult.{IsRead};
 
 use crate::fault::LineFault;

@@ -1,8 +1,7 @@
 //! What a line of a package says by its tokens alone.
 ghost use Rattle.std.specs.Prelude.{map};
 ghost use Rattle.wit_script_lines.specs.steps.ReadResult.{IsRead};
-ghost use Rattle.wit_script_lines.specs.PackageLine.{entry_by, entry_tokens, include_line_of, named_line_of, package_line_by, record_line_of, rename_of, signed_line_of, type_line_of, use_line_of, use_line_with};
-ghost use Rattle.wit_script_lines.specs.Signature.{each_of};
+ghost use Rattle.wit_script_lines.specs.PackageLine.{each_of, entry_by, entry_tokens, include_line_of, named_line_of, package_line_by, record_line_of, rename_of, signed_line_of, type_line_of, use_line_of, use_line_with};
 ghost use Rattle.wit_script_lines.specs.Token.{split_at};
 
 use crate::fault::LineFault;

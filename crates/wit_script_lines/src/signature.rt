@@ -1,7 +1,7 @@
 //! Names with types, and functions, as lines write them.
 ghost use Rattle.std.specs.Prelude.{◌≡◌, map, IfOk};
 ghost use Rattle.wit_script_lines.specs.steps.ReadResult.{IsRead};
-ghost use Rattle.wit_script_lines.specs.Signature.{answer_of, each_of, params_of, signature_of, signature_with, typed_name_of};
+ghost use Rattle.wit_script_lines.specs.PackageLine.{answer_of, each_of, params_of, signature_of, signature_with, typed_name_of};
 
 use crate::fault::LineFault;
 use crate::line::parts_between;

@@ -5,4 +5,5 @@ pub mod Making
 pub mod Mention
 pub mod Naming
 pub mod Role
+pub mod facts
 pub mod steps

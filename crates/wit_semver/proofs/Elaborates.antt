@@ -24,13 +24,12 @@ use Rattle.wit_graph_theory.specs.facts.OptionFacts.{option_cases}
 use Rattle.wit_graph_theory.specs.facts.PackageCycleFacts.{used_package}
 use Rattle.wit_semver_spec.specs.Rewritten.{new_target, retargeted, rewritten, rewritten_types, with_new_entries_at}
 use Rattle.wit_semver_spec.specs.TrackCause.{Disagrees, IsComplete, SemverMergeIsAccepted, UpgradeCause, conflict_4, functions_disagree_25, interface_cycle_22, package_cycle_6, type_cycle_23, type_missing_25}
-use Rattle.wit_semver_spec.specs.Upgrade.{Upgrade}
+use Rattle.wit_semver_spec.specs.Tracks.{Upgrade}
 use Rattle.wit_semver_laws.proofs.Accepting.{id_of_named, in_order, new_aliases, relisted_worlds, rewritten_is}
 use Rattle.wit_semver_laws.proofs.TypesAfter.{type_after}
 use Rattle.wit_semver_laws.proofs.TypesGood.{refers_in_range, unnamed_plain}
-use Rattle.wit_unite_common.specs.steps.Asked.{CanBeElaborated, IsSomeNamed}
-use Rattle.wit_unite_common.specs.facts.Reasons.{ElaborationCause}
-use Rattle.wit_unite_common.specs.facts.Reasons as settles
+use Rattle.wit_unite_common.specs.steps.Reasons.{CanBeElaborated, ElaborationCause, IsSomeNamed}
+use Rattle.wit_unite_common.specs.steps.Reasons as settles
 use Rattle.wit_semver.specs.steps.Replacing.{upgrade}
 
 module _ (u : Upgrade) (valid : IsValid u.graph) (w : ℕ) (there : slice_get u.graph.worlds w ≡ Some u.world) where

@@ -25,7 +25,7 @@ use Rattle.wit_graph_theory.specs.facts.ListFacts.{found_at, place_of}
 use Rattle.wit_graph_theory.specs.facts.PackagesAcyclic.{numbered_from}
 use Rattle.wit_semver_spec.specs.Rewritten.{entry_types, interface_type, kept_imports, new_target, replaced_use, retargeted, rewritable_types, rewritten_types, target_name, types_of, with_new_entries_at}
 use Rattle.wit_semver_spec.specs.TrackCause.{NewestLacksType}
-use Rattle.wit_semver_spec.specs.Upgrade.{Upgrade, newest}
+use Rattle.wit_semver_spec.specs.Tracks.{Upgrade, newest}
 use Rattle.wit_semver.specs.steps.Replacing.{IsFilled, LackTypes, upgrade, used_target, with_lists, with_targets}
 
 -- ---- what is named is there

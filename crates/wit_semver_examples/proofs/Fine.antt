@@ -20,7 +20,7 @@ use Rattle.wit_graph_theory.specs.facts.OptionFacts.{some_same}
 use Rattle.wit_graph_theory.specs.examples.TestFacts.{all_are, all_uses, falls, is_empty, no_cycle, nothing_in}
 use Rattle.wit_semver_spec.specs.Rewritten.{interface_type, replaced_use, rewritable_types, target_name, with_new_entries_at}
 use Rattle.wit_semver_spec.specs.TrackCause.{Disagrees, IsComplete, IsTrackCause, UpgradeCause, conflict_4, functions_disagree_25, interface_cycle_22, package_cycle_6, type_cycle_23, type_missing_25}
-use Rattle.wit_semver_spec.specs.Upgrade.{Upgrade, newest}
+use Rattle.wit_semver_spec.specs.Tracks.{Upgrade, newest}
 
 module _ (u : Upgrade) where
   -- does the newest have the type of this name?

@@ -15,8 +15,7 @@ use Rattle.wit_data.specs.declared.types.Type_.TheVariants as type
 use Rattle.wit_data.specs.declared.world.World.{World}
 use Rattle.wit_elaboration.specs.Elaboration.{graph_uses}
 use Rattle.wit_elaboration.specs.Entries.{Entry}
-use Rattle.wit_elaboration.specs.Imported.{HasConflict, exported_interfaces, exported_keys}
-use Rattle.wit_elaboration.specs.Imported.{IsEntryInConflict}
+use Rattle.wit_elaboration.specs.Imported.{HasConflict, IsEntryInConflict, exported_interfaces, exported_keys}
 use Rattle.wit_graph_data.specs.examples.Samples.{entry_of}
 use Rattle.wit_graph_data.specs.declared.cause.Cause.TheVariants.{InterfaceCycle, TypeCycle}
 use Rattle.wit_graph_data.specs.declared.error_kind.ResolveErrorKind.{ResolveErrorKind}
@@ -34,7 +33,7 @@ use Rattle.wit_graph_theory.specs.facts.OptionFacts.{some_same}
 use Rattle.wit_graph_theory.specs.examples.TestFacts.{all_are, all_uses, falls, is_empty, no_cycle, not_on_cycle, only_one}
 use Rattle.wit_semver_spec.specs.Rewritten.{listed_world, rewritable_types, with_new_entries_at}
 use Rattle.wit_semver_spec.specs.TrackCause.{Disagrees, IsComplete, IsTrackCause, NewestLacksType, UpgradeCause, conflict_4, functions_disagree_25, interface_cycle_22, package_cycle_6, type_cycle_23, type_missing_25}
-use Rattle.wit_semver_spec.specs.Upgrade.{Upgrade, is_replaced, newest}
+use Rattle.wit_semver_spec.specs.Tracks.{Upgrade, is_replaced, newest}
 use Rattle.wit_semver_examples.proofs.Fine.{Clear, complete, has_target, is_fine, no_functions}
 use Rattle.wit_semver_examples.proofs.Mismatches.{x_is_not_y, x_of, y_of}
 use Rattle.wit_semver_examples.specs.CauseExamples.{ExamplesOfCauses, IsCauseOf, IsFine, around_main, around_z, exporting, f_of, failed, foo_app, newer_x, older_x, with_functions, with_newer, without_type, without_type_but_cycle}

@@ -11,8 +11,7 @@ use Rattle.wit_data.specs.declared.world.World.{World}
 use Rattle.wit_data.specs.declared.world.WorldKey.TheVariants as key
 use Rattle.wit_elaboration.specs.Elaboration.{graph_uses}
 use Rattle.wit_elaboration.specs.Entries.{Entry}
-use Rattle.wit_elaboration.specs.Imported.{HasConflict}
-use Rattle.wit_elaboration.specs.Imported.{IsEntryInConflict}
+use Rattle.wit_elaboration.specs.Imported.{HasConflict, IsEntryInConflict}
 use Rattle.wit_graph_data.specs.examples.Samples.{entry_of}
 use Rattle.wit_graph_data.specs.declared.cause.Cause.TheVariants.{InterfaceCycle}
 use Rattle.wit_graph_data.specs.declared.error_kind.ResolveErrorKind.TheVariants.{InvalidTransitiveDependency, PackageCycle, Semantic}
@@ -20,7 +19,7 @@ use Rattle.wit_graph_theory.specs.AllElaborated.{DependsOnItself, HasWorldInConf
 use Rattle.wit_graph_theory.specs.examples.TestFacts.{no_cycle, none_in, one_of_two, only_one}
 use Rattle.wit_semver_spec.specs.Rewritten.{with_new_entries_at}
 use Rattle.wit_semver_spec.specs.TrackCause.{IsComplete, NewestLacksType, UpgradeCause, conflict_4, interface_cycle_22, package_cycle_6, type_cycle_23, type_missing_25}
-use Rattle.wit_semver_spec.specs.Upgrade.{Upgrade}
+use Rattle.wit_semver_spec.specs.Tracks.{Upgrade}
 use Rattle.wit_semver_examples.proofs.Fine.{complete, of_world, upgrade_of}
 use Rattle.wit_semver_examples.proofs.Reasons.{t_refers_to_itself}
 use Rattle.wit_semver_examples.specs.Releases.{alias_in, foo_main, keyed, world_in}

@@ -14,8 +14,7 @@ use Rattle.wit_data.specs.facts.PackageNameFacts.{same_package-Decides}
 use Rattle.wit_data.specs.PackageOrder.{same_package}
 use Rattle.wit_data.specs.declared.track.TrackRule.{TrackRule}
 use Rattle.wit_elaboration.proofs.Filters.{Contains-filter, Contains-filtered}
-use Rattle.wit_semver_spec.specs.Tracks.{Versioned, are_on_one_track, both, have_one_track, is_below, is_older_than, track_key, versioned}
-use Rattle.wit_semver_spec.specs.Upgrade.{Upgrade, first_or, imported, is_replaced, kept_on_track, newest}
+use Rattle.wit_semver_spec.specs.Tracks.{Upgrade, Versioned, are_on_one_track, both, first_or, have_one_track, imported, is_below, is_older_than, is_replaced, kept_on_track, newest, track_key, versioned}
 use Rattle.wit_semver_laws.specs.laws.TrackLaws.{IsGreatest}
 
 -- ---- tests

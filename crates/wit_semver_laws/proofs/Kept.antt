@@ -14,7 +14,7 @@ use Rattle.wit_graph_theory.specs.AllElaborated.{all_elaborated, elaborated_worl
 use Rattle.wit_values.specs.facts.Lists.{kept-cases, slice_get-set}
 use Rattle.wit_semver_spec.specs.Rewritten.{listed_world, name_of, new_target, retargeted, rewritten_types, target_name, with_new_entries_at}
 use Rattle.wit_semver_spec.specs.laws.Unchanged.{SameButLists, SameButTarget}
-use Rattle.wit_semver_spec.specs.Upgrade.{Upgrade, newest}
+use Rattle.wit_semver_spec.specs.Tracks.{Upgrade, newest}
 use Rattle.wit_semver_laws.specs.laws.TrackLaws.{AliasesKeepNames, KeepsThings, RewrittenKeep}
 use Rattle.wit_semver_laws.proofs.TypesAfter.{after, retargeted_name, transformed_from, transformed_type, type_after, type_into}
 

@@ -14,7 +14,7 @@ use Rattle.wit_graph_theory.specs.facts.ListFacts.{same_at, some_at}
 use Rattle.wit_graph_theory.specs.facts.OptionFacts.{option_cases}
 use Rattle.wit_semver_spec.specs.Rewritten.{interface_type, new_target, retargeted, rewritable_types, rewritten, rewritten_types, target_name, with_new_entries_at}
 use Rattle.wit_semver_spec.specs.TrackCause.{IsComplete, missing_text, type_missing_25, upgrade_message}
-use Rattle.wit_semver_spec.specs.Upgrade.{newest}
+use Rattle.wit_semver_spec.specs.Tracks.{newest}
 use Rattle.wit_semver_laws.proofs.TypesAfter.{replaced_use_from, target_named, transformed_into, type_into}
 use Rattle.wit_semver_laws.specs.laws.TrackLaws.{AliasesNameNewest}
 

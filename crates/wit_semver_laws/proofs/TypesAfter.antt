@@ -23,7 +23,7 @@ use Rattle.wit_graph_theory.specs.facts.OptionFacts.{option_cases, some_by, some
 use Rattle.wit_graph_theory.specs.facts.PackagesAcyclic.{numbered_from, numbered_into}
 use Rattle.wit_semver_spec.specs.Rewritten.{interface_type, name_of, new_target, replaced_use, retargeted, rewritable_types, rewritten_types, target_name}
 use Rattle.wit_semver_spec.specs.TrackCause.{IsComplete, missing_text, upgrade_message}
-use Rattle.wit_semver_spec.specs.Upgrade.{Upgrade, is_replaced, newest}
+use Rattle.wit_semver_spec.specs.Tracks.{Upgrade, is_replaced, newest}
 
 -- ---- parts of options
 

@@ -27,7 +27,7 @@ use Rattle.wit_graph_theory.specs.facts.OptionFacts.{option_cases, some_parts}
 use Rattle.wit_graph_theory.specs.facts.OwnedFacts.{row, row_from, row_into}
 use Rattle.wit_graph_theory.specs.facts.PackagesAcyclic.{length-numbered}
 use Rattle.wit_semver_spec.specs.Rewritten.{new_target, retargeted, rewritten_types}
-use Rattle.wit_semver_spec.specs.Upgrade.{Upgrade, newest}
+use Rattle.wit_semver_spec.specs.Tracks.{Upgrade, newest}
 use Rattle.wit_semver_laws.proofs.Accepting.{stays_so}
 use Rattle.wit_semver_laws.proofs.TypesAfter.{after, retargeted_name, retargeted_owner, transformed_from, transformed_type, type_after}
 

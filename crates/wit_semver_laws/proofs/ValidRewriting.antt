@@ -26,7 +26,7 @@ use Rattle.wit_graph_theory.specs.AllElaborated.{elaborated_world, graph_package
 use Rattle.wit_graph_theory.specs.facts.LawsOfElaboration.{LawsOfElaboration}
 use Rattle.wit_semver_spec.specs.Rewritten.{listed_world, new_target, rewritten, with_new_entries_at}
 use Rattle.wit_semver_spec.specs.TrackCause.{SemverMergeIsAccepted}
-use Rattle.wit_semver_spec.specs.Upgrade.{Upgrade}
+use Rattle.wit_semver_spec.specs.Tracks.{Upgrade}
 use Rattle.wit_semver_laws.proofs.Accepting.{complete, elaborates, listed_there, new_aliases, new_exports, new_imports, no_package_cycle, no_type_cycle, relisted_worlds, rewritten_is, uses_acyclic}
 use Rattle.wit_semver_laws.proofs.ListedUses.{listed_lists_uses}
 use Rattle.wit_semver_laws.proofs.TypesAfter.{retargeted_name, retargeted_owner, type_after}

@@ -17,7 +17,7 @@ use Rattle.wit_graph_data.specs.declared.graph.Graph.{Graph}
 use Rattle.wit_graph_theory.specs.AllElaborated.{DependsOnItself, HasWorldInConflict, RefersToItself, UsesItself}
 use Rattle.wit_graph_theory.specs.FunctionMismatch.{HaveFunctionMismatch}
 use Rattle.wit_semver_spec.specs.Rewritten.{interface_type, replaced_use, rewritable_types, target_name, with_new_entries_at}
-use Rattle.wit_semver_spec.specs.Upgrade.{Upgrade, is_replaced, newest}
+use Rattle.wit_semver_spec.specs.Tracks.{Upgrade, is_replaced, newest}
 
 -- ---- texts
 

@@ -1,6 +1,6 @@
 //! Calls that change a `Resolve`, each on a copy of it.
 ghost use Rattle.std.specs.Prelude.{◌<◌, length};
-ghost use Rattle.wit_resolve_graph.specs.CommandShape.{IsCommandShaped};
+ghost use Rattle.wit_resolve_graph.specs.Step.{IsCommandShaped};
 
 use crate::states::{incoming, state, tell_state};
 use std::alloc::Global;

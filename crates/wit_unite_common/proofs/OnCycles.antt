@@ -17,10 +17,7 @@ use Rattle.wit_graph_data.specs.declared.error_kind.ResolveErrorKind.TheVariants
 use Rattle.wit_graph_data.specs.declared.graph.Graph.{Graph}
 use Rattle.wit_graph_data.specs.declared.graph.Package.{Package}
 use Rattle.wit_graph_theory.specs.AllElaborated.{graph_package_uses, interface_cycle_text, type_cycle_text}
-use Rattle.wit_unite_common.specs.steps.Asked.{CyclesHaveNames, IsSomeNamed}
-use Rattle.wit_unite_common.specs.facts.Reasons.{ElaborationCause, interface_cycle_22, package_cycle_6, type_cycle_23}
-use Rattle.wit_unite_common.specs.facts.Rounds.{IsRound}
-use Rattle.wit_unite_common.specs.facts.Errors.{IsInterfaceCycleError, IsTypeCycleError}
+use Rattle.wit_unite_common.specs.steps.Reasons.{CyclesHaveNames, ElaborationCause, IsInterfaceCycleError, IsRound, IsSomeNamed, IsTypeCycleError, interface_cycle_22, package_cycle_6, type_cycle_23}
 
 -- ---- on a cycle
 

@@ -7,7 +7,7 @@ use Rattle.std.proofs.lemmas.List.Elements.{All-nil, All-pop, All-push, Contains
 use Rattle.wit_digraph.specs.Cycles.{IsOnCycle}
 use Rattle.wit_digraph.specs.facts.MemberFacts.{Contains-nil, Contains-here, Contains-cons_cases}
 use Rattle.wit_digraph.specs.Relation.{direct, IsInRange, IsPath}
-use Rattle.wit_unite_common.specs.facts.Rounds.{IsRound}
+use Rattle.wit_unite_common.specs.steps.Reasons.{IsRound}
 use Rattle.wit_unite_common.specs.declared.round.Frame.{Frame}
 
 abbrev node_of : Frame → ℕ

@@ -1,2 +1,2 @@
 pub mod Agreeing
-pub mod Asked
+pub mod Reasons

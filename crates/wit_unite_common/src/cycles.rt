@@ -7,9 +7,7 @@ ghost use Rattle.wit_graph_data.specs.declared.error_kind.ResolveErrorKind.TheVa
 ghost use Rattle.wit_graph_theory.specs.AllElaborated.{graph_package_uses, type_cycle_text};
 ghost use Rattle.wit_data.specs.Reference.{type_references};
 ghost use Rattle.wit_digraph.specs.Relation.{IsAcyclic, IsInRange};
-ghost use Rattle.wit_unite_common.specs.steps.Asked.{CyclesHaveNames, IsSomeNamed, UsedHaveNames};
-ghost use Rattle.wit_unite_common.specs.facts.Reasons.{ElaborationCause};
-ghost use Rattle.wit_unite_common.specs.facts.Errors.{IsInterfaceCycleError, IsTypeCycleError};
+ghost use Rattle.wit_unite_common.specs.steps.Reasons.{CyclesHaveNames, ElaborationCause, IsInterfaceCycleError, IsSomeNamed, IsTypeCycleError, UsedHaveNames};
 
 use crate::round::find_round;
 use std::alloc::{AllocError, Global};

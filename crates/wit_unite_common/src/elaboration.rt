@@ -3,8 +3,7 @@ ghost use Rattle.std.specs.Prelude.{◌≡◌, ◌⊎◌, IfErr, OnErr, OnOk};
 ghost use Rattle.wit_graph_data.specs.declared.error_kind.ResolveErrorKind.{ResolveErrorKind};
 ghost use Rattle.wit_graph_data.specs.declared.error_kind.ResolveErrorKind.TheVariants.{OutOfMemory};
 ghost use Rattle.wit_graph_theory.specs.AllElaborated.{all_elaborated};
-ghost use Rattle.wit_unite_common.specs.steps.Asked.{CanBeElaborated};
-ghost use Rattle.wit_unite_common.specs.facts.Reasons.{ElaborationCause};
+ghost use Rattle.wit_unite_common.specs.steps.Reasons.{CanBeElaborated, ElaborationCause};
 
 use crate::cycles::{check_interfaces, check_packages, check_types};
 use std::alloc::Global;

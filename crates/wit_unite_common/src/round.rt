@@ -2,7 +2,7 @@
 ghost use Rattle.std.specs.Prelude.{◌≡◌, IfOk, map};
 ghost use Rattle.wit_digraph.specs.Cycles.{IsOnCycle};
 ghost use Rattle.wit_digraph.specs.Relation.{IsInRange};
-ghost use Rattle.wit_unite_common.specs.facts.Rounds.{IsRound};
+ghost use Rattle.wit_unite_common.specs.steps.Reasons.{IsRound};
 ghost use Rattle.wit_unite_common.specs.declared.round.Frame.{Frame};
 
 use std::alloc::{AllocError, Global};

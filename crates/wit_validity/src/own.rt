@@ -4,7 +4,7 @@ ghost use Rattle.wit_elaboration.specs.Valid.{HasOwners, HasReferences, HasWorld
 ghost use Rattle.wit_data.specs.Reference.{type_references};
 ghost use Rattle.wit_shape.specs.steps.NamedOwners.{AreNamedOwners};
 ghost use Rattle.wit_digraph.specs.Relation.{IsAcyclic};
-ghost use Rattle.wit_validity.specs.facts.Parts.{IsOwned};
+ghost use Rattle.wit_validity.specs.steps.Parts.{IsOwned};
 
 use crate::world_homes::{export_own, import_own, include_nothing};
 use std::alloc::{AllocError, Global};

@@ -12,8 +12,7 @@ mod status;
 ghost use Rattle.std.specs.Prelude.{◌≡◌, ◌≤◌, true, false};
 ghost use Rattle.std.specs.Str.{IsUtf8};
 ghost use Rattle.wit_script.specs.Prints.{PrintsByRun};
-ghost use Rattle.witgraph_c.specs.Output.{IsTooLong, IsWritten};
-ghost use Rattle.witgraph_c.specs.Refusals.{Explains};
+ghost use Rattle.witgraph_c.specs.Refusals.{Explains, IsTooLong, IsWritten};
 
 use crate::execution::execute_bytes;
 use crate::output::{fault_status, put_text};

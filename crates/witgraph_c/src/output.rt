@@ -1,6 +1,6 @@
 //! What a call leaves in its output, and the status that tells it.
 ghost use Rattle.std.specs.Prelude.{◌≡◌, ◌<◌, ◌≤◌, length, true, false};
-ghost use Rattle.witgraph_c.specs.Output.{HasFront};
+ghost use Rattle.witgraph_c.specs.Refusals.{HasFront};
 
 use crate::status::{INPUT_NOT_UTF8, NO_MEMORY, NOT_UNDERSTOOD, OUTPUT_TOO_SMALL, UNDERSTOOD};
 use wit_script::ScriptFault;

@@ -2,7 +2,7 @@
 ghost use Rattle.std.specs.Prelude.{◌≡◌, Err, IfErr, IfOk, IsErrOf, Ok, string_bytes};
 ghost use Rattle.std.specs.List.{flat_map};
 ghost use Rattle.std.specs.Str.{IsUtf8};
-ghost use Rattle.wit_resolve_graph.specs.CommandShape.{IsCommandShaped};
+ghost use Rattle.wit_resolve_graph.specs.Step.{IsCommandShaped};
 ghost use Rattle.wit_resolve_graph.specs.State.{new_state};
 ghost use Rattle.wit_resolve_graph.specs.declared.command.Command.TheVariants.{Exportize};
 ghost use Rattle.wit_script.specs.Answer.{IsChoice};

@@ -1,6 +1,6 @@
 //! A graph on which commands work, with what lines list for its worlds.
 ghost use Rattle.std.specs.Prelude.{◌≡◌, OnOk};
-ghost use Rattle.wit_resolve_graph.specs.CommandShape.{IsCommandShaped};
+ghost use Rattle.wit_resolve_graph.specs.Step.{IsCommandShaped};
 ghost use Rattle.wit_resolve_graph.specs.State.{new_state};
 ghost use Rattle.wit_resolve_graph.specs.declared.command.Command.TheVariants.{Merge, PushGroups};
 ghost use Rattle.wit_script.specs.Ready.{IsReady};

@@ -11,8 +11,7 @@ use Rattle.wit_data.specs.declared.world.WorldKey.TheVariants as key
 use Rattle.wit_graph_data.specs.examples.Samples.{function_of, interface_of, no_docs, type_in, unnamed}
 use Rattle.wit_elaboration.specs.examples.Examples.{foo_x}
 use Rattle.wit_graph_data.specs.declared.graph.Graph.{Graph}
-use Rattle.wit_core_names.specs.Conditions.{can_name_export, can_name_import}
-use Rattle.wit_core_names.specs.Names.{export_name, import_names}
+use Rattle.wit_core_names.specs.Names.{can_name_export, can_name_import, export_name, import_names}
 use Rattle.wit_core_names.specs.declared.export.WasmExport.TheVariants as exports
 use Rattle.wit_core_names.specs.declared.export.WasmExportKind.TheVariants.{Normal, PostReturn, Callback}
 use Rattle.wit_core_names.specs.declared.import.FutureIntrinsic.TheVariants as future

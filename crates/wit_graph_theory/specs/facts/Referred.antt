@@ -4,8 +4,7 @@ use Rattle.wit_data.specs.declared.types.TypeDefKind.{TypeDefKind}
 use Rattle.wit_data.specs.declared.types.TypeDefKind.TheVariants as kind
 use Rattle.wit_graph_theory.specs.Image.{Maps}
 
--- where the types go that a kind names: those of handles and aliases to their images, all others to what
--- names a value
+-- where the types go that a kind names: those of handles and aliases to their images, all others to what names a value
 abbrev pub place : Maps → TypeDefKind → ℕ → ℕ
 place m (kind.Handle handle) = m.types
 place m (kind.Type_ ty) = m.types

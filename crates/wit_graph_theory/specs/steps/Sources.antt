@@ -1,16 +1,14 @@
 -- Where the things of a grown graph come from.
 --
--- A source is a graph (or what comes in, seen as one), with the maps under which its things go into
--- the target, and what of it is selected. What is selected *stands* in the target: at its place, under its
--- name, with its owner. A thing of the target is *carried* from a source if it refers to nothing but what
--- the old thing refers to, at its place. An image is carried, a thing that stays is, and so is an alias
--- that is transformed to another named type.
+-- A source is a graph (or what comes in, seen as one), with the maps under which its things go into the target, and
+-- what of it is selected. What is selected *stands* in the target: at its place, under its name, with its owner. A
+-- thing of the target is *carried* from a source if it refers to nothing but what the old thing refers to, at its
+-- place. An image is carried, a thing that stays is, and so is an alias that is transformed to another named type.
 --
--- Adding a package: two sources, the graph under `identity`, all of it; the package, its lists cut to what
--- is active, under its maps, foreign things going to those of the graph. An include: one source more, the
--- graph under the maps of the copies, of which the copied things and all that is named are selected. A merge:
--- the graph under `identity`, the other graph under the map of the merge. Semver merging: the graph under
--- `identity`.
+-- Adding a package: two sources, the graph under `identity`, all of it; the package, its lists cut to what is active,
+-- under its maps, foreign things going to those of the graph. An include: one source more, the graph under the maps of
+-- the copies, of which the copied things and all that is named are selected. A merge: the graph under `identity`, the
+-- other graph under the map of the merge. Semver merging: the graph under `identity`.
 use Rattle.std.specs.Prelude.{◌≡◌, ◌≢◌, ◌⊎◌, ◌<◌, ℕ, Bool, true, List, length, None, Some, Contains, IsSome, slice_get, map}
 use Rattle.std.specs.Option.{option_map, option_to_list}
 use Rattle.wit_data.specs.Each.{Each, SomeAt}
@@ -100,8 +98,7 @@ pub record WorldStands (s : Source) (w : ℕ) (old new : World) : Type 0 where
 abbrev pub IsOwnOf : List TypeDef → ℕ → ℕ → Type 0
 IsOwnOf types h t = SomeAt types h (λ (def : TypeDef). (def.name ≡ None) × (def.owner ≡ owner.None) × (def.kind ≡ kind.Handle (Own t)))
 
--- all that is selected stands in the target, and where values go is the image or, of a named type, an `own`
--- of it
+-- all that is selected stands in the target, and where values go is the image or, of a named type, an `own` of it
 pub record Carries (s : Source) (g : Graph) : Type 0 where
   pub types : (t : ℕ) (def : TypeDef) → slice_get s.graph.types t ≡ Some def → s.types t ≡ true → SomeAt g.types (s.maps.types t) (Stands s.maps def)
   pub values : (t : ℕ) (def : TypeDef) → slice_get s.graph.types t ≡ Some def → s.types t ≡ true

@@ -13,7 +13,7 @@ use Rattle.wit_graph_theory.specs.Image.{Maps, interface_image, type_image}
 use Rattle.wit_graph_theory.specs.Operations.{include_maps}
 use Rattle.wit_labels.specs.Rename.{renamed_label}
 use Rattle.wit_link_spec.specs.Include.{belongs_to, entry_mentions, is_owned_within, is_unnamed_type, owner_belongs_to}
-use Rattle.wit_link_spec.specs.Ranks.{selected, selected_with_index}
+use Rattle.wit_link_spec.specs.Addition.{selected, selected_with_index}
 use Rattle.wit_link_include.specs.declared.copies.Copies.{Copies}
 use Rattle.wit_link_include.specs.declared.origin.Origin.{Origin}
 

@@ -1,27 +1,64 @@
--- A world of a graph that is included in one that comes next, and why that is refused; all includes of a world, and the
--- world finished. What an include makes is `with_include_of`.
--- Source: `resolve_include` and `process_world_includes` of wit-parser 0.263.0.
-use Rattle.std.specs.Prelude.{◌≡◌, ◌<◌, ℕ, Bool, List, fold, length, map, take, slice_get, Some}
-use Rattle.std.specs.List.{AllByRecursion}
+-- A world of a graph that is included in one that comes next, and why that is refused: its renamings are of no label of
+-- it, or its entries can't be joined to a list; then all includes of a world, and the world finished, with what is
+-- looked at of its labels. What an include makes is `with_include_of`, what the list becomes is `joined`.
+-- Source: the WIT page of the component model, "include"; `resolve_include` and `process_world_includes` of
+-- wit-parser 0.263.0.
+use Rattle.std.specs.Prelude.{◌≡◌, ◌<◌, ℕ, Bool, List, fold, length, map, take, slice_get, Some, false, ◌∷◌, ◌++◌, ◌==◌, Option, None, if◌then◌else◌, Contains, ◌⊎◌, codes}
+use Rattle.std.specs.List.{AllByRecursion, before_first}
+use Rattle.std.specs.Map.{keys_of}
+use Rattle.std.specs.Option.{option_map_or}
+use Rattle.std.specs.Str.{bytes_eq}
+use Rattle.wit_data.specs.Each.{Each}
 use Rattle.wit_data.specs.Entries.{Entry}
+use Rattle.wit_data.specs.declared.function.Function.{Function}
+use Rattle.wit_data.specs.declared.stability.Docs.{Docs}
 use Rattle.wit_data.specs.declared.stability.Stability.{Stability}
 use Rattle.wit_data.specs.declared.world.IncludeName.{IncludeName}
 use Rattle.wit_data.specs.declared.world.World.{World}
 use Rattle.wit_data.specs.declared.world.WorldInclude.{WorldInclude}
+use Rattle.wit_data.specs.declared.world.WorldItem.{WorldItem}
+use Rattle.wit_data.specs.declared.world.WorldItem.TheVariants as item
+use Rattle.wit_data.specs.declared.world.WorldKey.{WorldKey}
+use Rattle.wit_data.specs.declared.world.WorldKey.TheVariants as key
 use Rattle.wit_elaboration.specs.Sound.{IsUnderOwnKey}
 use Rattle.wit_graph_data.specs.declared.cause.Cause.TheVariants as cause
 use Rattle.wit_graph_data.specs.declared.error_kind.ResolveErrorKind.{ResolveErrorKind}
 use Rattle.wit_graph_data.specs.declared.error_kind.ResolveErrorKind.TheVariants.{ItemShadowing, Semantic, StabilityMismatch}
 use Rattle.wit_graph_data.specs.declared.graph.Graph.{Graph}
 use Rattle.wit_graph_theory.specs.Image.{entry_image}
-use Rattle.wit_link_spec.specs.CauseText.{rename_text}
+use Rattle.wit_labels.specs.Groups.{begins_group, rest_of}
+use Rattle.wit_labels.specs.Setters.{HaveGetters, IsSetter, getter_label}
+use Rattle.wit_labels.specs.Strong.{AreStronglyUnique, Clashes}
+use Rattle.wit_link_spec.specs.CauseText.{clash_text, getter_text, rename_text}
+use Rattle.wit_link_spec.specs.Gates.{OptionalSpan}
 use Rattle.wit_link_spec.specs.Include.{EntryLists, PartiallyLinked, include_stability, is_other_package, joined_entries, lists_of, with_include_of}
-use Rattle.wit_link_spec.specs.WorldReasons.{Disagree, HasStability, IsListCalled, IsShadowed, renamed_key}
+use Rattle.wit_link_spec.specs.WorldReasons.{Disagree, HasStability, IsListCalled, IsRenamed, IsShadowed, renamed_key}
 use Rattle.wit_link_laws.specs.laws.StageFacts.{CanBeLinked, CanInclude, IsPartiallyLinked}
 use Rattle.wit_link_include.specs.steps.Finished.{CanFinish, IsFinishCause, with_finished}
 use Rattle.wit_link_include.specs.steps.Copied.{maps_of}
 use Rattle.wit_link_include.specs.declared.copies.Copies.{Copies}
-use Rattle.wit_link_include.specs.steps.Renamed.{IsFirstUnmatched}
+
+-- each renaming is of some label of the world
+abbrev pub AreRenamed : World → List IncludeName → Type 0
+AreRenamed world names = Each (IsRenamed world) names
+
+-- this renaming is the first that is of no label of the world
+pub record IsFirstUnmatched (world : World) (names : List IncludeName) (name : IncludeName) : Type 0 where
+  pub before : List IncludeName
+  pub after : List IncludeName
+  pub are : names ≡ before ++ name ∷ after
+  pub earlier : AreRenamed world before
+  pub unmatched : IsRenamed world name → ⊥
+
+-- the word of a label that a renaming has to be of: what stands behind its groups, up to the first dot; none where
+-- a bracket that isn't closed stands there
+abbrev pub word_of : List ℕ → Option (List ℕ)
+word_of label = if begins_group (rest_of label) then None else Some (before_first (λ b. b == 46) (rest_of label))
+
+-- is the key a label with this word?
+abbrev pub has_word : List ℕ → WorldKey → Bool
+has_word word (key.Name label) = option_map_or (bytes_eq word) (word_of label) false
+has_word word (key.Interface i) = false
 
 -- ---- one include
 
@@ -134,3 +171,61 @@ pub data IsWorldCause (home : ℕ) (g : Graph) (world : World) (includes : List 
   at_include : (j : ℕ) → StopsAtInclude home g world includes j kind → IsWorldCause home g world includes kind
   as_finished : ((j : ℕ) → IsAcceptedAt home g world includes j) → IsFinishCause (with_several home g world includes).graph (with_lists world (with_several home g world includes).lists) kind
       → IsWorldCause home g world includes kind
+
+-- no interface comes twice under its own key
+abbrev pub ComeOnce : List Entry → Type 0
+ComeOnce brought = (i j n : ℕ) (v w : WorldItem) → slice_get brought i ≡ Some (key.Interface n, v) → slice_get brought j ≡ Some (key.Interface n, w) → i ≡ j
+
+-- under the key of interface i stands an interface with this stability
+abbrev pub StandsWith : List Entry → ℕ → Stability → Type 0
+StandsWith entries i stability =
+    (id : ℕ) × (docs : Docs) × (place : OptionalSpan) × (external_id : Option (List ℕ)) × Contains entries (key.Interface i, item.Interface id stability docs place external_id)
+
+-- the stabilities of an interface that is there and comes again disagree; `other` tells whether it comes from a world
+-- of another package, whose `@since` says nothing here
+pub record StabilitiesDiffer (other : Bool) (current brought : List Entry) (brings has : Stability) : Type 0 where
+  pub i : ℕ
+  pub there : StandsWith current i has
+  pub comes : StandsWith brought i brings
+  pub apart : Disagree brings has
+  pub counts : include_stability other brings has ≡ brings
+
+-- an item joins one that is there: their stabilities don't disagree, where both are interfaces
+abbrev pub ItemsAgree : Bool → WorldItem → WorldItem → Type 0
+ItemsAgree other (item.Interface i from docs place external_id) (item.Interface i' into docs' place' external_id') = Disagree from into → include_stability other from into ≡ from → ⊥
+ItemsAgree other from into = Unit {0}
+
+-- the error of two items whose stabilities disagree
+abbrev pub IsItemError : Bool → OptionalSpan → WorldItem → WorldItem → ResolveErrorKind → Type 0
+IsItemError other span (item.Interface i from docs place external_id) (item.Interface i' into docs' place' external_id') kind =
+    (kind ≡ StabilityMismatch span from into) × Disagree from into × (include_stability other from into ≡ from)
+IsItemError other span from into kind = ⊥
+
+-- the table of these reasons, in the order of their numbers; `word` is `import` or `export`
+pub data IsJoinCause (other : Bool) (span : OptionalSpan) (word : List ℕ) (current brought : List Entry) : ResolveErrorKind → Type 0 where
+  item_shadowing_7 : (name : List ℕ) → IsShadowed current (keys_of brought) name → IsJoinCause other span word current brought (ItemShadowing span word name)
+  stability_mismatch_8 : (brings has : Stability) → StabilitiesDiffer other current brought brings has → IsJoinCause other span word current brought (StabilityMismatch span brings has)
+
+-- no cause holds against joining them
+pub record CanJoin (other : Bool) (current brought : List Entry) : Type 0 where
+  pub unshadowed : (name : List ℕ) → IsShadowed current (keys_of brought) name → ⊥
+  pub agree : (brings has : Stability) → StabilitiesDiffer other current brought brings has → ⊥
+
+-- no two labels of the list clash, and each setter has its getter
+pub record ListIsAccepted (entries : List Entry) : Type 0 where
+  pub unique : AreStronglyUnique (keys_of entries)
+  pub getters : HaveGetters entries
+
+-- the error of two labels that clash, or of a setter without its getter
+pub data IsListError (world word : List ℕ) (entries : List Entry) : ResolveErrorKind → Type 0 where
+  clash : (n m : List ℕ) → Clashes (keys_of entries) n m → IsListError world word entries (Semantic None (clash_text word n world m) cause.NotStronglyUnique)
+  alone : (label : List ℕ) (f : Function) → Contains entries (key.Name label, item.Function f) × IsSetter label (key.Name label, item.Function f)
+      → (Contains (keys_of entries) (key.Name (getter_label label)) → ⊥) → IsListError world word entries (Semantic f.span (getter_text word label world (getter_label label)) cause.NoGetter)
+
+-- so of the lists of a world
+pub record LabelsAreAccepted (world : World) : Type 0 where
+  pub imports : ListIsAccepted world.imports
+  pub exports : ListIsAccepted world.exports
+
+abbrev pub IsLabelError : World → ResolveErrorKind → Type 0
+IsLabelError world kind = IsListError world.name (codes "import") world.imports kind ⊎ IsListError world.name (codes "export") world.exports kind

@@ -31,7 +31,8 @@ use Rattle.wit_graph_theory.specs.Kept.{everything}
 use Rattle.wit_graph_theory.specs.facts.TypesAcyclic.{types_acyclic}
 use Rattle.wit_graph_theory.specs.facts.GraphSource.{good_items}
 use Rattle.wit_graph_theory.specs.facts.UsesAcyclic.{uses_acyclic}
-use Rattle.wit_link_spec.specs.Addition.{Addition, addition_maps, own_interface, own_interfaces, own_type, own_types, owns_of_addition, part, remapped_interface, remapped_type}
+use Rattle.wit_link_spec.specs.Addition.{Addition, addition_maps, own_interface, own_interfaces, own_type, own_types, owns_of_addition, remapped_interface, remapped_type}
+use Rattle.wit_link_spec.specs.facts.ActivePart.{part}
 use Rattle.wit_link_spec.specs.facts.ClosedCut.{closed_part}
 use Rattle.wit_link_spec.specs.Gates.{interface_is_active, is_foreign_interface, type_is_active}
 use Rattle.wit_link_spec.specs.Lookup.{is_foreign_type}

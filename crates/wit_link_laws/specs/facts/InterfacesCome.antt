@@ -17,7 +17,8 @@ use Rattle.wit_graph_theory.specs.Cut.{cut_interface, graph_source, kept_whole}
 use Rattle.wit_graph_theory.specs.Image.{interface_image}
 use Rattle.wit_graph_theory.specs.facts.ImagesCome.{interface_image_comes}
 use Rattle.wit_graph_theory.specs.facts.ListFacts.{at_map, contained_at, found_at, from_map, old_or_new}
-use Rattle.wit_link_spec.specs.Addition.{Addition, addition_maps, own_interfaces, part}
+use Rattle.wit_link_spec.specs.Addition.{Addition, addition_maps, own_interfaces}
+use Rattle.wit_link_spec.specs.facts.ActivePart.{part}
 use Rattle.wit_link_spec.specs.facts.OwnThingFacts.{own_interface_from}
 use Rattle.wit_link_spec.specs.Reasons.{IsResolved}
 use Rattle.wit_link_laws.specs.facts.Parts.{HasParts}

@@ -22,7 +22,8 @@ use Rattle.wit_graph_theory.specs.steps.UnnamedOnce.{Holds, Origin, StandsOnceOn
 use Rattle.wit_graph_theory.specs.facts.UnnamedOnceCarried.{StandsOnceOnly-of_covered, named_not, unnamed_same}
 use Rattle.wit_graph_theory.specs.facts.UnnamedOnceFrom.{StandsOnceOnly-from_once, cut_has_one_place}
 use Rattle.wit_graph_theory.specs.steps.Sources.{InterfaceStands, Source}
-use Rattle.wit_link_spec.specs.Addition.{Addition, addition_maps, part, remapped_interface}
+use Rattle.wit_link_spec.specs.Addition.{Addition, addition_maps, remapped_interface}
+use Rattle.wit_link_spec.specs.facts.ActivePart.{part}
 use Rattle.wit_link_spec.specs.Gates.{interface_is_active, is_foreign_interface}
 use Rattle.wit_link_spec.specs.facts.OwnThingFacts.{own_of_both}
 use Rattle.wit_link_spec.specs.Reasons.{IsResolved}

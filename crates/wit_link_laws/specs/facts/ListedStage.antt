@@ -24,9 +24,9 @@ use Rattle.wit_graph_theory.specs.facts.ImagesCome.{entry_image_comes}
 use Rattle.wit_graph_theory.specs.Kept.{everything}
 use Rattle.wit_graph_theory.specs.facts.ListFacts.{Contains-map, at_map, at_new, contained_at, from_map, old_or_new, some_at}
 use Rattle.wit_graph_theory.specs.steps.Sources.{Carries, InterfaceStands, Source, WorldStands}
-use Rattle.wit_link_spec.specs.Addition.{Addition, addition_maps, own_world, own_worlds, part, remapped_world}
+use Rattle.wit_link_spec.specs.Addition.{Addition, addition_maps, own_world, own_worlds, rank, remapped_world}
+use Rattle.wit_link_spec.specs.facts.ActivePart.{part}
 use Rattle.wit_link_spec.specs.Pushed.{with_parts}
-use Rattle.wit_link_spec.specs.Ranks.{rank}
 use Rattle.wit_link_spec.specs.Reasons.{IsResolved}
 use Rattle.wit_link_spec.specs.facts.Standing.{own_world_remapped}
 use Rattle.wit_link_laws.specs.facts.OldWorlds.{old_world_comes}

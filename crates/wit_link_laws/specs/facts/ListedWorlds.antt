@@ -21,14 +21,14 @@ use Rattle.wit_graph_theory.specs.facts.CutIsGood.{distinct_kept}
 use Rattle.wit_graph_theory.specs.Image.{entry_image, item_image, key_image, name_image, owner_image, world_image}
 use Rattle.wit_graph_theory.specs.facts.ListFacts.{Contains-map_cases, at_map, contained_at, found_at, from_map, place_of, some_at}
 use Rattle.wit_graph_theory.specs.steps.Sources.{Stands}
-use Rattle.wit_link_spec.specs.Addition.{Addition, active, addition_maps, own_world, own_worlds, part, remapped_interface, remapped_type, remapped_world}
+use Rattle.wit_link_spec.specs.Addition.{Addition, active, addition_maps, own_world, own_worlds, rank, remapped_interface, remapped_type, remapped_world, selected_with_index}
+use Rattle.wit_link_spec.specs.facts.ActivePart.{part}
 use Rattle.wit_link_spec.specs.facts.ApartFacts.{KeyIsActive, keys_apart}
 use Rattle.wit_link_spec.specs.facts.ClosedCut.{closed_part}
 use Rattle.wit_link_spec.specs.Gates.{interface_is_active}
 use Rattle.wit_link_spec.specs.facts.OwnThingFacts.{own_world_from}
 use Rattle.wit_link_spec.specs.Pushed.{with_placed}
 use Rattle.wit_link_spec.specs.facts.RankFacts.{selected_with_index-at}
-use Rattle.wit_link_spec.specs.Ranks.{rank, selected_with_index}
 use Rattle.wit_link_spec.specs.Reasons.{IsResolved}
 use Rattle.wit_link_laws.specs.facts.NamedAliases.{aliases_named, interface_within, named_goes}
 use Rattle.wit_link_laws.specs.facts.Parts.{HasParts}

@@ -18,7 +18,8 @@ use Rattle.wit_graph_theory.specs.Image.{name_image, owner_image, type_image}
 use Rattle.wit_graph_theory.specs.facts.ListFacts.{found_at, from_map, old_or_new, place_of, some_at}
 use Rattle.wit_graph_theory.specs.facts.ReferredFacts.{alias_image}
 use Rattle.wit_graph_theory.specs.steps.Sources.{InterfaceStands, Stands}
-use Rattle.wit_link_spec.specs.Addition.{Addition, addition_maps, own_types, owns_of_addition, part, remapped_interface, remapped_type, value_needs_own}
+use Rattle.wit_link_spec.specs.Addition.{Addition, addition_maps, own_types, owns_of_addition, remapped_interface, remapped_type, value_needs_own}
+use Rattle.wit_link_spec.specs.facts.ActivePart.{part}
 use Rattle.wit_link_spec.specs.facts.ApartFacts.{active_there}
 use Rattle.wit_link_spec.specs.facts.ClosedCut.{closed_part, references_kept}
 use Rattle.wit_link_spec.specs.Gates.{interface_is_active, type_is_active}

@@ -26,12 +26,12 @@ use Rattle.wit_graph_theory.specs.Image.{interface_image, name_image, owner_imag
 use Rattle.wit_graph_theory.specs.facts.ListFacts.{at_map, at_new, found_at, place_of, some_at}
 use Rattle.wit_graph_theory.specs.facts.ReferredFacts.{plain_image}
 use Rattle.wit_graph_theory.specs.steps.Sources.{InterfaceStands, IsOwnOf, Stands}
-use Rattle.wit_link_spec.specs.Addition.{Addition, owns_of_addition, addition_maps, value_needs_own, own_interface, own_interfaces, own_type, own_types, part, positions, maps_without_owns, types_without_owns, remapped_type, remapped_interface, remapped_value}
+use Rattle.wit_link_spec.specs.Addition.{Addition, addition_maps, maps_without_owns, own_interface, own_interfaces, own_type, own_types, owns_of_addition, positions, rank, remapped_interface, remapped_type, remapped_value, selected, selected_with_index, types_without_owns, value_needs_own}
+use Rattle.wit_link_spec.specs.facts.ActivePart.{part}
 use Rattle.wit_link_spec.specs.Gates.{interface_is_active, is_foreign_interface, type_is_active}
 use Rattle.wit_link_spec.specs.Lookup.{interface_type, is_foreign_type}
 use Rattle.wit_link_spec.specs.facts.OwnThingFacts.{own_of_both}
 use Rattle.wit_link_spec.specs.facts.RankFacts.{selected-at, selected_with_index-at}
-use Rattle.wit_link_spec.specs.Ranks.{rank, selected, selected_with_index}
 use Rattle.wit_link_spec.specs.Reasons.{IsResolved}
 use Rattle.wit_link_spec.specs.Resources.{leads_to_resource, own_of}
 use Rattle.wit_link_spec.specs.facts.Standing.{ForeignType, foreign_interface_remapped, foreign_type, listed_is, own_interface_remapped, own_type_remapped}

@@ -10,7 +10,8 @@ use Rattle.wit_graph_theory.specs.Image.{identity}
 use Rattle.wit_graph_theory.specs.Operations.{add_sources}
 use Rattle.wit_graph_theory.specs.facts.ShapeIsGood.{shape_is_good}
 use Rattle.wit_graph_theory.specs.steps.Sources.{IsGoodSource, Source}
-use Rattle.wit_link_spec.specs.Addition.{Addition, addition_maps, part}
+use Rattle.wit_link_spec.specs.Addition.{Addition, addition_maps}
+use Rattle.wit_link_spec.specs.facts.ActivePart.{part}
 use Rattle.wit_link_spec.specs.facts.ClosedCut.{closed_part}
 use Rattle.wit_link_spec.specs.Reasons.{IsResolved}
 

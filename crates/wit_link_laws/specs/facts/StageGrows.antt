@@ -12,11 +12,10 @@ use Rattle.wit_graph_data.specs.declared.graph.Graph.{Graph}
 use Rattle.wit_graph_theory.specs.Image.{interface_image, type_image}
 use Rattle.wit_graph_theory.specs.facts.ListFacts.{from_map, old_or_new}
 use Rattle.wit_graph_theory.specs.facts.OptionFacts.{none_there}
-use Rattle.wit_link_spec.specs.Addition.{Addition, remapped_world}
+use Rattle.wit_link_spec.specs.Addition.{Addition, remapped_world, selected, selected_with_index}
 use Rattle.wit_link_spec.specs.Include.{PartiallyLinked, belongs_to, copy_maps, is_copied, with_world_included}
 use Rattle.wit_link_spec.specs.Pushed.{with_include, with_includes}
 use Rattle.wit_link_spec.specs.facts.RankFacts.{selected_with_index-from}
-use Rattle.wit_link_spec.specs.Ranks.{selected, selected_with_index}
 use Rattle.wit_link_laws.specs.facts.CopiedPart.{goes_parts}
 
 -- a copied interface: it has no name, and is of this package

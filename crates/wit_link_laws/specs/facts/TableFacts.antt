@@ -18,10 +18,10 @@ use Rattle.wit_graph_theory.specs.facts.GoodTypes.{if_some}
 use Rattle.wit_graph_theory.specs.Image.{interface_image}
 use Rattle.wit_graph_theory.specs.facts.ListFacts.{SomeAt-old, contained_at, found_at, from_map, old_or_new, some_at}
 use Rattle.wit_graph_theory.specs.laws.Theory.{HasGoodTables}
-use Rattle.wit_link_spec.specs.Addition.{Addition, addition_maps, own_interface, own_interfaces, part, remapped_interface}
+use Rattle.wit_link_spec.specs.Addition.{Addition, addition_maps, own_interface, own_interfaces, rank, remapped_interface, selected_with_index}
+use Rattle.wit_link_spec.specs.facts.ActivePart.{part}
 use Rattle.wit_link_spec.specs.Pushed.{new_package, with_parts}
 use Rattle.wit_link_spec.specs.facts.RankFacts.{selected_with_index-at}
-use Rattle.wit_link_spec.specs.Ranks.{rank, selected_with_index}
 use Rattle.wit_link_spec.specs.Reasons.{IsResolved}
 use Rattle.wit_link_laws.specs.facts.NamesOnce.{distinct_interfaces, table_entry}
 use Rattle.wit_link_spec.specs.facts.OwnThingFacts.{own_interface_from}

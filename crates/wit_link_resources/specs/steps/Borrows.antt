@@ -1,12 +1,16 @@
--- Which types are known to hold no borrow.
-use Rattle.std.specs.Prelude.{◌≡◌, ◌⊎◌, ℕ, true, List, Some, Contains}
+-- Which types are known to hold no borrow, and what is told of a place of the package.
+use Rattle.std.specs.Prelude.{◌≡◌, ◌⊎◌, ℕ, true, List, Some, Contains, ◌≤◌, ◌+◌, ◌^◌}
 use Rattle.wit_digraph.specs.Relation.{direct}
+use Rattle.wit_sources.specs.Span.{moved_by}
 use Rattle.wit_data.specs.Reference.{named_option}
 use Rattle.wit_data.specs.declared.function.Function.{Function}
 use Rattle.wit_data.specs.declared.types.TypeDef.{TypeDef}
 use Rattle.wit_graph_data.specs.Queries.{type_contents}
+use Rattle.wit_graph_data.specs.declared.cause.Cause.{Cause}
+use Rattle.wit_graph_data.specs.declared.error_kind.ResolveErrorKind.{ResolveErrorKind}
+use Rattle.wit_graph_data.specs.declared.error_kind.ResolveErrorKind.TheVariants.{OffsetOverflow, Semantic}
 use Rattle.wit_link_spec.specs.Addition.{Addition}
-use Rattle.wit_link_spec.specs.Gates.{type_is_active}
+use Rattle.wit_link_spec.specs.Gates.{OptionalSpan, type_is_active}
 use Rattle.wit_link_spec.specs.Lookup.{foreign_type_id}
 use Rattle.wit_link_spec.specs.Reasons.{HoldsBorrow, IsBorrow, MayHoldBorrow}
 
@@ -30,3 +34,8 @@ AreFreeOfUnresolved a ids = AreFree (type_contents a.unresolved.types) (IsBorrow
 -- what a function returns holds no borrow
 abbrev pub ReturnsNone : Addition → Function → Type 0
 ReturnsNone a f = (t : ℕ) → Contains (named_option f.result_) t → MayHoldBorrow a t → ⊥
+
+-- a message at a place that moves by an offset, or that the place would pass the end
+abbrev pub IsErrorAtSpan : OptionalSpan → ℕ → List ℕ → Cause → ResolveErrorKind → Type 0
+IsErrorAtSpan place offset message cause kind =
+    ((kind ≡ OffsetOverflow) × ((range : ℕ × ℕ) × (place ≡ Some range) × (2 ^ 32 ≤ range.1 + offset))) ⊎ (kind ≡ Semantic (moved_by offset place) message cause)

@@ -1,8 +1,7 @@
 -- Where no cause holds against an addition, what is active of its package refers to what is active alone.
 use Rattle.std.proofs.Common.{◌≡◌, ◌∙◌, ◌≢◌, ℕ, ◌<◌, ◌≤◌, ◌&&◌, nat_eq, Bool, true, false, not, List, [], ◌∷◌, ◌⊎◌, inl, inr, map, length, Option, None, Some, slice_get, refl, sym, ap, subst, arith, Contains, if◌then◌else◌}
-use Rattle.std.specs.List.{flat_map}
+use Rattle.std.specs.List.{AllByRecursion, flat_map, list_any}
 use Rattle.std.specs.Option.{option_map_or}
-use Rattle.std.specs.List.{AllByRecursion, list_any}
 use Rattle.std.proofs.lemmas.Bool.{cases_Bool, eqb-true, false≢true, ltb-true}
 use Rattle.std.proofs.lemmas.Map.Keys.{IsDistinct-cons}
 use Rattle.std.proofs.lemmas.Map.Steps.{length-le_from_distinct_below}
@@ -29,7 +28,8 @@ use Rattle.wit_data.specs.declared.world.World.{World}
 use Rattle.wit_data.specs.declared.world.WorldItem.TheVariants as item
 use Rattle.wit_graph_theory.specs.Cut.{IsClosedCut, ItemIsKept, OwnerIsKept}
 use Rattle.wit_graph_theory.specs.facts.ListFacts.{Contains-map, contained_at, found_at, place_of, same_at, some_at}
-use Rattle.wit_link_spec.specs.Addition.{Addition, own_world, part}
+use Rattle.wit_link_spec.specs.Addition.{Addition, own_world}
+use Rattle.wit_link_spec.specs.facts.ActivePart.{part}
 use Rattle.wit_link_spec.specs.Gates.{HasEntry, OptionalSpan, foreign_gates, function_is_active, interface_is_active, is_active, is_foreign_interface, is_foreign_world, item_is_active, some_active, type_is_active, world_is_active}
 use Rattle.wit_link_spec.specs.Reasons.{IsResolved, IsActiveFunction, IsExcluded, RefersTo, Thing, AType, AnInterface, AWorld, kind_references, of_entry, of_foreign_type, of_function, of_interface, of_type, of_world, owner_thing}
 

@@ -21,7 +21,8 @@ use Rattle.wit_data.specs.declared.world.WorldItem.TheVariants as item
 use Rattle.wit_elaboration.proofs.Filters.{Contains-filter}
 use Rattle.wit_graph_theory.specs.Cut.{ItemIsKept}
 use Rattle.wit_graph_theory.specs.facts.ListFacts.{place_of}
-use Rattle.wit_link_spec.specs.Addition.{Addition, function_positions, own_interfaces, own_types, own_worlds, part, positions, remapped_type, types_without_owns, value_needs_own}
+use Rattle.wit_link_spec.specs.Addition.{Addition, function_positions, own_interfaces, own_types, own_worlds, positions, remapped_type, types_without_owns, value_needs_own}
+use Rattle.wit_link_spec.specs.facts.ActivePart.{part}
 use Rattle.wit_link_spec.specs.facts.ClosedCut.{closed_part, references_kept}
 use Rattle.wit_link_spec.specs.Gates.{type_is_active}
 use Rattle.wit_link_spec.specs.facts.OwnThingFacts.{own_interface_from, own_type_from, own_world_from}

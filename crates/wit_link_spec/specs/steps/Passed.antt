@@ -1,10 +1,9 @@
--- What the steps of an addition have seen where they refuse nothing: the reasons that each of them tells don't
--- hold.
+-- What the steps of an addition have seen where they refuse nothing: the reasons that each of them tells don't hold.
 use Rattle.std.specs.Prelude.{ℕ, List}
 use Rattle.wit_data.specs.declared.package_name.PackageName.{PackageName}
 use Rattle.wit_link_spec.specs.Addition.{Addition}
 use Rattle.wit_link_spec.specs.Gates.{OptionalSpan}
-use Rattle.wit_link_spec.specs.Reasons.{ForeignTypeMissing, HasExcludedOwner, IsNoResource, IsResolved, IsUnreleased, LacksInterface, LacksPackage, LacksVersion, LacksWorld, RefersToExcluded, ReturnsBorrow}
+use Rattle.wit_link_spec.specs.Reasons.{ForeignTypeMissing, HasExcludedOwner, IsNoResource, IsUnreleased, LacksInterface, LacksPackage, LacksVersion, LacksWorld, RefersToExcluded, ReturnsBorrow}
 
 -- 9, 10: the package meets each `@since` that is asked
 pub record GatesAreMet (a : Addition) : Type 0 where
@@ -30,16 +29,3 @@ HasResources a = (span : OptionalSpan) (message : List ℕ) → IsNoResource a s
 -- 15: no result holds a borrow
 abbrev pub ReturnsNoBorrow : Addition → Type 0
 ReturnsNoBorrow a = (span : OptionalSpan) (message : List ℕ) → ReturnsBorrow a span message → ⊥
-
--- such a package has an image
-pub has_image : (a : Addition) → GatesAreMet a → NeedsNothingExcluded a → IsAllFound a → IsResolved a
-has_image a met needs found = record {
-  packages = found.packages;
-  worlds = found.worlds;
-  interfaces = found.interfaces;
-  version = met.version;
-  released = met.released;
-  references = needs.references;
-  owners = needs.owners;
-  types = found.types;
-}

@@ -21,10 +21,10 @@ use Rattle.wit_elaboration.specs.Entries.{same_key}
 use Rattle.wit_graph_data.specs.declared.graph.Package.{Package}
 use Rattle.wit_graph_theory.specs.Image.{entry_image, function_image}
 use Rattle.wit_link_spec.specs.Include.{joined_stability}
-use Rattle.wit_merge_match.specs.steps.MergeRemaps.{moves}
+use Rattle.wit_merge_match.specs.steps.Matched.{moves}
 use Rattle.wit_remap.specs.steps.Fits.{Fits, FunctionFits, InterfaceFits, TypeFits, WorldFits}
 use Rattle.wit_remap.specs.steps.Movers.{goes}
-use Rattle.wit_merge_spec.specs.Joined.{with_interface, with_package}
+use Rattle.wit_merge_spec.specs.United.{with_interface, with_package}
 use Rattle.wit_merge_spec.specs.Matches.{GraphMerge}
 use Rattle.wit_merge_spec.specs.Remapped.{merge_maps, merged_package, moves_interface, moves_package, moves_world}
 

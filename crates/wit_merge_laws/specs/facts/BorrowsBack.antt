@@ -25,16 +25,15 @@ use Rattle.wit_graph_theory.specs.facts.ListFacts.{found_at, from_row, get_at, i
 use Rattle.wit_graph_theory.specs.facts.Referred.{RemapsTo}
 use Rattle.wit_graph_theory.specs.facts.ReferredFacts.{kind_refers}
 use Rattle.wit_link_spec.specs.Reasons.{HoldsBorrow, IsBorrow}
-use Rattle.wit_link_spec.specs.Ranks.{rank}
+use Rattle.wit_link_spec.specs.Addition.{rank}
 use Rattle.wit_link_spec.specs.Resources.{own_of}
 use Rattle.wit_merge_structure.specs.Structure.{Part, held_features, parts_of, structure, variant_of}
 use Rattle.wit_merge_structure.specs.facts.StructureFacts.{part_refers, parts_name}
 use Rattle.wit_merge_structure.specs.declared.kinds.Variant.TheVariants as variants
-use Rattle.wit_merge_spec.specs.Joined.{joined_type}
+use Rattle.wit_merge_spec.specs.United.{joined_graph, joined_type}
 use Rattle.wit_merge_spec.specs.Matches.{GraphMerge, counterpart_type}
 use Rattle.wit_merge_spec.specs.Remapped.{merge_maps, merged_type, merged_value, merged_value_needs_own, moved_types, moves_type}
-use Rattle.wit_merge_spec.specs.Reasons.{HasNoMismatch}
-use Rattle.wit_merge_spec.specs.United.{joined_graph}
+use Rattle.wit_merge_spec.specs.Cause.{HasNoMismatch}
 use Rattle.wit_merge_laws.specs.laws.BorrowLaws.{MergesMakeNoBorrow}
 use Rattle.wit_merge_laws.specs.facts.FunctionsThere.{moved_refers}
 use Rattle.wit_merge_laws.specs.facts.MatchFacts.{goes_to, type_is}

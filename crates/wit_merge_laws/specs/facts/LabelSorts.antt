@@ -24,11 +24,10 @@ use Rattle.wit_graph_theory.specs.steps.UnnamedOnce.{entries_of}
 use Rattle.wit_graph_theory.specs.facts.OptionFacts.{some_same}
 use Rattle.wit_link_spec.specs.Include.{joined_entry, joined_item}
 use Rattle.wit_merge_spec.specs.Agreement.{same_sort}
-use Rattle.wit_merge_spec.specs.Joined.{is_under_id, joined_world, with_world}
+use Rattle.wit_merge_spec.specs.United.{is_under_id, joined_graph, joined_world, united, with_world}
 use Rattle.wit_merge_spec.specs.Matches.{GraphMerge, counterpart_of, counterpart_world}
 use Rattle.wit_merge_spec.specs.Remapped.{merge_maps, merged_world, moves_world}
-use Rattle.wit_merge_spec.specs.Reasons.{HasNoMismatch}
-use Rattle.wit_merge_spec.specs.United.{joined_graph, united}
+use Rattle.wit_merge_spec.specs.Cause.{HasNoMismatch}
 use Rattle.wit_merge_laws.specs.facts.JoinedGood.{UnionCanElaborate}
 use Rattle.wit_merge_laws.specs.facts.LabelsStay.{no_label}
 use Rattle.wit_merge_laws.specs.facts.ListedStand.{world_at_from}

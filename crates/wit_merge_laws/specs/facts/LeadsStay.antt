@@ -24,11 +24,10 @@ use Rattle.wit_graph_theory.specs.facts.ReferredFacts.{alias_image}
 use Rattle.wit_graph_theory.specs.steps.Sources.{alias_rows}
 use Rattle.wit_link_spec.specs.Resources.{is_resource, is_resource_kind, leads_to_resource}
 use Rattle.wit_merge_structure.specs.Structure.{variant_of}
-use Rattle.wit_merge_spec.specs.Joined.{joined_type}
+use Rattle.wit_merge_spec.specs.United.{joined_graph, joined_type}
 use Rattle.wit_merge_spec.specs.Matches.{GraphMerge, counterpart_type}
 use Rattle.wit_merge_spec.specs.Remapped.{merge_maps, merged_type, moves_type}
-use Rattle.wit_merge_spec.specs.Reasons.{HasNoMismatch}
-use Rattle.wit_merge_spec.specs.United.{joined_graph}
+use Rattle.wit_merge_spec.specs.Cause.{HasNoMismatch}
 use Rattle.wit_merge_laws.specs.facts.MatchFacts.{goes_to, type_is}
 use Rattle.wit_merge_laws.specs.facts.MatchedTypes.{alias_matched, variant_matched}
 use Rattle.wit_merge_laws.specs.facts.NoCycles.{joined_types_acyclic}

@@ -14,7 +14,7 @@ use Rattle.wit_graph_theory.specs.facts.ListFacts.{place_of, same_at}
 use Rattle.wit_graph_theory.specs.steps.UnnamedOnce.{entries_of}
 use Rattle.wit_merge_spec.specs.Agreement as differ
 use Rattle.wit_merge_spec.specs.Matches.{GraphMerge, counterpart_key, counterpart_world}
-use Rattle.wit_merge_spec.specs.Reasons.{HasNoMismatch}
+use Rattle.wit_merge_spec.specs.Cause.{HasNoMismatch}
 use Rattle.wit_merge_laws.specs.facts.Covering.{covers}
 use Rattle.wit_merge_laws.specs.facts.ListedStand.{interfaces_apart}
 use Rattle.wit_merge_laws.specs.facts.MatchedOnce.{lists_distinct}

@@ -50,11 +50,9 @@ use Rattle.wit_merge_structure.specs.declared.kinds.Variant.{Variant}
 use Rattle.wit_merge_structure.specs.declared.kinds.Variant.TheVariants as variants
 use Rattle.wit_merge_spec.specs.Agreement.{StructuresDiffer}
 use Rattle.wit_merge_spec.specs.Agreement as differ
-use Rattle.wit_merge_spec.specs.Matches.{GraphMerge, counterpart_interface, counterpart_type, counterpart_type_by, counterpart_world, matched_interface, matched_world, world_labels}
+use Rattle.wit_merge_spec.specs.Matches.{FirstDiffers, GraphMerge, TypePair, common_entries, common_types, counterpart_interface, counterpart_type, counterpart_type_by, counterpart_world, entry_pairs, in_package_order, interface_pairs, item_pairs, matched_interface, matched_world, paired as pair_of, type_pairs, world_labels, world_pairs}
 use Rattle.wit_merge_spec.specs.MismatchText.{entry_link, linked, part_links, side_word, type_link}
-use Rattle.wit_merge_spec.specs.Reasons.{HasNoMismatch}
-use Rattle.wit_merge_spec.specs.TypePairs.{FirstDiffers, TypePair, common_entries, common_types, entry_pairs, in_package_order, interface_pairs, item_pairs, type_pairs, world_pairs}
-use Rattle.wit_merge_spec.specs.TypePairs.{paired as pair_of}
+use Rattle.wit_merge_spec.specs.Cause.{HasNoMismatch}
 use Rattle.wit_merge_laws.specs.facts.MatchFacts.{stands_at}
 use Rattle.wit_merge_laws.specs.facts.MatchedOnce.{in_own_table, lists_distinct, one_under, world_in_table}
 use Rattle.wit_merge_laws.specs.facts.OnceStand.{spot_of}

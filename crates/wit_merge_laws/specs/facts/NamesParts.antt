@@ -31,11 +31,10 @@ use Rattle.wit_graph_theory.specs.facts.OptionFacts.{some_same}
 use Rattle.wit_graph_theory.specs.steps.Sources.{InterfaceStands}
 use Rattle.wit_merge_spec.specs.Agreement.{same_sort}
 use Rattle.wit_merge_spec.specs.Agreement as differ
-use Rattle.wit_merge_spec.specs.Joined.{joined_interface, joined_world, with_interface}
+use Rattle.wit_merge_spec.specs.United.{joined_graph, joined_interface, joined_world, united, with_interface}
 use Rattle.wit_merge_spec.specs.Matches.{GraphMerge, counterpart_interface, counterpart_of, counterpart_world}
 use Rattle.wit_merge_spec.specs.Remapped.{brought_functions, merge_maps, merged_interface, merged_package, merged_type, merged_world, moves_interface, moves_world}
-use Rattle.wit_merge_spec.specs.Reasons.{HasNoMismatch}
-use Rattle.wit_merge_spec.specs.United.{joined_graph, united}
+use Rattle.wit_merge_spec.specs.Cause.{HasNoMismatch}
 use Rattle.wit_merge_laws.specs.facts.InterfacesStand as interfaces
 use Rattle.wit_merge_laws.specs.facts.InterfacesStand.{option_is, option_so}
 use Rattle.wit_merge_laws.specs.facts.JoinedGood.{UnionCanElaborate}

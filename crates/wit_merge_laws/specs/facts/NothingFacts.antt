@@ -17,10 +17,8 @@ use Rattle.wit_graph_theory.specs.AllElaborated.{all_elaborated, elaborated_worl
 use Rattle.wit_graph_theory.specs.facts.ListFacts.{place_of}
 use Rattle.wit_merge_spec.specs.Agreement as differ
 use Rattle.wit_merge_spec.specs.Agreement.{GraphsDiffer}
-use Rattle.wit_merge_spec.specs.Cause.{MergeIsAccepted, borrow_in_result_15, conflict_4, interface_cycle_22, merge_mismatch_24, mismatch_8, offset_overflow_27, package_cycle_6}
-use Rattle.wit_merge_spec.specs.Matches.{GraphMerge, Pair, counterpart_interface, counterpart_type, counterpart_world}
-use Rattle.wit_merge_spec.specs.Reasons.{AreJoined, entries, interfaces, types, worlds}
-use Rattle.wit_merge_spec.specs.TypePairs.{TypePair}
+use Rattle.wit_merge_spec.specs.Cause.{AreJoined, MergeIsAccepted, borrow_in_result_15, conflict_4, entries, interface_cycle_22, interfaces, merge_mismatch_24, mismatch_8, offset_overflow_27, package_cycle_6, types, worlds}
+use Rattle.wit_merge_spec.specs.Matches.{GraphMerge, Pair, TypePair, counterpart_interface, counterpart_type, counterpart_world}
 use Rattle.wit_merge_spec.specs.United.{joined_graph}
 use Rattle.wit_merge_laws.specs.laws.MergingLaws.{NothingComes, merge_of_graphs}
 

@@ -32,7 +32,7 @@ use Rattle.wit_graph_theory.specs.facts.OptionFacts.{some_there}
 use Rattle.wit_merge_spec.specs.Agreement.{same_sort}
 use Rattle.wit_merge_spec.specs.Matches.{GraphMerge, counterpart_world}
 use Rattle.wit_merge_spec.specs.Remapped.{merge_maps, merged_world, moves_world}
-use Rattle.wit_merge_spec.specs.Reasons.{HasNoMismatch}
+use Rattle.wit_merge_spec.specs.Cause.{HasNoMismatch}
 use Rattle.wit_merge_spec.specs.United.{joined_graph, united}
 use Rattle.wit_merge_laws.specs.facts.AgreementBack.{agreement_is_symmetric}
 use Rattle.wit_merge_laws.specs.facts.BothNames.{names_of_both}

@@ -26,9 +26,8 @@ use Rattle.wit_graph_theory.specs.steps.UnnamedOnce.{entries_of}
 use Rattle.wit_graph_theory.specs.facts.OptionFacts.{some_parts, some_whole}
 use Rattle.wit_graph_theory.specs.facts.PackagesAcyclic.{there_is}
 use Rattle.wit_link_spec.specs.Lookup.{interface_type}
-use Rattle.wit_merge_spec.specs.Matches.{GraphMerge, counterpart_interface, counterpart_item, counterpart_type, counterpart_type_by, counterpart_world, matched_interface, matched_world}
+use Rattle.wit_merge_spec.specs.Matches.{GraphMerge, TypePair, common_entries, common_types, counterpart_interface, counterpart_item, counterpart_type, counterpart_type_by, counterpart_world, entry_pairs, in_package_order, interface_pairs, item_pairs, matched_interface, matched_world, paired, type_pairs, world_pairs}
 use Rattle.wit_merge_spec.specs.MismatchText.{entry_link, part_links}
-use Rattle.wit_merge_spec.specs.TypePairs.{TypePair, common_entries, common_types, entry_pairs, in_package_order, interface_pairs, item_pairs, paired, type_pairs, world_pairs}
 use Rattle.wit_merge_laws.specs.facts.FoundBack.{lookup_finds_world_type}
 use Rattle.wit_merge_laws.specs.facts.WorldsStand.{entry, lists_it}
 

@@ -36,11 +36,10 @@ use Rattle.wit_graph_theory.specs.steps.UnnamedOnce.{entries_of}
 use Rattle.wit_graph_theory.specs.laws.PackageCycles.{ListsKey}
 use Rattle.wit_link_spec.specs.Include.{joined_entry, joined_item}
 use Rattle.wit_merge_spec.specs.Agreement.{same_sort}
-use Rattle.wit_merge_spec.specs.Joined.{joined_world, with_world}
+use Rattle.wit_merge_spec.specs.United.{joined_graph, joined_world, with_world}
 use Rattle.wit_merge_spec.specs.Matches.{GraphMerge, counterpart_key, counterpart_of, counterpart_world}
 use Rattle.wit_merge_spec.specs.Remapped.{merged_interface}
-use Rattle.wit_merge_spec.specs.Reasons.{HasNoMismatch}
-use Rattle.wit_merge_spec.specs.United.{joined_graph}
+use Rattle.wit_merge_spec.specs.Cause.{HasNoMismatch}
 use Rattle.wit_merge_laws.specs.facts.ListedStand.{interfaces_apart}
 use Rattle.wit_merge_laws.specs.facts.MatchedEntries.{covered}
 use Rattle.wit_merge_laws.specs.facts.MatchedOnce.{lists_distinct, one_under}

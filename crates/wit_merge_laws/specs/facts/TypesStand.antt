@@ -28,14 +28,13 @@ use Rattle.wit_graph_theory.specs.facts.PackagesAcyclic.{length-numbered, number
 use Rattle.wit_graph_theory.specs.facts.Referred.{RefersUnder}
 use Rattle.wit_graph_theory.specs.steps.Sources.{IsCarriedType, IsOwnOf, Source, Stands}
 use Rattle.wit_link_spec.specs.facts.RankFacts.{selected-at, selected_with_index-at, selected_with_index-from}
-use Rattle.wit_link_spec.specs.Ranks.{rank, selected_with_index}
+use Rattle.wit_link_spec.specs.Addition.{rank, selected_with_index}
 use Rattle.wit_link_spec.specs.Resources.{leads_to_resource, own_of}
 use Rattle.wit_link_laws.specs.facts.LeadFacts.{filtered_range, leads_nowhere}
 use Rattle.wit_graph_theory.specs.facts.ReferredFacts.{plain_image}
-use Rattle.wit_merge_spec.specs.Joined.{joined_type, with_type}
+use Rattle.wit_merge_spec.specs.United.{joined_graph, joined_type, with_type}
 use Rattle.wit_merge_spec.specs.Matches.{GraphMerge, counterpart_of, counterpart_type}
 use Rattle.wit_merge_spec.specs.Remapped.{merge_maps, merge_maps_without_owns, merge_types_without_owns, merged_type, merged_value, merged_value_needs_own, moved_types, moves_type, owns_of_merge, positions}
-use Rattle.wit_merge_spec.specs.United.{joined_graph}
 use Rattle.wit_merge_laws.specs.facts.MatchFacts.{goes_to, type_is}
 
 -- ---- what moves, and what is matched

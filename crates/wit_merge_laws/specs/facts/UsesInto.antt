@@ -2,7 +2,7 @@
 -- stays, moves with what it names, or is matched with an alias of what that is matched with.
 use Rattle.std.specs.Prelude.{◌==◌}
 use Rattle.std.proofs.Common.{◌≡◌, ◌∙◌, inl, inr, ℕ, Bool, true, false, List, None, Some, option_map, slice_get, refl, sym, ap, Contains, if◌then◌else◌}
-use Rattle.std.proofs.lemmas.Bool.{eq-eqb, eqb-true, false≢true}
+use Rattle.std.proofs.lemmas.Bool.{cases_Bool, eq-eqb, eqb-true, false≢true}
 use Rattle.wit_digraph.specs.Relation.{direct}
 use Rattle.wit_data.specs.Uses.{alias_target, interface_uses, other_owner, type_interface_dep}
 use Rattle.wit_data.specs.declared.types.TypeDef.{TypeDef}
@@ -20,15 +20,13 @@ use Rattle.wit_graph_theory.specs.facts.OptionFacts.{some_same}
 use Rattle.wit_graph_theory.specs.facts.ReferredFacts.{alias_image}
 use Rattle.wit_graph_theory.specs.steps.Sources.{InterfaceStands, Stands}
 use Rattle.wit_graph_theory.specs.facts.UsesAcyclic.{other_from}
-use Rattle.wit_merge_spec.specs.Joined.{joined_interface, joined_type}
+use Rattle.wit_merge_spec.specs.United.{joined_graph, joined_interface, joined_type}
 use Rattle.wit_merge_spec.specs.Matches.{GraphMerge, counterpart_type}
 use Rattle.wit_merge_spec.specs.Remapped.{merge_maps, merged_interface, merged_type, moves_type}
-use Rattle.wit_merge_spec.specs.United.{joined_graph}
 use Rattle.wit_merge_laws.specs.facts.InterfacesStand as interfaces
 use Rattle.wit_merge_laws.specs.facts.ListedStand.{interfaces_apart}
 use Rattle.wit_merge_laws.specs.facts.MatchFacts.{goes_to, type_is}
 use Rattle.wit_merge_laws.specs.facts.TypesStand.{joined_keeps, matched_some, new_type_at, old_type_at, type_stands}
-use Rattle.std.proofs.lemmas.Bool.{cases_Bool}
 use Rattle.wit_merge_laws.specs.facts.UsesFrom.{target_there}
 use Rattle.wit_merge_laws.specs.facts.WholeFacts.{types_within}
 

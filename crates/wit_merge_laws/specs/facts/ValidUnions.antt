@@ -16,10 +16,9 @@ use Rattle.wit_graph_theory.specs.facts.ListFacts.{from_map}
 use Rattle.wit_graph_theory.specs.Operations.{merge_sources}
 use Rattle.wit_graph_theory.specs.facts.PackageCycleFacts.{acyclic_packages, packages_stay_acyclic}
 use Rattle.wit_graph_theory.specs.laws.PackageCycles.{AreElaboratedFrom}
-use Rattle.wit_merge_spec.specs.Cause.{MergeIsAccepted, package_cycle_6}
+use Rattle.wit_merge_spec.specs.Cause.{HasNoMismatch, MergeIsAccepted, package_cycle_6}
 use Rattle.wit_merge_spec.specs.Matches.{GraphMerge}
 use Rattle.wit_merge_spec.specs.Remapped.{merge_maps}
-use Rattle.wit_merge_spec.specs.Reasons.{HasNoMismatch}
 use Rattle.wit_merge_spec.specs.United.{joined_graph, united}
 use Rattle.wit_merge_laws.specs.facts.JoinedGood.{UnionCanElaborate, aliases, listed_exports, listed_imports}
 use Rattle.wit_merge_laws.specs.laws.MergingLaws.{UnionsStayValid}

@@ -6,7 +6,7 @@ use Rattle.wit_elaboration.specs.Valid.{IsValid}
 use Rattle.wit_link_spec.specs.Reasons.{HoldsBorrow}
 use Rattle.wit_merge_spec.specs.Matches.{GraphMerge}
 use Rattle.wit_merge_spec.specs.Remapped.{moved_functions}
-use Rattle.wit_merge_spec.specs.Reasons.{HasNoMismatch, MergeReturnsBorrow}
+use Rattle.wit_merge_spec.specs.Cause.{HasNoMismatch, MergeReturnsBorrow}
 
 -- a function that moves returns a borrow in the incoming graph already
 pub record ReturnsItsBorrow (m : GraphMerge) : Type 0 where

@@ -14,7 +14,7 @@ use Rattle.wit_link_spec.specs.Resources.{leads_to_resource}
 use Rattle.wit_merge_spec.specs.Agreement.{same_sort}
 use Rattle.wit_merge_spec.specs.Matches.{GraphMerge}
 use Rattle.wit_merge_spec.specs.Remapped.{merged_type}
-use Rattle.wit_merge_spec.specs.Reasons.{HasNoMismatch}
+use Rattle.wit_merge_spec.specs.Cause.{HasNoMismatch}
 use Rattle.wit_merge_spec.specs.United.{united}
 use Rattle.wit_merge_laws.specs.facts.JoinedGood.{UnionCanElaborate}
 use Rattle.wit_merge_laws.specs.laws.MergingLaws.{merge_of_graphs}

@@ -6,8 +6,8 @@ use Rattle.wit_data.specs.declared.world.WorldItem.{WorldItem}
 use Rattle.wit_graph_data.specs.declared.graph.Graph.{Graph}
 use Rattle.wit_merge_spec.specs.Agreement as agreement
 use Rattle.wit_merge_spec.specs.Agreement.{EntriesDiffer, GraphsDiffer, ItemsDiffer}
-use Rattle.wit_merge_spec.specs.Reasons as reasons
-use Rattle.wit_merge_spec.specs.Reasons.{AreJoined, HasNoMismatch, StabilitiesMismatch}
+use Rattle.wit_merge_spec.specs.Cause as reasons
+use Rattle.wit_merge_spec.specs.Cause.{AreJoined, HasNoMismatch, StabilitiesMismatch}
 use Rattle.wit_merge_match.specs.Differing.{merge_of_graphs_by}
 
 module _ (g other : Graph) (a b : ℕ) where

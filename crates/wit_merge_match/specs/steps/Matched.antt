@@ -1,6 +1,6 @@
 -- What is found of another graph in a graph, as lists of ids: of each thing of the other graph the one with which it is
--- matched.
-use Rattle.std.specs.Prelude.{◌≡◌, ℕ, Bool, List, get_or, length, nat_eq, slice_get, Option, None, Some, option_and_then, if◌then◌else◌}
+-- matched; and where its things go in a merge.
+use Rattle.std.specs.Prelude.{◌≡◌, ℕ, Bool, List, get_or, length, nat_eq, slice_get, Option, None, Some, option_and_then, if◌then◌else◌, ◌+◌, not, is_some, unwrap_or}
 use Rattle.std.specs.Map.{lookup}
 use Rattle.std.specs.Str.{bytes_eq}
 use Rattle.wit_data.specs.Entries.{is_unnamed}
@@ -17,9 +17,12 @@ use Rattle.wit_elaboration.specs.Entries.{same_key}
 use Rattle.wit_graph_data.specs.declared.graph.Graph.{Graph}
 use Rattle.wit_graph_data.specs.declared.graph.Package.{Package}
 use Rattle.wit_link_spec.specs.Lookup.{interface_type}
+use Rattle.wit_link_spec.specs.Addition.{rank}
 use Rattle.wit_graph_theory.specs.steps.UnnamedOnce.{entries_of}
 use Rattle.wit_merge_spec.specs.Matches.{GraphMerge, WorldLabel, counterpart_at_label, counterpart_interface, counterpart_package, counterpart_type, counterpart_world, unnamed_item}
+use Rattle.wit_merge_spec.specs.Remapped as moved
 use Rattle.wit_merge_match.specs.declared.matches.Matches.{Matches}
+use Rattle.wit_merge_match.specs.declared.merge_remap.MergeRemap.{MergeRemap}
 use Rattle.wit_merge_match.specs.declared.world_labels.LabelNotes.{LabelNotes}
 
 -- the other graph goes into the graph (what is matched doesn't hang on where spans go)
@@ -79,3 +82,18 @@ owned_under g worlds interfaces name owner.None = None
 
 abbrev pub type_under : Graph → List (Option ℕ) → List (Option ℕ) → TypeDef → Option ℕ
 type_under g worlds interfaces def = option_and_then (λ name. owned_under g worlds interfaces name def.owner) def.name
+
+-- a thing that isn't found moves
+abbrev pub moves : List (Option ℕ) → ℕ → Bool
+moves found i = not (is_some (get_or found i None))
+
+-- what a thing is remapped to by what is found of all: to that, or to the next id from the first one on
+abbrev pub place_from : List (Option ℕ) → ℕ → ℕ → ℕ
+place_from found first i = unwrap_or (get_or found i None) (first + rank (moves found) i)
+
+-- where all things go in a merge
+abbrev pub merge_remap_of : GraphMerge → MergeRemap
+merge_remap_of m = record {
+  places = record { types = (moved.merge_remap m).types; interfaces = (moved.merge_remap m).interfaces; worlds = (moved.merge_remap m).worlds };
+  packages = (moved.merge_remap m).packages;
+}

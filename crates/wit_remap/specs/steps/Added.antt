@@ -1,27 +1,58 @@
--- The parts of a package at the ends of a graph.
-use Rattle.std.specs.Prelude.{◌≡◌, ℕ, Bool, List, [], ◌∷◌, ◌++◌, map, length, None}
+-- The parts of a package at the ends of a graph, its tables and its worlds at their places.
+use Rattle.std.specs.Prelude.{◌≡◌, ℕ, Bool, List, [], ◌∷◌, ◌++◌, map, length, None, filter, Option, filter_map}
 use Rattle.std.specs.List.{IsDistinct}
 use Rattle.std.specs.Map.{keys_of, lookup}
+use Rattle.std.specs.Option.{option_map}
 use Rattle.std.specs.Str.{bytes_eq}
 use Rattle.wit_data.specs.Each.{Each}
+use Rattle.wit_data.specs.Entries.{Entry}
 use Rattle.wit_data.specs.PackageOrder.{same_package}
+use Rattle.wit_data.specs.declared.interface.Interface.{Interface}
 use Rattle.wit_data.specs.declared.types.TypeDef.{TypeDef}
 use Rattle.wit_data.specs.declared.unresolved.UnresolvedPackage.{UnresolvedPackage}
 use Rattle.wit_data.specs.declared.world.World.{World}
+use Rattle.wit_data.specs.facts.WorldKeyFacts.{same_key}
 use Rattle.wit_graph_data.specs.declared.graph.Graph.{Graph}
 use Rattle.wit_graph_data.specs.declared.graph.Package.{Package}
-use Rattle.wit_graph_theory.specs.Cut.{cut_interface}
-use Rattle.wit_graph_theory.specs.Image.{Maps, interface_image, type_image, world_image}
+use Rattle.wit_graph_theory.specs.Cut.{cut_interface, cut_world}
+use Rattle.wit_graph_theory.specs.Image.{Maps, entry_image, interface_image, type_image, world_image}
 use Rattle.wit_graph_theory.specs.Kept.{KeptIds}
-use Rattle.wit_link_spec.specs.Addition.{Addition, active_includes, addition_maps, own_worlds}
-use Rattle.wit_link_spec.specs.Ranks.{selected, selected_with_index}
+use Rattle.wit_link_spec.specs.Addition.{Addition, active_includes, addition_maps, own_worlds, selected, selected_with_index}
+use Rattle.wit_link_spec.specs.Gates.{include_is_active}
 use Rattle.wit_link_spec.specs.declared.addition.NewIds.{NewIds}
 use Rattle.wit_remap.specs.steps.Fits.{Fits, InterfaceFits, TypeFits, WorldFits}
-use Rattle.wit_remap.specs.steps.Parts.{is_new}
-use Rattle.wit_remap.specs.steps.Tables.{interfaces_at, worlds_at}
-use Rattle.wit_remap.specs.steps.Worlds.{HasKeysApart}
+use Rattle.wit_remap.specs.steps.Parts.{is_new, kept_of}
 use Rattle.wit_remap.specs.declared.part.Part.{Part}
 use Rattle.wit_remap.specs.declared.worlds.PlacedWorld.{PlacedWorld}
+
+-- the name of an interface that has one, with its id
+abbrev pub named_at : Maps → ℕ × Interface → Option (List ℕ × ℕ)
+named_at m e = option_map (λ (name : List ℕ). (name, m.interfaces e.0)) e.1.name
+
+-- the interfaces that have a name under it, each with its id
+abbrev pub interfaces_at : Maps → List (ℕ × Interface) → List (List ℕ × ℕ)
+interfaces_at m interfaces = filter_map (named_at m) interfaces
+
+-- a world under its name, with its id
+abbrev pub world_at : Maps → ℕ × World → List ℕ × ℕ
+world_at m e = (e.1.name, m.worlds e.0)
+
+-- the worlds under their names
+abbrev pub worlds_at : Maps → List (ℕ × World) → List (List ℕ × ℕ)
+worlds_at m worlds = map (world_at m) worlds
+
+-- the keys of what is active still differ at their places
+pub record HasKeysApart (m : Maps) (kept : KeptIds) (world : World) : Type 0 where
+  pub imports : IsDistinct same_key (keys_of (map (entry_image m 0) (filter (λ (e : Entry). kept.items e.1) world.imports)))
+  pub exports : IsDistinct same_key (keys_of (map (entry_image m 0) (filter (λ (e : Entry). kept.items e.1) world.exports)))
+
+-- a world at its place, with what it includes
+abbrev pub placed_world : Maps → Part → ℕ × World → PlacedWorld
+placed_world m part e = record {
+  place = e.0;
+  world = world_image m e.0 (cut_world (kept_of part) e.1);
+  includes = filter (include_is_active part.features.now) e.1.includes;
+}
 
 -- the addition of a package to a graph
 abbrev pub addition : Part → Graph → UnresolvedPackage → ℕ → Addition

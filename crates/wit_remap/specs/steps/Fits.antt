@@ -1,4 +1,5 @@
--- Spans that still end within the last position, 4294967295, when they are moved.
+-- Spans that still end within the last position, 4294967295, when they are moved: those of types, interfaces and
+-- entries, of whole worlds, and of all three together.
 use Rattle.std.specs.Prelude.{ℕ, ◌+◌, ◌<◌, ◌^◌, List}
 use Rattle.wit_data.specs.Each.{Each}
 use Rattle.wit_data.specs.Entries.{Entry}
@@ -14,6 +15,7 @@ use Rattle.wit_data.specs.declared.types.TypeDef.{TypeDef}
 use Rattle.wit_data.specs.declared.types.TypeDefKind.{TypeDefKind}
 use Rattle.wit_data.specs.declared.types.TypeDefKind.TheVariants as kind
 use Rattle.wit_data.specs.declared.world.World.{World}
+use Rattle.wit_data.specs.declared.world.WorldInclude.{WorldInclude}
 use Rattle.wit_data.specs.declared.world.WorldItem.{WorldItem}
 use Rattle.wit_data.specs.declared.world.WorldItem.TheVariants as item
 use Rattle.wit_link_spec.specs.Gates.{OptionalSpan}
@@ -60,3 +62,14 @@ pub record WorldFits (P : OptionalSpan → Type 0) (world : World) : Type 0 wher
   pub own : P world.span
   pub imports : EntriesFit P world.imports
   pub exports : EntriesFit P world.exports
+
+-- those of a world with its entries, and of its includes
+pub record WholeWorldFits (offset : ℕ) (world : World) : Type 0 where
+  pub entries : WorldFits (Fits offset) world
+  pub includes : Each (λ (i : WorldInclude). Fits offset i.span) world.includes
+
+-- those of types, interfaces and worlds
+pub record PartsFit (offset : ℕ) (types : List TypeDef) (interfaces : List Interface) (worlds : List World) : Type 0 where
+  pub of_types : Each (TypeFits (Fits offset)) types
+  pub of_interfaces : Each (InterfaceFits (Fits offset)) interfaces
+  pub of_worlds : Each (WholeWorldFits offset) worlds

@@ -1,7 +1,7 @@
 -- Files that come in with groups or with another state: the last position at which they fit, and the next one.
 use Rattle.std.specs.Prelude.{ℕ, [], ◌∷◌}
 use Rattle.wit_graph_data.specs.declared.error_kind.ResolveErrorKind.TheVariants.{OffsetOverflow, OutOfMemory}
-use Rattle.wit_link.specs.Groups.{FilesPassTheEnd}
+use Rattle.wit_link.specs.Appending.{FilesPassTheEnd}
 use Rattle.wit_resolve_graph.specs.examples.Examples.{first_group}
 use Rattle.wit_resolve_graph.specs.Merging.{FilesPass}
 use Rattle.wit_resolve_graph.specs.State.{State, new_state}

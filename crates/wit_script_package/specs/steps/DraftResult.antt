@@ -14,9 +14,3 @@ abbrev pub Makes : {S A : Type 0} → Option (A × S) → Result A LineFault →
 Makes expected (Ok value) new = expected ≡ Some (value, new)
 Makes expected (Err line_fault.NotUnderstood) new = expected ≡ None
 Makes expected (Err line_fault.OutOfMemory) new = Unit {0}
-
--- a fault of a part is one of the whole, where nothing comes of the whole without the part
-pub fault-of : {A B S : Type 0} {part : Option (A × S)} {whole : Option (B × S)} (between after : S) (fault : LineFault) → Makes part (Err fault) between → (part ≡ None → whole ≡ None)
-    → Makes whole (Err fault) after
-fault-of between after line_fault.NotUnderstood made stops = stops made
-fault-of between after line_fault.OutOfMemory made stops = tt

@@ -12,8 +12,7 @@ use Rattle.wit_graph_data.specs.declared.graph.Graph.{Graph}
 use Rattle.wit_graph_theory.specs.FunctionMismatch.{HaveFunctionMismatch}
 use Rattle.wit_semver_spec.specs.Rewritten.{interface_type, replaced_use, retargeted, target_name, with_new_entries_at}
 use Rattle.wit_semver_spec.specs.TrackCause.{Disagrees, IsComplete, disagreement_text, missing_text, upgrade_message}
-use Rattle.wit_semver_spec.specs.Tracks.{Versioned, both, is_below, track_key, versioned}
-use Rattle.wit_semver_spec.specs.Upgrade.{Upgrade, is_replaced, newest}
+use Rattle.wit_semver_spec.specs.Tracks.{Upgrade, Versioned, both, is_below, is_replaced, newest, track_key, versioned}
 use Rattle.wit_semver.specs.contracts.tracks.TrackKeyPartialEq.TheImpl.{eq-value}
 use Rattle.wit_semver.specs.declared.tracks.TrackKey.{TrackKey}
 use Rattle.wit_semver.specs.declared.tracks.VersionedInterface.{VersionedInterface}

@@ -18,8 +18,7 @@ use Rattle.wit_graph_data.specs.declared.graph.Graph.{Graph}
 use Rattle.wit_semver_spec.specs.Rewritten.{interface_type, replaced_use, rewritable_types, rewritten, target_name, with_new_entries}
 use Rattle.wit_semver_spec.specs.laws.Unchanged.{SameButLists, SameButTarget}
 use Rattle.wit_semver_spec.specs.TrackCause.{SemverMergeIsAccepted}
-use Rattle.wit_semver_spec.specs.Tracks.{Versioned, are_on_one_track, versioned}
-use Rattle.wit_semver_spec.specs.Upgrade.{Upgrade, imported, is_replaced, newest}
+use Rattle.wit_semver_spec.specs.Tracks.{Upgrade, Versioned, are_on_one_track, imported, is_replaced, newest, versioned}
 
 -- what stands for a replaced interface is an import on its track, which stays, and no import there is of a greater
 -- version

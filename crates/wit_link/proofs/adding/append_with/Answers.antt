@@ -8,7 +8,7 @@ use Rattle.wit_elaboration.specs.Valid.{IsValid}
 use Rattle.wit_remap.specs.Grown.{Grown}
 use Rattle.wit_remap.specs.facts.GrownFacts.{Begins-as, Begins-same, Grown-same}
 use Rattle.wit_link.specs.Appending.{IsAdded, addition}
-use Rattle.wit_link.specs.steps.Fits.{PackageFits}
+use Rattle.wit_link.specs.steps.Checked.{PackageFits}
 use Rattle.wit_link.proofs.Added.{is_new, taken, too_far}
 use Rattle.wit_link.proofs.adding.append_with.Goals as goal
 

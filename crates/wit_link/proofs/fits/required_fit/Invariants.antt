@@ -1,6 +1,6 @@
 use Rattle.std.proofs.Common.{ℕ}
 use Rattle.wit_data.specs.facts.EachFacts.{EachBelow}
-use Rattle.wit_link.specs.steps.Fits.{RequiredFits}
+use Rattle.wit_link.specs.steps.Checked.{RequiredFits}
 use Rattle.wit_link_spec.specs.Gates.{OptionalSpan}
 use Rattle.wit_link.proofs.fits.required_fit.Given as goal
 

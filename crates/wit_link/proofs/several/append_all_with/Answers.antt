@@ -3,7 +3,7 @@ use Rattle.wit_elaboration.specs.Elaboration.{graph_uses}
 use Rattle.wit_elaboration.specs.Valid.{IsValid}
 use Rattle.wit_remap.specs.Grown.{Grown}
 use Rattle.wit_remap.specs.facts.GrownFacts.{Begins-as, Grown-same}
-use Rattle.wit_link.specs.Several.{ArePushed}
+use Rattle.wit_link.specs.Appending.{ArePushed}
 use Rattle.wit_link.proofs.OneAfterAnother.{never_refused}
 use Rattle.wit_link.proofs.several.append_all_with.Goals as goal
 

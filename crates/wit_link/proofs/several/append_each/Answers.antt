@@ -5,7 +5,7 @@ use Rattle.wit_graph_data.specs.facts.ResultFacts.{residual_error}
 use Rattle.wit_graph_data.specs.declared.error_kind.ResolveErrorKind.{ResolveErrorKind}
 use Rattle.wit_graph_data.specs.declared.error_kind.ResolveErrorKind.TheVariants.{OutOfMemory}
 use Rattle.wit_remap.specs.facts.GrownFacts.{Begins-then, Grown-then}
-use Rattle.wit_link.specs.Several.{ArePushed, IsOneRefused}
+use Rattle.wit_link.specs.Appending.{ArePushed, IsOneRefused}
 use Rattle.wit_link.proofs.OneAfterAnother.{pushed_more, refused_here}
 use Rattle.wit_link.proofs.several.append_each.Goals as goal
 

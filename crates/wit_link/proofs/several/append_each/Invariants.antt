@@ -3,7 +3,7 @@ use Rattle.std.specs.List.{AllByRecursion}
 use Rattle.std.specs.Vec.Iter.{into_iter_items}
 use Rattle.wit_elaboration.specs.Elaboration.{graph_uses}
 use Rattle.wit_elaboration.specs.Valid.{IsValid}
-use Rattle.wit_link.specs.Several.{ArePushed, CanAppend}
+use Rattle.wit_link.specs.Appending.{ArePushed, CanAppend}
 use Rattle.wit_remap.specs.Grown.{Begins, Grown}
 use Rattle.wit_link.proofs.several.append_each.Given as goal
 

@@ -1,7 +1,7 @@
 use Rattle.std.proofs.Common.{◌≡◌, ◌∙◌, [], ◌∷◌, true, false, sym, subst, take}
 use Rattle.wit_link_spec.specs.Gates.{some_active}
 use Rattle.wit_link_spec.specs.declared.addition.Activity.{Activity}
-use Rattle.wit_link_features.specs.steps.GateSteps.{IsMarked}
+use Rattle.wit_link_features.specs.steps.FeatureSteps.{IsMarked}
 use Rattle.wit_link_features.proofs.Flags.{flag-stays, is-added, is-skipped, items-next}
 use Rattle.wit_link_features.proofs.active_parts.mark_items.Goals as goal
 

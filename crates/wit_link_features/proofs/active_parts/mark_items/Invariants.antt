@@ -1,5 +1,5 @@
 use Rattle.std.proofs.Common.{take}
-use Rattle.wit_link_features.specs.steps.GateSteps.{IsMarked}
+use Rattle.wit_link_features.specs.steps.FeatureSteps.{IsMarked}
 use Rattle.wit_link_features.proofs.active_parts.mark_items.Given as goal
 
 -- the first ones are added

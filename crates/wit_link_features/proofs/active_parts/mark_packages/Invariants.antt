@@ -1,6 +1,6 @@
 use Rattle.std.proofs.Common.{take}
 use Rattle.wit_link_spec.specs.Gates.{foreign_items}
-use Rattle.wit_link_features.specs.steps.GateSteps.{IsMarked}
+use Rattle.wit_link_features.specs.steps.FeatureSteps.{IsMarked}
 use Rattle.wit_link_features.proofs.active_parts.mark_packages.Given as goal
 
 -- those of the first packages are added

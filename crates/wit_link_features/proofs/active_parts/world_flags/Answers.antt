@@ -3,7 +3,7 @@ use Rattle.std.proofs.lemmas.Bool.{lt-leb}
 use Rattle.wit_data.specs.Foreign.{foreign_worlds}
 use Rattle.wit_data.specs.declared.world.World.{World}
 use Rattle.wit_link_spec.specs.facts.RangeFacts.{range-pushed}
-use Rattle.wit_link_features.specs.steps.GateSteps.{own_world_flag}
+use Rattle.wit_link_features.specs.steps.FeatureSteps.{own_world_flag}
 use Rattle.wit_link_features.proofs.Flags.{own-flag-in, own-flag-out}
 use Rattle.wit_link_features.proofs.active_parts.world_flags.Goals as goal
 use Rattle.wit_link_features.proofs.active_parts.world_flags.Goals.{then-index-foreign, else-index-foreign}

@@ -1,6 +1,6 @@
 use Rattle.std.proofs.Common.{◌≡◌, map}
 use Rattle.std.specs.List.{range_with_len}
-use Rattle.wit_link_features.specs.steps.GateSteps.{own_world_flag}
+use Rattle.wit_link_features.specs.steps.FeatureSteps.{own_world_flag}
 use Rattle.wit_link_features.proofs.active_parts.world_flags.Given as goal
 
 -- the flags of the first ones

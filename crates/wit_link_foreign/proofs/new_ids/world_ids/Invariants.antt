@@ -1,8 +1,7 @@
 use Rattle.std.proofs.Common.{◌≡◌, ◌+◌, length, map}
 use Rattle.std.specs.List.{range_with_len}
-use Rattle.wit_link_spec.specs.Addition.{active_world_id, own_world}
+use Rattle.wit_link_spec.specs.Addition.{active_world_id, own_world, rank}
 use Rattle.wit_link_spec.specs.steps.AdditionRefs.{addition_of}
-use Rattle.wit_link_spec.specs.Ranks.{rank}
 use Rattle.wit_link_foreign.proofs.new_ids.world_ids.Given as goal
 
 -- the places so far, and the next id

@@ -1,6 +1,6 @@
 use Rattle.std.proofs.Common.{List, subst, sym}
 use Rattle.wit_data.specs.Entries.{Entry}
-use Rattle.wit_link_include.specs.steps.Joined.{ComeOnce}
+use Rattle.wit_link_include.specs.steps.Included.{ComeOnce}
 use Rattle.wit_link_include.proofs.including.join_copies.Goals as goal
 
 pub join_lists-requires-clause-imports : goal.join_lists-requires-clause-imports

@@ -7,7 +7,7 @@ use Rattle.wit_graph_data.specs.declared.error_kind.ResolveErrorKind.TheVariants
 use Rattle.wit_data.specs.facts.WorldKeyFacts.{same_key}
 use Rattle.wit_data.specs.declared.world.WorldKey.{WorldKey}
 use Rattle.wit_data.specs.declared.world.WorldKey.TheVariants as key
-use Rattle.wit_link_include.specs.steps.Joined.{IsJoinCause}
+use Rattle.wit_link_include.specs.steps.Included.{IsJoinCause}
 use Rattle.wit_link_include.proofs.JoinSteps.{IsJoining, differ-cause, joining-new, joining-none, joining-there, not-done, shadow-cause}
 use Rattle.wit_link_include.proofs.Keys.{found_key, lacks_from}
 use Rattle.wit_link_include.proofs.joining.join.Goals as goal

@@ -1,6 +1,6 @@
 use Rattle.std.proofs.Common.{rules, ◌≡◌, ◌∙◌, Some, None}
 use Rattle.wit_data.specs.declared.world.WorldKey.TheVariants as key
-use Rattle.wit_link_include.specs.steps.Renamed.{word_of}
+use Rattle.wit_link_include.specs.steps.Included.{word_of}
 use Rattle.wit_link_include.proofs.Words.{interface-without, label-without, words-label, words-other}
 use Rattle.wit_link_include.proofs.renaming.add_words.Goals as goal
 use Rattle.wit_link_include.proofs.renaming.add_words.Goals.{in-Name+in-Some+in_ok-insert-in-Name, in-Name+in_default, in-Interface}

@@ -2,7 +2,7 @@ use Rattle.std.proofs.Common.{◌≡◌, ◌||◌, ℕ, List, take}
 use Rattle.std.specs.List.{list_any}
 use Rattle.std.specs.Map.{keys_of}
 use Rattle.std.specs.Str.{bytes_eq}
-use Rattle.wit_link_include.specs.steps.Renamed.{has_word}
+use Rattle.wit_link_include.specs.steps.Included.{has_word}
 use Rattle.wit_link_include.proofs.renaming.add_words.Given as goal
 
 -- the words so far are those of the labels so far, besides those that were there

@@ -1,5 +1,5 @@
 use Rattle.std.proofs.Common.{take}
-use Rattle.wit_link_include.specs.steps.Renamed.{AreRenamed}
+use Rattle.wit_link_include.specs.steps.Included.{AreRenamed}
 use Rattle.wit_link_include.proofs.renaming.check_names.Given as goal
 
 -- the renamings so far are of labels

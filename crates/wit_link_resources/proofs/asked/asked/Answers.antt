@@ -3,7 +3,7 @@ use Rattle.std.specs.List.{list_any, range_with_len}
 use Rattle.std.proofs.lemmas.Result.{IfOk-weaker}
 use Rattle.wit_link_spec.specs.steps.AdditionRefs.{addition_of}
 use Rattle.wit_link_spec.specs.Addition.{Addition}
-use Rattle.wit_link_resources.specs.steps.Asked.{gathered_positions, is_asked}
+use Rattle.wit_link_resources.specs.steps.Active.{gathered_positions, is_asked}
 use Rattle.wit_link_resources.proofs.Positions.{asked_same, gathered_there}
 use Rattle.wit_link_resources.proofs.Ranges.{map-same}
 use Rattle.wit_link_resources.proofs.asked.asked.Goals as goal

@@ -6,8 +6,7 @@ use Rattle.wit_data.specs.declared.function.Function.{Function}
 use Rattle.wit_link_spec.specs.steps.AdditionRefs.{addition_of}
 use Rattle.wit_link_spec.specs.Addition.{Addition}
 use Rattle.wit_link_spec.specs.Resources.{signature_positions}
-use Rattle.wit_link_resources.specs.steps.Active.{seen}
-use Rattle.wit_link_resources.specs.steps.Asked.{positions_of_type}
+use Rattle.wit_link_resources.specs.steps.Active.{positions_of_type, seen}
 use Rattle.wit_link_resources.proofs.Ranges.{seen-next}
 use Rattle.wit_link_resources.proofs.asked.positions.Goals as goal
 

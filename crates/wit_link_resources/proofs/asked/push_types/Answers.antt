@@ -2,7 +2,7 @@ use Rattle.std.proofs.Common.{◌∙◌, sym, arith}
 use Rattle.wit_link_spec.specs.steps.AdditionRefs.{addition_of}
 use Rattle.wit_link_spec.specs.Addition.{Addition}
 use Rattle.wit_link_spec.specs.facts.FlagFacts.{type-flag, type-inside}
-use Rattle.wit_link_resources.specs.steps.Asked.{positions_of_type}
+use Rattle.wit_link_resources.specs.steps.Active.{positions_of_type}
 use Rattle.wit_link_resources.proofs.Ranges.{ranged-next, ranged-same}
 use Rattle.wit_link_resources.proofs.Positions.{positions_off, positions_on}
 use Rattle.wit_link_resources.proofs.asked.push_types.Goals.{then-at+in_ok-value_positions+in_ok-append, else-at}

@@ -1,7 +1,7 @@
 use Rattle.std.proofs.Common.{◌≡◌, ◌++◌}
 use Rattle.std.specs.List.{flat_map, range_with_len}
 use Rattle.wit_link_spec.specs.steps.AdditionRefs.{addition_of}
-use Rattle.wit_link_resources.specs.steps.Asked.{positions_of_type}
+use Rattle.wit_link_resources.specs.steps.Active.{positions_of_type}
 use Rattle.wit_link_resources.proofs.asked.push_types.Given as goal
 
 abbrev pub invariant-loop-place : goal.invariant-loop-place

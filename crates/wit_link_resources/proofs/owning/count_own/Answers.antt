@@ -1,11 +1,10 @@
 use Rattle.std.proofs.Common.{◌≡◌, ◌∙◌, ◌+◌, ◌≤◌, ◌<◌, ◌&&◌, ℕ, Bool, true, false, not, length, ap, refl, rules, sym, arith}
 use Rattle.std.proofs.lemmas.Bool.{le-ltb, lt-ltb}
 use Rattle.wit_link_spec.specs.steps.AdditionRefs.{addition_of}
-use Rattle.wit_link_spec.specs.Addition.{Addition, own_type}
+use Rattle.wit_link_spec.specs.Addition.{Addition, own_type, rank}
 use Rattle.wit_link_spec.specs.facts.FlagFacts.{type-flag, type-inside}
 use Rattle.wit_link_spec.specs.Gates.{type_is_active}
 use Rattle.wit_link_spec.specs.Lookup.{is_foreign_type}
-use Rattle.wit_link_spec.specs.Ranks.{rank}
 use Rattle.wit_link_resources.proofs.Needing.{length-selected, rank-most, rank-none, rank-one, rank-same}
 use Rattle.wit_link_resources.proofs.Where.{both}
 use Rattle.wit_link_resources.proofs.owning.count_own.Goals.{then-at, else-at}

@@ -4,7 +4,7 @@ use Rattle.std.proofs.lemmas.List.FromFn.{length-map-range_with_len}
 use Rattle.wit_link_spec.specs.steps.AdditionRefs.{addition_of}
 use Rattle.wit_link_spec.specs.Addition.{Addition, value_needs_own}
 use Rattle.wit_link_spec.specs.facts.RangeFacts.{range-pushed, range-read}
-use Rattle.wit_link_resources.specs.steps.Asked.{is_asked}
+use Rattle.wit_link_resources.specs.steps.Active.{is_asked}
 use Rattle.wit_link_resources.specs.steps.Leading.{leads_if_wanted, leads_there}
 use Rattle.wit_link_resources.proofs.Needing.{needs_is}
 use Rattle.wit_link_resources.proofs.Where.{conj}

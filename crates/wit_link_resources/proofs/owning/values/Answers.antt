@@ -4,9 +4,8 @@ use Rattle.std.proofs.lemmas.List.{length-map}
 use Rattle.std.proofs.lemmas.List.FromFn.{length-map-range_with_len}
 use Rattle.wit_data.specs.declared.types.TypeDef.{TypeDef}
 use Rattle.wit_link_spec.specs.steps.AdditionRefs.{addition_of, new_ids_of}
-use Rattle.wit_link_spec.specs.Addition.{Addition, active_type_id, own_types, remapped_type, remapped_value, value_needs_own}
+use Rattle.wit_link_spec.specs.Addition.{Addition, active_type_id, own_types, rank, remapped_type, remapped_value, value_needs_own}
 use Rattle.wit_link_spec.specs.facts.RangeFacts.{range-at, range-pushed, range-read}
-use Rattle.wit_link_spec.specs.Ranks.{rank}
 use Rattle.wit_link_spec.specs.Resources.{own_of}
 use Rattle.wit_link_spec.specs.declared.addition.NewIds.{NewIds}
 use Rattle.wit_link_spec.specs.declared.addition.Values.{Values}

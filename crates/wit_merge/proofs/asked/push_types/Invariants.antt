@@ -1,9 +1,9 @@
 use Rattle.std.proofs.Common.{◌≡◌, ◌++◌, ℕ, drop, filter, map}
 use Rattle.std.specs.List.{enumerate_from, flat_map}
 use Rattle.wit_data.specs.declared.types.TypeDef.{TypeDef}
-use Rattle.wit_link_spec.specs.Ranks.{selected}
+use Rattle.wit_link_spec.specs.Addition.{selected}
 use Rattle.wit_link_spec.specs.Resources.{value_positions}
-use Rattle.wit_merge_match.specs.steps.MergeRemaps.{moves}
+use Rattle.wit_merge_match.specs.steps.Matched.{moves}
 use Rattle.wit_merge.proofs.asked.push_types.Given as goal
 
 -- what has been added, and what those will add that are left

@@ -6,7 +6,7 @@ use Rattle.wit_data.specs.declared.world.World.{World}
 use Rattle.wit_graph_theory.specs.facts.ListFacts.{get_at}
 use Rattle.wit_merge_spec.specs.Remapped.{world_functions}
 use Rattle.wit_link_resources.specs.steps.Active.{seen}
-use Rattle.wit_merge_match.specs.steps.MergeRemaps.{moves}
+use Rattle.wit_merge_match.specs.steps.Matched.{moves}
 use Rattle.wit_merge.proofs.Left.{kept-first, left-more, of_kept}
 use Rattle.wit_merge.proofs.Numbered.{first_behind}
 use Rattle.wit_merge.proofs.functions.push_worlds.Goals.{then-moves+in_ok-push_world, else-moves}

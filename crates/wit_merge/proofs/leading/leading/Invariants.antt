@@ -1,6 +1,6 @@
 use Rattle.std.proofs.Common.{◌≡◌, ℕ, Bool, length, map}
 use Rattle.std.specs.List.{range_with_len}
-use Rattle.wit_merge.specs.facts.Leading.{AreLeadFlags}
+use Rattle.wit_merge.specs.steps.UnionSteps.{AreLeadFlags}
 use Rattle.wit_merge.proofs.leading.leading.Given as goal
 
 -- the flags of the first ones are right, and so is what is known

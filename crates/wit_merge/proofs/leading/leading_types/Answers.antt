@@ -5,7 +5,7 @@ use Rattle.wit_data.specs.declared.types.TypeDef.{TypeDef}
 use Rattle.wit_link_spec.specs.Resources.{leads_to_resource}
 use Rattle.wit_merge_spec.specs.Remapped.{merge_types_without_owns, merged_type}
 use Rattle.wit_merge_match.specs.Differing.{merge_of_graphs_by}
-use Rattle.wit_merge.specs.facts.Leading.{AreLeadFlags}
+use Rattle.wit_merge.specs.steps.UnionSteps.{AreLeadFlags}
 use Rattle.wit_merge.proofs.PlainTypes.{graph_tells, plain_tells}
 use Rattle.wit_merge.proofs.leading.leading_types.Goals as goal
 

@@ -1,7 +1,7 @@
 use Rattle.std.proofs.Common.{◌≡◌, ◌<◌, ℕ, Bool, length}
 use Rattle.wit_digraph.specs.PostOrder.{post_order}
 use Rattle.wit_graph_theory.specs.steps.Sources.{alias_rows}
-use Rattle.wit_merge.specs.facts.Leading.{AreLeadFlags}
+use Rattle.wit_merge.specs.steps.UnionSteps.{AreLeadFlags}
 use Rattle.wit_merge.proofs.leading.leads.Given as goal
 
 -- the way so far led along aliases of which nothing is known

@@ -1,7 +1,7 @@
 use Rattle.std.proofs.Common.{◌≡◌, ◌<◌, ℕ, Bool, length}
 use Rattle.wit_digraph.specs.PostOrder.{post_order}
 use Rattle.wit_graph_theory.specs.steps.Sources.{alias_rows}
-use Rattle.wit_merge.specs.facts.Leading.{AreLeadFlags}
+use Rattle.wit_merge.specs.steps.UnionSteps.{AreLeadFlags}
 use Rattle.wit_merge.proofs.leading.note_way.Given as goal
 
 -- what is noted is right, and the same is right of the place that has been reached

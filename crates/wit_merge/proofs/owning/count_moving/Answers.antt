@@ -1,5 +1,5 @@
 use Rattle.std.proofs.Common.{rules, ◌+◌, ◌<◌, arith}
-use Rattle.wit_merge_match.specs.steps.MergeRemaps.{moves}
+use Rattle.wit_merge_match.specs.steps.Matched.{moves}
 use Rattle.wit_link_resources.proofs.Needing.{rank-most}
 use Rattle.wit_merge.proofs.owning.count_moving.Goals as goal
 

@@ -1,6 +1,6 @@
 use Rattle.std.proofs.Common.{◌≡◌}
-use Rattle.wit_link_spec.specs.Ranks.{rank}
-use Rattle.wit_merge_match.specs.steps.MergeRemaps.{moves}
+use Rattle.wit_link_spec.specs.Addition.{rank}
+use Rattle.wit_merge_match.specs.steps.Matched.{moves}
 use Rattle.wit_merge.proofs.owning.count_moving.Given as goal
 
 -- how many of the first ones do

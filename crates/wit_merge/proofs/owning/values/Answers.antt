@@ -4,13 +4,12 @@ use Rattle.std.proofs.lemmas.List.{length-map}
 use Rattle.std.proofs.lemmas.List.FromFn.{length-map-range_with_len}
 use Rattle.wit_data.specs.declared.types.TypeDef.{TypeDef}
 use Rattle.wit_link_spec.specs.facts.RangeFacts.{range-at, range-inside, range-pushed, range-read}
-use Rattle.wit_link_spec.specs.Ranks.{rank}
+use Rattle.wit_link_spec.specs.Addition.{rank}
 use Rattle.wit_link_spec.specs.Resources.{own_of}
 use Rattle.wit_merge_spec.specs.Matches.{GraphMerge, counterpart_type}
 use Rattle.wit_merge_spec.specs.Remapped.{merged_type, merged_value, merged_value_needs_own, moved_types, moves_type}
 use Rattle.wit_merge_match.specs.Differing.{merge_of_graphs_by}
-use Rattle.wit_merge_match.specs.steps.Matched.{AreFound}
-use Rattle.wit_merge_match.specs.steps.MergeRemaps.{moves}
+use Rattle.wit_merge_match.specs.steps.Matched.{AreFound, moves}
 use Rattle.wit_link_resources.proofs.Needing.{length-filtered, length-selected, rank-most}
 use Rattle.wit_link_resources.proofs.Ranges.{passed-next, picked-next}
 use Rattle.wit_merge.proofs.owning.values.Goals.{then-at+in_ok-push+in_ok-push-2, else-at+in_ok-push-3}

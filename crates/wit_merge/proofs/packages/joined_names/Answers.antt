@@ -7,7 +7,7 @@ use Rattle.wit_graph_theory.specs.facts.ListFacts.{found_at, place_of}
 use Rattle.std.proofs.lemmas.Option.{slice_get_within}
 use Rattle.std.specs.Map.{lookup}
 use Rattle.wit_data.specs.PackageOrder.{same_package}
-use Rattle.wit_merge_match.specs.steps.MergeRemaps.{moves}
+use Rattle.wit_merge_match.specs.steps.Matched.{moves}
 use Rattle.wit_merge_spec.specs.Remapped.{merged_package, moves_package}
 use Rattle.wit_merge_laws.specs.facts.PackagesStand.{good_names}
 use Rattle.wit_merge.specs.steps.Joined.{brought_names}

@@ -3,8 +3,7 @@ use Rattle.std.specs.List.{enumerate_from}
 use Rattle.std.specs.Option.{option_map_or}
 use Rattle.wit_link_spec.specs.facts.RangeFacts.{range-inside, range-read}
 use Rattle.wit_merge_spec.specs.Matches.{counterpart_of}
-use Rattle.wit_merge.specs.steps.Counterparts.{first_from, placed_at}
-use Rattle.wit_merge.specs.steps.UnionSteps.{merging_of}
+use Rattle.wit_merge.specs.steps.UnionSteps.{first_from, merging_of, placed_at}
 use Rattle.wit_merge.proofs.Numbered.{all_behind, behind, made_all, made_next}
 use Rattle.wit_merge.proofs.CounterpartSteps.{counterpart_is, is_matched}
 use Rattle.wit_merge.proofs.parts.join_all.Goals as goal

@@ -2,8 +2,8 @@ use Rattle.std.proofs.Common.{◌∙◌, ◌++◌, ℕ, List, ap, append_assoc, 
 use Rattle.std.specs.List.{enumerate_from}
 use Rattle.wit_data.specs.declared.types.TypeDef.{TypeDef}
 use Rattle.wit_graph_theory.specs.Image.{type_image}
-use Rattle.wit_link_spec.specs.Ranks.{selected_with_index}
-use Rattle.wit_merge_spec.specs.Joined.{joined_type, with_type}
+use Rattle.wit_link_spec.specs.Addition.{selected_with_index}
+use Rattle.wit_merge_spec.specs.United.{joined_type, with_type}
 use Rattle.wit_merge_spec.specs.Matches.{counterpart_type}
 use Rattle.wit_merge_spec.specs.Remapped.{merge_maps, moved_types, moves_type, owns_of_merge}
 use Rattle.wit_merge.specs.steps.UnionSteps.{merging_of}

@@ -1,8 +1,7 @@
 use Rattle.std.proofs.Common.{◌∙◌, Some, ap, length, map, refl, ℕ}
 use Rattle.std.specs.List.{range_with_len}
-use Rattle.wit_merge_match.specs.steps.Matched.{merge_of_graphs}
+use Rattle.wit_merge_match.specs.steps.Matched.{merge_of_graphs, place_from}
 use Rattle.wit_merge_spec.specs.Matches.{counterpart_interface, counterpart_package, counterpart_type, counterpart_world}
-use Rattle.wit_merge_match.specs.steps.MergeRemaps.{place_from}
 use Rattle.wit_merge_match.proofs.Next.{all_same, counted_same}
 use Rattle.wit_merge_match.proofs.merge_remap.find_remap.Goals as goal
 

@@ -1,7 +1,7 @@
 use Rattle.std.proofs.Common.{None, sym}
 use Rattle.std.proofs.lemmas.Option.{get_or_from_slice_get}
 use Rattle.wit_link_spec.specs.facts.RangeFacts.{range-pushed}
-use Rattle.wit_merge_match.specs.steps.MergeRemaps.{place_from}
+use Rattle.wit_merge_match.specs.steps.Matched.{place_from}
 use Rattle.wit_merge_match.proofs.Next.{one_next, one_place}
 use Rattle.wit_merge_match.proofs.merge_remap.package_places.Goals as goal
 

@@ -1,7 +1,7 @@
 use Rattle.std.proofs.Common.{◌≡◌, ◌+◌, map}
 use Rattle.std.specs.List.{range_with_len}
-use Rattle.wit_link_spec.specs.Ranks.{rank}
-use Rattle.wit_merge_match.specs.steps.MergeRemaps.{moves, place_from}
+use Rattle.wit_link_spec.specs.Addition.{rank}
+use Rattle.wit_merge_match.specs.steps.Matched.{moves, place_from}
 use Rattle.wit_merge_match.proofs.merge_remap.package_places.Given as goal
 
 -- the places of the first ones, and the next id

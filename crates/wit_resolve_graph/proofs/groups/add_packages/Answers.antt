@@ -2,7 +2,7 @@ use Rattle.std.proofs.Common.{◌∙◌, ap, subst, sym}
 use Rattle.std.specs.Map.{lookup}
 use Rattle.wit_data.specs.PackageOrder.{same_package}
 use Rattle.wit_graph_data.specs.declared.graph.Graph.{Graph}
-use Rattle.wit_resolve_graph.specs.facts.Grouping.{AreAdded}
+use Rattle.wit_resolve_graph.specs.steps.Grouping.{AreAdded}
 use Rattle.wit_resolve_graph.proofs.KeptRows.{flags_known, kept_cut}
 use Rattle.std.specs.Option.{option_copied}
 use Rattle.wit_resolve_graph.proofs.Grouped.{are_added, never_none, one_refused, sorted_can}

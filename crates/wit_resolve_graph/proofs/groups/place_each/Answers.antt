@@ -5,7 +5,7 @@ use Rattle.wit_graph_data.specs.facts.ResultFacts.{residual_error}
 use Rattle.wit_graph_data.specs.declared.error_kind.ResolveErrorKind.{ResolveErrorKind}
 use Rattle.wit_graph_data.specs.declared.error_kind.ResolveErrorKind.TheVariants.{OutOfMemory}
 use Rattle.wit_data.specs.declared.unresolved.UnresolvedPackageGroup.{UnresolvedPackageGroup}
-use Rattle.wit_link.specs.Groups.{FilesPassTheEnd}
+use Rattle.wit_link.specs.Appending.{FilesPassTheEnd}
 use Rattle.wit_remap.specs.Grown.{Begins}
 use Rattle.wit_sources.specs.SourceMap.{Sources}
 use Rattle.wit_resolve_graph.proofs.Grouped.{begins_still, begins_with_files, more_files, more_fits, more_taken, passes_there}

@@ -1,6 +1,6 @@
 use Rattle.std.proofs.Common.{◌≡◌, ◌<◌, ◌^◌, ◌∷◌, ◌++◌}
 use Rattle.std.specs.Vec.Iter.{into_iter_items}
-use Rattle.wit_link.specs.Groups.{files_end, packages_of}
+use Rattle.wit_link.specs.Appending.{files_end, packages_of}
 use Rattle.wit_resolve_graph.specs.Step.{with_files}
 use Rattle.wit_resolve_graph.proofs.groups.place_each.Given as goal
 

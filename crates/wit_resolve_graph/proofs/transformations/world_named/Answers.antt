@@ -3,7 +3,7 @@ use Rattle.std.specs.Map.{lookup}
 use Rattle.std.specs.Str.{bytes_eq}
 use Rattle.wit_elaboration.specs.Valid.{IsValid}
 use Rattle.wit_graph_data.specs.declared.graph.Graph.{Graph}
-use Rattle.wit_resolve_graph.specs.Named.{HasWorld}
+use Rattle.wit_resolve_graph.specs.Step.{HasWorld}
 use Rattle.wit_resolve_graph.proofs.NamedWorlds.{finds, home_within, no_package}
 use Rattle.wit_resolve_graph.proofs.transformations.world_named.Goals as goal
 

@@ -3,8 +3,8 @@ use Rattle.std.proofs.lemmas.List.{append_assoc}
 use Rattle.std.specs.Vec.Iter.{into_iter_items}
 use Rattle.wit_script_package.specs.Draft.{as_group}
 use Rattle.wit_script_package.specs.declared.draft.Draft.{Draft}
-use Rattle.wit_script_lines.specs.steps.ReadResult.{fault-of}
-use Rattle.wit_script_lines.specs.Signature.{each_of}
+use Rattle.wit_script_lines.specs.facts.ReadFacts.{fault-of}
+use Rattle.wit_script_lines.specs.PackageLine.{each_of}
 use Rattle.wit_script.proofs.Pushed.{each-fails, each-next}
 use Rattle.wit_script.proofs.reader.into_groups.Goals as goal
 

@@ -1,7 +1,7 @@
 use Rattle.std.proofs.Common.{◌≡◌, ◌++◌, Some}
 use Rattle.std.specs.Vec.Iter.{into_iter_items}
 use Rattle.wit_script_package.specs.Draft.{as_group}
-use Rattle.wit_script_lines.specs.Signature.{each_of}
+use Rattle.wit_script_lines.specs.PackageLine.{each_of}
 use Rattle.wit_script.proofs.reader.into_groups.Given as goal
 
 -- the packages so far are groups

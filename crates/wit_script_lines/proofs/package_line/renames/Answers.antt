@@ -1,6 +1,6 @@
 use Rattle.std.proofs.Common.{ℕ, List, [], Bor}
 use Rattle.wit_script_lines.specs.PackageLine.{rename_of}
-use Rattle.wit_script_lines.specs.steps.ReadResult.{fault-of}
+use Rattle.wit_script_lines.specs.facts.ReadFacts.{fault-of}
 use Rattle.wit_script_lines.proofs.Each.{each-fails, each-next}
 use Rattle.wit_script_lines.proofs.package_line.renames.Goals as goal
 

@@ -1,6 +1,5 @@
 use Rattle.std.proofs.Common.{◌≡◌, ℕ, List, Bor, Some, map, take}
-use Rattle.wit_script_lines.specs.PackageLine.{rename_of}
-use Rattle.wit_script_lines.specs.Signature.{each_of}
+use Rattle.wit_script_lines.specs.PackageLine.{each_of, rename_of}
 use Rattle.wit_script_lines.proofs.package_line.renames.Given as goal
 
 -- those so far

@@ -1,6 +1,6 @@
 use Rattle.std.proofs.Common.{ℕ, List, [], Bor}
-use Rattle.wit_script_lines.specs.Signature.{typed_name_of}
-use Rattle.wit_script_lines.specs.steps.ReadResult.{fault-of}
+use Rattle.wit_script_lines.specs.PackageLine.{typed_name_of}
+use Rattle.wit_script_lines.specs.facts.ReadFacts.{fault-of}
 use Rattle.wit_script_lines.proofs.Each.{each-fails, each-next}
 use Rattle.wit_script_lines.proofs.signature.read_typed_names.Goals as goal
 

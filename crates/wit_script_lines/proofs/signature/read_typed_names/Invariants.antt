@@ -1,5 +1,5 @@
 use Rattle.std.proofs.Common.{◌≡◌, ℕ, List, Bor, Some, map, take}
-use Rattle.wit_script_lines.specs.Signature.{each_of, typed_name_of}
+use Rattle.wit_script_lines.specs.PackageLine.{each_of, typed_name_of}
 use Rattle.wit_script_lines.proofs.signature.read_typed_names.Given as goal
 
 -- those so far

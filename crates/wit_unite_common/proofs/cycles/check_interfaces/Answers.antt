@@ -1,7 +1,7 @@
 use Rattle.std.proofs.Common.{rules}
 use Rattle.wit_digraph.specs.Cycles.{IsOnCycle}
 use Rattle.wit_elaboration.specs.Elaboration.{graph_uses}
-use Rattle.wit_unite_common.specs.facts.Errors.{IsInterfaceCycleError}
+use Rattle.wit_unite_common.specs.steps.Reasons.{IsInterfaceCycleError}
 use Rattle.wit_unite_common.proofs.OnCycles.{interface_told, user_used}
 use Rattle.wit_unite_common.proofs.cycles.check_interfaces.Goals as goal
 

@@ -1,6 +1,6 @@
 use Rattle.std.proofs.Common.{◌≡◌, ◌∙◌, ◌<◌, ◌≤◌, ℕ, List, [], length, get_or, replicate, map, sym, ap, subst, arith, false, true, rules}
 use Rattle.wit_digraph.specs.Relation.{direct}
-use Rattle.wit_unite_common.specs.facts.Rounds.{IsRound}
+use Rattle.wit_unite_common.specs.steps.Reasons.{IsRound}
 use Rattle.wit_unite_common.specs.declared.round.Frame.{Frame}
 use Rattle.wit_unite_common.proofs.OnCycles.{user_there}
 use Rattle.wit_unite_common.proofs.Searching.{end_search, found_round, none_seen, round_of_nodes, seen_read, start_search, step_into, step_left, step_past, turns_into, turns_left, turns_past}

@@ -1,6 +1,6 @@
 use Rattle.wit_elaboration.specs.facts.SoundFacts.{HasSoundEntries-of_world}
 use Rattle.wit_graph_data.specs.declared.graph.Graph.{Graph}
-use Rattle.wit_validity.specs.facts.Parts.{HasKebabNamesInTables, IsOwned}
+use Rattle.wit_validity.specs.steps.Parts.{HasKebabNamesInTables, IsOwned}
 use Rattle.wit_validity.proofs.Refusals.{IfOk-weaker}
 use Rattle.wit_validity.proofs.valid.is_valid.Goals as goal
 

@@ -1,7 +1,7 @@
 use Rattle.std.proofs.Common.{length}
 use Rattle.wit_data.specs.facts.EachFacts.{EachBelow}
 use Rattle.wit_data.specs.Entries.{Entry}
-use Rattle.wit_link_features.specs.steps.GateSteps.{MeetsItem}
+use Rattle.wit_link_features.specs.steps.FeatureSteps.{MeetsItem}
 use Rattle.wit_link_features.proofs.checker.Checker.check_entries.Given as goal
 
 -- the first ones are met

@@ -1,7 +1,7 @@
 use Rattle.std.proofs.Common.{ℕ, List, length}
 use Rattle.wit_data.specs.facts.EachFacts.{EachBelow}
 use Rattle.wit_data.specs.declared.function.Function.{Function}
-use Rattle.wit_link_features.specs.steps.GateSteps.{IsMet}
+use Rattle.wit_link_features.specs.steps.FeatureSteps.{IsMet}
 use Rattle.wit_link_features.proofs.checker.Checker.check_functions.Given as goal
 
 -- the first ones are met

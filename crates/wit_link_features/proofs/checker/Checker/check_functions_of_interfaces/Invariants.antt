@@ -1,5 +1,5 @@
 use Rattle.wit_data.specs.facts.EachFacts.{EachBelow}
-use Rattle.wit_link_features.specs.steps.GateSteps.{MeetsFunctions}
+use Rattle.wit_link_features.specs.steps.FeatureSteps.{MeetsFunctions}
 use Rattle.wit_link_features.proofs.checker.Checker.check_functions_of_interfaces.Given as goal
 
 -- those of the first ones are met

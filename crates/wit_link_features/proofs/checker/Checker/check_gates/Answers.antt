@@ -1,7 +1,7 @@
 use Rattle.std.proofs.Common.{◌∙◌, sym, arith}
 use Rattle.wit_graph_theory.specs.facts.ListFacts.{place_of}
 use Rattle.wit_link_spec.specs.Gates.{asked_gates}
-use Rattle.wit_link_features.specs.steps.GateSteps.{IsMet}
+use Rattle.wit_link_features.specs.steps.FeatureSteps.{IsMet}
 use Rattle.wit_link_features.proofs.AskedGates.{asked_all, asked_up_to, asks_next}
 use Rattle.wit_data.specs.facts.EachFacts.{one_more}
 use Rattle.wit_link_features.proofs.checker.Checker.check_gates.Goals as goal

@@ -1,5 +1,5 @@
 use Rattle.wit_data.specs.facts.EachFacts.{EachBelow}
-use Rattle.wit_link_features.specs.steps.GateSteps.{IsMet}
+use Rattle.wit_link_features.specs.steps.FeatureSteps.{IsMet}
 use Rattle.wit_link_features.proofs.AskedGates.{NoneActive}
 use Rattle.wit_link_features.proofs.checker.Checker.check_gates.Given as goal
 

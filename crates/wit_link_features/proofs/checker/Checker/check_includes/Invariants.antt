@@ -1,6 +1,6 @@
 use Rattle.wit_data.specs.facts.EachFacts.{EachBelow}
 use Rattle.wit_data.specs.declared.world.WorldInclude.{WorldInclude}
-use Rattle.wit_link_features.specs.steps.GateSteps.{IsMet}
+use Rattle.wit_link_features.specs.steps.FeatureSteps.{IsMet}
 use Rattle.wit_link_features.proofs.checker.Checker.check_includes.Given as goal
 
 -- the first ones are met

@@ -1,6 +1,6 @@
 use Rattle.std.proofs.Common.{length}
 use Rattle.wit_data.specs.facts.EachFacts.{EachBelow}
-use Rattle.wit_link_features.specs.steps.GateSteps.{MeetsForeign}
+use Rattle.wit_link_features.specs.steps.FeatureSteps.{MeetsForeign}
 use Rattle.wit_link_features.proofs.checker.Checker.check_items.Given as goal
 
 -- those of the first ones are met

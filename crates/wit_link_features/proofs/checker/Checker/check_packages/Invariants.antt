@@ -3,7 +3,7 @@ use Rattle.wit_data.specs.facts.EachFacts.{EachBelow}
 use Rattle.wit_data.specs.Each.{Each}
 use Rattle.wit_data.specs.Foreign.{ForeignItem}
 use Rattle.wit_data.specs.declared.package_name.PackageName.{PackageName}
-use Rattle.wit_link_features.specs.steps.GateSteps.{MeetsForeign}
+use Rattle.wit_link_features.specs.steps.FeatureSteps.{MeetsForeign}
 use Rattle.wit_link_features.proofs.checker.Checker.check_packages.Given as goal
 
 -- those of the first packages are met

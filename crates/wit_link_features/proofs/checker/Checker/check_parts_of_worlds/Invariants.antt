@@ -1,5 +1,5 @@
 use Rattle.wit_data.specs.facts.EachFacts.{EachBelow}
-use Rattle.wit_link_features.specs.steps.GateSteps.{MeetsParts}
+use Rattle.wit_link_features.specs.steps.FeatureSteps.{MeetsParts}
 use Rattle.wit_link_features.proofs.checker.Checker.check_parts_of_worlds.Given as goal
 
 -- those of the first ones are met

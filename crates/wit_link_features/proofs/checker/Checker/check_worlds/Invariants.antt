@@ -2,7 +2,7 @@ use Rattle.std.proofs.Common.{◌≤◌, length}
 use Rattle.wit_data.specs.facts.EachFacts.{EachBelow}
 use Rattle.wit_data.specs.Foreign.{foreign_worlds}
 use Rattle.wit_data.specs.declared.world.World.{World}
-use Rattle.wit_link_features.specs.steps.GateSteps.{IsMet}
+use Rattle.wit_link_features.specs.steps.FeatureSteps.{IsMet}
 use Rattle.wit_link_features.proofs.checker.Checker.check_worlds.Given as goal
 
 -- the first ones of the package's own are met

@@ -1,7 +1,7 @@
 use Rattle.std.proofs.Common.{length}
 use Rattle.wit_data.specs.facts.EachFacts.{EachBelow}
 use Rattle.wit_data.specs.Entries.{Entry}
-use Rattle.wit_link_features.specs.steps.ReferenceSteps.{ItemStays}
+use Rattle.wit_link_features.specs.steps.FeatureSteps.{ItemStays}
 use Rattle.wit_link_features.proofs.checker.Checker.look_at_entries.Given as goal
 
 -- what the first ones need isn't left out

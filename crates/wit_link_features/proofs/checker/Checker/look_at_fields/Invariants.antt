@@ -1,5 +1,5 @@
 use Rattle.wit_data.specs.facts.EachFacts.{EachBelow}
-use Rattle.wit_link_features.specs.steps.ReferenceSteps.{FieldStays}
+use Rattle.wit_link_features.specs.steps.FeatureSteps.{FieldStays}
 use Rattle.wit_link_features.proofs.checker.Checker.look_at_fields.Given as goal
 
 -- what the first ones name isn't left out

@@ -1,7 +1,7 @@
 use Rattle.std.proofs.Common.{sym, subst}
 use Rattle.wit_link_spec.specs.Gates.{OptionalSpan}
 use Rattle.wit_link_spec.specs.Reasons.{AnInterface, of_foreign_type}
-use Rattle.wit_link_features.specs.steps.ReferenceSteps.{IsReferred}
+use Rattle.wit_link_features.specs.steps.FeatureSteps.{IsReferred}
 use Rattle.wit_link_features.proofs.checker.Checker.look_at_home.Goals as goal
 
 pub look_at-requires-clause-referred : goal.look_at-requires-clause-referred

@@ -1,6 +1,6 @@
 use Rattle.wit_data.specs.facts.EachFacts.{EachBelow}
 use Rattle.wit_link_spec.specs.Reasons.{AType}
-use Rattle.wit_link_features.specs.steps.ReferenceSteps.{Stays}
+use Rattle.wit_link_features.specs.steps.FeatureSteps.{Stays}
 use Rattle.wit_link_features.proofs.checker.Checker.look_at_ids.Given as goal
 
 -- the first ones aren't left out

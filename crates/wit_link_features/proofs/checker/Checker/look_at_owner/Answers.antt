@@ -1,5 +1,5 @@
 use Rattle.std.proofs.Common.{◌∙◌, sym}
-use Rattle.wit_link_features.specs.steps.ReferenceSteps.{thing_of}
+use Rattle.wit_link_features.specs.steps.FeatureSteps.{thing_of}
 use Rattle.wit_link_features.proofs.ReferencesStay.{told-owner}
 use Rattle.wit_link_features.proofs.checker.Checker.look_at_owner.Goals as goal
 

@@ -1,5 +1,5 @@
 use Rattle.wit_data.specs.facts.EachFacts.{EachBelow}
-use Rattle.wit_link_features.specs.steps.ReferenceSteps.{TypesStay}
+use Rattle.wit_link_features.specs.steps.FeatureSteps.{TypesStay}
 use Rattle.wit_link_features.proofs.checker.Checker.look_at_types.Given as goal
 
 -- what the first ones need isn't left out

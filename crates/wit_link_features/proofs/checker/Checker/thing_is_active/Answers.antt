@@ -1,7 +1,6 @@
 use Rattle.std.proofs.Common.{◌∙◌, ℕ, false, slice_get, ap, sym}
 use Rattle.std.specs.Prelude.{unwrap_or}
-use Rattle.wit_link_features.specs.steps.GateSteps.{seen}
-use Rattle.wit_link_features.specs.steps.ReferenceSteps.{thing_is_active, thing_of}
+use Rattle.wit_link_features.specs.steps.FeatureSteps.{seen, thing_is_active, thing_of}
 use Rattle.wit_link_features.specs.declared.needs.Needed.{Needed}
 use Rattle.wit_link_features.proofs.Ready.{interface-flag, type-flag, world-flag}
 use Rattle.wit_link_features.proofs.checker.Checker.thing_is_active.Goals as goal

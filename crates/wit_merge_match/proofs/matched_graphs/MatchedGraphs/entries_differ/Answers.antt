@@ -1,7 +1,7 @@
 use Rattle.std.proofs.Common.{[], arith}
 use Rattle.wit_merge_match.specs.Differing.{merging_of}
 use Rattle.wit_graph_theory.specs.facts.ListFacts.{contained_at}
-use Rattle.wit_merge_spec.specs.TypePairs.{entry_pairs}
+use Rattle.wit_merge_spec.specs.Matches.{entry_pairs}
 use Rattle.wit_merge_match.proofs.PairSteps.{first_next, none_all, none_next, none_of_none}
 use Rattle.wit_merge_match.proofs.matched_graphs.MatchedGraphs.entries_differ.Goals as goal
 

@@ -2,7 +2,7 @@ use Rattle.std.proofs.Common.{◌≡◌, ◌∷◌, [], rules, string_bytes}
 use Rattle.wit_merge_match.specs.Differing.{merging_of}
 use Rattle.wit_data.specs.declared.world.WorldKey.TheVariants as key
 use Rattle.wit_merge_spec.specs.MismatchText.{entry_link}
-use Rattle.wit_merge_spec.specs.TypePairs.{item_pairs}
+use Rattle.wit_merge_spec.specs.Matches.{item_pairs}
 use Rattle.wit_merge_match.proofs.PairSteps.{entry_absent, entry_is, entry_keyed, first_part, none_is, none_part}
 use Rattle.wit_merge_match.proofs.TypesCompared.{item_there}
 use Rattle.wit_merge_match.proofs.matched_graphs.MatchedGraphs.entry_differs.Goals as goal

@@ -1,7 +1,7 @@
 use Rattle.std.proofs.Common.{◌≡◌, [], None, Some, arith, codes, rules, slice_get, string_bytes}
 use Rattle.wit_merge_match.specs.Differing.{merging_of}
 use Rattle.wit_merge_spec.specs.MismatchText.{part_links}
-use Rattle.wit_merge_spec.specs.TypePairs.{world_pairs}
+use Rattle.wit_merge_spec.specs.Matches.{world_pairs}
 use Rattle.wit_merge_match.specs.steps.Structures.{world_part}
 use Rattle.wit_merge_match.proofs.PairSteps.{first_is, first_next, first_part, world_behind, none_all, none_is, none_next, none_of_none, none_part, none_same, of_home, of_none}
 use Rattle.wit_merge_match.proofs.matched_graphs.MatchedGraphs.package_worlds_differ.Goals as goal

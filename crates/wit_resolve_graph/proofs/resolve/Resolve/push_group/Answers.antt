@@ -1,6 +1,6 @@
 use Rattle.std.proofs.Common.{◌∷◌, List, subst, sym}
 use Rattle.wit_data.specs.declared.unresolved.UnresolvedPackageGroup.{UnresolvedPackageGroup}
-use Rattle.wit_link.specs.Groups.{IsGroupsCause}
+use Rattle.wit_link.specs.Appending.{IsGroupsCause}
 use Rattle.wit_resolve_graph.proofs.resolve.Resolve.push_group.Goals as goal
 
 pub returns-clause-refuses : goal.returns-clause-refuses

@@ -1,6 +1,6 @@
 use Rattle.std.proofs.Common.{◌≡◌, None, Some, subst}
 use Rattle.wit_script_lines.specs.declared.signature.TypedName.{TypedName}
-use Rattle.wit_script_package.specs.steps.DraftResult.{fault-of}
+use Rattle.wit_script_package.specs.facts.DraftFacts.{fault-of}
 use Rattle.wit_script_package.specs.Making.{field_made}
 use Rattle.wit_script_package.proofs.Steps.{made-fails, made-next}
 use Rattle.wit_script_package.proofs.draft.Draft.make_fields.Goals as goal

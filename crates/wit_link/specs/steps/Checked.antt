@@ -1,14 +1,30 @@
--- Whether the spans of a package still end within the last position, 4294967295, when they are moved. The
--- law `fitting_is_exact` says that a package fits exactly where no span of it passes the end.
+-- What is known of an addition before the graph is touched: that no reason holds against it which the graph and the
+-- package tell alone, and that the spans of a package still end within the last position, 4294967295, when they are
+-- moved.
 use Rattle.std.specs.Prelude.{◌≡◌, ◌⊎◌, None, ℕ}
-use Rattle.wit_data.specs.Each.{Each}
 use Rattle.wit_sources.specs.Span.{moved_by}
+use Rattle.wit_data.specs.Each.{Each}
 use Rattle.wit_data.specs.declared.unresolved.UnresolvedPackage.{UnresolvedPackage}
 use Rattle.wit_graph_data.specs.declared.error_kind.ResolveErrorKind.{ResolveErrorKind}
 use Rattle.wit_graph_data.specs.declared.error_kind.ResolveErrorKind.TheVariants.{DuplicatePackage, OffsetOverflow}
+use Rattle.wit_link_spec.specs.Addition.{Addition}
 use Rattle.wit_link_spec.specs.Gates.{OptionalSpan}
-use Rattle.wit_remap.specs.steps.Fits.{Fits}
-use Rattle.wit_remap.specs.facts.Fitting.{PartsFit}
+use Rattle.wit_link_spec.specs.steps.Passed.{GatesAreMet, HasResources, IsAllFound, NeedsNothingExcluded, ReturnsNoBorrow}
+use Rattle.wit_link_spec.specs.Reasons.{AdditionOverflows, HasPackage}
+use Rattle.wit_remap.specs.steps.Fits.{Fits, PartsFit}
+
+-- the package isn't there yet, and its spans stay within the last position
+pub record IsNew (a : Addition) : Type 0 where
+  pub absent : HasPackage a.graph a.unresolved.name → ⊥
+  pub fits : AdditionOverflows a → ⊥
+
+-- no reason holds against it that the graph and the package tell alone
+pub record IsChecked (a : Addition) : Type 0 where
+  pub met : GatesAreMet a
+  pub needs : NeedsNothingExcluded a
+  pub found : IsAllFound a
+  pub resources : HasResources a
+  pub no_borrow : ReturnsNoBorrow a
 
 -- that of a type that has to be a resource
 abbrev pub RequiredFits : ℕ → ℕ × OptionalSpan → Type 0

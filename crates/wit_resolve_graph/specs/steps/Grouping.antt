@@ -4,7 +4,7 @@ use Rattle.wit_data.specs.declared.package_name.PackageName.{PackageName}
 use Rattle.wit_graph_data.specs.declared.error_kind.ResolveErrorKind.{ResolveErrorKind}
 use Rattle.wit_graph_data.specs.declared.features.Features.{Features}
 use Rattle.wit_graph_data.specs.declared.graph.Graph.{Graph}
-use Rattle.wit_link.specs.Several.{ArePushed}
+use Rattle.wit_link.specs.Appending.{ArePushed}
 use Rattle.wit_link_order.specs.GroupOrder.{AreSorted, IsSortCause, Unresolved, names_of}
 
 -- packages are added in their order, no cause holds against it, and the one of a name has this id

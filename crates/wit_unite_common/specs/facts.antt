@@ -1,3 +1,0 @@
-pub mod Errors
-pub mod Reasons
-pub mod Rounds
