@@ -40,11 +40,10 @@ use Rattle.wit_link_spec.specs.WorldReasons.{Disagree, HasStability}
 use Rattle.wit_merge_spec.specs.Agreement.{EntriesDiffer, ItemsDiffer, StructuresDiffer, same_sort}
 use Rattle.wit_merge_spec.specs.Agreement as differ
 use Rattle.wit_merge_spec.specs.Cause.{AreJoined, HasNoMismatch, IsMergeCause, MergeIsAccepted, MergeOverflows, MergeReturnsBorrow, StabilitiesMismatch, graph_spans}
-use Rattle.wit_merge_spec.specs.Cause as reason
+use Rattle.wit_merge_spec.specs.Cause as merging
 use Rattle.wit_merge_spec.specs.Matches.{FirstDiffers, GraphMerge, Pair, TypePair, counterpart_interface, counterpart_item, counterpart_type, counterpart_world, matched_interface, matched_world, type_pairs}
 use Rattle.wit_merge_spec.specs.MismatchText.{side_word}
 use Rattle.wit_merge_spec.specs.Remapped.{merge_maps, moved_functions}
-use Rattle.wit_merge_spec.specs.Cause as joins
 use Rattle.wit_merge_spec.specs.United.{joined_graph}
 use Rattle.wit_merge_structure.specs.facts.DifferenceFacts.{same_no_first}
 use Rattle.wit_merge_structure.specs.Structure.{Feature, structure}
@@ -221,10 +220,10 @@ joined_accepted m all from into c = join from into (by from into c.joined) c.apa
     sides from into both true = (and_parts _ _ (and_parts (may_join from.stability into.stability) _ both).1).1
 
     by : (from into : Stability) → AreJoined m from into → may_join from into ≡ true
-    by _ _ (joins.types p) = pair_passes (λ (from into : TypeDef). may_join from.stability into.stability) (counterpart_type m) m.other.types m.graph.types all.types p
-    by _ _ (joins.interfaces p) = pair_passes (λ (from into : Interface). may_join from.stability into.stability) (counterpart_interface m) m.other.interfaces m.graph.interfaces all.interfaces p
-    by _ _ (joins.worlds p) = (and_parts (may_join p.from.stability p.into.stability) _ (pair_passes (worlds_join m) (counterpart_world m) m.other.worlds m.graph.worlds all.worlds p)).0
-    by _ _ (joins.entries p exported i i' from into matched comes there) =
+    by _ _ (merging.types p) = pair_passes (λ (from into : TypeDef). may_join from.stability into.stability) (counterpart_type m) m.other.types m.graph.types all.types p
+    by _ _ (merging.interfaces p) = pair_passes (λ (from into : Interface). may_join from.stability into.stability) (counterpart_interface m) m.other.interfaces m.graph.interfaces all.interfaces p
+    by _ _ (merging.worlds p) = (and_parts (may_join p.from.stability p.into.stability) _ (pair_passes (worlds_join m) (counterpart_world m) m.other.worlds m.graph.worlds all.worlds p)).0
+    by _ _ (merging.entries p exported i i' from into matched comes there) =
         entries_fit m (entries_of exported p.from) (entries_of exported p.into) (sides p.from p.into (pair_passes (worlds_join m) (counterpart_world m) m.other.worlds m.graph.worlds all.worlds p) exported) i i' from into matched comes there
 
 -- ---- results
@@ -299,14 +298,14 @@ pub record Passes (m : GraphMerge) : Type 0 where
   pub spans : all_fit m ≡ true
 
 pub can_merge : (m : GraphMerge) → Passes m → MergeIsAccepted m
-can_merge m p _ (reason.conflict_4 span name one c) = in_no_conflict m p.exports span name c
-can_merge m p _ (reason.package_cycle_6 home one c) = no_cycle (λ p. p) (graph_package_uses (joined_graph m)) p.packages c.p c.q c.on_cycle
-can_merge m p _ (reason.mismatch_8 from into c) = joined_accepted m p.gates from into c
-can_merge m p _ (reason.borrow_in_result_15 message one c) = results_fine m p.results message c
-can_merge m p _ (reason.interface_cycle_22 message one c) = no_cycle p.rank (graph_uses (joined_graph m)) p.uses c.i c.j c.on_cycle
-can_merge m p _ (reason.merge_mismatch_24 message c) = are_one m p.interfaces p.worlds p.types message c
-can_merge m p _ (reason.offset_overflow_27 c) = fits m p.spans c
+can_merge m p _ (merging.conflict_4 span name one c) = in_no_conflict m p.exports span name c
+can_merge m p _ (merging.package_cycle_6 home one c) = no_cycle (λ p. p) (graph_package_uses (joined_graph m)) p.packages c.p c.q c.on_cycle
+can_merge m p _ (merging.mismatch_8 from into c) = joined_accepted m p.gates from into c
+can_merge m p _ (merging.borrow_in_result_15 message one c) = results_fine m p.results message c
+can_merge m p _ (merging.interface_cycle_22 message one c) = no_cycle p.rank (graph_uses (joined_graph m)) p.uses c.i c.j c.on_cycle
+can_merge m p _ (merging.merge_mismatch_24 message c) = are_one m p.interfaces p.worlds p.types message c
+can_merge m p _ (merging.offset_overflow_27 c) = fits m p.spans c
 
 -- what differs in nothing is told nothing of
 pub differs_in_nothing : (m : GraphMerge) → interfaces_pass m ≡ true → worlds_pass m ≡ true → structures_from m ≡ structures_into m → (span : OptionalSpan) (message : List ℕ) → IsMergeCause m (Semantic span message cause.MergeMismatch) → ⊥
-differs_in_nothing m interfaces worlds types _ _ (reason.merge_mismatch_24 message c) = are_one m interfaces worlds types message c
+differs_in_nothing m interfaces worlds types _ _ (merging.merge_mismatch_24 message c) = are_one m interfaces worlds types message c

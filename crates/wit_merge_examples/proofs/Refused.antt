@@ -17,9 +17,8 @@ use Rattle.wit_graph_theory.specs.AllElaborated.{DependsOnItself, HasWorldInConf
 use Rattle.wit_graph_theory.specs.examples.TestFacts.{no_cycle, none_in, only_one}
 use Rattle.wit_link_spec.specs.Gates.{OptionalSpan}
 use Rattle.wit_merge_spec.specs.Cause.{IsMergeCause}
-use Rattle.wit_merge_spec.specs.Cause as reason
+use Rattle.wit_merge_spec.specs.Cause as merging
 use Rattle.wit_merge_spec.specs.Matches.{GraphMerge}
-use Rattle.wit_merge_spec.specs.Cause as joins
 use Rattle.wit_merge_spec.specs.United.{joined_graph}
 use Rattle.wit_merge_structure.specs.Structure.{structure, structure_within}
 use Rattle.wit_merge_examples.proofs.Passing.{are_one, fits, in_no_conflict, results_fine}
@@ -29,19 +28,19 @@ use Rattle.wit_merge_examples.specs.Refusals.{ExamplesOfRefusals, b_alone, c_use
 
 module _ (m : GraphMerge) where
   pub of_conflict : (span : OptionalSpan) (name : List ℕ) → IsMergeCause m (InvalidTransitiveDependency span name) → HasWorldInConflict (joined_graph m) span name
-  of_conflict _ _ (reason.conflict_4 span name one c) = c
+  of_conflict _ _ (merging.conflict_4 span name one c) = c
 
   of_cycle : (span : OptionalSpan) (home : PackageName) → IsMergeCause m (PackageCycle span home) → DependsOnItself (joined_graph m) home
-  of_cycle _ _ (reason.package_cycle_6 home one c) = c
+  of_cycle _ _ (merging.package_cycle_6 home one c) = c
 
-  of_borrow : (span : OptionalSpan) (message : List ℕ) → IsMergeCause m (Semantic span message cause.BorrowInResult) → joins.MergeReturnsBorrow m message
-  of_borrow _ _ (reason.borrow_in_result_15 message one c) = c
+  of_borrow : (span : OptionalSpan) (message : List ℕ) → IsMergeCause m (Semantic span message cause.BorrowInResult) → merging.MergeReturnsBorrow m message
+  of_borrow _ _ (merging.borrow_in_result_15 message one c) = c
 
   of_circle : (span : OptionalSpan) (message : List ℕ) → IsMergeCause m (Semantic span message cause.InterfaceCycle) → UsesItself (joined_graph m) message
-  of_circle _ _ (reason.interface_cycle_22 message one c) = c
+  of_circle _ _ (merging.interface_cycle_22 message one c) = c
 
-  of_overflow : IsMergeCause m OffsetOverflow → joins.MergeOverflows m
-  of_overflow (reason.offset_overflow_27 c) = c
+  of_overflow : IsMergeCause m OffsetOverflow → merging.MergeOverflows m
+  of_overflow (merging.offset_overflow_27 c) = c
 
   none_of_memory : IsMergeCause m OutOfMemory → ⊥
   none_of_memory c = elim c [ ]
@@ -63,7 +62,7 @@ not_first f inside c =
 
 conflict : IsMergeCause (merge_of_graphs exports_two c_uses_b) (InvalidTransitiveDependency (Some (30, 31)) (codes "foo:bar/c"))
 unfolding post_order post_order_within structure structure_within
-conflict = reason.conflict_4 _ _ (are_one (merge_of_graphs exports_two c_uses_b) refl refl refl) (record {
+conflict = merging.conflict_4 _ _ (are_one (merge_of_graphs exports_two c_uses_b) refl refl refl) (record {
   interfaces = λ message c. no_cycle (λ i. i) (graph_uses (joined_graph (merge_of_graphs exports_two c_uses_b))) refl c.i c.j c.on_cycle;
   types = λ message c. no_cycle (λ t. t) (type_references (joined_graph (merge_of_graphs exports_two c_uses_b)).types) refl c.t c.u c.on_cycle;
   world = _;
@@ -82,20 +81,20 @@ unfolding post_order post_order_within structure structure_within
 refusals = record {
   conflict = conflict;
   no_conflict = λ span name c. in_no_conflict (merge_of_graphs exports_two b_alone) refl span name (of_conflict _ span name c);
-  cycle_a = reason.package_cycle_6 _ (are_one _ refl refl refl) (record { p = 0; q = 1; on_cycle = record { is_used = (0, lit< tt, refl); leads_back = (0 ∷ [], ((0, lit< tt, refl), refl)) }; there = _; is = refl; home_is = refl });
-  cycle_b = reason.package_cycle_6 _ (are_one _ refl refl refl) (record { p = 1; q = 0; on_cycle = record { is_used = (0, lit< tt, refl); leads_back = (1 ∷ [], ((0, lit< tt, refl), refl)) }; there = _; is = refl; home_is = refl });
+  cycle_a = merging.package_cycle_6 _ (are_one _ refl refl refl) (record { p = 0; q = 1; on_cycle = record { is_used = (0, lit< tt, refl); leads_back = (0 ∷ [], ((0, lit< tt, refl), refl)) }; there = _; is = refl; home_is = refl });
+  cycle_b = merging.package_cycle_6 _ (are_one _ refl refl refl) (record { p = 1; q = 0; on_cycle = record { is_used = (0, lit< tt, refl); leads_back = (1 ∷ [], ((0, lit< tt, refl), refl)) }; there = _; is = refl; home_is = refl });
   no_cycle = λ span home c. let is = of_cycle _ span home c in no_cycle (λ i. i) _ refl is.p is.q is.on_cycle;
-  gates = disagreeing _ _ (joins.types (record { x = 0; from = _; x' = 0; into = _; from_is = refl; matched = refl; into_is = refl }));
+  gates = disagreeing _ _ (merging.types (record { x = 0; from = _; x' = 0; into = _; from_is = refl; matched = refl; into_is = refl }));
   no_gate = nowhere _ _ (record { types = refl; interfaces = refl; worlds = refl });
-  borrow = reason.borrow_in_result_15 _ (are_one _ refl refl refl) (record { f = _; t' = 1; moved = (0, lit< tt, refl); result_is = (0, lit< tt, refl); holds = (1, ([], refl), (0, refl)); message_is = refl });
+  borrow = merging.borrow_in_result_15 _ (are_one _ refl refl refl) (record { f = _; t' = 1; moved = (0, lit< tt, refl); result_is = (0, lit< tt, refl); holds = (1, ([], refl), (0, refl)); message_is = refl });
   own = λ span message c. results_fine _ refl message (of_borrow _ span message c);
   stays = λ span message c. results_fine _ refl message (of_borrow _ span message c);
-  circle_x = reason.interface_cycle_22 _ (are_one _ refl refl refl) (record { i = 1; j = 0; on_cycle = record { is_used = (0, lit< tt, refl); leads_back = (1 ∷ [], ((0, lit< tt, refl), refl)) }; id = _; id_is = refl; message_is = refl });
-  circle_y = reason.interface_cycle_22 _ (are_one _ refl refl refl) (record { i = 0; j = 1; on_cycle = record { is_used = (0, lit< tt, refl); leads_back = (0 ∷ [], ((0, lit< tt, refl), refl)) }; id = _; id_is = refl; message_is = refl });
+  circle_x = merging.interface_cycle_22 _ (are_one _ refl refl refl) (record { i = 1; j = 0; on_cycle = record { is_used = (0, lit< tt, refl); leads_back = (1 ∷ [], ((0, lit< tt, refl), refl)) }; id = _; id_is = refl; message_is = refl });
+  circle_y = merging.interface_cycle_22 _ (are_one _ refl refl refl) (record { i = 0; j = 1; on_cycle = record { is_used = (0, lit< tt, refl); leads_back = (0 ∷ [], ((0, lit< tt, refl), refl)) }; id = _; id_is = refl; message_is = refl });
   no_circle = λ span message c. let is = of_circle _ span message c in no_cycle (λ i. i) _ refl is.i is.j is.on_cycle;
-  too_far = reason.offset_overflow_27 (record { from = 5; to = 10; known = (1, lit< tt, refl); past = lit≤ tt });
+  too_far = merging.offset_overflow_27 (record { from = 5; to = 10; known = (1, lit< tt, refl); past = lit≤ tt });
   just_fits = λ c. fits _ refl (of_overflow _ c);
-  field_too_far = reason.offset_overflow_27 (record { from = 5; to = 10; known = (2, lit< tt, refl); past = lit≤ tt });
+  field_too_far = merging.offset_overflow_27 (record { from = 5; to = 10; known = (2, lit< tt, refl); past = lit≤ tt });
   field_fits = λ c. fits _ refl (of_overflow _ c);
   unknown_fits = λ c. fits _ refl (of_overflow _ c);
   no_memory = none_of_memory;

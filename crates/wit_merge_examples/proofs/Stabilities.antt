@@ -11,9 +11,8 @@ use Rattle.wit_graph_theory.specs.examples.TestFacts.{feature_of}
 use Rattle.wit_link_spec.specs.Gates.{OptionalSpan}
 use Rattle.wit_link_spec.specs.WorldReasons.{Disagree}
 use Rattle.wit_merge_spec.specs.Cause.{AreJoined, IsMergeCause, StabilitiesMismatch}
-use Rattle.wit_merge_spec.specs.Cause as reason
+use Rattle.wit_merge_spec.specs.Cause as merging
 use Rattle.wit_merge_spec.specs.Matches.{GraphMerge}
-use Rattle.wit_merge_spec.specs.Cause as joins
 use Rattle.wit_merge_structure.specs.Structure.{structure, structure_within}
 use Rattle.wit_merge_examples.proofs.Passing.{GatesJoin, can_merge, joined_accepted}
 use Rattle.wit_merge_examples.specs.Graphs.{gate_f, gate_g, merge_of_graphs}
@@ -28,10 +27,10 @@ gates_apart = record { from_known = λ same. cc; into_known = λ same. cc; diffe
 
 -- where they are joined 8 is told
 pub disagreeing : (g other : Graph) → AreJoined (merge_of_graphs g other) gate_g gate_f → Disagrees g other
-disagreeing g other joined = reason.mismatch_8 gate_g gate_f (record { joined = joined; apart = gates_apart })
+disagreeing g other joined = merging.mismatch_8 gate_g gate_f (record { joined = joined; apart = gates_apart })
 
 of_mismatch : (m : GraphMerge) (span : OptionalSpan) (from into : Stability) → IsMergeCause m (StabilityMismatch span from into) → StabilitiesMismatch m from into
-of_mismatch m _ _ _ (reason.mismatch_8 from into c) = c
+of_mismatch m _ _ _ (merging.mismatch_8 from into c) = c
 
 -- where all are joined it isn't
 pub nowhere : (g other : Graph) → GatesJoin (merge_of_graphs g other) → DisagreesNowhere g other
@@ -40,16 +39,16 @@ nowhere g other all span from into c = joined_accepted (merge_of_graphs g other)
 pub stabilities : ExamplesOfStabilities
 unfolding post_order post_order_within import_steps import_steps_within structure structure_within
 stabilities = record {
-  interfaces = disagreeing _ _ (joins.interfaces (record { x = 0; from = _; x' = 0; into = _; from_is = refl; matched = refl; into_is = refl }));
+  interfaces = disagreeing _ _ (merging.interfaces (record { x = 0; from = _; x' = 0; into = _; from_is = refl; matched = refl; into_is = refl }));
   same_interface = nowhere _ _ (record { types = refl; interfaces = refl; worlds = refl });
   other_interface = nowhere _ _ (record { types = refl; interfaces = refl; worlds = refl });
   interface_without = nowhere _ _ (record { types = refl; interfaces = refl; worlds = refl });
   interface_with = nowhere _ _ (record { types = refl; interfaces = refl; worlds = refl });
-  worlds = disagreeing _ _ (joins.worlds (record { x = 0; from = _; x' = 0; into = _; from_is = refl; matched = refl; into_is = refl }));
+  worlds = disagreeing _ _ (merging.worlds (record { x = 0; from = _; x' = 0; into = _; from_is = refl; matched = refl; into_is = refl }));
   same_world = nowhere _ _ (record { types = refl; interfaces = refl; worlds = refl });
   other_world = nowhere _ _ (record { types = refl; interfaces = refl; worlds = refl });
-  imports = disagreeing _ _ (joins.entries (record { x = 0; from = _; x' = 0; into = _; from_is = refl; matched = refl; into_is = refl }) false 0 0 _ _ refl (_, _, _, (0, lit< tt, refl)) (_, _, _, (0, lit< tt, refl)));
-  exports = disagreeing _ _ (joins.entries (record { x = 0; from = _; x' = 0; into = _; from_is = refl; matched = refl; into_is = refl }) true 0 0 _ _ refl (_, _, _, (0, lit< tt, refl)) (_, _, _, (0, lit< tt, refl)));
+  imports = disagreeing _ _ (merging.entries (record { x = 0; from = _; x' = 0; into = _; from_is = refl; matched = refl; into_is = refl }) false 0 0 _ _ refl (_, _, _, (0, lit< tt, refl)) (_, _, _, (0, lit< tt, refl)));
+  exports = disagreeing _ _ (merging.entries (record { x = 0; from = _; x' = 0; into = _; from_is = refl; matched = refl; into_is = refl }) true 0 0 _ _ refl (_, _, _, (0, lit< tt, refl)) (_, _, _, (0, lit< tt, refl)));
   same_import = nowhere _ _ (record { types = refl; interfaces = refl; worlds = refl });
   under_a_label = nowhere _ _ (record { types = refl; interfaces = refl; worlds = refl });
   functions = nowhere _ _ (record { types = refl; interfaces = refl; worlds = refl });

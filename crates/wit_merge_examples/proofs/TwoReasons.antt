@@ -20,9 +20,8 @@ use Rattle.wit_link_spec.specs.Gates.{OptionalSpan}
 use Rattle.wit_merge_spec.specs.Agreement.{GraphsDiffer}
 use Rattle.wit_merge_spec.specs.Agreement as mismatch
 use Rattle.wit_merge_spec.specs.Cause.{HasNoMismatch, IsMergeCause, MergeReturnsBorrow}
-use Rattle.wit_merge_spec.specs.Cause as reason
+use Rattle.wit_merge_spec.specs.Cause as merging
 use Rattle.wit_merge_spec.specs.Matches.{GraphMerge}
-use Rattle.wit_merge_spec.specs.Cause as joins
 use Rattle.wit_merge_spec.specs.United.{joined_graph}
 use Rattle.wit_merge_structure.specs.Structure.{structure, structure_within}
 use Rattle.wit_merge_examples.proofs.Mismatches.{disagreeing}
@@ -36,16 +35,16 @@ use Rattle.wit_merge_examples.specs.TwoReasons.{ExamplesOfTwoReasons, all_wrong,
 
 module _ (m : GraphMerge) where
   one_of_conflict : (span : OptionalSpan) (name : List ℕ) → IsMergeCause m (InvalidTransitiveDependency span name) → HasNoMismatch m
-  one_of_conflict _ _ (reason.conflict_4 span name one c) = one
+  one_of_conflict _ _ (merging.conflict_4 span name one c) = one
 
   one_of_cycle : (span : OptionalSpan) (home : PackageName) → IsMergeCause m (PackageCycle span home) → HasNoMismatch m
-  one_of_cycle _ _ (reason.package_cycle_6 home one c) = one
+  one_of_cycle _ _ (merging.package_cycle_6 home one c) = one
 
   one_of_borrow : (span : OptionalSpan) (message : List ℕ) → IsMergeCause m (Semantic span message cause.BorrowInResult) → HasNoMismatch m
-  one_of_borrow _ _ (reason.borrow_in_result_15 message one c) = one
+  one_of_borrow _ _ (merging.borrow_in_result_15 message one c) = one
 
   one_of_circle : (span : OptionalSpan) (message : List ℕ) → IsMergeCause m (Semantic span message cause.InterfaceCycle) → HasNoMismatch m
-  one_of_circle _ _ (reason.interface_cycle_22 message one c) = one
+  one_of_circle _ _ (merging.interface_cycle_22 message one c) = one
 
 -- ---- what differs
 
@@ -131,24 +130,24 @@ would_return = record { f = _; t' = 1; moved = (0, lit< tt, refl); result_is = (
 pub two_reasons : ExamplesOfTwoReasons
 unfolding post_order post_order_within structure structure_within
 two_reasons = record {
-  conflict = reason.conflict_4 _ _ (are_one l_agrees refl refl refl) l_conflict;
-  cycle = reason.package_cycle_6 _ (are_one l_agrees refl refl refl) (record { p = 0; q = 1; on_cycle = record { is_used = (0, lit< tt, refl); leads_back = (0 ∷ [], ((0, lit< tt, refl), refl)) }; there = _; is = refl; home_is = refl });
-  l_told = reason.merge_mismatch_24 _ l_differ;
+  conflict = merging.conflict_4 _ _ (are_one l_agrees refl refl refl) l_conflict;
+  cycle = merging.package_cycle_6 _ (are_one l_agrees refl refl refl) (record { p = 0; q = 1; on_cycle = record { is_used = (0, lit< tt, refl); leads_back = (0 ∷ [], ((0, lit< tt, refl), refl)) }; there = _; is = refl; home_is = refl });
+  l_told = merging.merge_mismatch_24 _ l_differ;
   would_conflict = would_conflict;
   would_cycle = record { p = 0; q = 1; on_cycle = record { is_used = (0, lit< tt, refl); leads_back = (0 ∷ [], ((0, lit< tt, refl), refl)) }; there = _; is = refl; home_is = refl };
   no_conflict = λ span name c. one_of_conflict l_differs span name c _ l_differ;
   no_cycle = λ span home c. one_of_cycle l_differs span home c _ l_differ;
-  circle = reason.interface_cycle_22 _ (are_one x_agrees refl refl refl) x_circle;
+  circle = merging.interface_cycle_22 _ (are_one x_agrees refl refl refl) x_circle;
   would_conflict_too = would_conflict_too;
   no_conflict_beside = λ span name c. (of_conflict x_agrees span name c).interfaces _ x_circle;
-  x_told = reason.merge_mismatch_24 _ x_differ;
+  x_told = merging.merge_mismatch_24 _ x_differ;
   would_circle = record { i = 1; j = 0; on_cycle = record { is_used = (0, lit< tt, refl); leads_back = (1 ∷ [], ((0, lit< tt, refl), refl)) }; id = _; id_is = refl; message_is = refl };
   no_circle = λ span message c. one_of_circle x_differs span message c _ x_differ;
-  borrow = reason.borrow_in_result_15 _ (are_one t_agrees refl refl refl) (record { f = _; t' = 1; moved = (0, lit< tt, refl); result_is = (0, lit< tt, refl); holds = (1, ([], refl), (0, refl)); message_is = refl });
-  t_told = reason.merge_mismatch_24 _ t_differ;
+  borrow = merging.borrow_in_result_15 _ (are_one t_agrees refl refl refl) (record { f = _; t' = 1; moved = (0, lit< tt, refl); result_is = (0, lit< tt, refl); holds = (1, ([], refl), (0, refl)); message_is = refl });
+  t_told = merging.merge_mismatch_24 _ t_differ;
   would_return = would_return;
   no_borrow = λ span message c. one_of_borrow t_differs span message c _ t_differ;
-  i_told = reason.merge_mismatch_24 _ i_differ;
-  gates_beside = reason.mismatch_8 gate_g gate_f (record { joined = joins.interfaces (record { x = 0; from = _; x' = 0; into = _; from_is = refl; matched = refl; into_is = refl }); apart = gates_apart });
-  too_far_beside = reason.offset_overflow_27 (record { from = 5; to = 10; known = (0, lit< tt, refl); past = lit≤ tt });
+  i_told = merging.merge_mismatch_24 _ i_differ;
+  gates_beside = merging.mismatch_8 gate_g gate_f (record { joined = merging.interfaces (record { x = 0; from = _; x' = 0; into = _; from_is = refl; matched = refl; into_is = refl }); apart = gates_apart });
+  too_far_beside = merging.offset_overflow_27 (record { from = 5; to = 10; known = (0, lit< tt, refl); past = lit≤ tt });
 }

@@ -14,9 +14,8 @@ use Rattle.wit_graph_theory.specs.examples.TestFacts.{all_uses, falls, no_cycle,
 use Rattle.wit_merge_spec.specs.Agreement.{GraphsDiffer}
 use Rattle.wit_merge_spec.specs.Agreement as differ
 use Rattle.wit_merge_spec.specs.Cause.{AreJoined, IsMergeCause, MergeIsAccepted, StabilitiesMismatch}
-use Rattle.wit_merge_spec.specs.Cause as reason
+use Rattle.wit_merge_spec.specs.Cause as merging
 use Rattle.wit_merge_spec.specs.Matches.{GraphMerge, Pair, counterpart_interface, counterpart_type, counterpart_world}
-use Rattle.wit_merge_spec.specs.Cause as joins
 use Rattle.wit_merge_spec.specs.United.{joined_graph}
 use Rattle.wit_merge_structure.specs.Structure.{DifferInStructure, Feature, structure, structure_within}
 use Rattle.wit_script_examples.specs.SmallGraphs.{bare, gate, gated}
@@ -44,10 +43,10 @@ module _ (ps : List Package) (ns : List (PackageName × ℕ)) (qs : List Package
   of_packages = record { graph = bare ps ns; other = bare qs ms; offset = offset }
 
   none_joined : (from into : Stability) → AreJoined of_packages from into → ⊥
-  none_joined from into (joins.types p) = no_pair (counterpart_type of_packages) [] p
-  none_joined from into (joins.interfaces p) = no_pair (counterpart_interface of_packages) [] p
-  none_joined from into (joins.worlds p) = no_pair (counterpart_world of_packages) [] p
-  none_joined from into (joins.entries p exported i i' _ _ matched comes there) = no_pair (counterpart_world of_packages) [] p
+  none_joined from into (merging.types p) = no_pair (counterpart_type of_packages) [] p
+  none_joined from into (merging.interfaces p) = no_pair (counterpart_interface of_packages) [] p
+  none_joined from into (merging.worlds p) = no_pair (counterpart_world of_packages) [] p
+  none_joined from into (merging.entries p exported i i' _ _ matched comes there) = no_pair (counterpart_world of_packages) [] p
 
   none_differ : (message : List ℕ) → GraphsDiffer of_packages message → ⊥
   none_differ _ (differ.interfaces p home there name text named of is told) = no_pair (counterpart_interface of_packages) [] p
@@ -56,13 +55,13 @@ module _ (ps : List Package) (ns : List (PackageName × ℕ)) (qs : List Package
 
   module _ (falling : all_uses (falls (λ p. p)) (graph_package_uses (joined_graph of_packages)) ≡ true) where
     pub packages_merge : MergeIsAccepted of_packages
-    packages_merge _ (reason.conflict_4 span name one c) = Contains-nil c.there
-    packages_merge _ (reason.package_cycle_6 home one c) = no_cycle (λ p. p) (graph_package_uses (joined_graph of_packages)) falling c.p c.q c.on_cycle
-    packages_merge _ (reason.mismatch_8 from into c) = none_joined from into c.joined
-    packages_merge _ (reason.borrow_in_result_15 message one c) = Contains-nil c.moved
-    packages_merge _ (reason.interface_cycle_22 message one c) = no_cycle (λ i. i) (graph_uses (joined_graph of_packages)) refl c.i c.j c.on_cycle
-    packages_merge _ (reason.merge_mismatch_24 message c) = none_differ message c
-    packages_merge _ (reason.offset_overflow_27 c) = Contains-nil c.known
+    packages_merge _ (merging.conflict_4 span name one c) = Contains-nil c.there
+    packages_merge _ (merging.package_cycle_6 home one c) = no_cycle (λ p. p) (graph_package_uses (joined_graph of_packages)) falling c.p c.q c.on_cycle
+    packages_merge _ (merging.mismatch_8 from into c) = none_joined from into c.joined
+    packages_merge _ (merging.borrow_in_result_15 message one c) = Contains-nil c.moved
+    packages_merge _ (merging.interface_cycle_22 message one c) = no_cycle (λ i. i) (graph_uses (joined_graph of_packages)) refl c.i c.j c.on_cycle
+    packages_merge _ (merging.merge_mismatch_24 message c) = none_differ message c
+    packages_merge _ (merging.offset_overflow_27 c) = Contains-nil c.known
 
 -- ---- one interface under a gate
 
@@ -72,13 +71,13 @@ module _ (f g : List ℕ) (offset : ℕ) where
 
   -- the two gates alone are joined
   gates_joined : (from into : Stability) → AreJoined of_gates from into → (gate g ≡ from) × (gate f ≡ into)
-  gates_joined _ _ (joins.types p) = absurd (no_pair (counterpart_type of_gates) [] p)
-  gates_joined _ _ (joins.interfaces p) = (ap (λ (i : Interface). i.stability) (the_one _ p.from p.x p.from_is), ap (λ (i : Interface). i.stability) (the_one _ p.into p.x' p.into_is))
-  gates_joined _ _ (joins.worlds p) = absurd (no_pair (counterpart_world of_gates) [] p)
-  gates_joined _ _ (joins.entries p exported i i' from into matched comes there) = absurd (no_pair (counterpart_world of_gates) [] p)
+  gates_joined _ _ (merging.types p) = absurd (no_pair (counterpart_type of_gates) [] p)
+  gates_joined _ _ (merging.interfaces p) = (ap (λ (i : Interface). i.stability) (the_one _ p.from p.x p.from_is), ap (λ (i : Interface). i.stability) (the_one _ p.into p.x' p.into_is))
+  gates_joined _ _ (merging.worlds p) = absurd (no_pair (counterpart_world of_gates) [] p)
+  gates_joined _ _ (merging.entries p exported i i' from into matched comes there) = absurd (no_pair (counterpart_world of_gates) [] p)
 
   of_mismatch : (span : OptionalSpan) (from into : Stability) → IsMergeCause of_gates (StabilityMismatch span from into) → StabilitiesMismatch of_gates from into
-  of_mismatch _ _ _ (reason.mismatch_8 from into c) = c
+  of_mismatch _ _ _ (merging.mismatch_8 from into c) = c
 
   -- 8 is told of these, in this order
   pub told_gates : (span : OptionalSpan) (from into : Stability) → IsMergeCause of_gates (StabilityMismatch span from into) → (gate g ≡ from) × (gate f ≡ into)
@@ -86,8 +85,8 @@ module _ (f g : List ℕ) (offset : ℕ) where
 
   -- where they differ it is told
   pub gates_apart : (gate g ≡ gate f → ⊥) → IsMergeCause of_gates (StabilityMismatch None (gate g) (gate f))
-  gates_apart apart = reason.mismatch_8 (gate g) (gate f) (record {
-    joined = joins.interfaces (record { x = 0; from = _; x' = 0; into = _; from_is = refl; matched = refl; into_is = refl });
+  gates_apart apart = merging.mismatch_8 (gate g) (gate f) (record {
+    joined = merging.interfaces (record { x = 0; from = _; x' = 0; into = _; from_is = refl; matched = refl; into_is = refl });
     apart = record { from_known = λ same. cc; into_known = λ same. cc; differ = apart };
   })
 
@@ -104,10 +103,10 @@ module _ (f g : List ℕ) (offset : ℕ) where
     join from into c = let gates = gates_joined from into c.joined in c.apart.differ (sym gates.0 ∙ (same ∙ gates.1))
 
     pub gates_merge : MergeIsAccepted of_gates
-    gates_merge _ (reason.conflict_4 span name one c) = Contains-nil c.there
-    gates_merge _ (reason.package_cycle_6 home one c) = no_cycle (λ p. p) (graph_package_uses (joined_graph of_gates)) refl c.p c.q c.on_cycle
-    gates_merge _ (reason.mismatch_8 from into c) = join from into c
-    gates_merge _ (reason.borrow_in_result_15 message one c) = Contains-nil c.moved
-    gates_merge _ (reason.interface_cycle_22 message one c) = no_cycle (λ i. i) (graph_uses (joined_graph of_gates)) refl c.i c.j c.on_cycle
-    gates_merge _ (reason.merge_mismatch_24 message c) = agree message c
-    gates_merge _ (reason.offset_overflow_27 c) = none_some _ (only_one _ _ c.known)
+    gates_merge _ (merging.conflict_4 span name one c) = Contains-nil c.there
+    gates_merge _ (merging.package_cycle_6 home one c) = no_cycle (λ p. p) (graph_package_uses (joined_graph of_gates)) refl c.p c.q c.on_cycle
+    gates_merge _ (merging.mismatch_8 from into c) = join from into c
+    gates_merge _ (merging.borrow_in_result_15 message one c) = Contains-nil c.moved
+    gates_merge _ (merging.interface_cycle_22 message one c) = no_cycle (λ i. i) (graph_uses (joined_graph of_gates)) refl c.i c.j c.on_cycle
+    gates_merge _ (merging.merge_mismatch_24 message c) = agree message c
+    gates_merge _ (merging.offset_overflow_27 c) = none_some _ (only_one _ _ c.known)
