@@ -3,7 +3,8 @@
 //! Each type keeps what std or a well-kept crate keeps, and shows it to contracts as plain data: a
 //! text as its bytes, a list as a list, a table as its pairs in order, a version as its parts. So
 //! two values are equal in a contract where they hold the same data, whatever memory they take.
-//! Each is made from its std type and gives it back without memory.
+//! Each is made from its std type and gives it back without memory, but for a version: it lies on the heap,
+//! so one is made with memory.
 #![tactic(auto)]
 
 mod items;
