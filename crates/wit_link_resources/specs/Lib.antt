@@ -1,1 +1,2 @@
+pub mod LeadingFacts
 pub mod steps

@@ -31,5 +31,5 @@ follow-requires-clause-known c = flags_known c.args.graph.now c.append_all_with.
 
 pub returns-in_err-follow-clause-kept : goal.returns-in_err-follow-clause-kept
 returns-in_err-follow-clause-kept c =
-    kept_cut c.args.graph.now c.append_all_with.new.graph c.follow.new.graph c.args.kept.now c.follow.new.self c.of-mark.result c.interfaces-rows.result c.append_all_with.new.elaborator c.requires.kept
-    c.append_all_with.ensures.grown c.of-mark.ensures c.interfaces-rows.ensures c.append_all_with.ensures.rows c.in_err-follow.ensures.err
+    kept_cut c.args.graph.now c.append_all_with.new.graph c.follow.new.graph c.args.kept.now c.follow.new.self c.of-mark.result c.interfaces-rows.result c.len-met.result c.append_all_with.new.elaborator c.append_all_with.new.met c.requires.kept
+    c.append_all_with.ensures.grown c.of-mark.ensures c.interfaces-rows.ensures c.append_all_with.ensures.rows c.len-met.ensures.len c.append_all_with.ensures.met_before c.in_err-follow.ensures.err
