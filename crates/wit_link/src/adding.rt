@@ -7,9 +7,8 @@ ghost use Rattle.wit_elaboration.specs.Valid.{IsValid};
 ghost use Rattle.wit_graph_data.specs.declared.error_kind.ResolveErrorKind.{ResolveErrorKind};
 ghost use Rattle.wit_graph_data.specs.declared.error_kind.ResolveErrorKind.TheVariants.{OutOfMemory};
 ghost use Rattle.wit_data.specs.Shape.{IsShaped};
-ghost use Rattle.wit_link.specs.Appending.{IsAdded, addition};
+ghost use Rattle.wit_link.specs.Appending.{IsAdded, KnowsLeads, addition};
 ghost use Rattle.wit_link.specs.steps.Checked.{IsChecked, IsNameTaken, IsNew};
-ghost use Rattle.wit_link_resources.specs.steps.Leading.{AreRight};
 ghost use Rattle.wit_link_spec.specs.Pushed.{with_parts};
 ghost use Rattle.wit_link.specs.steps.Including.{ready_worlds};
 ghost use Rattle.wit_remap.specs.Grown.{Begins, Grown};
@@ -55,11 +54,12 @@ pub fn append(
 {
     let types = graph.types.as_slice();
     let mut elaborator = Elaborator::new(alloc, types, graph.interfaces.as_slice())?;
+    let mut met = Table::new(alloc);
     append_with(
         alloc,
         graph,
         &mut elaborator,
-        &mut Table::new(alloc),
+        &mut met,
         features,
         package,
         span_offset,
@@ -83,8 +83,8 @@ pub fn append_with(
     requires shaped { IsShaped «package» }
     requires valid { IsValid graph.old }
     requires uses { elaborator.old ≡ graph_uses graph.old }
-    requires met { AreRight graph.old.types met.old }
-    ensures met { AreRight graph.new.types met.new }
+    requires met { KnowsLeads graph.old.types met.old }
+    ensures met { KnowsLeads graph.new.types met.new }
     ensures met_before { Begins met.old met.new }
     ensures ok { IfOk result (λ id. IsAdded (addition features.now graph.old «package» span_offset) graph.new id) }
     ensures valid { IsValid graph.new }

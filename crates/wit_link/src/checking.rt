@@ -84,7 +84,7 @@ fn checked_places(
     requires shaped { IsShaped adding.now.unresolved.now }
     requires valid { IsValid adding.now.graph.now }
     requires activity { activity.now ≡ activity_of (addition_of adding.now) }
-    requires met { GatesAreMet (addition_of adding.now) }
+    requires gates { GatesAreMet (addition_of adding.now) }
     requires needs { NeedsNothingExcluded (addition_of adding.now) }
     requires met { AreRight adding.now.graph.now.types met.old }
     ensures met { AreRight adding.now.graph.now.types met.new }

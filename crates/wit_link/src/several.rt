@@ -5,8 +5,7 @@ ghost use Rattle.wit_elaboration.specs.Elaboration.{graph_uses};
 ghost use Rattle.wit_elaboration.specs.Valid.{IsValid};
 ghost use Rattle.wit_graph_data.specs.declared.error_kind.ResolveErrorKind.{ResolveErrorKind};
 ghost use Rattle.wit_graph_data.specs.declared.error_kind.ResolveErrorKind.TheVariants.{OutOfMemory};
-ghost use Rattle.wit_link.specs.Appending.{ArePushed, CanAppend, IsOneRefused};
-ghost use Rattle.wit_link_resources.specs.steps.Leading.{AreRight};
+ghost use Rattle.wit_link.specs.Appending.{ArePushed, CanAppend, IsOneRefused, KnowsLeads};
 ghost use Rattle.wit_remap.specs.Grown.{Begins, Grown};
 
 use crate::adding::append_with;
@@ -36,11 +35,12 @@ pub fn append_all(
 {
     let types = graph.types.as_slice();
     let mut elaborator = Elaborator::new(alloc, types, graph.interfaces.as_slice())?;
+    let mut met = Table::new(alloc);
     append_all_with(
         alloc,
         graph,
         &mut elaborator,
-        &mut Table::new(alloc),
+        &mut met,
         features,
         packages,
     )
@@ -60,8 +60,8 @@ pub fn append_all_with(
     requires packages { AllByRecursion CanAppend packages }
     requires valid { IsValid graph.old }
     requires uses { elaborator.old ≡ graph_uses graph.old }
-    requires met { AreRight graph.old.types met.old }
-    ensures met { AreRight graph.new.types met.new }
+    requires met { KnowsLeads graph.old.types met.old }
+    ensures met { KnowsLeads graph.new.types met.new }
     ensures met_before { Begins met.old met.new }
     ensures ok { IfOk result (λ ids. ArePushed features.now graph.old packages graph.new ids) }
     ensures valid { IsValid graph.new }
@@ -96,8 +96,8 @@ fn append_each(
     requires packages { AllByRecursion CanAppend packages }
     requires valid { IsValid graph.old }
     requires uses { elaborator.old ≡ graph_uses graph.old }
-    requires met { AreRight graph.old.types met.old }
-    ensures met { AreRight graph.new.types met.new }
+    requires met { KnowsLeads graph.old.types met.old }
+    ensures met { KnowsLeads graph.new.types met.new }
     ensures met_before { Begins met.old met.new }
     ensures ok { IfOk result (λ ids. ArePushed features.now graph.old packages graph.new ids) }
     ensures valid { IsValid graph.new }

@@ -1,2 +1,2 @@
-pub mod LeadingFacts
+pub mod facts
 pub mod steps

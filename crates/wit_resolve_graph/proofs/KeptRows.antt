@@ -1,6 +1,7 @@
 -- What is kept beside a graph, after a transformation of a world and after packages came.
-use Rattle.std.proofs.Common.{◌≡◌, ◌∙◌, ℕ, List, [], Bool, Option, None, Some, length, take, slice_get, OnOk, OnErr, Result, Ok, Err, refl, sym, ap, subst}
+use Rattle.std.proofs.Common.{◌≡◌, ◌∙◌, ℕ, List, [], Bool, Contains, Option, None, Some, length, take, slice_get, OnOk, OnErr, Result, Ok, Err, refl, sym, ap, subst}
 use Rattle.std.specs.Option.{option_map_or}
+use Rattle.wit_digraph.specs.facts.MemberFacts.{Contains-nil}
 use Rattle.wit_data.specs.declared.types.TypeDef.{TypeDef}
 use Rattle.wit_data.specs.declared.world.World.{World}
 use Rattle.wit_elaboration.specs.Elaboration.{graph_uses}
@@ -12,7 +13,7 @@ use Rattle.wit_remap.specs.declared.mark.Mark.{Mark}
 use Rattle.wit_queries.specs.ValidBits.{AreValidBits, AreValidBitsOf}
 use Rattle.wit_queries.specs.facts.ValidBitsFacts.{flags_stay}
 use Rattle.wit_transform.specs.Transformed.{WorldLists, transformed, transformed_at}
-use Rattle.wit_link.specs.Met.{KnowsLeads, right_none}
+use Rattle.wit_link.specs.Appending.{KnowsLeads}
 use Rattle.wit_resolve_graph.specs.Kept.{AreKept}
 use Rattle.wit_resolve_graph.specs.declared.kept.Kept.{Kept}
 
@@ -47,7 +48,7 @@ kept_transformed r g new kept w turn of valid ok = kept_after r g new kept of va
 
 -- where no types were met nothing is known
 pub none_met : (types : List TypeDef) (met : List (ℕ × Bool)) → met ≡ [] → KnowsLeads types met
-none_met types met none = right_none types met none
+none_met types met none = λ t leads has. absurd (Contains-nil (subst (λ (es : List (ℕ × Bool)). Contains es (t, leads)) none has))
 
 -- no flags tell nothing
 pub none_known : (types : List TypeDef) (flags : List Bool) → flags ≡ [] → AreValidBits types flags

@@ -3,7 +3,7 @@ use Rattle.std.specs.Prelude.{◌≡◌}
 use Rattle.wit_elaboration.specs.Elaboration.{graph_uses}
 use Rattle.wit_elaboration.specs.Valid.{IsValid}
 use Rattle.wit_graph_data.specs.declared.graph.Graph.{Graph}
-use Rattle.wit_link.specs.Met.{KnowsLeads}
+use Rattle.wit_link.specs.Appending.{KnowsLeads}
 use Rattle.wit_queries.specs.ValidBits.{AreValidBitsOf}
 use Rattle.wit_resolve_graph.specs.declared.kept.Kept.{Kept}
 

@@ -7,9 +7,8 @@ use Rattle.wit_graph_data.specs.declared.graph.Graph.{Graph}
 use Rattle.wit_elaboration.specs.Valid.{IsValid}
 use Rattle.wit_remap.specs.Grown.{Grown}
 use Rattle.wit_remap.specs.facts.GrownFacts.{Begins-as, Begins-same, Grown-same}
-use Rattle.wit_link_resources.specs.steps.Leading.{AreRight}
-use Rattle.wit_link_resources.specs.LeadingFacts.{right_stays}
-use Rattle.wit_link.specs.Appending.{IsAdded, addition}
+use Rattle.wit_link_resources.specs.facts.LeadingFacts.{right_stays}
+use Rattle.wit_link.specs.Appending.{IsAdded, KnowsLeads, addition}
 use Rattle.wit_link.specs.steps.Checked.{PackageFits}
 use Rattle.wit_link.proofs.Added.{is_new, taken, too_far}
 use Rattle.wit_link.proofs.adding.append_with.Goals as goal
@@ -94,7 +93,7 @@ returns-then-not-spans_fit-clause-met_before c = Begins-same c.args.met.now
 pub returns-then-is_err-clause-met : goal.returns-then-is_err-clause-met
 returns-then-is_err-clause-met c =
     let back = c.cut.ensures.back c.args.graph.now c.of-mark.ensures c.add_checked-added.ensures.grown in
-    subst (λ (g : Graph). AreRight g.types c.check.new.met) (sym back) c.in_ok-checked.ensures.met
+    subst (λ (g : Graph). KnowsLeads g.types c.check.new.met) (sym back) c.in_ok-checked.ensures.met
 
 pub returns-else-is_err-clause-met : goal.returns-else-is_err-clause-met
 returns-else-is_err-clause-met c =

@@ -2,10 +2,9 @@ use Rattle.std.proofs.Common.{◌∙◌, ℕ, ap, subst, sym, take, IfOk, List, 
 use Rattle.wit_elaboration.specs.Elaboration.{graph_uses}
 use Rattle.wit_elaboration.specs.Valid.{IsValid}
 use Rattle.wit_graph_data.specs.declared.graph.Graph.{Graph}
-use Rattle.wit_link_resources.specs.steps.Leading.{AreRight}
 use Rattle.wit_remap.specs.Grown.{Grown}
 use Rattle.wit_remap.specs.facts.GrownFacts.{Begins-as, Grown-same}
-use Rattle.wit_link.specs.Appending.{ArePushed}
+use Rattle.wit_link.specs.Appending.{ArePushed, KnowsLeads}
 use Rattle.wit_link.proofs.OneAfterAnother.{never_refused}
 use Rattle.wit_link.proofs.several.append_all_with.Goals as goal
 
@@ -58,4 +57,4 @@ returns-then-is_err-clause-met c =
     let back = c.cut.ensures.back c.args.graph.now c.of-mark.ensures c.append_each-added.ensures.grown in
     let same : c.truncate.new.self ≡ c.args.met.now =
     c.truncate.ensures ∙ ap (λ (count : ℕ). take count c.append_each-added.new.met) c.len-known.ensures.len ∙ c.append_each-added.ensures.met_before in
-    subst (λ (g : Graph). AreRight g.types c.truncate.new.self) (sym back) (subst (AreRight c.args.graph.now.types) (sym same) c.requires.met)
+    subst (λ (g : Graph). KnowsLeads g.types c.truncate.new.self) (sym back) (subst (KnowsLeads c.args.graph.now.types) (sym same) c.requires.met)
