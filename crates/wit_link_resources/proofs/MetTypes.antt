@@ -3,9 +3,14 @@ use Rattle.std.proofs.Common.{◌≡◌, ◌∙◌, ◌≤◌, ◌<◌, ℕ, Boo
 use Rattle.std.proofs.lemmas.List.{take_at, take_all, take-take}
 use Rattle.std.proofs.lemmas.List.Elements.{Contains-push_cases}
 use Rattle.wit_digraph.specs.facts.MemberFacts.{Contains-nil}
+use Rattle.wit_digraph.specs.Relation.{IsAcyclic}
+use Rattle.wit_data.specs.Reference.{type_references}
 use Rattle.wit_data.specs.declared.types.TypeDef.{TypeDef}
+use Rattle.wit_graph_theory.specs.steps.Sources.{alias_rows}
 use Rattle.wit_link_spec.specs.Resources.{leads_to_resource}
 use Rattle.wit_link_resources.specs.steps.Leading.{AreRight}
+use Rattle.wit_link_resources.proofs.Leads.{leads_stays}
+use Rattle.wit_link_resources.proofs.Rows.{alias_acyclic}
 
 -- where nothing was met
 pub right-begun : (types : List TypeDef) (met : List (ℕ × Bool)) → met ≡ [] → AreRight types met
@@ -46,3 +51,15 @@ begins_rest {X} (x ∷ xs) (y ∷ ys) h =
     let first : y ≡ x = cc in
     let rest : take (length xs) ys ≡ xs = cc in
     ap (λ (l : List X). x ∷ l) (begins_rest xs ys rest) ∙ ap (λ (z : X). z ∷ ys) (sym first)
+
+-- what is known of the types of a graph stays right when types come behind them
+pub right_stays : (old new : List TypeDef) (met : List (ℕ × Bool)) → IsAcyclic (type_references old) → IsAcyclic (type_references new) → take (length old) new ≡ old → AreRight old met → AreRight new met
+right_stays old new met old_acyclic acyclic begins right t leads has =
+    let known = right t leads has in
+    let more : List TypeDef = drop (length old) new in
+    let whole : old ++ more ≡ new = begins_rest old new begins in
+    let rows : IsAcyclic (alias_rows (old ++ more)) = subst (λ (types : List TypeDef). IsAcyclic (alias_rows types)) (sym whole) (alias_acyclic new acyclic) in
+    let long = begins_long old new begins in (
+      omega (arith, long, known.0),
+      ap (λ (types : List TypeDef). leads_to_resource types t) (sym whole) ∙ leads_stays old more (alias_acyclic old old_acyclic) rows t known.0 ∙ known.1,
+    )

@@ -1,2 +1,1 @@
-pub mod facts
 pub mod steps

@@ -61,6 +61,16 @@ none_known types flags none = λ t flag at. absurd (no_flag flag (sym (ap (λ (l
 pub flags_known : (g new : Graph) (kept : Kept) → AreKept g kept → Grown g new → AreValidBits new.types kept.valid_bits
 flags_known g new kept of grown = flags_stay g.types new.types of.valid.no_cycles.types grown.types kept.valid_bits of.bits
 
+-- where flags came for what was added, all is kept
+pub kept_followed : (new after : Graph) (left : Kept) (rows : List (List ℕ)) (met : List (ℕ × Bool)) → IsValid new → rows ≡ graph_uses new → KnowsLeads new.types met
+    → (after ≡ new) × ((left.elaborator ≡ rows) × ((left.met ≡ met) × AreValidBitsOf after.types left.valid_bits)) → AreKept after left
+kept_followed new after left rows met valid uses knows told = record {
+  valid = subst IsValid (sym told.0) valid;
+  uses = told.1.0 ∙ uses ∙ ap graph_uses (sym told.0);
+  met = subst (λ (h : Graph). KnowsLeads h.types left.met) (sym told.0) (subst (KnowsLeads new.types) (sym told.1.1.0) knows);
+  bits = told.1.1.1;
+}
+
 -- and where all is cut back, it is as it was
 pub kept_cut : (g new after : Graph) (kept left : Kept) (mark : Mark) (count noted : ℕ) (rows : List (List ℕ)) (met : List (ℕ × Bool)) → AreKept g kept → Grown g new → mark ≡ mark_of g → count ≡ length kept.elaborator → Begins kept.elaborator rows
     → noted ≡ length kept.met → Begins kept.met met → (after ≡ cut_at mark new) × ((left.elaborator ≡ take count rows) × ((left.met ≡ take noted met) × (left.valid_bits ≡ kept.valid_bits))) → AreKept after left
