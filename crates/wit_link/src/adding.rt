@@ -7,7 +7,7 @@ ghost use Rattle.wit_elaboration.specs.Valid.{IsValid};
 ghost use Rattle.wit_graph_data.specs.declared.error_kind.ResolveErrorKind.{ResolveErrorKind};
 ghost use Rattle.wit_graph_data.specs.declared.error_kind.ResolveErrorKind.TheVariants.{OutOfMemory};
 ghost use Rattle.wit_data.specs.Shape.{IsShaped};
-ghost use Rattle.wit_link.specs.Appending.{IsAdded, addition};
+ghost use Rattle.wit_link.specs.Appending.{IsAdded, KnowsLeads, addition};
 ghost use Rattle.wit_link.specs.steps.Checked.{IsChecked, IsNameTaken, IsNew};
 ghost use Rattle.wit_link_spec.specs.Pushed.{with_parts};
 ghost use Rattle.wit_link.specs.steps.Including.{ready_worlds};
@@ -17,7 +17,7 @@ use crate::checking::{Checked, check};
 use crate::fits::spans_fit;
 use crate::including::place_includes;
 use std::alloc::{AllocError, Global};
-use wit_data::{Items, PackageId, Span, UnresolvedPackage};
+use wit_data::{Items, PackageId, Span, Table, TypeId, UnresolvedPackage};
 use wit_elaboration::Elaborator;
 use wit_graph_data::{Features, Graph, ResolveError, ResolveErrorKind, ResolveResult};
 use wit_link_include::add_world;
@@ -54,24 +54,28 @@ pub fn append(
 {
     let types = graph.types.as_slice();
     let mut elaborator = Elaborator::new(alloc, types, graph.interfaces.as_slice())?;
+    let mut met = Table::new(alloc);
     append_with(
         alloc,
         graph,
         &mut elaborator,
+        &mut met,
         features,
         package,
         span_offset,
     )
 }
 
-/// As `append`, with an elaborator of the graph, which becomes one of the new graph. It costs what is added. After a
-/// refusal the graph is as before, and the elaborator is one of it.
+/// As `append`, with an elaborator of the graph, which becomes one of the new graph, and with types of the graph that
+/// were met along aliases, each with whether it leads to a resource; what is met more comes behind these. It costs what
+/// is added. After a refusal the graph is as before, and the elaborator is one of it.
 ///
 /// Source: `append` of wit-parser 0.263.0.
 pub fn append_with(
     alloc: Global,
     graph: &mut Graph,
     elaborator: &mut Elaborator,
+    met: &mut Table<TypeId, bool>,
     features: &Features,
     package: UnresolvedPackage,
     span_offset: u32,
@@ -79,6 +83,9 @@ pub fn append_with(
     requires shaped { IsShaped «package» }
     requires valid { IsValid graph.old }
     requires uses { elaborator.old ≡ graph_uses graph.old }
+    requires met { KnowsLeads graph.old.types met.old }
+    ensures met { KnowsLeads graph.new.types met.new }
+    ensures met_before { Begins met.old met.new }
     ensures ok { IfOk result (λ id. IsAdded (addition features.now graph.old «package» span_offset) graph.new id) }
     ensures valid { IsValid graph.new }
     ensures uses { elaborator.new ≡ graph_uses graph.new }
@@ -102,6 +109,7 @@ pub fn append_with(
             unresolved: &package,
             offset: span_offset,
         },
+        met,
     )?;
     let mark = Mark::of(graph);
     let rows = elaborator.interfaces();

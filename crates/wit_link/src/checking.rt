@@ -8,8 +8,11 @@ ghost use Rattle.wit_elaboration.specs.Valid.{IsValid};
 ghost use Rattle.wit_graph_data.specs.declared.error_kind.ResolveErrorKind.TheVariants.{OutOfMemory};
 ghost use Rattle.wit_data.specs.Shape.{IsShaped};
 ghost use Rattle.wit_link.specs.steps.Checked.{IsChecked};
+ghost use Rattle.wit_link_resources.specs.steps.Leading.{AreRight};
+ghost use Rattle.wit_remap.specs.Grown.{Begins};
 
 use std::alloc::Global;
+use wit_data::{Table, TypeId};
 use wit_graph_data::ResolveResult;
 use wit_link_features::{activity, check_references, check_versions};
 use wit_link_foreign::places;
@@ -27,10 +30,17 @@ pub(crate) struct Checked {
 /// Refuses a package for what it and the graph tell before any world is looked at (1 to 3 and 9 to 15), else answers
 /// what its things are remapped to.
 #[tactic(auto, using(crate::proofs::Checks::passed_image))]
-pub(crate) fn check(alloc: Global, adding: &AdditionRef<'_>) -> ResolveResult<Checked>
+pub(crate) fn check(
+    alloc: Global,
+    adding: &AdditionRef<'_>,
+    met: &mut Table<TypeId, bool>,
+) -> ResolveResult<Checked>
     requires shaped { IsShaped adding.now.unresolved.now }
     requires valid { IsValid adding.now.graph.now }
     requires fits { AdditionOverflows (addition_of adding.now) → ⊥ }
+    requires met { AreRight adding.now.graph.now.types met.old }
+    ensures met { AreRight adding.now.graph.now.types met.new }
+    ensures met_before { Begins met.old met.new }
     ensures checked { OnOk result (IsChecked (addition_of adding.now)) }
     ensures activity { IfOk result (λ checked. checked.activity ≡ activity_of (addition_of adding.now)) }
     ensures places { IfOk result (λ checked. checked.places ≡ new_ids_of (addition_of adding.now)) }
@@ -38,8 +48,8 @@ pub(crate) fn check(alloc: Global, adding: &AdditionRef<'_>) -> ResolveResult<Ch
     ensures cause { IfErr result (λ kind. (kind ≡ OutOfMemory) ⊎ IsCause (addition_of adding.now) kind) }
 {
     let activity = checked_activity(alloc, adding)?;
-    let places = checked_places(alloc, adding, &activity)?;
-    let values = values(alloc, adding, &activity, &places)?;
+    let places = checked_places(alloc, adding, &activity, met)?;
+    let values = values(alloc, adding, &activity, &places, met)?;
     Ok(Checked {
         activity,
         places,
@@ -69,12 +79,16 @@ fn checked_places(
     alloc: Global,
     adding: &AdditionRef<'_>,
     activity: &Activity,
+    met: &mut Table<TypeId, bool>,
 ) -> ResolveResult<NewIds>
     requires shaped { IsShaped adding.now.unresolved.now }
     requires valid { IsValid adding.now.graph.now }
     requires activity { activity.now ≡ activity_of (addition_of adding.now) }
-    requires met { GatesAreMet (addition_of adding.now) }
+    requires gates { GatesAreMet (addition_of adding.now) }
     requires needs { NeedsNothingExcluded (addition_of adding.now) }
+    requires met { AreRight adding.now.graph.now.types met.old }
+    ensures met { AreRight adding.now.graph.now.types met.new }
+    ensures met_before { Begins met.old met.new }
     ensures places { IfOk result (λ places. places ≡ new_ids_of (addition_of adding.now)) }
     ensures found { OnOk result (IsAllFound (addition_of adding.now)) }
     ensures resources { OnOk result (HasResources (addition_of adding.now)) }
@@ -82,7 +96,7 @@ fn checked_places(
     ensures cause { IfErr result (λ kind. (kind ≡ OutOfMemory) ⊎ IsCause (addition_of adding.now) kind) }
 {
     let places = places(alloc, adding, activity)?;
-    check_resources(alloc, adding, &places)?;
+    check_resources(alloc, adding, &places, met)?;
     check_results(alloc, adding, activity, &places)?;
     Ok(places)
 }

@@ -5,12 +5,12 @@ ghost use Rattle.wit_elaboration.specs.Elaboration.{graph_uses};
 ghost use Rattle.wit_elaboration.specs.Valid.{IsValid};
 ghost use Rattle.wit_graph_data.specs.declared.error_kind.ResolveErrorKind.{ResolveErrorKind};
 ghost use Rattle.wit_graph_data.specs.declared.error_kind.ResolveErrorKind.TheVariants.{OutOfMemory};
-ghost use Rattle.wit_link.specs.Appending.{ArePushed, CanAppend, IsOneRefused};
+ghost use Rattle.wit_link.specs.Appending.{ArePushed, CanAppend, IsOneRefused, KnowsLeads};
 ghost use Rattle.wit_remap.specs.Grown.{Begins, Grown};
 
 use crate::adding::append_with;
 use std::alloc::Global;
-use wit_data::{Items, PackageId, UnresolvedPackage};
+use wit_data::{Items, PackageId, Table, TypeId, UnresolvedPackage};
 use wit_elaboration::Elaborator;
 use wit_graph_data::{Features, Graph, ResolveResult};
 use wit_remap::Mark;
@@ -35,21 +35,34 @@ pub fn append_all(
 {
     let types = graph.types.as_slice();
     let mut elaborator = Elaborator::new(alloc, types, graph.interfaces.as_slice())?;
-    append_all_with(alloc, graph, &mut elaborator, features, packages)
+    let mut met = Table::new(alloc);
+    append_all_with(
+        alloc,
+        graph,
+        &mut elaborator,
+        &mut met,
+        features,
+        packages,
+    )
 }
 
-/// As `append_all`, with an elaborator of the graph, which becomes one of the new graph. It costs what is added.
-/// After a refusal the graph is as before, and the elaborator is one of it.
+/// As `append_all`, with an elaborator of the graph, which becomes one of the new graph, and with types of the graph
+/// that were met along aliases, as `append_with` takes them. It costs what is added. After a refusal the graph is as
+/// before, and the elaborator is one of it.
 pub fn append_all_with(
     alloc: Global,
     graph: &mut Graph,
     elaborator: &mut Elaborator,
+    met: &mut Table<TypeId, bool>,
     features: &Features,
     packages: Items<(UnresolvedPackage, u32)>,
 ) -> ResolveResult<Items<PackageId>>
     requires packages { AllByRecursion CanAppend packages }
     requires valid { IsValid graph.old }
     requires uses { elaborator.old ≡ graph_uses graph.old }
+    requires met { KnowsLeads graph.old.types met.old }
+    ensures met { KnowsLeads graph.new.types met.new }
+    ensures met_before { Begins met.old met.new }
     ensures ok { IfOk result (λ ids. ArePushed features.now graph.old packages graph.new ids) }
     ensures valid { IsValid graph.new }
     ensures uses { elaborator.new ≡ graph_uses graph.new }
@@ -61,10 +74,12 @@ pub fn append_all_with(
 {
     let mark = Mark::of(graph);
     let rows = elaborator.interfaces();
-    let added = append_each(alloc, graph, elaborator, features, packages);
+    let known = met.len();
+    let added = append_each(alloc, graph, elaborator, met, features, packages);
     if added.is_err() {
         mark.cut(graph);
         elaborator.cut(rows);
+        met.truncate(known);
     }
     added
 }
@@ -74,12 +89,16 @@ fn append_each(
     alloc: Global,
     graph: &mut Graph,
     elaborator: &mut Elaborator,
+    met: &mut Table<TypeId, bool>,
     features: &Features,
     packages: Items<(UnresolvedPackage, u32)>,
 ) -> ResolveResult<Items<PackageId>>
     requires packages { AllByRecursion CanAppend packages }
     requires valid { IsValid graph.old }
     requires uses { elaborator.old ≡ graph_uses graph.old }
+    requires met { KnowsLeads graph.old.types met.old }
+    ensures met { KnowsLeads graph.new.types met.new }
+    ensures met_before { Begins met.old met.new }
     ensures ok { IfOk result (λ ids. ArePushed features.now graph.old packages graph.new ids) }
     ensures valid { IsValid graph.new }
     ensures uses { elaborator.new ≡ graph_uses graph.new }
@@ -90,7 +109,7 @@ fn append_each(
     let mut ids = Items::new(alloc);
     for package in packages.into_vec() {
         let (package, offset) = package;
-        let id = append_with(alloc, graph, elaborator, features, package, offset)?;
+        let id = append_with(alloc, graph, elaborator, met, features, package, offset)?;
         ids.push(id)?;
     }
     Ok(ids)

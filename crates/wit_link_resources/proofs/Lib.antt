@@ -3,7 +3,7 @@ mod Flags
 mod Inserting
 pub mod Leads
 mod MayHold
-mod MetTypes
+pub mod MetTypes
 pub mod Needing
 mod Positions
 pub mod Ranges

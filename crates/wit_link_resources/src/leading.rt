@@ -1,5 +1,5 @@
 //! Which types lead to a resource by aliases.
-ghost use Rattle.std.specs.Prelude.{◌≡◌, ◌<◌, IfOk, OnOk, length, map};
+ghost use Rattle.std.specs.Prelude.{◌≡◌, ◌<◌, IfOk, length, map, take};
 ghost use Rattle.std.specs.List.{range_with_len};
 ghost use Rattle.wit_data.specs.Shape.{IsShaped};
 ghost use Rattle.wit_elaboration.specs.Valid.{IsValid};
@@ -44,11 +44,13 @@ pub(crate) fn wanted(
 }
 
 /// For each type of the package, whether it is wanted, is active and leads to a resource where it goes. What isn't
-/// wanted isn't looked at.
+/// wanted isn't looked at. What is met of the graph on the way is noted.
+#[tactic(auto, using(crate::proofs::MetTypes::begins_same, crate::proofs::MetTypes::begins_then))]
 pub(crate) fn leading(
     alloc: Global,
     adding: &AdditionRef<'_>,
     places: &NewIds,
+    met: &mut Table<TypeId, bool>,
     wanted: &Items<bool>,
 ) -> Result<Items<bool>, AllocError>
     requires shaped { IsShaped adding.now.unresolved.now }
@@ -57,13 +59,15 @@ pub(crate) fn leading(
     requires image { IsResolved (addition_of adding.now) }
     requires long { length wanted.now ≡ length adding.now.unresolved.now.types }
     requires closed { WantsTargets adding.now.unresolved.now.types 0 wanted.now }
-    ensures { IfOk result (λ leading. leading ≡ map (leads_if_wanted (addition_of adding.now) wanted.now) (range_with_len 0 (length adding.now.unresolved.now.types))) }
+    requires met { AreRight adding.now.graph.now.types met.old }
+    ensures met { AreRight adding.now.graph.now.types met.new }
+    ensures begins { take (length met.old) met.new ≡ met.old }
+    ensures leading { IfOk result (λ leading. leading ≡ map (leads_if_wanted (addition_of adding.now) wanted.now) (range_with_len 0 (length adding.now.unresolved.now.types))) }
 {
-    let mut met = Table::new(alloc);
     let mut leading = Items::new(alloc);
     for place in 0..adding.unresolved.types.len() {
         let leads = if *wanted.at(place) {
-            leads_there(adding, places, &mut met, &leading, place)?
+            leads_there(adding, places, met, &leading, place)?
         } else {
             false
         };
@@ -74,6 +78,7 @@ pub(crate) fn leading(
 
 /// The same of one type that is wanted, where it is known of what it names as an alias, and of the types of the graph
 /// that were met.
+#[tactic(auto, using(crate::proofs::MetTypes::begins_same, crate::proofs::MetTypes::begins_then))]
 fn leads_there(
     adding: &AdditionRef<'_>,
     places: &NewIds,
@@ -89,7 +94,8 @@ fn leads_there(
     requires earlier { TargetIsKnown (addition_of adding.now) earlier.now place }
     requires met { AreRight adding.now.graph.now.types met.old }
     ensures leads { IfOk result (λ leads. leads ≡ leads_there (addition_of adding.now) place) }
-    ensures met { OnOk result (AreRight adding.now.graph.now.types met.new) }
+    ensures met { AreRight adding.now.graph.now.types met.new }
+    ensures begins { take (length met.old) met.new ≡ met.old }
 {
     let Some(id) = *places.types.at(place) else {
         return Ok(false);

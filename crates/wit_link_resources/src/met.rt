@@ -1,5 +1,5 @@
 //! Types of a graph that are met on the way along aliases, and whether they lead to a resource.
-ghost use Rattle.std.specs.Prelude.{◌≡◌, ◌<◌, ℕ, IfOk, None, OnOk, Some, length, nat_eq};
+ghost use Rattle.std.specs.Prelude.{◌≡◌, ◌<◌, ℕ, IfOk, None, Some, length, nat_eq, take};
 ghost use Rattle.std.specs.Map.{lookup};
 ghost use Rattle.wit_digraph.specs.Relation.{IsAcyclic};
 ghost use Rattle.wit_data.specs.Reference.{type_references};
@@ -23,7 +23,8 @@ pub(crate) fn leads_to_resource(
     requires there { id < length types.now }
     requires met { AreRight types.now met.old }
     ensures leads { IfOk result (λ leads. leads ≡ leads_to_resource types.now id) }
-    ensures met { OnOk result (AreRight types.now met.new) }
+    ensures met { AreRight types.now met.new }
+    ensures begins { take (length met.old) met.new ≡ met.old }
 {
     let leads = end_of_way(types, met, id.index());
     note_way(types, met, id.index(), leads)?;
@@ -58,7 +59,8 @@ fn note_way(
     requires there { place < length types.now }
     requires met { AreRight types.now met.old }
     requires leads { leads ≡ leads_to_resource types.now place }
-    ensures { OnOk result (AreRight types.now met.new) }
+    ensures met { AreRight types.now met.new }
+    ensures begins { take (length met.old) met.new ≡ met.old }
 {
     let mut place = place;
     while let Some(target) = next(types, met, place) {

@@ -1,5 +1,5 @@
 //! What types are remapped to at value positions, and the `own`s that come for that.
-ghost use Rattle.std.specs.Prelude.{◌≡◌, ◌+◌, ◌^◌, ◌≤◌, ◌<◌, IfOk, Option, Some, length, map, slice_get, unwrap_or, ℕ};
+ghost use Rattle.std.specs.Prelude.{◌≡◌, ◌+◌, ◌^◌, ◌≤◌, ◌<◌, IfOk, Option, Some, length, map, slice_get, take, unwrap_or, ℕ};
 ghost use Rattle.std.specs.List.{range_with_len};
 ghost use Rattle.wit_data.specs.Shape.{IsShaped};
 ghost use Rattle.wit_elaboration.specs.Valid.{IsValid};
@@ -7,19 +7,22 @@ ghost use Rattle.wit_link_spec.specs.steps.AdditionRefs.{activity_of, addition_o
 ghost use Rattle.wit_link_spec.specs.Addition.{own_types, value_needs_own};
 ghost use Rattle.wit_link_spec.specs.Reasons.{IsResolved};
 ghost use Rattle.wit_link_spec.specs.Resources.{own_of};
+ghost use Rattle.wit_link_resources.specs.steps.Leading.{AreRight};
 
 use crate::asked::asked;
 use crate::leading::{leading, wanted};
 use std::alloc::{AllocError, Global};
 use wit_data::{Docs, Handle, Items, Span, Stability, TypeDef, TypeDefKind, TypeId, TypeOwner};
 use wit_link_spec::{Activity, AdditionRef, NewIds, Values};
+use wit_values::Table;
 
 /// What types are remapped to at value positions, and the `own`s that come for that. The package has its shape, the graph is valid,
 /// what is active of the package and what it is remapped to is told by `activity` of wit_link_features and `places` of wit_link_foreign, and
 /// none of 1 to 3 and 9 to 13 holds against the addition. The only error is want of memory.
 ///
 /// It takes a step for each part of the package, and for each alias of the graph on the way from the types of other
-/// packages that values ask for, themselves or through aliases of the package.
+/// packages that values ask for, themselves or through aliases of the package, up to one that was met; what is met on
+/// the way is noted behind that.
 ///
 /// Source: `update_ty` of wit-parser 0.263.0.
 pub fn values(
@@ -27,15 +30,19 @@ pub fn values(
     adding: &AdditionRef<'_>,
     activity: &Activity,
     places: &NewIds,
+    met: &mut Table<TypeId, bool>,
 ) -> Result<Values, AllocError>
     requires shaped { IsShaped adding.now.unresolved.now }
     requires valid { IsValid adding.now.graph.now }
     requires activity { activity.now ≡ activity_of (addition_of adding.now) }
     requires places { places.now ≡ new_ids_of (addition_of adding.now) }
     requires image { IsResolved (addition_of adding.now) }
-    ensures { IfOk result (λ values. values ≡ values_of (addition_of adding.now)) }
+    requires met { AreRight adding.now.graph.now.types met.old }
+    ensures values { IfOk result (λ values. values ≡ values_of (addition_of adding.now)) }
+    ensures met { AreRight adding.now.graph.now.types met.new }
+    ensures begins { take (length met.old) met.new ≡ met.old }
 {
-    let needed = needed(alloc, adding, activity, places)?;
+    let needed = needed(alloc, adding, activity, places, met)?;
     let first = first_own(adding, activity);
     let mut value_ids = Items::new(alloc);
     let mut owns = Items::new(alloc);
@@ -60,17 +67,21 @@ fn needed(
     adding: &AdditionRef<'_>,
     activity: &Activity,
     places: &NewIds,
+    met: &mut Table<TypeId, bool>,
 ) -> Result<Items<bool>, AllocError>
     requires shaped { IsShaped adding.now.unresolved.now }
     requires valid { IsValid adding.now.graph.now }
     requires activity { activity.now ≡ activity_of (addition_of adding.now) }
     requires places { places.now ≡ new_ids_of (addition_of adding.now) }
     requires image { IsResolved (addition_of adding.now) }
-    ensures { IfOk result (λ needed. needed ≡ map (value_needs_own (addition_of adding.now)) (range_with_len 0 (length adding.now.unresolved.now.types))) }
+    requires met { AreRight adding.now.graph.now.types met.old }
+    ensures met { AreRight adding.now.graph.now.types met.new }
+    ensures begins { take (length met.old) met.new ≡ met.old }
+    ensures needed { IfOk result (λ needed. needed ≡ map (value_needs_own (addition_of adding.now)) (range_with_len 0 (length adding.now.unresolved.now.types))) }
 {
     let asked = asked(alloc, adding, activity)?;
     let wanted = wanted(alloc, adding, &asked)?;
-    let leading = leading(alloc, adding, places, &wanted)?;
+    let leading = leading(alloc, adding, places, met, &wanted)?;
     let mut needed = Items::new(alloc);
     for place in 0..asked.len() {
         needed.push(*asked.at(place) && *leading.at(place))?;

@@ -1,5 +1,5 @@
 //! Types that have to be resources.
-ghost use Rattle.std.specs.Prelude.{◌≡◌, ◌⊎◌, Contains, IfErr, OnOk};
+ghost use Rattle.std.specs.Prelude.{◌≡◌, ◌⊎◌, Contains, IfErr, OnOk, length, take};
 ghost use Rattle.wit_data.specs.Shape.{IsShaped};
 ghost use Rattle.wit_elaboration.specs.Valid.{IsValid};
 ghost use Rattle.wit_graph_data.specs.declared.error_kind.ResolveErrorKind.TheVariants.{OutOfMemory};
@@ -21,29 +21,34 @@ use wit_values::Table;
 /// would be told and ends past 4294967295 is refused (27), and else want of memory (28) alone.
 ///
 /// It takes a step for each such type, and for each alias of the graph on the way to what they
-/// name.
+/// name, up to one that was met; what is met on the way is noted behind that.
 ///
 /// Source: `process_foreign_deps` of wit-parser 0.263.0.
+#[tactic(auto, using(crate::proofs::MetTypes::begins_same, crate::proofs::MetTypes::begins_then))]
 pub fn check_resources(
     alloc: Global,
     adding: &AdditionRef<'_>,
     places: &NewIds,
+    met: &mut Table<TypeId, bool>,
 ) -> ResolveResult<()>
     requires shaped { IsShaped adding.now.unresolved.now }
     requires valid { IsValid adding.now.graph.now }
     requires places { places.now ≡ new_ids_of (addition_of adding.now) }
+    requires met { AreRight adding.now.graph.now.types met.old }
+    ensures met { AreRight adding.now.graph.now.types met.new }
+    ensures begins { take (length met.old) met.new ≡ met.old }
     ensures resources { OnOk result (HasResources (addition_of adding.now)) }
     ensures cause { IfErr result (λ kind. (kind ≡ OutOfMemory) ⊎ IsCause (addition_of adding.now) kind) }
 {
-    let mut met = Table::new(alloc);
     for index in 0..adding.unresolved.required_resource_types.len() {
         let (id, span) = *adding.unresolved.required_resource_types.at(index);
-        check_required(alloc, adding, places, &mut met, id, span)?;
+        check_required(alloc, adding, places, met, id, span)?;
     }
     Ok(())
 }
 
 /// Refuses one type, where it is found in the graph and doesn't lead to a resource there.
+#[tactic(auto, using(crate::proofs::MetTypes::begins_same, crate::proofs::MetTypes::begins_then))]
 fn check_required(
     alloc: Global,
     adding: &AdditionRef<'_>,
@@ -59,7 +64,8 @@ fn check_required(
     requires required { Contains adding.now.unresolved.now.required_resource_types (id, span) }
     ensures ok { OnOk result (LeadsWhereFound (addition_of adding.now) id) }
     ensures cause { IfErr result (λ kind. (kind ≡ OutOfMemory) ⊎ IsCause (addition_of adding.now) kind) }
-    ensures met { OnOk result (AreRight adding.now.graph.now.types met.new) }
+    ensures met { AreRight adding.now.graph.now.types met.new }
+    ensures begins { take (length met.old) met.new ≡ met.old }
 {
     let Some(found) = *places.types.at(id.index()) else {
         return Ok(());

@@ -1,6 +1,7 @@
 -- What is kept beside a graph, after a transformation of a world and after packages came.
-use Rattle.std.proofs.Common.{◌≡◌, ◌∙◌, ℕ, List, [], Bool, Option, None, Some, length, take, slice_get, OnOk, OnErr, Result, Ok, Err, refl, sym, ap, subst}
+use Rattle.std.proofs.Common.{◌≡◌, ◌∙◌, ℕ, List, [], Bool, Contains, Option, None, Some, length, take, slice_get, OnOk, OnErr, Result, Ok, Err, refl, sym, ap, subst}
 use Rattle.std.specs.Option.{option_map_or}
+use Rattle.wit_digraph.specs.facts.MemberFacts.{Contains-nil}
 use Rattle.wit_data.specs.declared.types.TypeDef.{TypeDef}
 use Rattle.wit_data.specs.declared.world.World.{World}
 use Rattle.wit_elaboration.specs.Elaboration.{graph_uses}
@@ -12,6 +13,7 @@ use Rattle.wit_remap.specs.declared.mark.Mark.{Mark}
 use Rattle.wit_queries.specs.ValidBits.{AreValidBits, AreValidBitsOf}
 use Rattle.wit_queries.specs.facts.ValidBitsFacts.{flags_stay}
 use Rattle.wit_transform.specs.Transformed.{WorldLists, transformed, transformed_at}
+use Rattle.wit_link.specs.Appending.{KnowsLeads}
 use Rattle.wit_resolve_graph.specs.Kept.{AreKept}
 use Rattle.wit_resolve_graph.specs.declared.kept.Kept.{Kept}
 
@@ -32,6 +34,7 @@ same_kept : (g new : Graph) (kept : Kept) → AreKept g kept → IsValid new →
 same_kept g new kept of valid leaves = record {
   valid = valid;
   uses = of.uses ∙ sym leaves.uses;
+  met = subst (λ (types : List TypeDef). KnowsLeads types kept.met) (sym leaves.types) of.met;
   bits = subst (λ (types : List TypeDef). AreValidBitsOf types kept.valid_bits) (sym leaves.types) of.bits;
 }
 
@@ -42,6 +45,10 @@ kept_after (Err e) g new kept of valid told leaves same = same_kept g new kept o
 
 pub kept_transformed : {T E : Type 0} (r : Result T E) (g new : Graph) (kept : Kept) (w : ℕ) (turn : World → WorldLists) → AreKept g kept → IsValid new → OnOk r (new ≡ transformed g w turn) → OnErr r (new ≡ g) → AreKept new kept
 kept_transformed r g new kept w turn of valid ok = kept_after r g new kept of valid ok (λ is. subst (λ (h : Graph). LeavesTypes g h) (sym is) (transformed_leaves g w turn))
+
+-- where no types were met nothing is known
+pub none_met : (types : List TypeDef) (met : List (ℕ × Bool)) → met ≡ [] → KnowsLeads types met
+none_met types met none = λ t leads has. absurd (Contains-nil (subst (λ (es : List (ℕ × Bool)). Contains es (t, leads)) none has))
 
 -- no flags tell nothing
 pub none_known : (types : List TypeDef) (flags : List Bool) → flags ≡ [] → AreValidBits types flags
@@ -54,14 +61,26 @@ none_known types flags none = λ t flag at. absurd (no_flag flag (sym (ap (λ (l
 pub flags_known : (g new : Graph) (kept : Kept) → AreKept g kept → Grown g new → AreValidBits new.types kept.valid_bits
 flags_known g new kept of grown = flags_stay g.types new.types of.valid.no_cycles.types grown.types kept.valid_bits of.bits
 
+-- where flags came for what was added, all is kept
+pub kept_followed : (new after : Graph) (left : Kept) (rows : List (List ℕ)) (met : List (ℕ × Bool)) → IsValid new → rows ≡ graph_uses new → KnowsLeads new.types met
+    → (after ≡ new) × ((left.elaborator ≡ rows) × ((left.met ≡ met) × AreValidBitsOf after.types left.valid_bits)) → AreKept after left
+kept_followed new after left rows met valid uses knows told = record {
+  valid = subst IsValid (sym told.0) valid;
+  uses = told.1.0 ∙ uses ∙ ap graph_uses (sym told.0);
+  met = subst (λ (h : Graph). KnowsLeads h.types left.met) (sym told.0) (subst (KnowsLeads new.types) (sym told.1.1.0) knows);
+  bits = told.1.1.1;
+}
+
 -- and where all is cut back, it is as it was
-pub kept_cut : (g new after : Graph) (kept left : Kept) (mark : Mark) (count : ℕ) (rows : List (List ℕ)) → AreKept g kept → Grown g new → mark ≡ mark_of g → count ≡ length kept.elaborator → Begins kept.elaborator rows
-    → (after ≡ cut_at mark new) × ((left.elaborator ≡ take count rows) × (left.valid_bits ≡ kept.valid_bits)) → AreKept after left
-kept_cut g new after kept left mark count rows of grown marked counted begins cut =
+pub kept_cut : (g new after : Graph) (kept left : Kept) (mark : Mark) (count noted : ℕ) (rows : List (List ℕ)) (met : List (ℕ × Bool)) → AreKept g kept → Grown g new → mark ≡ mark_of g → count ≡ length kept.elaborator → Begins kept.elaborator rows
+    → noted ≡ length kept.met → Begins kept.met met → (after ≡ cut_at mark new) × ((left.elaborator ≡ take count rows) × ((left.met ≡ take noted met) × (left.valid_bits ≡ kept.valid_bits))) → AreKept after left
+kept_cut g new after kept left mark count noted rows met of grown marked counted begins noted_is met_begins cut =
     let back : after ≡ g = cut.0 ∙ ap (λ (m : Mark). cut_at m new) marked ∙ cut_back g new grown in
-    let flags : AreValidBitsOf g.types left.valid_bits = subst (λ (flags : List Bool). AreValidBitsOf g.types flags) (sym cut.1.1) of.bits in
+    let flags : AreValidBitsOf g.types left.valid_bits = subst (λ (flags : List Bool). AreValidBitsOf g.types flags) (sym cut.1.1.1) of.bits in
+    let same : left.met ≡ kept.met = cut.1.1.0 ∙ ap (λ (n : ℕ). take n met) noted_is ∙ met_begins in
     record {
       valid = subst IsValid (sym back) of.valid;
       uses = cut.1.0 ∙ ap (λ (n : ℕ). take n rows) counted ∙ begins ∙ of.uses ∙ ap graph_uses (sym back);
+      met = subst (λ (h : Graph). KnowsLeads h.types left.met) (sym back) (subst (KnowsLeads g.types) (sym same) of.met);
       bits = subst (λ (h : Graph). AreValidBitsOf h.types left.valid_bits) (sym back) flags;
     }

@@ -130,8 +130,16 @@ pub(crate) fn add_packages(
     let sorted = sort_groups(alloc, packages)?;
     let mark = Mark::of(graph);
     let rows = kept.elaborator.interfaces();
-    append_all_with(alloc, graph, &mut kept.elaborator, features, sorted)?;
-    kept.follow(alloc, graph, mark, rows)?;
+    let met = kept.met.len();
+    append_all_with(
+        alloc,
+        graph,
+        &mut kept.elaborator,
+        &mut kept.met,
+        features,
+        sorted,
+    )?;
+    kept.follow(alloc, graph, mark, rows, met)?;
     match graph.package_names.get(name) {
         Some(id) => Ok(*id),
         None => unreachable!(),

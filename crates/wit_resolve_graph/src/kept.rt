@@ -11,17 +11,19 @@ ghost use Rattle.wit_queries.specs.ValidBits.{AreValidBits, AreValidBitsOf};
 ghost use Rattle.wit_resolve_graph.specs.Kept.{AreKept};
 
 use std::alloc::{AllocError, Global};
-use wit_data::{Items, PackageId, TryClone, UnresolvedPackage};
+use wit_data::{Items, PackageId, Table, TryClone, TypeId, UnresolvedPackage};
 use wit_elaboration::Elaborator;
 use wit_graph_data::{Features, Graph, ResolveResult};
 use wit_link::append_with;
 use wit_queries::add_valid_bits;
 use wit_remap::Mark;
 
-/// Which interfaces of a graph use which, and of which of its types all bits are valid: so a push costs what it adds,
-/// and what is asked of a type's bits no memory.
+/// Which interfaces of a graph use which, which of its types were met along aliases and whether these lead to a
+/// resource, and of which of its types all bits are valid: so a push costs what it adds, and what is asked of a type's
+/// bits no memory.
 pub(crate) struct Kept {
     pub(crate) elaborator: Elaborator,
+    pub(crate) met: Table<TypeId, bool>,
     pub(crate) valid_bits: Items<bool>,
 }
 
@@ -29,15 +31,18 @@ impl Kept {
     /// What is kept beside an empty graph. It takes no memory.
     pub(crate) fn empty(alloc: Global) -> Kept
         ensures uses { result.elaborator ≡ [] }
+        ensures met { result.met ≡ [] }
         ensures bits { result.valid_bits ≡ [] }
     {
         Kept {
             elaborator: Elaborator::empty(alloc),
+            met: Table::new(alloc),
             valid_bits: Items::new(alloc),
         }
     }
 
     /// What is kept beside a graph. It goes over all types of the graph.
+    #[tactic(auto, using(crate::proofs::KeptRows::none_met))]
     pub(crate) fn of(alloc: Global, graph: &Graph) -> Result<Kept, AllocError>
         requires { IsValid graph.now }
         ensures { IfOk result (AreKept graph.now) }
@@ -48,28 +53,31 @@ impl Kept {
         add_valid_bits(alloc, &mut valid_bits, types)?;
         Ok(Kept {
             elaborator,
+            met: Table::new(alloc),
             valid_bits,
         })
     }
 
     /// Adds the flags of the types that came behind those that have one. Where there is no memory, the graph is cut
-    /// back to what was marked, and the rows to so many.
+    /// back to what was marked, and the rows and what was met to so many.
     pub(crate) fn follow(
         &mut self,
         alloc: Global,
         graph: &mut Graph,
         mark: Mark,
         rows: usize,
+        met: usize,
     ) -> Result<(), AllocError>
         requires first { length self.old.valid_bits ≤ length graph.old.types }
         requires known { AreValidBits graph.old.types self.old.valid_bits }
-        ensures ok { OnOk result ((graph.new ≡ graph.old) × ((self.new.elaborator ≡ self.old.elaborator) × AreValidBitsOf graph.new.types self.new.valid_bits)) }
-        ensures err { OnErr result ((graph.new ≡ cut_at mark graph.old) × ((self.new.elaborator ≡ take rows self.old.elaborator) × (self.new.valid_bits ≡ self.old.valid_bits))) }
+        ensures ok { OnOk result ((graph.new ≡ graph.old) × ((self.new.elaborator ≡ self.old.elaborator) × ((self.new.met ≡ self.old.met) × AreValidBitsOf graph.new.types self.new.valid_bits))) }
+        ensures err { OnErr result ((graph.new ≡ cut_at mark graph.old) × ((self.new.elaborator ≡ take rows self.old.elaborator) × ((self.new.met ≡ take met self.old.met) × (self.new.valid_bits ≡ self.old.valid_bits)))) }
     {
         let added = add_valid_bits(alloc, &mut self.valid_bits, graph.types.as_slice());
         if added.is_err() {
             mark.cut(graph);
             self.elaborator.cut(rows);
+            self.met.truncate(met);
         }
         added
     }
@@ -84,6 +92,7 @@ impl TryClone for Kept {
             .to_vec(self.valid_bits.allocator())?;
         Ok(Kept {
             elaborator,
+            met: self.met.try_clone()?,
             valid_bits: Items::from_vec(valid_bits),
         })
     }
@@ -94,9 +103,11 @@ impl Drop for Kept {
     fn drop(self) {
         let Kept {
             elaborator,
+            met,
             valid_bits,
         } = self;
         drop(elaborator);
+        drop(met);
         drop(valid_bits);
     }
 }
@@ -120,14 +131,16 @@ pub(crate) fn append_kept(
 {
     let mark = Mark::of(graph);
     let rows = kept.elaborator.interfaces();
+    let met = kept.met.len();
     let id = append_with(
         alloc,
         graph,
         &mut kept.elaborator,
+        &mut kept.met,
         features,
         package,
         span_offset,
     )?;
-    kept.follow(alloc, graph, mark, rows)?;
+    kept.follow(alloc, graph, mark, rows, met)?;
     Ok(id)
 }

@@ -1,5 +1,5 @@
 -- Which types of a package lead to a resource where they go.
-use Rattle.std.specs.Prelude.{◌≡◌, ◌≤◌, ◌&&◌, ℕ, Bool, true, false, List, Contains, None, Some, length, nat_eq, slice_get, unwrap_or}
+use Rattle.std.specs.Prelude.{◌≡◌, ◌≤◌, ◌<◌, ◌&&◌, ℕ, Bool, true, false, List, Contains, None, Some, length, nat_eq, slice_get, unwrap_or}
 use Rattle.std.specs.Map.{lookup}
 use Rattle.wit_data.specs.Uses.{alias_target}
 use Rattle.wit_data.specs.declared.types.TypeDef.{TypeDef}
@@ -8,9 +8,9 @@ use Rattle.wit_link_spec.specs.Gates.{type_is_active}
 use Rattle.wit_link_spec.specs.Lookup.{foreign_type_id}
 use Rattle.wit_link_spec.specs.Resources.{leads_to_resource}
 
--- of these types of a graph it is known whether they lead to a resource
+-- these types are there, and it is known whether they lead to a resource
 abbrev pub AreRight : List TypeDef → List (ℕ × Bool) → Type 0
-AreRight types met = (t : ℕ) (leads : Bool) → Contains met (t, leads) → leads_to_resource types t ≡ leads
+AreRight types met = (t : ℕ) (leads : Bool) → Contains met (t, leads) → (t < length types) × (leads_to_resource types t ≡ leads)
 
 -- nothing is known of type t, and it names type u as an alias
 abbrev pub LeadsOn : List TypeDef → List (ℕ × Bool) → ℕ → ℕ → Type 0

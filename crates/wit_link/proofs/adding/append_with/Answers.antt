@@ -7,7 +7,8 @@ use Rattle.wit_graph_data.specs.declared.graph.Graph.{Graph}
 use Rattle.wit_elaboration.specs.Valid.{IsValid}
 use Rattle.wit_remap.specs.Grown.{Grown}
 use Rattle.wit_remap.specs.facts.GrownFacts.{Begins-as, Begins-same, Grown-same}
-use Rattle.wit_link.specs.Appending.{IsAdded, addition}
+use Rattle.wit_link_resources.proofs.MetTypes.{right_stays}
+use Rattle.wit_link.specs.Appending.{IsAdded, KnowsLeads, addition}
 use Rattle.wit_link.specs.steps.Checked.{PackageFits}
 use Rattle.wit_link.proofs.Added.{is_new, taken, too_far}
 use Rattle.wit_link.proofs.adding.append_with.Goals as goal
@@ -81,3 +82,20 @@ when_ok (Err e) fine p = cc
 
 pub returns-else-is_err-clause-valid : goal.returns-else-is_err-clause-valid
 returns-else-is_err-clause-valid c = when_ok c.add_checked-added.result (sym c.is_err.ensures.value ∙ c.if-is_err.false) c.add_checked-added.ensures.valid
+
+-- what is known of the types of the graph
+pub returns-then-contains_key-clause-met_before : goal.returns-then-contains_key-clause-met_before
+returns-then-contains_key-clause-met_before c = Begins-same c.args.met.now
+
+pub returns-then-not-spans_fit-clause-met_before : goal.returns-then-not-spans_fit-clause-met_before
+returns-then-not-spans_fit-clause-met_before c = Begins-same c.args.met.now
+
+pub returns-then-is_err-clause-met : goal.returns-then-is_err-clause-met
+returns-then-is_err-clause-met c =
+    let back = c.cut.ensures.back c.args.graph.now c.of-mark.ensures c.add_checked-added.ensures.grown in
+    subst (λ (g : Graph). KnowsLeads g.types c.check.new.met) (sym back) c.in_ok-checked.ensures.met
+
+pub returns-else-is_err-clause-met : goal.returns-else-is_err-clause-met
+returns-else-is_err-clause-met c =
+    let valid = when_ok c.add_checked-added.result (sym c.is_err.ensures.value ∙ c.if-is_err.false) c.add_checked-added.ensures.valid in
+    right_stays c.args.graph.now.types c.add_checked-added.new.graph.types c.check.new.met c.requires.valid.no_cycles.types valid.no_cycles.types c.add_checked-added.ensures.grown.types c.in_ok-checked.ensures.met

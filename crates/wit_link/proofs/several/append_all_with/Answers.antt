@@ -1,9 +1,10 @@
 use Rattle.std.proofs.Common.{◌∙◌, ℕ, ap, subst, sym, take, IfOk, List, OnErr, OnOk, Result, Ok, Err}
 use Rattle.wit_elaboration.specs.Elaboration.{graph_uses}
 use Rattle.wit_elaboration.specs.Valid.{IsValid}
+use Rattle.wit_graph_data.specs.declared.graph.Graph.{Graph}
 use Rattle.wit_remap.specs.Grown.{Grown}
 use Rattle.wit_remap.specs.facts.GrownFacts.{Begins-as, Grown-same}
-use Rattle.wit_link.specs.Appending.{ArePushed}
+use Rattle.wit_link.specs.Appending.{ArePushed, KnowsLeads}
 use Rattle.wit_link.proofs.OneAfterAnother.{never_refused}
 use Rattle.wit_link.proofs.several.append_all_with.Goals as goal
 
@@ -44,3 +45,16 @@ on_err (Err e) p = p
 
 pub returns-then-is_err-clause-err : goal.returns-then-is_err-clause-err
 returns-then-is_err-clause-err c = on_err c.append_each-added.result (c.cut.ensures.back c.args.graph.now c.of-mark.ensures c.append_each-added.ensures.grown)
+
+-- and what is known of its types
+pub returns-then-is_err-clause-met_before : goal.returns-then-is_err-clause-met_before
+returns-then-is_err-clause-met_before c =
+    let met = c.args.met.now in
+    Begins-as met c.truncate.new.self (c.truncate.ensures ∙ ap (λ (count : ℕ). take count c.append_each-added.new.met) c.len-known.ensures.len ∙ c.append_each-added.ensures.met_before)
+
+pub returns-then-is_err-clause-met : goal.returns-then-is_err-clause-met
+returns-then-is_err-clause-met c =
+    let back = c.cut.ensures.back c.args.graph.now c.of-mark.ensures c.append_each-added.ensures.grown in
+    let same : c.truncate.new.self ≡ c.args.met.now =
+    c.truncate.ensures ∙ ap (λ (count : ℕ). take count c.append_each-added.new.met) c.len-known.ensures.len ∙ c.append_each-added.ensures.met_before in
+    subst (λ (g : Graph). KnowsLeads g.types c.truncate.new.self) (sym back) (subst (KnowsLeads c.args.graph.now.types) (sym same) c.requires.met)

@@ -20,6 +20,8 @@ loop-package-preserved c =
       grown = Grown-then c.args.graph.now c.loop-package.graph c.append_with.new.graph c.loop-package.invariant.grown c.append_with.ensures.grown;
       uses = c.append_with.ensures.uses;
       rows = Begins-then c.args.elaborator.now c.loop-package.elaborator c.append_with.new.elaborator c.loop-package.invariant.rows c.append_with.ensures.rows;
+      met = c.append_with.ensures.met;
+      met_before = Begins-then c.args.met.now c.loop-package.met c.append_with.new.met c.loop-package.invariant.met_before c.append_with.ensures.met_before;
       left = search rules;
       all = append_assoc c.loop-package.yielded (c.in-Some.package ∷ []) (into_iter_items c.next.new.self) ∙ are;
     }
@@ -39,3 +41,9 @@ returns-in_err-push-clause-grown c = Grown-then c.args.graph.now c.loop-package.
 
 pub returns-in_err-push-clause-rows : goal.returns-in_err-push-clause-rows
 returns-in_err-push-clause-rows c = Begins-then c.args.elaborator.now c.loop-package.elaborator c.append_with.new.elaborator c.loop-package.invariant.rows c.append_with.ensures.rows
+
+pub returns-in_err-push-clause-met_before : goal.returns-in_err-push-clause-met_before
+returns-in_err-push-clause-met_before c = Begins-then c.args.met.now c.loop-package.met c.append_with.new.met c.loop-package.invariant.met_before c.append_with.ensures.met_before
+
+pub returns-in_err-id-clause-met_before : goal.returns-in_err-id-clause-met_before
+returns-in_err-id-clause-met_before c = Begins-then c.args.met.now c.loop-package.met c.append_with.new.met c.loop-package.invariant.met_before c.append_with.ensures.met_before

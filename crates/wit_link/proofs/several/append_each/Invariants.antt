@@ -3,7 +3,7 @@ use Rattle.std.specs.List.{AllByRecursion}
 use Rattle.std.specs.Vec.Iter.{into_iter_items}
 use Rattle.wit_elaboration.specs.Elaboration.{graph_uses}
 use Rattle.wit_elaboration.specs.Valid.{IsValid}
-use Rattle.wit_link.specs.Appending.{ArePushed, CanAppend}
+use Rattle.wit_link.specs.Appending.{ArePushed, CanAppend, KnowsLeads}
 use Rattle.wit_remap.specs.Grown.{Begins, Grown}
 use Rattle.wit_link.proofs.several.append_each.Given as goal
 
@@ -15,6 +15,8 @@ invariant-loop-package l = record {
   uses : l.elaborator ≡ graph_uses l.graph;
   grown : Grown l.initial.graph l.graph;
   rows : Begins l.initial.elaborator l.elaborator;
+  met : KnowsLeads l.graph.types l.met;
+  met_before : Begins l.initial.met l.met;
   left : AllByRecursion CanAppend (into_iter_items l.package-iterator);
   all : l.yielded ++ into_iter_items l.package-iterator ≡ l.fn.packages;
 }

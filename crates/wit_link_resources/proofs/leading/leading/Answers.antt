@@ -1,9 +1,9 @@
-use Rattle.std.proofs.Common.{◌≡◌, ◌∙◌, ◌≤◌, ℕ, Bool, true, false, List, Option, Some, slice_get, unwrap_or, ap, subst, sym, arith}
+use Rattle.std.proofs.Common.{◌≡◌, ◌∙◌, ◌≤◌, ℕ, Bool, true, false, List, Option, Some, length, slice_get, take, unwrap_or, ap, subst, sym, arith}
 use Rattle.wit_link_spec.specs.steps.AdditionRefs.{addition_of}
 use Rattle.wit_link_spec.specs.Addition.{Addition}
 use Rattle.wit_link_spec.specs.facts.RangeFacts.{range-at, range-pushed}
 use Rattle.wit_link_resources.specs.steps.Leading.{AreRight, leads_if_wanted, leads_there}
-use Rattle.wit_link_resources.proofs.MetTypes.{right-begun}
+use Rattle.wit_link_resources.proofs.MetTypes.{begins_same, begins_then}
 use Rattle.wit_link_resources.proofs.Where.{conj, disj, target_earlier}
 use Rattle.wit_link_resources.proofs.leading.leading.Goals.{then-at+in_ok-leads, else-at}
 use Rattle.wit_link_resources.proofs.leading.leading.Goals as goal
@@ -25,7 +25,8 @@ leads_there-requires-clause-earlier c = λ u def at names.
 pub loop-place-init : goal.loop-place-init
 loop-place-init c = record {
   leading = c.new-leading.ensures;
-  met = right-begun c.args.adding.now.graph.now.types c.new-met.result c.new-met.ensures;
+  met = c.requires.met;
+  begins = begins_same c.args.met.now;
 }
 
 pub loop-place-preserved : goal.loop-place-preserved
@@ -44,4 +45,25 @@ loop-place-preserved c =
         | then-at+in_ok-leads w ↦ subst (AreRight a.graph.types) (sym w.met-is) w.in_ok-leads.ensures.met
         | else-at w ↦ subst (AreRight a.graph.types) (sym w.met-is) c.loop-place.invariant.met
       ];
+      begins = elim c.if-at.branch [
+        | then-at+in_ok-leads w ↦ subst (λ (es : List (ℕ × Bool)). take (length c.args.met.now) es ≡ c.args.met.now) (sym w.met-is)
+            (begins_then c.args.met.now c.loop-place.met _ c.loop-place.invariant.begins w.in_ok-leads.ensures.begins)
+        | else-at w ↦ subst (λ (es : List (ℕ × Bool)). take (length c.args.met.now) es ≡ c.args.met.now) (sym w.met-is) c.loop-place.invariant.begins
+      ];
     }
+
+pub returns-in_err-push-clause-met : goal.returns-in_err-push-clause-met
+returns-in_err-push-clause-met c =
+    let types = c.args.adding.now.graph.now.types in
+    elim c.if-at.branch [
+      | then-at+in_ok-leads w ↦ subst (AreRight types) (sym w.met-is) w.in_ok-leads.ensures.met
+      | else-at w ↦ subst (AreRight types) (sym w.met-is) c.loop-place.invariant.met
+    ]
+
+pub returns-in_err-push-clause-begins : goal.returns-in_err-push-clause-begins
+returns-in_err-push-clause-begins c =
+    elim c.if-at.branch [
+      | then-at+in_ok-leads w ↦ subst (λ (es : List (ℕ × Bool)). take (length c.args.met.now) es ≡ c.args.met.now) (sym w.met-is)
+          (begins_then c.args.met.now c.loop-place.met _ c.loop-place.invariant.begins w.in_ok-leads.ensures.begins)
+      | else-at w ↦ subst (λ (es : List (ℕ × Bool)). take (length c.args.met.now) es ≡ c.args.met.now) (sym w.met-is) c.loop-place.invariant.begins
+    ]

@@ -1,7 +1,7 @@
 use Rattle.std.proofs.Common.{◌≡◌, ◌∙◌, ◌<◌, false, ℕ, None, Some, List, length, ap, sym, subst, arith}
 use Rattle.std.proofs.lemmas.Bool.{le-ltb, lt-ltb}
 use Rattle.std.proofs.lemmas.Option.{slice_get_within}
-use Rattle.std.proofs.lemmas.Result.{IfOk-weaker, on_ok_weaker}
+use Rattle.std.proofs.lemmas.Result.{IfOk-weaker}
 use Rattle.wit_data.specs.Uses.{alias_target}
 use Rattle.wit_data.specs.declared.types.TypeDef.{TypeDef}
 use Rattle.wit_graph_theory.specs.facts.ListFacts.{same_at}
@@ -44,7 +44,7 @@ returns-then-place-len-clause-leads c =
     c.leads_to_resource.ensures.leads
 
 pub returns-then-place-len-clause-met : goal.returns-then-place-len-clause-met
-returns-then-place-len-clause-met c = on_ok_weaker c.leads_to_resource.result (subst (λ (types : List TypeDef). AreRight types c.leads_to_resource.new.met) c.as_slice.ensures) c.leads_to_resource.ensures.met
+returns-then-place-len-clause-met c = subst (λ (types : List TypeDef). AreRight types c.leads_to_resource.new.met) c.as_slice.ensures c.leads_to_resource.ensures.met
 
 pub at-requires-in-Some-alias_target : goal.at-requires-in-Some-alias_target
 at-requires-in-Some-alias_target c =

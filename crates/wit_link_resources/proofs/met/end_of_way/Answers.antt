@@ -34,7 +34,7 @@ returns-in-Some-get c =
     let met = c.args.met.now in
     let found : lookup (nat_eq c.loop-target.place) met ≡ Some c.in-Some-get.leads.now =
     ap (λ (t : ℕ). lookup (nat_eq t) met) (sym c.from_index.ensures) ∙ (sym c.get.ensures ∙ ap option_copied c.in-Some-get.is) in
-    sym (c.requires.met c.loop-target.place c.in-Some-get.leads.now (Contains-from_lookup eqb-true c.loop-target.place c.in-Some-get.leads.now met found)) ∙ sym c.loop-target.invariant.same
+    sym (c.requires.met c.loop-target.place c.in-Some-get.leads.now (Contains-from_lookup eqb-true c.loop-target.place c.in-Some-get.leads.now met found)).1 ∙ sym c.loop-target.invariant.same
 
 pub returns-in-None : goal.returns-in-None
 returns-in-None c =

@@ -33,14 +33,14 @@ loop-place-preserved c =
       | then-at w ↦
           let on = c.in_ok-wanted.ensures.all t (c.at.ensures ∙ ap (λ (b : Bool). Some b) w.if-at.true) in
           let flag : unwrap_or (slice_get wanted t) false ≡ true = ap (λ (o : Option Bool). unwrap_or o false) on in
-          w.push-is ∙ (range-read (leads_if_wanted a wanted) n t c.in_ok-leading.leading w.at-then-at.result.now c.in_ok-leading.ensures w.at-then-at.ensures
+          w.push-is ∙ (range-read (leads_if_wanted a wanted) n t c.in_ok-leading.leading w.at-then-at.result.now c.in_ok-leading.ensures.leading w.at-then-at.ensures
           ∙ (conj (unwrap_or (slice_get wanted t) false) (leads_there a t) flag ∙ (sym (conj (is_asked a t) (leads_there a t) (sym asked ∙ w.if-at.true)) ∙ needs_is a c.requires.shaped c.requires.image t)))
       | else-at w ↦ w.push-is ∙ (w.if-at.false ∙ (neither (is_asked a t) (leads_there a t) (sym asked ∙ w.if-at.false) ∙ needs_is a c.requires.shaped c.requires.image t))
     ] in
     range-pushed (value_needs_own a) t c.loop-place.needed c.push.new.self c.if-at.push c.loop-place.invariant c.in_ok-push.ensures.ok is
 
-pub returns : goal.returns
-returns c =
+pub returns-clause-needed : goal.returns-clause-needed
+returns-clause-needed c =
     let a : Addition = addition_of c.args.adding.now in
     let n : ℕ = length a.unresolved.types in
     let long = ap length c.in_ok-asked.ensures ∙ length-map-range_with_len (is_asked a) 0 n in

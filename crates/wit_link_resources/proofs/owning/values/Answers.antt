@@ -36,7 +36,7 @@ pub overflow_add-first : goal.overflow_add-first
 overflow_add-first c =
     let a : Addition = addition_of c.args.adding.now in
     let n : ℕ = length a.unresolved.types in
-    let long = ap length c.in_ok-needed.ensures ∙ length-map-range_with_len (value_needs_own a) 0 n in
+    let long = ap length c.in_ok-needed.ensures.needed ∙ length-map-range_with_len (value_needs_own a) 0 n in
     let count = owns_long a c.loop-place.place c.loop-place.owns c.loop-place.invariant.owns in
     let most = rank-most (value_needs_own a) c.loop-place.place in
     let room = c.first_own-first.ensures.room in
@@ -48,9 +48,9 @@ loop-place-preserved c =
     let a : Addition = addition_of c.args.adding.now in
     let n : ℕ = length a.unresolved.types in
     let t : ℕ = c.loop-place.place in
-    let long = ap length c.in_ok-needed.ensures ∙ length-map-range_with_len (value_needs_own a) 0 n in
+    let long = ap length c.in_ok-needed.ensures.needed ∙ length-map-range_with_len (value_needs_own a) 0 n in
     let below : t < n = let first = c.loop-place-test.true in let end = c.len-place-end.ensures in omega arith in
-    let flag : c.at.result.now ≡ value_needs_own a t = range-read (value_needs_own a) n t c.in_ok-needed.needed c.at.result.now c.in_ok-needed.ensures c.at.ensures in
+    let flag : c.at.result.now ≡ value_needs_own a t = range-read (value_needs_own a) n t c.in_ok-needed.needed c.at.result.now c.in_ok-needed.ensures.needed c.at.ensures in
     let id : c.type_place-id.result ≡ remapped_type a t = c.type_place-id.ensures (active_type_id a t) (stands a c.args.places.now t c.requires.places below) in
     let count = owns_long a t c.loop-place.owns c.loop-place.invariant.owns in
     elim c.if-at.branch [
@@ -70,11 +70,11 @@ loop-place-preserved c =
           }
     ]
 
-pub returns : goal.returns
-returns c =
+pub returns-clause-values : goal.returns-clause-values
+returns-clause-values c =
     let a : Addition = addition_of c.args.adding.now in
     let n : ℕ = length a.unresolved.types in
-    let long = ap length c.in_ok-needed.ensures ∙ length-map-range_with_len (value_needs_own a) 0 n in
+    let long = ap length c.in_ok-needed.ensures.needed ∙ length-map-range_with_len (value_needs_own a) 0 n in
     let last : c.loop-place.place ≡ n = let past = c.loop-place-test.false in let within = c.loop-place.auto.place-end in let end = c.len-place-end.ensures in omega arith in
     let places : c.loop-place.value_ids ≡ map (remapped_value a) (range_with_len 0 n) = c.loop-place.invariant.places ∙ ap (λ (m : ℕ). map (remapped_value a) (range_with_len 0 m)) last in
     let owns : c.loop-place.owns ≡ map (own_at a) (filter (value_needs_own a) (range_with_len 0 n)) = c.loop-place.invariant.owns ∙ ap (λ (m : ℕ). map (own_at a) (filter (value_needs_own a) (range_with_len 0 m))) last in

@@ -59,4 +59,13 @@ pub leads_to_resource-requires-clause-met : goal.leads_to_resource-requires-clau
 leads_to_resource-requires-clause-met c = subst (λ (types : List TypeDef). AreRight types c.args.met.now) (sym c.as_slice.ensures) c.requires.met
 
 pub returns-then-leads-clause-met : goal.returns-then-leads-clause-met
-returns-then-leads-clause-met c = subst (λ (types : List TypeDef). AreRight types c.leads_to_resource.new.met) c.as_slice.ensures c.in_ok-leads.ensures.met
+returns-then-leads-clause-met c = subst (λ (types : List TypeDef). AreRight types c.leads_to_resource.new.met) c.as_slice.ensures c.leads_to_resource.ensures.met
+
+pub returns-in_err-leads-clause-met : goal.returns-in_err-leads-clause-met
+returns-in_err-leads-clause-met c = subst (λ (types : List TypeDef). AreRight types c.leads_to_resource.new.met) c.as_slice.ensures c.leads_to_resource.ensures.met
+
+pub returns-in_err-not_a_resource-clause-met : goal.returns-in_err-not_a_resource-clause-met
+returns-in_err-not_a_resource-clause-met c = subst (λ (types : List TypeDef). AreRight types c.leads_to_resource.new.met) c.as_slice.ensures c.leads_to_resource.ensures.met
+
+pub returns-clause-met : goal.returns-clause-met
+returns-clause-met c = subst (λ (types : List TypeDef). AreRight types c.leads_to_resource.new.met) c.as_slice.ensures c.leads_to_resource.ensures.met

@@ -5,7 +5,7 @@ use Rattle.wit_graph_theory.specs.facts.ListFacts.{place_of, same_at}
 use Rattle.wit_link_spec.specs.steps.AdditionRefs.{addition_of}
 use Rattle.wit_link_spec.specs.Gates.{OptionalSpan}
 use Rattle.wit_link_resources.specs.steps.Leading.{LeadsWhereFound}
-use Rattle.wit_link_resources.proofs.MetTypes.{right-begun}
+use Rattle.wit_link_resources.proofs.MetTypes.{begins_same, begins_then}
 use Rattle.wit_link_resources.proofs.required.check_resources.Goals as goal
 
 pub loop-index-preserved : goal.loop-index-preserved
@@ -15,6 +15,7 @@ loop-index-preserved c =
           let same = same_at c.args.adding.now.unresolved.now.required_resource_types c.loop-index.index c.loop-index.index c.at.result.now r refl c.at.ensures at in
           subst (λ (x : ℕ × OptionalSpan). LeadsWhereFound (addition_of c.args.adding.now) x.0) same c.in_ok-check_required.ensures.ok);
       met = c.in_ok-check_required.ensures.met;
+      begins = begins_then c.args.met.now c.loop-index.met _ c.loop-index.invariant.begins c.in_ok-check_required.ensures.begins;
     }
 
 pub returns-clause-resources : goal.returns-clause-resources
@@ -28,7 +29,8 @@ returns-clause-resources c = λ span message is.
 pub loop-index-init : goal.loop-index-init
 loop-index-init c = record {
   fine = below_none _;
-  met = right-begun c.args.adding.now.graph.now.types c.new-met.result c.new-met.ensures;
+  met = c.requires.met;
+  begins = begins_same c.args.met.now;
 }
 
 pub check_required-requires-clause-met : goal.check_required-requires-clause-met

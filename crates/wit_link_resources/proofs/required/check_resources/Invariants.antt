@@ -1,4 +1,4 @@
-use Rattle.std.proofs.Common.{◌≡◌, ◌<◌, ℕ, Some, slice_get}
+use Rattle.std.proofs.Common.{◌≡◌, ◌<◌, ℕ, Some, length, slice_get, take}
 use Rattle.wit_link_spec.specs.steps.AdditionRefs.{addition_of}
 use Rattle.wit_link_spec.specs.Gates.{OptionalSpan}
 use Rattle.wit_link_resources.specs.steps.Leading.{AreRight, LeadsWhereFound}
@@ -9,4 +9,5 @@ abbrev pub invariant-loop-index : goal.invariant-loop-index
 invariant-loop-index l = record {
   fine : (k : ℕ) → k < l.index → (r : ℕ × OptionalSpan) → slice_get l.adding.unresolved.now.required_resource_types k ≡ Some r → LeadsWhereFound (addition_of l.adding) r.0;
   met : AreRight l.adding.graph.now.types l.met;
+  begins : take (length l.fn.met) l.met ≡ l.fn.met;
 }

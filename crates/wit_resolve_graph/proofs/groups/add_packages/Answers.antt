@@ -3,7 +3,7 @@ use Rattle.std.specs.Map.{lookup}
 use Rattle.wit_data.specs.PackageOrder.{same_package}
 use Rattle.wit_graph_data.specs.declared.graph.Graph.{Graph}
 use Rattle.wit_resolve_graph.specs.steps.Grouping.{AreAdded}
-use Rattle.wit_resolve_graph.proofs.KeptRows.{flags_known, kept_cut}
+use Rattle.wit_resolve_graph.proofs.KeptRows.{flags_known, kept_cut, kept_followed}
 use Rattle.std.specs.Option.{option_copied}
 use Rattle.wit_resolve_graph.proofs.Grouped.{are_added, never_none, one_refused, sorted_can}
 use Rattle.wit_resolve_graph.proofs.groups.add_packages.Goals as goal
@@ -31,5 +31,10 @@ follow-requires-clause-known c = flags_known c.args.graph.now c.append_all_with.
 
 pub returns-in_err-follow-clause-kept : goal.returns-in_err-follow-clause-kept
 returns-in_err-follow-clause-kept c =
-    kept_cut c.args.graph.now c.append_all_with.new.graph c.follow.new.graph c.args.kept.now c.follow.new.self c.of-mark.result c.interfaces-rows.result c.append_all_with.new.elaborator c.requires.kept
-    c.append_all_with.ensures.grown c.of-mark.ensures c.interfaces-rows.ensures c.append_all_with.ensures.rows c.in_err-follow.ensures.err
+    kept_cut c.args.graph.now c.append_all_with.new.graph c.follow.new.graph c.args.kept.now c.follow.new.self c.of-mark.result c.interfaces-rows.result c.len-met.result c.append_all_with.new.elaborator c.append_all_with.new.met c.requires.kept
+    c.append_all_with.ensures.grown c.of-mark.ensures c.interfaces-rows.ensures c.append_all_with.ensures.rows c.len-met.ensures.len c.append_all_with.ensures.met_before c.in_err-follow.ensures.err
+
+pub returns-clause-kept : goal.returns-clause-kept
+returns-clause-kept c =
+    kept_followed c.append_all_with.new.graph c.follow.new.graph c.follow.new.self c.append_all_with.new.elaborator c.append_all_with.new.met c.append_all_with.ensures.valid c.append_all_with.ensures.uses
+    c.append_all_with.ensures.met c.in_ok-follow.ensures.ok

@@ -1,4 +1,4 @@
-use Rattle.wit_resolve_graph.proofs.KeptRows.{flags_known, kept_cut}
+use Rattle.wit_resolve_graph.proofs.KeptRows.{flags_known, kept_cut, kept_followed}
 use Rattle.wit_resolve_graph.proofs.kept.append_kept.Goals as goal
 
 pub follow-requires-clause-known : goal.follow-requires-clause-known
@@ -6,5 +6,10 @@ follow-requires-clause-known c = flags_known c.args.graph.now c.append_with.new.
 
 pub returns-in_err-follow-clause-kept : goal.returns-in_err-follow-clause-kept
 returns-in_err-follow-clause-kept c =
-    kept_cut c.args.graph.now c.append_with.new.graph c.follow.new.graph c.args.kept.now c.follow.new.self c.of-mark.result c.interfaces-rows.result c.append_with.new.elaborator c.requires.kept
-    c.append_with.ensures.grown c.of-mark.ensures c.interfaces-rows.ensures c.append_with.ensures.rows c.in_err-follow.ensures.err
+    kept_cut c.args.graph.now c.append_with.new.graph c.follow.new.graph c.args.kept.now c.follow.new.self c.of-mark.result c.interfaces-rows.result c.len-met.result c.append_with.new.elaborator c.append_with.new.met c.requires.kept
+    c.append_with.ensures.grown c.of-mark.ensures c.interfaces-rows.ensures c.append_with.ensures.rows c.len-met.ensures.len c.append_with.ensures.met_before c.in_err-follow.ensures.err
+
+pub returns-clause-kept : goal.returns-clause-kept
+returns-clause-kept c =
+    kept_followed c.append_with.new.graph c.follow.new.graph c.follow.new.self c.append_with.new.elaborator c.append_with.new.met c.append_with.ensures.valid c.append_with.ensures.uses c.append_with.ensures.met
+    c.in_ok-follow.ensures.ok

@@ -1,0 +1,5 @@
+use Rattle.wit_link_resources.proofs.MetTypes.{right-begun}
+use Rattle.wit_link.proofs.several.append_all.Goals as goal
+
+pub append_all_with-requires-clause-met : goal.append_all_with-requires-clause-met
+append_all_with-requires-clause-met c = right-begun c.args.graph.now.types c.new-met.result c.new-met.ensures
