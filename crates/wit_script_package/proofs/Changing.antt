@@ -1,5 +1,5 @@
--- Tables in which a value is changed in place.
-use Rattle.std.proofs.Common.{◌≡◌, ℕ, ◌+◌, one-add, Bool, true, false, cond, not, List, [], ◌∷◌, ◌++◌, length, Option, None, Some, is_some, nat_lt, position, String, string_bytes, refl, sym, ap, ◌∙◌, Result, Ok, Err, IfOk}
+-- Lists and tables in which a value is changed in place.
+use Rattle.std.proofs.Common.{◌≡◌, ℕ, ◌+◌, zero, suc, one-add, Bool, true, false, cond, not, List, [], ◌∷◌, ◌++◌, length, Option, None, Some, is_some, nat_lt, position, slice_get, slice_set, String, string_bytes, refl, sym, ap, ◌∙◌, Result, Ok, Err, IfOk}
 use Rattle.std.specs.declared.alloc.Global.{Global}
 use Rattle.std.specs.List.{position_or_len}
 use Rattle.std.specs.Map.{keys_of, lookup}
@@ -7,6 +7,14 @@ use Rattle.std.specs.Str.{bytes_eq}
 use Rattle.indexmap.specs.IndexMap.{set_value_at}
 use Rattle.wit_values.specs.Names.{named}
 use Rattle.wit_script_package.specs.steps.Mentioning.{changed_at, with_key, with_value}
+use Rattle.wit_script_package.proofs.Steps.{same-some}
+
+module _ {X : Type 0} where
+  -- what stands in a list, put there again
+  pub set-same : (xs : List X) (i : ℕ) (x : X) → slice_get xs i ≡ Some x → slice_set xs i x ≡ xs
+  set-same [] i x at = cc
+  set-same (y ∷ ys) zero x at = ap (λ (z : X). z ∷ ys) (sym (same-some y x at))
+  set-same (y ∷ ys) (suc i) x at = ap (λ (l : List X). y ∷ l) (set-same ys i x at)
 
 -- an index is the place
 index-place : {K : Type 0} (test : K → Bool) (ks : List K) (i : ℕ) → position test ks ≡ Some i → position_or_len test ks ≡ i

@@ -205,7 +205,7 @@ impl Draft {
         draft.into_closed_group(alloc)
     }
 
-    /// The same, where nothing more comes into what lines went into.
+    /// The same of a package whose last interface or world is closed.
     fn into_closed_group(self, alloc: Global) -> Result<UnresolvedPackageGroup, LineFault>
         ensures { IsRead (as_group self) result }
     {
