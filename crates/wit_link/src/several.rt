@@ -36,14 +36,7 @@ pub fn append_all(
     let types = graph.types.as_slice();
     let mut elaborator = Elaborator::new(alloc, types, graph.interfaces.as_slice())?;
     let mut met = Table::new(alloc);
-    append_all_with(
-        alloc,
-        graph,
-        &mut elaborator,
-        &mut met,
-        features,
-        packages,
-    )
+    append_all_with(alloc, graph, &mut elaborator, &mut met, features, packages)
 }
 
 /// As `append_all`, with an elaborator of the graph, which becomes one of the new graph, and with types of the graph

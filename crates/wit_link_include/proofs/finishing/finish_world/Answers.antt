@@ -11,4 +11,4 @@ returns-clause-ok c = search rules
 pub returns-clause-fine : goal.returns-clause-fine
 returns-clause-fine c =
     can_finish c.args.graph.now c.args.world c.in_ok-check_labels.ensures.fine
-    (subst (λ (w : World). HasConflict (graph_uses c.args.graph.now) w.exports → ⊥) c.in_ok-world.ensures c.in_ok-lists.ensures.no_conflict)
+    (subst (λ (w : World). HasConflict (graph_uses c.args.graph.now) w.exports → ⊥) c.in_ok-world.ensures c.in_ok-world-2.ensures.no_conflict)
