@@ -7,6 +7,8 @@
 #![tactic(auto)]
 
 #[cfg(test)]
+mod appending;
+#[cfg(test)]
 mod bare;
 #[cfg(test)]
 mod calls;

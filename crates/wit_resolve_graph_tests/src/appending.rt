@@ -1,0 +1,214 @@
+//! Packages that are added to a bare graph with an elaborator of it, which then is one of the new graph: what each call
+//! answers, and the whole graph behind it.
+ghost use Rattle.std.specs.Prelude.{◌≡◌};
+ghost use Rattle.wit_elaboration.specs.Elaboration.{graph_uses};
+ghost use Rattle.wit_elaboration.specs.Valid.{IsValid};
+
+use crate::parts::assert_text;
+use crate::scripts::{group, pushed};
+use crate::shown::shown;
+use crate::told::write_refusal;
+use std::alloc::{AllocError, Global};
+use std::fmt::Write;
+use std::process::Abort;
+use wit_data::{Items, PackageId, TryClone};
+use wit_elaboration::Elaborator;
+use wit_graph_data::{Features, Graph, ResolveResult};
+use wit_link::{append_all_with, append_with};
+use wit_resolve_graph::Shape;
+use wit_validity::is_valid;
+
+/// What is there: interface 1 uses interface 0.
+const FIRST: &str = "package foo:first\n\
+    interface a\n\
+    type t u32\n\
+    interface b\n\
+    use a t\n\
+    push\n";
+
+/// Interface 2 uses interface 1, and the world imports all three.
+const MAIN: &str = "package foo:main\n\
+    interface c\n\
+    use foo:first/b t\n\
+    world w\n\
+    import c\n";
+
+/// A second world that exports what it would need from outside.
+const REFUSED: &str = "package foo:refused\n\
+    interface d\n\
+    type t u32\n\
+    interface e\n\
+    use d t\n\
+    interface f\n\
+    use d t\n\
+    use e t t2\n\
+    world v\n\
+    import f\n\
+    world w\n\
+    export d\n\
+    export f\n";
+
+/// Interface 3 uses interface 2, and the world exports it.
+const LAST: &str = "package foo:last\n\
+    interface g\n\
+    use foo:main/c t\n\
+    world w\n\
+    export g\n";
+
+/// The graph of the three packages.
+const GRAPH: &str = "package 0 foo:first\n\
+    \x20 interface a 0\n\
+    \x20 interface b 1\n\
+    package 1 foo:main\n\
+    \x20 interface c 2\n\
+    \x20 world w 0\n\
+    package 2 foo:last\n\
+    \x20 interface g 3\n\
+    \x20 world w 1\n\
+    named foo:first 0\n\
+    named foo:main 1\n\
+    named foo:last 2\n\
+    interface 0 a of package 0 at 18-29\n\
+    \x20 type t 0\n\
+    interface 1 b of package 0 at 41-52\n\
+    \x20 type t 1\n\
+    interface 2 c of package 1 at 117-128\n\
+    \x20 type t 2\n\
+    interface 3 g of package 2 at 317-328\n\
+    \x20 type t 3\n\
+    world 0 w of package 1 at 147-154 includes 0\n\
+    \x20 import 0: interface 0\n\
+    \x20 import 1: interface 1\n\
+    \x20 import 2: interface 2\n\
+    world 1 w of package 2 at 346-353 includes 0\n\
+    \x20 import 0: interface 0\n\
+    \x20 import 1: interface 1\n\
+    \x20 import 2: interface 2\n\
+    \x20 export 3: interface 3 at 354-362\n\
+    type #0 t of interface 0: alias u32 at 30-40\n\
+    type #1 t of interface 1: alias #0 at 53-60\n\
+    type #2 t of interface 2: alias #1 at 129-146\n\
+    type #3 t of interface 3: alias #2 at 329-345\n";
+
+/// A graph of the first package.
+fn first(rt: &impl Abort, alloc: Global) -> Graph {
+    let resolve = pushed(rt, alloc, FIRST);
+    resolve.graph().try_clone().expect(rt, "memory")
+}
+
+/// Adds the package that these lines write, its spans moved so far, and writes its id or how it is refused.
+fn add(
+    rt: &impl Abort,
+    alloc: Global,
+    graph: &mut Graph,
+    elaborator: &mut Elaborator,
+    text: &str,
+    offset: u32,
+) -> String
+    requires valid { IsValid graph.old }
+    requires uses { elaborator.old ≡ graph_uses graph.old }
+    ensures valid { IsValid graph.new }
+    ensures uses { elaborator.new ≡ graph_uses graph.new }
+{
+    let package = group(rt, alloc, text).main;
+    assert!(rt; package.is_shaped(alloc).expect(rt, "memory"));
+    let features = Features::new(alloc);
+    let added = append_with(alloc, graph, elaborator, &features, package, offset);
+    told_id(rt, alloc, added)
+}
+
+fn told_id(rt: &impl Abort, alloc: Global, added: ResolveResult<PackageId>) -> String {
+    let mut out = String::new(alloc);
+    match added {
+        Ok(id) => write!(out, "package {}", id.index()),
+        Err(refusal) => write_refusal(&mut out, &refusal),
+    }
+    .expect(rt, "memory");
+    out
+}
+
+/// One package after another; the second is refused when the graph and the elaborator have grown. In the end the graph
+/// has the others.
+fn one_by_one(rt: &impl Abort, alloc: Global) -> String {
+    let mut graph = first(rt, alloc);
+    assert!(rt; is_valid(alloc, &graph).expect(rt, "memory"));
+    let types = graph.types.as_slice();
+    let elaborator = Elaborator::new(alloc, types, graph.interfaces.as_slice());
+    let mut elaborator = elaborator.expect(rt, "memory");
+    let main = add(rt, alloc, &mut graph, &mut elaborator, MAIN, 100);
+    let refused = add(rt, alloc, &mut graph, &mut elaborator, REFUSED, 300);
+    let last = add(rt, alloc, &mut graph, &mut elaborator, LAST, 300);
+    assert_text(rt, shown(rt, alloc, &graph), GRAPH);
+    format!(in alloc; "{main}, {refused}, {last}").expect(rt, "memory")
+}
+
+/// Adds the main package, its spans moved by 100, and another, its spans moved by 300, and writes their ids or how one
+/// of them is refused.
+fn add_two(
+    rt: &impl Abort,
+    alloc: Global,
+    graph: &mut Graph,
+    elaborator: &mut Elaborator,
+    text: &str,
+) -> String
+    requires valid { IsValid graph.old }
+    requires uses { elaborator.old ≡ graph_uses graph.old }
+    ensures valid { IsValid graph.new }
+    ensures uses { elaborator.new ≡ graph_uses graph.new }
+{
+    let (main, other) = (group(rt, alloc, MAIN).main, group(rt, alloc, text).main);
+    assert!(rt; main.is_shaped(alloc).expect(rt, "memory"));
+    assert!(rt; other.is_shaped(alloc).expect(rt, "memory"));
+    let mut packages = Items::new(alloc);
+    packages.push((main, 100)).expect(rt, "memory");
+    packages.push((other, 300)).expect(rt, "memory");
+    let features = Features::new(alloc);
+    let added = append_all_with(alloc, graph, elaborator, &features, packages);
+    told_ids(rt, alloc, added)
+}
+
+fn told_ids(rt: &impl Abort, alloc: Global, added: ResolveResult<Items<PackageId>>) -> String {
+    let mut out = String::new(alloc);
+    match added {
+        Ok(ids) => write_ids(&mut out, ids.as_slice()),
+        Err(refusal) => write_refusal(&mut out, &refusal),
+    }
+    .expect(rt, "memory");
+    out
+}
+
+fn write_ids(out: &mut String, ids: &[PackageId]) -> Result<(), AllocError> {
+    out.push_str("packages")?;
+    for id in ids {
+        write!(out, " {}", id.index())?;
+    }
+    Ok(())
+}
+
+/// Two packages at once, of which the second is refused, so that none is added, and then two. In the end the graph has
+/// these.
+fn two_at_once(rt: &impl Abort, alloc: Global) -> String {
+    let mut graph = first(rt, alloc);
+    assert!(rt; is_valid(alloc, &graph).expect(rt, "memory"));
+    let types = graph.types.as_slice();
+    let elaborator = Elaborator::new(alloc, types, graph.interfaces.as_slice());
+    let mut elaborator = elaborator.expect(rt, "memory");
+    let refused = add_two(rt, alloc, &mut graph, &mut elaborator, REFUSED);
+    let two = add_two(rt, alloc, &mut graph, &mut elaborator, LAST);
+    assert_text(rt, shown(rt, alloc, &graph), GRAPH);
+    format!(in alloc; "{refused}, {two}").expect(rt, "memory")
+}
+
+#[test]
+fn an_elaborator_goes_with_its_graph(rt: HostRuntime) {
+    assert_text(
+        &rt,
+        one_by_one(&rt, rt.alloc()),
+        "package 1, 4 at 411-418 name foo:refused/f, package 2",
+    );
+    assert_text(
+        &rt,
+        two_at_once(&rt, rt.alloc()),
+        "4 at 411-418 name foo:refused/f, packages 1 2",
+    );
+}
