@@ -1,8 +1,9 @@
-//! Packages that are added to a bare graph with an elaborator of it, which then is one of the new graph: what each call
-//! answers, and the whole graph behind it.
+//! Packages that are added to a bare graph with an elaborator of it and with what is known of its types, which then are
+//! those of the new graph: what each call answers, and the whole graph behind it.
 ghost use Rattle.std.specs.Prelude.{◌≡◌};
 ghost use Rattle.wit_elaboration.specs.Elaboration.{graph_uses};
 ghost use Rattle.wit_elaboration.specs.Valid.{IsValid};
+ghost use Rattle.wit_link.specs.Appending.{KnowsLeads};
 
 use crate::parts::assert_text;
 use crate::scripts::{group, pushed};
@@ -11,7 +12,7 @@ use crate::told::write_refusal;
 use std::alloc::{AllocError, Global};
 use std::fmt::Write;
 use std::process::Abort;
-use wit_data::{Items, PackageId, TryClone};
+use wit_data::{Items, PackageId, Table, TryClone, TypeId};
 use wit_elaboration::Elaborator;
 use wit_graph_data::{Features, Graph, ResolveResult};
 use wit_link::{append_all_with, append_with};
@@ -102,18 +103,21 @@ fn add(
     alloc: Global,
     graph: &mut Graph,
     elaborator: &mut Elaborator,
+    met: &mut Table<TypeId, bool>,
     text: &str,
     offset: u32,
 ) -> String
     requires valid { IsValid graph.old }
     requires uses { elaborator.old ≡ graph_uses graph.old }
+    requires met { KnowsLeads graph.old.types met.old }
+    ensures met { KnowsLeads graph.new.types met.new }
     ensures valid { IsValid graph.new }
     ensures uses { elaborator.new ≡ graph_uses graph.new }
 {
     let package = group(rt, alloc, text).main;
     assert!(rt; package.is_shaped(alloc).expect(rt, "memory"));
     let features = Features::new(alloc);
-    let added = append_with(alloc, graph, elaborator, &features, package, offset);
+    let added = append_with(alloc, graph, elaborator, met, &features, package, offset);
     told_id(rt, alloc, added)
 }
 
@@ -135,9 +139,18 @@ fn one_by_one(rt: &impl Abort, alloc: Global) -> String {
     let types = graph.types.as_slice();
     let elaborator = Elaborator::new(alloc, types, graph.interfaces.as_slice());
     let mut elaborator = elaborator.expect(rt, "memory");
-    let main = add(rt, alloc, &mut graph, &mut elaborator, MAIN, 100);
-    let refused = add(rt, alloc, &mut graph, &mut elaborator, REFUSED, 300);
-    let last = add(rt, alloc, &mut graph, &mut elaborator, LAST, 300);
+    let mut met = Table::new(alloc);
+    let main = add(rt, alloc, &mut graph, &mut elaborator, &mut met, MAIN, 100);
+    let refused = add(
+        rt,
+        alloc,
+        &mut graph,
+        &mut elaborator,
+        &mut met,
+        REFUSED,
+        300,
+    );
+    let last = add(rt, alloc, &mut graph, &mut elaborator, &mut met, LAST, 300);
     assert_text(rt, shown(rt, alloc, &graph), GRAPH);
     format!(in alloc; "{main}, {refused}, {last}").expect(rt, "memory")
 }
@@ -149,10 +162,13 @@ fn add_two(
     alloc: Global,
     graph: &mut Graph,
     elaborator: &mut Elaborator,
+    met: &mut Table<TypeId, bool>,
     text: &str,
 ) -> String
     requires valid { IsValid graph.old }
     requires uses { elaborator.old ≡ graph_uses graph.old }
+    requires met { KnowsLeads graph.old.types met.old }
+    ensures met { KnowsLeads graph.new.types met.new }
     ensures valid { IsValid graph.new }
     ensures uses { elaborator.new ≡ graph_uses graph.new }
 {
@@ -163,7 +179,7 @@ fn add_two(
     packages.push((main, 100)).expect(rt, "memory");
     packages.push((other, 300)).expect(rt, "memory");
     let features = Features::new(alloc);
-    let added = append_all_with(alloc, graph, elaborator, &features, packages);
+    let added = append_all_with(alloc, graph, elaborator, met, &features, packages);
     told_ids(rt, alloc, added)
 }
 
@@ -193,8 +209,9 @@ fn two_at_once(rt: &impl Abort, alloc: Global) -> String {
     let types = graph.types.as_slice();
     let elaborator = Elaborator::new(alloc, types, graph.interfaces.as_slice());
     let mut elaborator = elaborator.expect(rt, "memory");
-    let refused = add_two(rt, alloc, &mut graph, &mut elaborator, REFUSED);
-    let two = add_two(rt, alloc, &mut graph, &mut elaborator, LAST);
+    let mut met = Table::new(alloc);
+    let refused = add_two(rt, alloc, &mut graph, &mut elaborator, &mut met, REFUSED);
+    let two = add_two(rt, alloc, &mut graph, &mut elaborator, &mut met, LAST);
     assert_text(rt, shown(rt, alloc, &graph), GRAPH);
     format!(in alloc; "{refused}, {two}").expect(rt, "memory")
 }
