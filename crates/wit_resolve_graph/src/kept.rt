@@ -42,7 +42,6 @@ impl Kept {
     }
 
     /// What is kept beside a graph. It goes over all types of the graph.
-    #[tactic(auto, using(crate::proofs::KeptRows::none_met))]
     pub(crate) fn of(alloc: Global, graph: &Graph) -> Result<Kept, AllocError>
         requires { IsValid graph.now }
         ensures { IfOk result (AreKept graph.now) }
@@ -51,9 +50,10 @@ impl Kept {
         let elaborator = Elaborator::new(alloc, types, graph.interfaces.as_slice())?;
         let mut valid_bits = Items::new(alloc);
         add_valid_bits(alloc, &mut valid_bits, types)?;
+        let met = Table::new(alloc);
         Ok(Kept {
             elaborator,
-            met: Table::new(alloc),
+            met,
             valid_bits,
         })
     }

@@ -2,6 +2,7 @@ use Rattle.std.proofs.Common.{◌∙◌, ap, subst, sym}
 use Rattle.std.specs.Map.{lookup}
 use Rattle.wit_data.specs.PackageOrder.{same_package}
 use Rattle.wit_graph_data.specs.declared.graph.Graph.{Graph}
+use Rattle.wit_queries.specs.ValidBits.{AreValidBitsOf}
 use Rattle.wit_resolve_graph.specs.steps.Grouping.{AreAdded}
 use Rattle.wit_resolve_graph.proofs.KeptRows.{flags_known, kept_cut, kept_followed}
 use Rattle.std.specs.Option.{option_copied}
@@ -38,3 +39,11 @@ pub returns-clause-kept : goal.returns-clause-kept
 returns-clause-kept c =
     kept_followed c.append_all_with.new.graph c.follow.new.graph c.follow.new.self c.append_all_with.new.elaborator c.append_all_with.new.met c.append_all_with.ensures.valid c.append_all_with.ensures.uses
     c.append_all_with.ensures.met c.in_ok-follow.ensures.ok
+
+pub returns-in_err-append_all_with-clause-kept : goal.returns-in_err-append_all_with-clause-kept
+returns-in_err-append_all_with-clause-kept c = record {
+  valid = c.append_all_with.ensures.valid;
+  uses = c.append_all_with.ensures.uses;
+  met = c.append_all_with.ensures.met;
+  bits = subst (λ (g : Graph). AreValidBitsOf g.types c.args.kept.now.valid_bits) (sym c.in_err-append_all_with.ensures.err) c.requires.kept.bits;
+}

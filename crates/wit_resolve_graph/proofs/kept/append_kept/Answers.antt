@@ -1,3 +1,6 @@
+use Rattle.std.proofs.Common.{subst, sym}
+use Rattle.wit_graph_data.specs.declared.graph.Graph.{Graph}
+use Rattle.wit_queries.specs.ValidBits.{AreValidBitsOf}
 use Rattle.wit_resolve_graph.proofs.KeptRows.{flags_known, kept_cut, kept_followed}
 use Rattle.wit_resolve_graph.proofs.kept.append_kept.Goals as goal
 
@@ -13,3 +16,11 @@ pub returns-clause-kept : goal.returns-clause-kept
 returns-clause-kept c =
     kept_followed c.append_with.new.graph c.follow.new.graph c.follow.new.self c.append_with.new.elaborator c.append_with.new.met c.append_with.ensures.valid c.append_with.ensures.uses c.append_with.ensures.met
     c.in_ok-follow.ensures.ok
+
+pub returns-in_err-id-clause-kept : goal.returns-in_err-id-clause-kept
+returns-in_err-id-clause-kept c = record {
+  valid = c.append_with.ensures.valid;
+  uses = c.append_with.ensures.uses;
+  met = c.append_with.ensures.met;
+  bits = subst (λ (g : Graph). AreValidBitsOf g.types c.args.kept.now.valid_bits) (sym c.in_err-id.ensures.err) c.requires.kept.bits;
+}
