@@ -35,11 +35,10 @@ pub fn lines<'a>(alloc: Global, text: &'a str) -> Result<Vec<&'a str>, AllocErro
 pub fn tokens<'a>(alloc: Global, line: &'a str) -> Result<Vec<&'a str>, AllocError>
     ensures { IfOk result (λ v. map (λ x. x.now) v.items ≡ tokens_of line.now) }
 {
-    let parts = parts_between(alloc, line, ' ')?;
     let mut found = Vec::new(alloc);
-    for part in &parts {
+    for part in line.split(' ') {
         if !part.is_empty() {
-            found.push(*part)?;
+            found.push(part)?;
         }
     }
     Ok(found)
