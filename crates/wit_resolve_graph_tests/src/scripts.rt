@@ -32,14 +32,12 @@ fn begun(rt: &impl Abort, alloc: Global, first: &str, lines: &[&str]) -> Draft {
     Draft::begin(alloc, name, first, mentions).expect(rt, "a package")
 }
 
-/// A package with one more line.
-fn with_line(rt: &impl Abort, alloc: Global, draft: Draft, line: &str) -> Draft {
+/// Adds one more line of a package.
+fn add_line(rt: &impl Abort, alloc: Global, draft: &mut Draft, line: &str) {
     let Some(Statement::Line { said, gate }) = read_line(alloc, line).expect(rt, "a line") else {
         panic!(rt; "no line of a package");
     };
-    draft
-        .with_line(alloc, said, gate, line)
-        .expect(rt, "a line")
+    draft.add_line(alloc, said, gate, line).expect(rt, "a line");
 }
 
 /// The group of a package that these lines write.
@@ -48,7 +46,7 @@ pub fn group(rt: &impl Abort, alloc: Global, text: &str) -> UnresolvedPackageGro
     let (first, others) = lines.split_first().expect(rt, "a line");
     let mut draft = begun(rt, alloc, first, others);
     for line in others {
-        draft = with_line(rt, alloc, draft, line);
+        add_line(rt, alloc, &mut draft, line);
     }
     draft.into_group(alloc).expect(rt, "a group")
 }

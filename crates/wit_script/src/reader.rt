@@ -144,12 +144,10 @@ impl Reading {
         ensures next { IsReadingResult (with_package_line self.old said gate line.now) result self.new }
         ensures commands { self.new.commands ≡ self.old.commands }
     {
-        let Some(package) = self.current.take() else {
-            return Err(LineFault::NotUnderstood);
-        };
-        let package = package.with_line(alloc, said, gate, line)?;
-        self.current = Some(package);
-        Ok(())
+        match &mut self.current {
+            Some(package) => package.add_line(alloc, said, gate, line),
+            None => Err(LineFault::NotUnderstood),
+        }
     }
 
     /// Ends the packages since the last command, and adds the command that pushes them, the first being

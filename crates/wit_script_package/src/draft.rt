@@ -1,6 +1,6 @@
 //! A package of which some lines are read.
-ghost use Rattle.std.specs.Option.{option_map};
-ghost use Rattle.std.specs.Prelude.{◌≡◌, ◌++◌, [], length, IfOk};
+ghost use Rattle.std.specs.Prelude.{◌≡◌, ◌++◌, [], length, IfOk, OnOk};
+ghost use Rattle.wit_script_package.specs.steps.DraftResult.{DraftResult};
 ghost use Rattle.wit_script_package.specs.Draft.{as_group, new_draft, new_draft_at, one_file, span_after, with_newline, with_text};
 ghost use Rattle.wit_script_package.specs.Lines.{with_line};
 ghost use Rattle.wit_script_lines.specs.steps.ReadResult.{IsRead};
@@ -167,32 +167,32 @@ impl Draft {
         })
     }
 
-    /// The package with one more line of it, which says this and has this gate. Not understood where
-    /// the line can't be added, as `add` says, or doesn't fit into the file, as `span_of` says. Else
-    /// only want of memory is an error.
-    pub fn with_line(
-        self,
+    /// Adds one more line of the package, which says this and has this gate. Not understood where the
+    /// line can't be added, as `add` says, or doesn't fit into the file, as `span_of` says. Else only
+    /// want of memory is an error. After a fault nothing is told of the package.
+    pub fn add_line(
+        &mut self,
         alloc: Global,
         said: PackageLine,
         gate: Stability,
         line: &str,
-    ) -> Result<Draft, LineFault>
-        ensures { IsRead (with_line self said gate line.now) result }
+    ) -> Result<(), LineFault>
+        ensures { DraftResult (with_line self.old said gate line.now) result self.new }
     {
-        let (mut draft, span) = self.with_text(alloc, line)?;
-        draft.add(alloc, said, &LineContext { gate, span })?;
-        Ok(draft)
+        let span = self.add_text(alloc, line)?;
+        self.add(alloc, said, &LineContext { gate, span })
     }
 
-    /// The package with the text of one more line in its file, and where the line stands there.
-    fn with_text(self, alloc: Global, line: &str) -> Result<(Draft, Span), LineFault>
-        ensures { IsRead (option_map (λ span. (with_text self line.now, span)) (span_after (length self.contents) line.now)) result }
+    /// Adds the text of one more line to the file of the package, and answers where the line stands
+    /// there.
+    fn add_text(&mut self, alloc: Global, line: &str) -> Result<Span, LineFault>
+        ensures span { IsRead (span_after (length self.old.contents) line.now) result }
+        ensures text { OnOk result (self.new ≡ with_text self.old line.now) }
     {
-        let mut draft = self;
-        let span = span_of(draft.contents.len(), line)?;
-        let contents = mem::replace(&mut draft.contents, Text::new(alloc));
-        draft.contents = with_newline(contents, line)?;
-        Ok((draft, span))
+        let span = span_of(self.contents.len(), line)?;
+        let contents = mem::replace(&mut self.contents, Text::new(alloc));
+        self.contents = with_newline(contents, line)?;
+        Ok(span)
     }
 
     /// The package as a group of its own, with its file, whose path is the package's name. Not
