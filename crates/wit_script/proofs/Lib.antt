@@ -1,6 +1,7 @@
 pub mod Answered
 pub mod Known
 pub mod OneOutcome
+pub mod Past
 pub mod Pieces
 pub mod Pushed
 pub mod Scripts

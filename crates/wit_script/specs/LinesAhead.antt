@@ -25,13 +25,20 @@ mentions_by at line after (says.Line said gate) = mentions_at_line said gate (at
 mentions_by at line after says.Push = []
 mentions_by at line after (says.Request asked) = []
 
+-- what the lines after one mention that itself mentions nothing, where it fits into the file
+abbrev pub mentions_past : ℕ → (ℕ → List Mention) → Option OptionalSpan → List Mention
+mentions_past next after None = []
+mentions_past next after (Some span) = after next
+
+-- a line that isn't understood is passed over: it mentions nothing, and those behind it are looked at. (What these mention
+-- changes no answer: the script isn't understood at that line at the latest)
 abbrev pub mentions_with : ℕ → List ℕ → (ℕ → List Mention) → Option (Option Statement) → List Mention
-mentions_with at line after None = []
+mentions_with at line after None = mentions_past (at + length line + 1) after (span_after at line)
 mentions_with at line after (Some None) = after at
 mentions_with at line after (Some (Some said)) = mentions_by at line after said
 
--- what lines mention up to the end of the package, or to the first that isn't understood or doesn't fit into its file, which
--- has so many bytes before them
+-- what lines mention up to the end of the package, or to the first that doesn't fit into its file, which has so many bytes
+-- before them
 abbrev pub mentions_ahead : ℕ → List (List ℕ) → List Mention
 mentions_ahead at [] = []
 mentions_ahead at (line ∷ lines) = mentions_with at line (λ after. mentions_ahead after lines) (statement_of line)

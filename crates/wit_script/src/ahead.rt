@@ -1,26 +1,27 @@
 //! What the lines of a package mention of other packages, looked at ahead.
 ghost use Rattle.std.specs.Option.{option_to_list};
-ghost use Rattle.std.specs.Prelude.{◌≡◌, ◌++◌, List, ℕ, map, IfOk, OnOk};
+ghost use Rattle.std.specs.Prelude.{◌≡◌, ◌+◌, ◌++◌, List, ℕ, length, map, IfOk, OnOk};
 ghost use Rattle.wit_script_package.specs.declared.mention.Mention.{Mention};
 ghost use Rattle.wit_script_lines.specs.Statement.{statement_of};
 ghost use Rattle.wit_script_lines.specs.declared.fault.LineFault.TheVariants.{NotUnderstood};
 ghost use Rattle.wit_script_lines.specs.declared.statement.Statement.TheVariants as says;
-ghost use Rattle.wit_script.specs.LinesAhead.{mentions_ahead, mentions_by, mentions_then, mentions_with};
+ghost use Rattle.wit_script.specs.LinesAhead.{mentions_ahead, mentions_by, mentions_past, mentions_then, mentions_with};
+ghost use Rattle.wit_script_package.specs.Draft.{span_after};
 ghost use Rattle.wit_script.specs.declared.ahead.Ahead.TheVariants as comes;
 
 use std::alloc::{AllocError, Global};
 use wit_data::{Items, Stability};
 use wit_script_lines::{LineFault, PackageLine, Statement, read_line};
-use wit_script_package::{Mention, mention_of, span_of};
+use wit_script_package::{Mention, mention_of, mentions_nothing, span_of};
 
 /// What a line ahead is.
 #[derive(Drop)]
 pub enum Ahead {
-    /// The package ends before it, or the script isn't understood there.
+    /// The package ends before it, or it doesn't fit into the package's file.
     End,
     /// It says nothing.
     Silent,
-    /// It is a line of the package, whose file then has so many bytes.
+    /// It is a line of the package, or isn't understood; behind it the file has so many bytes.
     Line {
         mention: Option<Mention>,
         next: usize,
@@ -67,14 +68,36 @@ fn statement_ahead(at: usize, line: &str, said: Statement) -> Result<Ahead, Allo
     }
 }
 
-/// What a line ahead is, where the file of the package has so many bytes before it.
+/// A line that mentions nothing, or isn't understood, where the file of the package has so many bytes
+/// before it.
+fn pass_over(at: usize, line: &str) -> Result<Ahead, AllocError>
+    ensures { IfOk result (λ ahead. (after : ℕ → List Mention) → mentions_then ahead at after ≡ mentions_past (at + length line.now + 1) after (span_after at line.now)) }
+{
+    match span_of(at, line) {
+        Ok(_) => {
+            let next = at + line.len() + 1;
+            Ok(Ahead::Line {
+                mention: None,
+                next,
+            })
+        }
+        Err(fault) => ended(fault),
+    }
+}
+
+/// What a line ahead is, where the file of the package has so many bytes before it. It is read only where
+/// it may mention something of another package, or end the package.
 fn look_ahead(alloc: Global, at: usize, line: &str) -> Result<Ahead, AllocError>
     ensures { IfOk result (λ next. (after : ℕ → List Mention) → mentions_then next at after ≡ mentions_with at line.now after (statement_of line.now)) }
 {
+    if mentions_nothing(line) {
+        return pass_over(at, line);
+    }
     match read_line(alloc, line) {
         Ok(Some(said)) => statement_ahead(at, line, said),
         Ok(None) => Ok(Ahead::Silent),
-        Err(fault) => ended(fault),
+        Err(LineFault::NotUnderstood) => pass_over(at, line),
+        Err(LineFault::OutOfMemory) => Err(AllocError),
     }
 }
 
@@ -88,8 +111,9 @@ fn push_some(mentions: &mut Items<Mention>, mention: Option<Mention>) -> Result<
     }
 }
 
-/// What lines mention up to the end of the package, or to the first that isn't understood or doesn't
-/// fit into its file, where the file has so many bytes before them. The only error is want of memory.
+/// What lines mention up to the end of the package, or to the first that doesn't fit into its file,
+/// where the file has so many bytes before them. A line that isn't understood is passed over. The only
+/// error is want of memory.
 pub fn mentions_ahead(
     alloc: Global,
     file_len: usize,

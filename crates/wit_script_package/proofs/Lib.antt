@@ -1,8 +1,10 @@
 pub mod Changing
 pub mod Entries
+pub mod FirstToken
 pub mod Firsts
 pub mod Keys
 pub mod Mentions
+pub mod NoMention
 pub mod Same
 pub mod Steps
 pub mod Tables

@@ -11,4 +11,4 @@ mod naming;
 mod role;
 
 pub use crate::draft::{Draft, Foreign, LineContext, Scope, span_of};
-pub use crate::mention::{Mention, MentionKind, mention_of};
+pub use crate::mention::{Mention, MentionKind, mention_of, mentions_nothing};

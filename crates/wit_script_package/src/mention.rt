@@ -1,7 +1,10 @@
 //! What a line of a package mentions of other packages.
-ghost use Rattle.std.specs.Option.{option_to_list};
-ghost use Rattle.std.specs.Prelude.{◌≡◌};
-ghost use Rattle.wit_script_package.specs.Mention.{mentions_of, path_mention};
+ghost use Rattle.std.specs.Option.{option_copied, option_to_list};
+ghost use Rattle.std.specs.List.{list_any};
+ghost use Rattle.std.specs.Prelude.{◌≡◌, ◌==◌, ◌||◌, ◌&&◌, not, slice_get, IsTrue};
+ghost use Rattle.wit_script_lines.specs.Line.{tokens_of};
+ghost use Rattle.wit_script_lines.specs.Statement.{statement_of};
+ghost use Rattle.wit_script_package.specs.Mention.{MentionsNothing, mentions_of, path_mention, takes_no_path, takes_path};
 ghost use Rattle.wit_script_package.specs.steps.Mentioning.{fits};
 
 use wit_data::{AstItem, PackageName, ParsedUsePath, Span, Stability, Text};
@@ -74,5 +77,66 @@ pub fn mention_of(said: PackageLine, gate: Stability, span: Span) -> Option<Ment
         PackageLine::Export { path, .. } => path_mention(path, MentionKind::Interface, gate, span),
         PackageLine::Include { path, .. } => path_mention(path, MentionKind::World, gate, span),
         _ => None,
+    }
+}
+
+/// Whether it is known before a line is read that it mentions nothing of another package and is a line
+/// of its package, where it is understood: its first token is one of lines without a path, or one of
+/// lines with a path and it has no `:`. Where the answer is false, reading the line tells.
+pub fn mentions_nothing(line: &str) -> bool
+    ensures { IsTrue result → MentionsNothing (statement_of line.now) }
+{
+    match first_token(line) {
+        Some(word) => has_no_foreign_path(word, line),
+        None => false,
+    }
+}
+
+/// The first token of a line, or None where it has none.
+fn first_token(line: &str) -> Option<&str>
+    ensures { option_copied result ≡ slice_get (tokens_of line.now) 0 }
+{
+    for part in line.split(' ') {
+        if !part.is_empty() {
+            return Some(part);
+        }
+    }
+    None
+}
+
+/// Whether a line with this first token has no path, or none with a `:`.
+fn has_no_foreign_path(word: &str, line: &str) -> bool
+    ensures { result ≡ (takes_no_path word.now || (takes_path word.now && not (list_any (λ b. b == 58) line.now))) }
+{
+    takes_no_path(word) || takes_path(word) && !line.as_bytes().contains(&b':')
+}
+
+/// Whether this is a first token of lines without a path.
+fn takes_no_path(word: &str) -> bool
+    ensures { result ≡ takes_no_path word.now }
+{
+    match word {
+        "interface" => true,
+        "world" => true,
+        "type" => true,
+        "record" => true,
+        "resource" => true,
+        "func" => true,
+        "import-func" => true,
+        "export-func" => true,
+        _ => false,
+    }
+}
+
+/// Whether this is a first token of lines with a path.
+fn takes_path(word: &str) -> bool
+    ensures { result ≡ takes_path word.now }
+{
+    match word {
+        "use" => true,
+        "import" => true,
+        "export" => true,
+        "include" => true,
+        _ => false,
     }
 }

@@ -1,0 +1,29 @@
+-- A line ahead that mentions nothing.
+use Rattle.std.proofs.Common.{◌≡◌, ◌+◌, ℕ, List, Option, None, Some, Result, Ok, Err, length, refl, sym, ap, ◌∙◌, ◌++◌, IfOk}
+use Rattle.wit_script_package.specs.Draft.{span_after}
+use Rattle.wit_script_package.specs.Mention.{MentionsNothing}
+use Rattle.wit_script_package.specs.Naming.{OptionalSpan}
+use Rattle.wit_script_package.specs.declared.mention.Mention.{Mention}
+use Rattle.wit_script_lines.specs.declared.statement.Statement.{Statement}
+use Rattle.wit_script_lines.specs.declared.statement.Statement.TheVariants as says
+use Rattle.wit_script.specs.LinesAhead.{mentions_at_line, mentions_past, mentions_then, mentions_with}
+use Rattle.wit_script.specs.declared.ahead.Ahead.{Ahead}
+
+module _ (at : ℕ) (line : List ℕ) where
+  past-nothing : (after : ℕ → List Mention) (said : Option (Option Statement)) → MentionsNothing said → mentions_with at line after said ≡ mentions_past (at + length line + 1) after (span_after at line)
+  past-nothing after None nothing = refl
+  past-nothing after (Some None) nothing = absurd nothing
+  past-nothing after (Some (Some (says.Package name))) nothing = absurd nothing
+  past-nothing after (Some (Some (says.Line said gate))) nothing = by (span_after at line) where
+    by : (span : Option OptionalSpan) → mentions_at_line said gate (at + length line + 1) after span ≡ mentions_past (at + length line + 1) after span
+    by None = refl
+    by (Some span) = ap (λ (l : List Mention). l ++ after (at + length line + 1)) (nothing span)
+  past-nothing after (Some (Some says.Push)) nothing = absurd nothing
+  past-nothing after (Some (Some (says.Request asked))) nothing = absurd nothing
+
+  -- what it is, told by what it mentions
+  pub passed-is : {E : Type 0} (said : Option (Option Statement)) → MentionsNothing said → (r : Result Ahead E)
+      → IfOk r (λ ahead. (after : ℕ → List Mention) → mentions_then ahead at after ≡ mentions_past (at + length line + 1) after (span_after at line))
+      → IfOk r (λ ahead. (after : ℕ → List Mention) → mentions_then ahead at after ≡ mentions_with at line after said)
+  passed-is said nothing (Ok ahead) is = λ after. is after ∙ sym (past-nothing after said nothing)
+  passed-is said nothing (Err e) is = tt
