@@ -1,5 +1,5 @@
-//! Packages that are added to a bare graph with an elaborator of it and with what is known of its types, which then are
-//! those of the new graph: what each call answers, and the whole graph behind it.
+//! Packages that are added to a bare graph with an elaborator of it, which then is one of the new graph, and with what is
+//! known of its types: what each call answers, and the whole graph behind it.
 ghost use Rattle.std.specs.Prelude.{◌≡◌};
 ghost use Rattle.wit_elaboration.specs.Elaboration.{graph_uses};
 ghost use Rattle.wit_elaboration.specs.Valid.{IsValid};
@@ -19,18 +19,19 @@ use wit_link::{append_all_with, append_with};
 use wit_resolve_graph::Shape;
 use wit_validity::is_valid;
 
-/// What is there: interface 1 uses interface 0.
+/// What is there: interface 1 uses interface 0, which has a resource.
 const FIRST: &str = "package foo:first\n\
     interface a\n\
-    type t u32\n\
+    resource t\n\
     interface b\n\
     use a t\n\
     push\n";
 
-/// Interface 2 uses interface 1, and the world imports all three.
+/// Interface 2 uses interface 1 and takes the resource, and the world imports all three.
 const MAIN: &str = "package foo:main\n\
     interface c\n\
     use foo:first/b t\n\
+    func f(x:t)\n\
     world w\n\
     import c\n";
 
@@ -49,10 +50,11 @@ const REFUSED: &str = "package foo:refused\n\
     export d\n\
     export f\n";
 
-/// Interface 3 uses interface 2, and the world exports it.
+/// Interface 3 uses interface 2 and takes the resource, and the world exports it.
 const LAST: &str = "package foo:last\n\
     interface g\n\
     use foo:main/c t\n\
+    func f(x:t)\n\
     world w\n\
     export g\n";
 
@@ -75,26 +77,37 @@ const GRAPH: &str = "package 0 foo:first\n\
     \x20 type t 1\n\
     interface 2 c of package 1 at 117-128\n\
     \x20 type t 2\n\
+    \x20 f: func f(x: #3 at 147-158;) at 147-158\n\
     interface 3 g of package 2 at 317-328\n\
-    \x20 type t 3\n\
-    world 0 w of package 1 at 147-154 includes 0\n\
+    \x20 type t 4\n\
+    \x20 f: func f(x: #5 at 346-357;) at 346-357\n\
+    world 0 w of package 1 at 159-166 includes 0\n\
     \x20 import 0: interface 0\n\
     \x20 import 1: interface 1\n\
     \x20 import 2: interface 2\n\
-    world 1 w of package 2 at 346-353 includes 0\n\
+    world 1 w of package 2 at 358-365 includes 0\n\
     \x20 import 0: interface 0\n\
     \x20 import 1: interface 1\n\
     \x20 import 2: interface 2\n\
-    \x20 export 3: interface 3 at 354-362\n\
-    type #0 t of interface 0: alias u32 at 30-40\n\
+    \x20 export 3: interface 3 at 366-374\n\
+    type #0 t of interface 0: resource at 30-40\n\
     type #1 t of interface 1: alias #0 at 53-60\n\
     type #2 t of interface 2: alias #1 at 129-146\n\
-    type #3 t of interface 3: alias #2 at 329-345\n";
+    type #3: own #2\n\
+    type #4 t of interface 3: alias #2 at 329-345\n\
+    type #5: own #4\n";
 
 /// A graph of the first package.
 fn first(rt: &impl Abort, alloc: Global) -> Graph {
     let resolve = pushed(rt, alloc, FIRST);
     resolve.graph().try_clone().expect(rt, "memory")
+}
+
+/// Before anything is known of the types of a graph.
+fn nothing_met(alloc: Global, graph: &Graph) -> Table<TypeId, bool>
+    ensures { KnowsLeads graph.now.types result }
+{
+    Table::new(alloc)
 }
 
 /// Adds the package that these lines write, its spans moved so far, and writes its id or how it is refused.
@@ -110,9 +123,9 @@ fn add(
     requires valid { IsValid graph.old }
     requires uses { elaborator.old ≡ graph_uses graph.old }
     requires met { KnowsLeads graph.old.types met.old }
-    ensures met { KnowsLeads graph.new.types met.new }
     ensures valid { IsValid graph.new }
     ensures uses { elaborator.new ≡ graph_uses graph.new }
+    ensures met { KnowsLeads graph.new.types met.new }
 {
     let package = group(rt, alloc, text).main;
     assert!(rt; package.is_shaped(alloc).expect(rt, "memory"));
@@ -139,7 +152,7 @@ fn one_by_one(rt: &impl Abort, alloc: Global) -> String {
     let types = graph.types.as_slice();
     let elaborator = Elaborator::new(alloc, types, graph.interfaces.as_slice());
     let mut elaborator = elaborator.expect(rt, "memory");
-    let mut met = Table::new(alloc);
+    let mut met = nothing_met(alloc, &graph);
     let main = add(rt, alloc, &mut graph, &mut elaborator, &mut met, MAIN, 100);
     let refused = add(
         rt,
@@ -168,9 +181,9 @@ fn add_two(
     requires valid { IsValid graph.old }
     requires uses { elaborator.old ≡ graph_uses graph.old }
     requires met { KnowsLeads graph.old.types met.old }
-    ensures met { KnowsLeads graph.new.types met.new }
     ensures valid { IsValid graph.new }
     ensures uses { elaborator.new ≡ graph_uses graph.new }
+    ensures met { KnowsLeads graph.new.types met.new }
 {
     let (main, other) = (group(rt, alloc, MAIN).main, group(rt, alloc, text).main);
     assert!(rt; main.is_shaped(alloc).expect(rt, "memory"));
@@ -209,7 +222,7 @@ fn two_at_once(rt: &impl Abort, alloc: Global) -> String {
     let types = graph.types.as_slice();
     let elaborator = Elaborator::new(alloc, types, graph.interfaces.as_slice());
     let mut elaborator = elaborator.expect(rt, "memory");
-    let mut met = Table::new(alloc);
+    let mut met = nothing_met(alloc, &graph);
     let refused = add_two(rt, alloc, &mut graph, &mut elaborator, &mut met, REFUSED);
     let two = add_two(rt, alloc, &mut graph, &mut elaborator, &mut met, LAST);
     assert_text(rt, shown(rt, alloc, &graph), GRAPH);
