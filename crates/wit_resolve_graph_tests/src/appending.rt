@@ -103,6 +103,13 @@ fn first(rt: &impl Abort, alloc: Global) -> Graph {
     resolve.graph().try_clone().expect(rt, "memory")
 }
 
+/// Asserts that a graph is valid.
+fn assert_valid(rt: &impl Abort, alloc: Global, graph: &Graph)
+    ensures { IsValid graph.now }
+{
+    assert!(rt; is_valid(alloc, graph).expect(rt, "memory"));
+}
+
 /// Before anything is known of the types of a graph.
 fn nothing_met(alloc: Global, graph: &Graph) -> Table<TypeId, bool>
     ensures { KnowsLeads graph.now.types result }
@@ -148,11 +155,11 @@ fn told_id(rt: &impl Abort, alloc: Global, added: ResolveResult<PackageId>) -> S
 /// has the others.
 fn one_by_one(rt: &impl Abort, alloc: Global) -> String {
     let mut graph = first(rt, alloc);
-    assert!(rt; is_valid(alloc, &graph).expect(rt, "memory"));
     let types = graph.types.as_slice();
     let elaborator = Elaborator::new(alloc, types, graph.interfaces.as_slice());
     let mut elaborator = elaborator.expect(rt, "memory");
     let mut met = nothing_met(alloc, &graph);
+    assert_valid(rt, alloc, &graph);
     let main = add(rt, alloc, &mut graph, &mut elaborator, &mut met, MAIN, 100);
     let refused = add(
         rt,
@@ -218,11 +225,11 @@ fn write_ids(out: &mut String, ids: &[PackageId]) -> Result<(), AllocError> {
 /// these.
 fn two_at_once(rt: &impl Abort, alloc: Global) -> String {
     let mut graph = first(rt, alloc);
-    assert!(rt; is_valid(alloc, &graph).expect(rt, "memory"));
     let types = graph.types.as_slice();
     let elaborator = Elaborator::new(alloc, types, graph.interfaces.as_slice());
     let mut elaborator = elaborator.expect(rt, "memory");
     let mut met = nothing_met(alloc, &graph);
+    assert_valid(rt, alloc, &graph);
     let refused = add_two(rt, alloc, &mut graph, &mut elaborator, &mut met, REFUSED);
     let two = add_two(rt, alloc, &mut graph, &mut elaborator, &mut met, LAST);
     assert_text(rt, shown(rt, alloc, &graph), GRAPH);
