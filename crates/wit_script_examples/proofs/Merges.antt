@@ -48,7 +48,7 @@ g_not_f = differ (codes "g") (codes "f") refl
 -- ---- what is done
 
 abbrev of_states : Graph → Graph → GraphMerge
-of_states g other = merge_of_graphs (first_of g) (second_of other)
+of_states g other = merge_of (first_of g) (second_of other)
 
 -- a merge is done where no cause holds against it
 merges : (g other made : Graph) (remap : Remap) → MergeIsAccepted (of_states g other) → made ≡ united (of_states g other) → remap ≡ remap_of (merge_remap (of_states g other)) → MayMerge g other (Merged remap) (after made)

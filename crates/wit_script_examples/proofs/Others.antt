@@ -28,8 +28,8 @@ use Rattle.wit_script_examples.specs.StepExamples.{both}
 -- merged or refused, by the first letter of the text, and what becomes of the first graph
 record IsDone (old other new : State) (text : List ℕ) : Type 0 where
   says : letter text ≡ 109
-  accepted : MergeIsAccepted (merge_of_graphs old other)
-  graph : new.graph ≡ united (merge_of_graphs old other)
+  accepted : MergeIsAccepted (merge_of old other)
+  graph : new.graph ≡ united (merge_of old other)
   rule : new.track_rule ≡ old.track_rule
 
 record IsRefused (old new : State) (text : List ℕ) : Type 0 where
