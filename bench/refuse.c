@@ -43,20 +43,34 @@ static int refuses(void) {
   return 1;
 }
 
+// The sizes that were asked for, by block: a table that is never full, with a block that is gone as one of size 0.
+static struct { void *block; size_t size; } sizes[1 << 20];
+
+static size_t *size_of(void *block) {
+  size_t i = ((size_t)block >> 4) * 0x9E3779B97F4A7C15u >> 44;
+  while (sizes[i].block && sizes[i].block != block) i = (i + 1) & ((1 << 20) - 1);
+  sizes[i].block = block;
+  return &sizes[i].size;
+}
+
 void *malloc(size_t size) {
   void *block = refuses() ? 0 : __libc_malloc(size);
-  if (block) live++;
+  if (block) live++, *size_of(block) = size;
   return block;
 }
 
+// A request for less than the block has gives memory back; it isn't refused.
 void *realloc(void *block, size_t size) {
-  void *moved = refuses() ? 0 : __libc_realloc(block, size);
+  int is_less = block && size < *size_of(block);
+  void *moved = !is_less && refuses() ? 0 : __libc_realloc(block, size);
   if (moved && !block) live++;
+  if (moved && block) *size_of(block) = 0;
+  if (moved) *size_of(moved) = size;
   return moved;
 }
 
 void free(void *block) {
-  if (block) live--;
+  if (block) live--, *size_of(block) = 0;
   __libc_free(block);
 }
 

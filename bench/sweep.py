@@ -1,5 +1,6 @@
 #!/usr/bin/env python3
-"""Refuses each request for memory in turn, and tells where want of memory isn't what is answered.
+"""Refuses each request for memory in turn, and tells where want of memory isn't what is answered. A request for less than
+what a block has, which gives memory back, is none of these.
 
     python3 bench/sweep.py [--calls PROGRAM] [--scripts PROGRAM] [--jobs N]
     python3 bench/sweep.py --planted BUILD
