@@ -47,7 +47,7 @@ static int refuses(void) {
 static struct { void *block; size_t size; } sizes[1 << 20];
 
 static size_t *size_of(void *block) {
-  size_t i = ((size_t)block >> 4) * 0x9E3779B97F4A7C15u >> 44;
+  size_t i = (size_t)block >> 4 & ((1 << 20) - 1);
   while (sizes[i].block && sizes[i].block != block) i = (i + 1) & ((1 << 20) - 1);
   sizes[i].block = block;
   return &sizes[i].size;
