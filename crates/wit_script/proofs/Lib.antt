@@ -1,4 +1,5 @@
 pub mod Answered
+pub mod BuiltLines
 pub mod Known
 pub mod OneOutcome
 pub mod Past

@@ -6,3 +6,4 @@ pub mod Script
 pub mod Watched
 pub mod World
 pub mod laws
+pub mod steps

@@ -4,9 +4,12 @@ ghost use Rattle.wit_script_package.specs.Draft.{as_group};
 ghost use Rattle.wit_script_lines.specs.steps.ReadResult.{IsRead};
 ghost use Rattle.wit_script_lines.specs.PackageLine.{each_of};
 ghost use Rattle.wit_data.specs.Each.{Each};
-ghost use Rattle.wit_data.specs.Shape.{IsGroupShaped};
+ghost use Rattle.wit_data.specs.declared.unresolved.UnresolvedPackageGroup.{UnresolvedPackageGroup};
+ghost use Rattle.wit_script_package.specs.steps.Built.{IsBuilt};
+ghost use Rattle.wit_script_package.specs.steps.Pushable.{IsPushable};
 ghost use Rattle.wit_script_lines.specs.Line.{is_blank_or_comment, last_statement_line};
 ghost use Rattle.wit_script.specs.Ready.{AreReady};
+ghost use Rattle.wit_script.specs.steps.BuiltReading.{AreBuilt, AreShapedIfPushable};
 ghost use Rattle.wit_script.specs.Script.{GoesOn, HasLineFault, HasReadFault, IsReadingResult, IsUnderstood, after_line, after_statement_in, new_reading, reading_of, with_groups, with_package, with_package_line, with_push, with_request};
 
 use crate::ahead::mentions_ahead;
@@ -16,8 +19,7 @@ use std::alloc::{AllocError, Global};
 use std::mem;
 use wit_data::{Items, PackageName, Stability, UnresolvedPackageGroup};
 use wit_script_lines::{LineFault, PackageLine, Request, Statement, lines, read_line};
-use wit_script_package::Draft;
-use wit_shape::is_group_shaped;
+use wit_script_package::{Draft, is_pushable};
 
 /// What the lines so far say.
 #[derive(Drop)]
@@ -31,24 +33,21 @@ pub struct Reading {
     pub other: bool,
 }
 
-/// Whether each of these groups has the shape that a graph takes.
-fn are_shaped(alloc: Global, groups: &[UnresolvedPackageGroup]) -> Result<bool, AllocError>
-    ensures { IfOk result (λ shaped. IsTrue shaped ↔ Each IsGroupShaped groups.now) }
+/// Whether each of these groups may be pushed, where lines built it: what lines may break of its shape is asked.
+fn are_pushable(groups: &[UnresolvedPackageGroup]) -> bool
+    ensures { IsTrue result ↔ Each (λ (group : UnresolvedPackageGroup). IsPushable group.main) groups.now }
 {
-    for group in groups {
-        if !is_group_shaped(alloc, group)? {
-            return Ok(false);
-        }
-    }
-    Ok(true)
+    groups.iter().all(|group| is_pushable(&group.main))
 }
 
-/// Packages as groups, each of its own.
+/// Packages that lines built as groups, each of its own.
 fn into_groups(
     alloc: Global,
     packages: Items<Draft>,
 ) -> Result<Items<UnresolvedPackageGroup>, LineFault>
-    ensures { IsRead (each_of as_group packages) result }
+    requires { Each IsBuilt packages }
+    ensures read { IsRead (each_of as_group packages) result }
+    ensures shaped { IfOk result (λ groups. AreShapedIfPushable groups) }
 {
     let mut groups = Items::new(alloc);
     for package in packages.into_vec() {
@@ -103,7 +102,8 @@ impl Reading {
         line: &str,
         ahead: &[&str],
     ) -> Result<(), LineFault>
-        requires { AreReady self.old.commands }
+        requires ready { AreReady self.old.commands }
+        requires built { AreBuilt self.old }
         ensures { GoesOn (after_statement_in self.old line.now (map (λ line. line.now) ahead.now) (Some (Some said))) result self.new }
     {
         match said {
@@ -153,7 +153,8 @@ impl Reading {
     /// Ends the packages since the last command, and adds the command that pushes them, the first being
     /// the main one.
     fn add_push(&mut self, alloc: Global) -> Result<(), LineFault>
-        requires { AreReady self.old.commands }
+        requires ready { AreReady self.old.commands }
+        requires built { AreBuilt self.old }
         ensures { GoesOn (with_push self.old) result self.new }
     {
         let Some(last) = self.current.take() else {
@@ -162,21 +163,18 @@ impl Reading {
         let mut packages = mem::replace(&mut self.finished, Items::new(alloc));
         packages.push(last)?;
         let groups = into_groups(alloc, packages)?;
-        self.add_groups(alloc, groups)
+        self.add_groups(groups)
     }
 
     /// Adds the command that pushes groups, where they can be pushed.
-    fn add_groups(
-        &mut self,
-        alloc: Global,
-        groups: Items<UnresolvedPackageGroup>,
-    ) -> Result<(), LineFault>
+    fn add_groups(&mut self, groups: Items<UnresolvedPackageGroup>) -> Result<(), LineFault>
         requires ready { AreReady self.old.commands }
         requires finished { self.old.finished ≡ [] }
         requires current { self.old.current ≡ None }
+        requires shaped { AreShapedIfPushable groups }
         ensures { GoesOn (with_groups self.old groups) result self.new }
     {
-        if !are_shaped(alloc, groups.as_slice())? {
+        if !are_pushable(groups.as_slice()) {
             return Err(LineFault::NotUnderstood);
         }
         let Some((main, deps)) = split_main(groups) else {
@@ -213,7 +211,8 @@ fn add_line(
     line: &str,
     ahead: &[&str],
 ) -> Result<bool, LineFault>
-    requires { AreReady reading.old.commands }
+    requires ready { AreReady reading.old.commands }
+    requires built { AreBuilt reading.old }
     ensures next { GoesOn (after_line reading.old line.now (map (λ line. line.now) ahead.now)) result reading.new }
     ensures told { IfOk result (λ said. said ≡ not (is_blank_or_comment line.now)) }
 {

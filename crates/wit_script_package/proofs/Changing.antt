@@ -2,7 +2,7 @@
 use Rattle.std.proofs.Common.{◌≡◌, ℕ, ◌+◌, zero, suc, one-add, Bool, true, false, cond, not, List, [], ◌∷◌, ◌++◌, length, Option, None, Some, is_some, nat_lt, position, slice_get, slice_set, String, string_bytes, refl, sym, ap, ◌∙◌, Result, Ok, Err, IfOk}
 use Rattle.std.specs.declared.alloc.Global.{Global}
 use Rattle.std.specs.List.{position_or_len}
-use Rattle.std.specs.Map.{keys_of, lookup}
+use Rattle.std.specs.Map.{keys_of, lookup, values_of}
 use Rattle.std.specs.Str.{bytes_eq}
 use Rattle.indexmap.specs.IndexMap.{set_value_at}
 use Rattle.wit_values.specs.Names.{named}
@@ -15,6 +15,13 @@ module _ {X : Type 0} where
   set-same [] i x at = cc
   set-same (y ∷ ys) zero x at = ap (λ (z : X). z ∷ ys) (sym (same-some y x at))
   set-same (y ∷ ys) (suc i) x at = ap (λ (l : List X). y ∷ l) (set-same ys i x at)
+
+module _ {K V : Type 0} where
+  -- a value of a table, put there again
+  pub set-value-same : (es : List (K × V)) (i : ℕ) (v : V) → slice_get (values_of es) i ≡ Some v → set_value_at es i v ≡ es
+  set-value-same [] i v at = refl
+  set-value-same (e ∷ es) zero v at = ap (λ (w : V). (e.0, w) ∷ es) (sym (same-some e.1 v at))
+  set-value-same (e ∷ es) (suc i) v at = ap (λ (l : List (K × V)). e ∷ l) (set-value-same es i v at)
 
 -- an index is the place
 index-place : {K : Type 0} (test : K → Bool) (ks : List K) (i : ℕ) → position test ks ≡ Some i → position_or_len test ks ≡ i

@@ -5,11 +5,11 @@ use Rattle.std.specs.Option.{option_and_then, option_map}
 use Rattle.wit_script_package.specs.Making.{each_made}
 
 -- steps that were taken
-step-of : {A B : Type 0} (f : A → Option B) (o : Option A) (y : B) → option_and_then f o ≡ Some y → (x : A) × (o ≡ Some x) × (f x ≡ Some y)
+pub step-of : {A B : Type 0} (f : A → Option B) (o : Option A) (y : B) → option_and_then f o ≡ Some y → (x : A) × (o ≡ Some x) × (f x ≡ Some y)
 step-of f None y h = cc
 step-of f (Some x) y h = (x, refl, h)
 
-map-of : {A B : Type 0} (f : A → B) (o : Option A) (y : B) → option_map f o ≡ Some y → (x : A) × (o ≡ Some x) × (f x ≡ y)
+pub map-of : {A B : Type 0} (f : A → B) (o : Option A) (y : B) → option_map f o ≡ Some y → (x : A) × (o ≡ Some x) × (f x ≡ y)
 map-of f None y h = cc
 map-of f (Some x) y h = (x, refl, cc)
 

@@ -1,2 +1,4 @@
+pub mod Built
 pub mod DraftResult
 pub mod Mentioning
+pub mod Pushable

@@ -3,6 +3,9 @@ ghost use Rattle.std.specs.Prelude.{◌≡◌, ◌++◌, [], length, IfOk, OnOk}
 ghost use Rattle.wit_script_package.specs.steps.DraftResult.{DraftResult};
 ghost use Rattle.wit_script_package.specs.Draft.{as_group, new_draft, new_draft_at, one_file, span_after, with_newline, with_text};
 ghost use Rattle.wit_script_package.specs.Lines.{with_line};
+ghost use Rattle.wit_script_package.specs.steps.Built.{IsBuilt};
+ghost use Rattle.wit_script_package.specs.steps.Pushable.{IsPushable};
+ghost use Rattle.wit_data.specs.Shape.{IsGroupShaped};
 ghost use Rattle.wit_script_lines.specs.steps.ReadResult.{IsRead};
 
 use crate::mention::Mention;
@@ -33,12 +36,15 @@ pub struct LineContext {
     pub span: Span,
 }
 
+/// The interfaces and worlds of a foreign package.
+pub(crate) type ForeignNames = Names<(AstItem, Items<Stability>)>;
+
 /// What a package knows of other packages.
 #[derive(Drop)]
 pub struct Foreign {
     /// Under each package the interfaces and worlds that are named, each with the gates of the lines
     /// that name it.
-    pub deps: Table<PackageName, Names<(AstItem, Items<Stability>)>>,
+    pub deps: Table<PackageName, ForeignNames>,
     /// Where each of these packages is named first.
     pub dep_spans: Items<Span>,
     /// Where each type of theirs is used first.
@@ -197,8 +203,11 @@ impl Draft {
 
     /// The package as a group of its own, with its file, whose path is the package's name. Not
     /// understood where the file doesn't fit into a source map. Else only want of memory is an error.
+    /// Of a package that lines built, the group has its shape where `is_pushable` tells that it may be
+    /// pushed.
     pub fn into_group(self, alloc: Global) -> Result<UnresolvedPackageGroup, LineFault>
-        ensures { IsRead (as_group self) result }
+        ensures read { IsRead (as_group self) result }
+        ensures shaped { IsBuilt self → IfOk result (λ group. IsPushable group.main → IsGroupShaped group) }
     {
         let mut draft = self;
         draft.close();
@@ -239,7 +248,7 @@ impl Draft {
             worlds,
             interfaces,
             types,
-            foreign_deps: deps,
+            foreign_deps: shrunk(deps),
             foreign_dep_spans: dep_spans,
             unknown_type_spans: type_spans,
             required_resource_types: required,
@@ -250,6 +259,19 @@ impl Draft {
             source_map: one_file(alloc, &path, contents)?,
         })
     }
+}
+
+/// What a package knows of other packages, of which it names few things each, without memory that nothing takes.
+fn shrunk(deps: Table<PackageName, ForeignNames>) -> Table<PackageName, ForeignNames>
+    ensures { result ≡ deps }
+{
+    let mut map = deps.into_map();
+    for at in 0..map.len() {
+        map[at].shrink();
+    }
+    let mut deps = Table::from_map(map);
+    deps.shrink();
+    deps
 }
 
 /// A source map of one file.

@@ -6,7 +6,7 @@ ghost use Rattle.wit_data.specs.PackageOrder.{same_package};
 ghost use Rattle.wit_script_package.specs.steps.Mentioning.{changed_at, with_counted, with_foreign, with_foreign_gate, with_foreign_type, with_gate, with_item_gate, with_key, with_mention, with_mention_of, with_package_gate, with_use_as};
 
 use crate::adding::{new_interface, new_type, new_world};
-use crate::draft::{Draft, LineContext};
+use crate::draft::{Draft, ForeignNames, LineContext};
 use crate::mention::{Mention, MentionKind};
 use std::alloc::{AllocError, Global};
 use std::mem;
@@ -14,9 +14,6 @@ use wit_data::{
     AstItem, InterfaceId, Items, Names, PackageName, Stability, Table, Text, TryClone, TypeDefKind,
     TypeId, TypeOwner, WorldId,
 };
-
-/// The interfaces and worlds of a foreign package.
-type ForeignNames = Names<(AstItem, Items<Stability>)>;
 
 /// The interfaces and worlds of a foreign package, of which this one is there.
 fn with_item(

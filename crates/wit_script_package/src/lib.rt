@@ -8,7 +8,9 @@ mod lines;
 mod making;
 mod mention;
 mod naming;
+mod pushable;
 mod role;
 
 pub use crate::draft::{Draft, Foreign, LineContext, Scope, span_of};
 pub use crate::mention::{Mention, MentionKind, mention_of, mentions_nothing};
+pub use crate::pushable::is_pushable;

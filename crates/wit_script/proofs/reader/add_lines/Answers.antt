@@ -1,5 +1,6 @@
 use Rattle.std.proofs.Common.{◌≡◌, ◌∙◌, ◌+◌, refl, sym, map, List, [], Some, ℕ, Bor}
 use Rattle.wit_script.specs.Script.{reading_before}
+use Rattle.wit_script.proofs.BuiltLines.{before-built}
 use Rattle.wit_script.proofs.Scripts.{bad-line, read-all, read-next, last-silent, last-said}
 use Rattle.wit_script.proofs.reader.add_lines.Goals as goal
 use Rattle.wit_script.proofs.reader.add_lines.Goals.{then-says_something, else-says_something}
@@ -36,3 +37,6 @@ pub returns-clause-read : goal.returns-clause-read
 unfolding none
 returns-clause-read c =
     read-all c.args.lines.now c.loop-index.index none c.loop-index.reading c.loop-index.auto.index-end c.loop-index-test.false c.loop-index.invariant.read
+
+pub add_line-requires-clause-built : goal.add_line-requires-clause-built
+add_line-requires-clause-built c = before-built c.loop-index.index _ c.loop-index.reading c.loop-index.invariant.read
